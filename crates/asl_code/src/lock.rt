@@ -1,0 +1,31 @@
+use crate::path::Path;
+use crate::value::Effect;
+
+/// Where the evaluation of an expression begins.
+#[derive(Clone, Copy, Debug, PartialEq, Eq, PartialOrd, Ord)]
+pub enum Base {
+    /// The address in a register of the frame.
+    Reg(u8),
+    /// The address of a global's cell.
+    Global(u16),
+}
+
+/// A lock expression: a base, and the path that goes on from it.
+#[derive(Clone, Debug, Drop, PartialEq, Eq, PartialOrd, Ord)]
+pub struct Expr {
+    /// Where the evaluation begins.
+    pub base: Base,
+    /// The operations, eight at the most.
+    pub path: Path,
+}
+
+/// A lock that a section asks for at its entry, with the effect that it must cover.
+#[derive(Clone, Debug, Drop, PartialEq, Eq, PartialOrd, Ord)]
+pub enum Lock {
+    /// The root: every cell.
+    Root(Effect),
+    /// Every cell of the class.
+    Class(u16, Effect),
+    /// The one cell that the expression denotes, if it denotes one.
+    Expr(Expr, Effect),
+}
