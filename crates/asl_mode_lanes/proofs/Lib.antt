@@ -1,0 +1,3 @@
+pub mod ModeLaws
+mod Masks
+mod Rows
