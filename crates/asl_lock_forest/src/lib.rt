@@ -1,0 +1,6 @@
+//! Multiple-granularity locks: a tree of nodes, and who holds which mode at which node.
+#![tactic(auto)]
+
+mod node;
+
+pub use node::Node;
