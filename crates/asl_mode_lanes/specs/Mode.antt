@@ -1,7 +1,7 @@
 -- The six lock modes of multiple-granularity locking: their order, their joins, and which go together.
 -- The order and the table of pairs are those of J. Gray, R. Lorie, G. Putzolu, I. Traiger,
 -- "Granularity of Locks and Degrees of Consistency in a Shared Data Base" (1976). The codes are this project's.
-use Rattle.std.specs.Prelude.{ℕ, Bool, true, false, IsTrue, if◌then◌else◌}
+use Rattle.std.specs.Prelude.{ℕ, Bool, true, false, not, ◌&&◌, ◌||◌, ◌==◌, bit_and, IsTrue, if◌then◌else◌}
 use Rattle.asl_mode_lanes.specs.declared.mode.Mode.{Mode}
 use Rattle.asl_mode_lanes.specs.declared.mode.Mode.TheVariants.{NL, IS, IX, S, SIX, X}
 
@@ -69,3 +69,11 @@ code_of IX = 3
 code_of S = 5
 code_of SIX = 7
 code_of X = 15
+
+-- whether a code has the bit of this value: 1, 2, 4 or 8
+abbrev pub has_bit : ℕ → ℕ → Bool
+has_bit code bit = not (bit_and code bit == 0)
+
+-- the rule of bits: one code has the bit 2 and the other the bit 4, or one the bit 8 and the other the bit 1
+abbrev pub codes_clash : ℕ → ℕ → Bool
+codes_clash a b = (has_bit a 2 && has_bit b 4) || ((has_bit a 4 && has_bit b 2) || ((has_bit a 8 && has_bit b 1) || (has_bit a 1 && has_bit b 8)))

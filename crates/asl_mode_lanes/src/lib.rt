@@ -4,8 +4,13 @@
 //! A row holds one code a thread: what each thread holds at one node.
 #![tactic(auto)]
 
+mod laws;
 mod mode;
 mod row;
 
+pub use laws::{
+    codes_are_modes, compatibility_goes_down, enough_modes, joins_are_a_lattice, modes_are_ordered,
+    readers_and_writers_clash,
+};
 pub use mode::{Mode, compatible, join};
 pub use row::{conflicts, join_rows};
