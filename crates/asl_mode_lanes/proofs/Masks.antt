@@ -1,5 +1,5 @@
 -- A mask of 64 bits that gains one bit at a time.
-use Rattle.std.proofs.Common.{◌≡◌, ◌≢◌, ℕ, ◌+◌, ◌*◌, ◌%◌, ◌^◌, ◌<◌, ◌↔◌, IsBitSet, bit_or, w64, arith, rules, ap, sym, ◌∙◌, subst}
+use Rattle.std.proofs.Common.{◌≡◌, ℕ, ◌+◌, ◌*◌, ◌%◌, ◌^◌, ◌<◌, ◌↔◌, IsBitSet, bit_or, w64, arith, sym, ◌∙◌, subst}
 use Rattle.std.specs.Int.{bit_at}
 use Rattle.std.proofs.lemmas.Nat.{bit_set_by_shift}
 use Rattle.std.proofs.lemmas.Nat.Bits.{shr_and_one, bit_at_set_same, bit_at_set_other}
@@ -22,24 +22,30 @@ pub mask_more-set : (P : ℕ → Type 0) (mask t : ℕ) → t < 64
     → ((k : ℕ) → IsBitSet mask k ↔ (P k × (k < t))) → P t
     → (k : ℕ) → IsBitSet (with_bit mask t) k ↔ (P k × (k < t + 1))
 mask_more-set P mask t within told here k = elim (eqb_tells k t) [
-    | inl same ↦
-        ( λ _. (subst P (sym same.1) here, omega arith)
-        , λ _. subst (λ n. IsBitSet (with_bit mask t) n) (sym same.1) (IsBitSet-bit_at _ t (bit_at_set_same w64 mask t within)))
-    | inr other ↦
-        ( λ set.
-            let old = (told k).0 (IsBitSet-bit_at mask k (sym (bit_at_set_other w64 mask t within k other.1) ∙ bit_at-IsBitSet _ k set)) in
-            (old.0, omega arith)
-        , λ holds.
-            IsBitSet-bit_at _ k (bit_at_set_other w64 mask t within k other.1 ∙ bit_at-IsBitSet mask k ((told k).1 (holds.0, omega arith)))) ]
+  | inl same ↦ (
+    λ _. (subst P (sym same.1) here, omega arith),
+    λ _. subst (λ n. IsBitSet (with_bit mask t) n) (sym same.1) (IsBitSet-bit_at _ t (bit_at_set_same w64 mask t within)),
+  )
+  | inr other ↦ (
+    λ set.
+        let old = (told k).0 (IsBitSet-bit_at mask k (sym (bit_at_set_other w64 mask t within k other.1) ∙ bit_at-IsBitSet _ k set)) in
+        (old.0, omega arith),
+    λ holds.
+        IsBitSet-bit_at _ k (bit_at_set_other w64 mask t within k other.1 ∙ bit_at-IsBitSet mask k ((told k).1 (holds.0, omega arith))),
+  )
+]
 
 -- it stays as it is, where it does not hold at t
 pub mask_more-same : (P : ℕ → Type 0) (mask t : ℕ)
     → ((k : ℕ) → IsBitSet mask k ↔ (P k × (k < t))) → (P t → ⊥)
     → (k : ℕ) → IsBitSet mask k ↔ (P k × (k < t + 1))
 mask_more-same P mask t told absent k = elim (eqb_tells k t) [
-    | inl same ↦
-        ( λ set. let old = (told k).0 set in (old.0, omega arith)
-        , λ holds. absurd (absent (subst P same.1 holds.0)))
-    | inr other ↦
-        ( λ set. let old = (told k).0 set in (old.0, omega arith)
-        , λ holds. (told k).1 (holds.0, omega arith)) ]
+  | inl same ↦ (
+    λ set. let old = (told k).0 set in (old.0, omega arith),
+    λ holds. absurd (absent (subst P same.1 holds.0)),
+  )
+  | inr other ↦ (
+    λ set. let old = (told k).0 set in (old.0, omega arith),
+    λ holds. (told k).1 (holds.0, omega arith),
+  )
+]

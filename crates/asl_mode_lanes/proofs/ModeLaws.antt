@@ -1,5 +1,5 @@
 -- Laws of the six modes. Each is a test that computes over all modes.
-use Rattle.std.proofs.Common.{◌≡◌, ◌≢◌, refl, subst, ℕ, Bool, true, false, ◌&&◌, ◌||◌, not, ◌==◌, IsTrue, if◌then◌else◌, ap, sym, ◌∙◌, ◌⊎◌, inl, inr, bit_or, ◌↔◌}
+use Rattle.std.proofs.Common.{◌≡◌, ◌≢◌, refl, subst, Bool, true, false, ◌&&◌, ◌||◌, not, ◌==◌, ap, sym, ◌∙◌, ◌⊎◌, inl, inr, bit_or, ◌↔◌}
 use Rattle.std.proofs.lemmas.Bool.{eqb-true}
 use Rattle.asl_mode_lanes.specs.declared.mode.Mode.{Mode}
 use Rattle.asl_mode_lanes.specs.declared.mode.Mode.TheVariants.{NL, IS, IX, S, SIX, X}
@@ -31,7 +31,8 @@ each-holds p h =
       | IX ↦ and_left (p IX) _ h2
       | S ↦ and_left (p S) _ h3
       | SIX ↦ and_left (p SIX) _ h4
-      | X ↦ and_right (p SIX) _ h4 ]
+      | X ↦ and_right (p SIX) _ h4
+    ]
 
 each_pair : (p : Mode → Mode → Bool) → each (λ a. each (p a)) ≡ true → (a b : Mode) → p a b ≡ true
 each_pair p h a = each-holds (p a) (each-holds (λ x. each (p x)) h a)
@@ -194,14 +195,22 @@ above_X SIX h = cc
 above_X X h = refl
 
 pub enough_IX : (m : Mode) → AtMost IX m ↔ ((m ≡ IX) ⊎ ((m ≡ SIX) ⊎ (m ≡ X)))
-enough_IX m = (above_IX m, λ h. elim h [
+enough_IX m = (
+  above_IX m,
+  λ h. elim h [
     | inl e ↦ subst (AtMost IX) (sym e) refl
-    | inr k ↦ elim k [ inl e ↦ subst (AtMost IX) (sym e) refl | inr e ↦ subst (AtMost IX) (sym e) refl ] ])
+    | inr k ↦ elim k [ inl e ↦ subst (AtMost IX) (sym e) refl | inr e ↦ subst (AtMost IX) (sym e) refl ]
+  ],
+)
 
 pub enough_S : (m : Mode) → AtMost S m ↔ ((m ≡ S) ⊎ ((m ≡ SIX) ⊎ (m ≡ X)))
-enough_S m = (above_S m, λ h. elim h [
+enough_S m = (
+  above_S m,
+  λ h. elim h [
     | inl e ↦ subst (AtMost S) (sym e) refl
-    | inr k ↦ elim k [ inl e ↦ subst (AtMost S) (sym e) refl | inr e ↦ subst (AtMost S) (sym e) refl ] ])
+    | inr k ↦ elim k [ inl e ↦ subst (AtMost S) (sym e) refl | inr e ↦ subst (AtMost S) (sym e) refl ]
+  ],
+)
 
 pub enough_X : (m : Mode) → AtMost X m ↔ (m ≡ X)
 enough_X m = (above_X m, λ e. subst (AtMost X) (sym e) refl)

@@ -14,13 +14,14 @@ pub joined_more : (start row from : List ℕ) (t v : ℕ) → t < length row
     → v ≡ code_of (join_of (mode_of (slice_index row t)) (mode_of (slice_index from t)))
     → (k : ℕ) → k < t + 1 → mode_at (slice_set row t v) k ≡ join_of (mode_at start k) (mode_at from k)
 joined_more start row from t v within joined same value k below = elim (eqb_tells k t) [
-    | inl here ↦
-        let at_t : mode_at (slice_set row t v) t ≡ join_of (mode_at start t) (mode_at from t) =
-            ap mode_of (get_or-set_same row t v 0 within) ∙ ap mode_of value
-            ∙ mode_of-code_of (join_of (mode_of (slice_index row t)) (mode_of (slice_index from t)))
-            ∙ ap (λ n. join_of (mode_of n) (mode_at from t)) same in
-        subst (λ n. mode_at (slice_set row t v) n ≡ join_of (mode_at start n) (mode_at from n)) (sym here.1) at_t
-    | inr other ↦ ap mode_of (get_or-set_other row t k v 0 other.1) ∙ joined k (omega arith) ]
+  | inl here ↦
+      let at_t : mode_at (slice_set row t v) t ≡ join_of (mode_at start t) (mode_at from t) =
+      ap mode_of (get_or-set_same row t v 0 within) ∙ ap mode_of value
+      ∙ mode_of-code_of (join_of (mode_of (slice_index row t)) (mode_of (slice_index from t)))
+      ∙ ap (λ n. join_of (mode_of n) (mode_at from t)) same in
+      subst (λ n. mode_at (slice_set row t v) n ≡ join_of (mode_at start n) (mode_at from n)) (sym here.1) at_t
+  | inr other ↦ ap mode_of (get_or-set_other row t k v 0 other.1) ∙ joined k (omega arith)
+]
 
 -- from the end of two rows on, both have NL, and so has their join
 pub joined_past : (start row from : List ℕ) (k : ℕ) → length row ≤ k → length start ≤ k → length from ≤ k

@@ -11,9 +11,7 @@ pub fn join_rows(into: &mut [u8], from: &[u8])
     requires into_codes { IsRow into.old }
     requires from_codes { IsRow from.now }
     ensures codes { IsRow into.new }
-    ensures joined {
-        (t : ℕ) → mode_at into.new t ≡ join_of (mode_at into.old t) (mode_at from.now t)
-    }
+    ensures joined { (t : ℕ) → mode_at into.new t ≡ join_of (mode_at into.old t) (mode_at from.now t) }
 {
     for t in 0..into.len() {
         into[t] = join_codes(into[t], from[t]);

@@ -1,4 +1,4 @@
-use Rattle.std.proofs.Common.{◌≡◌, ◌↔◌, ℕ, ◌<◌, IsBitSet}
+use Rattle.std.proofs.Common.{◌↔◌, ℕ, ◌<◌, IsBitSet}
 use Rattle.asl_mode_lanes.specs.Row.{IsConflict}
 use Rattle.asl_mode_lanes.proofs.row.conflicts.Given as goal
 

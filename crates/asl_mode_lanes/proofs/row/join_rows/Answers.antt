@@ -1,4 +1,4 @@
-use Rattle.std.proofs.Common.{◌≡◌, ◌≤◌, ℕ, length, arith, inl, inr, rules, ◌∙◌, sym}
+use Rattle.std.proofs.Common.{length, arith, inl, inr, ◌∙◌}
 use Rattle.std.proofs.lemmas.List.{get_or-set_other}
 use Rattle.std.proofs.lemmas.List.Elements.{All-set}
 use Rattle.std.proofs.lemmas.Bool.{cases_lt}
@@ -17,4 +17,5 @@ loop-t-preserved c = record {
 pub returns-clause-joined : goal.returns-clause-joined
 returns-clause-joined c k = elim (cases_lt k (length c.args.into.now)) [
   | inl below ↦ c.loop-t.invariant.joined k (omega arith)
-  | inr past ↦ joined_past c.args.into.now c.loop-t.into c.args.from.now k (omega arith) past (omega arith) ]
+  | inr past ↦ joined_past c.args.into.now c.loop-t.into c.args.from.now k (omega arith) past (omega arith)
+]
