@@ -13,7 +13,7 @@ loop-t-preserved c =
       | then-t-own+then-excludes w ↦
           subst Told (sym w.mask-is)
           (mask_more-set Is c.loop-t.mask c.loop-t.t (omega arith) c.loop-t.invariant
-          (record { there = c.loop-t-test.true; other = w.if-t-own.true; excludes = w.excludes.ensures.0 w.if-excludes.true }))
+          (record { there = omega arith; other = w.if-t-own.true; excludes = w.excludes.ensures.0 w.if-excludes.true }))
       | else-t-own w ↦
           subst Told (sym w.mask-is)
           (mask_more-same Is c.loop-t.mask c.loop-t.t c.loop-t.invariant
