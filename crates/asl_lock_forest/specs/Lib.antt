@@ -1,3 +1,5 @@
 pub mod Node
 pub mod Keys
 pub mod Holding
+pub mod Request
+pub mod Held
