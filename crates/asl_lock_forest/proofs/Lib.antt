@@ -1,1 +1,4 @@
 pub mod Laws
+pub mod Requests
+pub mod Lawful
+pub mod NinePairs
