@@ -1,16 +1,23 @@
 //! Values, instructions, locks and images of the `asl` machine, and the verifier that turns an image into a program.
 #![tactic(auto)]
 
+mod fault;
 mod image;
 mod instr;
 mod items;
+mod limits;
 mod lock;
 mod path;
+mod places;
+mod program;
 mod value;
+mod verify;
 
+pub use fault::VerifyFault;
 pub use image::{Function, Image};
 pub use instr::Instr;
 pub use items::Items;
 pub use lock::{Base, Expr, Lock};
 pub use path::{Op, Path};
+pub use program::Program;
 pub use value::{Cell, Effect, Value};
