@@ -1,2 +1,3 @@
+pub mod FitsLaws
 pub mod Scanning
 pub mod Told

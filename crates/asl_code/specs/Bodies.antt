@@ -1,4 +1,4 @@
--- Where the bodies of an image's functions lie: one after the other from place 0 of the code (README.md, "Code").
+-- Where the bodies of an image's functions lie: one after the other from place 0 of the code (docs/INSTRUCTIONS.md).
 use Rattle.std.specs.Prelude.{ℕ, ◌+◌, Bool, ◌&&◌, nat_lt, nat_le, List, [], ◌∷◌, Option, sum_by, take, find}
 use Rattle.asl_code.specs.declared.image.Function.{Function}
 use Rattle.asl_code.specs.declared.image.Image.{Image}
@@ -8,23 +8,23 @@ pub record Body : Type 0 where
   pub first : ℕ
   pub function : Function
 
--- the bodies of these functions, of which the first begins at this place (README.md, "Code")
+-- the bodies of these functions, of which the first begins at this place (docs/INSTRUCTIONS.md)
 abbrev pub bodies_from : ℕ → List Function → List Body
 bodies_from first [] = []
 bodies_from first (f ∷ fs) = record { first = first; function = f } ∷ bodies_from (first + f.len) fs
 
--- the instructions that these functions have together (README.md, "Code")
+-- the instructions that these functions have together (docs/INSTRUCTIONS.md)
 abbrev pub total_len : List Function → ℕ
 total_len fs = sum_by (λ (f : Function). f.len) fs
 
--- where the body of a function begins, by its number: behind the bodies of those before it (README.md, "Code")
+-- where the body of a function begins, by its number: behind the bodies of those before it (docs/INSTRUCTIONS.md)
 abbrev pub first_of : List Function → ℕ → ℕ
 first_of fs number = total_len (take number fs)
 
--- whether the place lies in the body (README.md, "Code")
+-- whether the place lies in the body (docs/INSTRUCTIONS.md)
 abbrev pub is_inside : ℕ → Body → Bool
 is_inside pc b = nat_le b.first pc && nat_lt pc (b.first + b.function.len)
 
--- the body in which the place lies, if it lies in one (README.md, "Code")
+-- the body in which the place lies, if it lies in one (docs/INSTRUCTIONS.md)
 abbrev pub body_of : Image → ℕ → Option Body
 body_of i pc = find (is_inside pc) (bodies_from 0 i.functions)

@@ -1,3 +1,4 @@
 pub mod Bodies
+pub mod Fits
 pub mod Lines
 pub mod Verified

@@ -8,18 +8,18 @@ use Rattle.asl_code.specs.declared.instr.Instr.{Instr}
 use Rattle.asl_code.specs.declared.places.Line.{Line}
 use Rattle.asl_code.specs.declared.places.Line.TheVariants.{Target, Register, Operand, ListBase}
 
--- the test of an instruction in its body that the line makes (README.md, "Faults")
+-- the test of an instruction in its body that the line makes (docs/LIMITS.md, "Rules of an image")
 abbrev pub test_of : Line → Image → Body → Instr → Bool
 test_of Target i = has_target i
 test_of Register i = λ b. has_registers i b.function
 test_of Operand i = λ b. has_operands i
 test_of ListBase i = λ b. has_list_bases i b.function
 
--- the body of a function that begins at this place (README.md, "Code")
+-- the body of a function that begins at this place (docs/INSTRUCTIONS.md)
 abbrev pub body_at : ℕ → Function → Body
 body_at first f = record { first = first; function = f }
 
--- the lowest place whose instruction does not pass, and none where all pass (README.md, "Faults")
+-- the lowest place whose instruction does not pass, and none where all pass (docs/LIMITS.md, "Rules of an image")
 abbrev pub IsLowestFailing : (Body → Instr → Bool) → Image → Option ℕ → Type 0
 IsLowestFailing passes i place =
     MatchOption place

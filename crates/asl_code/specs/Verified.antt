@@ -1,5 +1,5 @@
 -- Which images may run. Each fault of the verifier is a test of the image, and an image is verified where no fault
--- applies (README.md, "Faults").
+-- applies (docs/LIMITS.md, "Rules of an image").
 use Rattle.std.specs.Prelude.{◌≡◌, ℕ, ◌+◌, ◌-◌, ◌<◌, ◌≤◌, ◌⊎◌, Bool, true, false, not, ◌&&◌, ◌==◌, nat_lt, nat_le, IsTrue, List, length, Option, Some, slice_get}
 use Rattle.std.specs.List.{list_all}
 use Rattle.std.specs.Option.{option_map_or}
@@ -15,15 +15,15 @@ use Rattle.asl_code.specs.declared.lock.Lock.TheVariants as lock
 use Rattle.asl_code.specs.declared.fault.VerifyFault.{VerifyFault}
 use Rattle.asl_code.specs.declared.fault.VerifyFault.TheVariants.{Limit, Table, NoEntry, FunctionRange, FallsOut, Target, Register, Operand, ListBase}
 
--- whether the function has at most 4 parameters and 64 registers (README.md, "Limits")
+-- whether the function has at most 4 parameters and 64 registers (docs/LIMITS.md)
 abbrev pub keeps_function_limits : Function → Bool
 keeps_function_limits f = nat_le f.params 4 && nat_le f.regs 64
 
--- whether the list has at most 64 locks (README.md, "Limits")
+-- whether the list has at most 64 locks (docs/LIMITS.md)
 abbrev pub keeps_list_limit : List Lock → Bool
 keeps_list_limit locks = nat_le (length locks) 64
 
--- whether the version is 1, and no count is over its limit (README.md, "Limits")
+-- whether the version is 1, and no count is over its limit (docs/LIMITS.md)
 abbrev pub keeps_limits : Image → Bool
 keeps_limits i =
     i.version == 1
@@ -35,64 +35,64 @@ keeps_limits i =
     && list_all keeps_function_limits i.functions
     && list_all keeps_list_limit i.lists
 
--- whether the global that the base names is there (README.md, "Faults", Table)
+-- whether the global that the base names is there (docs/LIMITS.md, Table)
 abbrev pub has_base : Image → Base → Bool
 has_base i (Reg r) = true
 has_base i (Global g) = nat_lt g (length i.globals)
 
--- whether the class or the global that the lock names is there (README.md, "Faults", Table)
+-- whether the class or the global that the lock names is there (docs/LIMITS.md, Table)
 abbrev pub has_lock : Image → Lock → Bool
 has_lock i (lock.Root effect) = true
 has_lock i (lock.Class class effect) = nat_lt class i.classes
 has_lock i (lock.Expr expr effect) = has_base i expr.base
 
--- whether the classes of all globals, and the classes and globals of all locks are there (README.md, "Faults", Table)
+-- whether the classes of all globals, and the classes and globals of all locks are there (docs/LIMITS.md, Table)
 abbrev pub has_tables : Image → Bool
 has_tables i = list_all (λ class. nat_lt class i.classes) i.globals && list_all (list_all (has_lock i)) i.lists
 
--- whether the entry function is there and has exactly one parameter (README.md, "Faults", NoEntry)
+-- whether the entry function is there and has exactly one parameter (docs/LIMITS.md, NoEntry)
 abbrev pub has_entry : Image → Bool
 has_entry i = option_map_or (λ (f : Function). f.params == 1) (slice_get i.functions i.start) false
 
--- whether the function has an instruction, and a register for each parameter (README.md, "Faults", FunctionRange)
+-- whether the function has an instruction, and a register for each parameter (docs/LIMITS.md, FunctionRange)
 abbrev pub has_range : Function → Bool
 has_range f = nat_lt 0 f.len && nat_le f.params f.regs
 
--- whether this is so of all functions, and their bodies together are the code (README.md, "Faults", FunctionRange)
+-- whether this is so of all functions, and their bodies together are the code (docs/LIMITS.md, FunctionRange)
 abbrev pub has_ranges : Image → Bool
 has_ranges i = list_all has_range i.functions && total_len i.functions == length i.code
 
--- whether a function may end with the instruction: it returns or jumps (README.md, "Faults", FallsOut)
+-- whether a function may end with the instruction: it returns or jumps (docs/LIMITS.md, FallsOut)
 abbrev pub is_end : Instr → Bool
 is_end (Return from) = true
 is_end (Jump target) = true
 is_end instr = false
 
--- whether the last instruction of the body is one (README.md, "Faults", FallsOut)
+-- whether the last instruction of the body is one (docs/LIMITS.md, FallsOut)
 abbrev pub has_end : List Instr → Body → Bool
 has_end code b = option_map_or is_end (slice_get code (b.first + b.function.len - 1)) false
 
--- whether this is so of all bodies (README.md, "Faults", FallsOut)
+-- whether this is so of all bodies (docs/LIMITS.md, FallsOut)
 abbrev pub has_ends : Image → Bool
 has_ends i = list_all (has_end i.code) (bodies_from 0 i.functions)
 
--- whether the instruction's jump stays in the body, and the function that it calls is there (README.md, "Faults", Target)
+-- whether the instruction's jump stays in the body, and the function that it calls is there (docs/LIMITS.md, Target)
 abbrev pub has_target : Image → Body → Instr → Bool
 has_target i b (Jump target) = is_inside target b
 has_target i b (JumpIfZero test target) = is_inside target b
 has_target i b (Call to first function) = nat_lt function (length i.functions)
 has_target i b instr = true
 
--- whether the function has the register (README.md, "Faults", Register)
+-- whether the function has the register (docs/LIMITS.md, Register)
 abbrev pub has_register : Function → ℕ → Bool
 has_register f register = nat_lt register f.regs
 
--- whether the function has the registers from this one on that the called function takes (README.md, "Faults", Register)
+-- whether the function has the registers from this one on that the called function takes (docs/LIMITS.md, Register)
 abbrev pub has_arguments : Image → Function → ℕ → ℕ → Bool
 has_arguments i f first function =
     option_map_or (λ (callee : Function). nat_le (first + callee.params) f.regs) (slice_get i.functions function) true
 
--- whether the function has the registers of the instruction (README.md, "Faults", Register)
+-- whether the function has the registers of the instruction (docs/LIMITS.md, Register)
 abbrev pub has_registers : Image → Function → Instr → Bool
 has_registers i f (SetInt to value) = has_register f to
 has_registers i f (SetNull to) = has_register f to
@@ -126,29 +126,29 @@ is_taken (Acquire list) = true
 is_taken Release = true
 is_taken instr = false
 
--- whether the global, class or list that the instruction names is there, and a new object has a cell (README.md, "Faults", Operand)
+-- whether the global, class or list that the instruction names is there, and a new object has a cell (docs/LIMITS.md, Operand)
 abbrev pub names_operands : Image → Instr → Bool
 names_operands i (GlobalAddress to global) = nat_lt global (length i.globals)
 names_operands i (New to cells class) = nat_lt 0 cells && nat_lt class i.classes
 names_operands i (Acquire list) = nat_lt list (length i.lists)
 names_operands i instr = true
 
--- whether the instruction has its operands (README.md, "Faults", Operand)
+-- whether the instruction has its operands (docs/LIMITS.md, Operand)
 abbrev pub has_operands : Image → Instr → Bool
 has_operands i instr = is_taken instr && names_operands i instr
 
--- whether the function has the base, where it is a register (README.md, "Faults", ListBase)
+-- whether the function has the base, where it is a register (docs/LIMITS.md, ListBase)
 abbrev pub has_base_register : Function → Base → Bool
 has_base_register f (Reg r) = has_register f r
 has_base_register f (Global g) = true
 
--- whether the function has the register on which the lock's expression is based, if it is based on one (README.md, "Faults", ListBase)
+-- whether the function has the register on which the lock's expression is based, if it is based on one (docs/LIMITS.md, ListBase)
 abbrev pub has_lock_base : Function → Lock → Bool
 has_lock_base f (lock.Root effect) = true
 has_lock_base f (lock.Class class effect) = true
 has_lock_base f (lock.Expr expr effect) = has_base_register f expr.base
 
--- whether this is so of all locks of the list that an `acq` names (README.md, "Faults", ListBase)
+-- whether this is so of all locks of the list that an `acq` names (docs/LIMITS.md, ListBase)
 abbrev pub has_list_bases : Image → Function → Instr → Bool
 has_list_bases i f (Acquire list) = option_map_or (list_all (has_lock_base f)) (slice_get i.lists list) true
 has_list_bases i f instr = true
@@ -162,7 +162,7 @@ is_failure passes b instr = false
 abbrev pub fails_at : (Body → Instr → Bool) → Image → ℕ → Bool
 fails_at passes i pc = is_failure passes (body_of i pc) (slice_get i.code pc)
 
--- whether the fault applies, at its place where it names one (README.md, "Faults")
+-- whether the fault applies, at its place where it names one (docs/LIMITS.md, "Rules of an image")
 abbrev pub applies : Image → VerifyFault → Bool
 applies i Limit = not (keeps_limits i)
 applies i Table = not (has_tables i)
@@ -174,7 +174,7 @@ applies i (Register pc) = fails_at (λ b. has_registers i b.function) i pc
 applies i (Operand pc) = fails_at (λ b. has_operands i) i pc
 applies i (ListBase pc) = fails_at (λ b. has_list_bases i b.function) i pc
 
--- the line of the verifier's table that the fault is in (README.md, "Faults")
+-- the line of the verifier's table that the fault is in (docs/LIMITS.md, "Rules of an image")
 abbrev pub line_of : VerifyFault → ℕ
 line_of Limit = 1
 line_of Table = 2
@@ -186,7 +186,7 @@ line_of (Register pc) = 7
 line_of (Operand pc) = 8
 line_of (ListBase pc) = 9
 
--- the place that the fault names, and 0 where it names none (README.md, "Faults")
+-- the place that the fault names, and 0 where it names none (docs/LIMITS.md, "Rules of an image")
 abbrev pub place_of : VerifyFault → ℕ
 place_of (Target pc) = pc
 place_of (Register pc) = pc
@@ -194,15 +194,15 @@ place_of (Operand pc) = pc
 place_of (ListBase pc) = pc
 place_of fault = 0
 
--- whether the first fault is in an earlier line, or in the same line at no later place (README.md, "Faults")
+-- whether the first fault is in an earlier line, or in the same line at no later place (docs/LIMITS.md, "Rules of an image")
 abbrev pub ComesFirst : VerifyFault → VerifyFault → Type 0
 ComesFirst f g = (line_of f < line_of g) ⊎ ((line_of f ≡ line_of g) × (place_of f ≤ place_of g))
 
--- the fault that the verifier names: it applies, and comes first of all that apply (README.md, "Faults")
+-- the fault that the verifier names: it applies, and comes first of all that apply (docs/LIMITS.md, "Rules of an image")
 pub record IsAnswer (i : Image) (fault : VerifyFault) : Type 0 where
   pub holds : IsTrue (applies i fault)
   pub least : (other : VerifyFault) → IsTrue (applies i other) → ComesFirst fault other
 
--- the image may run: no fault applies (README.md, "Faults")
+-- the image may run: no fault applies (docs/LIMITS.md, "Rules of an image")
 abbrev pub IsVerified : Image → Type 0
 IsVerified i = (fault : VerifyFault) → applies i fault ≡ false

@@ -1,6 +1,6 @@
 use thiserror::Error;
 
-/// Why an image is no program, in the order of the verifier's lines (`README.md`, "Faults"). The last four name a place
+/// Why an image is no program, in the order of the verifier's lines (`docs/LIMITS.md`, "Rules of an image"). The last four name a place
 /// of the code.
 #[derive(Clone, Copy, Debug, PartialEq, Eq, Error)]
 pub enum VerifyFault {

@@ -5,6 +5,7 @@ mod fault;
 mod image;
 mod instr;
 mod items;
+pub mod laws;
 mod limits;
 mod lock;
 mod path;

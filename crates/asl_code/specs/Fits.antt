@@ -1,0 +1,88 @@
+-- What a verified image is, read as facts: what it has, and what holds of the instruction at each place of its code.
+use Rattle.std.specs.Prelude.{◌≡◌, ℕ, ◌+◌, ◌<◌, ◌≤◌, false, IsTrue, List, length, Some, slice_get, All}
+use Rattle.asl_code.specs.Bodies.{first_of, total_len}
+use Rattle.asl_code.specs.Verified.{is_end, is_taken}
+use Rattle.asl_code.specs.declared.image.Function.{Function}
+use Rattle.asl_code.specs.declared.image.Image.{Image}
+use Rattle.asl_code.specs.declared.instr.Instr.{Instr}
+use Rattle.asl_code.specs.declared.instr.Instr.TheVariants.{SetInt, SetNull, Move, Add, Subtract, LessThan, Equals, GlobalAddress, FieldAddress, Load, Store, New, Jump, JumpIfZero, Call, Return, Output, Acquire, Release}
+use Rattle.asl_code.specs.declared.lock.Base.{Base}
+use Rattle.asl_code.specs.declared.lock.Base.TheVariants.{Reg, Global}
+use Rattle.asl_code.specs.declared.lock.Lock.{Lock}
+use Rattle.asl_code.specs.declared.lock.Lock.TheVariants as lock
+
+-- the place lies in the body of the function of this number, which is this one (docs/INSTRUCTIONS.md)
+pub record LiesIn (i : Image) (number pc : ℕ) (f : Function) : Type 0 where
+  pub function : slice_get i.functions number ≡ Some f
+  pub low : first_of i.functions number ≤ pc
+  pub high : pc < first_of i.functions number + f.len
+
+-- the function has an instruction, a register for each parameter, and no more than the limits (docs/LIMITS.md)
+pub record FitsFunction (f : Function) : Type 0 where
+  pub some : 0 < f.len
+  pub params : f.params ≤ f.regs
+  pub few_params : f.params ≤ 4
+  pub few_regs : f.regs ≤ 64
+
+-- the global that the base names is there (docs/LIMITS.md, Table)
+abbrev pub HasBase : Image → Base → Type 0
+HasBase i (Reg register) = Unit {0}
+HasBase i (Global global) = global < length i.globals
+
+-- the class or the global that the lock names is there (docs/LIMITS.md, Table)
+abbrev pub HasLock : Image → Lock → Type 0
+HasLock i (lock.Root effect) = Unit {0}
+HasLock i (lock.Class class effect) = class < i.classes
+HasLock i (lock.Expr expr effect) = HasBase i expr.base
+
+-- what the base names is there: the function has the register, or the image the global (docs/LIMITS.md, Table, ListBase)
+abbrev pub FitsBase : Image → Function → Base → Type 0
+FitsBase i f (Reg register) = register < f.regs
+FitsBase i f (Global global) = global < length i.globals
+
+-- what the lock names is there, where the function asks for it (docs/LIMITS.md, Table, ListBase)
+abbrev pub FitsLock : Image → Function → Lock → Type 0
+FitsLock i f (lock.Root effect) = Unit {0}
+FitsLock i f (lock.Class class effect) = class < i.classes
+FitsLock i f (lock.Expr expr effect) = FitsBase i f expr.base
+
+-- what an instruction names is there, in the function of this number, and its jump stays in the body
+-- (docs/LIMITS.md, Target, Register, Operand, ListBase)
+abbrev pub FitsInstr : Image → ℕ → Function → Instr → Type 0
+FitsInstr i n f (SetInt to value) = to < f.regs
+FitsInstr i n f (SetNull to) = to < f.regs
+FitsInstr i n f (Move to from) = (to < f.regs) × (from < f.regs)
+FitsInstr i n f (Add to left right) = (to < f.regs) × (left < f.regs) × (right < f.regs)
+FitsInstr i n f (Subtract to left right) = (to < f.regs) × (left < f.regs) × (right < f.regs)
+FitsInstr i n f (LessThan to left right) = (to < f.regs) × (left < f.regs) × (right < f.regs)
+FitsInstr i n f (Equals to left right) = (to < f.regs) × (left < f.regs) × (right < f.regs)
+FitsInstr i n f (GlobalAddress to global) = (to < f.regs) × (global < length i.globals)
+FitsInstr i n f (FieldAddress to from offset) = (to < f.regs) × (from < f.regs)
+FitsInstr i n f (Load to address) = (to < f.regs) × (address < f.regs)
+FitsInstr i n f (Store address from) = (address < f.regs) × (from < f.regs)
+FitsInstr i n f (New to cells class) = (to < f.regs) × (0 < cells) × (class < i.classes)
+FitsInstr i n f (Jump target) = LiesIn i n target f
+FitsInstr i n f (JumpIfZero test target) = (test < f.regs) × LiesIn i n target f
+FitsInstr i n f (Call to first function) = (to < f.regs) × ((callee : Function) × (slice_get i.functions function ≡ Some callee) × (first + callee.params ≤ f.regs))
+FitsInstr i n f (Return from) = from < f.regs
+FitsInstr i n f (Output from) = from < f.regs
+FitsInstr i n f (Acquire list) = (locks : List Lock) × (slice_get i.lists list ≡ Some locks) × All (FitsLock i f) locks
+FitsInstr i n f Release = Unit {0}
+
+-- the facts of a verified image (docs/LIMITS.md, "Rules of an image")
+pub record FitsImage (i : Image) : Type 0 where
+  pub version : i.version ≡ 1
+  pub few_classes : i.classes ≤ 1024
+  pub few_globals : length i.globals ≤ 1024
+  pub few_functions : length i.functions ≤ 256
+  pub few_instrs : length i.code ≤ 65535
+  pub few_lists : length i.lists ≤ 1024
+  pub global_fits : (n class : ℕ) → slice_get i.globals n ≡ Some class → class < i.classes
+  pub few_locks : (n : ℕ) (locks : List Lock) → slice_get i.lists n ≡ Some locks → length locks ≤ 64
+  pub list_fits : (n : ℕ) (locks : List Lock) → slice_get i.lists n ≡ Some locks → All (HasLock i) locks
+  pub entry : (f : Function) × (slice_get i.functions i.start ≡ Some f) × (f.params ≡ 1)
+  pub function_fits : (n : ℕ) (f : Function) → slice_get i.functions n ≡ Some f → FitsFunction f
+  pub total : total_len i.functions ≡ length i.code
+  pub instr_fits : (n pc : ℕ) (f : Function) (instr : Instr) → LiesIn i n pc f → slice_get i.code pc ≡ Some instr → FitsInstr i n f instr
+  pub instr_taken : (n pc : ℕ) (f : Function) (instr : Instr) → LiesIn i n pc f → slice_get i.code pc ≡ Some instr → IsTrue (is_taken instr)
+  pub goes_on : (n pc : ℕ) (f : Function) (instr : Instr) → LiesIn i n pc f → slice_get i.code pc ≡ Some instr → is_end instr ≡ false → LiesIn i n (pc + 1) f

@@ -1,0 +1,29 @@
+//! Laws of verified images, as functions that do nothing: what each ensures is the law.
+ghost use Rattle.std.specs.Prelude.{◌≡◌, ◌<◌, ℕ, Some, length, slice_get};
+ghost use Rattle.asl_code.specs.Bodies.{body_of, first_of, total_len};
+ghost use Rattle.asl_code.specs.Fits.{LiesIn, FitsImage};
+ghost use Rattle.asl_code.specs.Verified.{IsVerified};
+ghost use Rattle.asl_code.specs.declared.image.Function.{Function};
+ghost use Rattle.asl_code.specs.declared.image.Image.{Image};
+ghost use Rattle.asl_code.specs.declared.instr.Instr.{Instr};
+
+/// Each place lies in one body at the most, and the bodies of functions whose lengths add up to the code part it.
+pub fn bodies_part_the_code()
+    ensures body { (i : Image) (n pc : ℕ) (f : Function) → LiesIn i n pc f
+        → body_of i pc ≡ Some (record { first = first_of i.functions n; function = f }) }
+    ensures once { (i : Image) (n m pc : ℕ) (f g : Function) → LiesIn i n pc f → LiesIn i m pc g → n ≡ m }
+    ensures somewhere { (i : Image) (pc : ℕ) → pc < total_len i.functions
+        → (n : ℕ) × (f : Function) × LiesIn i n pc f }
+    ensures inside { (i : Image) (n pc : ℕ) (f : Function) → LiesIn i n pc f → pc < total_len i.functions }
+    ensures first { (i : Image) (n : ℕ) (f : Function) → slice_get i.functions n ≡ Some f → 0 < f.len
+        → LiesIn i n (first_of i.functions n) f }
+{}
+
+/// A verified image has all that it names, instruction by instruction, and each place of its code lies in a body.
+pub fn verified_images_fit()
+    ensures facts { (i : Image) → IsVerified i → FitsImage i }
+    ensures lies { (i : Image) (pc : ℕ) → IsVerified i → pc < length i.code
+        → (n : ℕ) × (f : Function) × LiesIn i n pc f }
+    ensures instr { (i : Image) (n pc : ℕ) (f : Function) → IsVerified i → LiesIn i n pc f
+        → (instr : Instr) × (slice_get i.code pc ≡ Some instr) }
+{}
