@@ -2,3 +2,4 @@ pub mod Laws
 pub mod Requests
 pub mod Lawful
 pub mod NinePairs
+mod EntryLaws

@@ -3,3 +3,4 @@ pub mod Keys
 pub mod Holding
 pub mod Request
 pub mod Held
+pub mod Entries
