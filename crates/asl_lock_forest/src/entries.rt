@@ -1,8 +1,7 @@
 //! The plain list behind a forest: one entry for each node that a thread holds.
-ghost use Rattle.std.specs.Prelude.{◌≡◌, ◌↔◌, ◌++◌, IsTrue, OnErr, OnOk, not, ◌==◌, filter, map, MatchBool};
+ghost use Rattle.std.specs.Prelude.{◌≡◌, ◌↔◌, ◌++◌, IsTrue, OnErr, OnOk, IfOk, not, ◌==◌, filter, map};
 ghost use Rattle.std.specs.List.{list_all};
-ghost use Rattle.asl_lock_forest.specs.Holding.{held, asked, CanGrant};
-ghost use Rattle.asl_lock_forest.specs.Request.{IsRefused};
+ghost use Rattle.asl_lock_forest.specs.Holding.{held, asked};
 ghost use Rattle.asl_lock_forest.specs.Entries.{holding_of, entry_of, goes_with};
 
 use std::alloc::{AllocError, Global};
@@ -51,4 +50,59 @@ pub fn asked_in(request: &[(Node, Mode)], node: Node) -> Mode
         }
     }
     Mode::NL
+}
+
+/// Whether the entry is the thread's own, or goes with what the thread asks.
+fn goes_with(entries: &[Entry], thread: u32, request: &[(Node, Mode)], entry: Entry) -> bool
+    ensures { result ≡ goes_with (holding_of entries.now) thread request.now entry }
+{
+    entry.thread == thread
+        || compatible(
+            asked_in(request, entry.node),
+            mode_in(entries, entry.thread, entry.node),
+        )
+}
+
+/// Whether every entry goes with what the thread asks.
+pub fn can_grant(entries: &[Entry], thread: u32, request: &[(Node, Mode)]) -> bool
+    ensures { result ≡ list_all (goes_with (holding_of entries.now) thread request.now) entries.now }
+{
+    entries
+        .iter()
+        .all(|entry| goes_with(entries, thread, request, *entry))
+}
+
+/// The entries of what the thread asks.
+fn granted(alloc: Global, thread: u32, request: &[(Node, Mode)]) -> Result<Vec<Entry>, AllocError>
+    ensures { IfOk result (λ entries. entries.items ≡ map (entry_of thread) request.now) }
+{
+    request
+        .iter()
+        .map(|ask| Entry {
+            thread,
+            node: ask.0,
+            mode: ask.1,
+        })
+        .collect(alloc)
+}
+
+/// Adds the entries of what the thread asks.
+pub fn add_all(
+    entries: &mut Vec<Entry>,
+    alloc: Global,
+    thread: u32,
+    request: &[(Node, Mode)],
+) -> Result<(), AllocError>
+    ensures ok { OnOk result (entries.new.items ≡ entries.old.items ++ map (entry_of thread) request.now) }
+    ensures err { OnErr result (entries.new.items ≡ entries.old.items) }
+{
+    let more = granted(alloc, thread, request)?;
+    entries.extend_from_slice(more.as_slice())
+}
+
+/// Takes away the thread's entries.
+pub fn remove_all(entries: &mut Vec<Entry>, thread: u32)
+    ensures { entries.new.items ≡ filter (λ entry. not (entry.thread == thread)) entries.old.items }
+{
+    entries.retain(move |entry| entry.thread != thread);
 }
