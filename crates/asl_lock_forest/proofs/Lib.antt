@@ -3,3 +3,4 @@ pub mod Requests
 pub mod Lawful
 pub mod NinePairs
 mod EntryLaws
+mod ForestLaws

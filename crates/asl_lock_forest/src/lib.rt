@@ -2,6 +2,8 @@
 #![tactic(auto)]
 
 mod entries;
+mod forest;
 mod node;
 
+pub use forest::Forest;
 pub use node::Node;
