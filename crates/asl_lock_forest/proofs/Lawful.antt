@@ -1,6 +1,7 @@
 -- Granting and releasing keep a holding lawful.
-use Rattle.std.proofs.Common.{◌≡◌, ◌≢◌, ℕ, ◌<◌, Bool, true, false, not, ◌&&◌, IsTrue, List, [], ◌∷◌, Option, None, Some, All, if◌then◌else◌, refl, ap, sym, subst, ◌∙◌, ◌⊎◌, inl, inr}
+use Rattle.std.proofs.Common.{◌≡◌, ◌≢◌, ℕ, ◌<◌, ◌≤◌, arith, unwrap_or, Bool, true, false, not, ◌&&◌, IsTrue, List, [], ◌∷◌, Option, None, Some, All, if◌then◌else◌, refl, ap, sym, subst, ◌∙◌, ◌⊎◌, inl, inr}
 use Rattle.std.specs.FinMap as map
+use Rattle.std.proofs.lemmas.Bool.{cases_lt}
 use Rattle.std.proofs.lemmas.Bool.Decides.{eqb_tells}
 use Rattle.std.proofs.lemmas.List.Elements.{All-head, All-tail}
 use Rattle.asl_mode_lanes.specs.declared.mode.Mode.{Mode}
@@ -11,9 +12,9 @@ use Rattle.asl_lock_forest.specs.declared.node.Node.{Node}
 use Rattle.asl_lock_forest.specs.Node.{parent_of, parent_mode, IsRooted, IsThere}
 use Rattle.asl_lock_forest.specs.Keys.{Key, key, key_cmp}
 use Rattle.asl_lock_forest.specs.Holding.{Holding, held, no_holding, HoldsNothing, Request, asked, grant, release, CanGrant, IsLawful, IsWithin}
-use Rattle.asl_lock_forest.specs.Request.{asks_modes, IsOfClasses}
+use Rattle.asl_lock_forest.specs.Request.{names, asks_modes, IsOfClasses}
 use Rattle.asl_lock_forest.proofs.Requests.{and_left, and_right}
-use Rattle.asl_lock_forest.proofs.Laws.{tell_keys, get_insert_same, get_insert_other, get_release_own, get_release_other, held_empty, held_grant_own, held_grant_other, held_release_own, held_release_other}
+use Rattle.asl_lock_forest.proofs.Laws.{tell_keys, asked_unnamed, get_insert_same, get_insert_other, get_release_own, get_release_other, held_empty, held_grant_own, held_grant_other, held_release_own, held_release_other}
 
 -- modes are rooted where modes that are the same are
 rooted_by : (a b : Node → Mode) → ((n : Node) → a n ≡ b n) → IsRooted b → IsRooted a
@@ -125,3 +126,26 @@ within_grant classes threads h t (ask ∷ others) within there of_classes =
       | inl is ↦ subst (λ q. IsThere classes q.node) (sym is) (All-head (λ a. IsThere classes a.0) ask others of_classes)
       | inr was ↦ rest.classes_there k was ];
   }
+
+-- Where a request is free: at the nodes that it names, of the threads that there are.
+
+-- a thread from the count on holds NL everywhere
+pub held_beyond : (classes threads : ℕ) (h : Holding) → IsWithin classes threads h → (u : ℕ) (n : Node) → threads ≤ u → held h u n ≡ NL
+held_beyond classes threads h within u n beyond =
+    elim (map.get h (key u n)) as (λ o. map.get h (key u n) ≡ o → unwrap_or o NL ≡ NL) [
+      | None ↦ λ _. refl
+      | Some m ↦ λ is.
+          let below : u < threads = within.threads_there (key u n) (λ none. let clash = sym is ∙ none in cc) in
+          absurd (omega arith) ] refl
+
+-- a request can be granted where it goes with what the other threads below the count hold at the nodes that it names
+pub CanGrant-named : (classes threads : ℕ) (h : Holding) (t : ℕ) (request : Request) → IsWithin classes threads h
+    → ((u : ℕ) (n : Node) → u ≢ t → u < threads → IsTrue (names request n) → AreCompatible (asked request n) (held h u n))
+    → CanGrant h t request
+CanGrant-named classes threads h t request within free u n apart =
+    elim (names request n) as (λ b. names request n ≡ b → AreCompatible (asked request n) (held h u n)) [
+      | true ↦ λ named. elim (cases_lt u threads) [
+        | inl below ↦ free u n apart below named
+        | inr beyond ↦ compatible_sym (held h u n) (asked request n)
+            (together_by (held h u n) (asked request n) NL (asked request n) (held_beyond classes threads h within u n beyond) refl refl) ]
+      | false ↦ λ unnamed. together_by (asked request n) (held h u n) NL (held h u n) (asked_unnamed request n unnamed) refl refl ] refl

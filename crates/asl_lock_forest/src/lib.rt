@@ -3,7 +3,12 @@
 
 mod entries;
 mod forest;
+mod holding_laws;
 mod node;
 
 pub use forest::Forest;
+pub use holding_laws::{
+    grants_are_held, grants_stay_lawful, readers_and_writers_exclude_each_other, releases_are_held,
+    releases_stay_lawful,
+};
 pub use node::Node;
