@@ -5,7 +5,7 @@ mod fault;
 mod image;
 mod instr;
 mod items;
-pub mod laws;
+mod laws;
 mod limits;
 mod lock;
 mod path;
@@ -18,7 +18,11 @@ pub use fault::VerifyFault;
 pub use image::{Function, Image};
 pub use instr::Instr;
 pub use items::Items;
+pub use laws::{bodies_part_the_code, verified_images_fit};
 pub use lock::{Base, Expr, Lock};
 pub use path::{Op, Path};
 pub use program::Program;
 pub use value::{Cell, Effect, Value};
+
+#[cfg(test)]
+mod tests;
