@@ -1,3 +1,4 @@
 pub mod FitsLaws
+pub mod Instrs
 pub mod Scanning
 pub mod Told

@@ -1,4 +1,6 @@
 pub mod Bodies
 pub mod Fits
 pub mod Lines
+pub mod Reading
+pub mod Spelling
 pub mod Verified

@@ -4,6 +4,7 @@
 mod fault;
 mod image;
 mod instr;
+mod instr_bytes;
 mod items;
 mod laws;
 mod limits;
@@ -17,6 +18,7 @@ mod verify;
 pub use fault::VerifyFault;
 pub use image::{Function, Image};
 pub use instr::Instr;
+pub use instr_bytes::{get_instr, instr_and_bytes_are_one, put_instr};
 pub use items::Items;
 pub use laws::{bodies_part_the_code, verified_images_fit};
 pub use lock::{Base, Expr, Lock};
