@@ -147,175 +147,251 @@ pub record Read (i : Instr) : Type 0 where
 
 read_of : (i : Instr) → IsInstr i → Read i
 read_of (SetInt x w) fits = record {
-  op = 1; a = x; b = 0; c = 0; d = cast_unsigned w32 w;
+  op = 1;
+  a = x;
+  b = 0;
+  c = 0;
+  d = cast_unsigned w32 w;
   row = record { used = 1; greatest = 4294967295; made = λ a b c d. SetInt a (cast_signed w32 d) };
   fields = record { op_fits = lit< tt; a_fits = fits.0; b_fits = lit< tt; c_fits = lit< tt; d_fits = (Fits-of_z fits.1).fits };
   is_there = refl;
   taken = record { first = refl; second = refl; third = refl; last = omega (arith, (Fits-of_z fits.1).fits) };
   makes = ap (SetInt x) (to_z-of_z w32 w fits.1);
-  bytes = refl
+  bytes = refl;
 }
 read_of (SetNull x) fits = record {
-  op = 2; a = x; b = 0; c = 0; d = 0;
+  op = 2;
+  a = x;
+  b = 0;
+  c = 0;
+  d = 0;
   row = record { used = 1; greatest = 0; made = λ a b c d. SetNull a };
   fields = record { op_fits = lit< tt; a_fits = fits; b_fits = lit< tt; c_fits = lit< tt; d_fits = lit< tt };
   is_there = refl;
   taken = record { first = refl; second = refl; third = refl; last = lit≤ tt };
   makes = refl;
-  bytes = refl
+  bytes = refl;
 }
 read_of (Move x y) fits = record {
-  op = 3; a = x; b = y; c = 0; d = 0;
+  op = 3;
+  a = x;
+  b = y;
+  c = 0;
+  d = 0;
   row = record { used = 2; greatest = 0; made = λ a b c d. Move a b };
   fields = record { op_fits = lit< tt; a_fits = fits.0; b_fits = fits.1; c_fits = lit< tt; d_fits = lit< tt };
   is_there = refl;
   taken = record { first = refl; second = refl; third = refl; last = lit≤ tt };
   makes = refl;
-  bytes = refl
+  bytes = refl;
 }
 read_of (Add x y z) fits = record {
-  op = 4; a = x; b = y; c = z; d = 0;
+  op = 4;
+  a = x;
+  b = y;
+  c = z;
+  d = 0;
   row = record { used = 3; greatest = 0; made = λ a b c d. Add a b c };
   fields = record { op_fits = lit< tt; a_fits = fits.0; b_fits = fits.1; c_fits = fits.2; d_fits = lit< tt };
   is_there = refl;
   taken = record { first = refl; second = refl; third = refl; last = lit≤ tt };
   makes = refl;
-  bytes = refl
+  bytes = refl;
 }
 read_of (Subtract x y z) fits = record {
-  op = 5; a = x; b = y; c = z; d = 0;
+  op = 5;
+  a = x;
+  b = y;
+  c = z;
+  d = 0;
   row = record { used = 3; greatest = 0; made = λ a b c d. Subtract a b c };
   fields = record { op_fits = lit< tt; a_fits = fits.0; b_fits = fits.1; c_fits = fits.2; d_fits = lit< tt };
   is_there = refl;
   taken = record { first = refl; second = refl; third = refl; last = lit≤ tt };
   makes = refl;
-  bytes = refl
+  bytes = refl;
 }
 read_of (LessThan x y z) fits = record {
-  op = 6; a = x; b = y; c = z; d = 0;
+  op = 6;
+  a = x;
+  b = y;
+  c = z;
+  d = 0;
   row = record { used = 3; greatest = 0; made = λ a b c d. LessThan a b c };
   fields = record { op_fits = lit< tt; a_fits = fits.0; b_fits = fits.1; c_fits = fits.2; d_fits = lit< tt };
   is_there = refl;
   taken = record { first = refl; second = refl; third = refl; last = lit≤ tt };
   makes = refl;
-  bytes = refl
+  bytes = refl;
 }
 read_of (Equals x y z) fits = record {
-  op = 7; a = x; b = y; c = z; d = 0;
+  op = 7;
+  a = x;
+  b = y;
+  c = z;
+  d = 0;
   row = record { used = 3; greatest = 0; made = λ a b c d. Equals a b c };
   fields = record { op_fits = lit< tt; a_fits = fits.0; b_fits = fits.1; c_fits = fits.2; d_fits = lit< tt };
   is_there = refl;
   taken = record { first = refl; second = refl; third = refl; last = lit≤ tt };
   makes = refl;
-  bytes = refl
+  bytes = refl;
 }
 read_of (GlobalAddress x w) fits = record {
-  op = 8; a = x; b = 0; c = 0; d = w;
+  op = 8;
+  a = x;
+  b = 0;
+  c = 0;
+  d = w;
   row = record { used = 1; greatest = 65535; made = λ a b c d. GlobalAddress a d };
   fields = record { op_fits = lit< tt; a_fits = fits.0; b_fits = lit< tt; c_fits = lit< tt; d_fits = omega (arith, fits.1) };
   is_there = refl;
   taken = record { first = refl; second = refl; third = refl; last = omega (arith, fits.1) };
   makes = refl;
-  bytes = refl
+  bytes = refl;
 }
 read_of (FieldAddress x y w) fits = record {
-  op = 9; a = x; b = y; c = 0; d = w;
+  op = 9;
+  a = x;
+  b = y;
+  c = 0;
+  d = w;
   row = record { used = 2; greatest = 255; made = λ a b c d. FieldAddress a b d };
   fields = record { op_fits = lit< tt; a_fits = fits.0; b_fits = fits.1; c_fits = lit< tt; d_fits = omega (arith, fits.2) };
   is_there = refl;
   taken = record { first = refl; second = refl; third = refl; last = omega (arith, fits.2) };
   makes = refl;
-  bytes = refl
+  bytes = refl;
 }
 read_of (Load x y) fits = record {
-  op = 10; a = x; b = y; c = 0; d = 0;
+  op = 10;
+  a = x;
+  b = y;
+  c = 0;
+  d = 0;
   row = record { used = 2; greatest = 0; made = λ a b c d. Load a b };
   fields = record { op_fits = lit< tt; a_fits = fits.0; b_fits = fits.1; c_fits = lit< tt; d_fits = lit< tt };
   is_there = refl;
   taken = record { first = refl; second = refl; third = refl; last = lit≤ tt };
   makes = refl;
-  bytes = refl
+  bytes = refl;
 }
 read_of (Store x y) fits = record {
-  op = 11; a = x; b = y; c = 0; d = 0;
+  op = 11;
+  a = x;
+  b = y;
+  c = 0;
+  d = 0;
   row = record { used = 2; greatest = 0; made = λ a b c d. Store a b };
   fields = record { op_fits = lit< tt; a_fits = fits.0; b_fits = fits.1; c_fits = lit< tt; d_fits = lit< tt };
   is_there = refl;
   taken = record { first = refl; second = refl; third = refl; last = lit≤ tt };
   makes = refl;
-  bytes = refl
+  bytes = refl;
 }
 read_of (New x y w) fits = record {
-  op = 12; a = x; b = y; c = 0; d = w;
+  op = 12;
+  a = x;
+  b = y;
+  c = 0;
+  d = w;
   row = record { used = 2; greatest = 65535; made = λ a b c d. New a b d };
   fields = record { op_fits = lit< tt; a_fits = fits.0; b_fits = fits.1; c_fits = lit< tt; d_fits = omega (arith, fits.2) };
   is_there = refl;
   taken = record { first = refl; second = refl; third = refl; last = omega (arith, fits.2) };
   makes = refl;
-  bytes = refl
+  bytes = refl;
 }
 read_of (Jump w) fits = record {
-  op = 13; a = 0; b = 0; c = 0; d = w;
+  op = 13;
+  a = 0;
+  b = 0;
+  c = 0;
+  d = w;
   row = record { used = 0; greatest = 65535; made = λ a b c d. Jump d };
   fields = record { op_fits = lit< tt; a_fits = lit< tt; b_fits = lit< tt; c_fits = lit< tt; d_fits = omega (arith, fits) };
   is_there = refl;
   taken = record { first = refl; second = refl; third = refl; last = omega (arith, fits) };
   makes = refl;
-  bytes = refl
+  bytes = refl;
 }
 read_of (JumpIfZero x w) fits = record {
-  op = 14; a = x; b = 0; c = 0; d = w;
+  op = 14;
+  a = x;
+  b = 0;
+  c = 0;
+  d = w;
   row = record { used = 1; greatest = 65535; made = λ a b c d. JumpIfZero a d };
   fields = record { op_fits = lit< tt; a_fits = fits.0; b_fits = lit< tt; c_fits = lit< tt; d_fits = omega (arith, fits.1) };
   is_there = refl;
   taken = record { first = refl; second = refl; third = refl; last = omega (arith, fits.1) };
   makes = refl;
-  bytes = refl
+  bytes = refl;
 }
 read_of (Call x y w) fits = record {
-  op = 15; a = x; b = y; c = 0; d = w;
+  op = 15;
+  a = x;
+  b = y;
+  c = 0;
+  d = w;
   row = record { used = 2; greatest = 65535; made = λ a b c d. Call a b d };
   fields = record { op_fits = lit< tt; a_fits = fits.0; b_fits = fits.1; c_fits = lit< tt; d_fits = omega (arith, fits.2) };
   is_there = refl;
   taken = record { first = refl; second = refl; third = refl; last = omega (arith, fits.2) };
   makes = refl;
-  bytes = refl
+  bytes = refl;
 }
 read_of (Return x) fits = record {
-  op = 16; a = x; b = 0; c = 0; d = 0;
+  op = 16;
+  a = x;
+  b = 0;
+  c = 0;
+  d = 0;
   row = record { used = 1; greatest = 0; made = λ a b c d. Return a };
   fields = record { op_fits = lit< tt; a_fits = fits; b_fits = lit< tt; c_fits = lit< tt; d_fits = lit< tt };
   is_there = refl;
   taken = record { first = refl; second = refl; third = refl; last = lit≤ tt };
   makes = refl;
-  bytes = refl
+  bytes = refl;
 }
 read_of (Output x) fits = record {
-  op = 17; a = x; b = 0; c = 0; d = 0;
+  op = 17;
+  a = x;
+  b = 0;
+  c = 0;
+  d = 0;
   row = record { used = 1; greatest = 0; made = λ a b c d. Output a };
   fields = record { op_fits = lit< tt; a_fits = fits; b_fits = lit< tt; c_fits = lit< tt; d_fits = lit< tt };
   is_there = refl;
   taken = record { first = refl; second = refl; third = refl; last = lit≤ tt };
   makes = refl;
-  bytes = refl
+  bytes = refl;
 }
 read_of (Acquire w) fits = record {
-  op = 18; a = 0; b = 0; c = 0; d = w;
+  op = 18;
+  a = 0;
+  b = 0;
+  c = 0;
+  d = w;
   row = record { used = 0; greatest = 65535; made = λ a b c d. Acquire d };
   fields = record { op_fits = lit< tt; a_fits = lit< tt; b_fits = lit< tt; c_fits = lit< tt; d_fits = omega (arith, fits) };
   is_there = refl;
   taken = record { first = refl; second = refl; third = refl; last = omega (arith, fits) };
   makes = refl;
-  bytes = refl
+  bytes = refl;
 }
 read_of Release fits = record {
-  op = 19; a = 0; b = 0; c = 0; d = 0;
+  op = 19;
+  a = 0;
+  b = 0;
+  c = 0;
+  d = 0;
   row = record { used = 0; greatest = 0; made = λ a b c d. Release };
   fields = record { op_fits = lit< tt; a_fits = lit< tt; b_fits = lit< tt; c_fits = lit< tt; d_fits = lit< tt };
   is_there = refl;
   taken = record { first = refl; second = refl; third = refl; last = lit≤ tt };
   makes = refl;
-  bytes = refl
+  bytes = refl;
 }
 
 -- a row that takes the fields reads them as its instruction
@@ -401,13 +477,13 @@ refused_in_row op r a b c d place fields there e (first_refused t f) =
       is_field = lit≤ tt;
       before = (r.made 0 0 0 0, m.0, ap (take 1) m.1);
       here = λ i fits same.
-        let q = read_of i fits in
-        let shown : take 2 (eight_bytes q.op q.a q.b q.c q.d) ≡ op ∷ a ∷ [] = sym (ap (take 2) q.bytes) ∙ same in
-        let o : q.op ≡ op = cc in
-        let pa : q.a ≡ a = cc in
-        let w = row_is i q op r o there in
-        let taken : takes r.used 0 a ≡ true = rw (← w, ← pa) q.taken.first in
-        absurd cc;
+          let q = read_of i fits in
+          let shown : take 2 (eight_bytes q.op q.a q.b q.c q.d) ≡ op ∷ a ∷ [] = sym (ap (take 2) q.bytes) ∙ same in
+          let o : q.op ≡ op = cc in
+          let pa : q.a ≡ a = cc in
+          let w = row_is i q op r o there in
+          let taken : takes r.used 0 a ≡ true = rw (← w, ← pa) q.taken.first in
+          absurd cc;
     })
 refused_in_row op r a b c d place fields there e (second_refused t u f) =
     let at : place ≡ 2 = let both : refused place ≡ refused 2 = sym e ∙ f in cc in
@@ -416,13 +492,13 @@ refused_in_row op r a b c d place fields there e (second_refused t u f) =
       is_field = lit≤ tt;
       before = (r.made a 0 0 0, m.0, ap (take 2) m.1);
       here = λ i fits same.
-        let q = read_of i fits in
-        let shown : take 3 (eight_bytes q.op q.a q.b q.c q.d) ≡ op ∷ a ∷ b ∷ [] = sym (ap (take 3) q.bytes) ∙ same in
-        let o : q.op ≡ op = cc in
-        let pb : q.b ≡ b = cc in
-        let w' = row_is i q op r o there in
-        let taken : takes r.used 1 b ≡ true = rw (← w', ← pb) q.taken.second in
-        absurd cc;
+          let q = read_of i fits in
+          let shown : take 3 (eight_bytes q.op q.a q.b q.c q.d) ≡ op ∷ a ∷ b ∷ [] = sym (ap (take 3) q.bytes) ∙ same in
+          let o : q.op ≡ op = cc in
+          let pb : q.b ≡ b = cc in
+          let w' = row_is i q op r o there in
+          let taken : takes r.used 1 b ≡ true = rw (← w', ← pb) q.taken.second in
+          absurd cc;
     })
 refused_in_row op r a b c d place fields there e (third_refused t u v f) =
     let at : place ≡ 3 = let both : refused place ≡ refused 3 = sym e ∙ f in cc in
@@ -431,13 +507,13 @@ refused_in_row op r a b c d place fields there e (third_refused t u v f) =
       is_field = lit≤ tt;
       before = (r.made a b 0 0, m.0, ap (take 3) m.1);
       here = λ i fits same.
-        let q = read_of i fits in
-        let shown : take 4 (eight_bytes q.op q.a q.b q.c q.d) ≡ op ∷ a ∷ b ∷ c ∷ [] = sym (ap (take 4) q.bytes) ∙ same in
-        let o : q.op ≡ op = cc in
-        let pc : q.c ≡ c = cc in
-        let w' = row_is i q op r o there in
-        let taken : takes r.used 2 c ≡ true = rw (← w', ← pc) q.taken.third in
-        absurd cc;
+          let q = read_of i fits in
+          let shown : take 4 (eight_bytes q.op q.a q.b q.c q.d) ≡ op ∷ a ∷ b ∷ c ∷ [] = sym (ap (take 4) q.bytes) ∙ same in
+          let o : q.op ≡ op = cc in
+          let pc : q.c ≡ c = cc in
+          let w' = row_is i q op r o there in
+          let taken : takes r.used 2 c ≡ true = rw (← w', ← pc) q.taken.third in
+          absurd cc;
     })
 refused_in_row op r a b c d place fields there e (last_refused t u v w f) =
     let at : place ≡ 4 = let both : refused place ≡ refused 4 = sym e ∙ f in cc in
@@ -446,13 +522,13 @@ refused_in_row op r a b c d place fields there e (last_refused t u v w f) =
       is_field = lit≤ tt;
       before = (r.made a b c 0, m.0, ap (take 4) m.1);
       here = λ i fits same.
-        let q = read_of i fits in
-        let shown : eight_bytes q.op q.a q.b q.c q.d ≡ eight_bytes op a b c d = sym (ap (take 8) q.bytes) ∙ same in
-        let o : q.op ≡ op = cc in
-        let pd : q.d ≡ d = d_from_bytes q.d d q.fields.d_fits fields.d_fits (d_part q.op q.a q.b q.c q.d op a b c d shown) in
-        let w' = row_is i q op r o there in
-        let low : d ≤ r.greatest = rw (← w', ← pd) q.taken.last in
-        absurd (omega arith);
+          let q = read_of i fits in
+          let shown : eight_bytes q.op q.a q.b q.c q.d ≡ eight_bytes op a b c d = sym (ap (take 8) q.bytes) ∙ same in
+          let o : q.op ≡ op = cc in
+          let pd : q.d ≡ d = d_from_bytes q.d d q.fields.d_fits fields.d_fits (d_part q.op q.a q.b q.c q.d op a b c d shown) in
+          let w' = row_is i q op r o there in
+          let low : d ≤ r.greatest = rw (← w', ← pd) q.taken.last in
+          absurd (omega arith);
     })
 
 refused_in_some : (op : ℕ) (o : Option Row) (a b c d place : ℕ) → AreFields op a b c d → row_of op ≡ o → instr_of_some o a b c d ≡ Err place → IsFirstBadField (eight_bytes op a b c d) place
@@ -462,11 +538,11 @@ refused_in_some op None a b c d place fields there e =
       is_field = lit≤ tt;
       before = (Release, tt, refl);
       here = λ i fits same.
-        let q = read_of i fits in
-        let shown : take 1 (eight_bytes q.op q.a q.b q.c q.d) ≡ op ∷ [] = sym (ap (take 1) q.bytes) ∙ same in
-        let o : q.op ≡ op = cc in
-        let is_there : row_of op ≡ Some q.row = rw (← o) q.is_there in
-        absurd cc;
+          let q = read_of i fits in
+          let shown : take 1 (eight_bytes q.op q.a q.b q.c q.d) ≡ op ∷ [] = sym (ap (take 1) q.bytes) ∙ same in
+          let o : q.op ≡ op = cc in
+          let is_there : row_of op ≡ Some q.row = rw (← o) q.is_there in
+          absurd cc;
     })
 refused_in_some op (Some r) a b c d place fields there e = refused_in_row op r a b c d place fields there e (judged r a b c d)
 

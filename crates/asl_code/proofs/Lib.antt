@@ -2,3 +2,4 @@ pub mod FitsLaws
 pub mod Instrs
 pub mod Scanning
 pub mod Told
+pub mod Values

@@ -87,6 +87,11 @@ pub record SpellsValue (value : Value) (bytes : List ℕ) : Type 0 where
   pub fits : IsValue value
   pub spelled : bytes ≡ value_bytes value
 
+-- the first so many of the bytes spell the value
+pub record TakesValue (bytes : List ℕ) (value : Value) (count : ℕ) : Type 0 where
+  pub within : count ≤ length bytes
+  pub front : SpellsValue value (take count bytes)
+
 -- the bytes are a proper prefix of a value's bytes
 abbrev pub BeginsValue : List ℕ → Type 0
 BeginsValue bytes = (value : Value) × (next : ℕ) × (more : List ℕ) × SpellsValue value (bytes ++ next ∷ more)

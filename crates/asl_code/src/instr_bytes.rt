@@ -10,8 +10,7 @@ use crate::instr::Instr;
 pub fn instr_and_bytes_are_one()
     ensures instr { InstrOfSpellingIsOne }
     ensures bytes { SpellingOfInstrIsOne }
-{
-}
+{}
 
 /// The eight bytes of an instruction.
 pub fn put_instr(instr: &Instr) -> [u8; 8]
@@ -32,7 +31,11 @@ pub fn put_instr(instr: &Instr) -> [u8; 8]
         Instr::New { to, cells, class } => eight_bytes(12, to, cells, 0, u32::from(class)),
         Instr::Jump { target } => eight_bytes(13, 0, 0, 0, u32::from(target)),
         Instr::JumpIfZero { test, target } => eight_bytes(14, test, 0, 0, u32::from(target)),
-        Instr::Call { to, first, function } => eight_bytes(15, to, first, 0, u32::from(function)),
+        Instr::Call {
+            to,
+            first,
+            function,
+        } => eight_bytes(15, to, first, 0, u32::from(function)),
         Instr::Return { from } => eight_bytes(16, from, 0, 0, 0),
         Instr::Output { from } => eight_bytes(17, from, 0, 0, 0),
         Instr::Acquire { list } => eight_bytes(18, 0, 0, 0, u32::from(list)),
@@ -98,21 +101,61 @@ fn made_of(op: u8, a: u8, b: u8, c: u8, d: u32) -> Instr
     ensures { made_by (row_of op) a b c d ≡ Some result }
 {
     match op {
-        1 => Instr::SetInt { to: a, value: d.cast_signed() },
+        1 => Instr::SetInt {
+            to: a,
+            value: d.cast_signed(),
+        },
         2 => Instr::SetNull { to: a },
         3 => Instr::Move { to: a, from: b },
-        4 => Instr::Add { to: a, left: b, right: c },
-        5 => Instr::Subtract { to: a, left: b, right: c },
-        6 => Instr::LessThan { to: a, left: b, right: c },
-        7 => Instr::Equals { to: a, left: b, right: c },
-        8 => Instr::GlobalAddress { to: a, global: d as u16 },
-        9 => Instr::FieldAddress { to: a, from: b, offset: d as u8 },
+        4 => Instr::Add {
+            to: a,
+            left: b,
+            right: c,
+        },
+        5 => Instr::Subtract {
+            to: a,
+            left: b,
+            right: c,
+        },
+        6 => Instr::LessThan {
+            to: a,
+            left: b,
+            right: c,
+        },
+        7 => Instr::Equals {
+            to: a,
+            left: b,
+            right: c,
+        },
+        8 => Instr::GlobalAddress {
+            to: a,
+            global: d as u16,
+        },
+        9 => Instr::FieldAddress {
+            to: a,
+            from: b,
+            offset: d as u8,
+        },
         10 => Instr::Load { to: a, address: b },
-        11 => Instr::Store { address: a, from: b },
-        12 => Instr::New { to: a, cells: b, class: d as u16 },
+        11 => Instr::Store {
+            address: a,
+            from: b,
+        },
+        12 => Instr::New {
+            to: a,
+            cells: b,
+            class: d as u16,
+        },
         13 => Instr::Jump { target: d as u16 },
-        14 => Instr::JumpIfZero { test: a, target: d as u16 },
-        15 => Instr::Call { to: a, first: b, function: d as u16 },
+        14 => Instr::JumpIfZero {
+            test: a,
+            target: d as u16,
+        },
+        15 => Instr::Call {
+            to: a,
+            first: b,
+            function: d as u16,
+        },
         16 => Instr::Return { from: a },
         17 => Instr::Output { from: a },
         18 => Instr::Acquire { list: d as u16 },

@@ -14,6 +14,7 @@ mod places;
 mod program;
 mod value;
 mod verify;
+mod value_bytes;
 
 pub use fault::VerifyFault;
 pub use image::{Function, Image};
@@ -25,6 +26,9 @@ pub use lock::{Base, Expr, Lock};
 pub use path::{Op, Path};
 pub use program::Program;
 pub use value::{Cell, Effect, Value};
+pub use value_bytes::{ValueFault, get_value, put_value, value_and_bytes_are_one};
 
+#[cfg(test)]
+mod bytes_tests;
 #[cfg(test)]
 mod tests;
