@@ -137,3 +137,12 @@ nothing_kept_release h t u nothing n = elim (eqb_tells u t) [
 
 pub nothing_kept_grant : (h : Holding) (t : ℕ) (request : Request) (u : ℕ) → u ≢ t → HoldsNothing h u → HoldsNothing (grant h t request) u
 nothing_kept_grant h t request u apart nothing n = get_grant_other h t request (key u n) apart ∙ nothing n
+
+pub nothing_empty : (t : ℕ) → HoldsNothing no_holding t
+nothing_empty t n = map.get-empty key_cmp (key t n)
+
+-- who holds nothing still does after another thread's try
+pub nothing_after_try : (old new : Holding) (t : ℕ) (request : Request) (all : Bool) (u : ℕ)
+    → new ≡ (if all then grant old t request else old) → u ≢ t → HoldsNothing old u → HoldsNothing new u
+nothing_after_try old new t request true u is apart nothing n = ap (λ h. map.get h (key u n)) is ∙ nothing_kept_grant old t request u apart nothing n
+nothing_after_try old new t request false u is apart nothing n = ap (λ h. map.get h (key u n)) is ∙ nothing n

@@ -1,5 +1,5 @@
 //! The forest: who holds which node in which mode, with all that is asked granted at once or nothing of it.
-ghost use Rattle.std.specs.Prelude.{◌≡◌, ◌↔◌, ◌<◌, ◌≤◌, false, IsTrue, IfOk, OnOk, OnErr, if◌then◌else◌};
+ghost use Rattle.std.specs.Prelude.{◌≡◌, ◌≢◌, ℕ, ◌↔◌, ◌<◌, ◌≤◌, false, IsTrue, IfOk, OnOk, OnErr, if◌then◌else◌};
 ghost use Rattle.asl_mode_lanes.specs.Mode.{is_at_most};
 ghost use Rattle.asl_lock_forest.specs.Node.{IsThere};
 ghost use Rattle.asl_lock_forest.specs.Holding.{
@@ -54,6 +54,7 @@ impl Forest {
         ensures classes { IfOk result (λ forest. forest.classes ≡ classes) }
         ensures threads { IfOk result (λ forest. forest.threads ≡ threads) }
         ensures holding { IfOk result (λ forest. forest.holding ≡ no_holding) }
+        ensures nothing { IfOk result (λ forest. (thread : ℕ) → HoldsNothing forest.holding thread) }
         ensures lawful { IfOk result IsForest }
     {
         Ok(Forest {
@@ -84,7 +85,11 @@ impl Forest {
         }
         ensures classes { self.new.classes ≡ self.old.classes }
         ensures threads { self.new.threads ≡ self.old.threads }
+        ensures unchanged { IfOk result (λ all. all ≡ false → self.new ≡ self.old) }
         ensures err { OnErr result (self.new ≡ self.old) }
+        ensures others {
+            (other : ℕ) → other ≢ thread → HoldsNothing self.old.holding other → HoldsNothing self.new.holding other
+        }
         ensures lawful { IsForest self.new }
     {
         if !can_grant(self.entries.as_slice(), thread, request) {
@@ -98,6 +103,8 @@ impl Forest {
     pub fn release(&mut self, thread: u32)
         requires { thread < self.old.threads }
         ensures holding { self.new.holding ≡ release self.old.holding thread }
+        ensures nothing { HoldsNothing self.new.holding thread }
+        ensures others { (other : ℕ) → HoldsNothing self.old.holding other → HoldsNothing self.new.holding other }
         ensures classes { self.new.classes ≡ self.old.classes }
         ensures threads { self.new.threads ≡ self.old.threads }
         ensures lawful { IsForest self.new }

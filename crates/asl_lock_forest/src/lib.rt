@@ -12,3 +12,6 @@ pub use holding_laws::{
     releases_stay_lawful,
 };
 pub use node::Node;
+
+#[cfg(test)]
+mod tests;

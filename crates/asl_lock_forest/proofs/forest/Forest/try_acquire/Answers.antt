@@ -4,6 +4,7 @@ use Rattle.asl_lock_forest.specs.Held.{Held, IsForest}
 use Rattle.asl_lock_forest.specs.Entries.{holding_of, goes_with}
 use Rattle.asl_lock_forest.specs.Holding.{Holding, HoldsNothing, grant, CanGrant}
 use Rattle.asl_lock_forest.specs.Request.{IsRefused, IsOfClasses}
+use Rattle.asl_lock_forest.proofs.Laws.{nothing_kept_grant}
 use Rattle.asl_lock_forest.proofs.EntryLaws.{entries_granted, refused_cannot}
 use Rattle.asl_lock_forest.proofs.ForestLaws.{forest_grant, refused_at, granted_at, over}
 use Rattle.asl_lock_forest.proofs.forest.Forest.try_acquire.Goals as goal
@@ -44,11 +45,19 @@ returns-clause-granted c =
       c.as_slice.ensures.value (ap (λ (f : Held). f.holding) c.self.view_is) (sym c.can_grant.ensures ∙ c.if-not-can_grant.false)
     , λ can. refl )
 
-pub returns-clause-holding : goal.returns-clause-holding
-returns-clause-holding c =
+granted : (c : goal.In_ok-add_all) → holding_of c.add_all.new.entries.items ≡ grant c.args.self.now.holding c.args.thread c.args.request.now
+granted c =
     ap holding_of c.in_ok-add_all.ensures.ok
     ∙ entries_granted c.self.inside.entries.items c.args.thread c.args.request.now (nothing_before c)
     ∙ ap (λ (f : Held). grant f.holding c.args.thread c.args.request.now) c.self.view_is
+
+pub returns-clause-holding : goal.returns-clause-holding
+returns-clause-holding c = granted c
+
+pub returns-clause-others : goal.returns-clause-others
+returns-clause-others c other apart nothing =
+    subst (λ h. HoldsNothing h other) (sym (granted c))
+      (nothing_kept_grant c.args.self.now.holding c.args.thread c.args.request.now other apart nothing)
 
 pub returns-clause-lawful : goal.returns-clause-lawful
 returns-clause-lawful c = kept c
