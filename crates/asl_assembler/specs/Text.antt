@@ -1,0 +1,155 @@
+-- Which assembly text spells which image, and which line of a text is wrong (docs/ASSEMBLY.md).
+use Rattle.std.specs.Prelude.{◌≡◌, ℕ, ◌+◌, ◌-◌, ◌<◌, ◌≤◌, ◌^◌, ◌⊎◌, List, [], ◌∷◌, ◌++◌, length, map, take, min}
+use Rattle.std.specs.List.{flat_map}
+use Rattle.asl_code.specs.declared.image.Image.{Image}
+use Rattle.asl_code.specs.declared.image.Function.{Function}
+use Rattle.asl_code.specs.declared.instr.Instr.{Instr}
+use Rattle.asl_code.specs.declared.instr.Instr.TheVariants as instr
+use Rattle.asl_code.specs.declared.lock.Lock.{Lock}
+use Rattle.asl_code.specs.declared.lock.Lock.TheVariants as lock
+use Rattle.asl_code.specs.declared.lock.Base.{Base}
+use Rattle.asl_code.specs.declared.lock.Base.TheVariants as base
+use Rattle.asl_code.specs.declared.path.Op.{Op}
+use Rattle.asl_code.specs.declared.path.Op.TheVariants as op
+use Rattle.asl_code.specs.declared.value.Effect.{Effect}
+use Rattle.asl_code.specs.declared.value.Effect.TheVariants as effect
+use Rattle.asl_assembler.specs.declared.keyword.Keyword.TheVariants as keyword
+use Rattle.asl_assembler.specs.declared.line.Line.{Line}
+use Rattle.asl_assembler.specs.declared.line.Line.TheVariants as line
+use Rattle.asl_assembler.specs.Words.{Token, Name, Byte, Short, Integer, Register, GlobalName, Star, Offset, AreWords, lines_of, words_of}
+
+-- The words of an instruction.
+abbrev pub instr_tokens : Instr → List Token
+instr_tokens (instr.SetInt to value) = Name keyword.Int ∷ Register to ∷ Integer value ∷ []
+instr_tokens (instr.SetNull to) = Name keyword.Null ∷ Register to ∷ []
+instr_tokens (instr.Move to from) = Name keyword.Mov ∷ Register to ∷ Register from ∷ []
+instr_tokens (instr.Add to left right) = Name keyword.Add ∷ Register to ∷ Register left ∷ Register right ∷ []
+instr_tokens (instr.Subtract to left right) = Name keyword.Sub ∷ Register to ∷ Register left ∷ Register right ∷ []
+instr_tokens (instr.LessThan to left right) = Name keyword.Lt ∷ Register to ∷ Register left ∷ Register right ∷ []
+instr_tokens (instr.Equals to left right) = Name keyword.Eq ∷ Register to ∷ Register left ∷ Register right ∷ []
+instr_tokens (instr.GlobalAddress to global) = Name keyword.Glob ∷ Register to ∷ GlobalName global ∷ []
+instr_tokens (instr.FieldAddress to from offset) = Name keyword.Field ∷ Register to ∷ Register from ∷ Byte offset ∷ []
+instr_tokens (instr.Load to address) = Name keyword.Load ∷ Register to ∷ Register address ∷ []
+instr_tokens (instr.Store address from) = Name keyword.Store ∷ Register address ∷ Register from ∷ []
+instr_tokens (instr.New to cells class) = Name keyword.New ∷ Register to ∷ Byte cells ∷ Short class ∷ []
+instr_tokens (instr.Jump target) = Name keyword.Jmp ∷ Short target ∷ []
+instr_tokens (instr.JumpIfZero test target) = Name keyword.Jz ∷ Register test ∷ Short target ∷ []
+instr_tokens (instr.Call to first function) = Name keyword.Call ∷ Register to ∷ Register first ∷ Short function ∷ []
+instr_tokens (instr.Return from) = Name keyword.Ret ∷ Register from ∷ []
+instr_tokens (instr.Output from) = Name keyword.Out ∷ Register from ∷ []
+instr_tokens (instr.Acquire list) = Name keyword.Acq ∷ Short list ∷ []
+instr_tokens instr.Release = Name keyword.Rel ∷ []
+
+-- The words of a lock.
+abbrev pub effect_token : Effect → Token
+effect_token effect.Read = Name keyword.Read
+effect_token effect.Write = Name keyword.Write
+
+abbrev pub base_token : Base → Token
+base_token (base.Reg register) = Register register
+base_token (base.Global global) = GlobalName global
+
+abbrev pub op_token : Op → Token
+op_token op.Deref = Star
+op_token (op.Off offset) = Offset offset
+
+abbrev pub lock_tokens : Lock → List Token
+lock_tokens (lock.Root effect) = Name keyword.Root ∷ effect_token effect ∷ []
+lock_tokens (lock.Class class effect) = Name keyword.Class ∷ Short class ∷ effect_token effect ∷ []
+lock_tokens (lock.Expr expr effect) = Name keyword.Expr ∷ base_token expr.base ∷ (map op_token expr.path ++ effect_token effect ∷ [])
+
+-- The words of a line.
+abbrev pub tokens_of : Line → List Token
+tokens_of line.Version = Name keyword.Version ∷ Short 1 ∷ []
+tokens_of (line.Classes count) = Name keyword.Classes ∷ Short count ∷ []
+tokens_of (line.Global class) = Name keyword.Global ∷ Short class ∷ []
+tokens_of (line.Entry function) = Name keyword.Entry ∷ Short function ∷ []
+tokens_of (line.Function params regs) = Name keyword.Function ∷ Byte params ∷ Byte regs ∷ []
+tokens_of (line.Instruction i) = instr_tokens i
+tokens_of line.List = Name keyword.List ∷ []
+tokens_of (line.Lock l) = lock_tokens l
+
+-- A path has eight operations at the most.
+abbrev pub HasPath : Lock → Type 0
+HasPath (lock.Expr expr effect) = length expr.path ≤ 8
+HasPath (lock.Root effect) = Unit {0}
+HasPath (lock.Class class effect) = Unit {0}
+
+abbrev pub KeepsPath : Line → Type 0
+KeepsPath (line.Lock l) = HasPath l
+KeepsPath _ = Unit {0}
+
+-- These are the words of this line.
+pub record IsLine (l : Line) (words : List (List ℕ)) : Type 0 where
+  pub spelled : AreWords (tokens_of l) words
+  pub path : KeepsPath l
+
+-- These are the words of these lines, one for one.
+abbrev pub AreLines : List Line → List (List (List ℕ)) → Type 0
+AreLines [] [] = Unit {0}
+AreLines [] (words ∷ more) = ⊥
+AreLines (l ∷ ls) [] = ⊥
+AreLines (l ∷ ls) (words ∷ more) = IsLine l words × AreLines ls more
+
+-- A function as it is listed: its body stands with it.
+pub record Body : Type 0 where
+  pub params : ℕ
+  pub regs : ℕ
+  pub code : List Instr
+
+-- A whole listing.
+pub record Listing : Type 0 where
+  pub classes : ℕ
+  pub globals : List ℕ
+  pub start : ℕ
+  pub functions : List Body
+  pub lists : List (List Lock)
+
+abbrev pub function_lines : Body → List Line
+function_lines f = line.Function f.params f.regs ∷ map line.Instruction f.code
+
+abbrev pub list_lines : List Lock → List Line
+list_lines locks = line.List ∷ map line.Lock locks
+
+-- The lines of a listing in order: the header, the functions, the lists.
+abbrev pub lines_in : Listing → List Line
+lines_in l = line.Version ∷ line.Classes l.classes ∷ (map line.Global l.globals ++ line.Entry l.start ∷ (flat_map function_lines l.functions ++ flat_map list_lines l.lists))
+
+-- The image of a listing. A function's length is a number of 32 bits; one of more instructions, which is past
+-- every limit, is given the greatest.
+abbrev pub shortened : ℕ → ℕ
+shortened n = min n (2 ^ 32 - 1)
+
+abbrev pub function_of : Body → Function
+function_of f = record { params = f.params; regs = f.regs; len = shortened (length f.code) }
+
+abbrev pub image_of : Listing → Image
+image_of l = record { version = 1; classes = l.classes; globals = l.globals; functions = map function_of l.functions; start = l.start; code = flat_map (λ f. f.code) l.functions; lists = l.lists }
+
+-- The words of each line that is not blank.
+abbrev pub unless_blank : List (List ℕ) → List (List (List ℕ)) → List (List (List ℕ))
+unless_blank [] more = more
+unless_blank (word ∷ words) more = (word ∷ words) ∷ more
+
+abbrev pub worded : List (List ℕ) → List (List (List ℕ))
+worded [] = []
+worded (l ∷ ls) = unless_blank (words_of l) (worded ls)
+
+-- The lines, without the blank ones, are those of a listing of the image.
+abbrev pub LinesSpell : List (List ℕ) → Image → Type 0
+LinesSpell lines image = (l : Listing) × AreLines (lines_in l) (worded lines) × (image ≡ image_of l)
+
+-- The text spells the image.
+abbrev pub Spells : List ℕ → Image → Type 0
+Spells text image = LinesSpell (lines_of text) image
+
+-- Some text of some image begins with these lines.
+abbrev pub CanBegin : List (List ℕ) → Type 0
+CanBegin lines = (more : List (List ℕ)) × (image : Image) × LinesSpell (lines ++ more) image
+
+-- The line of this number, from 1, is the first that is not as its place asks: the lines before it can begin a
+-- text, and with it they cannot. Or it is the number behind the last, where the text ends too early.
+pub record IsBadLine (lines : List (List ℕ)) (number : ℕ) : Type 0 where
+  pub counted : 0 < number
+  pub before : CanBegin (take (number - 1) lines)
+  pub here : ((number ≤ length lines) × (CanBegin (take number lines) → ⊥)) ⊎ ((number ≡ length lines + 1) × ((image : Image) → LinesSpell lines image → ⊥))

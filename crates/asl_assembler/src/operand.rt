@@ -1,0 +1,150 @@
+ghost use Rattle.std.specs.Prelude.{◌≡◌};
+ghost use Rattle.asl_assembler.specs.Words.{words_of};
+ghost use Rattle.asl_assembler.specs.Reading.{one, two, three, number_of, register_of, global_of, integer_of, effect_of, base_of, op_of, registers_2, registers_3};
+
+use crate::keyword::{Keyword, find_keyword};
+use crate::number::{byte, integer, marked_byte, marked_short, short};
+use crate::words::{one_word_in, three_words_in, two_words_in};
+use asl_code::{Base, Effect, Op};
+
+/// A register, as `r0`.
+pub(crate) fn register(word: &[u8]) -> Option<u8>
+    ensures { result ≡ register_of word.now }
+{
+    marked_byte(b'r', word)
+}
+
+/// A global, as `g0`.
+pub(crate) fn global(word: &[u8]) -> Option<u16>
+    ensures { result ≡ global_of word.now }
+{
+    marked_short(b'g', word)
+}
+
+/// `read` or `write`.
+#[tactic(auto, unfolding(crate::specs::Reading::effect_of))]
+pub(crate) fn effect(word: &[u8]) -> Option<Effect>
+    ensures { result ≡ effect_of word.now }
+{
+    match find_keyword(word)? {
+        Keyword::Read => Some(Effect::Read),
+        Keyword::Write => Some(Effect::Write),
+        _ => None,
+    }
+}
+
+/// Where an expression begins: a register or a global.
+#[tactic(auto, unfolding(crate::specs::Reading::base_of))]
+pub(crate) fn base(word: &[u8]) -> Option<Base>
+    ensures { result ≡ base_of word.now }
+{
+    match register(word) {
+        Some(number) => Some(Base::Reg(number)),
+        None => match global(word) {
+            Some(number) => Some(Base::Global(number)),
+            None => None,
+        },
+    }
+}
+
+/// `*`, or an offset as `.0`.
+#[tactic(auto, unfolding(crate::specs::Reading::op_of))]
+pub(crate) fn operation(word: &[u8]) -> Option<Op>
+    ensures { result ≡ op_of word.now }
+{
+    if word == b"*".as_slice() {
+        return Some(Op::Deref);
+    }
+    match marked_byte(b'.', word) {
+        Some(offset) => Some(Op::Off(offset)),
+        None => None,
+    }
+}
+
+pub(crate) fn one_register(line: &[u8]) -> Option<u8>
+    ensures { result ≡ one register_of (words_of line.now) }
+{
+    register(one_word_in(line)?)
+}
+
+pub(crate) fn one_short(line: &[u8]) -> Option<u16>
+    ensures { result ≡ one (number_of 65536) (words_of line.now) }
+{
+    short(one_word_in(line)?)
+}
+
+pub(crate) fn one_effect(line: &[u8]) -> Option<Effect>
+    ensures { result ≡ one effect_of (words_of line.now) }
+{
+    effect(one_word_in(line)?)
+}
+
+pub(crate) fn two_registers(line: &[u8]) -> Option<(u8, u8)>
+    ensures { result ≡ registers_2 (words_of line.now) }
+{
+    let (first, second) = two_words_in(line)?;
+    Some((register(first)?, register(second)?))
+}
+
+pub(crate) fn two_bytes(line: &[u8]) -> Option<(u8, u8)>
+    ensures { result ≡ two (number_of 256) (number_of 256) (words_of line.now) }
+{
+    let (first, second) = two_words_in(line)?;
+    Some((byte(first)?, byte(second)?))
+}
+
+pub(crate) fn register_and_integer(line: &[u8]) -> Option<(u8, i32)>
+    ensures { result ≡ two register_of integer_of (words_of line.now) }
+{
+    let (first, second) = two_words_in(line)?;
+    Some((register(first)?, integer(second)?))
+}
+
+pub(crate) fn register_and_global(line: &[u8]) -> Option<(u8, u16)>
+    ensures { result ≡ two register_of global_of (words_of line.now) }
+{
+    let (first, second) = two_words_in(line)?;
+    Some((register(first)?, global(second)?))
+}
+
+pub(crate) fn register_and_short(line: &[u8]) -> Option<(u8, u16)>
+    ensures { result ≡ two register_of (number_of 65536) (words_of line.now) }
+{
+    let (first, second) = two_words_in(line)?;
+    Some((register(first)?, short(second)?))
+}
+
+pub(crate) fn short_and_effect(line: &[u8]) -> Option<(u16, Effect)>
+    ensures { result ≡ two (number_of 65536) effect_of (words_of line.now) }
+{
+    let (first, second) = two_words_in(line)?;
+    Some((short(first)?, effect(second)?))
+}
+
+pub(crate) fn three_registers(line: &[u8]) -> Option<(u8, u8, u8)>
+    ensures { result ≡ registers_3 (words_of line.now) }
+{
+    let (first, second, third) = three_words_in(line)?;
+    Some((register(first)?, register(second)?, register(third)?))
+}
+
+pub(crate) fn two_registers_and_byte(line: &[u8]) -> Option<(u8, u8, u8)>
+    ensures { result ≡ three register_of register_of (number_of 256) (words_of line.now) }
+{
+    let (first, second, third) = three_words_in(line)?;
+    Some((register(first)?, register(second)?, byte(third)?))
+}
+
+pub(crate) fn two_registers_and_short(line: &[u8]) -> Option<(u8, u8, u16)>
+    ensures { result ≡ three register_of register_of (number_of 65536) (words_of line.now) }
+{
+    let (first, second, third) = three_words_in(line)?;
+    Some((register(first)?, register(second)?, short(third)?))
+}
+
+pub(crate) fn register_byte_and_short(line: &[u8]) -> Option<(u8, u8, u16)>
+    ensures { result ≡ three register_of (number_of 256) (number_of 65536) (words_of line.now) }
+{
+    let (first, second, third) = three_words_in(line)?;
+    Some((register(first)?, byte(second)?, short(third)?))
+}

@@ -1,0 +1,65 @@
+ghost use Rattle.std.specs.Prelude.{◌≡◌, ℕ, Result, Ok, Err, [], ◌∷◌};
+ghost use Rattle.asl_assembler.specs.Words.{lines_of};
+ghost use Rattle.asl_assembler.specs.Reading.{image_from, blank_image, Answers};
+ghost use Rattle.asl_assembler.specs.declared.read.ReadFault.TheVariants.{OutOfMemory};
+
+use crate::draft::{Place, close, take_bytes};
+use crate::words::split_line;
+use asl_code::{Image, Items};
+use std::alloc::{AllocError, Global};
+
+/// Why a text spells no image.
+#[derive(Clone, Copy, Debug, PartialEq, Eq)]
+pub(crate) enum ReadFault {
+    /// The line of this number, from 1, is not as its place asks, or the text ends too early before it.
+    Line(usize),
+    /// Memory ran out.
+    OutOfMemory,
+}
+
+impl From<AllocError> for ReadFault {
+    ghost from_gives = { λ _ fault. fault ≡ OutOfMemory };
+
+    fn from(_error: AllocError) -> ReadFault {
+        ReadFault::OutOfMemory
+    }
+}
+
+/// An image of nothing.
+fn blank(alloc: Global) -> Image
+    ensures { result ≡ blank_image }
+{
+    Image {
+        version: 1,
+        classes: 0,
+        globals: Items::new(alloc),
+        functions: Items::new(alloc),
+        start: 0,
+        code: Items::new(alloc),
+        lists: Items::new(alloc),
+    }
+}
+
+/// The image that the text spells, or its first wrong line.
+pub(crate) fn read(alloc: Global, text: &[u8]) -> Result<Image, ReadFault>
+    ensures { Answers result (image_from 0 Place.Version blank_image (lines_of text.now)) }
+{
+    let mut image = blank(alloc);
+    let mut place = Place::Version;
+    let mut number: usize = 0;
+    let mut rest = text;
+    while !rest.is_empty() {
+        let (line, behind) = split_line(rest);
+        number += 1;
+        rest = behind;
+        place = match take_bytes(alloc, place, line, &mut image)? {
+            Some(next) => next,
+            None => return Err(ReadFault::Line(number)),
+        };
+    }
+    if close(place, &mut image)? {
+        Ok(image)
+    } else {
+        Err(ReadFault::Line(number + 1))
+    }
+}
