@@ -1,1 +1,5 @@
 pub mod Split
+pub mod Options
+pub mod Numbers
+pub mod Keywords
+pub mod Readers

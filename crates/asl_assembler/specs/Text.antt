@@ -13,6 +13,7 @@ use Rattle.asl_code.specs.declared.path.Op.{Op}
 use Rattle.asl_code.specs.declared.path.Op.TheVariants as op
 use Rattle.asl_code.specs.declared.value.Effect.{Effect}
 use Rattle.asl_code.specs.declared.value.Effect.TheVariants as effect
+use Rattle.asl_assembler.specs.declared.keyword.Keyword.{Keyword}
 use Rattle.asl_assembler.specs.declared.keyword.Keyword.TheVariants as keyword
 use Rattle.asl_assembler.specs.declared.line.Line.{Line}
 use Rattle.asl_assembler.specs.declared.line.Line.TheVariants as line
@@ -41,9 +42,12 @@ instr_tokens (instr.Acquire list) = Name keyword.Acq ∷ Short list ∷ []
 instr_tokens instr.Release = Name keyword.Rel ∷ []
 
 -- The words of a lock.
+abbrev pub effect_name : Effect → Keyword
+effect_name effect.Read = keyword.Read
+effect_name effect.Write = keyword.Write
+
 abbrev pub effect_token : Effect → Token
-effect_token effect.Read = Name keyword.Read
-effect_token effect.Write = Name keyword.Write
+effect_token effect = Name (effect_name effect)
 
 abbrev pub base_token : Base → Token
 base_token (base.Reg register) = Register register

@@ -3,11 +3,14 @@
 
 mod draft;
 mod keyword;
+mod law;
 mod line;
 mod number;
 mod operand;
 mod read;
 mod words;
+
+pub use law::one_image;
 
 #[cfg(test)]
 mod tests;
