@@ -6,3 +6,4 @@ pub mod Readers
 pub mod Instrs
 pub mod Meanings
 pub mod Listings
+pub mod Texts
