@@ -1,7 +1,8 @@
 -- What the reader answers for a text is the image that the text spells, or its first bad line.
-use Rattle.std.proofs.Common.{◌≡◌, ℕ, ◌+◌, ◌-◌, ◌<◌, ◌≤◌, ◌⊎◌, List, [], ◌∷◌, ◌++◌, length, take, Option, Some, None, Result, Ok, Err, refl, sym, ap, ◌∙◌, inl, inr, suc, arith}
+use Rattle.std.proofs.Common.{◌≡◌, ℕ, ◌+◌, ◌-◌, ◌<◌, ◌≤◌, ◌⊎◌, List, [], ◌∷◌, ◌++◌, length, take, Option, Some, None, Result, Ok, Err, refl, sym, ap, ◌∙◌, inl, inr, suc, arith, drop, append_assoc}
 use Rattle.std.specs.Prelude.{codes}
-use Rattle.std.proofs.lemmas.List.{take_all}
+use Rattle.std.proofs.lemmas.List.{take_all, take-take, take-append-drop}
+use Rattle.std.proofs.lemmas.Bool.{cases_lt}
 use Rattle.asl_code.specs.declared.image.Image.{Image}
 use Rattle.asl_code.specs.declared.instr.Instr.{Instr}
 use Rattle.asl_code.specs.declared.lock.Lock.{Lock}
@@ -189,3 +190,28 @@ bad_line ls k e =
         | inr g ↦ (let all = take_all r.good ls (omega (arith, g.0)) in
             inr (omega (arith, g.0), no_image ls r.state (rw all at r.before) g.1)) ];
     }
+
+-- The front of lines with which a text can begin is one too.
+begins_front : (ls : List (List ℕ)) (n m : ℕ) → n ≤ m → CanBegin (take m ls) → CanBegin (take n ls)
+begins_front ls n m l h =
+    let rest = drop n (take m ls) in
+    let cut : take n ls ++ rest ≡ take m ls = rw (take-take n m ls l) at (take-append-drop n (take m ls)) in
+    let whole : take n ls ++ (rest ++ h.0) ≡ take m ls ++ h.0 = sym (append_assoc (take n ls) rest h.0) ∙ ap (λ x. x ++ h.0) cut in
+    (rest ++ h.0, h.1, rw whole h.2)
+
+pub not_both : (ls : List (List ℕ)) (i : Image) (n : ℕ) → LinesSpell ls i → IsBadLine ls n → ⊥
+not_both ls i n h b =
+    let spelled : LinesSpell (take n ls ++ drop n ls) i = rw (take-append-drop n ls) h in
+    elim b.here [ inl g ↦ g.1 (drop n ls, i, spelled) | inr g ↦ g.1 i h ]
+
+not_earlier : (ls : List (List ℕ)) (n m : ℕ) → IsBadLine ls n → IsBadLine ls m → n < m → ⊥
+not_earlier ls n m a b l =
+    elim a.here [
+      inl g ↦ g.1 (begins_front ls n (m - 1) (omega arith) b.before)
+    | inr g ↦ elim b.here [ inl k ↦ absurd (omega (arith, g.0, k.0)) | inr k ↦ absurd (omega (arith, g.0, k.0)) ] ]
+
+pub one_line : (ls : List (List ℕ)) (n m : ℕ) → IsBadLine ls n → IsBadLine ls m → n ≡ m
+one_line ls n m a b =
+    elim (cases_lt n m) [
+      inl l ↦ absurd (not_earlier ls n m a b l)
+    | inr l ↦ elim (cases_lt m n) [ inl k ↦ absurd (not_earlier ls m n b a k) | inr k ↦ omega arith ] ]

@@ -1,0 +1,14 @@
+//! Laws of assembly text, as functions that do nothing: what each ensures is the law.
+ghost use Rattle.std.specs.Prelude.{◌≡◌, List, ℕ};
+ghost use Rattle.asl_code.specs.declared.image.Image.{Image};
+ghost use Rattle.asl_assembler.specs.Words.{lines_of};
+ghost use Rattle.asl_assembler.specs.Text.{Spells, IsBadLine};
+
+/// A text spells one image at the most, and has a bad line exactly where it spells none; one line at the most is the
+/// bad one.
+pub fn texts_spell_one_image()
+    ensures image { (text : List ℕ) (image other : Image) → Spells text image → Spells text other → image ≡ other }
+    ensures line { (text : List ℕ) (number other : ℕ) → IsBadLine (lines_of text) number → IsBadLine (lines_of text) other → number ≡ other }
+    ensures either { (text : List ℕ) (image : Image) (number : ℕ) → Spells text image → IsBadLine (lines_of text) number → ⊥ }
+{
+}
