@@ -215,3 +215,7 @@ one_line ls n m a b =
     elim (cases_lt n m) [
       inl l ↦ absurd (not_earlier ls n m a b l)
     | inr l ↦ elim (cases_lt m n) [ inl k ↦ absurd (not_earlier ls m n b a k) | inr k ↦ omega arith ] ]
+
+-- The text spells the image of the answer.
+pub image_spelled : (text : List ℕ) (i : Image) → image_from 0 place.Version blank_image (lines_of text) ≡ Ok i → Spells text i
+image_spelled text i e = leaves_spells (lines_of text) i (image_left (lines_of text) 0 start i e)

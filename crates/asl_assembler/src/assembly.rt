@@ -37,9 +37,13 @@ pub fn assemble(alloc: Global, text: &[u8]) -> Result<Program, AsmFault>
     ensures cause { (cause : VerifyFault) → result ≡ Err (AsmFault.Verify cause)
         → (image : Image) × Spells text.now image × IsAnswer image cause }
 {
-    match read(alloc, text) {
-        Ok(image) => Program::verify(image).map_err(|(cause, _)| AsmFault::Verify(cause)),
-        Err(ReadFault::Line(number)) => Err(AsmFault::Line(number)),
-        Err(ReadFault::OutOfMemory) => Err(AsmFault::OutOfMemory),
+    let image = match read(alloc, text) {
+        Ok(image) => image,
+        Err(ReadFault::Line(number)) => return Err(AsmFault::Line(number)),
+        Err(ReadFault::OutOfMemory) => return Err(AsmFault::OutOfMemory),
+    };
+    match Program::verify(image) {
+        Ok(program) => Ok(program),
+        Err((cause, _)) => Err(AsmFault::Verify(cause)),
     }
 }
