@@ -57,7 +57,7 @@ is_instr keyword.Call words i e = let m = mapped (λ x. instr.Call x.0 x.1 x.2) 
 is_instr keyword.Ret words i e = let m = mapped instr.Return (one register.read words) i e in rw (← m.2) (is_read_1 register keyword.Ret words m.0 m.1)
 is_instr keyword.Out words i e = let m = mapped instr.Output (one register.read words) i e in rw (← m.2) (is_read_1 register keyword.Out words m.0 m.1)
 is_instr keyword.Acq words i e = let m = mapped instr.Acquire (one short.read words) i e in rw (← m.2) (is_read_1 short keyword.Acq words m.0 m.1)
-is_instr keyword.Rel words i e = let m = mapped (λ _. instr.Release) (no_word words) i e in rw (← m.2) (is_read_0  keyword.Rel words m.0 m.1)
+is_instr keyword.Rel words i e = let m = mapped (λ _. instr.Release) (no_word words) i e in rw (← m.2) (is_read_0 keyword.Rel words m.0 m.1)
 is_instr _ words i e = absurd (cc)
 
 pub instr_reads : (i : Instr) (words : List (List ℕ)) → AreWords (instr_tokens i) words → Behind (instr_name i) words (instr_of (instr_name i)) i
@@ -80,4 +80,4 @@ instr_reads (instr.Call a b c) words h = let b = reads_3 register register short
 instr_reads (instr.Return a) words h = let b = reads_1 register keyword.Ret a words h in record { rest = b.rest; split = b.split; found = ap (option_map instr.Return) b.found }
 instr_reads (instr.Output a) words h = let b = reads_1 register keyword.Out a words h in record { rest = b.rest; split = b.split; found = ap (option_map instr.Output) b.found }
 instr_reads (instr.Acquire a) words h = let b = reads_1 short keyword.Acq a words h in record { rest = b.rest; split = b.split; found = ap (option_map instr.Acquire) b.found }
-instr_reads instr.Release words h = let b = reads_0  keyword.Rel  words h in record { rest = b.rest; split = b.split; found = ap (option_map (λ _. instr.Release)) b.found }
+instr_reads instr.Release words h = let b = reads_0 keyword.Rel words h in record { rest = b.rest; split = b.split; found = ap (option_map (λ _. instr.Release)) b.found }

@@ -50,19 +50,22 @@ first_name : (ks : List Keyword) (word : List ℕ) (k : Keyword) → first_named
 first_name [] word k e = absurd (cc)
 first_name (j ∷ ks) word k e =
     elim (cases_Bool (bytes_eq word (name_of j))) [
-      inl h ↦ (let here : Some j ≡ Some k = rw h at e in
-        let named : word ≡ name_of j = (bytes_eq-Decides word (name_of j)).0 h in
-        cc)
-    | inr h ↦ (let there : first_named ks word ≡ Some k = rw h at e in first_name ks word k there) ]
+      | inl h ↦ (let here : Some j ≡ Some k = rw h at e in
+          let named : word ≡ name_of j = (bytes_eq-Decides word (name_of j)).0 h in
+          cc)
+      | inr h ↦ (let there : first_named ks word ≡ Some k = rw h at e in first_name ks word k there)
+    ]
 
 pub read_name : (word : List ℕ) (k : Keyword) → keyword_of word ≡ Some k → word ≡ name_of k
 unfolding keyword_of
 read_name word k e =
     elim (chosen (first_named others word) (or_else (first_named moves word) (first_named directives word)) k e) [
-      inl h ↦ first_name others word k h
-    | inr h ↦ elim (chosen (first_named moves word) (first_named directives word) k h.1) [
-        inl g ↦ first_name moves word k g
-      | inr g ↦ first_name directives word k g.1 ] ]
+      | inl h ↦ first_name others word k h
+      | inr h ↦ elim (chosen (first_named moves word) (first_named directives word) k h.1) [
+        | inl g ↦ first_name moves word k g
+        | inr g ↦ first_name directives word k g.1
+      ]
+    ]
 
 -- Effects.
 pub effect_read : (e : Effect) (word : List ℕ) → word ≡ name_of (effect_name e) → effect_of word ≡ Some e

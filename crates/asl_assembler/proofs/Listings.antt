@@ -64,8 +64,13 @@ pub record InBody (ms : List Line) (p r n : ℕ) (c : ℕ) (gs : List ℕ) (fs :
 in_body : (ms : List Line) (p r n : ℕ) (c : ℕ) (gs : List ℕ) (fs : List Function) (s : ℕ) (code : List Instr) (j : Image)
     → complete ms (place.Body (counted p r n), made c gs fs s code []) ≡ Some j → InBody ms p r n c gs fs s code j
 unfolding next finished
-in_body [] p r n c gs fs s code j e = record { more = []; bodies = []; lists = []; lines = refl;
-    image = (let same : made c gs (fs ++ counted p r n ∷ []) s code [] ≡ j = cc in sym same ∙ simp (add-zero, append-nil)) }
+in_body [] p r n c gs fs s code j e = record {
+  more = [];
+  bodies = [];
+  lists = [];
+  lines = refl;
+  image = (let same : made c gs (fs ++ counted p r n ∷ []) s code [] ≡ j = cc in sym same ∙ simp (add-zero, append-nil));
+}
 in_body (line.Instruction x ∷ ms) p r n c gs fs s code j e =
     let later : complete ms (place.Body (counted p r (n + 1)), made c gs fs s (code ++ x ∷ []) []) ≡ Some j = ap (λ f. complete ms (place.Body f, made c gs fs s (code ++ x ∷ []) [])) (sym (counted_more p r n)) ∙ e in
     let h = in_body ms p r (n + 1) c gs fs s (code ++ x ∷ []) j later in
@@ -184,7 +189,7 @@ code_taken (x ∷ more) p r n rest c gs fs s code =
 
 functions_taken : (bodies : List Body) (p r n : ℕ) (lists : List (List Lock)) (c : ℕ) (gs : List ℕ) (fs : List Function) (s : ℕ) (code : List Instr)
     → complete (flat_map function_lines bodies ++ flat_map list_lines lists) (place.Body (counted p r n), made c gs fs s code [])
-      ≡ Some (made c gs (fs ++ counted p r n ∷ map function_of bodies) s (code ++ codes_of bodies) lists)
+    ≡ Some (made c gs (fs ++ counted p r n ∷ map function_of bodies) s (code ++ codes_of bodies) lists)
 unfolding next finished
 functions_taken [] p r n [] c gs fs s code = simp append-nil
 functions_taken [] p r n (locks ∷ lists) c gs fs s code =
@@ -193,8 +198,8 @@ functions_taken [] p r n (locks ∷ lists) c gs fs s code =
     ∙ simp append-nil
 functions_taken (b ∷ bodies) p r n lists c gs fs s code =
     let open_lines : complete (map line.Instruction b.code ++ flat_map function_lines bodies ++ flat_map list_lines lists) (place.Body (counted b.params b.regs 0), made c gs (fs ++ counted p r n ∷ []) s code [])
-        ≡ complete (map line.Instruction b.code ++ (flat_map function_lines bodies ++ flat_map list_lines lists)) (place.Body (counted b.params b.regs 0), made c gs (fs ++ counted p r n ∷ []) s code [])
-        = ap (λ l. complete l (place.Body (counted b.params b.regs 0), made c gs (fs ++ counted p r n ∷ []) s code [])) (append_assoc (map line.Instruction b.code) (flat_map function_lines bodies) (flat_map list_lines lists)) in
+    ≡ complete (map line.Instruction b.code ++ (flat_map function_lines bodies ++ flat_map list_lines lists)) (place.Body (counted b.params b.regs 0), made c gs (fs ++ counted p r n ∷ []) s code [])
+    = ap (λ l. complete l (place.Body (counted b.params b.regs 0), made c gs (fs ++ counted p r n ∷ []) s code [])) (append_assoc (map line.Instruction b.code) (flat_map function_lines bodies) (flat_map list_lines lists)) in
     open_lines
     ∙ code_taken b.code b.params b.regs 0 (flat_map function_lines bodies ++ flat_map list_lines lists) c gs (fs ++ counted p r n ∷ []) s code
     ∙ functions_taken bodies b.params b.regs (0 + length b.code) lists c gs (fs ++ counted p r n ∷ []) s (code ++ b.code)
@@ -208,8 +213,8 @@ behind_header [] (locks ∷ lists) c gs s =
     locks_taken locks [] (flat_map list_lines lists) c gs [] s [] [] ∙ lists_taken lists locks c gs [] s [] []
 behind_header (b ∷ bodies) lists c gs s =
     let open_lines : complete (map line.Instruction b.code ++ flat_map function_lines bodies ++ flat_map list_lines lists) (place.Body (counted b.params b.regs 0), made c gs [] s [] [])
-        ≡ complete (map line.Instruction b.code ++ (flat_map function_lines bodies ++ flat_map list_lines lists)) (place.Body (counted b.params b.regs 0), made c gs [] s [] [])
-        = ap (λ l. complete l (place.Body (counted b.params b.regs 0), made c gs [] s [] [])) (append_assoc (map line.Instruction b.code) (flat_map function_lines bodies) (flat_map list_lines lists)) in
+    ≡ complete (map line.Instruction b.code ++ (flat_map function_lines bodies ++ flat_map list_lines lists)) (place.Body (counted b.params b.regs 0), made c gs [] s [] [])
+    = ap (λ l. complete l (place.Body (counted b.params b.regs 0), made c gs [] s [] [])) (append_assoc (map line.Instruction b.code) (flat_map function_lines bodies) (flat_map list_lines lists)) in
     open_lines
     ∙ code_taken b.code b.params b.regs 0 (flat_map function_lines bodies ++ flat_map list_lines lists) c gs [] s []
     ∙ functions_taken bodies b.params b.regs (0 + length b.code) lists c gs [] s b.code

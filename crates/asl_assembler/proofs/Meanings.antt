@@ -40,12 +40,13 @@ is_op : (word : List ℕ) (o : Op) → op_of word ≡ Some o → IsWord (op_toke
 unfolding op_of
 is_op word o e =
     elim (cases_Bool (bytes_eq word (codes "*"))) [
-      inl h ↦ (let star : Some op.Deref ≡ Some o = rw h at e in
-        let same : op.Deref ≡ o = cc in
-        rw (← same) ((bytes_eq-Decides word (codes "*")).0 h))
-    | inr h ↦ (let offset : option_map op.Off (marked_of 46 256 word) ≡ Some o = rw h at e in
-        let m = mapped op.Off (marked_of 46 256 word) o offset in
-        rw (← m.2) (read_marked 46 256 word m.0 m.1)) ]
+      | inl h ↦ (let star : Some op.Deref ≡ Some o = rw h at e in
+          let same : op.Deref ≡ o = cc in
+          rw (← same) ((bytes_eq-Decides word (codes "*")).0 h))
+      | inr h ↦ (let offset : option_map op.Off (marked_of 46 256 word) ≡ Some o = rw h at e in
+          let m = mapped op.Off (marked_of 46 256 word) o offset in
+          rw (← m.2) (read_marked 46 256 word m.0 m.1))
+    ]
 
 no_op : (e : Effect) → op_of (name_of (effect_name e)) ≡ None
 unfolding op_of marked_of
@@ -66,8 +67,9 @@ is_base : (word : List ℕ) (b : Base) → base_of word ≡ Some b → IsWord (b
 unfolding base_of
 is_base word b e =
     elim (chosen (option_map base.Reg (register_of word)) (option_map base.Global (global_of word)) b e) [
-      inl h ↦ (let m = mapped base.Reg (register_of word) b h in rw (← m.2) (read_marked 114 256 word m.0 m.1))
-    | inr h ↦ (let m = mapped base.Global (global_of word) b h.1 in rw (← m.2) (read_marked 103 65536 word m.0 m.1)) ]
+      | inl h ↦ (let m = mapped base.Reg (register_of word) b h in rw (← m.2) (read_marked 114 256 word m.0 m.1))
+      | inr h ↦ (let m = mapped base.Global (global_of word) b h.1 in rw (← m.2) (read_marked 103 65536 word m.0 m.1))
+    ]
 
 -- Paths, with the effect behind them.
 path_reads : (ops done : List Op) (e : Effect) (words : List (List ℕ)) → AreWords (map op_token ops ++ effect_token e ∷ []) words → length done + length ops ≤ 8 → path_of done words ≡ Some (done ++ ops, e)
@@ -103,18 +105,19 @@ is_path : (words : List (List ℕ)) (done : List Op) (p : List Op × Effect) →
 is_path [] done p l e = absurd (cc)
 is_path (word ∷ words) done p l e =
     elim (by_split (op_of word) (λ o. if nat_lt (length done) 8 then path_of (done ++ o ∷ []) words else None) (no_word words >>= λ _. effect_of word >>= λ e. Some (done, e)) (Some p) e) [
-      inl s ↦ (let g = guarded (nat_lt (length done) 8) (path_of (done ++ s.0 ∷ []) words) p s.2 in
-        let room = ltb-true (length done) 8 g.0 in
-        let fits : length (done ++ s.0 ∷ []) ≤ 8 = rw length-append (omega arith) in
-        let rest = is_path words (done ++ s.0 ∷ []) p fits g.1 in
-        record { ops = s.0 ∷ rest.ops; whole = rest.whole ∙ append_assoc done (s.0 ∷ []) rest.ops; spelled = (is_op word s.0 s.1, rest.spelled); short = rest.short })
-    | inr s ↦ (let n = bound (no_word words) (λ _. effect_of word >>= λ e. Some (done, e)) p s.1 in
-        let f = bound (effect_of word) (λ e. Some (done, e)) p n.2 in
-        let whole : p.0 ≡ done ++ [] = cc (append-nil done) in
-        let named : effect_of word ≡ Some p.1 = cc in
-        let empty = no_more words n.0 n.1 in
-        let fits : length p.0 ≤ 8 = rw (whole, append-nil) l in
-        record { ops = []; whole = whole; spelled = rw empty (read_effect word p.1 named, tt); short = fits }) ]
+      | inl s ↦ (let g = guarded (nat_lt (length done) 8) (path_of (done ++ s.0 ∷ []) words) p s.2 in
+          let room = ltb-true (length done) 8 g.0 in
+          let fits : length (done ++ s.0 ∷ []) ≤ 8 = rw length-append (omega arith) in
+          let rest = is_path words (done ++ s.0 ∷ []) p fits g.1 in
+          record { ops = s.0 ∷ rest.ops; whole = rest.whole ∙ append_assoc done (s.0 ∷ []) rest.ops; spelled = (is_op word s.0 s.1, rest.spelled); short = rest.short })
+      | inr s ↦ (let n = bound (no_word words) (λ _. effect_of word >>= λ e. Some (done, e)) p s.1 in
+          let f = bound (effect_of word) (λ e. Some (done, e)) p n.2 in
+          let whole : p.0 ≡ done ++ [] = cc (append-nil done) in
+          let named : effect_of word ≡ Some p.1 = cc in
+          let empty = no_more words n.0 n.1 in
+          let fits : length p.0 ≤ 8 = rw (whole, append-nil) l in
+          record { ops = []; whole = whole; spelled = rw empty (read_effect word p.1 named, tt); short = fits })
+    ]
 
 -- Lines.
 instr_line : (i : Instr) (words : List (List ℕ)) → line_of (instr_name i) words ≡ option_map line.Instruction (instr_of (instr_name i) words)

@@ -81,11 +81,12 @@ plain : (word : List ℕ) (n : ℕ) → IsNumber (2 ^ 31) word n → after_mark 
 plain [] n h = refl
 plain (c ∷ word) n h =
     elim (cases_Bool (c == 45)) [
-      inl k ↦ (let digit : is_ascii_digit c ≡ true = (and_parts (is_ascii_digit c) (list_all is_ascii_digit word) h.digits).0 in
-        let minus : c ≡ 45 = (Decides-eqb c 45).0 k in
-        let none : is_ascii_digit 45 ≡ true = rw minus at digit in
-        absurd (cc))
-    | inr k ↦ rw k refl ]
+      | inl k ↦ (let digit : is_ascii_digit c ≡ true = (and_parts (is_ascii_digit c) (list_all is_ascii_digit word) h.digits).0 in
+          let minus : c ≡ 45 = (Decides-eqb c 45).0 k in
+          let none : is_ascii_digit 45 ≡ true = rw minus at digit in
+          absurd (cc))
+      | inr k ↦ rw k refl
+    ]
 
 pub integer_read : (word : List ℕ) (z : ℤ) → IsInteger word z → integer_of word ≡ Some z
 unfolding integer_of
@@ -100,9 +101,10 @@ unfolding integer_of
 read_integer [] z e = let m = mapped pos (number_of (2 ^ 31) []) z e in inl (m.0, read_number (2 ^ 31) [] m.0 m.1, sym m.2)
 read_integer (c ∷ word) z e =
     elim (cases_Bool (c == 45)) [
-      inl k ↦ (let negative : integer_by (Some word) (c ∷ word) ≡ Some z = rw k at e in
-        let m = mapped (λ n. neg_ℤ (pos n)) (number_of (2 ^ 31 + 1) word) z negative in
-        inr (m.0, ((Decides-eqb c 45).0 k, read_number (2 ^ 31 + 1) word m.0 m.1), sym m.2))
-    | inr k ↦ (let positive : integer_by None (c ∷ word) ≡ Some z = rw k at e in
-        let m = mapped pos (number_of (2 ^ 31) (c ∷ word)) z positive in
-        inl (m.0, read_number (2 ^ 31) (c ∷ word) m.0 m.1, sym m.2)) ]
+      | inl k ↦ (let negative : integer_by (Some word) (c ∷ word) ≡ Some z = rw k at e in
+          let m = mapped (λ n. neg_ℤ (pos n)) (number_of (2 ^ 31 + 1) word) z negative in
+          inr (m.0, ((Decides-eqb c 45).0 k, read_number (2 ^ 31 + 1) word m.0 m.1), sym m.2))
+      | inr k ↦ (let positive : integer_by None (c ∷ word) ≡ Some z = rw k at e in
+          let m = mapped pos (number_of (2 ^ 31) (c ∷ word)) z positive in
+          inl (m.0, read_number (2 ^ 31) (c ∷ word) m.0 m.1, sym m.2))
+    ]

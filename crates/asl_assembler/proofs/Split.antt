@@ -15,8 +15,9 @@ first_line [] some = absurd (omega arith)
 first_line (b ∷ []) some = elim (cases_Bool (b == 10)) [ inl h ↦ line_end b [] h | inr h ↦ rw h refl ]
 first_line (b ∷ c ∷ bs) some =
     elim (cases_Bool (b == 10)) [
-      inl h ↦ line_end b (c ∷ bs) h
-    | inr h ↦ rw (h, one-add (prefix_len is_line_byte (c ∷ bs))) (ap (with_first b) (first_line (c ∷ bs) (omega arith))) ]
+      | inl h ↦ line_end b (c ∷ bs) h
+      | inr h ↦ rw (h, one-add (prefix_len is_line_byte (c ∷ bs))) (ap (with_first b) (first_line (c ∷ bs) (omega arith)))
+    ]
 
 -- Where a separator is the first byte, the gap has it; else there is no gap.
 gap_more : (b : ℕ) (bs : List ℕ) → is_separator b ≡ true → prefix_len is_separator (b ∷ bs) ≡ suc (prefix_len is_separator bs)
@@ -32,8 +33,9 @@ pub past_gap : (line : List ℕ) → words_of line ≡ words_of (drop (prefix_le
 past_gap [] = refl
 past_gap (b ∷ bs) =
     elim (cases_Bool (is_separator b)) [
-      inl h ↦ rw (gap_more b bs h) (skipped b bs h ∙ past_gap bs)
-    | inr h ↦ rw (gap_none b bs h) refl ]
+      | inl h ↦ rw (gap_more b bs h) (skipped b bs h ∙ past_gap bs)
+      | inr h ↦ rw (gap_none b bs h) refl
+    ]
 
 -- A word goes on over a byte that is no separator.
 word_more : (b : ℕ) (bs : List ℕ) → is_separator b ≡ false → prefix_len is_word_byte (b ∷ bs) ≡ suc (prefix_len is_word_byte bs)
@@ -52,23 +54,26 @@ whole_word : (b : ℕ) (bs : List ℕ) → is_separator b ≡ false → words_of
 whole_word b [] h = rw (word_more b [] h) (rw h refl)
 whole_word b (c ∷ bs) h =
     rw (word_more b (c ∷ bs) h) (elim (cases_Bool (is_separator c)) [
-      inl k ↦ rw (no_more c bs k) (ended b c bs h k)
-    | inr k ↦ joined b c bs h k ∙ ap (with_first b) (whole_word c bs k) ])
+      | inl k ↦ rw (no_more c bs k) (ended b c bs h k)
+      | inr k ↦ joined b c bs h k ∙ ap (with_first b) (whole_word c bs k)
+    ])
 
 -- The first word of a line that has one.
 pub first_word : (line : List ℕ) → 0 < length (drop (prefix_len is_separator line) line)
     → words_of line ≡ take (prefix_len is_word_byte (drop (prefix_len is_separator line) line)) (drop (prefix_len is_separator line) line)
-      ∷ words_of (drop (prefix_len is_word_byte (drop (prefix_len is_separator line) line)) (drop (prefix_len is_separator line) line))
+    ∷ words_of (drop (prefix_len is_word_byte (drop (prefix_len is_separator line) line)) (drop (prefix_len is_separator line) line))
 first_word [] some = absurd (omega arith)
 first_word (b ∷ bs) some =
     elim (cases_Bool (is_separator b)) [
-      inl h ↦ rw (gap_more b bs h) (skipped b bs h ∙ first_word bs (rw (gap_more b bs h) at some))
-    | inr h ↦ rw (gap_none b bs h) (whole_word b bs h) ]
+      | inl h ↦ rw (gap_more b bs h) (skipped b bs h ∙ first_word bs (rw (gap_more b bs h) at some))
+      | inr h ↦ rw (gap_none b bs h) (whole_word b bs h)
+    ]
 
 -- And it has a byte.
 pub word_some : (line : List ℕ) → 0 < length (drop (prefix_len is_separator line) line) → 0 < prefix_len is_word_byte (drop (prefix_len is_separator line) line)
 word_some [] some = absurd (omega arith)
 word_some (b ∷ bs) some =
     elim (cases_Bool (is_separator b)) [
-      inl h ↦ rw (gap_more b bs h) (word_some bs (rw (gap_more b bs h) at some))
-    | inr h ↦ rw (gap_none b bs h, word_more b bs h) (omega arith) ]
+      | inl h ↦ rw (gap_more b bs h) (word_some bs (rw (gap_more b bs h) at some))
+      | inr h ↦ rw (gap_none b bs h, word_more b bs h) (omega arith)
+    ]

@@ -168,8 +168,9 @@ stops [] n k s e =
     record { good = 0; number = omega (arith, m.1); state = s; before = refl; here = inr (refl, m.0) }
 stops (l ∷ ls) n k s e =
     elim (refused (step_line s.0 s.1 l) (n + 1) (λ t. image_from (n + 1) t.0 t.1 ls) k e) [
-      inl h ↦ record { good = 0; number = omega (arith, h.1); state = s; before = refl; here = inl (omega arith, rw h.0 refl) }
-    | inr h ↦ stops_later l ls n k s h.0 h.1 (stops ls (n + 1) k h.0 h.2) ]
+      | inl h ↦ record { good = 0; number = omega (arith, h.1); state = s; before = refl; here = inl (omega arith, rw h.0 refl) }
+      | inr h ↦ stops_later l ls n k s h.0 h.1 (stops ls (n + 1) k h.0 h.2)
+    ]
 
 no_image : (ls : List (List ℕ)) (s : State) → walk ls start ≡ Some s → finished s.0 s.1 ≡ None → (j : Image) → LinesSpell ls j → ⊥
 no_image ls s e none j h =
@@ -186,9 +187,10 @@ bad_line ls k e =
       counted = omega arith;
       before = rw prev (can_begin (take r.good ls) r.state r.before);
       here = elim r.here [
-          inl g ↦ inl (omega (arith, g.0), rw same (cannot_begin (take (suc r.good) ls) g.1))
+        | inl g ↦ inl (omega (arith, g.0), rw same (cannot_begin (take (suc r.good) ls) g.1))
         | inr g ↦ (let all = take_all r.good ls (omega (arith, g.0)) in
-            inr (omega (arith, g.0), no_image ls r.state (rw all at r.before) g.1)) ];
+            inr (omega (arith, g.0), no_image ls r.state (rw all at r.before) g.1))
+      ];
     }
 
 -- The front of lines with which a text can begin is one too.
@@ -207,14 +209,16 @@ not_both ls i n h b =
 not_earlier : (ls : List (List ℕ)) (n m : ℕ) → IsBadLine ls n → IsBadLine ls m → n < m → ⊥
 not_earlier ls n m a b l =
     elim a.here [
-      inl g ↦ g.1 (begins_front ls n (m - 1) (omega arith) b.before)
-    | inr g ↦ elim b.here [ inl k ↦ absurd (omega (arith, g.0, k.0)) | inr k ↦ absurd (omega (arith, g.0, k.0)) ] ]
+      | inl g ↦ g.1 (begins_front ls n (m - 1) (omega arith) b.before)
+      | inr g ↦ elim b.here [ inl k ↦ absurd (omega (arith, g.0, k.0)) | inr k ↦ absurd (omega (arith, g.0, k.0)) ]
+    ]
 
 pub one_line : (ls : List (List ℕ)) (n m : ℕ) → IsBadLine ls n → IsBadLine ls m → n ≡ m
 one_line ls n m a b =
     elim (cases_lt n m) [
-      inl l ↦ absurd (not_earlier ls n m a b l)
-    | inr l ↦ elim (cases_lt m n) [ inl k ↦ absurd (not_earlier ls m n b a k) | inr k ↦ omega arith ] ]
+      | inl l ↦ absurd (not_earlier ls n m a b l)
+      | inr l ↦ elim (cases_lt m n) [ inl k ↦ absurd (not_earlier ls m n b a k) | inr k ↦ omega arith ]
+    ]
 
 -- The text spells the image of the answer.
 pub image_spelled : (text : List ℕ) (i : Image) → image_from 0 place.Version blank_image (lines_of text) ≡ Ok i → Spells text i

@@ -85,7 +85,11 @@ fn open(alloc: Global, line: Line) -> Option<Place>
     ensures { result ≡ open_of line }
 {
     match line {
-        Line::Function { params, regs } => Some(Place::Body(Function { params, regs, len: 0 })),
+        Line::Function { params, regs } => Some(Place::Body(Function {
+            params,
+            regs,
+            len: 0,
+        })),
         Line::List => Some(Place::Locks(Items::new(alloc))),
         _ => None,
     }

@@ -10,5 +10,4 @@ pub fn texts_spell_one_image()
     ensures image { (text : List ℕ) (image other : Image) → Spells text image → Spells text other → image ≡ other }
     ensures line { (text : List ℕ) (number other : ℕ) → IsBadLine (lines_of text) number → IsBadLine (lines_of text) other → number ≡ other }
     ensures either { (text : List ℕ) (image : Image) (number : ℕ) → Spells text image → IsBadLine (lines_of text) number → ⊥ }
-{
-}
+{}

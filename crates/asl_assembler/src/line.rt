@@ -74,8 +74,11 @@ fn with_numbers(name: Keyword, rest: &[u8]) -> Option<Instr>
         Keyword::Glob => {
             register_and_global(rest).map(|(to, global)| Instr::GlobalAddress { to, global })
         }
-        Keyword::Field => two_registers_and_byte(rest)
-            .map(|(to, from, offset)| Instr::FieldAddress { to, from, offset }),
+        Keyword::Field => two_registers_and_byte(rest).map(|(
+            to,
+            from,
+            offset,
+        )| Instr::FieldAddress { to, from, offset }),
         Keyword::New => {
             register_byte_and_short(rest).map(|(to, cells, class)| Instr::New { to, cells, class })
         }
@@ -147,8 +150,9 @@ fn line_named(name: Keyword, rest: &[u8]) -> Option<Line>
         Keyword::Function => two_bytes(rest).map(|(params, regs)| Line::Function { params, regs }),
         Keyword::List => no_word_in(rest).map(|_| Line::List),
         Keyword::Root => one_effect(rest).map(|effect| Line::Lock(Lock::Root(effect))),
-        Keyword::Class => short_and_effect(rest)
-            .map(|(class, effect)| Line::Lock(Lock::Class(class, effect))),
+        Keyword::Class => short_and_effect(rest).map(|(class, effect)| Line::Lock(Lock::Class(
+            class, effect,
+        ))),
         Keyword::Expr => expression(rest).map(Line::Lock),
         _ => instruction(name, rest).map(Line::Instruction),
     }
