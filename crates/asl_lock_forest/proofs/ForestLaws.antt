@@ -3,7 +3,7 @@ use Rattle.std.proofs.Common.{◌≡◌, ℕ, ◌<◌, true, false, not, ◌==�
 use Rattle.std.specs.List.{list_all}
 use Rattle.asl_lock_forest.specs.declared.entries.Entry.{Entry}
 use Rattle.asl_lock_forest.specs.Held.{Held, IsForest}
-use Rattle.asl_lock_forest.specs.Holding.{Holding, no_holding, HoldsNothing, Request, grant, release, CanGrant}
+use Rattle.asl_lock_forest.specs.Holding.{Holding, HoldsNothing, Request, CanGrant}
 use Rattle.asl_lock_forest.specs.Request.{asks_modes, asks_parents, IsOfClasses, IsRefused}
 use Rattle.asl_lock_forest.specs.Entries.{holding_of, entry_of, goes_with}
 use Rattle.asl_lock_forest.proofs.Requests.{IsRooted-asked}
@@ -26,7 +26,7 @@ pub forest_release : (classes threads : ℕ) (es new : List Entry) (t : ℕ) →
     → IsForest (over classes threads es) → IsForest (over classes threads new)
 forest_release classes threads es new t is kept =
     of_holding classes threads _ _ (ap holding_of is ∙ entries_released es t)
-      (record { lawful = lawful_release (holding_of es) t kept.lawful; within = within_release classes threads (holding_of es) t kept.within })
+    (record { lawful = lawful_release (holding_of es) t kept.lawful; within = within_release classes threads (holding_of es) t kept.within })
 
 pub forest_grant : (classes threads : ℕ) (es new : List Entry) (t : ℕ) (request : Request) → new ≡ es ++ each (entry_of t) request
     → IsForest (over classes threads es) → HoldsNothing (holding_of es) t → t < threads
@@ -35,9 +35,10 @@ pub forest_grant : (classes threads : ℕ) (es new : List Entry) (t : ℕ) (requ
     → IsForest (over classes threads new)
 forest_grant classes threads es new t request is kept nothing there modes parents of_classes all =
     of_holding classes threads _ _ (ap holding_of is ∙ entries_granted es t request nothing)
-      (record {
-        lawful = lawful_grant (holding_of es) t request kept.lawful nothing modes (IsRooted-asked request parents) (granted_by es t request all);
-        within = within_grant classes threads (holding_of es) t request kept.within there of_classes })
+    (record {
+      lawful = lawful_grant (holding_of es) t request kept.lawful nothing modes (IsRooted-asked request parents) (granted_by es t request all);
+      within = within_grant classes threads (holding_of es) t request kept.within there of_classes;
+    })
 
 -- what the test of all entries tells of a forest's holding
 pub refused_at : (h : Holding) (t : ℕ) (request : Request) (es xs : List Entry) → xs ≡ es → holding_of es ≡ h

@@ -1,5 +1,5 @@
 -- Laws of requests.
-use Rattle.std.proofs.Common.{◌≡◌, ◌≢◌, ℕ, Bool, true, false, not, ◌&&◌, ◌||◌, IsTrue, List, [], ◌∷◌, Option, None, Some, All, if◌then◌else◌, refl, ap, sym, subst, ◌∙◌, inl, inr}
+use Rattle.std.proofs.Common.{◌≡◌, ◌≢◌, Bool, true, false, not, ◌&&◌, ◌||◌, IsTrue, [], ◌∷◌, Option, None, Some, if◌then◌else◌, refl, ap, sym, subst, ◌∙◌, inl, inr}
 use Rattle.std.specs.List.{list_all}
 use Rattle.asl_mode_lanes.specs.declared.mode.Mode.{Mode}
 use Rattle.asl_mode_lanes.specs.declared.mode.Mode.TheVariants.{NL, IS, IX, S, SIX, X}
@@ -43,12 +43,13 @@ pub of_named : (test : Node → Mode → Bool) (request : Request) (n : Node)
     → list_all (λ ask. test ask.0 ask.1) request ≡ true → names request n ≡ true → test n (asked request n) ≡ true
 of_named test [] n all named = cc
 of_named test (ask ∷ others) n all named = elim (tell_nodes ask.0 n) [
-    | inl same ↦
-        let first : test ask.0 ask.1 ≡ true = and_left (test ask.0 ask.1) _ all in
-        ap (λ b. test n (if b then ask.1 else asked others n)) same.0 ∙ subst (λ x. test x ask.1 ≡ true) same.1 first
-    | inr other ↦
-        ap (λ b. test n (if b then ask.1 else asked others n)) other.0
-        ∙ of_named test others n (and_right (test ask.0 ask.1) _ all) (sym (ap (λ b. b || names others n) other.0) ∙ named) ]
+  | inl same ↦
+      let first : test ask.0 ask.1 ≡ true = and_left (test ask.0 ask.1) _ all in
+      ap (λ b. test n (if b then ask.1 else asked others n)) same.0 ∙ subst (λ x. test x ask.1 ≡ true) same.1 first
+  | inr other ↦
+      ap (λ b. test n (if b then ask.1 else asked others n)) other.0
+      ∙ of_named test others n (and_right (test ask.0 ask.1) _ all) (sym (ap (λ b. b || names others n) other.0) ∙ named)
+]
 
 -- a request that asks each node's parent is rooted
 pub IsRooted-asked : (request : Request) → IsTrue (asks_parents request) → IsRooted (asked request)
@@ -56,9 +57,10 @@ IsRooted-asked request all n parent is =
     elim (names request n) as (λ b. names request n ≡ b → AtMost (parent_mode (asked request n)) (asked request parent)) [
       | true ↦ λ named.
           let here : asks_parent_of request (parent_of n) (asked request n) ≡ true =
-              of_named (λ x m. asks_parent_of request (parent_of x) m) request n all named in
+          of_named (λ x m. asks_parent_of request (parent_of x) m) request n all named in
           subst (λ o. asks_parent_of request o (asked request n) ≡ true) is here
-      | false ↦ λ unnamed. ap (λ m. is_at_most (parent_mode m) (asked request parent)) (asked_unnamed request n unnamed) ] refl
+      | false ↦ λ unnamed. ap (λ m. is_at_most (parent_mode m) (asked request parent)) (asked_unnamed request n unnamed)
+    ] refl
 
 -- a request that asks modes asks another mode than NL exactly at the nodes that it names
 pub asked-NL : (request : Request) (n : Node) → IsTrue (asks_modes request) → names request n ≡ true → asked request n ≢ NL
@@ -74,14 +76,15 @@ of_each_named test [] once all = refl
 of_each_named test (ask ∷ others) once all =
     let unnamed : names others ask.0 ≡ false = not_true (names others ask.0) (and_left (not (names others ask.0)) _ once) in
     let first : test ask.0 ask.1 ≡ true =
-        sym (ap (λ b. test ask.0 (if b then ask.1 else asked others ask.0)) (same_itself ask.0))
-        ∙ all ask.0 (ap (λ b. b || names others ask.0) (same_itself ask.0)) in
+    sym (ap (λ b. test ask.0 (if b then ask.1 else asked others ask.0)) (same_itself ask.0))
+    ∙ all ask.0 (ap (λ b. b || names others ask.0) (same_itself ask.0)) in
     let rest : list_all (λ a. test a.0 a.1) others ≡ true = of_each_named test others (and_right (not (names others ask.0)) _ once)
-        (λ n named. elim (tell_nodes ask.0 n) [
-          | inl same ↦ let there : names others ask.0 ≡ true = subst (λ x. names others x ≡ true) (sym same.1) named in cc
-          | inr other ↦
-              sym (ap (λ b. test n (if b then ask.1 else asked others n)) other.0)
-              ∙ all n (ap (λ b. b || names others n) other.0 ∙ named) ]) in
+    (λ n named. elim (tell_nodes ask.0 n) [
+      | inl same ↦ let there : names others ask.0 ≡ true = subst (λ x. names others x ≡ true) (sym same.1) named in cc
+      | inr other ↦
+          sym (ap (λ b. test n (if b then ask.1 else asked others n)) other.0)
+          ∙ all n (ap (λ b. b || names others n) other.0 ∙ named)
+    ]) in
     ap (λ b. b && list_all (λ a. test a.0 a.1) others) first ∙ rest
 
 -- a rooted request that names no node twice asks each node's parent

@@ -30,4 +30,4 @@ coded_holding = map.code coded_key coded_mode
 abbrev pub coded_held : Coded Held
 coded_held =
     code_by (ℕ × (ℕ × Holding)) (coded× coded_ℕ (coded× coded_ℕ coded_holding)) (λ f. (f.classes, (f.threads, f.holding)))
-      (λ p. record { classes = p.0; threads = p.1.0; holding = p.1.1 }) (λ _. refl)
+    (λ p. record { classes = p.0; threads = p.1.0; holding = p.1.1 }) (λ _. refl)

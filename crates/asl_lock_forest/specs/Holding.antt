@@ -1,19 +1,18 @@
 -- What the threads hold: a finite map from a thread and a node to a mode other than NL, and the rules that it keeps.
 -- The rules for parents and for modes of different threads are Gray's (see specs/Node.antt); what covers a cell is
 -- the rule of S. Cherem, T. Chilimbi, S. Gulwani, "Inferring Locks for Atomic Sections" (2008) for protected accesses.
-use Rattle.std.specs.Prelude.{◌≡◌, ◌≢◌, ℕ, ◌<◌, ◌⊎◌, ◌||◌, ◌==◌, not, Bool, IsTrue, List, [], ◌∷◌, Option, None, Some, unwrap_or, if◌then◌else◌}
+use Rattle.std.specs.Prelude.{◌≡◌, ◌≢◌, ℕ, ◌<◌, ◌||◌, ◌==◌, not, Bool, IsTrue, List, [], ◌∷◌, None, Some, unwrap_or, if◌then◌else◌}
 use Rattle.std.specs.FinMap as map
 use Rattle.std.specs.FinMap.{FinMap}
-use base.Stored.{Coded}
 use Rattle.asl_mode_lanes.specs.declared.mode.Mode.{Mode}
 use Rattle.asl_mode_lanes.specs.declared.mode.Mode.TheVariants.{NL, S, X}
-use Rattle.asl_mode_lanes.specs.Mode.{is_at_most, AtMost, AreCompatible}
+use Rattle.asl_mode_lanes.specs.Mode.{is_at_most, AreCompatible}
 use Rattle.asl_code.specs.declared.value.Cell.{Cell}
 use Rattle.asl_code.specs.declared.value.Effect.{Effect}
 use Rattle.asl_code.specs.declared.value.Effect.TheVariants.{Read, Write}
 use Rattle.asl_lock_forest.specs.declared.node.Node.{Node}
 use Rattle.asl_lock_forest.specs.declared.node.Node.TheVariants.{Root, Class, Leaf}
-use Rattle.asl_lock_forest.specs.Node.{parent_of, same_node, IsRooted, IsThere}
+use Rattle.asl_lock_forest.specs.Node.{same_node, IsRooted, IsThere}
 use Rattle.asl_lock_forest.specs.Keys.{Key, key, key_cmp}
 
 -- who holds what: at a key that is not there, nothing is held

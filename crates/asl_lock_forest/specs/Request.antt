@@ -1,5 +1,5 @@
 -- What a request of modes must be: each node once, each mode another than NL, each node's parent asked too.
-use Rattle.std.specs.Prelude.{ℕ, Bool, true, false, not, ◌&&◌, ◌||◌, List, [], ◌∷◌, All, IsTrue, Option, None, Some, ◌≡◌, ◌≢◌}
+use Rattle.std.specs.Prelude.{ℕ, Bool, true, false, not, ◌&&◌, ◌||◌, [], ◌∷◌, All, Option, None, Some, ◌≡◌, ◌≢◌}
 use Rattle.std.specs.List.{list_all}
 use Rattle.asl_mode_lanes.specs.declared.mode.Mode.{Mode}
 use Rattle.asl_mode_lanes.specs.declared.mode.Mode.TheVariants.{NL}

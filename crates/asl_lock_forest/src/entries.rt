@@ -4,11 +4,9 @@ ghost use Rattle.std.specs.List.{list_all};
 ghost use Rattle.asl_lock_forest.specs.Holding.{held, asked};
 ghost use Rattle.asl_lock_forest.specs.Entries.{holding_of, entry_of, goes_with};
 
-use std::alloc::{AllocError, Global};
-
-use asl_mode_lanes::{Mode, compatible};
-
 use crate::Node;
+use asl_mode_lanes::{Mode, compatible};
+use std::alloc::{AllocError, Global};
 
 /// A node that a thread holds, and the mode in which it does.
 #[derive(Clone, Copy, Debug, PartialEq, Eq)]

@@ -3,20 +3,29 @@ ghost use Rattle.std.specs.Prelude.{◌≡◌, ◌≢◌, ℕ, ◌↔◌, ◌<�
 ghost use Rattle.asl_mode_lanes.specs.Mode.{is_at_most};
 ghost use Rattle.asl_lock_forest.specs.Node.{IsThere};
 ghost use Rattle.asl_lock_forest.specs.Holding.{
-    held, no_holding, HoldsNothing, grant, release, CanGrant, covering_mode, Covers
+  held,
+  no_holding,
+  HoldsNothing,
+  grant,
+  release,
+  CanGrant,
+  covering_mode,
+  Covers,
 };
 ghost use Rattle.asl_lock_forest.specs.Request.{
-    names_once, asks_modes, asks_parents, IsOfClasses, IsRefused
+  names_once,
+  asks_modes,
+  asks_parents,
+  IsOfClasses,
+  IsRefused,
 };
-
-use std::alloc::{AllocError, Global};
-use std::marker::Model;
-
-use asl_code::{Cell, Effect};
-use asl_mode_lanes::Mode;
 
 use crate::Node;
 use crate::entries::{Entry, add_all, can_grant, mode_in, remove_all};
+use asl_code::{Cell, Effect};
+use asl_mode_lanes::Mode;
+use std::alloc::{AllocError, Global};
+use std::marker::Model;
 
 /// The lock tree over a number of classes, and what a number of threads hold in it.
 ///
@@ -39,9 +48,7 @@ impl Model for Forest {
 
     ghost view = { λ f. record { classes = f.classes; threads = f.threads; holding = holding_of f.entries.items } };
 
-    ghost invariant = {
-        λ f. IsForest (record { classes = f.classes; threads = f.threads; holding = holding_of f.entries.items })
-    };
+    ghost invariant = { λ f. IsForest (record { classes = f.classes; threads = f.threads; holding = holding_of f.entries.items }) };
 }
 
 impl Forest {
@@ -79,17 +86,13 @@ impl Forest {
         requires classes_there { IsOfClasses self.old.classes request.now }
         ensures granted { IfOk result (λ all. IsTrue all ↔ CanGrant self.old.holding thread request.now) }
         ensures refused { IfOk result (λ all. all ≡ false → IsRefused self.old.holding thread request.now) }
-        ensures holding {
-            IfOk result (λ all.
-                self.new.holding ≡ (if all then grant self.old.holding thread request.now else self.old.holding))
-        }
+        ensures holding { IfOk result (λ all.
+            self.new.holding ≡ (if all then grant self.old.holding thread request.now else self.old.holding)) }
         ensures classes { self.new.classes ≡ self.old.classes }
         ensures threads { self.new.threads ≡ self.old.threads }
         ensures unchanged { IfOk result (λ all. all ≡ false → self.new ≡ self.old) }
         ensures err { OnErr result (self.new ≡ self.old) }
-        ensures others {
-            (other : ℕ) → other ≢ thread → HoldsNothing self.old.holding other → HoldsNothing self.new.holding other
-        }
+        ensures others { (other : ℕ) → other ≢ thread → HoldsNothing self.old.holding other → HoldsNothing self.new.holding other }
         ensures lawful { IsForest self.new }
     {
         if !can_grant(self.entries.as_slice(), thread, request) {

@@ -1,4 +1,4 @@
-use Rattle.std.proofs.Common.{◌≡◌, drop, sym, ◌∙◌}
+use Rattle.std.proofs.Common.{sym, ◌∙◌}
 use Rattle.std.proofs.lemmas.List.{at_drop_more}
 use Rattle.asl_lock_forest.specs.Holding.{asked}
 use Rattle.asl_lock_forest.proofs.EntryLaws.{asked_elsewhere}

@@ -1,4 +1,4 @@
-use Rattle.std.proofs.Common.{◌≡◌, drop, sym, ap, ◌∙◌}
+use Rattle.std.proofs.Common.{sym, ◌∙◌}
 use Rattle.std.proofs.lemmas.List.{at_drop_more, at_drop_all}
 use Rattle.asl_lock_forest.specs.Holding.{held}
 use Rattle.asl_lock_forest.specs.Entries.{holding_of}
@@ -15,10 +15,11 @@ returns-then-same_node c =
 pub loop-entry-preserved : goal.loop-entry-preserved
 loop-entry-preserved c =
     held_passed c.args.entries.now c.loop-entry.entry-index c.args.thread c.args.node c.loop-entry-test.true
-      (λ same_thread same. elim c.else-entry-thread.branch [
-        | else-entry-thread-via-then-entry-thread+else-same_node w ↦ let here = w.same_node.ensures.1 same in let no = w.if-same_node.false in cc
-        | else-entry-thread-via-else-entry-thread w ↦ w.if-entry-thread.false same_thread ])
-      c.loop-entry.invariant
+    (λ same_thread same. elim c.else-entry-thread.branch [
+      | else-entry-thread-via-then-entry-thread+else-same_node w ↦ let here = w.same_node.ensures.1 same in let no = w.if-same_node.false in cc
+      | else-entry-thread-via-else-entry-thread w ↦ w.if-entry-thread.false same_thread
+    ])
+    c.loop-entry.invariant
 
 pub returns : goal.returns
 returns c =

@@ -1,4 +1,4 @@
-use Rattle.std.proofs.Common.{rules, ◌==◌, not, Bool, arith}
+use Rattle.std.proofs.Common.{rules, ◌==◌, not, Bool}
 use Rattle.std.proofs.lemmas.Fn.{filter_same}
 use Rattle.std.proofs.lemmas.Bool.Decides.{nat_tests}
 use Rattle.asl_lock_forest.specs.declared.entries.Entry.{Entry}

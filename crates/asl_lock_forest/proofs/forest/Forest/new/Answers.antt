@@ -1,4 +1,4 @@
-use Rattle.std.proofs.Common.{ap, sym, subst}
+use Rattle.std.proofs.Common.{sym, subst}
 use Rattle.asl_lock_forest.specs.Holding.{HoldsNothing}
 use Rattle.asl_lock_forest.specs.Entries.{holding_of}
 use Rattle.asl_lock_forest.proofs.Laws.{nothing_empty}
