@@ -22,11 +22,11 @@ use Rattle.std.proofs.lemmas.List.Elements.{All-nil, All-cons}
 use Rattle.asl_code.proofs.Told.{inside_later}
 
 -- where the body of a function begins among bodies from this place on
-abbrev begin : ℕ → List Function → ℕ → ℕ
+abbrev pub begin : ℕ → List Function → ℕ → ℕ
 begin first fs n = first + total_len (take n fs)
 
 -- behind the first function, the others begin after its body
-begin-suc : (first : ℕ) (g : Function) (fs : List Function) (n : ℕ) → begin first (g ∷ fs) (suc n) ≡ begin (first + g.len) fs n
+pub begin-suc : (first : ℕ) (g : Function) (fs : List Function) (n : ℕ) → begin first (g ∷ fs) (suc n) ≡ begin (first + g.len) fs n
 begin-suc first g fs n =
     let sums = sum_by-cons (λ (f : Function). f.len) g (take n fs) in
     omega arith

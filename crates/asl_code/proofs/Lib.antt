@@ -1,3 +1,4 @@
+pub mod FitsBack
 pub mod FitsLaws
 pub mod Instrs
 pub mod Scanning

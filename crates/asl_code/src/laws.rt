@@ -19,9 +19,11 @@ pub fn bodies_part_the_code()
         → LiesIn i n (first_of i.functions n) f }
 {}
 
-/// A verified image has all that it names, instruction by instruction, and each place of its code lies in a body.
+/// The verified images are those that have all that they name, instruction by instruction. Each place of their code
+/// lies in a body.
 pub fn verified_images_fit()
     ensures facts { (i : Image) → IsVerified i → FitsImage i }
+    ensures verified { (i : Image) → FitsImage i → IsVerified i }
     ensures lies { (i : Image) (pc : ℕ) → IsVerified i → pc < length i.code
         → (n : ℕ) × (f : Function) × LiesIn i n pc f }
     ensures instr { (i : Image) (n pc : ℕ) (f : Function) → IsVerified i → LiesIn i n pc f

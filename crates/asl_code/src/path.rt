@@ -13,7 +13,10 @@ pub enum Op {
 }
 
 impl Default for Op {
-    ghost is_default = { λ _. Unit {0} };
+    ghost use Rattle.std.specs.Prelude.{◌≡◌};
+    ghost use Rattle.asl_code.specs.declared.path.Op.TheVariants.{Deref};
+
+    ghost is_default = { λ op. op ≡ Deref };
 
     fn default() -> Self {
         Op::Deref
