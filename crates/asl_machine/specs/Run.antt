@@ -1,0 +1,57 @@
+-- Runs of a program: the state in which its threads start, and the replies and states of a schedule.
+use Rattle.std.specs.Prelude.{◌≡◌, ◌<◌, ℕ, zero, suc, ◌-◌, List, [], ◌∷◌, ◌++◌, map, length, take, replicate, sum_by, All, Option, None, Some, slice_get, unwrap_or, pos}
+use Rattle.asl_code.specs.declared.image.Image.{Image}
+use Rattle.asl_code.specs.declared.image.Function.{Function}
+use Rattle.asl_code.specs.declared.value.Value.{Value}
+use Rattle.asl_code.specs.declared.value.Value.TheVariants.{Int}
+use Rattle.asl_lock_forest.specs.Holding.{no_holding}
+use Rattle.asl_machine.specs.declared.reply.Reply.{Reply}
+use Rattle.asl_machine.specs.State.{Object, Frame, Activity, Thread, Running, State}
+use Rattle.asl_machine.specs.Twin.{step_of}
+
+-- where the body of a function begins: behind the bodies of the functions before it
+abbrev pub first_of : List Function → ℕ → ℕ
+first_of functions number = sum_by (λ (f : Function). f.len) (take number functions)
+
+-- the object of a global: one cell, which holds Int 0
+abbrev pub global_object : ℕ → Object
+global_object class = record { class = class; cells = Int (pos 0) ∷ [] }
+
+-- the registers of a new frame: the arguments, and Int 0 in those that are no parameters
+abbrev pub first_registers : List Value → ℕ → List Value
+first_registers arguments count = arguments ++ replicate (count - length arguments) (Int (pos 0))
+
+-- a new frame of a function with these arguments, at its first instruction
+abbrev pub first_frame : Image → ℕ → List Value → Option ℕ → Frame
+first_frame image number arguments result =
+    let function = unwrap_or (slice_get image.functions number) (record { params = 0; regs = 0; len = 0 }) in
+    record { function = number; pc = first_of image.functions number; regs = first_registers arguments function.regs; result = result }
+
+-- thread t at its start: in the entry function, with its own number as the parameter, in no section
+abbrev pub first_thread : Image → ℕ → Thread
+first_thread image t = Running (record { depth = 0; top = first_frame image image.start (Int (pos t) ∷ []) None; below = [] })
+
+-- the first threads, so many, in order
+abbrev pub first_threads : Image → ℕ → List Thread
+first_threads image zero = []
+first_threads image (suc t) = first_threads image t ++ first_thread image t ∷ []
+
+-- the state in which so many threads of the program start
+abbrev pub start_of : Image → ℕ → State
+start_of image count = record { objects = map global_object image.globals; holding = no_holding; threads = first_threads image count }
+
+-- the replies of a schedule from a state on
+abbrev pub replies_of : Image → State → List ℕ → List Reply
+replies_of image s [] = []
+replies_of image s (t ∷ ts) = (step_of image s t).reply ∷ replies_of image (step_of image s t).state ts
+
+-- the state after a schedule from a state on
+abbrev pub state_after : Image → State → List ℕ → State
+state_after image s [] = s
+state_after image s (t ∷ ts) = state_after image (step_of image s t).state ts
+
+-- some schedule of threads below the count leads so many threads of the program from their start to the state
+pub record IsReached (image : Image) (count : ℕ) (s : State) : Type 0 where
+  pub schedule : List ℕ
+  pub threads_there : All (λ t. t < count) schedule
+  pub leads : s ≡ state_after image (start_of image count) schedule

@@ -1,0 +1,212 @@
+-- One step of a thread, as the instruction table says it (README.md, "Instructions"): a line for each instruction and
+-- each reply that it can give. What a verified program never does has no line.
+use Rattle.std.specs.Prelude.{◌≡◌, ℕ, ℤ, ◌+◌, ◌-◌, ◌<◌, ◌⊎◌, Bool, false, true, ◌&&◌, List, [], Option, None, Some, slice_get, slice_set}
+use Rattle.std.specs.Int.{w32, int_wrapping_add}
+use Rattle.asl_code.specs.declared.image.Image.{Image}
+use Rattle.asl_code.specs.declared.instr.Instr.{Instr}
+use Rattle.asl_code.specs.declared.instr.Instr.TheVariants as instr
+use Rattle.asl_code.specs.declared.lock.Lock.{Lock}
+use Rattle.asl_code.specs.declared.value.Value.{Value}
+use Rattle.asl_code.specs.declared.value.Value.TheVariants.{Int, Null, Addr}
+use Rattle.asl_code.specs.declared.value.Cell.{Cell}
+use Rattle.asl_code.specs.declared.value.Effect.{Effect}
+use Rattle.asl_code.specs.declared.value.Effect.TheVariants.{Read, Write}
+use Rattle.asl_lock_forest.specs.Holding.{Holding, Request, CanGrant, grant, release}
+use Rattle.asl_machine.specs.declared.fault.Fault.{Fault}
+use Rattle.asl_machine.specs.declared.fault.Fault.TheVariants as fault
+use Rattle.asl_machine.specs.declared.reply.Reply.{Reply}
+use Rattle.asl_machine.specs.declared.reply.Reply.TheVariants as reply
+use Rattle.asl_machine.specs.State.{Object, Frame, Activity, Thread, Running, Done, Failed, State, cell_at, written}
+use Rattle.asl_machine.specs.Access.{is_protected}
+use Rattle.asl_machine.specs.Request.{request_of}
+
+-- where a step begins: a running thread of a state of a program
+pub record At : Type 0 where
+  pub image : Image
+  pub state : State
+  pub thread : ℕ
+  pub activity : Activity
+
+-- the frame at its next instruction
+abbrev pub advanced : Frame → Frame
+advanced f = record { function = f.function; pc = f.pc + 1; regs = f.regs; result = f.result }
+
+-- the frame at its next instruction, with the value in the register
+abbrev pub advanced_with : ℕ → Value → Frame → Frame
+advanced_with register value f = record { function = f.function; pc = f.pc + 1; regs = slice_set f.regs register value; result = f.result }
+
+-- what the thread is at, in so many sections and with this top frame
+abbrev pub going_on : Activity → ℕ → Frame → Activity
+going_on a depth top = record { depth = depth; top = top; below = a.below }
+
+-- the state with this thread, these objects and this holding
+abbrev pub after : State → ℕ → Thread → List Object → Holding → State
+after s t thread objects holding = record { objects = objects; holding = holding; threads = slice_set s.threads t thread }
+
+-- the register holds the value
+abbrev pub Reads : At → ℕ → Value → Type 0
+Reads at register value = slice_get at.activity.top.regs register ≡ Some value
+
+-- the register holds the address of the cell
+abbrev pub ReadsAddress : At → ℕ → Cell → Type 0
+ReadsAddress at register cell = Reads at register (Addr cell.object cell.offset)
+
+-- whether the thread's locks allow the access
+abbrev pub is_allowed : At → Effect → Cell → Bool
+is_allowed at = is_protected at.state.holding at.state.objects at.thread at.activity.depth
+
+-- the thread goes on at its next instruction, with the value in the register
+abbrev pub Sets : At → ℕ → Value → State → Type 0
+Sets at register value new =
+    new ≡ after at.state at.thread (Running (going_on at.activity at.activity.depth (advanced_with register value at.activity.top))) at.state.objects at.state.holding
+
+-- the thread goes on at its next instruction, in so many sections, over these objects and under this holding
+abbrev pub GoesOn : At → ℕ → List Object → Holding → State → Type 0
+GoesOn at depth objects holding new =
+    new ≡ after at.state at.thread (Running (going_on at.activity depth (advanced at.activity.top))) objects holding
+
+-- the thread has failed, and holds nothing
+abbrev pub Fails : At → Fault → State → Type 0
+Fails at f new = new ≡ after at.state at.thread (Failed f) at.state.objects (release at.state.holding at.thread)
+
+-- whether both values are integers
+abbrev pub are_integers : Value → Value → Bool
+are_integers (Int x) (Int y) = true
+are_integers x y = false
+
+-- `add` of two integers: the sum, which wraps at 32 bits
+pub record Adds (at : At) (to left right : ℕ) (new : State) : Type 0 where
+  pub x : ℤ
+  pub y : ℤ
+  pub reads_left : Reads at left (Int x)
+  pub reads_right : Reads at right (Int y)
+  pub sets : Sets at to (Int (int_wrapping_add w32 x y)) new
+
+-- `add` of values that are not both integers
+pub record AddsNoIntegers (at : At) (left right : ℕ) (new : State) : Type 0 where
+  pub x : Value
+  pub y : Value
+  pub reads_left : Reads at left x
+  pub reads_right : Reads at right y
+  pub other : are_integers x y ≡ false
+  pub fails : Fails at fault.BadType new
+
+-- `load` of a cell that the thread may read
+pub record Loads (at : At) (to address : ℕ) (new : State) : Type 0 where
+  pub cell : Cell
+  pub value : Value
+  pub reads_address : ReadsAddress at address cell
+  pub allowed : is_allowed at Read cell ≡ true
+  pub there : cell_at at.state.objects cell ≡ Some value
+  pub sets : Sets at to value new
+
+-- `store` to a cell that the thread may write
+pub record Stores (at : At) (address from : ℕ) (new : State) : Type 0 where
+  pub cell : Cell
+  pub value : Value
+  pub reads_address : ReadsAddress at address cell
+  pub reads_value : Reads at from value
+  pub allowed : is_allowed at Write cell ≡ true
+  pub goes_on : GoesOn at at.activity.depth (written at.state.objects cell value) at.state.holding new
+
+-- an access by a register that holds null
+abbrev pub FailsNull : At → ℕ → State → Type 0
+FailsNull at address new = Reads at address Null × Fails at fault.Null new
+
+-- an access by a register that holds an integer
+abbrev pub FailsType : At → ℕ → State → Type 0
+FailsType at address new = (x : ℤ) × Reads at address (Int x) × Fails at fault.BadType new
+
+-- an access, by a register that holds the cell's address, that the thread's locks do not allow
+pub record FailsUnprotected (at : At) (address : ℕ) (cell : Cell) (expected effect : Effect) (new : State) : Type 0 where
+  pub reads_address : ReadsAddress at address cell
+  pub forbidden : is_allowed at expected cell ≡ false
+  pub named : effect ≡ expected
+  pub fails : Fails at (fault.Unprotected cell effect) new
+
+-- `ret` from the last frame, outside all sections: the thread ends with the register's value
+pub record Returns (at : At) (from : ℕ) (new : State) : Type 0 where
+  pub value : Value
+  pub last : at.activity.below ≡ []
+  pub outside : at.activity.depth ≡ 0
+  pub reads_value : Reads at from value
+  pub ends : new ≡ after at.state at.thread (Done value) at.state.objects at.state.holding
+
+-- `ret` from the last frame inside a section
+pub record FailsOpen (at : At) (new : State) : Type 0 where
+  pub last : at.activity.below ≡ []
+  pub inside : 0 < at.activity.depth
+  pub fails : Fails at fault.Open new
+
+-- `acq` inside a section counts the section, and looks at no lock
+pub record Nests (at : At) (new : State) : Type 0 where
+  pub inside : 0 < at.activity.depth
+  pub room : at.activity.depth < 255
+  pub goes_on : GoesOn at (at.activity.depth + 1) at.state.objects at.state.holding new
+
+-- what `acq` asks for outside all sections: the request of its list in the registers and the objects of this state
+pub record Asks (at : At) (list : ℕ) (request : Request) : Type 0 where
+  pub locks : List Lock
+  pub outside : at.activity.depth ≡ 0
+  pub listed : slice_get at.image.lists list ≡ Some locks
+  pub is : request ≡ request_of at.state.objects at.activity.top.regs locks
+
+-- `acq` outside all sections, where all that it asks goes with what the other threads hold
+pub record Enters (at : At) (list : ℕ) (new : State) : Type 0 where
+  pub request : Request
+  pub asks : Asks at list request
+  pub free : CanGrant at.state.holding at.thread request
+  pub goes_on : GoesOn at 1 at.state.objects (grant at.state.holding at.thread request) new
+
+-- `acq` outside all sections, where some of what it asks does not: nothing changes
+pub record Waits (at : At) (list : ℕ) (new : State) : Type 0 where
+  pub request : Request
+  pub asks : Asks at list request
+  pub taken : ¬ CanGrant at.state.holding at.thread request
+  pub same : new ≡ at.state
+
+-- `rel` inside an inner section counts it off
+pub record Unnests (at : At) (new : State) : Type 0 where
+  pub inner : 1 < at.activity.depth
+  pub goes_on : GoesOn at (at.activity.depth - 1) at.state.objects at.state.holding new
+
+-- `rel` of the outermost section gives all back
+pub record Leaves (at : At) (new : State) : Type 0 where
+  pub outer : at.activity.depth ≡ 1
+  pub goes_on : GoesOn at 0 at.state.objects (release at.state.holding at.thread) new
+
+-- a running thread's instruction, its reply and the state after it: the lines of the table
+abbrev pub Line : At → Instr → Reply → State → Type 0
+Line at (instr.SetInt to number) reply.Ran new = Sets at to (Int number) new
+Line at (instr.Add to left right) reply.Ran new = Adds at to left right new
+Line at (instr.Add to left right) (reply.Fault fault.BadType) new = AddsNoIntegers at left right new
+Line at (instr.GlobalAddress to global) reply.Ran new = Sets at to (Addr global 0) new
+Line at (instr.Load to address) reply.Ran new = Loads at to address new
+Line at (instr.Load to address) (reply.Fault fault.Null) new = FailsNull at address new
+Line at (instr.Load to address) (reply.Fault fault.BadType) new = FailsType at address new
+Line at (instr.Load to address) (reply.Fault (fault.Unprotected cell effect)) new = FailsUnprotected at address cell Read effect new
+Line at (instr.Store address from) reply.Ran new = Stores at address from new
+Line at (instr.Store address from) (reply.Fault fault.Null) new = FailsNull at address new
+Line at (instr.Store address from) (reply.Fault fault.BadType) new = FailsType at address new
+Line at (instr.Store address from) (reply.Fault (fault.Unprotected cell effect)) new = FailsUnprotected at address cell Write effect new
+Line at (instr.Return from) reply.Ran new = Returns at from new
+Line at (instr.Return from) (reply.Fault fault.Open) new = FailsOpen at new
+Line at (instr.Acquire list) reply.Ran new = Nests at new ⊎ Enters at list new
+Line at (instr.Acquire list) reply.Blocked new = Waits at list new
+Line at (instr.Acquire list) (reply.Fault fault.Deep) new = (at.activity.depth ≡ 255) × Fails at fault.Deep new
+Line at instr.Release reply.Ran new = Unnests at new ⊎ Leaves at new
+Line at instr.Release (reply.Fault fault.NoSection) new = (at.activity.depth ≡ 0) × Fails at fault.NoSection new
+Line at i r new = ⊥
+
+-- a step of what stands at the thread's number: a running thread does the instruction that it is at, an ended one nothing
+abbrev pub StepOf : Image → State → ℕ → Option Thread → Reply → State → Type 0
+StepOf image old t None r new = ⊥
+StepOf image old t (Some (Running activity)) r new =
+    (i : Instr) × (slice_get image.code activity.top.pc ≡ Some i)
+    × Line (record { image = image; state = old; thread = t; activity = activity }) i r new
+StepOf image old t (Some (Done value)) r new = (r ≡ reply.Ended) × (new ≡ old)
+StepOf image old t (Some (Failed f)) r new = (r ≡ reply.Ended) × (new ≡ old)
+
+-- a step of thread t in the old state gives this reply and the new state
+abbrev pub Step : Image → State → ℕ → Reply → State → Type 0
+Step image old t r new = StepOf image old t (slice_get old.threads t) r new

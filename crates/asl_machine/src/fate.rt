@@ -1,0 +1,15 @@
+use crate::fault::Fault;
+use asl_code::Value;
+
+/// What becomes of a thread by an instruction of its own.
+#[derive(Clone, Copy, Debug, PartialEq, Eq)]
+pub enum Fate {
+    /// It goes on.
+    GoesOn,
+    /// It has ended with this value.
+    Ends(Value),
+    /// It fails.
+    Fails(Fault),
+    /// It waits for locks, and has changed nothing.
+    Waits,
+}

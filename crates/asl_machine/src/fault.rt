@@ -1,0 +1,76 @@
+use asl_code::{Cell, Effect};
+use std::alloc::AllocError;
+use std::convert::From;
+use std::fmt;
+
+/// Why a thread failed. `Display` writes the fault's name, and of an access the cell and the effect.
+#[derive(Clone, Copy, Debug, PartialEq, Eq)]
+pub enum Fault {
+    /// An operand is of another kind than the instruction takes.
+    BadType,
+    /// An address is null.
+    Null,
+    /// An address would leave its object.
+    Bounds,
+    /// An access to a cell that the thread's locks do not cover for this effect.
+    Unprotected(Cell, Effect),
+    /// There are as many objects as there may be.
+    Full,
+    /// The thread has as many frames as it may have.
+    Stack,
+    /// The thread returned from its last frame inside a section.
+    Open,
+    /// The thread is in as many sections as it may be.
+    Deep,
+    /// The thread left a section where it was in none.
+    NoSection,
+}
+
+impl fmt::Display for Fault {
+    fn fmt<W: fmt::Write>(&self, f: &mut fmt::Formatter<W>) -> fmt::Result {
+        match self {
+            Fault::BadType => f.write_str("Type"),
+            Fault::Null => f.write_str("Null"),
+            Fault::Bounds => f.write_str("Bounds"),
+            Fault::Unprotected(cell, effect) => {
+                let object = cell.object;
+                let offset = cell.offset;
+                let word = match effect {
+                    Effect::Read => "read",
+                    Effect::Write => "write",
+                };
+                write!(f, "Unprotected {object}.{offset} {word}")
+            }
+            Fault::Full => f.write_str("Full"),
+            Fault::Stack => f.write_str("Stack"),
+            Fault::Open => f.write_str("Open"),
+            Fault::Deep => f.write_str("Deep"),
+            Fault::NoSection => f.write_str("NoSection"),
+        }
+    }
+}
+
+/// Why a machine refused a call. Where several apply, the first is answered.
+#[derive(Debug, Drop, PartialEq, Eq, thiserror::Error)]
+pub enum MachineFault {
+    /// A machine has 1 to 64 threads.
+    #[error("BadCount")]
+    BadCount,
+    /// There is no such thread.
+    #[error("BadThread")]
+    BadThread,
+    /// A growth was refused.
+    #[error("OutOfMemory")]
+    OutOfMemory,
+}
+
+impl From<AllocError> for MachineFault {
+    ghost use Rattle.std.specs.Prelude.{◌≡◌};
+    ghost use Rattle.asl_machine.specs.declared.fault.MachineFault.TheVariants.{OutOfMemory};
+
+    ghost from_gives = { λ _ fault. fault ≡ OutOfMemory };
+
+    fn from(_: AllocError) -> Self {
+        MachineFault::OutOfMemory
+    }
+}

@@ -1,0 +1,28 @@
+use crate::fault::Fault;
+use asl_code::Value;
+
+/// What a step answers.
+#[derive(Clone, Copy, Debug, PartialEq, Eq)]
+pub enum Reply {
+    /// The instruction was run.
+    Ran,
+    /// The instruction was run, and shows this value.
+    Out(Value),
+    /// The section's locks are held otherwise; nothing has changed.
+    Blocked,
+    /// The thread had ended; nothing has changed.
+    Ended,
+    /// The thread has failed.
+    Fault(Fault),
+}
+
+/// Whether a thread runs, and else how it ended.
+#[derive(Clone, Copy, Debug, PartialEq, Eq)]
+pub enum Status {
+    /// The thread has not ended.
+    Running,
+    /// The thread has returned this value.
+    Done(Value),
+    /// The thread has failed with this fault.
+    Failed(Fault),
+}
