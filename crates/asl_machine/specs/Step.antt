@@ -1,4 +1,4 @@
--- One step of a thread, as the instruction table says it (README.md, "Instructions"): a line for each instruction and
+-- One step of a thread, as the instruction table says it (docs/INSTRUCTIONS.md): a line for each instruction and
 -- each reply that it can give. What a verified program never does has no line.
 use Rattle.std.specs.Prelude.{◌≡◌, ℕ, ℤ, ◌+◌, ◌-◌, ◌<◌, ◌⊎◌, Bool, false, true, ◌&&◌, List, [], Option, None, Some, slice_get, slice_set}
 use Rattle.std.specs.Int.{w32, int_wrapping_add}

@@ -1,0 +1,141 @@
+//! The objects of a machine and what their cells hold.
+ghost use Rattle.std.specs.Prelude.{◌≡◌, ◌<◌, ℕ, IfOk, Some, length, slice_get, map, option_map, replicate, pos, IsSome};
+
+use asl_code::{Cell, Value};
+use std::alloc::{AllocError, Global};
+use std::marker::Model;
+
+/// An object: its class, and what its cells hold.
+#[derive(Debug, Drop)]
+struct Object {
+    class: u16,
+    cells: Vec<Value>,
+}
+
+impl Model for Object {
+    ghost use Rattle.asl_machine.specs.State.{Object};
+
+    ghost Value = { Object };
+
+    ghost view = { λ o. record { class = o.class; cells = o.cells.items } };
+
+    ghost use Rattle.std.specs.Prelude.{◌<◌, length};
+
+    ghost invariant = { λ o. length o.cells.items < 256 };
+}
+
+impl Object {
+    ghost use Rattle.asl_machine.specs.State.{with_cell};
+    ghost use Rattle.asl_machine.specs.Run.{global_object};
+
+    /// The object of a global.
+    fn of_global(alloc: Global, class: u16) -> Result<Object, AllocError>
+        ensures { IfOk result (λ object. object ≡ global_object class) }
+    {
+        let mut cells = Vec::new(alloc);
+        cells.push(Value::Int(0))?;
+        Ok(Object { class, cells })
+    }
+
+    fn class(&self) -> u16
+        ensures { result ≡ self.now.class }
+    {
+        self.class
+    }
+
+    fn size(&self) -> u8
+        ensures { result ≡ length self.now.cells }
+    {
+        self.cells.len() as u8
+    }
+
+    fn cell(&self, offset: usize) -> Option<Value>
+        ensures { result ≡ slice_get self.now.cells offset }
+    {
+        self.cells.get(offset).copied()
+    }
+
+    fn write(&mut self, offset: usize, value: Value)
+        requires { offset < length self.old.cells }
+        ensures { self.new ≡ with_cell self.old offset value }
+    {
+        self.cells[offset] = value;
+    }
+}
+
+/// All objects, by their numbers. Contracts see the list of them.
+#[derive(Debug, Drop)]
+pub struct Heap {
+    objects: Vec<Object>,
+}
+
+impl Model for Heap {
+    ghost use Rattle.std.specs.Prelude.{List};
+    ghost use Rattle.asl_machine.specs.State.{Object};
+
+    ghost Value = { List Object };
+
+    ghost view = { λ h. h.objects.items };
+}
+
+impl Heap {
+    ghost use Rattle.asl_machine.specs.State.{cell_at, size_of, class_of, written};
+    ghost use Rattle.asl_machine.specs.Run.{global_object};
+
+    /// The objects of the globals of these classes.
+    pub fn of_globals(alloc: Global, classes: &[u16]) -> Result<Heap, AllocError>
+        ensures { IfOk result (λ heap. heap ≡ map global_object classes.now) }
+    {
+        let mut objects = Vec::new(alloc);
+        for class in classes {
+            objects.push(Object::of_global(alloc, *class)?)?;
+        }
+        Ok(Heap { objects })
+    }
+
+    /// How many objects there are.
+    pub fn len(&self) -> usize
+        ensures { result ≡ length self.now }
+    {
+        self.objects.len()
+    }
+
+    /// How many cells the object has, if it is there.
+    pub fn size(&self, number: usize) -> Option<u8>
+        ensures { result ≡ size_of self.now number }
+    {
+        match self.objects.get(number) {
+            Some(object) => Some(object.size()),
+            None => None,
+        }
+    }
+
+    /// The class of the object, if it is there.
+    pub fn class(&self, number: usize) -> Option<u16>
+        ensures { result ≡ class_of self.now number }
+    {
+        match self.objects.get(number) {
+            Some(object) => Some(object.class()),
+            None => None,
+        }
+    }
+
+    /// What the cell holds, if it is there.
+    pub fn cell(&self, cell: Cell) -> Option<Value>
+        ensures { result ≡ cell_at self.now cell }
+    {
+        match self.objects.get(usize::from(cell.object)) {
+            Some(object) => object.cell(usize::from(cell.offset)),
+            None => None,
+        }
+    }
+
+    /// Puts the value into the cell.
+    pub fn write(&mut self, cell: Cell, value: Value)
+        requires { IsSome (cell_at self.old cell) }
+        ensures { self.new ≡ written self.old cell value }
+    {
+        let object = &mut self.objects[usize::from(cell.object)];
+        object.write(usize::from(cell.offset), value);
+    }
+}
