@@ -1,2 +1,4 @@
 pub mod Paths
 pub mod Joins
+pub mod RequestLaws
+pub mod Grants

@@ -1,13 +1,57 @@
 -- Which accesses a thread's locks allow. The rule is that of S. Cherem, T. Chilimbi, S. Gulwani,
 -- "Inferring Locks for Atomic Sections" (2008): an access that no held lock protects does not happen.
-use Rattle.std.specs.Prelude.{ℕ, Bool, false, ◌&&◌, nat_lt, List}
+use Rattle.std.specs.Prelude.{◌≡◌, ◌<◌, ◌≤◌, ◌+◌, ◌^◌, ℕ, length, All, Bool, false, ◌&&◌, nat_lt, List, Option, Some, slice_get, IsSome}
 use Rattle.std.specs.Option.{option_map_or}
+use Rattle.asl_code.specs.declared.value.Value.{Value}
+use Rattle.asl_code.specs.declared.value.Value.TheVariants.{Int, Null, Addr}
 use Rattle.asl_code.specs.declared.value.Cell.{Cell}
 use Rattle.asl_code.specs.declared.value.Effect.{Effect}
-use Rattle.asl_lock_forest.specs.Holding.{Holding, is_covered}
-use Rattle.asl_machine.specs.State.{Object, class_of}
+use Rattle.asl_lock_forest.specs.Holding.{Holding, HoldsNothing, is_covered}
+use Rattle.asl_lock_forest.specs.Held.{Held}
+use Rattle.asl_code.specs.declared.image.Image.{Image}
+use Rattle.asl_code.specs.declared.instr.Instr.{Instr}
+use Rattle.asl_code.specs.declared.instr.Instr.TheVariants.{SetInt, Add, GlobalAddress, Load, Store, Return, Acquire, Release}
+use Rattle.asl_machine.specs.Request.{LockOfClass, locks_of}
+use Rattle.asl_machine.specs.State.{Object, Frame, Activity, class_of, cell_at}
+use Rattle.asl_machine.specs.Expression.{cell_of}
 
 -- whether a thread that is in so many sections may access the cell: it is in one, and its locks cover the cell
 abbrev pub is_protected : Holding → List Object → ℕ → ℕ → Effect → Cell → Bool
 is_protected holding objects thread depth effect cell =
     nat_lt 0 depth && option_map_or (λ class. is_covered holding thread cell class effect) (class_of objects cell.object) false
+
+-- if the value is an address, it is that of a cell that is there
+abbrev pub Points : List Object → Value → Type 0
+Points objects (Int number) = Unit {0}
+Points objects Null = Unit {0}
+Points objects (Addr object offset) = IsSome (cell_at objects (cell_of object offset))
+
+-- every address in the registers is that of a cell that is there
+abbrev pub AllPoint : List Object → List Value → Type 0
+AllPoint objects regs = (register : ℕ) (value : Value) → slice_get regs register ≡ Some value → Points objects value
+
+-- the classes of all objects are below the count
+abbrev pub AreOfClasses : ℕ → List Object → Type 0
+AreOfClasses classes objects = (number class : ℕ) → class_of objects number ≡ Some class → class < classes
+
+-- the registers, globals and lists that the instruction names are there, and the classes that its locks name
+abbrev pub CanDo : Image → Frame → Instr → Type 0
+CanDo image f (SetInt to number) = to < length f.regs
+CanDo image f (Add to left right) = (to < length f.regs) × (left < length f.regs) × (right < length f.regs)
+CanDo image f (GlobalAddress to global) = to < length f.regs
+CanDo image f (Load to address) = (to < length f.regs) × (address < length f.regs)
+CanDo image f (Store address from) = (address < length f.regs) × (from < length f.regs)
+CanDo image f (Return from) = from < length f.regs
+CanDo image f (Acquire list) = (list < length image.lists) × All (LockOfClass image.classes) (locks_of image list)
+CanDo image f Release = Unit {0}
+CanDo image f instr = ⊥
+
+-- what an instruction of a thread stands on: the cells that its registers point to are there, and outside all sections
+-- the thread holds nothing
+pub record IsReady (image : Image) (forest : Held) (objects : List Object) (thread : ℕ) (activity : Activity) : Type 0 where
+  pub there : thread < forest.threads
+  pub classes : forest.classes ≡ image.classes
+  pub room : activity.top.pc + 1 < 2 ^ 16
+  pub points : AllPoint objects activity.top.regs
+  pub object_classes : AreOfClasses forest.classes objects
+  pub outside : activity.depth ≡ 0 → HoldsNothing forest.holding thread

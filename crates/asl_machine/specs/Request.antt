@@ -1,12 +1,13 @@
 -- What a section asks for at its entry: of each lock its node and the nodes above, and of a list of locks at each
 -- node the join of what its locks ask there. The modes for the nodes above are those of J. Gray, R. Lorie, G. Putzolu,
 -- I. Traiger, "Granularity of Locks and Degrees of Consistency in a Shared Data Base" (1976).
-use Rattle.std.specs.Prelude.{◌≡◌, ◌≢◌, ℕ, List, [], ◌∷◌, ◌++◌, Option, None, Some, Contains, flat_map, option_map, option_and_then, if◌then◌else◌}
+use Rattle.std.specs.Prelude.{◌≡◌, ◌<◌, ◌≢◌, ◌⊎◌, ℕ, List, [], ◌∷◌, ◌++◌, Option, None, Some, option_map, option_and_then, slice_get, unwrap_or, if◌then◌else◌}
 use Rattle.std.specs.Option.{option_map_or}
 use Rattle.asl_code.specs.declared.value.Value.{Value}
 use Rattle.asl_code.specs.declared.value.Cell.{Cell}
 use Rattle.asl_code.specs.declared.value.Effect.{Effect}
 use Rattle.asl_code.specs.declared.value.Effect.TheVariants.{Read, Write}
+use Rattle.asl_code.specs.declared.image.Image.{Image}
 use Rattle.asl_code.specs.declared.lock.Lock.{Lock}
 use Rattle.asl_code.specs.declared.lock.Lock.TheVariants as lock
 use Rattle.asl_mode_lanes.specs.declared.mode.Mode.{Mode}
@@ -71,9 +72,20 @@ request_of objects regs locks = joined_all [] (all_asks objects regs locks)
 
 -- some ask at the node is for this mode
 abbrev pub IsAsk : Request → Node → Mode → Type 0
-IsAsk asks node mode = Contains asks (node, mode)
+IsAsk [] node mode = ⊥
+IsAsk (ask ∷ asks) node mode = ((ask.0 ≡ node) × (ask.1 ≡ mode)) ⊎ IsAsk asks node mode
 
 -- the request is the least map from nodes to modes that is at least every ask
 pub record IsLeast (asks request : Request) : Type 0 where
   pub enough : (node : Node) (mode : Mode) → IsAsk asks node mode → AtMost mode (asked request node)
   pub least : (map : Node → Mode) → ((node : Node) (mode : Mode) → IsAsk asks node mode → AtMost mode (map node)) → (node : Node) → AtMost (asked request node) (map node)
+
+-- the class that a lock names, if it names one, is below the count
+abbrev pub LockOfClass : ℕ → Lock → Type 0
+LockOfClass classes (lock.Root effect) = Unit {0}
+LockOfClass classes (lock.Class class effect) = class < classes
+LockOfClass classes (lock.Expr expr effect) = Unit {0}
+
+-- the locks of the list of this number
+abbrev pub locks_of : Image → ℕ → List Lock
+locks_of image list = unwrap_or (slice_get image.lists list) []

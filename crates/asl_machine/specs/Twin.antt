@@ -1,6 +1,6 @@
 -- The step, computed: for a verified program the reply and the state of the one line of the table that applies
 -- (specs/Step.antt). It answers something also where no line applies; nobody asks there.
-use Rattle.std.specs.Prelude.{ℕ, zero, suc, ◌+◌, ◌-◌, Bool, true, ◌&&◌, ◌||◌, ◌==◌, List, [], Option, None, Some, Result, Ok, Err, slice_get, unwrap_or, length, if◌then◌else◌}
+use Rattle.std.specs.Prelude.{◌≡◌, ℕ, zero, suc, ◌+◌, ◌-◌, Bool, true, ◌&&◌, ◌||◌, ◌==◌, List, [], Option, None, Some, Result, Ok, Err, slice_get, unwrap_or, length, if◌then◌else◌}
 use Rattle.std.specs.List.{list_all}
 use Rattle.std.specs.Option.{option_map_or}
 use Rattle.std.specs.Int.{w32, int_wrapping_add}
@@ -16,6 +16,7 @@ use Rattle.asl_code.specs.declared.value.Effect.TheVariants.{Read, Write}
 use Rattle.asl_mode_lanes.specs.Mode.{is_compatible}
 use Rattle.asl_lock_forest.specs.declared.node.Node.{Node}
 use Rattle.asl_lock_forest.specs.Holding.{Holding, Request, asked, held, grant, release}
+use Rattle.asl_lock_forest.specs.Held.{Held}
 use Rattle.asl_machine.specs.declared.fate.Fate.{Fate}
 use Rattle.asl_machine.specs.declared.fate.Fate.TheVariants as fate
 use Rattle.asl_machine.specs.declared.fault.Fault.{Fault}
@@ -25,7 +26,7 @@ use Rattle.asl_machine.specs.declared.reply.Reply.TheVariants as reply
 use Rattle.asl_machine.specs.State.{Object, Frame, Activity, Thread, Running, Done, Failed, State, cell_at, written}
 use Rattle.asl_machine.specs.Access.{is_protected}
 use Rattle.asl_machine.specs.Expression.{cell_of}
-use Rattle.asl_machine.specs.Request.{request_of}
+use Rattle.asl_machine.specs.Request.{request_of, locks_of}
 use Rattle.asl_machine.specs.Step.{advanced, advanced_with, going_on, after}
 
 -- what an instruction leaves: what becomes of its thread, and the parts of the state that it may have changed
@@ -35,29 +36,38 @@ pub record Left : Type 0 where
   pub objects : List Object
   pub holding : Holding
 
--- the parts of a state that an instruction of the thread may read or change
+-- the parts of a state that an instruction of a thread may read or change
 pub record Place : Type 0 where
   pub thread : ℕ
   pub activity : Activity
   pub objects : List Object
   pub holding : Holding
 
+-- the place of a thread that is at this, over these objects and under this forest
+abbrev pub place : ℕ → Activity → List Object → Held → Place
+place t activity objects forest = record { thread = t; activity = activity; objects = objects; holding = forest.holding }
+
 -- nothing has changed, and this becomes of the thread
 abbrev pub left_alone : Place → Fate → Left
 left_alone p f = record { fate = f; activity = p.activity; objects = p.objects; holding = p.holding }
-
--- the thread goes on, in so many sections and with this top frame, over these objects and under this holding
-abbrev pub going : Place → ℕ → Frame → List Object → Holding → Left
-going p depth top objects holding = record { fate = fate.GoesOn; activity = going_on p.activity depth top; objects = objects; holding = holding }
 
 -- the value of a register of the top frame
 abbrev pub register_of : Frame → ℕ → Value
 register_of f register = unwrap_or (slice_get f.regs register) Null
 
+-- what becomes of a thread that goes on with this, or fails
+abbrev pub fate_of : {T : Type 0} → Result T Fault → Fate
+fate_of (Ok x) = fate.GoesOn
+fate_of (Err f) = fate.Fails f
+
+-- where the thread is then: at its next instruction, with the value in the register
+abbrev pub activity_set : Activity → ℕ → Result Value Fault → Activity
+activity_set a to (Ok value) = going_on a a.depth (advanced_with to value a.top)
+activity_set a to (Err f) = a
+
 -- the register gets the value, or the thread fails
 abbrev pub set_left : Place → ℕ → Result Value Fault → Left
-set_left p to (Ok value) = going p p.activity.depth (advanced_with to value p.activity.top) p.objects p.holding
-set_left p to (Err f) = left_alone p (fate.Fails f)
+set_left p to value = record { fate = fate_of value; activity = activity_set p.activity to value; objects = p.objects; holding = p.holding }
 
 -- the sum of two integers
 abbrev pub sum_of : Value → Value → Result Value Fault
@@ -68,26 +78,40 @@ sum_of x y = Err fault.BadType
 abbrev pub allowed_cell : Bool → Effect → Cell → Result Cell Fault
 allowed_cell allowed effect cell = if allowed then Ok cell else Err (fault.Unprotected cell effect)
 
--- the cell that the value is the address of, where the thread may access it
-abbrev pub accessed : Place → Effect → Value → Result Cell Fault
-accessed p effect (Int number) = Err fault.BadType
-accessed p effect Null = Err fault.Null
-accessed p effect (Addr object offset) =
-    allowed_cell (is_protected p.holding p.objects p.thread p.activity.depth effect (cell_of object offset)) effect (cell_of object offset)
+-- the cell that the value is the address of, where thread t, in so many sections, may access it so
+abbrev pub accessed : Holding → List Object → ℕ → ℕ → Effect → Value → Result Cell Fault
+accessed holding objects t depth effect (Int number) = Err fault.BadType
+accessed holding objects t depth effect Null = Err fault.Null
+accessed holding objects t depth effect (Addr object offset) =
+    allowed_cell (is_protected holding objects t depth effect (cell_of object offset)) effect (cell_of object offset)
+
+-- the cell that the register holds the address of, where the thread may access it so
+abbrev pub accessed_by : Place → Effect → ℕ → Result Cell Fault
+accessed_by p effect register = accessed p.holding p.objects p.thread p.activity.depth effect (register_of p.activity.top register)
 
 -- the value of the cell
 abbrev pub loaded : List Object → Result Cell Fault → Result Value Fault
 loaded objects (Ok cell) = Ok (unwrap_or (cell_at objects cell) Null)
 loaded objects (Err f) = Err f
 
+-- where the thread is after a store to the cell
+abbrev pub activity_stored : Activity → Result Cell Fault → Activity
+activity_stored a (Ok cell) = going_on a a.depth (advanced a.top)
+activity_stored a (Err f) = a
+
+-- the objects after a store to the cell
+abbrev pub objects_stored : List Object → Value → Result Cell Fault → List Object
+objects_stored objects value (Ok cell) = written objects cell value
+objects_stored objects value (Err f) = objects
+
 -- the cell gets the value, or the thread fails
 abbrev pub store_left : Place → Value → Result Cell Fault → Left
-store_left p value (Ok cell) = going p p.activity.depth (advanced p.activity.top) (written p.objects cell value) p.holding
-store_left p value (Err f) = left_alone p (fate.Fails f)
+store_left p value target =
+    record { fate = fate_of target; activity = activity_stored p.activity target; objects = objects_stored p.objects value target; holding = p.holding }
 
--- the last frame returns
-abbrev pub return_left : Place → Value → Left
-return_left p value = left_alone p (if p.activity.depth == 0 then fate.Ends value else fate.Fails fault.Open)
+-- what becomes of a thread whose last frame returns the value, in so many sections
+abbrev pub return_fate : ℕ → Value → Fate
+return_fate depth value = if depth == 0 then fate.Ends value else fate.Fails fault.Open
 
 -- whether each other thread below the count holds the node in a mode that goes with what is asked there
 abbrev pub is_free : Holding → ℕ → Request → Node → ℕ → Bool
@@ -99,65 +123,131 @@ is_free h thread request node (suc other) =
 abbrev pub can_grant : Holding → ℕ → ℕ → Request → Bool
 can_grant h count thread request = list_all (λ ask. is_free h thread request ask.0 count) request
 
--- the thread enters its outermost section, or waits
-abbrev pub enter_left : Place → ℕ → Request → Left
-enter_left p count request =
-    if can_grant p.holding count p.thread request then going p 1 (advanced p.activity.top) p.objects (grant p.holding p.thread request)
-    else left_alone p fate.Waits
+-- what becomes of a thread at an `acq`, in so many sections, where its locks are free or not
+abbrev pub acquire_fate : ℕ → Bool → Fate
+acquire_fate depth free =
+    if depth == 0 then (if free then fate.GoesOn else fate.Waits) else if depth == 255 then fate.Fails fault.Deep else fate.GoesOn
 
--- the thread enters a section
-abbrev pub acquire_left : Place → ℕ → List Lock → Left
-acquire_left p count locks =
-    if p.activity.depth == 0 then enter_left p count (request_of p.objects p.activity.top.regs locks)
-    else if p.activity.depth == 255 then left_alone p (fate.Fails fault.Deep)
-    else going p (p.activity.depth + 1) (advanced p.activity.top) p.objects p.holding
+-- where a thread is that goes on in another number of sections, or does not go on
+abbrev pub activity_moved : Fate → ℕ → Activity → Activity
+activity_moved fate.GoesOn depth a = going_on a depth (advanced a.top)
+activity_moved (fate.Ends value) depth a = a
+activity_moved (fate.Fails f) depth a = a
+activity_moved fate.Waits depth a = a
+
+-- the holding after an `acq`, in so many sections, where its locks are free or not
+abbrev pub holding_acquired : ℕ → Bool → ℕ → Request → Holding → Holding
+holding_acquired depth free t request holding = if depth == 0 then (if free then grant holding t request else holding) else holding
+
+-- the thread enters a section, by the outermost with this request
+abbrev pub acquire_left : Place → Bool → Request → Left
+acquire_left p free request =
+    let f = acquire_fate p.activity.depth free in
+    record {
+      fate = f;
+      activity = activity_moved f (p.activity.depth + 1) p.activity;
+      objects = p.objects;
+      holding = holding_acquired p.activity.depth free p.thread request p.holding
+    }
+
+-- what becomes of a thread at a `rel`, in so many sections
+abbrev pub release_fate : ℕ → Fate
+release_fate depth = if depth == 0 then fate.Fails fault.NoSection else fate.GoesOn
+
+-- the holding after a `rel`, in so many sections
+abbrev pub holding_released : ℕ → ℕ → Holding → Holding
+holding_released depth t holding = if depth == 1 then release holding t else holding
 
 -- the thread leaves a section
 abbrev pub release_left : Place → Left
 release_left p =
-    if p.activity.depth == 0 then left_alone p (fate.Fails fault.NoSection)
-    else if p.activity.depth == 1 then going p 0 (advanced p.activity.top) p.objects (release p.holding p.thread)
-    else going p (p.activity.depth - 1) (advanced p.activity.top) p.objects p.holding
+    let f = release_fate p.activity.depth in
+    record {
+      fate = f;
+      activity = activity_moved f (p.activity.depth - 1) p.activity;
+      objects = p.objects;
+      holding = holding_released p.activity.depth p.thread p.holding
+    }
+
+-- what a list asks for at this place
+abbrev pub request_at : Image → Place → ℕ → Request
+request_at image p list = request_of p.objects p.activity.top.regs (locks_of image list)
 
 -- what the instruction leaves, with so many threads
 abbrev pub left_by : Image → ℕ → Place → Instr → Left
 left_by image count p (instr.SetInt to number) = set_left p to (Ok (Int number))
 left_by image count p (instr.Add to left right) = set_left p to (sum_of (register_of p.activity.top left) (register_of p.activity.top right))
 left_by image count p (instr.GlobalAddress to global) = set_left p to (Ok (Addr global 0))
-left_by image count p (instr.Load to address) = set_left p to (loaded p.objects (accessed p Read (register_of p.activity.top address)))
-left_by image count p (instr.Store address from) = store_left p (register_of p.activity.top from) (accessed p Write (register_of p.activity.top address))
-left_by image count p (instr.Return from) = return_left p (register_of p.activity.top from)
-left_by image count p (instr.Acquire list) = acquire_left p count (unwrap_or (slice_get image.lists list) [])
+left_by image count p (instr.Load to address) = set_left p to (loaded p.objects (accessed_by p Read address))
+left_by image count p (instr.Store address from) = store_left p (register_of p.activity.top from) (accessed_by p Write address)
+left_by image count p (instr.Return from) = left_alone p (return_fate p.activity.depth (register_of p.activity.top from))
+left_by image count p (instr.Acquire list) =
+    acquire_left p (can_grant p.holding count p.thread (request_at image p list)) (request_at image p list)
 left_by image count p instr.Release = release_left p
 left_by image count p i = left_alone p fate.Waits
+
+-- what the instruction leaves, if one is there
+abbrev pub left_at : Image → ℕ → Place → Option Instr → Left
+left_at image count p None = left_alone p fate.Waits
+left_at image count p (Some i) = left_by image count p i
+
+-- the answer to a step, by what becomes of the thread
+abbrev pub reply_of : Fate → Reply
+reply_of fate.GoesOn = reply.Ran
+reply_of (fate.Ends value) = reply.Ran
+reply_of (fate.Fails f) = reply.Fault f
+reply_of fate.Waits = reply.Blocked
+
+-- the thread after a step
+abbrev pub thread_after : Fate → Activity → Thread
+thread_after fate.GoesOn activity = Running activity
+thread_after (fate.Ends value) activity = Done value
+thread_after (fate.Fails f) activity = Failed f
+thread_after fate.Waits activity = Running activity
+
+-- the holding after a step: one that fails gives all back
+abbrev pub holding_after : Fate → ℕ → Holding → Holding
+holding_after fate.GoesOn t holding = holding
+holding_after (fate.Ends value) t holding = holding
+holding_after (fate.Fails f) t holding = release holding t
+holding_after fate.Waits t holding = holding
+
+-- what a thread's step answers, and the parts of the state that it may change
+pub record Turn : Type 0 where
+  pub reply : Reply
+  pub thread : Thread
+  pub objects : List Object
+  pub holding : Holding
+
+-- the step of a running thread, by what its instruction leaves
+abbrev pub turn_by : ℕ → Left → Turn
+turn_by t l =
+    record { reply = reply_of l.fate; thread = thread_after l.fate l.activity; objects = l.objects; holding = holding_after l.fate t l.holding }
+
+-- the step of a thread among so many
+abbrev pub turn_of : Image → ℕ → ℕ → Thread → List Object → Holding → Turn
+turn_of image count t (Running activity) objects holding =
+    turn_by t (left_at image count (record { thread = t; activity = activity; objects = objects; holding = holding }) (slice_get image.code activity.top.pc))
+turn_of image count t (Done value) objects holding = record { reply = reply.Ended; thread = Done value; objects = objects; holding = holding }
+turn_of image count t (Failed f) objects holding = record { reply = reply.Ended; thread = Failed f; objects = objects; holding = holding }
 
 -- what a step answers, and the state that it leaves
 pub record Stepped : Type 0 where
   pub reply : Reply
   pub state : State
 
--- what a step answers and leaves, by what becomes of the thread
-abbrev pub settled : State → ℕ → Fate → Left → Stepped
-settled s t fate.GoesOn l = record { reply = reply.Ran; state = after s t (Running l.activity) l.objects l.holding }
-settled s t (fate.Ends value) l = record { reply = reply.Ran; state = after s t (Done value) l.objects l.holding }
-settled s t (fate.Fails f) l = record { reply = reply.Fault f; state = after s t (Failed f) l.objects (release l.holding t) }
-settled s t fate.Waits l = record { reply = reply.Blocked; state = s }
-
--- the place of the thread in the state
-abbrev pub place_of : State → ℕ → Activity → Place
-place_of s t activity = record { thread = t; activity = activity; objects = s.objects; holding = s.holding }
-
--- the step of a running thread, by the instruction that it is at
-abbrev pub run_step : Image → State → ℕ → Activity → Option Instr → Stepped
-run_step image s t activity None = record { reply = reply.Ended; state = s }
-run_step image s t activity (Some i) =
-    let left = left_by image (length s.threads) (place_of s t activity) i in settled s t left.fate left
-
 -- the step of what stands at the thread's number
 abbrev pub step_at : Image → State → ℕ → Option Thread → Stepped
-step_at image s t (Some (Running activity)) = run_step image s t activity (slice_get image.code activity.top.pc)
-step_at image s t thread = record { reply = reply.Ended; state = s }
+step_at image s t None = record { reply = reply.Ended; state = s }
+step_at image s t (Some thread) =
+    let turn = turn_of image (length s.threads) t thread s.objects s.holding in
+    record { reply = turn.reply; state = after s t turn.thread turn.objects turn.holding }
 
 -- the step of thread t
 abbrev pub step_of : Image → State → ℕ → Stepped
 step_of image s t = step_at image s t (slice_get s.threads t)
+
+-- the instruction is an `acq` outside all sections, the one that may want memory
+abbrev pub WantsMemory : Activity → Instr → Type 0
+WantsMemory activity (instr.Acquire list) = activity.depth ≡ 0
+WantsMemory activity i = ⊥

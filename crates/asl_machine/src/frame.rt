@@ -1,5 +1,5 @@
-//! Where a thread is: its frames, and how many sections it is in.
-ghost use Rattle.std.specs.Prelude.{◌≡◌, ◌<◌, ◌+◌, ◌^◌, ℕ, IfOk, Some, length, slice_get, pos};
+//! Where a running thread is: its frames, and how many sections it is in.
+ghost use Rattle.std.specs.Prelude.{◌≡◌, ◌<◌, ◌+◌, ◌-◌, ◌^◌, ℕ, IfOk, Some, length, slice_get, pos};
 
 use asl_code::{Function, Value};
 use std::alloc::{AllocError, Global};
@@ -63,5 +63,93 @@ impl Frame {
     {
         self.regs[usize::from(register)] = value;
         self.pc += 1;
+    }
+}
+
+/// What a running thread is at: how many sections it is in, and its frame.
+#[derive(Debug, Drop)]
+pub struct Activity {
+    depth: u8,
+    top: Frame,
+}
+
+impl Model for Activity {
+    ghost use Rattle.std.specs.Prelude.{[]};
+    ghost use Rattle.asl_machine.specs.State.{Activity};
+
+    ghost Value = { Activity };
+
+    ghost view = { λ a. record { depth = a.depth; top = a.top; below = [] } };
+}
+
+impl Activity {
+    ghost use Rattle.asl_machine.specs.Step.{advanced, advanced_with, going_on};
+    ghost use Rattle.asl_machine.specs.Twin.{register_of};
+
+    /// How many sections the thread is in.
+    pub fn depth(&self) -> u8
+        ensures { result ≡ self.now.depth }
+    {
+        self.depth
+    }
+
+    /// The place of the next instruction.
+    pub fn pc(&self) -> u16
+        ensures { result ≡ self.now.top.pc }
+    {
+        self.top.pc()
+    }
+
+    /// The registers of the top frame.
+    pub fn regs(&self) -> &[Value]
+        ensures { result.now ≡ self.now.top.regs }
+    {
+        self.top.regs()
+    }
+
+    /// The value of a register of the top frame.
+    pub fn read(&self, register: u8) -> Value
+        requires { register < length self.now.top.regs }
+        ensures there { slice_get self.now.top.regs register ≡ Some result }
+        ensures value { result ≡ register_of self.now.top register }
+    {
+        self.top.read(register)
+    }
+
+    /// Goes to the next instruction.
+    pub fn advance(&mut self)
+        requires { self.old.top.pc + 1 < 2 ^ 16 }
+        ensures { self.new ≡ going_on self.old self.old.depth (advanced self.old.top) }
+    {
+        self.top.advance();
+    }
+
+    /// Puts the value into the register and goes to the next instruction.
+    pub fn advance_with(&mut self, register: u8, value: Value)
+        requires there { register < length self.old.top.regs }
+        requires room { self.old.top.pc + 1 < 2 ^ 16 }
+        ensures { self.new ≡ going_on self.old self.old.depth (advanced_with register value self.old.top) }
+    {
+        self.top.advance_with(register, value);
+    }
+
+    /// Enters one section more and goes to the next instruction.
+    pub fn enter(&mut self)
+        requires depth { self.old.depth < 255 }
+        requires room { self.old.top.pc + 1 < 2 ^ 16 }
+        ensures { self.new ≡ going_on self.old (self.old.depth + 1) (advanced self.old.top) }
+    {
+        self.depth += 1;
+        self.top.advance();
+    }
+
+    /// Leaves a section and goes to the next instruction.
+    pub fn leave(&mut self)
+        requires depth { 0 < self.old.depth }
+        requires room { self.old.top.pc + 1 < 2 ^ 16 }
+        ensures { self.new ≡ going_on self.old (self.old.depth - 1) (advanced self.old.top) }
+    {
+        self.depth -= 1;
+        self.top.advance();
     }
 }

@@ -130,6 +130,14 @@ impl Heap {
         }
     }
 
+    /// What a cell that is there holds.
+    pub fn read(&self, cell: Cell) -> Value
+        requires { IsSome (cell_at self.now cell) }
+        ensures { cell_at self.now cell ≡ Some result }
+    {
+        self.cell(cell).unwrap()
+    }
+
     /// Puts the value into the cell.
     pub fn write(&mut self, cell: Cell, value: Value)
         requires { IsSome (cell_at self.old cell) }

@@ -6,8 +6,12 @@ mod fate;
 mod fault;
 mod frame;
 mod heap;
+mod laws;
+mod perform;
 mod reply;
 mod request;
+mod values;
 
 pub use fault::{Fault, MachineFault};
+pub use laws::requests_are_least;
 pub use reply::{Reply, Status};

@@ -1,0 +1,254 @@
+//! What one instruction does for the thread that is at it.
+ghost use Rattle.std.specs.Prelude.{◌≡◌, ◌<◌, ◌+◌, ◌-◌, ◌^◌, IfOk, OnOk, OnErr, IsSome, IsTrue, All, if◌then◌else◌, Some, length, slice_get};
+ghost use Rattle.asl_lock_forest.specs.Holding.{HoldsNothing, grant};
+ghost use Rattle.asl_lock_forest.specs.Request.{names_once, asks_modes, asks_parents, IsOfClasses};
+ghost use Rattle.asl_machine.specs.Access.{AreOfClasses, AllPoint, IsReady, CanDo};
+ghost use Rattle.asl_machine.specs.Request.{LockOfClass, request_of, locks_of};
+ghost use Rattle.asl_machine.specs.State.{cell_at};
+ghost use Rattle.asl_machine.specs.Twin.{place, left_by, accessed_by, WantsMemory, can_grant, fate_of, activity_set, activity_stored, objects_stored, return_fate, release_fate, activity_moved, holding_released, acquire_fate, holding_acquired};
+
+use crate::fate::Fate;
+use crate::fault::Fault;
+use crate::frame::Activity;
+use crate::heap::Heap;
+use crate::request::request;
+use crate::values::{access, load, sum};
+use asl_code::{Cell, Effect, Instr, Lock, Program, Value};
+use asl_lock_forest::{Forest, Node};
+use asl_mode_lanes::Mode;
+use std::alloc::{AllocError, Global};
+
+/// Does the instruction, at which the thread is.
+pub fn perform(
+    alloc: Global,
+    program: &Program,
+    heap: &mut Heap,
+    forest: &mut Forest,
+    t: u32,
+    activity: &mut Activity,
+    instr: Instr,
+) -> Result<Fate, AllocError>
+    requires ready { IsReady program.now forest.old heap.old t activity.old }
+    requires fits { CanDo program.now activity.old.top instr }
+    ensures fate { IfOk result (λ fate. fate ≡ (left_by program.now forest.old.threads (place t activity.old heap.old forest.old) instr).fate) }
+    ensures activity { OnOk result (activity.new ≡ (left_by program.now forest.old.threads (place t activity.old heap.old forest.old) instr).activity) }
+    ensures objects { OnOk result (heap.new ≡ (left_by program.now forest.old.threads (place t activity.old heap.old forest.old) instr).objects) }
+    ensures holding { OnOk result (forest.new.holding ≡ (left_by program.now forest.old.threads (place t activity.old heap.old forest.old) instr).holding) }
+    ensures classes { forest.new.classes ≡ forest.old.classes }
+    ensures threads { forest.new.threads ≡ forest.old.threads }
+    ensures memory { OnErr result (WantsMemory activity.old instr) }
+    ensures err { OnErr result (activity.new ≡ activity.old) }
+    ensures err_heap { OnErr result (heap.new ≡ heap.old) }
+    ensures err_forest { OnErr result (forest.new ≡ forest.old) }
+{
+    match instr {
+        Instr::SetInt { to, value } => Ok(set(activity, to, Ok(Value::Int(value)))),
+        Instr::Add { to, left, right } => {
+            let value = sum(activity.read(left), activity.read(right));
+            Ok(set(activity, to, value))
+        }
+        Instr::GlobalAddress { to, global } => Ok(set(activity, to, Ok(Value::Addr(global, 0)))),
+        Instr::Load { to, address } => {
+            let cell = target(heap, forest, t, activity, Effect::Read, address);
+            Ok(set(activity, to, load(heap, cell)))
+        }
+        Instr::Store { address, from } => {
+            let cell = target(heap, forest, t, activity, Effect::Write, address);
+            let value = activity.read(from);
+            Ok(store(activity, heap, cell, value))
+        }
+        Instr::Return { from } => Ok(give(activity, activity.read(from))),
+        Instr::Acquire { list } => acquire(alloc, heap, forest, t, activity, locks(program, list)),
+        Instr::Release => Ok(leave(forest, t, activity)),
+        _ => unreachable!(),
+    }
+}
+
+/// The locks of the list.
+fn locks(program: &Program, list: u16) -> &[Lock]
+    requires { list < length program.now.lists }
+    ensures { result.now ≡ locks_of program.now list }
+{
+    program.lists()[usize::from(list)].as_slice()
+}
+
+/// The cell that the register holds the address of, where the thread may access it so.
+fn target(heap: &Heap, forest: &Forest, t: u32, activity: &Activity, effect: Effect, register: u8) -> Result<Cell, Fault>
+    requires there { register < length activity.now.top.regs }
+    requires thread { t < forest.now.threads }
+    requires classes { AreOfClasses forest.now.classes heap.now }
+    requires points { AllPoint heap.now activity.now.top.regs }
+    ensures value {
+        result ≡ accessed_by (place t activity.now heap.now forest.now) effect register
+    }
+    ensures there { IfOk result (λ cell. IsSome (cell_at heap.now cell)) }
+{
+    access(heap, forest, t, activity.depth(), effect, activity.read(register))
+}
+
+/// Puts the value into the register, or fails.
+fn set(activity: &mut Activity, to: u8, value: Result<Value, Fault>) -> Fate
+    requires there { to < length activity.old.top.regs }
+    requires room { activity.old.top.pc + 1 < 2 ^ 16 }
+    ensures fate { result ≡ fate_of value }
+    ensures activity { activity.new ≡ activity_set activity.old to value }
+{
+    match value {
+        Ok(value) => {
+            activity.advance_with(to, value);
+            Fate::GoesOn
+        }
+        Err(fault) => Fate::Fails(fault),
+    }
+}
+
+/// Puts the value into the cell, or fails.
+fn store(activity: &mut Activity, heap: &mut Heap, target: Result<Cell, Fault>, value: Value) -> Fate
+    requires there { IfOk target (λ cell. IsSome (cell_at heap.old cell)) }
+    requires room { activity.old.top.pc + 1 < 2 ^ 16 }
+    ensures fate { result ≡ fate_of target }
+    ensures activity { activity.new ≡ activity_stored activity.old target }
+    ensures objects { heap.new ≡ objects_stored heap.old value target }
+{
+    match target {
+        Ok(cell) => {
+            heap.write(cell, value);
+            activity.advance();
+            Fate::GoesOn
+        }
+        Err(fault) => Fate::Fails(fault),
+    }
+}
+
+/// Ends the thread with the value, or fails inside a section.
+fn give(activity: &Activity, value: Value) -> Fate
+    ensures { result ≡ return_fate activity.now.depth value }
+{
+    if activity.depth() == 0 {
+        Fate::Ends(value)
+    } else {
+        Fate::Fails(Fault::Open)
+    }
+}
+
+/// Leaves a section. The outermost gives all locks back.
+fn leave(forest: &mut Forest, t: u32, activity: &mut Activity) -> Fate
+    requires thread { t < forest.old.threads }
+    requires room { activity.old.top.pc + 1 < 2 ^ 16 }
+    ensures fate { result ≡ release_fate activity.old.depth }
+    ensures activity { activity.new ≡ activity_moved result (activity.old.depth - 1) activity.old }
+    ensures holding { forest.new.holding ≡ holding_released activity.old.depth t forest.old.holding }
+    ensures classes { forest.new.classes ≡ forest.old.classes }
+    ensures threads { forest.new.threads ≡ forest.old.threads }
+{
+    match activity.depth() {
+        0 => Fate::Fails(Fault::NoSection),
+        1 => {
+            forest.release(t);
+            activity.leave();
+            Fate::GoesOn
+        }
+        _ => {
+            activity.leave();
+            Fate::GoesOn
+        }
+    }
+}
+
+/// Enters a section with the locks of a list. The outermost asks for them, and waits where others hold them.
+fn acquire(
+    alloc: Global,
+    heap: &Heap,
+    forest: &mut Forest,
+    t: u32,
+    activity: &mut Activity,
+    locks: &[Lock],
+) -> Result<Fate, AllocError>
+    requires thread { t < forest.old.threads }
+    requires nothing { activity.old.depth ≡ 0 → HoldsNothing forest.old.holding t }
+    requires locks { All (LockOfClass forest.old.classes) locks.now }
+    requires classes { AreOfClasses forest.old.classes heap.now }
+    requires room { activity.old.top.pc + 1 < 2 ^ 16 }
+    ensures fate {
+        IfOk result (λ fate. fate ≡ acquire_fate activity.old.depth
+            (can_grant forest.old.holding forest.old.threads t (request_of heap.now activity.old.top.regs locks.now)))
+    }
+    ensures activity { IfOk result (λ fate. activity.new ≡ activity_moved fate (activity.old.depth + 1) activity.old) }
+    ensures holding {
+        IfOk result (λ _. let request = request_of heap.now activity.old.top.regs locks.now in
+            forest.new.holding ≡ holding_acquired activity.old.depth
+                (can_grant forest.old.holding forest.old.threads t request) t request forest.old.holding)
+    }
+    ensures classes { forest.new.classes ≡ forest.old.classes }
+    ensures threads { forest.new.threads ≡ forest.old.threads }
+    ensures memory { OnErr result (activity.old.depth ≡ 0) }
+    ensures err { OnErr result (activity.new ≡ activity.old) }
+    ensures err_forest { OnErr result (forest.new ≡ forest.old) }
+{
+    match activity.depth() {
+        0 => enter(alloc, heap, forest, t, activity, locks),
+        255 => Ok(Fate::Fails(Fault::Deep)),
+        _ => {
+            activity.enter();
+            Ok(Fate::GoesOn)
+        }
+    }
+}
+
+/// Enters the outermost section, or waits.
+fn enter(
+    alloc: Global,
+    heap: &Heap,
+    forest: &mut Forest,
+    t: u32,
+    activity: &mut Activity,
+    locks: &[Lock],
+) -> Result<Fate, AllocError>
+    requires thread { t < forest.old.threads }
+    requires outside { activity.old.depth ≡ 0 }
+    requires nothing { HoldsNothing forest.old.holding t }
+    requires locks { All (LockOfClass forest.old.classes) locks.now }
+    requires classes { AreOfClasses forest.old.classes heap.now }
+    requires room { activity.old.top.pc + 1 < 2 ^ 16 }
+    ensures fate {
+        IfOk result (λ fate. fate ≡ acquire_fate 0
+            (can_grant forest.old.holding forest.old.threads t (request_of heap.now activity.old.top.regs locks.now)))
+    }
+    ensures activity { IfOk result (λ fate. activity.new ≡ activity_moved fate 1 activity.old) }
+    ensures holding {
+        IfOk result (λ _. let request = request_of heap.now activity.old.top.regs locks.now in
+            forest.new.holding ≡ holding_acquired 0
+                (can_grant forest.old.holding forest.old.threads t request) t request forest.old.holding)
+    }
+    ensures classes { forest.new.classes ≡ forest.old.classes }
+    ensures threads { forest.new.threads ≡ forest.old.threads }
+    ensures err { OnErr result (activity.new ≡ activity.old) }
+    ensures err_forest { OnErr result (forest.new ≡ forest.old) }
+{
+    let request = request(alloc, locks, activity.regs(), heap)?;
+    if ask(alloc, forest, t, request.as_slice())? {
+        activity.enter();
+        Ok(Fate::GoesOn)
+    } else {
+        Ok(Fate::Waits)
+    }
+}
+
+/// Asks the forest for the request: whether it was granted.
+fn ask(alloc: Global, forest: &mut Forest, t: u32, request: &[(Node, Mode)]) -> Result<bool, AllocError>
+    requires thread { t < forest.old.threads }
+    requires nothing { HoldsNothing forest.old.holding t }
+    requires distinct { IsTrue (names_once request.now) }
+    requires modes { IsTrue (asks_modes request.now) }
+    requires parents { IsTrue (asks_parents request.now) }
+    requires classes { IsOfClasses forest.old.classes request.now }
+    ensures granted { IfOk result (λ all. all ≡ can_grant forest.old.holding forest.old.threads t request.now) }
+    ensures holding {
+        IfOk result (λ all. forest.new.holding ≡ (if all then grant forest.old.holding t request.now else forest.old.holding))
+    }
+    ensures classes { forest.new.classes ≡ forest.old.classes }
+    ensures threads { forest.new.threads ≡ forest.old.threads }
+    ensures err { OnErr result (forest.new ≡ forest.old) }
+{
+    forest.try_acquire(alloc, t, request)
+}

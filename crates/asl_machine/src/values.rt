@@ -1,0 +1,74 @@
+//! What instructions compute: values for registers, and the cells that they access.
+ghost use Rattle.std.specs.Prelude.{◌≡◌, ◌<◌, IfOk, IsSome};
+ghost use Rattle.asl_machine.specs.State.{cell_at};
+ghost use Rattle.asl_machine.specs.Access.{is_protected, Points, AreOfClasses};
+ghost use Rattle.asl_machine.specs.Twin.{sum_of, allowed_cell, accessed, loaded};
+
+use crate::fault::Fault;
+use crate::heap::Heap;
+use asl_code::{Cell, Effect, Value};
+use asl_lock_forest::Forest;
+
+/// The sum of two integers, which wraps at 32 bits.
+pub fn sum(left: Value, right: Value) -> Result<Value, Fault>
+    ensures { result ≡ sum_of left right }
+{
+    match (left, right) {
+        (Value::Int(x), Value::Int(y)) => Ok(Value::Int(x.wrapping_add(y))),
+        _ => Err(Fault::BadType),
+    }
+}
+
+/// The cell that the value is the address of, where thread t, in so many sections, may access it so.
+pub fn access(heap: &Heap, forest: &Forest, t: u32, depth: u8, effect: Effect, value: Value) -> Result<Cell, Fault>
+    requires thread { t < forest.now.threads }
+    requires classes { AreOfClasses forest.now.classes heap.now }
+    requires points { Points heap.now value }
+    ensures value { result ≡ accessed forest.now.holding heap.now t depth effect value }
+    ensures there { IfOk result (λ cell. IsSome (cell_at heap.now cell)) }
+{
+    match value {
+        Value::Addr(object, offset) => allow(heap, forest, t, depth, effect, Cell { object, offset }),
+        Value::Null => Err(Fault::Null),
+        Value::Int(_) => Err(Fault::BadType),
+    }
+}
+
+/// The cell, where the access is allowed.
+fn allow(heap: &Heap, forest: &Forest, t: u32, depth: u8, effect: Effect, cell: Cell) -> Result<Cell, Fault>
+    requires thread { t < forest.now.threads }
+    requires classes { AreOfClasses forest.now.classes heap.now }
+    ensures { result ≡ allowed_cell (is_protected forest.now.holding heap.now t depth effect cell) effect cell }
+{
+    if is_allowed(heap, forest, t, depth, effect, cell) {
+        Ok(cell)
+    } else {
+        Err(Fault::Unprotected(cell, effect))
+    }
+}
+
+/// Whether the thread is in a section, and its locks cover the cell for the effect.
+fn is_allowed(heap: &Heap, forest: &Forest, t: u32, depth: u8, effect: Effect, cell: Cell) -> bool
+    requires thread { t < forest.now.threads }
+    requires classes { AreOfClasses forest.now.classes heap.now }
+    ensures { result ≡ is_protected forest.now.holding heap.now t depth effect cell }
+{
+    if depth == 0 {
+        return false;
+    }
+    match heap.class(usize::from(cell.object)) {
+        Some(class) => forest.covers(t, cell, class, effect),
+        None => false,
+    }
+}
+
+/// The value of the cell.
+pub fn load(heap: &Heap, target: Result<Cell, Fault>) -> Result<Value, Fault>
+    requires { IfOk target (λ cell. IsSome (cell_at heap.now cell)) }
+    ensures { result ≡ loaded heap.now target }
+{
+    match target {
+        Ok(cell) => Ok(heap.read(cell)),
+        Err(fault) => Err(fault),
+    }
+}
