@@ -5,3 +5,5 @@ pub mod Access
 pub mod Step
 pub mod Twin
 pub mod Run
+pub mod Sound
+pub mod View

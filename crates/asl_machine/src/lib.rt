@@ -10,6 +10,7 @@ mod laws;
 mod perform;
 mod reply;
 mod request;
+mod thread;
 mod values;
 
 pub use fault::{Fault, MachineFault};

@@ -1,0 +1,51 @@
+-- What holds of every state that a verified program reaches: each thread is in a body, with the registers of its
+-- function; every address is that of a cell that is there; who is in no section holds nothing.
+use Rattle.std.specs.Prelude.{◌≡◌, ◌<◌, ◌≤◌, ◌+◌, ℕ, List, [], length, Option, Some, slice_get, IsSome, IsSomeAnd}
+use Rattle.asl_code.specs.declared.image.Function.{Function}
+use Rattle.asl_code.specs.declared.image.Image.{Image}
+use Rattle.asl_code.specs.Fits.{FitsImage, LiesIn}
+use Rattle.asl_code.specs.declared.value.Value.{Value}
+use Rattle.asl_code.specs.declared.value.Cell.{Cell}
+use Rattle.asl_lock_forest.specs.Held.{Held}
+use Rattle.asl_lock_forest.specs.Holding.{HoldsNothing, IsLawful, IsWithin}
+use Rattle.asl_machine.specs.State.{Object, Activity, Thread, Running, Done, Failed, State, cell_at, class_of, activity_at, depth_at}
+use Rattle.asl_machine.specs.Expression.{cell_of}
+use Rattle.asl_machine.specs.Access.{Points, AllPoint, AreOfClasses, IsReady, CanDo}
+use Rattle.asl_machine.specs.Twin.{WantsMemory}
+
+-- a running thread is in the body of its function, with that function's registers; every address in them is a cell's
+pub record IsPlaced (image : Image) (objects : List Object) (activity : Activity) : Type 0 where
+  pub function : Function
+  pub lies : LiesIn image activity.top.function activity.top.pc function
+  pub registers : length activity.top.regs ≡ function.regs
+  pub points : AllPoint objects activity.top.regs
+  pub depth : activity.depth ≤ 255
+  pub alone : activity.below ≡ []
+
+-- the objects are those that addresses and classes speak of
+pub record AreSound (image : Image) (objects : List Object) : Type 0 where
+  pub classes : AreOfClasses image.classes objects
+  pub points : (cell : Cell) (value : Value) → cell_at objects cell ≡ Some value → Points objects value
+  pub globals : (global : ℕ) → global < length image.globals → IsSome (cell_at objects (cell_of global 0))
+
+-- what holds of every state that a verified program reaches
+pub record IsSound (image : Image) (s : State) : Type 0 where
+  pub fits : FitsImage image
+  pub objects : AreSound image s.objects
+  pub placed : (t : ℕ) (activity : Activity) → activity_at s.threads t ≡ Some activity → IsPlaced image s.objects activity
+  pub outside : (t : ℕ) → depth_at s.threads t ≡ 0 → HoldsNothing s.holding t
+  pub lawful : IsLawful s.holding
+  pub within : IsWithin image.classes (length s.threads) s.holding
+
+-- a running thread is ready for the instruction that it is at, and that is one that it can do
+abbrev pub ThreadReady : Image → Held → List Object → ℕ → Thread → Type 0
+ThreadReady image forest objects t (Running activity) =
+    IsReady image forest objects t activity × IsSomeAnd (slice_get image.code activity.top.pc) (CanDo image activity.top)
+ThreadReady image forest objects t (Done value) = Unit {0}
+ThreadReady image forest objects t (Failed f) = Unit {0}
+
+-- the thread runs and is at an `acq` outside all sections
+abbrev pub ThreadWantsMemory : Image → Thread → Type 0
+ThreadWantsMemory image (Running activity) = IsSomeAnd (slice_get image.code activity.top.pc) (WantsMemory activity)
+ThreadWantsMemory image (Done value) = ⊥
+ThreadWantsMemory image (Failed f) = ⊥

@@ -1,0 +1,145 @@
+//! A thread of the machine, and its step.
+ghost use Rattle.std.specs.Prelude.{◌≡◌, ◌<◌, IfOk, OnOk, OnErr, IsSome, IsSomeAnd, Some, length, slice_get};
+ghost use Rattle.asl_machine.specs.Access.{IsReady, CanDo};
+ghost use Rattle.asl_machine.specs.Sound.{ThreadReady, ThreadWantsMemory};
+ghost use Rattle.asl_machine.specs.View.{status_by};
+ghost use Rattle.asl_machine.specs.Twin.{place, left_at, turn_of, reply_of, thread_after, holding_after, WantsMemory};
+
+use crate::fate::Fate;
+use crate::frame::Activity;
+use crate::heap::Heap;
+use crate::perform::perform;
+use crate::reply::{Reply, Status};
+use asl_code::{Instr, Program};
+use asl_lock_forest::Forest;
+use std::alloc::{AllocError, Global};
+use std::marker::Model;
+
+/// A thread. What it was last at is kept, and counts while it runs.
+#[derive(Debug, Drop)]
+pub struct Thread {
+    status: Status,
+    activity: Activity,
+}
+
+impl Model for Thread {
+    ghost use Rattle.asl_machine.specs.State.{Thread};
+
+    ghost Value = { Thread };
+
+    ghost use Rattle.asl_machine.specs.View.{thread_of};
+
+    ghost view = { λ t. thread_of t.status t.activity };
+}
+
+impl Thread {
+    ghost use Rattle.asl_machine.specs.View.{status_of};
+
+    /// Whether the thread runs, and else how it ended.
+    pub fn status(&self) -> Status
+        ensures { result ≡ status_of self.now }
+    {
+        self.status
+    }
+
+    /// Steps thread t.
+    pub fn step(
+        &mut self,
+        alloc: Global,
+        program: &Program,
+        heap: &mut Heap,
+        forest: &mut Forest,
+        t: u32,
+    ) -> Result<Reply, AllocError>
+        requires there { t < forest.old.threads }
+        requires ready { ThreadReady program.now forest.old heap.old t self.old }
+        ensures reply { IfOk result (λ reply. reply ≡ (turn_of program.now forest.old.threads t self.old heap.old forest.old.holding).reply) }
+        ensures thread { OnOk result (self.new ≡ (turn_of program.now forest.old.threads t self.old heap.old forest.old.holding).thread) }
+        ensures objects { OnOk result (heap.new ≡ (turn_of program.now forest.old.threads t self.old heap.old forest.old.holding).objects) }
+        ensures holding { OnOk result (forest.new.holding ≡ (turn_of program.now forest.old.threads t self.old heap.old forest.old.holding).holding) }
+        ensures classes { forest.new.classes ≡ forest.old.classes }
+        ensures threads { forest.new.threads ≡ forest.old.threads }
+        ensures memory { OnErr result (ThreadWantsMemory program.now self.old) }
+        ensures err { OnErr result (self.new ≡ self.old) }
+        ensures err_heap { OnErr result (heap.new ≡ heap.old) }
+        ensures err_forest { OnErr result (forest.new ≡ forest.old) }
+    {
+        match self.status {
+            Status::Running => {
+                let fate = advance(alloc, program, heap, forest, t, &mut self.activity)?;
+                self.status = status_after(fate);
+                give_back(forest, t, fate);
+                Ok(reply(fate))
+            }
+            Status::Done(_) | Status::Failed(_) => Ok(Reply::Ended),
+        }
+    }
+}
+
+/// Does the instruction that a running thread is at.
+fn advance(
+    alloc: Global,
+    program: &Program,
+    heap: &mut Heap,
+    forest: &mut Forest,
+    t: u32,
+    activity: &mut Activity,
+) -> Result<Fate, AllocError>
+    requires ready { IsReady program.now forest.old heap.old t activity.old }
+    requires fits { IsSomeAnd (slice_get program.now.code activity.old.top.pc) (CanDo program.now activity.old.top) }
+    ensures fate { IfOk result (λ fate. fate ≡ (left_at program.now forest.old.threads (place t activity.old heap.old forest.old) (slice_get program.now.code activity.old.top.pc)).fate) }
+    ensures activity { OnOk result (activity.new ≡ (left_at program.now forest.old.threads (place t activity.old heap.old forest.old) (slice_get program.now.code activity.old.top.pc)).activity) }
+    ensures objects { OnOk result (heap.new ≡ (left_at program.now forest.old.threads (place t activity.old heap.old forest.old) (slice_get program.now.code activity.old.top.pc)).objects) }
+    ensures holding { OnOk result (forest.new.holding ≡ (left_at program.now forest.old.threads (place t activity.old heap.old forest.old) (slice_get program.now.code activity.old.top.pc)).holding) }
+    ensures classes { forest.new.classes ≡ forest.old.classes }
+    ensures threads { forest.new.threads ≡ forest.old.threads }
+    ensures memory { OnErr result (IsSomeAnd (slice_get program.now.code activity.old.top.pc) (WantsMemory activity.old)) }
+    ensures err { OnErr result (activity.new ≡ activity.old) }
+    ensures err_heap { OnErr result (heap.new ≡ heap.old) }
+    ensures err_forest { OnErr result (forest.new ≡ forest.old) }
+{
+    let instr = fetch(program, activity.pc());
+    perform(alloc, program, heap, forest, t, activity, instr)
+}
+
+/// The instruction at the place.
+fn fetch(program: &Program, pc: u16) -> Instr
+    requires { IsSome (slice_get program.now.code pc) }
+    ensures { slice_get program.now.code pc ≡ Some result }
+{
+    program.code()[usize::from(pc)]
+}
+
+/// The status after this.
+fn status_after(fate: Fate) -> Status
+    ensures { result ≡ status_by fate }
+{
+    match fate {
+        Fate::GoesOn | Fate::Waits => Status::Running,
+        Fate::Ends(value) => Status::Done(value),
+        Fate::Fails(fault) => Status::Failed(fault),
+    }
+}
+
+/// The reply to this.
+fn reply(fate: Fate) -> Reply
+    ensures { result ≡ reply_of fate }
+{
+    match fate {
+        Fate::GoesOn | Fate::Ends(_) => Reply::Ran,
+        Fate::Fails(fault) => Reply::Fault(fault),
+        Fate::Waits => Reply::Blocked,
+    }
+}
+
+/// A thread that fails gives all its locks back.
+fn give_back(forest: &mut Forest, t: u32, fate: Fate)
+    requires { t < forest.old.threads }
+    ensures holding { forest.new.holding ≡ holding_after fate t forest.old.holding }
+    ensures classes { forest.new.classes ≡ forest.old.classes }
+    ensures threads { forest.new.threads ≡ forest.old.threads }
+{
+    if let Fate::Fails(_) = fate {
+        forest.release(t);
+    }
+}
