@@ -1,5 +1,5 @@
 -- The test for a grant that looks at each thread below the count tells whether the request can be granted.
-use Rattle.std.proofs.Common.{◌≡◌, ◌≢◌, ℕ, zero, suc, ◌<◌, ◌⊎◌, ◌↔◌, Bool, true, false, cond, not, ◌&&◌, ◌||◌, ◌==◌, List, [], ◌∷◌, Option, None, Some, refl, sym, ap, ◌∙◌, subst, inl, inr, IsTrue, arith, eqb-true, ne_eqb, eq-eqb}
+use Rattle.std.proofs.Common.{◌≡◌, ◌≢◌, ℕ, zero, suc, ◌<◌, ◌≤◌, ◌⊎◌, ◌↔◌, Bool, true, false, cond, not, ◌&&◌, ◌||◌, ◌==◌, List, [], ◌∷◌, Option, None, Some, refl, sym, ap, ◌∙◌, subst, inl, inr, IsTrue, arith, eqb-true, ne_eqb, eq-eqb}
 use Rattle.std.specs.Prelude.{unwrap_or, Result, Ok, Err, IfOk}
 use Rattle.asl_lock_forest.specs.Held.{Held, IsForest}
 use Rattle.std.specs.List.{list_all}
@@ -12,7 +12,7 @@ use Rattle.asl_mode_lanes.proofs.ModeLaws.{compatible-NL}
 use Rattle.asl_lock_forest.specs.declared.node.Node.{Node}
 use Rattle.asl_lock_forest.specs.Node.{same_node}
 use Rattle.asl_lock_forest.specs.Keys.{key}
-use Rattle.asl_lock_forest.specs.Holding.{Holding, Request, asked, held, CanGrant, IsWithin}
+use Rattle.asl_lock_forest.specs.Holding.{Holding, Request, asked, held, HoldsNothing, CanGrant, IsWithin}
 use Rattle.asl_lock_forest.specs.Request.{IsInTheWay, IsRefused}
 use Rattle.asl_lock_forest.proofs.Laws.{tell_nodes}
 use Rattle.asl_machine.specs.Twin.{is_free, can_grant}
@@ -73,10 +73,10 @@ way_is_there : (classes threads : ℕ) (h : Holding) (t : ℕ) (request : Reques
     IsInTheWay h t request other node → other < threads
 way_is_there classes threads h t request other node within way =
     within.threads_there (key other node) (λ e.
-      let nothing : held h other node ≡ NL = ap (λ o. unwrap_or o NL) e in
-      let goes : is_compatible (asked request node) (held h other node) ≡ true = subst (λ m. AreCompatible (asked request node) m) (sym nothing) (compatible-NL (asked request node)) in
-      let clash = way.clashes in
-      cc)
+    let nothing : held h other node ≡ NL = ap (λ o. unwrap_or o NL) e in
+    let goes : is_compatible (asked request node) (held h other node) ≡ true = subst (λ m. AreCompatible (asked request node) m) (sym nothing) (compatible-NL (asked request node)) in
+    let clash = way.clashes in
+    cc)
 
 way_is_asked : (h : Holding) (t : ℕ) (request : Request) (other : ℕ) (node : Node) → IsInTheWay h t request other node → asked request node ≢ NL
 way_is_asked h t request other node way e =
@@ -91,8 +91,8 @@ answer_is classes threads h t request true g r w = sym (all_when_granted h threa
 answer_is classes threads h t request false g r w =
     let way = r refl in
     sym (not_all h threads t request request way.1
-      (not_free h t request way.1 threads way.0 (way_is_there classes threads h t request way.0 way.1 (w refl) way.2) way.2.different way.2.clashes)
-      (way_is_asked h t request way.0 way.1 way.2))
+    (not_free h t request way.1 threads way.0 (way_is_there classes threads h t request way.0 way.1 (w refl) way.2) way.2.different way.2.clashes)
+    (way_is_asked h t request way.0 way.1 way.2))
 
 -- the test tells whether the request can be granted
 pub can_grant-true : (h : Holding) (count t : ℕ) (request : Request) → CanGrant h t request → can_grant h count t request ≡ true
@@ -111,3 +111,63 @@ pub answers_are : {E : Type 0} (h : Holding) (threads t : ℕ) (request : Reques
 answers_are h threads t request granted new (Ok all) forest e g w is =
     answer_is new.classes threads h t request all g w (kept_within h threads new all granted forest e is)
 answers_are h threads t request granted new (Err x) forest e g w is = tt
+
+-- ---- the other way round
+
+and_left : (x y : Bool) → (x && y) ≡ true → x ≡ true
+and_left true y e = refl
+and_left false y e = e
+
+and_right : (x y : Bool) → (x && y) ≡ true → y ≡ true
+and_right true y e = e
+and_right false y e = cc
+
+or_right : (x y : Bool) → (x || y) ≡ true → x ≡ false → y ≡ true
+or_right true y e f = cc
+or_right false y e f = e
+
+goes_when_free : (h : Holding) (t : ℕ) (request : Request) (node : Node) (count other : ℕ) → is_free h t request node count ≡ true → other < count → other ≢ t →
+    is_compatible (asked request node) (held h other node) ≡ true
+goes_when_free h t request node zero other f lt ne = absurd (omega arith)
+goes_when_free h t request node (suc last) other f lt ne =
+    elim (cases_lt other last) [
+      | inl below ↦ goes_when_free h t request node last other (and_right _ _ f) below ne
+      | inr above ↦
+          let is : last ≡ other = omega arith in
+          subst (λ o. is_compatible (asked request node) (held h o node) ≡ true) is
+          (or_right (last == t) _ (and_left _ _ f) (ne_eqb last t (λ e. ne (sym is ∙ e))))
+    ]
+
+free_or_unasked : (h : Holding) (count t : ℕ) (request part : Request) (node : Node) → list_all (λ ask. is_free h t request ask.0 count) part ≡ true →
+    (asked part node ≡ NL) ⊎ (is_free h t request node count ≡ true)
+free_or_unasked h count t request [] node e = inl refl
+free_or_unasked h count t request (a ∷ rest) node e =
+    elim (tell_nodes a.0 node) [
+      | inl same ↦ inr (subst (λ n. is_free h t request n count ≡ true) same.1 (and_left _ _ e))
+      | inr other ↦ elim (free_or_unasked h count t request rest node (and_right _ _ e)) [
+        | inl none ↦ inl (ap (λ b. cond b a.1 (asked rest node)) other.0 ∙ none)
+        | inr free ↦ inr free
+      ]
+    ]
+
+-- a thread from the count on holds nothing
+pub nothing_past : (classes count : ℕ) (h : Holding) (other : ℕ) → IsWithin classes count h → count ≤ other → HoldsNothing h other
+nothing_past classes count h other within le node =
+    elim (map.get h (key other node)) as (λ o. map.get h (key other node) ≡ o → map.get h (key other node) ≡ None) [
+      | None ↦ λ e. e
+      | Some m ↦ λ e. let lt : other < count = within.threads_there (key other node) (λ n. cc) in absurd (omega arith)
+    ] refl
+
+held_past : (classes count : ℕ) (h : Holding) (other : ℕ) (node : Node) → IsWithin classes count h → count ≤ other → held h other node ≡ NL
+held_past classes count h other node within le = ap (λ o. unwrap_or o NL) (nothing_past classes count h other within le node)
+
+-- what the test allows can be granted
+pub grant_when_free : (classes count : ℕ) (h : Holding) (t : ℕ) (request : Request) → IsWithin classes count h → can_grant h count t request ≡ true → CanGrant h t request
+grant_when_free classes count h t request within e other node ne =
+    elim (cases_lt other count) [
+      | inr past ↦ subst (λ m. AreCompatible (asked request node) m) (sym (held_past classes count h other node within past)) (compatible-NL (asked request node))
+      | inl below ↦ elim (free_or_unasked h count t request request node e) [
+        | inl none ↦ subst (λ m. AreCompatible m (held h other node)) (sym none) refl
+        | inr free ↦ goes_when_free h t request node count other free below ne
+      ]
+    ]

@@ -20,8 +20,8 @@ pub joined_there : (request : Request) (node : Node) (mode : Mode) (d : Node × 
 joined_there [] node mode d lt = absurd (omega arith)
 joined_there (ask ∷ others) node mode d lt =
     elim (same_node ask.0 node) as (λ b. (let n = cond (not b) (1 + node_place others node) 0 in
-        n < length (ask ∷ others) →
-        (cond b ((ask.0, join_of ask.1 mode) ∷ others) (ask ∷ joined_with others node mode)) ≡ set (ask ∷ others) n ((get_or (ask ∷ others) n d).0, join_of (get_or (ask ∷ others) n d).1 mode))) [
+    n < length (ask ∷ others) →
+    (cond b ((ask.0, join_of ask.1 mode) ∷ others) (ask ∷ joined_with others node mode)) ≡ set (ask ∷ others) n ((get_or (ask ∷ others) n d).0, join_of (get_or (ask ∷ others) n d).1 mode))) [
       | true ↦ λ _. refl
       | false ↦ λ h.
           let lt' : node_place others node < length others = omega arith in
@@ -36,7 +36,7 @@ pub joined_new : (request : Request) (node : Node) (mode : Mode) → length requ
 joined_new [] node mode le = refl
 joined_new (ask ∷ others) node mode le =
     elim (same_node ask.0 node) as (λ b. length (ask ∷ others) ≤ cond (not b) (1 + node_place others node) 0 →
-        cond b ((ask.0, join_of ask.1 mode) ∷ others) (ask ∷ joined_with others node mode) ≡ ask ∷ others ++ (node, mode) ∷ []) [
+    cond b ((ask.0, join_of ask.1 mode) ∷ others) (ask ∷ joined_with others node mode) ≡ ask ∷ others ++ (node, mode) ∷ []) [
       | true ↦ λ h. absurd (omega arith)
       | false ↦ λ h.
           let le' : length others ≤ node_place others node = omega arith in

@@ -55,9 +55,9 @@ asked-joined_with (ask ∷ others) n m x =
     let L : Request = (ask.0, join_of ask.1 m) ∷ others in
     let R : Request = ask ∷ joined_with others n m in
     let split : asked (cond (same_node ask.0 n) L R) x ≡ cond (same_node ask.0 n) (asked L x) (asked R x) =
-        elim (same_node ask.0 n) as (λ p. asked (cond p L R) x ≡ cond p (asked L x) (asked R x)) [ | true ↦ refl | false ↦ refl ] in
+    elim (same_node ask.0 n) as (λ p. asked (cond p L R) x ≡ cond p (asked L x) (asked R x)) [ true ↦ refl | false ↦ refl ] in
     split ∙ asked_step (same_node ask.0 n) (same_node ask.0 x) (same_node n x) ask.1 m (asked others x) (asked (joined_with others n m) x)
-        (same_along ask.0 n x) (other_along ask.0 n x) (asked-joined_with others n m x)
+    (same_along ask.0 n x) (other_along ask.0 n x) (asked-joined_with others n m x)
 
 at_most_cond : (b : Bool) (a m c : Mode) → AtMost a c → (b ≡ true → AtMost m c) → AtMost (cond b (join_of a m) a) c
 at_most_cond true a m c h k = join_least a m c h (k refl)
@@ -78,7 +78,7 @@ has_own request n m =
     subst (AtMost m) (sym (asked-joined_with request n m n ∙ ap (λ b. cond b (join_of (asked request n) m) (asked request n)) (same_self n))) (join_right (asked request n) m)
 
 same_is : (a b : Node) → same_node a b ≡ true → a ≡ b
-same_is a b e = elim (tell_nodes a b) [ | inl t ↦ t.1 | inr t ↦ let h = t.0 in cc ]
+same_is a b e = elim (tell_nodes a b) [ inl t ↦ t.1 | inr t ↦ let h = t.0 in cc ]
 
 pub below_with : (request : Request) (n : Node) (m : Mode) (x : Node) (c : Mode) → AtMost (asked request x) c → (n ≡ x → AtMost m c) → AtMost (asked (joined_with request n m) x) c
 below_with request n m x c h k =
@@ -97,7 +97,7 @@ enough_all (ask ∷ asks) request n m h =
     elim h [
       | inl e ↦
           at_most_trans _ _ _ (subst (λ x. AtMost m (asked (joined_with request x ask.1) n)) (sym e.0) (subst (λ o. AtMost m (asked (joined_with request n o) n)) (sym e.1) (has_own request n m)))
-            (grows_all asks (joined_with request ask.0 ask.1) n)
+          (grows_all asks (joined_with request ask.0 ask.1) n)
       | inr later ↦ enough_all asks (joined_with request ask.0 ask.1) n m later
     ]
 
@@ -177,7 +177,7 @@ AsksParents asks = (n p : Node) (m : Mode) → parent_of n ≡ Some p → IsAsk 
 
 ask_left : (xs ys : Request) (n : Node) (m : Mode) → IsAsk xs n m → IsAsk (xs ++ ys) n m
 ask_left [] ys n m h = absurd h
-ask_left (x ∷ xs) ys n m h = elim h [ | inl e ↦ inl e | inr i ↦ inr (ask_left xs ys n m i) ]
+ask_left (x ∷ xs) ys n m h = elim h [ inl e ↦ inl e | inr i ↦ inr (ask_left xs ys n m i) ]
 
 ask_right : (xs ys : Request) (n : Node) (m : Mode) → IsAsk ys n m → IsAsk (xs ++ ys) n m
 ask_right [] ys n m h = h
@@ -188,7 +188,7 @@ ask_either [] ys n m h = inr h
 ask_either (x ∷ xs) ys n m h =
     elim h [
       | inl e ↦ inl (inl e)
-      | inr i ↦ elim (ask_either xs ys n m i) [ | inl a ↦ inl (inr a) | inr b ↦ inr b ]
+      | inr i ↦ elim (ask_either xs ys n m i) [ inl a ↦ inl (inr a) | inr b ↦ inr b ]
     ]
 
 parents-append : (xs ys : Request) → AsksParents xs → AsksParents ys → AsksParents (xs ++ ys)
@@ -222,12 +222,12 @@ parents_leaf cell effect class n p m s h =
     elim h [
       | inl e ↦ absurd (no_parent n p e.0 s)
       | inr i ↦ elim i [
-          | inl e ↦ (upper_mode effect, inl (class_parent n p class e.0 s, refl), subst (λ o. AtMost (parent_mode o) (upper_mode effect)) e.1 (upper_self effect))
-          | inr j ↦ elim j [
-              | inl e ↦ (upper_mode effect, inr (inl (leaf_parent n p cell class e.0 s, refl)), subst (λ o. AtMost (parent_mode o) (upper_mode effect)) e.1 (upper_own effect))
-              | inr k ↦ absurd k
-            ]
+        | inl e ↦ (upper_mode effect, inl (class_parent n p class e.0 s, refl), subst (λ o. AtMost (parent_mode o) (upper_mode effect)) e.1 (upper_self effect))
+        | inr j ↦ elim j [
+          | inl e ↦ (upper_mode effect, inr (inl (leaf_parent n p cell class e.0 s, refl)), subst (λ o. AtMost (parent_mode o) (upper_mode effect)) e.1 (upper_own effect))
+          | inr k ↦ absurd k
         ]
+      ]
     ]
 
 parents_class : (effect : Effect) (class : ℕ) → AsksParents ((Root, upper_mode effect) ∷ (Class class, own_mode effect) ∷ [])
@@ -236,14 +236,14 @@ parents_class effect class n p m s h =
     elim h [
       | inl e ↦ absurd (no_parent n p e.0 s)
       | inr i ↦ elim i [
-          | inl e ↦ (upper_mode effect, inl (class_parent n p class e.0 s, refl), subst (λ o. AtMost (parent_mode o) (upper_mode effect)) e.1 (upper_own effect))
-          | inr k ↦ absurd k
-        ]
+        | inl e ↦ (upper_mode effect, inl (class_parent n p class e.0 s, refl), subst (λ o. AtMost (parent_mode o) (upper_mode effect)) e.1 (upper_own effect))
+        | inr k ↦ absurd k
+      ]
     ]
 
 parents_root : (effect : Effect) → AsksParents ((Root, own_mode effect) ∷ [])
 unfolding AsksParents
-parents_root effect n p m s h = elim h [ | inl e ↦ absurd (no_parent n p e.0 s) | inr k ↦ absurd k ]
+parents_root effect n p m s h = elim h [ inl e ↦ absurd (no_parent n p e.0 s) | inr k ↦ absurd k ]
 
 parents_none : AsksParents []
 unfolding AsksParents
@@ -272,8 +272,8 @@ unfolding AsksParents
 request_is_rooted objects regs locks n p s =
     let asks = all_asks objects regs locks in
     parent_all asks [] n (asked (joined_all [] asks) p) refl (λ m i.
-      let up = parents_locks objects regs locks n p m s i in
-      at_most_trans _ _ _ up.2 (enough_all asks [] p up.0 up.1))
+    let up = parents_locks objects regs locks n p m s i in
+    at_most_trans _ _ _ up.2 (enough_all asks [] p up.0 up.1))
 
 -- ---- what joining keeps
 
@@ -400,16 +400,18 @@ not_true false h = refl
 entries_later : (a : Node × Mode) (whole rest : Request) → names rest a.0 ≡ false → EntriesOf whole rest → EntriesOf (a ∷ whole) rest
 unfolding EntriesOf
 entries_later a whole [] e h = tt
-entries_later a whole (x ∷ rest) e h =
-    (ap (λ b. cond b a.1 (asked whole x.0)) (same_sym a.0 x.0 ∙ or_false_left (same_node x.0 a.0) (names rest a.0) e) ∙ h.0,
-     entries_later a whole rest (or_false_right (same_node x.0 a.0) (names rest a.0) e) h.1)
+entries_later a whole (x ∷ rest) e h = (
+  ap (λ b. cond b a.1 (asked whole x.0)) (same_sym a.0 x.0 ∙ or_false_left (same_node x.0 a.0) (names rest a.0) e) ∙ h.0,
+  entries_later a whole rest (or_false_right (same_node x.0 a.0) (names rest a.0) e) h.1,
+)
 
 entries_own : (r : Request) → IsTrue (names_once r) → EntriesOf r r
 unfolding EntriesOf
 entries_own [] h = tt
-entries_own (a ∷ rest) h =
-    (ap (λ b. cond b a.1 (asked rest a.0)) (same_self a.0),
-     entries_later a rest rest (not_true (names rest a.0) (and_first _ _ h)) (entries_own rest (and_second _ _ h)))
+entries_own (a ∷ rest) h = (
+  ap (λ b. cond b a.1 (asked rest a.0)) (same_self a.0),
+  entries_later a rest rest (not_true (names rest a.0) (and_first _ _ h)) (entries_own rest (and_second _ _ h)),
+)
 
 parent_of_entry : (whole : Request) (n : Node) (m : Mode) (p : Option Node) → IsRooted (asked whole) → parent_of n ≡ p → asked whole n ≡ m → IsTrue (asks_parent_of whole p m)
 parent_of_entry whole n m None rooted e is = refl
@@ -455,9 +457,9 @@ there_leaf classes cell effect (Some class) k n m h =
     elim h [
       | inl e ↦ subst (IsThere classes) e.0 tt
       | inr i ↦ elim i [
-          | inl e ↦ subst (IsThere classes) e.0 (k class refl)
-          | inr j ↦ elim j [ | inl e ↦ subst (IsThere classes) e.0 (k class refl) | inr l ↦ absurd l ]
-        ]
+        | inl e ↦ subst (IsThere classes) e.0 (k class refl)
+        | inr j ↦ elim j [ inl e ↦ subst (IsThere classes) e.0 (k class refl) | inr l ↦ absurd l ]
+      ]
     ]
 
 there_cell : (classes : ℕ) (objects : List Object) (effect : Effect) (cell : Option Cell) → AreOfClasses classes objects →
@@ -467,11 +469,11 @@ there_cell classes objects effect (Some cell) k n m h = there_leaf classes cell 
 
 there_lock : (classes : ℕ) (objects : List Object) (regs : List Value) (l : Lock) → LockOfClass classes l → AreOfClasses classes objects →
     (n : Node) (m : Mode) → IsAsk (asks_of objects regs l) n m → IsThere classes n
-there_lock classes objects regs (lock.Root effect) f k n m h = elim h [ | inl e ↦ subst (IsThere classes) e.0 tt | inr i ↦ absurd i ]
+there_lock classes objects regs (lock.Root effect) f k n m h = elim h [ inl e ↦ subst (IsThere classes) e.0 tt | inr i ↦ absurd i ]
 there_lock classes objects regs (lock.Class class effect) f k n m h =
     elim h [
       | inl e ↦ subst (IsThere classes) e.0 tt
-      | inr i ↦ elim i [ | inl e ↦ subst (IsThere classes) e.0 f | inr j ↦ absurd j ]
+      | inr i ↦ elim i [ inl e ↦ subst (IsThere classes) e.0 f | inr j ↦ absurd j ]
     ]
 there_lock classes objects regs (lock.Expr expr effect) f k n m h = there_cell classes objects effect (cell_denoted (heap_of objects) regs expr) k n m h
 

@@ -1,6 +1,7 @@
 -- Runs of a program: the state in which its threads start, and the replies and states of a schedule.
 use Rattle.std.specs.Prelude.{◌≡◌, ◌<◌, ℕ, zero, suc, ◌-◌, List, [], ◌∷◌, ◌++◌, map, length, take, replicate, sum_by, All, Option, None, Some, slice_get, unwrap_or, pos}
 use Rattle.asl_code.specs.declared.image.Image.{Image}
+use Rattle.asl_code.specs.Bodies.{first_of}
 use Rattle.asl_code.specs.declared.image.Function.{Function}
 use Rattle.asl_code.specs.declared.value.Value.{Value}
 use Rattle.asl_code.specs.declared.value.Value.TheVariants.{Int}
@@ -8,10 +9,6 @@ use Rattle.asl_lock_forest.specs.Holding.{no_holding}
 use Rattle.asl_machine.specs.declared.reply.Reply.{Reply}
 use Rattle.asl_machine.specs.State.{Object, Frame, Activity, Thread, Running, State}
 use Rattle.asl_machine.specs.Twin.{step_of}
-
--- where the body of a function begins: behind the bodies of the functions before it
-abbrev pub first_of : List Function → ℕ → ℕ
-first_of functions number = sum_by (λ (f : Function). f.len) (take number functions)
 
 -- the object of a global: one cell, which holds Int 0
 abbrev pub global_object : ℕ → Object

@@ -26,6 +26,7 @@ pub record IsPlaced (image : Image) (objects : List Object) (activity : Activity
 pub record AreSound (image : Image) (objects : List Object) : Type 0 where
   pub classes : AreOfClasses image.classes objects
   pub points : (cell : Cell) (value : Value) → cell_at objects cell ≡ Some value → Points objects value
+  pub few : length objects ≤ 65536
   pub globals : (global : ℕ) → global < length image.globals → IsSome (cell_at objects (cell_of global 0))
 
 -- what holds of every state that a verified program reaches
@@ -49,3 +50,14 @@ abbrev pub ThreadWantsMemory : Image → Thread → Type 0
 ThreadWantsMemory image (Running activity) = IsSomeAnd (slice_get image.code activity.top.pc) (WantsMemory activity)
 ThreadWantsMemory image (Done value) = ⊥
 ThreadWantsMemory image (Failed f) = ⊥
+
+-- what every machine keeps: its state is sound, and its forest is over its program's classes and its own threads
+pub record IsMachine (image : Image) (objects : List Object) (forest : Held) (threads : List Thread) : Type 0 where
+  pub sound : IsSound image (record { objects = objects; holding = forest.holding; threads = threads })
+  pub classes : forest.classes ≡ image.classes
+  pub counted : forest.threads ≡ length threads
+  pub few_threads : length threads ≤ 64
+
+-- the thread of this number is there, runs, and is at an `acq` outside all sections
+abbrev pub MayWantMemory : Image → State → ℕ → Type 0
+MayWantMemory image s t = IsSomeAnd (slice_get s.threads t) (ThreadWantsMemory image)

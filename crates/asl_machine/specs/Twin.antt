@@ -147,7 +147,7 @@ acquire_left p free request =
       fate = f;
       activity = activity_moved f (p.activity.depth + 1) p.activity;
       objects = p.objects;
-      holding = holding_acquired p.activity.depth free p.thread request p.holding
+      holding = holding_acquired p.activity.depth free p.thread request p.holding;
     }
 
 -- what becomes of a thread at a `rel`, in so many sections
@@ -166,7 +166,7 @@ release_left p =
       fate = f;
       activity = activity_moved f (p.activity.depth - 1) p.activity;
       objects = p.objects;
-      holding = holding_released p.activity.depth p.thread p.holding
+      holding = holding_released p.activity.depth p.thread p.holding;
     }
 
 -- what a list asks for at this place

@@ -1,7 +1,10 @@
 //! Where a running thread is: its frames, and how many sections it is in.
-ghost use Rattle.std.specs.Prelude.{◌≡◌, ◌<◌, ◌+◌, ◌-◌, ◌^◌, ℕ, IfOk, Some, length, slice_get, pos};
+ghost use Rattle.std.specs.Prelude.{◌≡◌, ◌<◌, ◌+◌, ◌-◌, ◌^◌, ℕ, IfOk, IfSome, Some, length, slice_get, pos, ◌∷◌, []};
+ghost use Rattle.asl_code.specs.Fits.{FitsImage};
+ghost use Rattle.asl_code.specs.Bodies.{first_of, total_len};
+ghost use Rattle.asl_machine.specs.Run.{first_registers as first_values};
 
-use asl_code::{Function, Value};
+use asl_code::{Function, Program, Value};
 use std::alloc::{AllocError, Global};
 use std::marker::Model;
 
@@ -23,7 +26,26 @@ impl Model for Frame {
 }
 
 impl Frame {
+    ghost use Rattle.std.specs.Prelude.{◌∷◌, [], None};
+    ghost use Rattle.asl_code.specs.Fits.{FitsImage};
+    ghost use Rattle.asl_code.specs.declared.value.Value.TheVariants.{Int};
+    ghost use Rattle.asl_machine.specs.Run.{first_frame};
     ghost use Rattle.asl_machine.specs.Step.{advanced, advanced_with};
+
+    /// The frame in which thread t starts: the entry function's, with the thread's number as the parameter.
+    pub fn entry(alloc: Global, program: &Program, t: u32) -> Result<Frame, AllocError>
+        requires fits { FitsImage program.now }
+        requires small { t < 64 }
+        ensures { IfOk result (λ frame. frame ≡ first_frame program.now program.now.start (Int (pos t) ∷ []) None) }
+    {
+        let function = program.start();
+        let regs = first_registers(alloc, Value::Int(t as i32), entry_registers(program))?;
+        Ok(Frame {
+            function,
+            pc: entry_place(program),
+            regs,
+        })
+    }
 
     /// The place of the next instruction.
     pub fn pc(&self) -> u16
@@ -66,6 +88,44 @@ impl Frame {
     }
 }
 
+/// How many registers the entry function has.
+fn entry_registers(program: &Program) -> u8
+    requires { FitsImage program.now }
+    ensures registers { IfSome (slice_get program.now.functions program.now.start) (λ f. result ≡ f.regs) }
+    ensures some { 0 < result }
+{
+    program.functions()[usize::from(program.start())].regs
+}
+
+/// Where the entry function begins.
+fn entry_place(program: &Program) -> u16
+    requires { FitsImage program.now }
+    ensures { result ≡ first_of program.now.functions program.now.start }
+{
+    total_of(&program.functions()[..usize::from(program.start())]) as u16
+}
+
+/// How many instructions the functions have together.
+fn total_of(functions: &[Function]) -> u32
+    requires { total_len functions.now < 2 ^ 32 }
+    ensures { result ≡ total_len functions.now }
+{
+    functions.iter().map(|f| f.len).sum()
+}
+
+/// So many registers, of which the first is a parameter.
+fn first_registers(alloc: Global, parameter: Value, count: u8) -> Result<Vec<Value>, AllocError>
+    requires { 0 < count }
+    ensures { IfOk result (λ regs. regs.items ≡ first_values (parameter ∷ []) count) }
+{
+    let mut regs = Vec::new(alloc);
+    regs.push(parameter)?;
+    for _ in 1..count {
+        regs.push(Value::Int(0))?;
+    }
+    Ok(regs)
+}
+
 /// What a running thread is at: how many sections it is in, and its frame.
 #[derive(Debug, Drop)]
 pub struct Activity {
@@ -83,8 +143,28 @@ impl Model for Activity {
 }
 
 impl Activity {
+    ghost use Rattle.std.specs.Prelude.{◌∷◌, [], None};
+    ghost use Rattle.asl_code.specs.Fits.{FitsImage};
+    ghost use Rattle.asl_code.specs.declared.value.Value.TheVariants.{Int};
+    ghost use Rattle.asl_machine.specs.Run.{first_frame};
     ghost use Rattle.asl_machine.specs.Step.{advanced, advanced_with, going_on};
     ghost use Rattle.asl_machine.specs.Twin.{register_of};
+
+    /// What thread t is at when it starts.
+    pub fn first(alloc: Global, program: &Program, t: u32) -> Result<Activity, AllocError>
+        requires fits { FitsImage program.now }
+        requires small { t < 64 }
+        ensures { IfOk result (λ activity. activity ≡ record {
+          depth = 0;
+          top = first_frame program.now program.now.start (Int (pos t) ∷ []) None;
+          below = [];
+        }) }
+    {
+        Ok(Activity {
+            depth: 0,
+            top: Frame::entry(alloc, program, t)?,
+        })
+    }
 
     /// How many sections the thread is in.
     pub fn depth(&self) -> u8

@@ -7,6 +7,7 @@ mod fault;
 mod frame;
 mod heap;
 mod laws;
+mod machine;
 mod perform;
 mod reply;
 mod request;
@@ -15,4 +16,5 @@ mod values;
 
 pub use fault::{Fault, MachineFault};
 pub use laws::requests_are_least;
+pub use machine::Machine;
 pub use reply::{Reply, Status};

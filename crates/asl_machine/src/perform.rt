@@ -73,17 +73,29 @@ fn locks(program: &Program, list: u16) -> &[Lock]
 }
 
 /// The cell that the register holds the address of, where the thread may access it so.
-fn target(heap: &Heap, forest: &Forest, t: u32, activity: &Activity, effect: Effect, register: u8) -> Result<Cell, Fault>
+fn target(
+    heap: &Heap,
+    forest: &Forest,
+    t: u32,
+    activity: &Activity,
+    effect: Effect,
+    register: u8,
+) -> Result<Cell, Fault>
     requires there { register < length activity.now.top.regs }
     requires thread { t < forest.now.threads }
     requires classes { AreOfClasses forest.now.classes heap.now }
     requires points { AllPoint heap.now activity.now.top.regs }
-    ensures value {
-        result ≡ accessed_by (place t activity.now heap.now forest.now) effect register
-    }
+    ensures value { result ≡ accessed_by (place t activity.now heap.now forest.now) effect register }
     ensures there { IfOk result (λ cell. IsSome (cell_at heap.now cell)) }
 {
-    access(heap, forest, t, activity.depth(), effect, activity.read(register))
+    access(
+        heap,
+        forest,
+        t,
+        activity.depth(),
+        effect,
+        activity.read(register),
+    )
 }
 
 /// Puts the value into the register, or fails.
@@ -103,7 +115,12 @@ fn set(activity: &mut Activity, to: u8, value: Result<Value, Fault>) -> Fate
 }
 
 /// Puts the value into the cell, or fails.
-fn store(activity: &mut Activity, heap: &mut Heap, target: Result<Cell, Fault>, value: Value) -> Fate
+fn store(
+    activity: &mut Activity,
+    heap: &mut Heap,
+    target: Result<Cell, Fault>,
+    value: Value,
+) -> Fate
     requires there { IfOk target (λ cell. IsSome (cell_at heap.old cell)) }
     requires room { activity.old.top.pc + 1 < 2 ^ 16 }
     ensures fate { result ≡ fate_of target }
@@ -169,16 +186,12 @@ fn acquire(
     requires locks { All (LockOfClass forest.old.classes) locks.now }
     requires classes { AreOfClasses forest.old.classes heap.now }
     requires room { activity.old.top.pc + 1 < 2 ^ 16 }
-    ensures fate {
-        IfOk result (λ fate. fate ≡ acquire_fate activity.old.depth
-            (can_grant forest.old.holding forest.old.threads t (request_of heap.now activity.old.top.regs locks.now)))
-    }
+    ensures fate { IfOk result (λ fate. fate ≡ acquire_fate activity.old.depth
+        (can_grant forest.old.holding forest.old.threads t (request_of heap.now activity.old.top.regs locks.now))) }
     ensures activity { IfOk result (λ fate. activity.new ≡ activity_moved fate (activity.old.depth + 1) activity.old) }
-    ensures holding {
-        IfOk result (λ _. let request = request_of heap.now activity.old.top.regs locks.now in
-            forest.new.holding ≡ holding_acquired activity.old.depth
-                (can_grant forest.old.holding forest.old.threads t request) t request forest.old.holding)
-    }
+    ensures holding { IfOk result (λ _. let request = request_of heap.now activity.old.top.regs locks.now in
+        forest.new.holding ≡ holding_acquired activity.old.depth
+        (can_grant forest.old.holding forest.old.threads t request) t request forest.old.holding) }
     ensures classes { forest.new.classes ≡ forest.old.classes }
     ensures threads { forest.new.threads ≡ forest.old.threads }
     ensures memory { OnErr result (activity.old.depth ≡ 0) }
@@ -210,16 +223,12 @@ fn enter(
     requires locks { All (LockOfClass forest.old.classes) locks.now }
     requires classes { AreOfClasses forest.old.classes heap.now }
     requires room { activity.old.top.pc + 1 < 2 ^ 16 }
-    ensures fate {
-        IfOk result (λ fate. fate ≡ acquire_fate 0
-            (can_grant forest.old.holding forest.old.threads t (request_of heap.now activity.old.top.regs locks.now)))
-    }
+    ensures fate { IfOk result (λ fate. fate ≡ acquire_fate 0
+        (can_grant forest.old.holding forest.old.threads t (request_of heap.now activity.old.top.regs locks.now))) }
     ensures activity { IfOk result (λ fate. activity.new ≡ activity_moved fate 1 activity.old) }
-    ensures holding {
-        IfOk result (λ _. let request = request_of heap.now activity.old.top.regs locks.now in
-            forest.new.holding ≡ holding_acquired 0
-                (can_grant forest.old.holding forest.old.threads t request) t request forest.old.holding)
-    }
+    ensures holding { IfOk result (λ _. let request = request_of heap.now activity.old.top.regs locks.now in
+        forest.new.holding ≡ holding_acquired 0
+        (can_grant forest.old.holding forest.old.threads t request) t request forest.old.holding) }
     ensures classes { forest.new.classes ≡ forest.old.classes }
     ensures threads { forest.new.threads ≡ forest.old.threads }
     ensures err { OnErr result (activity.new ≡ activity.old) }
@@ -235,7 +244,12 @@ fn enter(
 }
 
 /// Asks the forest for the request: whether it was granted.
-fn ask(alloc: Global, forest: &mut Forest, t: u32, request: &[(Node, Mode)]) -> Result<bool, AllocError>
+fn ask(
+    alloc: Global,
+    forest: &mut Forest,
+    t: u32,
+    request: &[(Node, Mode)],
+) -> Result<bool, AllocError>
     requires thread { t < forest.old.threads }
     requires nothing { HoldsNothing forest.old.holding t }
     requires distinct { IsTrue (names_once request.now) }
@@ -243,9 +257,7 @@ fn ask(alloc: Global, forest: &mut Forest, t: u32, request: &[(Node, Mode)]) -> 
     requires parents { IsTrue (asks_parents request.now) }
     requires classes { IsOfClasses forest.old.classes request.now }
     ensures granted { IfOk result (λ all. all ≡ can_grant forest.old.holding forest.old.threads t request.now) }
-    ensures holding {
-        IfOk result (λ all. forest.new.holding ≡ (if all then grant forest.old.holding t request.now else forest.old.holding))
-    }
+    ensures holding { IfOk result (λ all. forest.new.holding ≡ (if all then grant forest.old.holding t request.now else forest.old.holding)) }
     ensures classes { forest.new.classes ≡ forest.old.classes }
     ensures threads { forest.new.threads ≡ forest.old.threads }
     ensures err { OnErr result (forest.new ≡ forest.old) }

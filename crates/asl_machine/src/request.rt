@@ -11,7 +11,12 @@ use asl_mode_lanes::{Mode, join};
 use std::alloc::{AllocError, Global};
 
 /// The request of the locks in these registers and this heap: at each node the join of what the locks ask there.
-pub fn request(alloc: Global, locks: &[Lock], regs: &[Value], heap: &Heap) -> Result<Vec<(Node, Mode)>, AllocError>
+pub fn request(
+    alloc: Global,
+    locks: &[Lock],
+    regs: &[Value],
+    heap: &Heap,
+) -> Result<Vec<(Node, Mode)>, AllocError>
     ensures { IfOk result (λ request. request.items ≡ request_of heap.now regs.now locks.now) }
 {
     let mut request = Vec::new(alloc);
@@ -22,7 +27,12 @@ pub fn request(alloc: Global, locks: &[Lock], regs: &[Value], heap: &Heap) -> Re
 }
 
 /// Adds what the lock asks.
-fn add_lock(request: &mut Vec<(Node, Mode)>, lock: &Lock, regs: &[Value], heap: &Heap) -> Result<(), AllocError>
+fn add_lock(
+    request: &mut Vec<(Node, Mode)>,
+    lock: &Lock,
+    regs: &[Value],
+    heap: &Heap,
+) -> Result<(), AllocError>
     ensures { OnOk result (request.new.items ≡ joined_all request.old.items (asks_of heap.now regs.now lock.now)) }
 {
     match lock {
@@ -36,7 +46,12 @@ fn add_lock(request: &mut Vec<(Node, Mode)>, lock: &Lock, regs: &[Value], heap: 
 }
 
 /// Adds what a lock on the cell that an expression denotes asks.
-fn add_cell(request: &mut Vec<(Node, Mode)>, cell: Option<Cell>, effect: Effect, heap: &Heap) -> Result<(), AllocError>
+fn add_cell(
+    request: &mut Vec<(Node, Mode)>,
+    cell: Option<Cell>,
+    effect: Effect,
+    heap: &Heap,
+) -> Result<(), AllocError>
     ensures { OnOk result (request.new.items ≡ joined_all request.old.items (cell_asks heap.now effect cell)) }
 {
     match cell {
@@ -49,7 +64,12 @@ fn add_cell(request: &mut Vec<(Node, Mode)>, cell: Option<Cell>, effect: Effect,
 }
 
 /// Adds what a lock on a cell of an object of the class asks.
-fn add_leaf(request: &mut Vec<(Node, Mode)>, cell: Cell, effect: Effect, class: u16) -> Result<(), AllocError>
+fn add_leaf(
+    request: &mut Vec<(Node, Mode)>,
+    cell: Cell,
+    effect: Effect,
+    class: u16,
+) -> Result<(), AllocError>
     ensures { OnOk result (request.new.items ≡ joined_all request.old.items (leaf_asks cell effect class)) }
 {
     add(request, Node::Root, upper(effect))?;

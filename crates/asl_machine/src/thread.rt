@@ -33,7 +33,33 @@ impl Model for Thread {
 }
 
 impl Thread {
+    ghost use Rattle.std.specs.Prelude.{option_copied};
+    ghost use Rattle.asl_code.specs.Fits.{FitsImage};
+    ghost use Rattle.asl_machine.specs.State.{activity_of};
+    ghost use Rattle.asl_machine.specs.Run.{first_thread};
     ghost use Rattle.asl_machine.specs.View.{status_of};
+
+    /// Thread t at its start.
+    pub fn first(alloc: Global, program: &Program, t: u32) -> Result<Thread, AllocError>
+        requires fits { FitsImage program.now }
+        requires small { t < 64 }
+        ensures { IfOk result (λ thread. thread ≡ first_thread program.now t) }
+    {
+        Ok(Thread {
+            status: Status::Running,
+            activity: Activity::first(alloc, program, t)?,
+        })
+    }
+
+    /// What the thread is at, if it runs.
+    pub fn activity(&self) -> Option<&Activity>
+        ensures { option_copied result ≡ activity_of self.now }
+    {
+        match self.status {
+            Status::Running => Some(&self.activity),
+            Status::Done(_) | Status::Failed(_) => None,
+        }
+    }
 
     /// Whether the thread runs, and else how it ended.
     pub fn status(&self) -> Status

@@ -20,7 +20,14 @@ pub fn sum(left: Value, right: Value) -> Result<Value, Fault>
 }
 
 /// The cell that the value is the address of, where thread t, in so many sections, may access it so.
-pub fn access(heap: &Heap, forest: &Forest, t: u32, depth: u8, effect: Effect, value: Value) -> Result<Cell, Fault>
+pub fn access(
+    heap: &Heap,
+    forest: &Forest,
+    t: u32,
+    depth: u8,
+    effect: Effect,
+    value: Value,
+) -> Result<Cell, Fault>
     requires thread { t < forest.now.threads }
     requires classes { AreOfClasses forest.now.classes heap.now }
     requires points { Points heap.now value }
@@ -28,14 +35,28 @@ pub fn access(heap: &Heap, forest: &Forest, t: u32, depth: u8, effect: Effect, v
     ensures there { IfOk result (λ cell. IsSome (cell_at heap.now cell)) }
 {
     match value {
-        Value::Addr(object, offset) => allow(heap, forest, t, depth, effect, Cell { object, offset }),
+        Value::Addr(object, offset) => allow(
+            heap,
+            forest,
+            t,
+            depth,
+            effect,
+            Cell { object, offset },
+        ),
         Value::Null => Err(Fault::Null),
         Value::Int(_) => Err(Fault::BadType),
     }
 }
 
 /// The cell, where the access is allowed.
-fn allow(heap: &Heap, forest: &Forest, t: u32, depth: u8, effect: Effect, cell: Cell) -> Result<Cell, Fault>
+fn allow(
+    heap: &Heap,
+    forest: &Forest,
+    t: u32,
+    depth: u8,
+    effect: Effect,
+    cell: Cell,
+) -> Result<Cell, Fault>
     requires thread { t < forest.now.threads }
     requires classes { AreOfClasses forest.now.classes heap.now }
     ensures { result ≡ allowed_cell (is_protected forest.now.holding heap.now t depth effect cell) effect cell }

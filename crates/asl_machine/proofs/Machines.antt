@@ -1,0 +1,71 @@
+-- What every machine keeps, at its start and over a step.
+use Rattle.std.proofs.Common.{◌≡◌, ℕ, ◌<◌, ◌≤◌, List, Option, Some, length, set, slice_get, map, refl, ap, sym, ◌∙◌, subst, arith, length-set}
+use Rattle.asl_code.specs.declared.image.Image.{Image}
+use Rattle.asl_code.specs.Fits.{FitsImage}
+use Rattle.asl_lock_forest.specs.Holding.{Holding, no_holding}
+use Rattle.asl_lock_forest.specs.Held.{Held}
+use Rattle.asl_machine.specs.State.{Object, Thread, State}
+use Rattle.asl_machine.specs.Run.{global_object, first_threads, start_of}
+use Rattle.asl_machine.specs.Step.{after}
+use Rattle.asl_machine.specs.Twin.{turn_of, step_of, step_at}
+use Rattle.asl_machine.specs.Sound.{IsSound, IsMachine}
+use Rattle.asl_machine.proofs.Soundness.{start_sound, turn_follows, length-first_threads}
+
+-- the state that these parts make up
+abbrev pub state_of : List Object → Holding → List Thread → State
+state_of objects holding threads = record { objects = objects; holding = holding; threads = threads }
+
+same_state : (a b : List Object) (h k : Holding) (ts us : List Thread) → a ≡ b → h ≡ k → ts ≡ us → state_of a h ts ≡ state_of b k us
+same_state a b h k ts us p q r = λ i. state_of (p i) (q i) (r i)
+
+-- the start keeps it
+pub start_machine : (image : Image) (objects : List Object) (forest : Held) (threads : List Thread) (n : ℕ) → FitsImage image → n ≤ 64 →
+    objects ≡ map global_object image.globals → forest.classes ≡ image.classes → forest.threads ≡ n → forest.holding ≡ no_holding → threads ≡ first_threads image n →
+    IsMachine image objects forest threads
+start_machine image objects forest threads n fits few os classes counted holding ts =
+    let l : length threads ≡ n = ap length ts ∙ length-first_threads image n in
+    record {
+      sound = subst (IsSound image) (sym (same_state _ _ _ _ _ _ os holding ts)) (start_sound image n fits);
+      classes = classes;
+      counted = counted ∙ sym l;
+      few_threads = omega arith;
+    }
+
+pub start_state : (image : Image) (objects : List Object) (holding : Holding) (threads : List Thread) (n : ℕ) →
+    objects ≡ map global_object image.globals → holding ≡ no_holding → threads ≡ first_threads image n → state_of objects holding threads ≡ start_of image n
+start_state image objects holding threads n os h ts = same_state _ _ _ _ _ _ os h ts
+
+-- what a thread's step answers and leaves, over these parts
+module _ (image : Image) (objects new_objects : List Object) (forest new_forest : Held) (threads : List Thread) (t : ℕ) (thread new_thread : Thread)
+    (m : IsMachine image objects forest threads) (at : slice_get threads t ≡ Some thread)
+    (own : new_thread ≡ (turn_of image forest.threads t thread objects forest.holding).thread)
+    (os : new_objects ≡ (turn_of image forest.threads t thread objects forest.holding).objects)
+    (holding : new_forest.holding ≡ (turn_of image forest.threads t thread objects forest.holding).holding) where
+  turn_state : (n : ℕ) → forest.threads ≡ n → state_of new_objects new_forest.holding (set threads t new_thread)
+      ≡ (let turn = turn_of image n t thread objects forest.holding in after (state_of objects forest.holding threads) t turn.thread turn.objects turn.holding)
+  turn_state n e =
+      same_state _ _ _ _ _ _
+      (os ∙ ap (λ k. (turn_of image k t thread objects forest.holding).objects) e)
+      (holding ∙ ap (λ k. (turn_of image k t thread objects forest.holding).holding) e)
+      (ap (set threads t) (own ∙ ap (λ k. (turn_of image k t thread objects forest.holding).thread) e))
+
+  -- the step keeps what a machine keeps
+  pub step_machine : new_forest.classes ≡ forest.classes → new_forest.threads ≡ forest.threads → IsMachine image new_objects new_forest (set threads t new_thread)
+  step_machine classes counted =
+      record {
+        sound = subst (IsSound image) (sym (turn_state (length threads) m.counted)) (turn_follows image (state_of objects forest.holding threads) t thread m.sound at);
+        classes = classes ∙ m.classes;
+        counted = counted ∙ m.counted ∙ sym (length-set threads t new_thread);
+        few_threads = let l = length-set threads t new_thread in let k = m.few_threads in omega arith;
+      }
+
+  -- the state after it is the twin's
+  pub step_state : state_of new_objects new_forest.holding (set threads t new_thread) ≡ (step_of image (state_of objects forest.holding threads) t).state
+  step_state =
+      turn_state (length threads) m.counted ∙ sym (ap (λ o. (step_at image (state_of objects forest.holding threads) t o).state) at)
+
+-- the reply is the twin's
+pub step_reply : (image : Image) (objects : List Object) (forest : Held) (threads : List Thread) (t : ℕ) (thread : Thread) → IsMachine image objects forest threads → slice_get threads t ≡ Some thread →
+    (turn_of image forest.threads t thread objects forest.holding).reply ≡ (step_of image (state_of objects forest.holding threads) t).reply
+step_reply image objects forest threads t thread m at =
+    ap (λ k. (turn_of image k t thread objects forest.holding).reply) m.counted ∙ sym (ap (λ o. (step_at image (state_of objects forest.holding threads) t o).reply) at)

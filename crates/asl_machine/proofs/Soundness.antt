@@ -1,0 +1,501 @@
+-- Each step keeps what holds of every reached state: one lemma for the parts that a step may change, and one a group
+-- of instructions.
+use Rattle.std.proofs.Common.{◌≡◌, ◌≢◌, ℕ, ◌+◌, ◌-◌, ◌<◌, ◌≤◌, ◌⊎◌, ◌==◌, ◌++◌, ◌^◌, zero, suc, pos, replicate, map, length-append, Bool, true, false, cond, List, [], ◌∷◌, Option, Some, None, Result, Ok, Err, IfOk, IsTrue, length, set, slice_get, refl, ap, sym, ◌∙◌, subst, inl, inr, arith, length-set, eqb-true, eq-eqb, All}
+use Rattle.std.specs.Prelude.{IsSome, IsSomeAnd, option_map, option_and_then, unwrap_or}
+use Rattle.std.specs.Option.{option_map_or}
+use Rattle.std.proofs.lemmas.Bool.Decides.{eqb_tells}
+use Rattle.std.proofs.lemmas.Option.{slice_get_cases, slice_get_within, same_Some}
+use Rattle.std.proofs.lemmas.List.{length-replicate, length-map}
+use Rattle.asl_code.specs.declared.image.Image.{Image}
+use Rattle.asl_code.specs.declared.image.Function.{Function}
+use Rattle.asl_code.specs.declared.instr.Instr.{Instr}
+use Rattle.asl_code.specs.declared.instr.Instr.TheVariants as instr
+use Rattle.asl_code.specs.declared.lock.Lock.{Lock}
+use Rattle.asl_code.specs.declared.lock.Lock.TheVariants as lock
+use Rattle.asl_code.specs.declared.value.Value.{Value}
+use Rattle.asl_code.specs.declared.value.Value.TheVariants.{Int, Null, Addr}
+use Rattle.asl_code.specs.declared.value.Cell.{Cell}
+use Rattle.asl_code.specs.declared.value.Effect.{Effect}
+use Rattle.asl_code.specs.declared.value.Effect.TheVariants.{Read, Write}
+use Rattle.asl_code.specs.Fits.{FitsImage, FitsInstr, FitsLock, LiesIn}
+use Rattle.asl_code.specs.Verified.{is_end, is_taken}
+use Rattle.asl_code.proofs.FitsLaws.{lies_within}
+use Rattle.std.specs.FinMap as finite
+use Rattle.asl_mode_lanes.specs.declared.mode.Mode.{Mode}
+use Rattle.asl_lock_forest.specs.Keys.{key, key_cmp}
+use Rattle.asl_lock_forest.specs.Held.{Held}
+use Rattle.asl_lock_forest.specs.Holding.{Holding, Request, HoldsNothing, grant, release, IsLawful, IsWithin}
+use Rattle.asl_lock_forest.proofs.Laws.{nothing_released, nothing_kept_release, nothing_kept_grant}
+use Rattle.asl_lock_forest.proofs.Lawful.{lawful_empty, within_empty, lawful_grant, lawful_release, within_grant, within_release}
+use Rattle.asl_machine.specs.declared.fate.Fate.{Fate}
+use Rattle.asl_machine.specs.declared.fate.Fate.TheVariants as fate
+use Rattle.asl_machine.specs.declared.fault.Fault.{Fault}
+use Rattle.asl_machine.specs.declared.fault.Fault.TheVariants as fault
+use Rattle.asl_machine.specs.State.{Object, Frame, Activity, Thread, Running, Done, Failed, State, cell_at, class_of, written, activity_of, activity_at, depth_at}
+use Rattle.asl_machine.specs.Expression.{cell_of}
+use Rattle.asl_machine.specs.Access.{Points, AllPoint, AreOfClasses, IsReady, CanDo, is_protected}
+use Rattle.asl_machine.specs.Request.{LockOfClass, locks_of, request_of}
+use Rattle.asl_machine.specs.Step.{advanced, advanced_with, going_on, after}
+use Rattle.asl_machine.specs.Twin.{Left, Place, Turn, fate_of, set_left, sum_of, loaded, accessed, accessed_by, store_left, left_alone, return_fate, acquire_fate, activity_moved, holding_acquired, acquire_left, release_fate, holding_released, release_left, request_at, left_by, left_at, turn_by, turn_of, step_at, step_of, register_of, can_grant}
+use Rattle.asl_machine.specs.Sound.{IsPlaced, AreSound, IsSound, IsMachine, ThreadReady}
+use Rattle.asl_machine.specs.Run.{global_object, first_frame, first_thread, first_threads, start_of}
+use Rattle.asl_machine.proofs.Lists.{get_same, get_other, get_either, set_same}
+use Rattle.asl_machine.proofs.Heaps.{sound_written, points_kept}
+use Rattle.asl_machine.proofs.Grants.{grant_when_free}
+use Rattle.asl_machine.proofs.RequestLaws.{request_is_rooted, request_asks_modes, request_is_of_classes}
+
+-- how many sections a thread is in
+abbrev pub depth_in : Thread → ℕ
+depth_in thread = option_map_or (λ (a : Activity). a.depth) (activity_of thread) 0
+
+-- a thread, objects and a holding that may stand in place of a state's
+pub record MayFollow (image : Image) (s : State) (t : ℕ) (thread : Thread) (objects : List Object) (holding : Holding) : Type 0 where
+  pub sound : AreSound image objects
+  pub grows : (v : Value) → Points s.objects v → Points objects v
+  pub own : (a : Activity) → activity_of thread ≡ Some a → IsPlaced image objects a
+  pub own_outside : depth_in thread ≡ 0 → HoldsNothing holding t
+  pub others : (u : ℕ) → u ≢ t → HoldsNothing s.holding u → HoldsNothing holding u
+  pub lawful : IsLawful holding
+  pub within : IsWithin image.classes (length s.threads) holding
+
+grown : (image : Image) (objects more : List Object) (a : Activity) → ((v : Value) → Points objects v → Points more v) → IsPlaced image objects a → IsPlaced image more a
+grown image objects more a g p =
+    record { function = p.function; lies = p.lies; registers = p.registers; points = λ r v e. g v (p.points r v e); depth = p.depth; alone = p.alone }
+
+-- the state in which they stand so is sound
+pub sound_after : (image : Image) (s : State) (t : ℕ) (thread : Thread) (objects : List Object) (holding : Holding) → IsSound image s → t < length s.threads →
+    MayFollow image s t thread objects holding → IsSound image (after s t thread objects holding)
+sound_after image s t thread objects holding sound lt m = record {
+  fits = sound.fits;
+  objects = m.sound;
+  placed = λ u a e. elim (eqb_tells u t) [
+    | inl same ↦
+        let here : slice_get (set s.threads t thread) u ≡ Some thread = ap (slice_get (set s.threads t thread)) same.1 ∙ get_same s.threads t thread lt in
+        m.own a (sym (ap (option_and_then activity_of) here) ∙ e)
+    | inr other ↦
+        grown image s.objects objects a m.grows
+        (sound.placed u a (sym (ap (option_and_then activity_of) (get_other s.threads t u thread other.1)) ∙ e))
+  ];
+  outside = λ u e. elim (eqb_tells u t) [
+    | inl same ↦
+        let here : slice_get (set s.threads t thread) u ≡ Some thread = ap (slice_get (set s.threads t thread)) same.1 ∙ get_same s.threads t thread lt in
+        let depth : depth_in thread ≡ 0 = sym (ap (λ o. option_map_or (λ (a : Activity). a.depth) (option_and_then activity_of o) 0) here) ∙ e in
+        subst (HoldsNothing holding) (sym same.1) (m.own_outside depth)
+    | inr other ↦
+        m.others u other.1
+        (sound.outside u (sym (ap (λ o. option_map_or (λ (a : Activity). a.depth) (option_and_then activity_of o) 0) (get_other s.threads t u thread other.1)) ∙ e))
+  ];
+  lawful = m.lawful;
+  within = subst (λ n. IsWithin image.classes n holding) (sym (length-set s.threads t thread)) m.within;
+}
+
+-- what a running thread of a sound state is, where it is at an instruction that it goes on from
+record Here (image : Image) (s : State) (t : ℕ) (a : Activity) : Type 0 where
+  sound : IsSound image s
+  there : t < length s.threads
+  is : activity_at s.threads t ≡ Some a
+  placed : IsPlaced image s.objects a
+
+depth_here : (image : Image) (s : State) (t : ℕ) (a : Activity) → Here image s t a → depth_at s.threads t ≡ a.depth
+depth_here image s t a h = ap (λ o. option_map_or (λ (b : Activity). b.depth) o 0) h.is
+
+outside_here : (image : Image) (s : State) (t : ℕ) (a : Activity) → Here image s t a → a.depth ≡ 0 → HoldsNothing s.holding t
+outside_here image s t a h e = h.sound.outside t (depth_here image s t a h ∙ e)
+
+-- a thread that fails
+follows_fail : (image : Image) (s : State) (t : ℕ) (a : Activity) (f : Fault) → Here image s t a → MayFollow image s t (Failed f) s.objects (release s.holding t)
+follows_fail image s t a f h = record {
+  sound = h.sound.objects;
+  grows = λ v p. p;
+  own = λ b e. cc;
+  own_outside = λ e. nothing_released s.holding t;
+  others = λ u ne p. nothing_kept_release s.holding t u p;
+  lawful = lawful_release s.holding t h.sound.lawful;
+  within = within_release image.classes (length s.threads) s.holding t h.sound.within;
+}
+
+-- a thread that ends outside all sections
+follows_end : (image : Image) (s : State) (t : ℕ) (a : Activity) (v : Value) → Here image s t a → a.depth ≡ 0 → MayFollow image s t (Done v) s.objects s.holding
+follows_end image s t a v h z = record {
+  sound = h.sound.objects;
+  grows = λ w p. p;
+  own = λ b e. cc;
+  own_outside = λ e. outside_here image s t a h z;
+  others = λ u ne p. p;
+  lawful = h.sound.lawful;
+  within = h.sound.within;
+}
+
+-- a thread that goes on in sound objects, with its holding as it was
+follows_goes : (image : Image) (s : State) (t : ℕ) (a b : Activity) (objects : List Object) → Here image s t a → AreSound image objects →
+    ((v : Value) → Points s.objects v → Points objects v) → IsPlaced image objects b → (b.depth ≡ 0 → a.depth ≡ 0) →
+    MayFollow image s t (Running b) objects s.holding
+follows_goes image s t a b objects h sound grows placed shallow = record {
+  sound = sound;
+  grows = grows;
+  own = λ c e. let is : b ≡ c = cc in subst (IsPlaced image objects) is placed;
+  own_outside = λ e. outside_here image s t a h (shallow e);
+  others = λ u ne p. p;
+  lawful = h.sound.lawful;
+  within = h.sound.within;
+}
+
+-- a thread that has been granted a request, and is in a section
+follows_grant : (image : Image) (s : State) (t : ℕ) (a b : Activity) (request : Request) → Here image s t a → IsPlaced image s.objects b → b.depth ≢ 0 →
+    IsLawful (grant s.holding t request) → IsWithin image.classes (length s.threads) (grant s.holding t request) →
+    MayFollow image s t (Running b) s.objects (grant s.holding t request)
+follows_grant image s t a b request h placed inside lawful within = record {
+  sound = h.sound.objects;
+  grows = λ v p. p;
+  own = λ c e. let is : b ≡ c = cc in subst (IsPlaced image s.objects) is placed;
+  own_outside = λ e. absurd (inside e);
+  others = λ u ne p. nothing_kept_grant s.holding t request u ne p;
+  lawful = lawful;
+  within = within;
+}
+
+-- a thread that has given all back
+follows_release : (image : Image) (s : State) (t : ℕ) (a b : Activity) → Here image s t a → IsPlaced image s.objects b → MayFollow image s t (Running b) s.objects (release s.holding t)
+follows_release image s t a b h placed = record {
+  sound = h.sound.objects;
+  grows = λ v p. p;
+  own = λ c e. let is : b ≡ c = cc in subst (IsPlaced image s.objects) is placed;
+  own_outside = λ e. nothing_released s.holding t;
+  others = λ u ne p. nothing_kept_release s.holding t u p;
+  lawful = lawful_release s.holding t h.sound.lawful;
+  within = within_release image.classes (length s.threads) s.holding t h.sound.within;
+}
+
+-- ---- where a thread is after an instruction from which it goes on
+
+next_place : (image : Image) (objects : List Object) (a : Activity) (p : IsPlaced image objects a) (i : Instr) → FitsImage image → slice_get image.code a.top.pc ≡ Some i → is_end i ≡ false →
+    LiesIn image a.top.function (a.top.pc + 1) p.function
+next_place image objects a p i fits at goes = fits.goes_on a.top.function a.top.pc p.function i p.lies at goes
+
+placed_advanced : (image : Image) (objects : List Object) (a : Activity) (depth : ℕ) (p : IsPlaced image objects a) → LiesIn image a.top.function (a.top.pc + 1) p.function → depth ≤ 255 →
+    IsPlaced image objects (going_on a depth (advanced a.top))
+placed_advanced image objects a depth p lies small =
+    record { function = p.function; lies = lies; registers = p.registers; points = p.points; depth = small; alone = p.alone }
+
+placed_with : (image : Image) (objects : List Object) (a : Activity) (to : ℕ) (v : Value) (p : IsPlaced image objects a) → LiesIn image a.top.function (a.top.pc + 1) p.function → Points objects v →
+    IsPlaced image objects (going_on a a.depth (advanced_with to v a.top))
+placed_with image objects a to v p lies points =
+    record {
+      function = p.function;
+      lies = lies;
+      registers = length-set a.top.regs to v ∙ p.registers;
+      points = λ r w e. elim (get_either a.top.regs to r v w e) [ inl is ↦ subst (Points objects) (sym is) points | inr old ↦ p.points r w old ];
+      depth = p.depth;
+      alone = p.alone;
+    }
+
+-- ---- the groups of instructions
+
+-- the thread's place in the state
+abbrev here_place : State → ℕ → Activity → Place
+here_place s t a = record { thread = t; activity = a; objects = s.objects; holding = s.holding }
+
+-- what an instruction leaves may follow
+abbrev Follows : Image → State → ℕ → Left → Type 0
+Follows image s t l = MayFollow image s t (turn_by t l).thread (turn_by t l).objects (turn_by t l).holding
+
+follows_set : (image : Image) (s : State) (t : ℕ) (a : Activity) (h : Here image s t a) → LiesIn image a.top.function (a.top.pc + 1) h.placed.function → (to : ℕ) (value : Result Value Fault) →
+    IfOk value (Points s.objects) → Follows image s t (set_left (here_place s t a) to value)
+follows_set image s t a h lies to (Ok v) p =
+    follows_goes image s t a _ s.objects h h.sound.objects (λ w q. q) (placed_with image s.objects a to v h.placed lies p) (λ e. e)
+follows_set image s t a h lies to (Err f) p = follows_fail image s t a f h
+
+sum_points : (objects : List Object) (x y : Value) → IfOk (sum_of x y) (Points objects)
+sum_points objects (Int x) (Int y) = tt
+sum_points objects (Int x) Null = tt
+sum_points objects (Int x) (Addr o i) = tt
+sum_points objects Null y = tt
+sum_points objects (Addr o i) y = tt
+
+found_points : (objects : List Object) (o : Option Value) → ((v : Value) → o ≡ Some v → Points objects v) → Points objects (unwrap_or o Null)
+found_points objects None h = tt
+found_points objects (Some v) h = h v refl
+
+loaded_points : (image : Image) (objects : List Object) (target : Result Cell Fault) → AreSound image objects → IfOk (loaded objects target) (Points objects)
+loaded_points image objects (Ok cell) sound = found_points objects (cell_at objects cell) (λ v e. sound.points cell v e)
+loaded_points image objects (Err f) sound = tt
+
+follows_store : (image : Image) (s : State) (t : ℕ) (a : Activity) (h : Here image s t a) → LiesIn image a.top.function (a.top.pc + 1) h.placed.function → (value : Value) (target : Result Cell Fault) →
+    Points s.objects value → Follows image s t (store_left (here_place s t a) value target)
+follows_store image s t a h lies value (Ok cell) p =
+    let more = written s.objects cell value in
+    let grows : (v : Value) → Points s.objects v → Points more v = points_kept s.objects cell value in
+    follows_goes image s t a _ more h (sound_written image s.objects cell value h.sound.objects p) grows
+    (grown image s.objects more _ grows (placed_advanced image s.objects a a.depth h.placed lies h.placed.depth)) (λ e. e)
+follows_store image s t a h lies value (Err f) p = follows_fail image s t a f h
+
+follows_return : (image : Image) (s : State) (t : ℕ) (a : Activity) (h : Here image s t a) (value : Value) → Follows image s t (left_alone (here_place s t a) (return_fate a.depth value))
+follows_return image s t a h value =
+    elim (a.depth == 0) as (λ b. (a.depth == 0) ≡ b → Follows image s t (left_alone (here_place s t a) (cond b (fate.Ends value) (fate.Fails fault.Open)))) [
+      | true ↦ λ e. follows_end image s t a value h (eqb-true _ _ e)
+      | false ↦ λ e. follows_fail image s t a fault.Open h
+    ] refl
+
+follows_leave : (image : Image) (s : State) (t : ℕ) (a : Activity) (h : Here image s t a) → LiesIn image a.top.function (a.top.pc + 1) h.placed.function → Follows image s t (release_left (here_place s t a))
+follows_leave image s t a h lies =
+    let inner : (z m : Bool) → ((a.depth == 0) ≡ z) → ((a.depth == 1) ≡ m) →
+    (let f = cond z (fate.Fails fault.NoSection) fate.GoesOn in
+    Follows image s t (record { fate = f; activity = activity_moved f (a.depth - 1) a; objects = s.objects; holding = cond m (release s.holding t) s.holding })) =
+    by image s t a h lies in
+    inner (a.depth == 0) (a.depth == 1) refl refl
+  where
+    by : (image : Image) (s : State) (t : ℕ) (a : Activity) (h : Here image s t a) → LiesIn image a.top.function (a.top.pc + 1) h.placed.function →
+        (z m : Bool) → ((a.depth == 0) ≡ z) → ((a.depth == 1) ≡ m) →
+        (let f = cond z (fate.Fails fault.NoSection) fate.GoesOn in
+        Follows image s t (record { fate = f; activity = activity_moved f (a.depth - 1) a; objects = s.objects; holding = cond m (release s.holding t) s.holding }))
+    by image s t a h lies true true e k =
+        let none : a.depth ≡ 0 = eqb-true _ _ e in let one : a.depth ≡ 1 = eqb-true _ _ k in absurd (omega arith)
+    by image s t a h lies true false e k = follows_fail image s t a fault.NoSection h
+    by image s t a h lies false true e k =
+        let small : a.depth ≤ 255 = h.placed.depth in
+        follows_release image s t a _ h (placed_advanced image s.objects a (a.depth - 1) h.placed lies (omega arith))
+    by image s t a h lies false false e k =
+        let small : a.depth ≤ 255 = h.placed.depth in
+        let not_zero : a.depth ≢ 0 = λ z. let f = eq-eqb a.depth 0 z in cc in
+        let not_one : a.depth ≢ 1 = λ z. let f = eq-eqb a.depth 1 z in cc in
+        follows_goes image s t a _ s.objects h h.sound.objects (λ v p. p) (placed_advanced image s.objects a (a.depth - 1) h.placed lies (omega arith)) (λ z. absurd (omega arith))
+
+follows_enter : (image : Image) (s : State) (t : ℕ) (a : Activity) (h : Here image s t a) → LiesIn image a.top.function (a.top.pc + 1) h.placed.function → (locks : List Lock) → All (LockOfClass image.classes) locks →
+    let request = request_of s.objects a.top.regs locks in
+    Follows image s t (acquire_left (here_place s t a) (can_grant s.holding (length s.threads) t request) request)
+follows_enter image s t a h lies locks fit =
+    let request = request_of s.objects a.top.regs locks in
+    let laws : a.depth ≡ 0 → can_grant s.holding (length s.threads) t request ≡ true → IsLawful (grant s.holding t request) × IsWithin image.classes (length s.threads) (grant s.holding t request) =
+    λ none free. (
+      lawful_grant s.holding t request h.sound.lawful (outside_here image s t a h none) (request_asks_modes s.objects a.top.regs locks) (request_is_rooted s.objects a.top.regs locks)
+          (grant_when_free image.classes (length s.threads) s.holding t request h.sound.within free),
+      within_grant image.classes (length s.threads) s.holding t request h.sound.within h.there (request_is_of_classes image.classes s.objects a.top.regs locks fit h.sound.objects.classes),
+    ) in
+    by image s t a h lies request laws (a.depth == 0) (a.depth == 255) (can_grant s.holding (length s.threads) t request) refl refl refl
+  where
+    by : (image : Image) (s : State) (t : ℕ) (a : Activity) (h : Here image s t a) → LiesIn image a.top.function (a.top.pc + 1) h.placed.function → (request : Request) →
+        (a.depth ≡ 0 → can_grant s.holding (length s.threads) t request ≡ true → IsLawful (grant s.holding t request) × IsWithin image.classes (length s.threads) (grant s.holding t request)) →
+        (z m free : Bool) → ((a.depth == 0) ≡ z) → ((a.depth == 255) ≡ m) → (can_grant s.holding (length s.threads) t request ≡ free) →
+        (let f = cond z (cond free fate.GoesOn fate.Waits) (cond m (fate.Fails fault.Deep) fate.GoesOn) in
+        Follows image s t (record { fate = f; activity = activity_moved f (a.depth + 1) a; objects = s.objects; holding = cond z (cond free (grant s.holding t request) s.holding) s.holding }))
+    by image s t a h lies request laws true m true e k g =
+        let none : a.depth ≡ 0 = eqb-true _ _ e in
+        let both = laws none g in
+        follows_grant image s t a _ request h (placed_advanced image s.objects a (a.depth + 1) h.placed lies (omega arith)) (λ z. absurd (omega arith)) both.0 both.1
+    by image s t a h lies request laws true m false e k g = follows_goes image s t a a s.objects h h.sound.objects (λ v p. p) h.placed (λ z. z)
+    by image s t a h lies request laws false true free e k g = follows_fail image s t a fault.Deep h
+    by image s t a h lies request laws false false free e k g =
+        let small : a.depth ≤ 255 = h.placed.depth in
+        let not_most : a.depth ≢ 255 = λ z. let f = eq-eqb a.depth 255 z in cc in
+        follows_goes image s t a _ s.objects h h.sound.objects (λ v p. p) (placed_advanced image s.objects a (a.depth + 1) h.placed lies (omega arith)) (λ z. absurd (omega arith))
+
+-- ---- all instructions
+
+lock_class : (image : Image) (f : Function) (l : Lock) → FitsLock image f l → LockOfClass image.classes l
+lock_class image f (lock.Root effect) h = tt
+lock_class image f (lock.Class class effect) h = h
+lock_class image f (lock.Expr expr effect) h = tt
+
+pub locks_fit : (image : Image) (f : Function) (list : ℕ) (locks : List Lock) → slice_get image.lists list ≡ Some locks → All (FitsLock image f) locks → All (LockOfClass image.classes) (locks_of image list)
+locks_fit image f list locks e fit =
+    subst (All (LockOfClass image.classes)) (sym (ap (λ o. unwrap_or o []) e)) (λ k d lt. lock_class image f _ (fit k d lt))
+
+register_points : (objects : List Object) (a : Activity) (r : ℕ) → AllPoint objects a.top.regs → Points objects (register_of a.top r)
+register_points objects a r p = found_points objects (slice_get a.top.regs r) (λ v e. p r v e)
+
+-- what the instruction that a thread is at leaves may follow
+follows_instr : (image : Image) (s : State) (t : ℕ) (a : Activity) (h : Here image s t a) (i : Instr) → slice_get image.code a.top.pc ≡ Some i →
+    FitsInstr image a.top.function h.placed.function i → IsTrue (is_taken i) → Follows image s t (left_by image (length s.threads) (here_place s t a) i)
+follows_instr image s t a h (instr.SetInt to number) at fits taken =
+    follows_set image s t a h (next_place image s.objects a h.placed _ h.sound.fits at refl) to (Ok (Int number)) tt
+follows_instr image s t a h (instr.Add to left right) at fits taken =
+    follows_set image s t a h (next_place image s.objects a h.placed _ h.sound.fits at refl) to (sum_of (register_of a.top left) (register_of a.top right))
+    (sum_points s.objects (register_of a.top left) (register_of a.top right))
+follows_instr image s t a h (instr.GlobalAddress to global) at fits taken =
+    follows_set image s t a h (next_place image s.objects a h.placed _ h.sound.fits at refl) to (Ok (Addr global 0)) (h.sound.objects.globals global fits.1)
+follows_instr image s t a h (instr.Load to address) at fits taken =
+    let target = accessed_by (here_place s t a) Read address in
+    follows_set image s t a h (next_place image s.objects a h.placed _ h.sound.fits at refl) to (loaded s.objects target) (loaded_points image s.objects target h.sound.objects)
+follows_instr image s t a h (instr.Store address from) at fits taken =
+    follows_store image s t a h (next_place image s.objects a h.placed _ h.sound.fits at refl) (register_of a.top from) (accessed_by (here_place s t a) Write address)
+    (register_points s.objects a from h.placed.points)
+follows_instr image s t a h (instr.Return from) at fits taken = follows_return image s t a h (register_of a.top from)
+follows_instr image s t a h (instr.Acquire list) at fits taken =
+    follows_enter image s t a h (next_place image s.objects a h.placed _ h.sound.fits at refl) (locks_of image list) (locks_fit image h.placed.function list fits.0 fits.1 fits.2)
+follows_instr image s t a h instr.Release at fits taken = follows_leave image s t a h (next_place image s.objects a h.placed _ h.sound.fits at refl)
+follows_instr image s t a h i at fits taken = let e = taken in cc
+
+-- ---- the step
+
+-- a state with a thread's own entry, and its own objects and holding, is itself
+pub after_same : (s : State) (t : ℕ) (thread : Thread) → slice_get s.threads t ≡ Some thread → after s t thread s.objects s.holding ≡ s
+after_same s t thread e = λ i. record { objects = s.objects; holding = s.holding; threads = set_same s.threads t thread e i }
+
+-- the instruction that a placed thread is at is there, and fits its function
+pub instr_here : (image : Image) (objects : List Object) (a : Activity) (p : IsPlaced image objects a) → FitsImage image →
+    (i : Instr) × (slice_get image.code a.top.pc ≡ Some i) × FitsInstr image a.top.function p.function i × IsTrue (is_taken i)
+instr_here image objects a p fits =
+    let inside : a.top.pc < length image.code = omega (arith, lies_within image a.top.function a.top.pc p.function p.lies, fits.total) in
+    elim (slice_get_cases image.code a.top.pc).1 [
+      | inl found ↦ (
+        found.0,
+        found.2,
+        fits.instr_fits a.top.function a.top.pc p.function found.0 p.lies found.2,
+        fits.instr_taken a.top.function a.top.pc p.function found.0 p.lies found.2,
+      )
+      | inr past ↦ let le : length image.code ≤ a.top.pc = past.0 in absurd (omega arith)
+    ]
+
+here_of : (image : Image) (s : State) (t : ℕ) (a : Activity) → IsSound image s → slice_get s.threads t ≡ Some (Running a) → Here image s t a
+here_of image s t a sound e =
+    let at : activity_at s.threads t ≡ Some a = ap (option_and_then activity_of) e in
+    record { sound = sound; there = slice_get_within s.threads t (Running a) e; is = at; placed = sound.placed t a at }
+
+-- what a thread's step leaves may follow
+pub turn_follows : (image : Image) (s : State) (t : ℕ) (thread : Thread) → IsSound image s → slice_get s.threads t ≡ Some thread →
+    let turn = turn_of image (length s.threads) t thread s.objects s.holding in IsSound image (after s t turn.thread turn.objects turn.holding)
+turn_follows image s t (Running a) sound e =
+    let h = here_of image s t a sound e in
+    let found = instr_here image s.objects a h.placed sound.fits in
+    let l = left_by image (length s.threads) (here_place s t a) found.0 in
+    let m : Follows image s t l = follows_instr image s t a h found.0 found.1 found.2 found.3 in
+    subst (λ o. let turn = turn_by t (left_at image (length s.threads) (here_place s t a) o) in IsSound image (after s t turn.thread turn.objects turn.holding)) (sym found.1)
+    (sound_after image s t (turn_by t l).thread (turn_by t l).objects (turn_by t l).holding sound h.there m)
+turn_follows image s t (Done v) sound e = subst (IsSound image) (sym (after_same s t (Done v) e)) sound
+turn_follows image s t (Failed f) sound e = subst (IsSound image) (sym (after_same s t (Failed f) e)) sound
+
+-- a step keeps a state sound
+pub step_sound : (image : Image) (s : State) (t : ℕ) → IsSound image s → IsSound image (step_of image s t).state
+step_sound image s t sound =
+    elim (slice_get s.threads t) as (λ o. slice_get s.threads t ≡ o → IsSound image (step_at image s t o).state) [
+      | None ↦ λ e. sound
+      | Some thread ↦ λ e. turn_follows image s t thread sound e
+    ] refl
+
+-- ---- what the code's steps stand on
+
+can_do : (image : Image) (a : Activity) (n : ℕ) (f : Function) (i : Instr) → length a.top.regs ≡ f.regs → FitsInstr image n f i → IsTrue (is_taken i) → CanDo image a.top i
+can_do image a n f (instr.SetInt to number) e h k = omega arith
+can_do image a n f (instr.Add to left right) e h k = (omega (arith, h.0), omega (arith, h.1), omega (arith, h.2))
+can_do image a n f (instr.GlobalAddress to global) e h k = omega (arith, h.0)
+can_do image a n f (instr.Load to address) e h k = (omega (arith, h.0), omega (arith, h.1))
+can_do image a n f (instr.Store address from) e h k = (omega (arith, h.0), omega (arith, h.1))
+can_do image a n f (instr.Return from) e h k = omega arith
+can_do image a n f (instr.Acquire list) e h k = (slice_get_within image.lists list h.0 h.1, locks_fit image f list h.0 h.1 h.2)
+can_do image a n f instr.Release e h k = tt
+can_do image a n f i e h k = let z = k in cc
+
+-- a thread of a machine is ready for its step
+pub thread_ready : (image : Image) (objects : List Object) (forest : Held) (threads : List Thread) (t : ℕ) (thread : Thread) → IsMachine image objects forest threads →
+    slice_get threads t ≡ Some thread → ThreadReady image forest objects t thread
+thread_ready image objects forest threads t (Done v) m e = tt
+thread_ready image objects forest threads t (Failed f) m e = tt
+thread_ready image objects forest threads t (Running a) m e =
+    let s : State = record { objects = objects; holding = forest.holding; threads = threads } in
+    let h = here_of image s t a m.sound e in
+    let found = instr_here image objects a h.placed m.sound.fits in
+    let inside = lies_within image a.top.function a.top.pc h.placed.function h.placed.lies in
+    let small = m.sound.fits.few_instrs in
+    let total = m.sound.fits.total in
+    let counted = m.counted in
+    let below : t < length threads = h.there in (
+      record {
+        there = omega arith;
+        classes = m.classes;
+        room = omega arith;
+        points = h.placed.points;
+        object_classes = subst (λ n. AreOfClasses n objects) (sym m.classes) m.sound.objects.classes;
+        outside = outside_here image s t a h;
+      },
+      subst (λ o. IsSomeAnd o (CanDo image a.top)) (sym found.1) (can_do image a a.top.function h.placed.function found.0 h.placed.registers found.2 found.3),
+    )
+
+-- ---- the start
+
+replicated : {X : Type 0} (n r : ℕ) (x v : X) → slice_get (replicate n x) r ≡ Some v → v ≡ x
+replicated zero r x v e = cc
+replicated (suc n) zero x v e = cc
+replicated (suc n) (suc r) x v e = replicated n r x v e
+
+first_values : (t m r : ℕ) (v : Value) (objects : List Object) → slice_get (Int (pos t) ∷ replicate m (Int (pos 0))) r ≡ Some v → Points objects v
+first_values t m zero v objects e = let is : Int (pos t) ≡ v = cc in subst (Points objects) is tt
+first_values t m (suc r) v objects e = subst (Points objects) (sym (replicated m r (Int (pos 0)) v e)) tt
+
+first_placed : (image : Image) (objects : List Object) (t : ℕ) → FitsImage image → IsPlaced image objects (record { depth = 0; top = first_frame image image.start (Int (pos t) ∷ []) None; below = [] })
+first_placed image objects t fits =
+    let f = fits.entry.0 in
+    let is : unwrap_or (slice_get image.functions image.start) (record { params = 0; regs = 0; len = 0 }) ≡ f = ap (λ o. unwrap_or o (record { params = 0; regs = 0; len = 0 })) fits.entry.1 in
+    let good = fits.function_fits image.start f fits.entry.1 in
+    let one = fits.entry.2 in
+    let some = good.some in
+    let params = good.params in
+    let count : (n : ℕ) → n ≡ f.regs → length (Int (pos t) ∷ replicate (n - 1) (Int (pos 0))) ≡ f.regs = λ n e. counted (Int (pos t)) (Int (pos 0)) n f.regs e (omega arith) in
+    record {
+      function = f;
+      lies = record { function = fits.entry.1; low = omega arith; high = omega arith };
+      registers = count _ (ap (λ (g : Function). g.regs) is);
+      points = λ r v e. first_values t _ r v objects e;
+      depth = omega arith;
+      alone = refl;
+    }
+  where
+    counted : (x y : Value) (n m : ℕ) → n ≡ m → 1 ≤ m → length (x ∷ replicate (n - 1) y) ≡ m
+    counted x y n m e le = let l = length-replicate (n - 1) y in omega arith
+
+one_more : {X : Type 0} (xs : List X) (y z : X) (u : ℕ) → slice_get (xs ++ y ∷ []) u ≡ Some z → (slice_get xs u ≡ Some z) ⊎ (z ≡ y)
+one_more [] y z zero e = inr (cc)
+one_more [] y z (suc u) e = inl (cc)
+one_more (x ∷ xs) y z zero e = inl e
+one_more (x ∷ xs) y z (suc u) e = one_more xs y z u e
+
+first_found : (image : Image) (n u : ℕ) (thread : Thread) → slice_get (first_threads image n) u ≡ Some thread → (t : ℕ) × (thread ≡ first_thread image t)
+first_found image zero u thread e = cc
+first_found image (suc n) u thread e = elim (one_more (first_threads image n) (first_thread image n) thread u e) [ inl before ↦ first_found image n u thread before | inr last ↦ (n, last) ]
+
+pub length-first_threads : (image : Image) (n : ℕ) → length (first_threads image n) ≡ n
+length-first_threads image zero = refl
+length-first_threads image (suc n) = let h = length-first_threads image n in let l = length-append (first_threads image n) (first_thread image n ∷ []) in omega arith
+
+start_placed : (image : Image) (objects : List Object) (n u : ℕ) (a : Activity) → FitsImage image → activity_at (first_threads image n) u ≡ Some a → IsPlaced image objects a
+start_placed image objects n u a fits e =
+    elim (slice_get (first_threads image n) u) as (λ o. slice_get (first_threads image n) u ≡ o → option_and_then activity_of o ≡ Some a → IsPlaced image objects a) [
+      | None ↦ λ f k. cc
+      | Some thread ↦ λ f k.
+          let first = first_found image n u thread f in
+          let is = sym (ap activity_of first.1) ∙ k in
+          subst (IsPlaced image objects) (same_Some _ _ is) (first_placed image objects first.0 fits)
+    ] refl e
+
+global_there : (classes : List ℕ) (g : ℕ) → g < length classes → IsSome (cell_at (map global_object classes) (cell_of g 0))
+global_there [] g lt = absurd (omega arith)
+global_there (c ∷ cs) zero lt = refl
+global_there (c ∷ cs) (suc g) lt = global_there cs g (omega arith)
+
+global_class : (classes : List ℕ) (n class : ℕ) → class_of (map global_object classes) n ≡ Some class → slice_get classes n ≡ Some class
+global_class [] n class e = e
+global_class (c ∷ cs) zero class e = e
+global_class (c ∷ cs) (suc n) class e = global_class cs n class e
+
+global_value : (objects : List Object) (classes : List ℕ) (o i : ℕ) (v : Value) → cell_at (map global_object classes) (cell_of o i) ≡ Some v → Points objects v
+global_value objects [] o i v e = cc
+global_value objects (c ∷ cs) zero zero v e = let is : Int (pos 0) ≡ v = cc in subst (Points objects) is tt
+global_value objects (c ∷ cs) zero (suc i) v e = cc
+global_value objects (c ∷ cs) (suc o) i v e = global_value objects cs o i v e
+
+-- the start is sound
+pub start_sound : (image : Image) (n : ℕ) → FitsImage image → IsSound image (start_of image n)
+start_sound image n fits =
+    let objects = map global_object image.globals in
+    record {
+      fits = fits;
+      objects = record {
+        classes = λ k class e. fits.global_fits k class (global_class image.globals k class e);
+        points = λ c v e. global_value objects image.globals c.object c.offset v e;
+        globals = λ g lt. global_there image.globals g lt;
+        few = let l = length-map image.globals global_object in let k = fits.few_globals in omega arith;
+      };
+      placed = λ u a e. start_placed image objects n u a fits e;
+      outside = λ u e node. finite.get-empty {X = Mode} key_cmp (key u node);
+      lawful = lawful_empty;
+      within = within_empty image.classes (length (first_threads image n));
+    }

@@ -1,0 +1,216 @@
+//! The machine: a program, its heap, its locks and its threads.
+ghost use Rattle.std.specs.Prelude.{◌≡◌, ◌<◌, ◌≤◌, ◌↔◌, ◌⊎◌, IfOk, IfErr, OnErr, IsErrOf, IsTrue, Some, length, slice_get, option_map, option_and_then};
+ghost use Rattle.asl_code.specs.Fits.{FitsImage};
+ghost use Rattle.asl_lock_forest.specs.declared.node.Node.{Node};
+ghost use Rattle.asl_machine.specs.Run.{start_of, first_threads};
+ghost use Rattle.asl_machine.specs.State.{cell_at, size_of, class_of, activity_at, depth_at};
+
+use crate::fault::MachineFault;
+use crate::heap::Heap;
+use crate::reply::{Reply, Status};
+use crate::thread::Thread;
+use asl_code::{Cell, Program, Value};
+use asl_lock_forest::{Forest, Node};
+use asl_mode_lanes::Mode;
+use std::alloc::{AllocError, Global};
+use std::marker::Model;
+
+/// A verified program, and the state that its threads have stepped to.
+#[derive(Drop)]
+pub struct Machine<'p> {
+    program: &'p Program,
+    heap: Heap,
+    forest: Forest,
+    threads: Vec<Thread>,
+}
+
+impl<'p> Model for Machine<'p> {
+    ghost use Rattle.std.specs.Coded.{codes};
+    ghost use Rattle.asl_lock_forest.specs.Held.{coded_holding};
+    ghost use Rattle.asl_machine.specs.View.{Configuration};
+
+    ghost Value = { Configuration };
+
+    ghost coded = { Prim.hlevel (codes, coded_holding) };
+
+    ghost use Rattle.asl_machine.specs.Sound.{IsMachine};
+
+    ghost view = { λ m. record {
+      image = m.program.now;
+      state = record { objects = m.heap; holding = m.forest.holding; threads = m.threads.items };
+    } };
+
+    ghost invariant = { λ m. IsMachine m.program.now m.heap m.forest m.threads.items };
+}
+
+impl<'p> Machine<'p> {
+    ghost use Rattle.asl_lock_forest.specs.Holding.{held};
+    ghost use Rattle.asl_lock_forest.specs.Node.{IsThere};
+    ghost use Rattle.asl_machine.specs.Twin.{step_of};
+    ghost use Rattle.asl_machine.specs.View.{status_of};
+    ghost use Rattle.asl_machine.specs.Sound.{IsSound, MayWantMemory};
+
+    /// The machine in which n threads of the program start: 1 to 64 of them.
+    pub fn new(alloc: Global, program: &'p Program, n: u32) -> Result<Machine<'p>, MachineFault>
+        ensures image { IfOk result (λ machine. machine.image ≡ program.now) }
+        ensures start { IfOk result (λ machine. machine.state ≡ start_of program.now n) }
+        ensures count { IsErrOf result MachineFault.BadCount ↔ ((n ≡ 0) ⊎ (64 < n)) }
+        ensures other { IfErr result (λ fault. (fault ≡ MachineFault.BadCount) ⊎ (fault ≡ MachineFault.OutOfMemory)) }
+    {
+        if n == 0 || n > 64 {
+            return Err(MachineFault::BadCount);
+        }
+        Ok(start(alloc, program, n)?)
+    }
+
+    /// Steps thread t: one instruction, or nothing where the thread has ended.
+    pub fn step(&mut self, alloc: Global, t: u32) -> Result<Reply, MachineFault>
+        ensures reply { IfOk result (λ reply. reply ≡ (step_of self.old.image self.old.state t).reply) }
+        ensures state { IfOk result (λ _. self.new.state ≡ (step_of self.old.image self.old.state t).state) }
+        ensures image { self.new.image ≡ self.old.image }
+        ensures thread { IsErrOf result MachineFault.BadThread ↔ (length self.old.state.threads ≤ t) }
+        ensures memory { IsErrOf result MachineFault.OutOfMemory → MayWantMemory self.old.image self.old.state t }
+        ensures err { OnErr result (self.new ≡ self.old) }
+    {
+        if t as usize >= self.threads.len() {
+            return Err(MachineFault::BadThread);
+        }
+        let thread = &mut self.threads[t as usize];
+        Ok(thread.step(alloc, self.program, &mut self.heap, &mut self.forest, t)?)
+    }
+
+    /// How many threads there are.
+    pub fn threads(&self) -> u32
+        ensures { result ≡ length self.now.state.threads }
+    {
+        self.threads.len() as u32
+    }
+
+    /// Whether thread t runs, and else how it ended.
+    pub fn status(&self, t: u32) -> Status
+        requires { t < length self.now.state.threads }
+        ensures { option_map status_of (slice_get self.now.state.threads t) ≡ Some result }
+    {
+        self.threads[t as usize].status()
+    }
+
+    /// The place of the next instruction of thread t, if it runs.
+    pub fn pc(&self, t: u32) -> Option<u32>
+        requires { t < length self.now.state.threads }
+        ensures { result ≡ option_map (λ activity. activity.top.pc) (activity_at self.now.state.threads t) }
+    {
+        match self.threads[t as usize].activity() {
+            Some(activity) => Some(u32::from(activity.pc())),
+            None => None,
+        }
+    }
+
+    /// The value of a register of thread t's top frame, if the thread runs and the register is there.
+    pub fn reg(&self, t: u32, register: u32) -> Option<Value>
+        requires { t < length self.now.state.threads }
+        ensures { result ≡ option_and_then (λ activity. slice_get activity.top.regs register) (activity_at self.now.state.threads t) }
+    {
+        match self.threads[t as usize].activity() {
+            Some(activity) => activity.regs().get(register as usize).copied(),
+            None => None,
+        }
+    }
+
+    /// How many sections thread t is in: none where it has ended.
+    pub fn depth(&self, t: u32) -> u32
+        requires { t < length self.now.state.threads }
+        ensures { result ≡ depth_at self.now.state.threads t }
+    {
+        match self.threads[t as usize].activity() {
+            Some(activity) => u32::from(activity.depth()),
+            None => 0,
+        }
+    }
+
+    /// How many objects there are.
+    pub fn objects(&self) -> u32
+        ensures { result ≡ length self.now.state.objects }
+    {
+        self.heap.len() as u32
+    }
+
+    /// How many cells the object has, if it is there.
+    pub fn size(&self, object: u32) -> Option<u32>
+        ensures { result ≡ size_of self.now.state.objects object }
+    {
+        match self.heap.size(object as usize) {
+            Some(size) => Some(u32::from(size)),
+            None => None,
+        }
+    }
+
+    /// The class of the object, if it is there.
+    pub fn class(&self, object: u32) -> Option<u32>
+        ensures { result ≡ class_of self.now.state.objects object }
+    {
+        match self.heap.class(object as usize) {
+            Some(class) => Some(u32::from(class)),
+            None => None,
+        }
+    }
+
+    /// What the cell holds, if it is there.
+    pub fn cell(&self, cell: Cell) -> Option<Value>
+        ensures { result ≡ cell_at self.now.state.objects cell }
+    {
+        self.heap.cell(cell)
+    }
+
+    /// The mode in which thread t holds the node: NL where it does not, or where there is no such node.
+    pub fn held(&self, t: u32, node: Node) -> Mode
+        requires { t < length self.now.state.threads }
+        ensures { result ≡ held self.now.state.holding t node }
+    {
+        if self.is_there(node) {
+            self.forest.mode(t, node)
+        } else {
+            Mode::NL
+        }
+    }
+
+    /// Whether the class that the node names, if it names one, is below the count.
+    fn is_there(&self, node: Node) -> bool
+        ensures { IsTrue result ↔ IsThere self.now.image.classes node }
+    {
+        match node {
+            Node::Root => true,
+            Node::Class(class) | Node::Leaf(_, class) => u32::from(class) < self.program.classes(),
+        }
+    }
+}
+
+/// The machine in which n threads of the program start.
+fn start<'p>(alloc: Global, program: &'p Program, n: u32) -> Result<Machine<'p>, AllocError>
+    requires some { 0 < n }
+    requires few { n ≤ 64 }
+    ensures image { IfOk result (λ machine. machine.image ≡ program.now) }
+    ensures start { IfOk result (λ machine. machine.state ≡ start_of program.now n) }
+{
+    let heap = Heap::of_globals(alloc, program.globals())?;
+    let forest = Forest::new(alloc, program.classes(), n)?;
+    let threads = start_threads(alloc, program, n)?;
+    Ok(Machine {
+        program,
+        heap,
+        forest,
+        threads,
+    })
+}
+
+/// The first n threads at their start.
+fn start_threads(alloc: Global, program: &Program, n: u32) -> Result<Vec<Thread>, AllocError>
+    requires fits { FitsImage program.now }
+    requires few { n ≤ 64 }
+    ensures { IfOk result (λ threads. threads.items ≡ first_threads program.now n) }
+{
+    let mut threads = Vec::new(alloc);
+    for t in 0..n {
+        threads.push(Thread::first(alloc, program, t)?)?;
+    }
+    Ok(threads)
+}
