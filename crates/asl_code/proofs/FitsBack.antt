@@ -5,13 +5,12 @@ use Rattle.std.specs.Option.{option_map_or}
 use Rattle.std.proofs.lemmas.List.Elements.{All-head, All-tail}
 use Rattle.std.proofs.lemmas.Option.{slice_get_within}
 use Rattle.std.proofs.lemmas.Bool.{cases_Bool, and_parts, and_from, leb-true, ltb-true, le-leb, lt-ltb, eq-eqb, cond-true, cond-false}
-use Rattle.asl_code.specs.Bodies.{Body, bodies_from, total_len, first_of, is_inside, body_of}
+use Rattle.asl_code.specs.Bodies.{Body, bodies_from, first_of, is_inside, body_of}
 use Rattle.asl_code.specs.Fits.{LiesIn, FitsFunction, FitsInstr, FitsImage, FitsBase, FitsLock, HasBase, HasLock}
 use Rattle.asl_code.specs.Lines.{body_at}
-use Rattle.asl_code.specs.Verified.{keeps_limits, keeps_function_limits, keeps_list_limit, has_base, has_lock, has_tables, has_entry, has_range, has_ranges, has_end, has_ends, is_end, has_target, has_registers, has_arguments, is_taken, names_operands, has_operands, has_base_register, has_lock_base, has_list_bases, is_failure, fails_at, applies, IsVerified}
+use Rattle.asl_code.specs.Verified.{keeps_limits, keeps_function_limits, keeps_list_limit, has_base, has_lock, has_tables, has_entry, has_range, has_ranges, has_end, has_ends, is_end, has_target, has_registers, names_operands, has_operands, has_base_register, has_lock_base, has_list_bases, is_failure, fails_at, IsVerified}
 use Rattle.asl_code.specs.declared.image.Function.{Function}
 use Rattle.asl_code.specs.declared.image.Image.{Image}
-use Rattle.asl_code.specs.declared.fault.VerifyFault.{VerifyFault}
 use Rattle.asl_code.specs.declared.fault.VerifyFault.TheVariants as fault
 use Rattle.asl_code.specs.declared.instr.Instr.{Instr}
 use Rattle.asl_code.specs.declared.instr.Instr.TheVariants.{SetInt, SetNull, Move, Add, Subtract, LessThan, Equals, GlobalAddress, FieldAddress, Load, Store, New, Jump, JumpIfZero, Call, Return, Output, Acquire, Release}
@@ -19,7 +18,7 @@ use Rattle.asl_code.specs.declared.lock.Base.{Base}
 use Rattle.asl_code.specs.declared.lock.Base.TheVariants.{Reg, Global}
 use Rattle.asl_code.specs.declared.lock.Lock.{Lock}
 use Rattle.asl_code.specs.declared.lock.Lock.TheVariants as lock
-use Rattle.asl_code.proofs.FitsLaws.{begin, begin-suc, lies_first, lies_within, element_at}
+use Rattle.asl_code.proofs.FitsLaws.{begin, begin-suc, lies_within, element_at}
 
 -- a list passes a test that each of its elements passes
 pub all_pass : {X : Type 0} (test : X → Bool) (xs : List X) → ((n : ℕ) (x : X) → slice_get xs n ≡ Some x → test x ≡ true) → list_all test xs ≡ true
@@ -102,7 +101,7 @@ fit_registers i n f (Jump target) fits = refl
 fit_registers i n f (JumpIfZero test target) fits = lt-ltb _ _ fits.0
 fit_registers i n f (Call to first function) fits =
     and_from _ _ (lt-ltb _ _ fits.0)
-        (ap (λ o. option_map_or (λ (g : Function). leb (first + g.params) f.regs) o true) fits.1.1 ∙ le-leb _ _ fits.1.2)
+    (ap (λ o. option_map_or (λ (g : Function). leb (first + g.params) f.regs) o true) fits.1.1 ∙ le-leb _ _ fits.1.2)
 fit_registers i n f (Return from) fits = lt-ltb _ _ fits
 fit_registers i n f (Output from) fits = lt-ltb _ _ fits
 fit_registers i n f (Acquire list) fits = refl
@@ -170,14 +169,14 @@ pub facts_limits : (i : Image) → FitsImage i → keeps_limits i ≡ true
 facts_limits i facts =
     let sizes = and_from _ _ (and_from _ _ (and_from _ _ (and_from _ _ (and_from _ _ (eq-eqb _ _ facts.version) (le-leb _ _ facts.few_classes)) (le-leb _ _ facts.few_globals)) (le-leb _ _ facts.few_functions)) (le-leb _ _ facts.few_instrs)) (le-leb _ _ facts.few_lists) in
     and_from _ _
-        (and_from _ _ sizes (all_pass keeps_function_limits i.functions (λ n f is. let fits : FitsFunction f = facts.function_fits n f is in and_from _ _ (le-leb _ _ fits.few_params) (le-leb _ _ fits.few_regs))))
-        (all_pass keeps_list_limit i.lists (λ n locks is. le-leb _ _ (facts.few_locks n locks is)))
+    (and_from _ _ sizes (all_pass keeps_function_limits i.functions (λ n f is. let fits : FitsFunction f = facts.function_fits n f is in and_from _ _ (le-leb _ _ fits.few_params) (le-leb _ _ fits.few_regs))))
+    (all_pass keeps_list_limit i.lists (λ n locks is. le-leb _ _ (facts.few_locks n locks is)))
 
 pub facts_tables : (i : Image) → FitsImage i → has_tables i ≡ true
 facts_tables i facts =
     and_from _ _
-        (all_pass (λ class. ltb class i.classes) i.globals (λ n class is. lt-ltb _ _ (facts.global_fits n class is)))
-        (all_pass (list_all (has_lock i)) i.lists (λ n locks is. all_pass_from (has_lock i) (HasLock i) (fit_has_lock i) locks (facts.list_fits n locks is)))
+    (all_pass (λ class. ltb class i.classes) i.globals (λ n class is. lt-ltb _ _ (facts.global_fits n class is)))
+    (all_pass (list_all (has_lock i)) i.lists (λ n locks is. all_pass_from (has_lock i) (HasLock i) (fit_has_lock i) locks (facts.list_fits n locks is)))
 
 pub facts_entry : (i : Image) → FitsImage i → has_entry i ≡ true
 facts_entry i facts =
@@ -186,15 +185,15 @@ facts_entry i facts =
 pub facts_ranges : (i : Image) → FitsImage i → has_ranges i ≡ true
 facts_ranges i facts =
     and_from _ _
-        (all_pass has_range i.functions (λ n f is. let fits : FitsFunction f = facts.function_fits n f is in and_from _ _ (lt-ltb _ _ fits.some) (le-leb _ _ fits.params)))
-        (eq-eqb _ _ facts.total)
+    (all_pass has_range i.functions (λ n f is. let fits : FitsFunction f = facts.function_fits n f is in and_from _ _ (lt-ltb _ _ fits.some) (le-leb _ _ fits.params)))
+    (eq-eqb _ _ facts.total)
 
 pub facts_ends : (i : Image) → FitsImage i → has_ends i ≡ true
 facts_ends i facts =
     all_pass (has_end i.code) (bodies_from 0 i.functions) (λ n b is.
-        let r : (f : Function) × (slice_get i.functions n ≡ Some f) × (b ≡ body_at (begin 0 i.functions n) f) = body_from 0 i.functions n b is in
-        let start : begin 0 i.functions n ≡ first_of i.functions n = omega arith in
-        ap (has_end i.code) (r.2 ∙ ap (λ k. body_at k r.0) start) ∙ fit_end i facts n r.0 r.1)
+    let r : (f : Function) × (slice_get i.functions n ≡ Some f) × (b ≡ body_at (begin 0 i.functions n) f) = body_from 0 i.functions n b is in
+    let start : begin 0 i.functions n ≡ first_of i.functions n = omega arith in
+    ap (has_end i.code) (r.2 ∙ ap (λ k. body_at k r.0) start) ∙ fit_end i facts n r.0 r.1)
 
 -- an image of which all facts hold is verified
 pub verified_from_facts : (i : Image) → FitsImage i → IsVerified i

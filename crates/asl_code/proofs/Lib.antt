@@ -1,6 +1,7 @@
 pub mod FitsBack
 pub mod FitsLaws
 pub mod Instrs
+pub mod OneAnswer
 pub mod Scanning
 pub mod Told
 pub mod Values

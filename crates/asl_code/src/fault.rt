@@ -1,7 +1,7 @@
 use thiserror::Error;
 
-/// Why an image is no program, in the order of the verifier's lines (`docs/LIMITS.md`, "Rules of an image"). The last four name a place
-/// of the code.
+/// Why an image is no program, in the order in which the verifier looks (`docs/LIMITS.md`, "Rules of an image").
+/// The last four name a place of the code.
 #[derive(Clone, Copy, Debug, PartialEq, Eq, Error)]
 pub enum VerifyFault {
     /// The version is not 1, or a count is over its limit.

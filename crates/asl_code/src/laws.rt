@@ -2,7 +2,8 @@
 ghost use Rattle.std.specs.Prelude.{◌≡◌, ◌<◌, ℕ, Some, length, slice_get};
 ghost use Rattle.asl_code.specs.Bodies.{body_of, first_of, total_len};
 ghost use Rattle.asl_code.specs.Fits.{LiesIn, FitsImage};
-ghost use Rattle.asl_code.specs.Verified.{IsVerified};
+ghost use Rattle.asl_code.specs.Verified.{IsVerified, IsAnswer};
+ghost use Rattle.asl_code.specs.declared.fault.VerifyFault.{VerifyFault};
 ghost use Rattle.asl_code.specs.declared.image.Function.{Function};
 ghost use Rattle.asl_code.specs.declared.image.Image.{Image};
 ghost use Rattle.asl_code.specs.declared.instr.Instr.{Instr};
@@ -28,4 +29,10 @@ pub fn verified_images_fit()
         → (n : ℕ) × (f : Function) × LiesIn i n pc f }
     ensures instr { (i : Image) (n pc : ℕ) (f : Function) → IsVerified i → LiesIn i n pc f
         → (instr : Instr) × (slice_get i.code pc ≡ Some instr) }
+{}
+
+/// The verifier has no choice: an image has one answer at the most, and a verified image has none.
+pub fn images_have_one_answer()
+    ensures one { (i : Image) (f g : VerifyFault) → IsAnswer i f → IsAnswer i g → f ≡ g }
+    ensures none { (i : Image) (f : VerifyFault) → IsVerified i → ¬ IsAnswer i f }
 {}

@@ -21,7 +21,7 @@ pub use image::{Function, Image};
 pub use instr::Instr;
 pub use instr_bytes::{get_instr, instr_and_bytes_are_one, put_instr};
 pub use items::Items;
-pub use laws::{bodies_part_the_code, verified_images_fit};
+pub use laws::{bodies_part_the_code, images_have_one_answer, verified_images_fit};
 pub use lock::{Base, Expr, Lock};
 pub use path::{Op, Path};
 pub use program::Program;

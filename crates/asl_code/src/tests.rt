@@ -1,7 +1,7 @@
 //! Images with each fault of the verifier, the order of the faults, and the limits at their edges.
 use crate::{
     Base, Effect, Expr, Function, Image, Instr, Items, Lock, Op, Path, Program, VerifyFault,
-    bodies_part_the_code, verified_images_fit,
+    bodies_part_the_code, images_have_one_answer, verified_images_fit,
 };
 use std::alloc::{AllocError, Global};
 use std::test::Fail;
@@ -687,6 +687,7 @@ fn prints_faults(rt: HostRuntime) -> Result<(), Fail> {
 #[test]
 fn laws_are_there() {
     bodies_part_the_code();
+    images_have_one_answer();
     verified_images_fit();
 }
 
