@@ -7,12 +7,12 @@ use Rattle.std.proofs.lemmas.List.Elements.{All-head, All-tail}
 use Rattle.asl_mode_lanes.specs.declared.mode.Mode.{Mode}
 use Rattle.asl_mode_lanes.specs.declared.mode.Mode.TheVariants.{NL}
 use Rattle.asl_mode_lanes.specs.Mode.{AtMost, is_at_most, AreCompatible}
-use Rattle.asl_mode_lanes.proofs.ModeLaws.{compatible_sym}
+use Rattle.asl_mode_lanes.proofs.ModeLaws.{compatible_sym, compatible-NL}
 use Rattle.asl_lock_forest.specs.declared.node.Node.{Node}
 use Rattle.asl_lock_forest.specs.Node.{parent_mode, IsRooted, IsThere}
 use Rattle.asl_lock_forest.specs.Keys.{Key, key, key_cmp}
 use Rattle.asl_lock_forest.specs.Holding.{Holding, held, no_holding, HoldsNothing, Request, asked, grant, release, CanGrant, IsLawful, IsWithin}
-use Rattle.asl_lock_forest.specs.Request.{names, asks_modes, IsOfClasses}
+use Rattle.asl_lock_forest.specs.Request.{names, asks_modes, IsOfClasses, IsInTheWay}
 use Rattle.asl_lock_forest.proofs.Requests.{and_left, and_right}
 use Rattle.asl_lock_forest.proofs.Laws.{tell_keys, asked_unnamed, get_insert_same, get_insert_other, get_release_own, get_release_other, held_empty, held_grant_own, held_grant_other, held_release_own, held_release_other}
 
@@ -165,3 +165,19 @@ CanGrant-named classes threads h t request within free u n apart =
       ]
       | false ↦ λ unnamed. together_by (asked request n) (held h u n) NL (held h u n) (asked_unnamed request n unnamed) refl refl
     ] refl
+
+-- who is in the way holds the node, and is a thread that there is
+
+pub way_holds : (h : Holding) (t : ℕ) (request : Request) (other : ℕ) (node : Node) → IsInTheWay h t request other node → held h other node ≢ NL
+way_holds h t request other node way nothing =
+    let goes : AreCompatible (asked request node) (held h other node) =
+    subst (λ m. AreCompatible (asked request node) m) (sym nothing) (compatible-NL (asked request node)) in
+    let clashes = way.clashes in
+    cc
+
+pub way_there : (classes threads : ℕ) (h : Holding) (t : ℕ) (request : Request) (other : ℕ) (node : Node)
+    → IsWithin classes threads h → IsInTheWay h t request other node → other < threads
+way_there classes threads h t request other node within way = elim (cases_lt other threads) [
+  | inl below ↦ below
+  | inr beyond ↦ absurd (way_holds h t request other node way (held_beyond classes threads h within other node beyond))
+]

@@ -54,11 +54,11 @@ pub fn asked_in(request: &[(Node, Mode)], node: Node) -> Mode
 fn goes_with(entries: &[Entry], thread: u32, request: &[(Node, Mode)], entry: Entry) -> bool
     ensures { result ≡ goes_with (holding_of entries.now) thread request.now entry }
 {
-    entry.thread == thread
-        || compatible(
-            asked_in(request, entry.node),
-            mode_in(entries, entry.thread, entry.node),
-        )
+    if entry.thread == thread {
+        return true;
+    }
+    let wanted = asked_in(request, entry.node);
+    matches!(wanted, Mode::NL) || compatible(wanted, mode_in(entries, entry.thread, entry.node))
 }
 
 /// Whether every entry goes with what the thread asks.

@@ -9,7 +9,7 @@ mod node;
 pub use forest::Forest;
 pub use holding_laws::{
     grants_are_held, grants_stay_lawful, readers_and_writers_exclude_each_other, releases_are_held,
-    releases_stay_lawful,
+    releases_stay_lawful, those_in_the_way_hold,
 };
 pub use node::Node;
 
