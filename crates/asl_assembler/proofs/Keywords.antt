@@ -10,7 +10,7 @@ use Rattle.asl_assembler.specs.declared.keyword.Keyword.{Keyword}
 use Rattle.asl_assembler.specs.declared.keyword.Keyword.TheVariants as keyword
 use Rattle.asl_assembler.specs.Words.{name_of}
 use Rattle.asl_assembler.specs.Text.{effect_name}
-use Rattle.asl_assembler.specs.Reading.{◌>>=◌, or_else, first_named, others, moves, directives, keyword_of, effect_named, effect_of}
+use Rattle.asl_assembler.specs.Reading.{◌>>=◌, or_else, first_named, others, setters, directives, keyword_of, effect_named, effect_of}
 use Rattle.asl_assembler.proofs.Options.{bound, chosen}
 
 pub name_read : (k : Keyword) → keyword_of (name_of k) ≡ Some k
@@ -59,10 +59,10 @@ first_name (j ∷ ks) word k e =
 pub read_name : (word : List ℕ) (k : Keyword) → keyword_of word ≡ Some k → word ≡ name_of k
 unfolding keyword_of
 read_name word k e =
-    elim (chosen (first_named others word) (or_else (first_named moves word) (first_named directives word)) k e) [
+    elim (chosen (first_named others word) (or_else (first_named setters word) (first_named directives word)) k e) [
       | inl h ↦ first_name others word k h
-      | inr h ↦ elim (chosen (first_named moves word) (first_named directives word) k h.1) [
-        | inl g ↦ first_name moves word k g
+      | inr h ↦ elim (chosen (first_named setters word) (first_named directives word) k h.1) [
+        | inl g ↦ first_name setters word k g
         | inr g ↦ first_name directives word k g.1
       ]
     ]

@@ -42,15 +42,15 @@ or_else (Some x) other = Some x
 abbrev pub directives : List Keyword
 directives = keyword.Version ∷ keyword.Classes ∷ keyword.Global ∷ keyword.Entry ∷ keyword.Function ∷ keyword.List ∷ keyword.Root ∷ keyword.Class ∷ keyword.Expr ∷ keyword.Read ∷ keyword.Write ∷ []
 
-abbrev pub moves : List Keyword
-moves = keyword.Int ∷ keyword.Null ∷ keyword.Mov ∷ keyword.Add ∷ keyword.Sub ∷ keyword.Lt ∷ keyword.Eq ∷ keyword.Glob ∷ keyword.Field ∷ []
+abbrev pub setters : List Keyword
+setters = keyword.Int ∷ keyword.Null ∷ keyword.Mov ∷ keyword.Add ∷ keyword.Sub ∷ keyword.Lt ∷ keyword.Eq ∷ keyword.Glob ∷ keyword.Field ∷ []
 
 abbrev pub others : List Keyword
 others = keyword.Load ∷ keyword.Store ∷ keyword.New ∷ keyword.Jmp ∷ keyword.Jz ∷ keyword.Call ∷ keyword.Ret ∷ keyword.Out ∷ keyword.Acq ∷ keyword.Rel ∷ []
 
 -- the keyword that a word is
 unfoldable pub keyword_of : List ℕ → Option Keyword
-keyword_of word = or_else (first_named others word) (or_else (first_named moves word) (first_named directives word))
+keyword_of word = or_else (first_named others word) (or_else (first_named setters word) (first_named directives word))
 
 -- numbers
 abbrev pub decimal_after : ℕ → List ℕ → Option ℕ

@@ -19,7 +19,7 @@ use Rattle.asl_assembler.specs.declared.line.Line.{Line}
 use Rattle.asl_assembler.specs.declared.line.Line.TheVariants as line
 use Rattle.asl_assembler.specs.Words.{Token, Name, Byte, Short, Integer, Register, GlobalName, Star, Offset, AreWords, lines_of, words_of}
 
--- The words of an instruction.
+-- The words of an instruction (docs/ASSEMBLY.md)
 abbrev pub instr_tokens : Instr → List Token
 instr_tokens (instr.SetInt to value) = Name keyword.Int ∷ Register to ∷ Integer value ∷ []
 instr_tokens (instr.SetNull to) = Name keyword.Null ∷ Register to ∷ []
@@ -41,28 +41,32 @@ instr_tokens (instr.Output from) = Name keyword.Out ∷ Register from ∷ []
 instr_tokens (instr.Acquire list) = Name keyword.Acq ∷ Short list ∷ []
 instr_tokens instr.Release = Name keyword.Rel ∷ []
 
--- The words of a lock.
+-- How an effect is written (docs/ASSEMBLY.md)
 abbrev pub effect_name : Effect → Keyword
 effect_name effect.Read = keyword.Read
 effect_name effect.Write = keyword.Write
 
+-- The word of an effect (docs/ASSEMBLY.md)
 abbrev pub effect_token : Effect → Token
 effect_token effect = Name (effect_name effect)
 
+-- The word of the base of an expression (docs/ASSEMBLY.md)
 abbrev pub base_token : Base → Token
 base_token (base.Reg register) = Register register
 base_token (base.Global global) = GlobalName global
 
+-- The word of an operation of a path (docs/ASSEMBLY.md)
 abbrev pub op_token : Op → Token
 op_token op.Deref = Star
 op_token (op.Off offset) = Offset offset
 
+-- The words of a lock (docs/ASSEMBLY.md)
 abbrev pub lock_tokens : Lock → List Token
 lock_tokens (lock.Root effect) = Name keyword.Root ∷ effect_token effect ∷ []
 lock_tokens (lock.Class class effect) = Name keyword.Class ∷ Short class ∷ effect_token effect ∷ []
 lock_tokens (lock.Expr expr effect) = Name keyword.Expr ∷ base_token expr.base ∷ (map op_token expr.path ++ effect_token effect ∷ [])
 
--- The words of a line.
+-- The words of a line (docs/ASSEMBLY.md)
 abbrev pub tokens_of : Line → List Token
 tokens_of line.Version = Name keyword.Version ∷ Short 1 ∷ []
 tokens_of (line.Classes count) = Name keyword.Classes ∷ Short count ∷ []
@@ -73,35 +77,36 @@ tokens_of (line.Instruction i) = instr_tokens i
 tokens_of line.List = Name keyword.List ∷ []
 tokens_of (line.Lock l) = lock_tokens l
 
--- A path has eight operations at the most.
+-- The path of the lock has eight operations at the most (docs/ASSEMBLY.md)
 abbrev pub HasPath : Lock → Type 0
 HasPath (lock.Expr expr effect) = length expr.path ≤ 8
 HasPath (lock.Root effect) = Unit {0}
 HasPath (lock.Class class effect) = Unit {0}
 
+-- So has that of the line, if it has one (docs/ASSEMBLY.md)
 abbrev pub KeepsPath : Line → Type 0
 KeepsPath (line.Lock l) = HasPath l
 KeepsPath _ = Unit {0}
 
--- These are the words of this line.
+-- These are the words of this line (docs/ASSEMBLY.md)
 pub record IsLine (l : Line) (words : List (List ℕ)) : Type 0 where
   pub spelled : AreWords (tokens_of l) words
   pub path : KeepsPath l
 
--- These are the words of these lines, one for one.
+-- These are the words of these lines, one for one (docs/ASSEMBLY.md)
 abbrev pub AreLines : List Line → List (List (List ℕ)) → Type 0
 AreLines [] [] = Unit {0}
 AreLines [] (words ∷ more) = ⊥
 AreLines (l ∷ ls) [] = ⊥
 AreLines (l ∷ ls) (words ∷ more) = IsLine l words × AreLines ls more
 
--- A function as it is listed: its body stands with it.
+-- A function as it is listed: its body stands with it (docs/ASSEMBLY.md)
 pub record Body : Type 0 where
   pub params : ℕ
   pub regs : ℕ
   pub code : List Instr
 
--- A whole listing.
+-- A whole listing (docs/ASSEMBLY.md)
 pub record Listing : Type 0 where
   pub classes : ℕ
   pub globals : List ℕ
@@ -109,50 +114,54 @@ pub record Listing : Type 0 where
   pub functions : List Body
   pub lists : List (List Lock)
 
+-- The lines of a function (docs/ASSEMBLY.md)
 abbrev pub function_lines : Body → List Line
 function_lines f = line.Function f.params f.regs ∷ map line.Instruction f.code
 
+-- The lines of a lock list (docs/ASSEMBLY.md)
 abbrev pub list_lines : List Lock → List Line
 list_lines locks = line.List ∷ map line.Lock locks
 
--- The lines of a listing in order: the header, the functions, the lists.
+-- The lines of a listing in order: the header, the functions, the lists (docs/ASSEMBLY.md)
 abbrev pub lines_in : Listing → List Line
 lines_in l = line.Version ∷ line.Classes l.classes ∷ (map line.Global l.globals ++ line.Entry l.start ∷ (flat_map function_lines l.functions ++ flat_map list_lines l.lists))
 
--- The image of a listing. A function's length is a number of 32 bits; one of more instructions, which is past
--- every limit, is given the greatest.
+-- A function's length is a number of 32 bits: a longer one, which is past every limit, is given the greatest (docs/LIMITS.md)
 abbrev pub shortened : ℕ → ℕ
 shortened n = min n (2 ^ 32 - 1)
 
+-- The function of an image that is listed so (docs/ASSEMBLY.md)
 abbrev pub function_of : Body → Function
 function_of f = record { params = f.params; regs = f.regs; len = shortened (length f.code) }
 
+-- The image of a listing: the bodies lie one after the other (docs/ASSEMBLY.md)
 abbrev pub image_of : Listing → Image
 image_of l = record { version = 1; classes = l.classes; globals = l.globals; functions = map function_of l.functions; start = l.start; code = flat_map (λ f. f.code) l.functions; lists = l.lists }
 
--- The words of each line that is not blank.
+-- The words of a line in front of those of others, if it has words (docs/ASSEMBLY.md)
 abbrev pub unless_blank : List (List ℕ) → List (List (List ℕ)) → List (List (List ℕ))
 unless_blank [] more = more
 unless_blank (word ∷ words) more = (word ∷ words) ∷ more
 
+-- The words of each line that is not blank (docs/ASSEMBLY.md)
 abbrev pub worded : List (List ℕ) → List (List (List ℕ))
 worded [] = []
 worded (l ∷ ls) = unless_blank (words_of l) (worded ls)
 
--- The lines, without the blank ones, are those of a listing of the image.
+-- The lines, without the blank ones, are those of a listing of the image (docs/ASSEMBLY.md)
 abbrev pub LinesSpell : List (List ℕ) → Image → Type 0
 LinesSpell lines image = (l : Listing) × AreLines (lines_in l) (worded lines) × (image ≡ image_of l)
 
--- The text spells the image.
+-- The text spells the image (docs/ASSEMBLY.md)
 abbrev pub Spells : List ℕ → Image → Type 0
 Spells text image = LinesSpell (lines_of text) image
 
--- Some text of some image begins with these lines.
+-- Some text of some image begins with these lines (docs/ASSEMBLY.md)
 abbrev pub CanBegin : List (List ℕ) → Type 0
 CanBegin lines = (more : List (List ℕ)) × (image : Image) × LinesSpell (lines ++ more) image
 
 -- The line of this number, from 1, is the first that is not as its place asks: the lines before it can begin a
--- text, and with it they cannot. Or it is the number behind the last, where the text ends too early.
+-- text, and with it they cannot. Or it is the number behind the last, where the text ends too early (docs/ASSEMBLY.md)
 pub record IsBadLine (lines : List (List ℕ)) (number : ℕ) : Type 0 where
   pub counted : 0 < number
   pub before : CanBegin (take (number - 1) lines)

@@ -1,5 +1,5 @@
 ghost use Rattle.std.specs.Prelude.{◌≡◌};
-ghost use Rattle.asl_assembler.specs.Reading.{keyword_of, first_named, directives, moves, others};
+ghost use Rattle.asl_assembler.specs.Reading.{keyword_of, first_named, directives, setters, others};
 
 /// A word with a meaning of its own.
 #[derive(Clone, Copy, Debug, PartialEq, Eq)]
@@ -43,13 +43,14 @@ pub(crate) fn find_keyword(word: &[u8]) -> Option<Keyword>
 {
     match find_other(word) {
         Some(found) => Some(found),
-        None => match find_move(word) {
+        None => match find_setter(word) {
             Some(found) => Some(found),
             None => find_directive(word),
         },
     }
 }
 
+/// The same of the keywords of lines that are no instruction, and of effects.
 fn find_directive(word: &[u8]) -> Option<Keyword>
     ensures { result ≡ first_named directives word.now }
 {
@@ -89,8 +90,9 @@ fn find_directive(word: &[u8]) -> Option<Keyword>
     None
 }
 
-fn find_move(word: &[u8]) -> Option<Keyword>
-    ensures { result ≡ first_named moves word.now }
+/// The same of the instructions that set a register and touch no cell.
+fn find_setter(word: &[u8]) -> Option<Keyword>
+    ensures { result ≡ first_named setters word.now }
 {
     if word == b"int".as_slice() {
         return Some(Keyword::Int);
@@ -122,6 +124,7 @@ fn find_move(word: &[u8]) -> Option<Keyword>
     None
 }
 
+/// The same of the other instructions.
 fn find_other(word: &[u8]) -> Option<Keyword>
     ensures { result ≡ first_named others word.now }
 {

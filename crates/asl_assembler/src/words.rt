@@ -11,18 +11,21 @@ fn is_gap(byte: u8) -> bool
     byte == b' ' || byte == b'\t' || byte == b',' || byte == b'\r'
 }
 
+/// How many separators the line begins with.
 fn gap_len(line: &[u8]) -> usize
     ensures { result ≡ prefix_len is_separator line.now }
 {
     line.iter().take_while(|byte| is_gap(**byte)).count()
 }
 
+/// How many bytes of a word the line begins with.
 fn word_len(line: &[u8]) -> usize
     ensures { result ≡ prefix_len is_word_byte line.now }
 {
     line.iter().take_while(|byte| !is_gap(**byte)).count()
 }
 
+/// How many bytes stand before the first line feed.
 fn line_len(text: &[u8]) -> usize
     ensures { result ≡ prefix_len is_line_byte text.now }
 {
