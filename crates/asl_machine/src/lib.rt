@@ -18,3 +18,6 @@ pub use fault::{Fault, MachineFault};
 pub use laws::requests_are_least;
 pub use machine::Machine;
 pub use reply::{Reply, Status};
+
+#[cfg(test)]
+mod tests;
