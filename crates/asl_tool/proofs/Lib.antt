@@ -1,0 +1,4 @@
+mod Writing
+mod Texts
+mod Lines
+mod Runs

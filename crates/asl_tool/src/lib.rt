@@ -1,0 +1,13 @@
+//! The program `asl` without its process: words, a reader and writers in, a status out.
+#![tactic(auto)]
+
+#[cfg(test)]
+mod fakes;
+mod replies;
+mod step;
+mod streams;
+mod tool;
+mod words;
+
+pub use step::{StepFault, step_text};
+pub use tool::tool_alone;

@@ -1,0 +1,86 @@
+//! Reading the whole of the input, and writing the whole of the output.
+ghost use Rattle.std.specs.Prelude.{◌≡◌, ◌<◌, ◌≤◌, length, [], take, IfOk, IfSome, OnOk, OnErr};
+ghost use Rattle.std.specs.Io.KnownBytes.{Appends};
+ghost use Rattle.asl_tool.specs.Streams.{AppendsPart};
+
+use std::alloc::Global;
+use std::io::{Read, Write};
+
+use thiserror::Error;
+
+/// The most bytes that an input may have.
+pub const MOST_INPUT: usize = 268_435_456;
+
+/// Why the input was not read to its end.
+#[derive(Clone, Copy, Debug, PartialEq, Eq, Error)]
+pub enum ReadFault {
+    /// The reader failed; a read that was interrupted counts too.
+    #[error("Read")]
+    Read,
+    /// There are more than 268,435,456 bytes.
+    #[error("TooLong")]
+    TooLong,
+    /// Memory ran out.
+    #[error("OutOfMemory")]
+    OutOfMemory,
+}
+
+/// The writer failed, or took no byte; a write that was interrupted counts too.
+#[derive(Clone, Copy, Debug, PartialEq, Eq, Error)]
+#[error("Write")]
+pub struct WriteFault;
+
+/// Reads to the end of the input.
+pub fn read_whole<R: Read>(alloc: Global, reader: &mut R) -> Result<Vec<u8>, ReadFault>
+    ensures whole { IfOk result (λ all. IfSome (R.remaining reader.old) (λ bytes. all.items ≡ bytes)) }
+    ensures short { IfOk result (λ all. length all.items ≤ MOST_INPUT) }
+{
+    let mut all = Vec::new(alloc);
+    let mut buffer = [0u8; 4096];
+    for _ in 0..u64::MAX {
+        let count = reader.read(&mut buffer).map_err(|_| ReadFault::Read)?;
+        if count == 0 {
+            return Ok(all);
+        }
+        if count > MOST_INPUT - all.len() {
+            return Err(ReadFault::TooLong);
+        }
+        all.extend_from_slice(&buffer[..count])
+            .map_err(|_| ReadFault::OutOfMemory)?;
+    }
+    Err(ReadFault::TooLong)
+}
+
+/// Writes all of `bytes`; after a fault the writer holds a first part of them.
+pub fn write_whole<W: Write>(writer: &mut W, bytes: &[u8]) -> Result<(), WriteFault>
+    ensures ok { OnOk result (Appends (W.contents writer.old) (W.contents writer.new) bytes.now) }
+    ensures err { OnErr result (AppendsPart (W.contents writer.old) (W.contents writer.new) bytes.now) }
+{
+    let mut rest = bytes;
+    for _ in 0..u64::MAX {
+        if rest.is_empty() {
+            return Ok(());
+        }
+        match write_some(writer, rest) {
+            Ok(count) => rest = rest.split_at(count).1,
+            Err(fault) => return Err(fault),
+        }
+    }
+    Err(WriteFault)
+}
+
+/// Writes one byte or more of `bytes`, and says how many.
+fn write_some<W: Write>(writer: &mut W, bytes: &[u8]) -> Result<usize, WriteFault>
+    ensures some { IfOk result (λ count. (0 < count) × (count ≤ length bytes.now)) }
+    ensures ok { IfOk result (λ count. Appends (W.contents writer.old) (W.contents writer.new) (take count bytes.now)) }
+    ensures err { OnErr result (Appends (W.contents writer.old) (W.contents writer.new) []) }
+{
+    match writer.write(bytes) {
+        Ok(0) => Err(WriteFault),
+        Ok(count) => Ok(count),
+        Err(_) => Err(WriteFault),
+    }
+}
+
+#[cfg(test)]
+mod tests;

@@ -1,0 +1,124 @@
+//! The words of the command line.
+ghost use Rattle.std.specs.Prelude.{◌≡◌, ◌<◌, ◌^◌, IfSome};
+
+use std::alloc::{AllocError, Global};
+
+use clap::error::ErrorKind;
+use clap::{Arg, ArgAction, ArgMatches, Command, Error};
+
+/// What the words of a command line ask for.
+#[derive(Debug, Drop)]
+pub enum Invocation {
+    /// `step`: read a program, and step its threads in the order of the schedule.
+    Step {
+        /// How many threads the machine has.
+        threads: u32,
+        /// The thread of each step.
+        schedule: Vec<u32>,
+    },
+    /// The words ask for help: the text to show.
+    Help(String),
+    /// The words are no legal use: the text that says why.
+    WrongUsage(String),
+}
+
+const STEP_HELP: &str = "Reads a program in assembly text from standard input, makes a machine of N threads, \
+    steps the threads in the given order, and writes one line a step: its number, its thread and the reply";
+
+/// Judges the words, which are those after the program's name. Only memory can fail.
+pub fn read_words(alloc: Global, words: &[String]) -> Result<Invocation, AllocError> {
+    let parsed = command(alloc)?.try_get_matches_from(words);
+    match parsed {
+        Ok(matches) => match matches.subcommand() {
+            Some(("step", step)) => read_step(alloc, step),
+            _ => wrong_usage(alloc, "a command is missing"),
+        },
+        Err(error) => refused(alloc, &error),
+    }
+}
+
+fn command<'a>(alloc: Global) -> Result<Command<'a>, AllocError> {
+    let command = Command::new(alloc, "asl")
+        .about("Steps programs of atomic sections under inferred locks")
+        .no_binary_name(true)
+        .bin_name("asl")?
+        .subcommand_required(true)
+        .disable_help_subcommand(true)
+        .subcommand(step_command(alloc)?)?;
+    Ok(command)
+}
+
+fn step_command<'a>(alloc: Global) -> Result<Command<'a>, AllocError> {
+    let threads = Arg::new(alloc, "threads")
+        .long("threads")
+        .value_name("N")
+        .help("How many threads the machine has, 1 to 64")
+        .required(true)
+        .action(ArgAction::Set);
+    let schedule = Arg::new(alloc, "schedule")
+        .value_name("T")
+        .help("The thread of each step, from 0")
+        .required(true)
+        .num_args(1..)
+        .action(ArgAction::Append);
+    let command = Command::new(alloc, "step")
+        .about(STEP_HELP)
+        .bin_name("asl step")?
+        .arg(threads)?
+        .arg(schedule)?;
+    Ok(command)
+}
+
+fn read_step(alloc: Global, matches: &ArgMatches<'_>) -> Result<Invocation, AllocError> {
+    let Some(threads) = matches.get_str("threads") else {
+        return wrong_usage(alloc, "--threads is missing");
+    };
+    let Some(threads) = number(threads) else {
+        return not_a_number(alloc, threads);
+    };
+    let mut schedule = Vec::new(alloc);
+    for word in matches.get_strs("schedule").unwrap_or(&[]) {
+        match number(word) {
+            Some(thread) => schedule.push(thread)?,
+            None => return not_a_number(alloc, word),
+        }
+    }
+    Ok(Invocation::Step { threads, schedule })
+}
+
+/// The number that the digits spell, if they are only digits, at least one, and the number is below 2^32.
+pub fn number(word: &str) -> Option<u32> {
+    let digits = word.as_bytes();
+    if digits.is_empty() {
+        return None;
+    }
+    let mut value: u64 = 0;
+    for digit in digits {
+        if !digit.is_ascii_digit() {
+            return None;
+        }
+        value = (value * 10 + u64::from(*digit - b'0')).min(1 << 32);
+    }
+    u32::try_from(value).ok()
+}
+
+fn not_a_number(alloc: Global, word: &str) -> Result<Invocation, AllocError> {
+    let text = format!(in alloc; "error: '{word}' is no number from 0 to 4294967295\n")?;
+    Ok(Invocation::WrongUsage(text))
+}
+
+fn wrong_usage(alloc: Global, why: &str) -> Result<Invocation, AllocError> {
+    let text = format!(in alloc; "error: {why}\n")?;
+    Ok(Invocation::WrongUsage(text))
+}
+
+fn refused(alloc: Global, error: &Error) -> Result<Invocation, AllocError> {
+    match error.kind() {
+        ErrorKind::OutOfMemory => Err(AllocError),
+        ErrorKind::DisplayHelp => Ok(Invocation::Help(error.to_string(alloc)?)),
+        _ => Ok(Invocation::WrongUsage(error.to_string(alloc)?)),
+    }
+}
+
+#[cfg(test)]
+mod tests;

@@ -1,0 +1,139 @@
+//! Which words parse, and as what.
+use std::alloc::{AllocError, Global};
+use std::process::Abort;
+use std::test::Fail;
+
+use super::{Invocation, read_words};
+
+/// What a word list must be read as.
+enum Wanted {
+    Step(u32, &'static [u32]),
+    Help,
+    WrongUsage,
+}
+
+/// The words, separated by single spaces; the empty text has none.
+fn split(alloc: Global, line: &str) -> Result<Vec<String>, AllocError> {
+    let mut words = Vec::new(alloc);
+    if !line.is_empty() {
+        for word in line.split(' ') {
+            words.push(String::from_str(alloc, word)?)?;
+        }
+    }
+    Ok(words)
+}
+
+fn is_as_wanted(got: &Invocation, wanted: &Wanted) -> bool {
+    match (got, wanted) {
+        (Invocation::Step { threads, schedule }, Wanted::Step(count, order)) => {
+            threads == count && schedule.as_slice() == *order
+        }
+        (Invocation::Help(text), Wanted::Help) => !text.is_empty(),
+        (Invocation::WrongUsage(text), Wanted::WrongUsage) => !text.is_empty(),
+        _ => false,
+    }
+}
+
+fn check(rt: &(impl Abort + AllocGlobal), cases: &[(&str, Wanted)]) -> Result<(), Fail> {
+    for (line, wanted) in cases {
+        let words = split(rt.alloc(), line)?;
+        let got = read_words(rt.alloc(), words.as_slice())?;
+        assert!(rt; is_as_wanted(&got, wanted), "{line}");
+    }
+    Ok(())
+}
+
+#[test]
+fn steps(rt: HostRuntime) -> Result<(), Fail> {
+    check(
+        &rt,
+        &[
+            ("step --threads 2 0 0 1 1", Wanted::Step(2, &[0, 0, 1, 1])),
+            ("step --threads=2 0", Wanted::Step(2, &[0])),
+            ("step 0 1 --threads 3", Wanted::Step(3, &[0, 1])),
+            ("step 0 --threads 3 1", Wanted::Step(3, &[0, 1])),
+            ("step --threads 3 -- 0 1", Wanted::Step(3, &[0, 1])),
+            ("step --threads 0 0", Wanted::Step(0, &[0])),
+            ("step --threads 65 7", Wanted::Step(65, &[7])),
+            ("step --threads 4294967295 4294967295", Wanted::Step(4294967295, &[4294967295])),
+            ("step --threads 0000000000002 0000000000000000000001", Wanted::Step(2, &[1])),
+            ("step --threads 1 9 9 9", Wanted::Step(1, &[9, 9, 9])),
+        ],
+    )
+}
+
+#[test]
+fn help(rt: HostRuntime) -> Result<(), Fail> {
+    check(
+        &rt,
+        &[
+            ("--help", Wanted::Help),
+            ("-h", Wanted::Help),
+            ("step --help", Wanted::Help),
+            ("step -h", Wanted::Help),
+            ("step --threads 2 --help", Wanted::Help),
+        ],
+    )
+}
+
+#[test]
+fn wrong_commands(rt: HostRuntime) -> Result<(), Fail> {
+    check(
+        &rt,
+        &[
+            ("", Wanted::WrongUsage),
+            ("help", Wanted::WrongUsage),
+            ("Step --threads 1 0", Wanted::WrongUsage),
+            ("ste --threads 1 0", Wanted::WrongUsage),
+            ("steps --threads 1 0", Wanted::WrongUsage),
+            ("asm", Wanted::WrongUsage),
+            ("run --threads 1 --workers 1 --limit 5", Wanted::WrongUsage),
+            ("--threads 1 step 0", Wanted::WrongUsage),
+            ("--version", Wanted::WrongUsage),
+            ("-- step --threads 1 0", Wanted::WrongUsage),
+        ],
+    )
+}
+
+#[test]
+fn wrong_words(rt: HostRuntime) -> Result<(), Fail> {
+    check(
+        &rt,
+        &[
+            ("step", Wanted::WrongUsage),
+            ("step 0", Wanted::WrongUsage),
+            ("step --threads", Wanted::WrongUsage),
+            ("step --threads 1", Wanted::WrongUsage),
+            ("step --threads= 0", Wanted::WrongUsage),
+            ("step --thread 1 0", Wanted::WrongUsage),
+            ("step -threads 1 0", Wanted::WrongUsage),
+            ("step --threads 1 --threads 2 0", Wanted::WrongUsage),
+            ("step --threads 1 --record 0", Wanted::WrongUsage),
+            ("step --threads 1 --help=1 0", Wanted::WrongUsage),
+            ("step -t 1 0", Wanted::WrongUsage),
+        ],
+    )
+}
+
+#[test]
+fn wrong_numbers(rt: HostRuntime) -> Result<(), Fail> {
+    check(
+        &rt,
+        &[
+            ("step --threads x 0", Wanted::WrongUsage),
+            ("step --threads -1 0", Wanted::WrongUsage),
+            ("step --threads +1 0", Wanted::WrongUsage),
+            ("step --threads 1.0 0", Wanted::WrongUsage),
+            ("step --threads 4294967296 0", Wanted::WrongUsage),
+            ("step --threads 1 4294967296", Wanted::WrongUsage),
+            ("step --threads 1 99999999999999999999999999", Wanted::WrongUsage),
+            ("step --threads 1 -- -1", Wanted::WrongUsage),
+            ("step --threads 1 -1", Wanted::WrongUsage),
+            ("step --threads 1 +1", Wanted::WrongUsage),
+            ("step --threads 1 0x1", Wanted::WrongUsage),
+            ("step --threads 1 0 1a", Wanted::WrongUsage),
+            ("step --threads 1 0  1", Wanted::WrongUsage),
+            ("step --threads 0x10 0", Wanted::WrongUsage),
+        ],
+    )
+}
