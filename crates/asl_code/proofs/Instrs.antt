@@ -1,17 +1,18 @@
 -- What instr_of_fields answers is the instruction that the bytes spell, or the first bad field.
-use Rattle.std.proofs.Common.{◌≡◌, ◌≢◌, ℕ, zero, suc, ◌+◌, ◌*◌, ◌<◌, ◌≤◌, ◌^◌, Bool, true, false, cond, not, ltb, eqb, List, [], ◌∷◌, ◌++◌, length, take, drop, get_or, Option, Some, None, Result, Ok, Err, refl, sym, ap, subst, ◌∙◌, arith, rules, Fits, w8, w32, lit<, lit≤, add-zero}
+use Rattle.std.proofs.Common.{◌≡◌, ◌≢◌, ℕ, zero, suc, ◌+◌, ◌*◌, ◌<◌, ◌≤◌, ◌^◌, Bool, true, false, cond, not, ltb, eqb, List, [], ◌∷◌, ◌++◌, length, take, drop, get_or, Option, Some, None, Result, Ok, Err, refl, sym, ap, subst, ◌∙◌, arith, inl, inr, rules, Fits, w8, w32, lit<, lit≤, add-zero}
 use Rattle.std.specs.Prelude.{◌||◌, slice_get, IfOk, IfErr, FitsSigned, nat_lt, ◌==◌, nat_eq}
 use Rattle.std.specs.Option.{option_map}
 use Rattle.std.specs.Int.{to_be_bytes, from_be_bytes, cast_unsigned, cast_signed}
-use Rattle.std.proofs.lemmas.Bool.{eqb-true, ltb-false, ltb-true, le-ltb}
+use Rattle.std.proofs.lemmas.Bool.{eqb-true, ltb-false, ltb-true, le-ltb, lt-ltb, cases_order}
 use Rattle.std.proofs.lemmas.Int.{of_z-to_z, to_z-of_z}
+use Rattle.std.proofs.lemmas.List.{take-take}
 use Rattle.std.proofs.lemmas.Nat.{be_bytes_4, from_be_bytes-to_be_bytes_4}
 use Rattle.std.proofs.Math.Bool.{or-true}
 use Rattle.std.proofs.Math.Facts.{sfits_to_z, Fits-of_z}
 use Rattle.asl_code.specs.declared.instr.Instr.{Instr}
 use Rattle.asl_code.specs.declared.instr.Instr.TheVariants.{SetInt, SetNull, Move, Add, Subtract, LessThan, Equals, GlobalAddress, FieldAddress, Load, Store, New, Jump, JumpIfZero, Call, Return, Output, Acquire, Release}
-use Rattle.asl_code.specs.Spelling.{eight_bytes, instr_bytes, IsInstr, SpellsInstr, field_end, IsFirstBadField, InstrOfSpellingIsOne, SpellingOfInstrIsOne}
-use Rattle.asl_code.specs.Reading.{Row, rows, row_of, limits_of, takes, bad_field, unless_bad, instr_of_row, instr_of_some, instr_of_fields, made_by}
+use Rattle.asl_code.specs.Spelling.{eight_bytes, instr_bytes, IsInstr, SpellsInstr, field_end, IsFirstBadField, InstrOfSpellingIsOne, SpellingOfInstrIsOne, FirstBadFieldIsOne}
+use Rattle.asl_code.specs.Reading.{Row, rows, row_of, limits_of, takes, bad_field, unless_bad, instr_of_row, instr_of_some, instr_of_fields, instr_of, made_by}
 
 abbrev refused : ℕ → Result Instr ℕ
 refused place = Err place
@@ -595,3 +596,83 @@ instr_is_one i j bytes p q =
 
 pub spelling_is_one : SpellingOfInstrIsOne
 spelling_is_one i bytes others p q = p.spelled ∙ sym q.spelled
+
+-- of two first bad fields neither is before the other
+not_before : (bytes : List ℕ) (place other : ℕ) → place < other → IsFirstBadField bytes place → IsFirstBadField bytes other → ⊥
+not_before bytes place other lt p q =
+    let w = q.before in
+    let early : ltb place 4 ≡ true = lt-ltb place 4 (omega (arith, q.is_field)) in
+    let end : field_end place ≡ place + 1 = rw early refl in
+    let within : place + 1 ≤ other = omega arith in
+    let same : take (place + 1) (instr_bytes w.0) ≡ take (place + 1) bytes =
+        sym (take-take (place + 1) other (instr_bytes w.0) within) ∙ ap (take (place + 1)) w.2 ∙ take-take (place + 1) other bytes within in
+    p.here w.0 w.1 (rw end same)
+
+pub place_is_one : FirstBadFieldIsOne
+place_is_one bytes place other p q =
+    elim (cases_order place other) [
+      | inl same ↦ same
+      | inr (inl below) ↦ absurd (not_before bytes place other below p q)
+      | inr (inr above) ↦ absurd (not_before bytes other place above q p)
+    ]
+
+-- ---- the eight bytes as a list, for the crates above
+
+instr_of_is : (bytes : List ℕ) (is : AreEight bytes) → (d : ℕ) × (d < 2 ^ 32) × (bytes ≡ eight_bytes (get_or bytes 0 0) (get_or bytes 1 0) (get_or bytes 2 0) (get_or bytes 3 0) d) × (instr_of bytes ≡ instr_of_fields (get_or bytes 0 0) (get_or bytes 1 0) (get_or bytes 2 0) (get_or bytes 3 0) d)
+instr_of_is (op ∷ a ∷ b ∷ c ∷ d0 ∷ d1 ∷ d2 ∷ d3 ∷ []) is =
+    let d = d0 * 16777216 + d1 * 65536 + d2 * 256 + d3 in
+    (d, omega (arith, is.fit 4, is.fit 5, is.fit 6, is.fit 7), eight_are (op ∷ a ∷ b ∷ c ∷ d0 ∷ d1 ∷ d2 ∷ d3 ∷ []) d is refl, refl)
+instr_of_is (op ∷ a ∷ b ∷ c ∷ d0 ∷ d1 ∷ d2 ∷ d3 ∷ x ∷ xs) is = absurd (omega (arith, is.len))
+instr_of_is [] is = absurd (omega (arith, is.len))
+instr_of_is (op ∷ []) is = absurd (omega (arith, is.len))
+instr_of_is (op ∷ a ∷ []) is = absurd (omega (arith, is.len))
+instr_of_is (op ∷ a ∷ b ∷ []) is = absurd (omega (arith, is.len))
+instr_of_is (op ∷ a ∷ b ∷ c ∷ []) is = absurd (omega (arith, is.len))
+instr_of_is (op ∷ a ∷ b ∷ c ∷ d0 ∷ []) is = absurd (omega (arith, is.len))
+instr_of_is (op ∷ a ∷ b ∷ c ∷ d0 ∷ d1 ∷ []) is = absurd (omega (arith, is.len))
+instr_of_is (op ∷ a ∷ b ∷ c ∷ d0 ∷ d1 ∷ d2 ∷ []) is = absurd (omega (arith, is.len))
+
+pub instr_of-found : (bytes : List ℕ) (i : Instr) → AreEight bytes → instr_of bytes ≡ Ok i → SpellsInstr i bytes
+instr_of-found bytes i is e =
+    let w = instr_of_is bytes is in
+    rw w.2 (instr_found i _ _ _ _ w.0 (fields_are bytes w.0 is w.1) (sym w.3 ∙ e))
+
+pub instr_of-again : (bytes : List ℕ) (i : Instr) → AreEight bytes → SpellsInstr i bytes → instr_of bytes ≡ Ok i
+instr_of-again bytes i is s =
+    let w = instr_of_is bytes is in
+    w.3 ∙ instr_again i _ _ _ _ w.0 (fields_are bytes w.0 is w.1) (record { fits = s.fits; spelled = sym w.2 ∙ s.spelled })
+
+pub instr_of-refused : (bytes : List ℕ) (place : ℕ) → AreEight bytes → instr_of bytes ≡ Err place → IsFirstBadField bytes place
+instr_of-refused bytes place is e =
+    let w = instr_of_is bytes is in
+    rw w.2 (instr_refused _ _ _ _ w.0 place (fields_are bytes w.0 is w.1) (sym w.3 ∙ e))
+
+eight_fit : (op a b c d : ℕ) → AreFields op a b c d → (k : ℕ) → get_or (eight_bytes op a b c d) k 0 < 256
+eight_fit op a b c d f zero = f.op_fits
+eight_fit op a b c d f (suc zero) = f.a_fits
+eight_fit op a b c d f (suc (suc zero)) = f.b_fits
+eight_fit op a b c d f (suc (suc (suc zero))) = f.c_fits
+eight_fit op a b c d f (suc (suc (suc (suc zero)))) = omega arith
+eight_fit op a b c d f (suc (suc (suc (suc (suc zero))))) = omega arith
+eight_fit op a b c d f (suc (suc (suc (suc (suc (suc zero)))))) = omega arith
+eight_fit op a b c d f (suc (suc (suc (suc (suc (suc (suc zero))))))) = omega arith
+eight_fit op a b c d f (suc (suc (suc (suc (suc (suc (suc (suc k)))))))) = lit< tt
+
+refused_as : (bytes : List ℕ) (place : ℕ) → AreEight bytes → IsFirstBadField bytes place → (r : Result Instr ℕ) → instr_of bytes ≡ r → instr_of bytes ≡ Err place
+refused_as bytes place is bad (Ok i) e =
+    let s = instr_of-found bytes i is e in
+    absurd (bad.here i s.fits (ap (take (field_end place)) (sym s.spelled)))
+refused_as bytes place is bad (Err other) e =
+    let one = place_is_one bytes other place (instr_of-refused bytes other is e) bad in
+    e ∙ ap refused one
+
+-- the bytes of an instruction are eight bytes
+pub instr_bytes-eight : (i : Instr) → IsInstr i → AreEight (instr_bytes i)
+instr_bytes-eight i fits =
+    let q = read_of i fits in
+    rw q.bytes (record { len = refl; fit = λ k. eight_fit q.op q.a q.b q.c q.d q.fields k })
+
+-- what get_instr answers is what instr_of computes
+pub answer_is : (bytes : List ℕ) (r : Result Instr ℕ) → AreEight bytes → IfOk r (λ i. SpellsInstr i bytes) → IfErr r (λ place. IsFirstBadField bytes place) → r ≡ instr_of bytes
+answer_is bytes (Ok i) is found bad = sym (instr_of-again bytes i is found)
+answer_is bytes (Err place) is found bad = sym (refused_as bytes place is bad (instr_of bytes) refl)

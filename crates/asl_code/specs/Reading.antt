@@ -1,7 +1,7 @@
 -- How eight bytes are read as an instruction, and bytes as a value: what the readers of src/ compute. The laws of
 -- proofs/Instrs and proofs/Values lead from here to the relations of specs/Spelling.
-use Rattle.std.specs.Prelude.{ℕ, zero, suc, Bool, not, ◌||◌, ◌==◌, nat_lt, if◌then◌else◌, List, [], ◌∷◌, Option, Some, None, Result, Ok, Err, slice_get}
-use Rattle.std.specs.Int.{w32, cast_signed}
+use Rattle.std.specs.Prelude.{ℕ, zero, suc, Bool, not, ◌||◌, ◌==◌, nat_lt, if◌then◌else◌, List, [], ◌∷◌, Option, Some, None, Result, Ok, Err, slice_get, slice_index, drop}
+use Rattle.std.specs.Int.{w32, cast_signed, from_be_bytes}
 use Rattle.asl_code.specs.declared.instr.Instr.{Instr}
 use Rattle.asl_code.specs.declared.instr.Instr.TheVariants.{SetInt, SetNull, Move, Add, Subtract, LessThan, Equals, GlobalAddress, FieldAddress, Load, Store, New, Jump, JumpIfZero, Call, Return, Output, Acquire, Release}
 
@@ -79,3 +79,7 @@ instr_of_fields op = instr_of_some (row_of op)
 abbrev pub made_by : Option Row → ℕ → ℕ → ℕ → ℕ → Option Instr
 made_by None a b c d = None
 made_by (Some r) a b c d = Some (r.made a b c d)
+
+-- the instruction of eight bytes, or the place of the first bad field
+abbrev pub instr_of : List ℕ → Result Instr ℕ
+instr_of bytes = instr_of_fields (slice_index bytes 0) (slice_index bytes 1) (slice_index bytes 2) (slice_index bytes 3) (from_be_bytes w32 (drop 4 bytes))

@@ -104,6 +104,10 @@ InstrOfSpellingIsOne = (i j : Instr) (bytes : List ℕ) → SpellsInstr i bytes 
 abbrev pub SpellingOfInstrIsOne : Type 0
 SpellingOfInstrIsOne = (i : Instr) (bytes others : List ℕ) → SpellsInstr i bytes → SpellsInstr i others → bytes ≡ others
 
+-- the first bad field is at one place
+abbrev pub FirstBadFieldIsOne : Type 0
+FirstBadFieldIsOne = (bytes : List ℕ) (place other : ℕ) → IsFirstBadField bytes place → IsFirstBadField bytes other → place ≡ other
+
 -- a spelling is of one value, whatever follows it: no value's spelling begins another's
 abbrev pub ValueOfSpellingIsOne : Type 0
 ValueOfSpellingIsOne =

@@ -1,7 +1,7 @@
 ghost use Rattle.std.specs.Prelude.{◌≡◌, ◌≤◌, IfOk, IfErr, IsSomeAnd};
 ghost use Rattle.std.specs.Option.{option_map};
 ghost use Rattle.asl_code.specs.declared.instr.Instr.{Instr};
-ghost use Rattle.asl_code.specs.Spelling.{eight_bytes, SpellsInstr, IsFirstBadField, InstrOfSpellingIsOne, SpellingOfInstrIsOne};
+ghost use Rattle.asl_code.specs.Spelling.{eight_bytes, SpellsInstr, IsFirstBadField, InstrOfSpellingIsOne, SpellingOfInstrIsOne, FirstBadFieldIsOne};
 ghost use Rattle.asl_code.specs.Reading.{row_of, limits_of, bad_field, made_by, instr_of_fields};
 
 use crate::instr::Instr;
@@ -10,6 +10,7 @@ use crate::instr::Instr;
 pub fn instr_and_bytes_are_one()
     ensures instr { InstrOfSpellingIsOne }
     ensures bytes { SpellingOfInstrIsOne }
+    ensures place { FirstBadFieldIsOne }
 {}
 
 /// The eight bytes of an instruction.

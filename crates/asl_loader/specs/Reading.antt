@@ -1,0 +1,157 @@
+-- Reading an image from front to back, to the first field that is cut or bad: what the readers of src/ compute. The laws
+-- of proofs/ lead from here to the relations of specs/Bytes.
+use Rattle.std.specs.Prelude.{◌≡◌, ℕ, zero, suc, ◌-◌, Bool, nat_lt, nat_le, ◌==◌, if◌then◌else◌, List, [], ◌∷◌, length, take, drop, Result, Ok, Err}
+use Rattle.std.specs.Int.{Width, w16, w32, byte_len, from_be_bytes}
+use Rattle.asl_code.specs.declared.image.Function.{Function}
+use Rattle.asl_code.specs.declared.image.Image.{Image}
+use Rattle.asl_code.specs.declared.instr.Instr.{Instr}
+use Rattle.asl_code.specs.declared.lock.Base.{Base}
+use Rattle.asl_code.specs.declared.lock.Base.TheVariants.{Reg, Global}
+use Rattle.asl_code.specs.declared.lock.Expr.{Expr}
+use Rattle.asl_code.specs.declared.lock.Lock.{Lock}
+use Rattle.asl_code.specs.declared.lock.Lock.TheVariants as lock
+use Rattle.asl_code.specs.declared.path.Op.{Op}
+use Rattle.asl_code.specs.declared.path.Op.TheVariants.{Deref, Off}
+use Rattle.asl_code.specs.declared.value.Effect.{Effect}
+use Rattle.asl_code.specs.declared.value.Effect.TheVariants.{Read, Write}
+use Rattle.asl_code.specs.Reading.{instr_of}
+use Rattle.asl_loader.specs.declared.fault.Stop.{Stop}
+use Rattle.asl_loader.specs.declared.fault.Stop.TheVariants.{Short, Bad}
+use Rattle.asl_loader.specs.declared.fault.ReadError.{ReadError}
+use Rattle.asl_loader.specs.declared.fault.ReadError.TheVariants as errors
+
+-- A reader answers a value and the bytes after it, or what stopped it. One goes on where the other ended.
+infixl 10 ◌>>=◌
+abbrev pub ◌>>=◌ : {A B : Type 0} → Result A Stop → (A → Result B Stop) → Result B Stop
+(Ok x) >>= f = f x
+(Err e) >>= f = Err e
+
+-- what a function returned, seen by view, is what reading gives, unless memory ran out
+abbrev pub Fails : {Y : Type 0} → ReadError → Result Y Stop → Type 0
+Fails errors.Memory read = Unit {0}
+Fails (errors.Stop stop) read = read ≡ Err stop
+
+abbrev pub Gives : {X Y : Type 0} → (X → Y) → Result X ReadError → Result Y Stop → Type 0
+Gives view (Ok x) read = read ≡ Ok (view x)
+Gives view (Err e) read = Fails e read
+
+-- a byte, and a number of so many bytes
+unfoldable pub byte_at : List ℕ → Result (ℕ × List ℕ) Stop
+byte_at [] = Err Short
+byte_at (b ∷ rest) = Ok (b, rest)
+
+abbrev pub number_at : Width → List ℕ → Result (ℕ × List ℕ) Stop
+number_at w bytes = if nat_lt (length bytes) (byte_len w) then Err Short else Ok (from_be_bytes w (take (byte_len w) bytes), drop (byte_len w) bytes)
+
+-- what was read of the bytes, if it passes the test, or else a bad field at their front
+abbrev pub passed : {X : Type 0} → Bool → X → List ℕ → Result X Stop
+passed ok x bytes = if ok then Ok x else Err (Bad (length bytes))
+
+unfoldable pub below_at : ℕ → List ℕ → Result (ℕ × List ℕ) Stop
+below_at limit bytes = do
+  n ← byte_at bytes
+  passed (nat_lt n.0 limit) n bytes
+
+unfoldable pub magic_at : List ℕ → Result (ℕ × List ℕ) Stop
+magic_at bytes = do
+  n ← number_at w32 bytes
+  passed (n.0 == 1095978061) n bytes
+
+unfoldable pub version_at : List ℕ → Result (ℕ × List ℕ) Stop
+version_at bytes = do
+  n ← number_at w16 bytes
+  passed (n.0 == 1) n bytes
+
+-- an instruction of eight bytes, or the place of their first bad field
+abbrev pub judged : {X : Type 0} → ℕ → List ℕ → Result X ℕ → Result (X × List ℕ) Stop
+judged len rest (Ok x) = Ok (x, rest)
+judged len rest (Err place) = Err (Bad (len - place))
+
+unfoldable pub instr_at : List ℕ → Result (Instr × List ℕ) Stop
+instr_at bytes = if nat_lt (length bytes) 8 then Err Short else judged (length bytes) (drop 8 bytes) (instr_of (take 8 bytes))
+
+unfoldable pub function_at : List ℕ → Result (Function × List ℕ) Stop
+function_at bytes = do
+  params ← byte_at bytes
+  regs ← byte_at params.1
+  len ← number_at w16 regs.1
+  Ok (record { params = params.0; regs = regs.0; len = len.0 }, len.1)
+
+abbrev pub effect_of : ℕ → Effect
+effect_of zero = Read
+effect_of (suc n) = Write
+
+unfoldable pub effect_at : List ℕ → Result (Effect × List ℕ) Stop
+effect_at bytes = do
+  n ← below_at 2 bytes
+  Ok (effect_of n.0, n.1)
+
+-- the operation of a kind
+abbrev pub op_of : ℕ → List ℕ → Result (Op × List ℕ) Stop
+op_of zero bytes = Ok (Deref, bytes)
+op_of (suc kind) bytes = do
+  offset ← byte_at bytes
+  Ok (Off offset.0, offset.1)
+
+unfoldable pub op_at : List ℕ → Result (Op × List ℕ) Stop
+op_at bytes = do
+  kind ← below_at 2 bytes
+  op_of kind.0 kind.1
+
+-- so many items, by a reader of one
+unfoldable pub items_at : {X : Type 0} → (List ℕ → Result (X × List ℕ) Stop) → ℕ → List ℕ → Result (List X × List ℕ) Stop
+items_at item zero bytes = Ok ([], bytes)
+items_at item (suc n) bytes = do
+  first ← item bytes
+  others ← items_at item n first.1
+  Ok (first.0 ∷ others.0, others.1)
+
+-- a count, and so many items
+unfoldable pub counted_at : {X : Type 0} → (List ℕ → Result (X × List ℕ) Stop) → List ℕ → Result (List X × List ℕ) Stop
+counted_at item bytes = do
+  count ← number_at w16 bytes
+  items_at item count.0 count.1
+
+unfoldable pub path_at : List ℕ → Result (List Op × List ℕ) Stop
+path_at bytes = do
+  count ← below_at 9 bytes
+  items_at op_at count.0 count.1
+
+unfoldable pub expr_at : Base → Effect → List ℕ → Result (Lock × List ℕ) Stop
+expr_at base effect bytes = do
+  path ← path_at bytes
+  Ok (lock.Expr (record { base = base; path = path.0 }) effect, path.1)
+
+-- the lock of a kind and an effect
+unfoldable pub lock_of : ℕ → Effect → List ℕ → Result (Lock × List ℕ) Stop
+lock_of zero effect bytes = Ok (lock.Root effect, bytes)
+lock_of (suc zero) effect bytes = do
+  class ← number_at w16 bytes
+  Ok (lock.Class class.0 effect, class.1)
+lock_of (suc (suc zero)) effect bytes = do
+  register ← byte_at bytes
+  expr_at (Reg register.0) effect register.1
+lock_of (suc (suc (suc kind))) effect bytes = do
+  global ← number_at w16 bytes
+  expr_at (Global global.0) effect global.1
+
+unfoldable pub lock_at : List ℕ → Result (Lock × List ℕ) Stop
+lock_at bytes = do
+  kind ← below_at 4 bytes
+  effect ← effect_at kind.1
+  lock_of kind.0 effect.0 effect.1
+
+unfoldable pub list_at : List ℕ → Result (List Lock × List ℕ) Stop
+list_at bytes = counted_at lock_at bytes
+
+unfoldable pub image_at : List ℕ → Result (Image × List ℕ) Stop
+image_at bytes = do
+  front ← magic_at bytes
+  version ← version_at front.1
+  classes ← number_at w16 version.1
+  globals ← counted_at (number_at w16) classes.1
+  functions ← counted_at function_at globals.1
+  start ← number_at w16 functions.1
+  code ← counted_at instr_at start.1
+  lists ← counted_at list_at code.1
+  Ok (record { version = version.0; classes = classes.0; globals = globals.0; functions = functions.0; start = start.0; code = code.0; lists = lists.0 }, lists.1)

@@ -1,0 +1,7 @@
+//! Images as bytes: `store` writes a program's bytes, and `load` reads them.
+#![tactic(auto)]
+
+mod fault;
+pub mod reading;
+
+pub use fault::{ReadError, Stop};

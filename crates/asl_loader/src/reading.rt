@@ -1,0 +1,307 @@
+ghost use Rattle.std.specs.Prelude.{◌≡◌, ◌≤◌, length};
+ghost use Rattle.std.specs.Int.{w16, w32};
+ghost use Rattle.asl_code.specs.declared.value.Effect.{Effect};
+ghost use Rattle.asl_loader.specs.Reading.{Gives, byte_at, number_at, below_at, magic_at, version_at, instr_at};
+ghost use Rattle.asl_loader.specs.Reading.{function_at, effect_at, op_at, items_at, counted_at, path_at, expr_at, lock_of};
+ghost use Rattle.asl_loader.specs.Reading.{lock_at, list_at, image_at};
+
+use crate::fault::{ReadError, Stop};
+use asl_code::{Base, Effect, Expr, Function, Image, Instr, Items, Lock, Op, Path, get_instr};
+use std::alloc::Global;
+
+/// The four letters at the front of an image, as a number.
+const MAGIC: u32 = 0x4153_4c4d;
+
+fn short() -> ReadError
+    ensures { result ≡ ReadError.Stop Stop.Short }
+{
+    ReadError::Stop(Stop::Short)
+}
+
+/// The field at the front of the bytes is bad.
+fn bad(bytes: &[u8]) -> ReadError
+    ensures { result ≡ ReadError.Stop (Stop.Bad (length bytes.now)) }
+{
+    ReadError::Stop(Stop::Bad(bytes.len()))
+}
+
+#[tactic(auto, unfolding(crate::specs::Reading::byte_at))]
+fn byte_at(bytes: &[u8]) -> Result<(u8, &[u8]), ReadError>
+    ensures { Gives (λ x. (x.0, x.1.now)) result (byte_at bytes.now) }
+{
+    match bytes {
+        [] => Err(short()),
+        [first, rest @ ..] => Ok((*first, rest)),
+    }
+}
+
+fn two_at(bytes: &[u8]) -> Result<(u16, &[u8]), ReadError>
+    ensures { Gives (λ x. (x.0, x.1.now)) result (number_at w16 bytes.now) }
+{
+    if bytes.len() < 2 {
+        return Err(short());
+    }
+    let (front, rest) = bytes.split_at(2);
+    Ok((u16::from_be_bytes([front[0], front[1]]), rest))
+}
+
+fn four_at(bytes: &[u8]) -> Result<(u32, &[u8]), ReadError>
+    ensures { Gives (λ x. (x.0, x.1.now)) result (number_at w32 bytes.now) }
+{
+    if bytes.len() < 4 {
+        return Err(short());
+    }
+    let (front, rest) = bytes.split_at(4);
+    let number = u32::from_be_bytes([front[0], front[1], front[2], front[3]]);
+    Ok((number, rest))
+}
+
+/// A byte below the limit.
+#[tactic(auto, unfolding(crate::specs::Reading::below_at))]
+fn below_at(limit: u8, bytes: &[u8]) -> Result<(u8, &[u8]), ReadError>
+    ensures { Gives (λ x. (x.0, x.1.now)) result (below_at limit bytes.now) }
+{
+    let (byte, rest) = byte_at(bytes)?;
+    if byte < limit {
+        Ok((byte, rest))
+    } else {
+        Err(bad(bytes))
+    }
+}
+
+#[tactic(auto, unfolding(crate::specs::Reading::magic_at))]
+fn magic_at(bytes: &[u8]) -> Result<(u32, &[u8]), ReadError>
+    ensures { Gives (λ x. (x.0, x.1.now)) result (magic_at bytes.now) }
+{
+    let (magic, rest) = four_at(bytes)?;
+    if magic == MAGIC {
+        Ok((magic, rest))
+    } else {
+        Err(bad(bytes))
+    }
+}
+
+#[tactic(auto, unfolding(crate::specs::Reading::version_at))]
+fn version_at(bytes: &[u8]) -> Result<(u16, &[u8]), ReadError>
+    ensures { Gives (λ x. (x.0, x.1.now)) result (version_at bytes.now) }
+{
+    let (version, rest) = two_at(bytes)?;
+    if version == 1 {
+        Ok((version, rest))
+    } else {
+        Err(bad(bytes))
+    }
+}
+
+fn instr_at(bytes: &[u8]) -> Result<(Instr, &[u8]), ReadError>
+    ensures { Gives (λ x. (x.0, x.1.now)) result (instr_at bytes.now) }
+{
+    if bytes.len() < 8 {
+        return Err(short());
+    }
+    let ([op, a, b, c, d0, d1, d2, d3, ..], rest) = bytes.split_at(8) else {
+        unreachable!();
+    };
+    match get_instr(&[*op, *a, *b, *c, *d0, *d1, *d2, *d3]) {
+        Ok(instr) => Ok((instr, rest)),
+        Err(place) => Err(ReadError::Stop(Stop::Bad(bytes.len() - place))),
+    }
+}
+
+#[tactic(auto, unfolding(crate::specs::Reading::function_at))]
+fn function_at(bytes: &[u8]) -> Result<(Function, &[u8]), ReadError>
+    ensures { Gives (λ x. (x.0, x.1.now)) result (function_at bytes.now) }
+{
+    let (params, rest) = byte_at(bytes)?;
+    let (regs, rest) = byte_at(rest)?;
+    let (len, rest) = two_at(rest)?;
+    let len = u32::from(len);
+    Ok((Function { params, regs, len }, rest))
+}
+
+#[tactic(auto, unfolding(crate::specs::Reading::effect_at))]
+fn effect_at(bytes: &[u8]) -> Result<(Effect, &[u8]), ReadError>
+    ensures { Gives (λ x. (x.0, x.1.now)) result (effect_at bytes.now) }
+{
+    let (effect, rest) = below_at(2, bytes)?;
+    if effect == 0 {
+        Ok((Effect::Read, rest))
+    } else {
+        Ok((Effect::Write, rest))
+    }
+}
+
+#[tactic(auto, unfolding(crate::specs::Reading::op_at))]
+fn op_at(bytes: &[u8]) -> Result<(Op, &[u8]), ReadError>
+    ensures { Gives (λ x. (x.0, x.1.now)) result (op_at bytes.now) }
+{
+    let (kind, rest) = below_at(2, bytes)?;
+    if kind == 0 {
+        return Ok((Op::Deref, rest));
+    }
+    let (offset, rest) = byte_at(rest)?;
+    Ok((Op::Off(offset), rest))
+}
+
+fn ops_of(count: u8, bytes: &[u8]) -> Result<(Path, &[u8]), ReadError>
+    requires { count ≤ 8 }
+    ensures { Gives (λ x. (x.0, x.1.now)) result (items_at op_at count bytes.now) }
+{
+    let mut path = Path::new();
+    let mut rest = bytes;
+    for _ in 0..count {
+        let (op, after) = op_at(rest)?;
+        path.push(op);
+        rest = after;
+    }
+    Ok((path, rest))
+}
+
+#[tactic(auto, unfolding(crate::specs::Reading::path_at))]
+fn path_at(bytes: &[u8]) -> Result<(Path, &[u8]), ReadError>
+    ensures { Gives (λ x. (x.0, x.1.now)) result (path_at bytes.now) }
+{
+    let (count, rest) = below_at(9, bytes)?;
+    ops_of(count, rest)
+}
+
+#[tactic(auto, unfolding(crate::specs::Reading::expr_at))]
+fn expr_at(base: Base, effect: Effect, bytes: &[u8]) -> Result<(Lock, &[u8]), ReadError>
+    ensures { Gives (λ x. (x.0, x.1.now)) result (expr_at base effect bytes.now) }
+{
+    let (path, rest) = path_at(bytes)?;
+    Ok((Lock::Expr(Expr { base, path }, effect), rest))
+}
+
+/// The rest of a lock, behind its kind and its effect.
+#[tactic(auto, unfolding(crate::specs::Reading::lock_of))]
+fn lock_of(kind: u8, effect: Effect, bytes: &[u8]) -> Result<(Lock, &[u8]), ReadError>
+    ensures { Gives (λ x. (x.0, x.1.now)) result (lock_of kind effect bytes.now) }
+{
+    match kind {
+        0 => Ok((Lock::Root(effect), bytes)),
+        1 => {
+            let (class, rest) = two_at(bytes)?;
+            Ok((Lock::Class(class, effect), rest))
+        }
+        2 => {
+            let (register, rest) = byte_at(bytes)?;
+            expr_at(Base::Reg(register), effect, rest)
+        }
+        _ => {
+            let (global, rest) = two_at(bytes)?;
+            expr_at(Base::Global(global), effect, rest)
+        }
+    }
+}
+
+#[tactic(auto, unfolding(crate::specs::Reading::lock_at))]
+fn lock_at(bytes: &[u8]) -> Result<(Lock, &[u8]), ReadError>
+    ensures { Gives (λ x. (x.0, x.1.now)) result (lock_at bytes.now) }
+{
+    let (kind, rest) = below_at(4, bytes)?;
+    let (effect, rest) = effect_at(rest)?;
+    lock_of(kind, effect, rest)
+}
+
+fn classes_of(alloc: Global, count: u16, bytes: &[u8]) -> Result<(Items<u16>, &[u8]), ReadError>
+    ensures { Gives (λ x. (x.0, x.1.now)) result (items_at (number_at w16) count bytes.now) }
+{
+    let mut classes = Items::new(alloc);
+    let mut rest = bytes;
+    for _ in 0..count {
+        let (class, after) = two_at(rest)?;
+        classes.push(class)?;
+        rest = after;
+    }
+    Ok((classes, rest))
+}
+
+fn functions_of(alloc: Global, count: u16, bytes: &[u8]) -> Result<(Items<Function>, &[u8]), ReadError>
+    ensures { Gives (λ x. (x.0, x.1.now)) result (items_at function_at count bytes.now) }
+{
+    let mut functions = Items::new(alloc);
+    let mut rest = bytes;
+    for _ in 0..count {
+        let (function, after) = function_at(rest)?;
+        functions.push(function)?;
+        rest = after;
+    }
+    Ok((functions, rest))
+}
+
+fn code_of(alloc: Global, count: u16, bytes: &[u8]) -> Result<(Items<Instr>, &[u8]), ReadError>
+    ensures { Gives (λ x. (x.0, x.1.now)) result (items_at instr_at count bytes.now) }
+{
+    let mut code = Items::new(alloc);
+    let mut rest = bytes;
+    for _ in 0..count {
+        let (instr, after) = instr_at(rest)?;
+        code.push(instr)?;
+        rest = after;
+    }
+    Ok((code, rest))
+}
+
+fn locks_of(alloc: Global, count: u16, bytes: &[u8]) -> Result<(Items<Lock>, &[u8]), ReadError>
+    ensures { Gives (λ x. (x.0, x.1.now)) result (items_at lock_at count bytes.now) }
+{
+    let mut locks = Items::new(alloc);
+    let mut rest = bytes;
+    for _ in 0..count {
+        let (lock, after) = lock_at(rest)?;
+        locks.push(lock)?;
+        rest = after;
+    }
+    Ok((locks, rest))
+}
+
+#[tactic(auto, unfolding(crate::specs::Reading::list_at, crate::specs::Reading::counted_at))]
+fn list_at(alloc: Global, bytes: &[u8]) -> Result<(Items<Lock>, &[u8]), ReadError>
+    ensures { Gives (λ x. (x.0, x.1.now)) result (list_at bytes.now) }
+{
+    let (count, rest) = two_at(bytes)?;
+    locks_of(alloc, count, rest)
+}
+
+fn lists_of(alloc: Global, count: u16, bytes: &[u8]) -> Result<(Items<Items<Lock>>, &[u8]), ReadError>
+    ensures { Gives (λ x. (x.0, x.1.now)) result (items_at list_at count bytes.now) }
+{
+    let mut lists = Items::new(alloc);
+    let mut rest = bytes;
+    for _ in 0..count {
+        let (list, after) = list_at(alloc, rest)?;
+        lists.push(list)?;
+        rest = after;
+    }
+    Ok((lists, rest))
+}
+
+/// The image at the front of the bytes, and the bytes after it.
+#[tactic(auto, unfolding(crate::specs::Reading::image_at, crate::specs::Reading::counted_at))]
+pub fn image_at(alloc: Global, bytes: &[u8]) -> Result<(Image, &[u8]), ReadError>
+    ensures { Gives (λ x. (x.0, x.1.now)) result (image_at bytes.now) }
+{
+    let (_magic, rest) = magic_at(bytes)?;
+    let (version, rest) = version_at(rest)?;
+    let (classes, rest) = two_at(rest)?;
+    let (count, rest) = two_at(rest)?;
+    let (globals, rest) = classes_of(alloc, count, rest)?;
+    let (count, rest) = two_at(rest)?;
+    let (functions, rest) = functions_of(alloc, count, rest)?;
+    let (start, rest) = two_at(rest)?;
+    let (count, rest) = two_at(rest)?;
+    let (code, rest) = code_of(alloc, count, rest)?;
+    let (count, rest) = two_at(rest)?;
+    let (lists, rest) = lists_of(alloc, count, rest)?;
+    let image = Image {
+        version: u32::from(version),
+        classes: u32::from(classes),
+        globals,
+        functions,
+        start,
+        code,
+        lists,
+    };
+    Ok((image, rest))
+}
