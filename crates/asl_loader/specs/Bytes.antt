@@ -176,3 +176,11 @@ pub record HasBadByte (X : Type 0) (Is : X → Type 0) (fields_of : X → List F
   pub bad : IsBadByte wrong place
   pub at_is : at ≡ length (text_of front) + place
   pub none : (other : X) (following : List Field) → Is other → fields_of other ≢ front ++ wrong ∷ following
+
+-- a spelling is of one image
+abbrev pub ImageOfSpellingIsOne : Type 0
+ImageOfSpellingIsOne = (i j : Image) (bytes : List ℕ) → SpellsImage i bytes → SpellsImage j bytes → i ≡ j
+
+-- an image has one spelling
+abbrev pub SpellingOfImageIsOne : Type 0
+SpellingOfImageIsOne = (i : Image) (bytes others : List ℕ) → SpellsImage i bytes → SpellsImage i others → bytes ≡ others

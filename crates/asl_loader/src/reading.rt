@@ -1,4 +1,4 @@
-ghost use Rattle.std.specs.Prelude.{◌≡◌, ◌≤◌, length};
+ghost use Rattle.std.specs.Prelude.{◌≡◌, ◌≤◌, length, take};
 ghost use Rattle.std.specs.Int.{w16, w32};
 ghost use Rattle.asl_code.specs.declared.value.Effect.{Effect};
 ghost use Rattle.asl_loader.specs.Reading.{Gives, byte_at, number_at, below_at, magic_at, version_at, instr_at};
@@ -99,13 +99,20 @@ fn instr_at(bytes: &[u8]) -> Result<(Instr, &[u8]), ReadError>
     if bytes.len() < 8 {
         return Err(short());
     }
-    let ([op, a, b, c, d0, d1, d2, d3, ..], rest) = bytes.split_at(8) else {
-        unreachable!();
-    };
-    match get_instr(&[*op, *a, *b, *c, *d0, *d1, *d2, *d3]) {
-        Ok(instr) => Ok((instr, rest)),
+    match get_instr(&eight_of(bytes)) {
+        Ok(instr) => Ok((instr, &bytes[8..])),
         Err(place) => Err(ReadError::Stop(Stop::Bad(bytes.len() - place))),
     }
+}
+
+/// The first eight bytes.
+fn eight_of(bytes: &[u8]) -> [u8; 8]
+    requires { 8 ≤ length bytes.now }
+    ensures { result ≡ take 8 bytes.now }
+{
+    [
+        bytes[0], bytes[1], bytes[2], bytes[3], bytes[4], bytes[5], bytes[6], bytes[7],
+    ]
 }
 
 #[tactic(auto, unfolding(crate::specs::Reading::function_at))]

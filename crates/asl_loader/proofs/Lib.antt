@@ -1,0 +1,4 @@
+pub mod Eight
+pub mod Images
+pub mod Loop
+pub mod Reader
