@@ -1,4 +1,6 @@
 pub mod Eight
+pub mod Fields
 pub mod Images
+pub mod Items
 pub mod Loop
 pub mod Reader

@@ -206,3 +206,15 @@ reads_nothing X Is fields_of x is only none = record {
   cut = λ bytes fit e. absurd cc;
   bad = λ bytes left fit e. absurd cc;
 }
+
+-- the same, where the first part is a function of the whole
+pub reads_key : (X Y : Type 0) (IsX : X → Type 0) (IsY : Y → Type 0) (fields_x : X → List Field) (fields_y : Y → List Field)
+    (read_x : List ℕ → Result (X × List ℕ) Stop) (read_y : X → List ℕ → Result (Y × List ℕ) Stop) (key : Y → X) (after : Y → List Field)
+    → Reads X IsX fields_x read_x → ((x : X) → IsX x → Reads Y (λ y. IsY y × (key y ≡ x)) after (read_y x)) → ((y : Y) → IsY y → IsX (key y))
+    → ((y : Y) → IsY y → fields_y y ≡ fields_x (key y) ++ after y) → ((x : X) → IsX x → (y : Y) × IsY y × (key y ≡ x))
+    → Reads Y IsY fields_y (λ bytes. read_x bytes >>= λ x. read_y x.0 x.1)
+reads_key X Y IsX IsY fields_x fields_y read_x read_y key after first second keyed joins fills =
+    reads_both X Y IsX IsY fields_x fields_y read_x read_y (λ y x. key y ≡ x) after first second
+    (λ y is. (key y, keyed y is, refl))
+    (λ x y is_x is_y has. joins y is_y ∙ ap (λ (w : X). fields_x w ++ after y) has)
+    fills

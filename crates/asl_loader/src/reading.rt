@@ -1,4 +1,4 @@
-ghost use Rattle.std.specs.Prelude.{◌≡◌, ◌≤◌, length, take};
+ghost use Rattle.std.specs.Prelude.{◌≡◌, ◌≤◌, ◌<◌, length, take, IfOk};
 ghost use Rattle.std.specs.Int.{w16, w32};
 ghost use Rattle.asl_code.specs.declared.value.Effect.{Effect};
 ghost use Rattle.asl_loader.specs.Reading.{Gives, byte_at, number_at, below_at, magic_at, version_at, instr_at};
@@ -59,7 +59,8 @@ fn four_at(bytes: &[u8]) -> Result<(u32, &[u8]), ReadError>
 /// A byte below the limit.
 #[tactic(auto, unfolding(crate::specs::Reading::below_at))]
 fn below_at(limit: u8, bytes: &[u8]) -> Result<(u8, &[u8]), ReadError>
-    ensures { Gives (λ x. (x.0, x.1.now)) result (below_at limit bytes.now) }
+    ensures read { Gives (λ x. (x.0, x.1.now)) result (below_at limit bytes.now) }
+    ensures below { IfOk result (λ x. x.0 < limit) }
 {
     let (byte, rest) = byte_at(bytes)?;
     if byte < limit {
