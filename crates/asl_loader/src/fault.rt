@@ -1,7 +1,35 @@
 ghost use Rattle.std.specs.Prelude.{◌≡◌};
 ghost use Rattle.asl_loader.specs.declared.fault.ReadError.TheVariants.{Memory};
 
+use asl_code::VerifyFault;
 use std::alloc::{AllocError, AllocFailed};
+use thiserror::Error;
+
+/// Why bytes are those of no program: the first thing that is wrong, from front to back (`docs/BYTES.md`, "Images").
+#[derive(Clone, Copy, Debug, PartialEq, Eq, Error)]
+pub enum LoadFault {
+    /// The first field is not `ASLM`.
+    #[error("Magic")]
+    Magic,
+    /// The version is not 1.
+    #[error("Version")]
+    Version,
+    /// The input, of so many bytes, ends within a field.
+    #[error("Truncated({0})")]
+    Truncated(usize),
+    /// No image has the field whose first bad byte is here.
+    #[error("BadField({0})")]
+    BadField(usize),
+    /// An image ends before this byte.
+    #[error("Trailing({0})")]
+    Trailing(usize),
+    /// The bytes spell an image that is no program.
+    #[error("Verify({0})")]
+    Verify(VerifyFault),
+    /// Memory was refused.
+    #[error("OutOfMemory")]
+    OutOfMemory,
+}
 
 /// What stops the reading of an image.
 #[derive(Clone, Copy, Debug, PartialEq, Eq)]

@@ -3,6 +3,8 @@
 
 mod fault;
 pub mod laws;
-pub mod reading;
+mod loading;
+mod reading;
 
-pub use fault::{ReadError, Stop};
+pub use fault::LoadFault;
+pub use loading::load;

@@ -287,7 +287,7 @@ fn lists_of(alloc: Global, count: u16, bytes: &[u8]) -> Result<(Items<Items<Lock
 
 /// The image at the front of the bytes, and the bytes after it.
 #[tactic(auto, unfolding(crate::specs::Reading::image_at, crate::specs::Reading::counted_at))]
-pub fn image_at(alloc: Global, bytes: &[u8]) -> Result<(Image, &[u8]), ReadError>
+pub(crate) fn image_at(alloc: Global, bytes: &[u8]) -> Result<(Image, &[u8]), ReadError>
     ensures { Gives (λ x. (x.0, x.1.now)) result (image_at bytes.now) }
 {
     let (_magic, rest) = magic_at(bytes)?;

@@ -1,0 +1,52 @@
+ghost use Rattle.std.specs.Prelude.{◌≡◌, ◌≤◌, ◌⊎◌, length, IfOk, IfErr};
+ghost use Rattle.asl_code.specs.declared.image.Image.{Image};
+ghost use Rattle.asl_code.specs.Verified.{IsVerified};
+ghost use Rattle.asl_loader.specs.Bytes.{SpellsImage};
+ghost use Rattle.asl_loader.specs.Faults.{IsFault, bad_fault, whole_of};
+
+use crate::fault::{LoadFault, ReadError, Stop};
+use crate::reading::image_at;
+use asl_code::{Image, Program};
+use std::alloc::Global;
+
+/// The program that the bytes spell, all of them.
+pub fn load(alloc: Global, bytes: &[u8]) -> Result<Program, LoadFault>
+    ensures found { IfOk result (λ program. SpellsImage program bytes.now) }
+    ensures verified { IfOk result (λ program. IsVerified program) }
+
+    // What is spelled and verified is answered, unless memory was refused.
+    ensures only { (image : Image) → SpellsImage image bytes.now → IsVerified image
+        → (result ≡ Ok image) ⊎ (result ≡ Err LoadFault.OutOfMemory) }
+    ensures refused { IfErr result (λ fault. IsFault bytes.now fault) }
+{
+    let image = whole_of(alloc, bytes)?;
+    match Program::verify(image) {
+        Ok(program) => Ok(program),
+        Err((fault, _image)) => Err(LoadFault::Verify(fault)),
+    }
+}
+
+/// The image of all the bytes, before it is judged.
+#[tactic(auto, unfolding(crate::specs::Faults::whole_of))]
+fn whole_of(alloc: Global, bytes: &[u8]) -> Result<Image, LoadFault>
+    ensures { (result ≡ Err LoadFault.OutOfMemory) ⊎ (result ≡ whole_of bytes.now) }
+{
+    match image_at(alloc, bytes) {
+        Ok((image, [])) => Ok(image),
+        Ok((_image, rest)) => Err(LoadFault::Trailing(bytes.len() - rest.len())),
+        Err(ReadError::Memory) => Err(LoadFault::OutOfMemory),
+        Err(ReadError::Stop(Stop::Short)) => Err(LoadFault::Truncated(bytes.len())),
+        Err(ReadError::Stop(Stop::Bad(left))) => Err(bad_fault(bytes.len() - left)),
+    }
+}
+
+/// The fault of a bad byte: the field at byte 0 is the letters, and the one at byte 4 the version.
+fn bad_fault(at: usize) -> LoadFault
+    ensures { result ≡ bad_fault at }
+{
+    match at {
+        0 => LoadFault::Magic,
+        4 => LoadFault::Version,
+        _ => LoadFault::BadField(at),
+    }
+}
