@@ -5,3 +5,5 @@ pub mod Items
 pub mod Loads
 pub mod Loop
 pub mod Reader
+pub mod Stores
+pub mod Writes

@@ -38,7 +38,7 @@ done x = Ok x
 pub ok_is : {A : Type 0} (x y : A) → done x ≡ done y → x ≡ y
 ok_is x y e = cc
 
-text_of-append : (front back : List Field) → text_of (front ++ back) ≡ text_of front ++ text_of back
+pub text_of-append : (front back : List Field) → text_of (front ++ back) ≡ text_of front ++ text_of back
 text_of-append front back = flat_map-append bytes_of front back
 
 -- where a list that begins with other ++ tail, and front ++ x ∷ more, are one: either front lies within the first part, or

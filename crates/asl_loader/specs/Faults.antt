@@ -1,7 +1,7 @@
 -- What is wrong with bytes that are those of no program (docs/BYTES.md, "Images").
 use Rattle.std.specs.Prelude.{◌≡◌, ◌≢◌, ℕ, ◌-◌, ◌<◌, ◌==◌, if◌then◌else◌, List, [], length, take, Result, Ok, Err}
 use Rattle.asl_code.specs.declared.image.Image.{Image}
-use Rattle.asl_code.specs.Verified.{IsAnswer}
+use Rattle.asl_code.specs.Verified.{IsAnswer, IsVerified}
 use Rattle.asl_loader.specs.declared.fault.LoadFault.{LoadFault}
 use Rattle.asl_loader.specs.declared.fault.LoadFault.TheVariants.{Magic, Version, Truncated, BadField, Trailing, Verify, OutOfMemory}
 use Rattle.asl_loader.specs.declared.fault.Stop.{Stop}
@@ -23,6 +23,22 @@ IsFault bytes (BadField at) = (at ≢ 0) × (at ≢ 4) × IsBadImageByte bytes a
 IsFault bytes (Trailing at) = (at < length bytes) × ((image : Image) × SpellsImage image (take at bytes))
 IsFault bytes (Verify cause) = (image : Image) × SpellsImage image bytes × IsAnswer image cause
 IsFault bytes OutOfMemory = Unit {0}
+
+-- the bytes are those that a program of this image is stored as
+abbrev pub IsStored : Image → List ℕ → Type 0
+IsStored image bytes = IsVerified image × SpellsImage image bytes
+
+-- the bytes are loaded as a program of this image
+abbrev pub IsLoaded : List ℕ → Image → Type 0
+IsLoaded bytes image = SpellsImage image bytes × IsVerified image
+
+-- to load what was stored gives the program back
+abbrev pub LoadUndoesStore : Type 0
+LoadUndoesStore = (image other : Image) (bytes : List ℕ) → IsStored image bytes → IsLoaded bytes other → other ≡ image
+
+-- to store what was loaded gives the bytes back
+abbrev pub StoreUndoesLoad : Type 0
+StoreUndoesLoad = (bytes others : List ℕ) (image : Image) → IsLoaded bytes image → IsStored image others → others ≡ bytes
 
 -- ---- what the code computes
 

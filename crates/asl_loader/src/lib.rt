@@ -5,6 +5,11 @@ mod fault;
 pub mod laws;
 mod loading;
 mod reading;
+mod storing;
 
 pub use fault::LoadFault;
 pub use loading::load;
+pub use storing::store;
+
+#[cfg(test)]
+mod tests;

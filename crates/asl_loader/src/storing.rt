@@ -1,0 +1,229 @@
+ghost use Rattle.std.specs.Prelude.{◌≡◌, ◌<◌, ◌^◌, ℕ, List, [], ◌∷◌, length, IfOk, OnOk};
+ghost use Rattle.std.specs.List.{AllByRecursion};
+ghost use Rattle.asl_code.specs.declared.image.Function.{Function};
+ghost use Rattle.asl_code.specs.declared.instr.Instr.{Instr};
+ghost use Rattle.asl_code.specs.declared.lock.Lock.{Lock};
+ghost use Rattle.asl_code.specs.declared.path.Op.{Op};
+ghost use Rattle.asl_code.specs.declared.value.Effect.{Effect};
+ghost use Rattle.asl_code.specs.Spelling.{IsInstr};
+ghost use Rattle.asl_loader.specs.Bytes.{one, two, counted, class_fields, function_fields, instr_fields};
+ghost use Rattle.asl_loader.specs.Bytes.{effect_field, op_fields, path_fields, lock_fields, list_fields};
+ghost use Rattle.asl_loader.specs.Bytes.{IsFunction, IsOp, IsPath, IsLock, IsList, AreItems, SpellsImage};
+ghost use Rattle.asl_loader.specs.Writing.{Writes, WritesEach, HasFields};
+
+use asl_code::{Base, Effect, Function, Image, Instr, Items, Lock, Op, Path, Program, put_instr};
+use std::alloc::{AllocError, Global};
+
+/// The bytes of the program.
+pub fn store(alloc: Global, program: &Program) -> Result<Vec<u8>, AllocError>
+    ensures { IfOk result (λ bytes. SpellsImage program.now bytes.items) }
+{
+    let mut out = Vec::new(alloc);
+    put_image(&mut out, program.image())?;
+    Ok(out)
+}
+
+fn put_image(out: &mut Vec<u8>, image: &Image) -> Result<(), AllocError>
+    requires empty { out.old.items ≡ [] }
+    requires has { HasFields image.now }
+    ensures { OnOk result (SpellsImage image.now out.new.items) }
+{
+    out.extend_from_slice(b"ASLM")?;
+    put_two(out, image.version as u16)?;
+    put_two(out, image.classes as u16)?;
+    put_globals(out, image.globals.as_slice())?;
+    put_functions(out, image.functions.as_slice())?;
+    put_two(out, image.start)?;
+    put_code(out, image.code.as_slice())?;
+    put_lists(out, image.lists.as_slice())
+}
+
+fn put_byte(out: &mut Vec<u8>, n: u8) -> Result<(), AllocError>
+    ensures { OnOk result (Writes ℕ (λ n. n < 256) (λ n. one n ∷ []) out.old.items out.new.items n) }
+{
+    out.push(n)?;
+    Ok(())
+}
+
+fn put_two(out: &mut Vec<u8>, n: u16) -> Result<(), AllocError>
+    ensures { OnOk result (Writes ℕ (λ n. n < 2 ^ 16) (λ n. two n ∷ []) out.old.items out.new.items n) }
+{
+    out.extend_from_slice(&n.to_be_bytes())?;
+    Ok(())
+}
+
+fn put_globals(out: &mut Vec<u8>, globals: &[u16]) -> Result<(), AllocError>
+    requires { length globals.now < 2 ^ 16 }
+    ensures { OnOk result (Writes (List ℕ) (AreItems ℕ (λ class. class < 2 ^ 16)) (counted class_fields)
+        out.old.items out.new.items globals.now) }
+{
+    put_two(out, globals.len() as u16)?;
+    put_classes(out, globals)
+}
+
+fn put_classes(out: &mut Vec<u8>, classes: &[u16]) -> Result<(), AllocError>
+    ensures { OnOk result (WritesEach ℕ (λ class. class < 2 ^ 16) class_fields out.old.items out.new.items classes.now) }
+{
+    for class in classes {
+        put_two(out, *class)?;
+    }
+    Ok(())
+}
+
+fn put_function(out: &mut Vec<u8>, function: &Function) -> Result<(), AllocError>
+    requires { function.now.len < 2 ^ 16 }
+    ensures { OnOk result (Writes Function IsFunction function_fields out.old.items out.new.items function.now) }
+{
+    put_byte(out, function.params)?;
+    put_byte(out, function.regs)?;
+    put_two(out, function.len as u16)
+}
+
+fn put_functions(out: &mut Vec<u8>, functions: &[Function]) -> Result<(), AllocError>
+    requires count { length functions.now < 2 ^ 16 }
+    requires each { AllByRecursion (λ f. f.len < 2 ^ 16) functions.now }
+    ensures { OnOk result (Writes (List Function) (AreItems Function IsFunction) (counted function_fields)
+        out.old.items out.new.items functions.now) }
+{
+    put_two(out, functions.len() as u16)?;
+    put_each_function(out, functions)
+}
+
+fn put_each_function(out: &mut Vec<u8>, functions: &[Function]) -> Result<(), AllocError>
+    requires { AllByRecursion (λ f. f.len < 2 ^ 16) functions.now }
+    ensures { OnOk result (WritesEach Function IsFunction function_fields out.old.items out.new.items functions.now) }
+{
+    for function in functions {
+        put_function(out, function)?;
+    }
+    Ok(())
+}
+
+fn put_code(out: &mut Vec<u8>, code: &[Instr]) -> Result<(), AllocError>
+    requires { length code.now < 2 ^ 16 }
+    ensures { OnOk result (Writes (List Instr) (AreItems Instr IsInstr) (counted instr_fields)
+        out.old.items out.new.items code.now) }
+{
+    put_two(out, code.len() as u16)?;
+    put_instrs(out, code)
+}
+
+fn put_instrs(out: &mut Vec<u8>, code: &[Instr]) -> Result<(), AllocError>
+    ensures { OnOk result (WritesEach Instr IsInstr instr_fields out.old.items out.new.items code.now) }
+{
+    for instr in code {
+        put_one_instr(out, instr)?;
+    }
+    Ok(())
+}
+
+fn put_one_instr(out: &mut Vec<u8>, instr: &Instr) -> Result<(), AllocError>
+    ensures { OnOk result (Writes Instr IsInstr instr_fields out.old.items out.new.items instr.now) }
+{
+    out.extend_from_slice(&put_instr(instr))?;
+    Ok(())
+}
+
+fn put_lists(out: &mut Vec<u8>, lists: &[Items<Lock>]) -> Result<(), AllocError>
+    requires count { length lists.now < 2 ^ 16 }
+    requires each { AllByRecursion (λ locks. length locks < 2 ^ 16) lists.now }
+    ensures { OnOk result (Writes (List (List Lock)) (AreItems (List Lock) IsList) (counted list_fields)
+        out.old.items out.new.items lists.now) }
+{
+    put_two(out, lists.len() as u16)?;
+    put_each_list(out, lists)
+}
+
+fn put_each_list(out: &mut Vec<u8>, lists: &[Items<Lock>]) -> Result<(), AllocError>
+    requires { AllByRecursion (λ locks. length locks < 2 ^ 16) lists.now }
+    ensures { OnOk result (WritesEach (List Lock) IsList list_fields out.old.items out.new.items lists.now) }
+{
+    for list in lists {
+        put_list(out, list.as_slice())?;
+    }
+    Ok(())
+}
+
+fn put_list(out: &mut Vec<u8>, locks: &[Lock]) -> Result<(), AllocError>
+    requires { length locks.now < 2 ^ 16 }
+    ensures { OnOk result (Writes (List Lock) IsList list_fields out.old.items out.new.items locks.now) }
+{
+    put_two(out, locks.len() as u16)?;
+    put_locks(out, locks)
+}
+
+fn put_locks(out: &mut Vec<u8>, locks: &[Lock]) -> Result<(), AllocError>
+    ensures { OnOk result (WritesEach Lock IsLock lock_fields out.old.items out.new.items locks.now) }
+{
+    for lock in locks {
+        put_lock(out, lock)?;
+    }
+    Ok(())
+}
+
+fn put_lock(out: &mut Vec<u8>, lock: &Lock) -> Result<(), AllocError>
+    ensures { OnOk result (Writes Lock IsLock lock_fields out.old.items out.new.items lock.now) }
+{
+    match lock {
+        Lock::Root(effect) => {
+            put_byte(out, 0)?;
+            put_effect(out, *effect)
+        }
+        Lock::Class(class, effect) => {
+            put_byte(out, 1)?;
+            put_effect(out, *effect)?;
+            put_two(out, *class)
+        }
+        Lock::Expr(expr, effect) => match expr.base {
+            Base::Reg(register) => {
+                put_byte(out, 2)?;
+                put_effect(out, *effect)?;
+                put_byte(out, register)?;
+                put_path(out, &expr.path)
+            }
+            Base::Global(global) => {
+                put_byte(out, 3)?;
+                put_effect(out, *effect)?;
+                put_two(out, global)?;
+                put_path(out, &expr.path)
+            }
+        },
+    }
+}
+
+fn put_effect(out: &mut Vec<u8>, effect: Effect) -> Result<(), AllocError>
+    ensures { OnOk result (Writes Effect (λ e. Unit {0}) (λ e. effect_field e ∷ []) out.old.items out.new.items effect) }
+{
+    match effect {
+        Effect::Read => put_byte(out, 0),
+        Effect::Write => put_byte(out, 1),
+    }
+}
+
+fn put_path(out: &mut Vec<u8>, path: &Path) -> Result<(), AllocError>
+    ensures { OnOk result (Writes (List Op) IsPath path_fields out.old.items out.new.items path.now) }
+{
+    put_byte(out, path.len() as u8)?;
+    put_ops(out, path.as_slice())
+}
+
+fn put_ops(out: &mut Vec<u8>, ops: &[Op]) -> Result<(), AllocError>
+    ensures { OnOk result (WritesEach Op IsOp op_fields out.old.items out.new.items ops.now) }
+{
+    for op in ops {
+        put_op(out, *op)?;
+    }
+    Ok(())
+}
+
+fn put_op(out: &mut Vec<u8>, op: Op) -> Result<(), AllocError>
+    ensures { OnOk result (Writes Op IsOp op_fields out.old.items out.new.items op) }
+{
+    match op {
+        Op::Deref => put_byte(out, 0),
+        Op::Off(offset) => {
+            put_byte(out, 1)?;
+            put_byte(out, offset)
+        }
+    }
+}
