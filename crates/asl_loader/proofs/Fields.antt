@@ -1,15 +1,15 @@
 -- Single fields: bytes, numbers of two and four bytes, those of them that pass a test, and instructions.
-use Rattle.std.proofs.Common.{◌≡◌, ◌≢◌, ℕ, zero, suc, ◌+◌, ◌-◌, ◌≤◌, ◌<◌, ◌^◌, Bool, true, false, cond, eqb, ltb, List, [], ◌∷◌, ◌++◌, length, take, drop, get_or, Result, Ok, Err, refl, sym, ap, ap₂, subst, ◌∙◌, arith, inl, inr, lit<, length-append}
+use Rattle.std.proofs.Common.{◌≡◌, ◌≢◌, ℕ, ◌-◌, ◌≤◌, ◌<◌, ◌^◌, Bool, true, false, cond, eqb, ltb, List, [], ◌∷◌, ◌++◌, length, take, drop, Result, Ok, Err, refl, sym, ap, ap₂, subst, ◌∙◌, arith, inl, inr, lit<, length-append}
 use Rattle.std.specs.Int.{Width, w16, w32, byte_len, from_be_bytes, to_be_bytes}
 use Rattle.std.proofs.lemmas.Bool.{cases_lt, ltb-false, le-ltb, ltb-true, lt-ltb, eqb-true, eq-eqb}
-use Rattle.std.proofs.lemmas.List.{take_at, drop_at, take-append-drop, length-take, length-drop, append-nil}
+use Rattle.std.proofs.lemmas.List.{take_at, drop_at, take-append-drop, length-take, append-nil}
 use Rattle.std.proofs.lemmas.Nat.{be_bytes_2, be_bytes_4, from_be_bytes-to_be_bytes_2, from_be_bytes-to_be_bytes_4}
 use Rattle.asl_code.specs.declared.instr.Instr.{Instr}
 use Rattle.asl_code.specs.declared.instr.Instr.TheVariants.{Release}
 use Rattle.asl_code.specs.Reading.{instr_of}
-use Rattle.asl_code.specs.Spelling.{instr_bytes, IsInstr, SpellsInstr, IsFirstBadField}
-use Rattle.asl_code.proofs.Instrs.{AreEight, instr_of-found, instr_of-again, instr_of-refused, instr_bytes-eight}
-use Rattle.asl_loader.specs.Bytes.{Field, Plain, Eight, bytes_of, text_of, one, two, instr_fields, EndsWithin, HasBadByte}
+use Rattle.asl_code.specs.Spelling.{instr_bytes, IsInstr, SpellsInstr}
+use Rattle.asl_code.proofs.Instrs.{instr_of-found, instr_of-again, instr_of-refused, instr_bytes-eight}
+use Rattle.asl_loader.specs.Bytes.{Field, Plain, Eight, text_of, one, two, instr_fields, EndsWithin}
 use Rattle.asl_loader.specs.declared.fault.Stop.{Stop}
 use Rattle.asl_loader.specs.declared.fault.Stop.TheVariants.{Short, Bad}
 use Rattle.asl_loader.specs.Reading.{◌>>=◌, passed, byte_at, number_at, below_at, magic_at, version_at, instr_at, judged}
@@ -23,9 +23,9 @@ reads_as X Is Are fields_of reader r to from = record {
   again = λ x rest is. r.again x rest (from x is);
   cut = λ bytes fit e. let w = r.cut bytes fit e in record { thing = w.thing; is = to w.thing w.is; front = w.front; next = w.next; more = w.more; opens = w.opens; rest = w.rest; parts = w.parts; cut = w.cut };
   bad = λ bytes left fit e.
-    let v = r.bad bytes left fit e in
-    let w = v.2 in
-    (v.0, v.1, record { thing = w.thing; is = to w.thing w.is; front = w.front; next = w.next; more = w.more; opens = w.opens; wrong = w.wrong; rest = w.rest; parts = w.parts; like = w.like; place = w.place; bad = w.bad; at_is = w.at_is; none = λ other following is. w.none other following (from other is) });
+      let v = r.bad bytes left fit e in
+      let w = v.2 in
+      (v.0, v.1, record { thing = w.thing; is = to w.thing w.is; front = w.front; next = w.next; more = w.more; opens = w.opens; wrong = w.wrong; rest = w.rest; parts = w.parts; like = w.like; place = w.place; bad = w.bad; at_is = w.at_is; none = λ other following is. w.none other following (from other is) });
 }
 
 -- a field of a fixed width that any bytes are
@@ -126,7 +126,14 @@ module _ (Is : ℕ → Type 0) (text : ℕ → List ℕ) (width : ℕ) (reader :
   -- fewer bytes than the field has
   number_cut : (Are : ℕ → Type 0) (n : ℕ) → Are n → (bytes : List ℕ) → reader bytes ≡ Err Short → EndsWithin ℕ Are (λ n. Plain (text n) ∷ []) bytes
   number_cut Are n are bytes e = record {
-    thing = n; is = are; front = []; next = Plain (text n); more = []; opens = refl; rest = bytes; parts = refl;
+    thing = n;
+    is = are;
+    front = [];
+    next = Plain (text n);
+    more = [];
+    opens = refl;
+    rest = bytes;
+    parts = refl;
     cut = omega (arith, number.wide n, number.short bytes e);
   }
 
@@ -193,18 +200,31 @@ module _ (Is : ℕ → Type 0) (text : ℕ → List ℕ) (width : ℕ) (reader :
           | inl f ↦ absurd (number.never bytes left f)
           | inr b ↦
               let g = passed_bad (test b.0.0) b.0 bytes left b.2 in
-              let f = number.takes bytes b.0.0 b.0.1 fit b.1 in
-              (0, omega (arith, g.1), record {
-                thing = n; is = (is, ok); front = []; next = Plain (text n); more = []; opens = refl;
-                wrong = Plain (text b.0.0); rest = b.0.1; parts = f.1; like = number.wide n ∙ sym (number.wide b.0.0);
-                place = 0; bad = refl; at_is = refl;
-                none = λ other following is_o same.
-                  let t : text other ≡ text b.0.0 = cc in
-                  let o : other ≡ b.0.0 = text_is_one other b.0.0 is_o.0 f.0 t in
-                  let yes : test b.0.0 ≡ true = ap test (sym o) ∙ is_o.1 in
-                  let no : test b.0.0 ≡ false = g.0 in
-                  absurd cc;
-              })
+              let f = number.takes bytes b.0.0 b.0.1 fit b.1 in (
+                0,
+                omega (arith, g.1),
+                record {
+                  thing = n;
+                  is = (is, ok);
+                  front = [];
+                  next = Plain (text n);
+                  more = [];
+                  opens = refl;
+                  wrong = Plain (text b.0.0);
+                  rest = b.0.1;
+                  parts = f.1;
+                  like = number.wide n ∙ sym (number.wide b.0.0);
+                  place = 0;
+                  bad = refl;
+                  at_is = refl;
+                  none = λ other following is_o same.
+                      let t : text other ≡ text b.0.0 = cc in
+                      let o : other ≡ b.0.0 = text_is_one other b.0.0 is_o.0 f.0 t in
+                      let yes : test b.0.0 ≡ true = ap test (sym o) ∙ is_o.1 in
+                      let no : test b.0.0 ≡ false = g.0 in
+                      absurd cc;
+                },
+              )
         ]
 
     pub reads_tested : Reads ℕ (λ x. Is x × (test x ≡ true)) (λ n. Plain (text n) ∷ []) (λ bytes. reader bytes >>= λ x. passed (test x.0) x bytes)
@@ -293,7 +313,14 @@ instr_again x rest is =
 
 instr_cut : (bytes : List ℕ) → IsBytes bytes → instr_at bytes ≡ Err Short → EndsWithin Instr IsInstr instr_fields bytes
 instr_cut bytes fit e = record {
-  thing = Release; is = tt; front = []; next = Eight (instr_bytes Release); more = []; opens = refl; rest = bytes; parts = refl;
+  thing = Release;
+  is = tt;
+  front = [];
+  next = Eight (instr_bytes Release);
+  more = [];
+  opens = refl;
+  rest = bytes;
+  parts = refl;
   cut = instr_short bytes e;
 }
 
@@ -301,18 +328,30 @@ instr_bad : (bytes : List ℕ) (left : ℕ) → IsBytes bytes → instr_at bytes
 instr_bad bytes left fit e =
     let long = instr_long bytes (λ s. let both : failed (Bad left) ≡ failed Short = sym e ∙ s in let same : Bad left ≡ Short = cc in absurd cc) in
     let j = judged_bad (length bytes) (drop 8 bytes) (instr_of (take 8 bytes)) left (sym (instr_at-long bytes long) ∙ e) in
-    let refused = instr_of-refused (take 8 bytes) j.0 (eight_are bytes long fit) j.1 in
-    (j.0, omega (arith, j.2, refused.is_field, long), record {
-      thing = Release; is = tt; front = []; next = Eight (instr_bytes Release); more = []; opens = refl;
-      wrong = Eight (take 8 bytes); rest = drop 8 bytes; parts = sym (take-append-drop 8 bytes);
-      like = omega (arith, length-take 8 bytes, long);
-      place = j.0; bad = refused; at_is = omega arith;
-      none = λ other following is same.
-        let spelled : take 8 bytes ≡ instr_bytes other = cc in
-        let again : instr_of (take 8 bytes) ≡ Ok other = instr_of-again (take 8 bytes) other (eight_are bytes long fit) (record { fits = is; spelled = spelled }) in
-        let refusal : instr_of (take 8 bytes) ≡ Err j.0 = j.1 in
-        absurd cc;
-    })
+    let refused = instr_of-refused (take 8 bytes) j.0 (eight_are bytes long fit) j.1 in (
+      j.0,
+      omega (arith, j.2, refused.is_field, long),
+      record {
+        thing = Release;
+        is = tt;
+        front = [];
+        next = Eight (instr_bytes Release);
+        more = [];
+        opens = refl;
+        wrong = Eight (take 8 bytes);
+        rest = drop 8 bytes;
+        parts = sym (take-append-drop 8 bytes);
+        like = omega (arith, length-take 8 bytes, long);
+        place = j.0;
+        bad = refused;
+        at_is = omega arith;
+        none = λ other following is same.
+            let spelled : take 8 bytes ≡ instr_bytes other = cc in
+            let again : instr_of (take 8 bytes) ≡ Ok other = instr_of-again (take 8 bytes) other (eight_are bytes long fit) (record { fits = is; spelled = spelled }) in
+            let refusal : instr_of (take 8 bytes) ≡ Err j.0 = j.1 in
+            absurd cc;
+      },
+    )
 
 pub instr_reads : Reads Instr IsInstr instr_fields instr_at
 instr_reads = record { found = instr_found; again = instr_again; cut = instr_cut; bad = instr_bad }

@@ -1,5 +1,5 @@
 -- The readers of functions, locks and images read their fields.
-use Rattle.std.proofs.Common.{◌≡◌, ℕ, zero, suc, ◌+◌, ◌≤◌, ◌<◌, ◌^◌, List, [], ◌∷◌, ◌++◌, length, drop, Result, Ok, Err, refl, sym, ap, subst, ◌∙◌, arith, lit<, lit≤}
+use Rattle.std.proofs.Common.{◌≡◌, ℕ, zero, suc, ◌<◌, ◌^◌, List, [], ◌∷◌, ◌++◌, length, drop, Ok, refl, sym, ap, ◌∙◌, arith, lit<, lit≤}
 use Rattle.std.specs.List.{flat_map, AllByRecursion}
 use Rattle.std.specs.Int.{w16, w32, to_be_bytes}
 use Rattle.std.proofs.lemmas.List.{append-nil}
@@ -16,8 +16,7 @@ use Rattle.asl_code.specs.declared.path.Op.TheVariants.{Deref, Off}
 use Rattle.asl_code.specs.declared.value.Effect.{Effect}
 use Rattle.asl_code.specs.declared.value.Effect.TheVariants.{Read, Write}
 use Rattle.asl_code.specs.Spelling.{IsInstr}
-use Rattle.asl_loader.specs.Bytes.{Field, Plain, text_of, one, two, counted, class_fields, function_fields, instr_fields, effect_field, op_fields, path_fields, expr_fields, lock_fields, list_fields, image_fields, IsFunction, IsOp, IsBase, IsPath, IsLock, AreItems, IsList, IsImage, SpellsImage, ImageOfSpellingIsOne}
-use Rattle.asl_loader.specs.declared.fault.Stop.{Stop}
+use Rattle.asl_loader.specs.Bytes.{Field, Plain, one, two, counted, class_fields, function_fields, instr_fields, effect_field, op_fields, path_fields, expr_fields, lock_fields, list_fields, image_fields, IsFunction, IsOp, IsBase, IsPath, IsLock, AreItems, IsList, IsImage, ImageOfSpellingIsOne}
 use Rattle.asl_loader.specs.Reading.{◌>>=◌, byte_at, number_at, below_at, magic_at, version_at, instr_at, function_at, effect_of, effect_at, op_of, op_at, items_at, counted_at, path_at, expr_at, lock_of, lock_at, list_at, image_at}
 use Rattle.asl_loader.proofs.Fields.{reads_as, byte_reads, two_reads, below_reads, version_reads, magic_reads, instr_reads}
 use Rattle.asl_loader.proofs.Items.{AreSoMany, items_reads, counted_reads}
@@ -35,18 +34,18 @@ function_reads =
     (λ params bytes. byte_at bytes >>= λ regs. number_at w16 regs.1 >>= λ len. Ok (record { params = params; regs = regs.0; len = len.0 }, len.1))
     (λ f. f.params) (λ f. one f.regs ∷ two f.len ∷ []) byte_reads
     (λ params is_p. reads_key ℕ Function (λ n. n < 256) (λ f. IsFunction f × (f.params ≡ params)) (λ n. one n ∷ []) (λ f. one f.regs ∷ two f.len ∷ []) byte_at
-      (λ regs bytes. number_at w16 bytes >>= λ len. Ok (record { params = params; regs = regs; len = len.0 }, len.1))
-      (λ f. f.regs) (λ f. two f.len ∷ []) byte_reads
-      (λ regs is_r. reads_key ℕ Function (λ n. n < 2 ^ 16) (λ f. (IsFunction f × (f.params ≡ params)) × (f.regs ≡ regs)) (λ n. two n ∷ []) (λ f. two f.len ∷ []) (number_at w16)
-        (λ len bytes. Ok (record { params = params; regs = regs; len = len }, bytes))
-        (λ f. f.len) (λ f. []) two_reads
-        (λ len is_l. reads_nothing Function (λ f. ((IsFunction f × (f.params ≡ params)) × (f.regs ≡ regs)) × (f.len ≡ len)) (λ f. []) (record { params = params; regs = regs; len = len })
-          (((record { params_fits = is_p; regs_fits = is_r; len_fits = is_l }, refl), refl), refl)
-          (λ f is. function_is f params regs len is.0.0.1 is.0.1 is.1) refl)
-        (λ f is. is.0.0.len_fits) (λ f is. refl)
-        (λ len is_l. (record { params = params; regs = regs; len = len }, ((record { params_fits = is_p; regs_fits = is_r; len_fits = is_l }, refl), refl), refl)))
-      (λ f is. is.0.regs_fits) (λ f is. refl)
-      (λ regs is_r. (record { params = params; regs = regs; len = 0 }, (record { params_fits = is_p; regs_fits = is_r; len_fits = lit< tt }, refl), refl)))
+    (λ regs bytes. number_at w16 bytes >>= λ len. Ok (record { params = params; regs = regs; len = len.0 }, len.1))
+    (λ f. f.regs) (λ f. two f.len ∷ []) byte_reads
+    (λ regs is_r. reads_key ℕ Function (λ n. n < 2 ^ 16) (λ f. (IsFunction f × (f.params ≡ params)) × (f.regs ≡ regs)) (λ n. two n ∷ []) (λ f. two f.len ∷ []) (number_at w16)
+    (λ len bytes. Ok (record { params = params; regs = regs; len = len }, bytes))
+    (λ f. f.len) (λ f. []) two_reads
+    (λ len is_l. reads_nothing Function (λ f. ((IsFunction f × (f.params ≡ params)) × (f.regs ≡ regs)) × (f.len ≡ len)) (λ f. []) (record { params = params; regs = regs; len = len })
+    (((record { params_fits = is_p; regs_fits = is_r; len_fits = is_l }, refl), refl), refl)
+    (λ f is. function_is f params regs len is.0.0.1 is.0.1 is.1) refl)
+    (λ f is. is.0.0.len_fits) (λ f is. refl)
+    (λ len is_l. (record { params = params; regs = regs; len = len }, ((record { params_fits = is_p; regs_fits = is_r; len_fits = is_l }, refl), refl), refl)))
+    (λ f is. is.0.regs_fits) (λ f is. refl)
+    (λ regs is_r. (record { params = params; regs = regs; len = 0 }, (record { params_fits = is_p; regs_fits = is_r; len_fits = lit< tt }, refl), refl)))
     (λ f is. is.params_fits) (λ f is. refl)
     (λ params is_p. (record { params = params; regs = 0; len = 0 }, record { params_fits = is_p; regs_fits = lit< tt; len_fits = lit< tt }, refl))
 
@@ -162,8 +161,8 @@ path_reads =
     reads_key ℕ (List Op) (λ n. n < 9) IsPath (λ n. one n ∷ []) path_fields (below_at 9) (λ n bytes. items_at op_at n bytes)
     (λ p. length p) (λ p. flat_map op_fields p) (below_reads 9 (lit< tt) (lit≤ tt))
     (λ n is. reads_as (List Op) (AreSoMany Op IsOp n) (λ p. IsPath p × (length p ≡ n)) (λ p. flat_map op_fields p) (items_at op_at n) (items_reads Op IsOp op_fields op_at op_reads Deref tt n)
-      (λ p are. (record { few = omega (arith, are.count, is); each = are.each }, are.count))
-      (λ p are. record { each = are.0.each; count = are.1 }))
+    (λ p are. (record { few = omega (arith, are.count, is); each = are.each }, are.count))
+    (λ p are. record { each = are.0.each; count = are.1 }))
     (λ p is. omega (arith, is.few)) (λ p is. refl)
     (λ n is. (derefs n, record { few = omega (arith, length-derefs n, is); each = derefs_are n }, length-derefs n))
 
@@ -297,8 +296,8 @@ lock_reads_rest (suc (suc zero)) is effect =
     reads_both ℕ Lock (λ n. n < 256) (IsOfKind 2 effect) (λ n. one n ∷ []) after_effect byte_at (λ r bytes. expr_at (Reg r) effect bytes)
     (λ l r. IsOnRegister r effect l) (λ l. drop 3 (lock_fields l)) byte_reads
     (λ r is_r. expr_reads (Reg r) effect (λ l. IsOfKind 2 effect l × IsOnRegister r effect l) (λ l. drop 3 (lock_fields l))
-      (λ path is_p. (((((is_r, is_p), refl), refl), (path, is_p, refl))))
-      (λ l is_l. is_l.1) (λ path. refl))
+    (λ path is_p. (((((is_r, is_p), refl), refl), (path, is_p, refl))))
+    (λ l is_l. is_l.1) (λ path. refl))
     (λ l is_l. on_register l effect is_l.0.0 is_l.0.1 is_l.1)
     (λ r l is_r is_l has. ap after_effect has.2 ∙ ap (λ (x : Lock). one r ∷ drop 3 (lock_fields x)) (sym has.2))
     (λ r is_r. (expr_lock (Reg r) [] effect, (((is_r, record { few = lit≤ tt; each = tt }), refl), refl), ([], record { few = lit≤ tt; each = tt }, refl)))
@@ -306,8 +305,8 @@ lock_reads_rest (suc (suc (suc zero))) is effect =
     reads_both ℕ Lock (λ n. n < 2 ^ 16) (IsOfKind 3 effect) (λ n. two n ∷ []) after_effect (number_at w16) (λ g bytes. expr_at (Global g) effect bytes)
     (λ l g. IsOnGlobal g effect l) (λ l. drop 3 (lock_fields l)) two_reads
     (λ g is_g. expr_reads (Global g) effect (λ l. IsOfKind 3 effect l × IsOnGlobal g effect l) (λ l. drop 3 (lock_fields l))
-      (λ path is_p. (((((is_g, is_p), refl), refl), (path, is_p, refl))))
-      (λ l is_l. is_l.1) (λ path. refl))
+    (λ path is_p. (((((is_g, is_p), refl), refl), (path, is_p, refl))))
+    (λ l is_l. is_l.1) (λ path. refl))
     (λ l is_l. on_global l effect is_l.0.0 is_l.0.1 is_l.1)
     (λ g l is_g is_l has. ap after_effect has.2 ∙ ap (λ (x : Lock). two g ∷ drop 3 (lock_fields x)) (sym has.2))
     (λ g is_g. (expr_lock (Global g) [] effect, (((is_g, record { few = lit≤ tt; each = tt }), refl), refl), ([], record { few = lit≤ tt; each = tt }, refl)))
@@ -319,7 +318,7 @@ lock_reads =
     reads_key ℕ Lock (λ n. n < 4) IsLock (λ n. one n ∷ []) lock_fields (below_at 4) (λ kind bytes. effect_at bytes >>= λ effect. lock_of kind effect.0 effect.1)
     kind_of after_kind (below_reads 4 (lit< tt) (lit≤ tt))
     (λ kind is. reads_key Effect Lock (λ e. Unit {0}) (λ l. IsLock l × (kind_of l ≡ kind)) (λ e. effect_field e ∷ []) after_kind effect_at (lock_of kind)
-      effect_in after_effect effect_reads (λ effect is_e. lock_reads_rest kind is effect) (λ l is_l. tt) (λ l is_l. effect_shown l) (λ effect is_e. lock_filled kind is effect))
+    effect_in after_effect effect_reads (λ effect is_e. lock_reads_rest kind is effect) (λ l is_l. tt) (λ l is_l. effect_shown l) (λ effect is_e. lock_filled kind is effect))
     (λ l is. kind_below l) (λ l is. kind_shows l)
     (λ kind is. lock_of_kind kind is)
 

@@ -1,9 +1,9 @@
 -- Items one after the other, and behind their count.
-use Rattle.std.proofs.Common.{◌≡◌, ℕ, zero, suc, ◌+◌, ◌≤◌, ◌<◌, ◌^◌, List, [], ◌∷◌, ◌++◌, length, drop, replicate, Result, Ok, Err, refl, sym, ap, subst, ◌∙◌, arith}
+use Rattle.std.proofs.Common.{◌≡◌, ℕ, zero, suc, ◌<◌, ◌^◌, List, [], ◌∷◌, ◌++◌, length, drop, replicate, Result, Ok, refl, sym, ap, subst, ◌∙◌, arith}
 use Rattle.std.specs.List.{flat_map, AllByRecursion}
 use Rattle.std.specs.Int.{w16}
 use Rattle.std.proofs.lemmas.List.{append-nil, length-replicate}
-use Rattle.asl_loader.specs.Bytes.{Field, Plain, two, counted, AreItems}
+use Rattle.asl_loader.specs.Bytes.{Field, two, counted, AreItems}
 use Rattle.asl_loader.specs.declared.fault.Stop.{Stop}
 use Rattle.asl_loader.specs.Reading.{◌>>=◌, number_at, items_at, counted_at}
 use Rattle.asl_loader.proofs.Fields.{reads_as, two_reads}
@@ -42,7 +42,7 @@ module _ (X : Type 0) (Is : X → Type 0) (fields_of : X → List Field) (item :
       (λ xs. flat_map fields_of xs) (λ xs. flat_map fields_of (drop 1 xs)) (items_at item n) (λ others bytes. Ok (x ∷ others, bytes))
       (λ xs others. xs ≡ x ∷ others) (λ xs. []) reads
       (λ others are. reads_nothing (List X) (λ xs. (AreSoMany X Is (suc n) xs × ((tail : List X) × (xs ≡ x ∷ tail))) × (xs ≡ x ∷ others)) (λ xs. []) (x ∷ others)
-        ((more_are n x others is are, (others, refl)), refl) (λ xs is_x. is_x.1) refl)
+      ((more_are n x others is are, (others, refl)), refl) (λ xs is_x. is_x.1) refl)
       (λ xs are. (are.1.0, others_of n x xs are.0 are.1.0 are.1.1, are.1.1))
       (λ others xs is_o is_x e. ap (λ (l : List X). flat_map fields_of (drop 1 l)) e ∙ sym (append-nil (flat_map fields_of others)))
       (λ others are. (x ∷ others, (more_are n x others is are, (others, refl)), refl))
@@ -64,8 +64,8 @@ module _ (X : Type 0) (Is : X → Type 0) (fields_of : X → List Field) (item :
       reads_both ℕ (List X) (λ n. n < 2 ^ 16) (AreItems X Is) (λ n. two n ∷ []) (λ xs. counted fields_of xs) (number_at w16) (λ n bytes. items_at item n bytes)
       (λ xs n. length xs ≡ n) (λ xs. flat_map fields_of xs) two_reads
       (λ n is. reads_as (List X) (AreSoMany X Is n) (λ xs. AreItems X Is xs × (length xs ≡ n)) (λ xs. flat_map fields_of xs) (items_at item n) (items_reads n)
-        (λ xs are. (record { counted = omega (arith, are.count, is); each = are.each }, are.count))
-        (λ xs are. record { each = are.0.each; count = are.1 }))
+      (λ xs are. (record { counted = omega (arith, are.count, is); each = are.each }, are.count))
+      (λ xs are. record { each = are.0.each; count = are.1 }))
       (λ xs are. (length xs, are.counted, refl))
       (λ n xs is are has. ap (λ (m : ℕ). two m ∷ flat_map fields_of xs) has)
       (λ n is. (replicate n some, record { counted = omega (arith, length-replicate n some, is); each = copies X Is some some_is n }, length-replicate n some))

@@ -1,21 +1,19 @@
 -- What the reader of all the bytes answers is the image that they spell, or the first thing that is wrong with them.
-use Rattle.std.proofs.Common.{◌≡◌, ◌≢◌, ℕ, ◌+◌, ◌-◌, ◌≤◌, ◌<◌, Bool, true, false, eqb, ◌⊎◌, inl, inr, List, [], ◌∷◌, ◌++◌, length, take, get_or, Result, Ok, Err, refl, sym, ap, ap₂, subst, ◌∙◌, arith, length-append}
-use Rattle.std.specs.Prelude.{IfOk, IfErr}
+use Rattle.std.proofs.Common.{◌≡◌, ◌≢◌, ℕ, ◌-◌, ◌≤◌, ◌<◌, Bool, true, false, eqb, ◌⊎◌, inl, inr, List, [], ◌++◌, length, take, Result, Ok, Err, refl, sym, ap, ap₂, subst, ◌∙◌, arith, length-append}
 use Rattle.std.proofs.lemmas.Bool.{eqb-true}
 use Rattle.std.proofs.lemmas.List.{append-nil, nil_from_length, take_at}
 use Rattle.asl_code.specs.declared.fault.VerifyFault.{VerifyFault}
 use Rattle.asl_code.specs.declared.image.Image.{Image}
 use Rattle.asl_code.specs.Verified.{applies, IsAnswer, IsVerified}
-use Rattle.asl_loader.specs.Bytes.{text_of, image_fields, SpellsImage, IsImage}
-use Rattle.asl_loader.specs.Faults.{IsBadImageByte, IsFault, bad_fault, stop_fault, ended, whole_from, whole_of}
+use Rattle.asl_loader.specs.Bytes.{text_of, image_fields, SpellsImage}
+use Rattle.asl_loader.specs.Faults.{IsBadImageByte, IsFault, bad_fault, ended, whole_from, whole_of}
 use Rattle.asl_loader.specs.Reading.{image_at}
 use Rattle.asl_loader.specs.declared.fault.LoadFault.{LoadFault}
-use Rattle.asl_loader.specs.declared.fault.LoadFault.TheVariants.{Magic, Version, Truncated, BadField, Trailing, Verify, OutOfMemory}
+use Rattle.asl_loader.specs.declared.fault.LoadFault.TheVariants.{Truncated, Trailing, OutOfMemory}
 use Rattle.asl_loader.specs.declared.fault.Stop.{Stop}
 use Rattle.asl_loader.specs.declared.fault.Stop.TheVariants.{Short, Bad}
 use Rattle.asl_loader.proofs.Eight.{IsBytes}
 use Rattle.asl_loader.proofs.Images.{image_reads}
-use Rattle.asl_loader.proofs.Reader.{Reads}
 
 pub rest_within : (bytes : List ℕ) (i : Image) (rest : List ℕ) → IsBytes bytes → image_at bytes ≡ Ok (i, rest) → length rest ≤ length bytes
 rest_within bytes i rest fit e =
@@ -99,7 +97,7 @@ abbrev pub IsWhole : List ℕ → Result Image LoadFault → Type 0
 IsWhole bytes r = (r ≡ Err OutOfMemory) ⊎ (r ≡ whole_of bytes)
 
 pub found_is : (bytes : List ℕ) (i : Image) → IsBytes bytes → IsWhole bytes (Ok i) → SpellsImage i bytes
-found_is bytes i fit w = elim w [ | inl out ↦ let both : answered i ≡ refused OutOfMemory = out in absurd cc | inr e ↦ whole_found bytes i fit (sym e) ]
+found_is bytes i fit w = elim w [ inl out ↦ let both : answered i ≡ refused OutOfMemory = out in absurd cc | inr e ↦ whole_found bytes i fit (sym e) ]
 
 pub refused_is : (bytes : List ℕ) (f : LoadFault) → IsBytes bytes → IsWhole bytes (Err f) → IsFault bytes f
 refused_is bytes f fit w =

@@ -1,12 +1,11 @@
 -- What it takes that a reader reads the fields of things, and how readers that follow each other do so together.
-use Rattle.std.proofs.Common.{◌≡◌, ◌≢◌, ℕ, zero, suc, ◌+◌, ◌-◌, ◌≤◌, ◌<◌, Bool, true, false, cond, ◌⊎◌, inl, inr, List, [], ◌∷◌, ◌++◌, length, take, drop, get_or, Result, Ok, Err, refl, sym, ap, ap₂, subst, ◌∙◌, append_assoc, arith, length-append}
-use Rattle.std.specs.List.{flat_map}
+use Rattle.std.proofs.Common.{◌≡◌, ◌≢◌, ℕ, ◌+◌, ◌⊎◌, inl, inr, List, [], ◌∷◌, ◌++◌, length, Result, Ok, Err, refl, sym, ap, ap₂, subst, ◌∙◌, append_assoc, arith, length-append}
 use Rattle.std.proofs.lemmas.List.{append-nil, append_cancel_left, get_or-append-add}
 use Rattle.std.proofs.lemmas.List.Concat.{flat_map-append}
-use Rattle.asl_loader.specs.Bytes.{Field, Plain, Eight, bytes_of, text_of, EndsWithin, IsLike, IsBadByte, HasBadByte}
+use Rattle.asl_loader.specs.Bytes.{Field, bytes_of, text_of, EndsWithin, HasBadByte}
 use Rattle.asl_loader.specs.declared.fault.Stop.{Stop}
 use Rattle.asl_loader.specs.declared.fault.Stop.TheVariants.{Short, Bad}
-use Rattle.asl_loader.specs.Reading.{◌>>=◌, passed}
+use Rattle.asl_loader.specs.Reading.{◌>>=◌}
 use Rattle.asl_loader.proofs.Eight.{IsBytes}
 
 -- the bad byte is so many bytes from the end
@@ -61,14 +60,13 @@ overlap A (p ∷ part) tail (f ∷ front) x more e =
 
 -- what one reader takes, and then what another takes of the rest
 module _ (X Y : Type 0) (IsX : X → Type 0) (IsY : Y → Type 0) (fields_x : X → List Field) (fields_y : Y → List Field)
-  (read_x : List ℕ → Result (X × List ℕ) Stop) (read_y : X → List ℕ → Result (Y × List ℕ) Stop)
-  (Has : Y → X → Type 0) (after : Y → List Field)
-  (first : Reads X IsX fields_x read_x)
-  (second : (x : X) → IsX x → Reads Y (λ y. IsY y × Has y x) after (read_y x))
-  (part : (y : Y) → IsY y → (x : X) × IsX x × Has y x)
-  (joins : (x : X) (y : Y) → IsX x → IsY y → Has y x → fields_y y ≡ fields_x x ++ after y)
-  (fills : (x : X) → IsX x → (y : Y) × IsY y × Has y x) where
-
+    (read_x : List ℕ → Result (X × List ℕ) Stop) (read_y : X → List ℕ → Result (Y × List ℕ) Stop)
+    (Has : Y → X → Type 0) (after : Y → List Field)
+    (first : Reads X IsX fields_x read_x)
+    (second : (x : X) → IsX x → Reads Y (λ y. IsY y × Has y x) after (read_y x))
+    (part : (y : Y) → IsY y → (x : X) × IsX x × Has y x)
+    (joins : (x : X) (y : Y) → IsX x → IsY y → Has y x → fields_y y ≡ fields_x x ++ after y)
+    (fills : (x : X) → IsX x → (y : Y) × IsY y × Has y x) where
   both : List ℕ → Result (Y × List ℕ) Stop
   both bytes = read_x bytes >>= λ x. read_y x.0 x.1
 
@@ -94,7 +92,7 @@ module _ (X Y : Type 0) (IsX : X → Type 0) (IsY : Y → Type 0) (fields_x : X 
   both_again y rest is =
       let p = part y is in
       let split : text_of (fields_y y) ++ rest ≡ text_of (fields_x p.0) ++ (text_of (after y) ++ rest) =
-          ap (λ (t : List Field). text_of t ++ rest) (joins p.0 y p.1 is p.2) ∙ ap (λ (t : List ℕ). t ++ rest) (text_of-append (fields_x p.0) (after y)) ∙ append_assoc (text_of (fields_x p.0)) (text_of (after y)) rest in
+      ap (λ (t : List Field). text_of t ++ rest) (joins p.0 y p.1 is p.2) ∙ ap (λ (t : List ℕ). t ++ rest) (text_of-append (fields_x p.0) (after y)) ∙ append_assoc (text_of (fields_x p.0)) (text_of (after y)) rest in
       ap both split ∙ rw (first.again p.0 (text_of (after y) ++ rest) p.1) ((second p.0 p.1).again y rest (is, p.2))
 
   -- what is wrong in the first part is wrong in the whole
@@ -102,9 +100,15 @@ module _ (X Y : Type 0) (IsX : X → Type 0) (IsY : Y → Type 0) (fields_x : X 
   first_cut bytes w =
       let y = fills w.thing w.is in
       record {
-        thing = y.0; is = y.1; front = w.front; next = w.next; more = w.more ++ after y.0;
+        thing = y.0;
+        is = y.1;
+        front = w.front;
+        next = w.next;
+        more = w.more ++ after y.0;
         opens = joins w.thing y.0 w.is y.1 y.2 ∙ ap (λ (t : List Field). t ++ after y.0) w.opens ∙ append_assoc w.front (w.next ∷ w.more) (after y.0);
-        rest = w.rest; parts = w.parts; cut = w.cut;
+        rest = w.rest;
+        parts = w.parts;
+        cut = w.cut;
       }
 
   no_first : (x : X) (front : List Field) (next : Field) (more : List Field) (wrong : Field) → IsX x → fields_x x ≡ front ++ next ∷ more → ((other : X) (following : List Field) → IsX other → fields_x other ≢ front ++ wrong ∷ following)
@@ -125,19 +129,36 @@ module _ (X Y : Type 0) (IsX : X → Type 0) (IsY : Y → Type 0) (fields_x : X 
   first_bad : (bytes : List ℕ) (left : ℕ) → IsBadFrom X IsX fields_x bytes left → IsBadFrom Y IsY fields_y bytes left
   first_bad bytes left w =
       let b = w.2 in
-      let y = fills b.thing b.is in
-      (w.0, w.1, record {
-        thing = y.0; is = y.1; front = b.front; next = b.next; more = b.more ++ after y.0;
-        opens = joins b.thing y.0 b.is y.1 y.2 ∙ ap (λ (t : List Field). t ++ after y.0) b.opens ∙ append_assoc b.front (b.next ∷ b.more) (after y.0);
-        wrong = b.wrong; rest = b.rest; parts = b.parts; like = b.like; place = b.place; bad = b.bad; at_is = b.at_is;
-        none = no_first b.thing b.front b.next b.more b.wrong b.is b.opens b.none;
-      })
+      let y = fills b.thing b.is in (
+        w.0,
+        w.1,
+        record {
+          thing = y.0;
+          is = y.1;
+          front = b.front;
+          next = b.next;
+          more = b.more ++ after y.0;
+          opens = joins b.thing y.0 b.is y.1 y.2 ∙ ap (λ (t : List Field). t ++ after y.0) b.opens ∙ append_assoc b.front (b.next ∷ b.more) (after y.0);
+          wrong = b.wrong;
+          rest = b.rest;
+          parts = b.parts;
+          like = b.like;
+          place = b.place;
+          bad = b.bad;
+          at_is = b.at_is;
+          none = no_first b.thing b.front b.next b.more b.wrong b.is b.opens b.none;
+        },
+      )
 
   -- what is wrong behind the first part is wrong in the whole
   then_cut : (bytes : List ℕ) (x : X) (rest : List ℕ) → IsX x → bytes ≡ text_of (fields_x x) ++ rest → EndsWithin Y (λ y. IsY y × Has y x) after rest → EndsWithin Y IsY fields_y bytes
   then_cut bytes x rest is e w =
       record {
-        thing = w.thing; is = w.is.0; front = fields_x x ++ w.front; next = w.next; more = w.more;
+        thing = w.thing;
+        is = w.is.0;
+        front = fields_x x ++ w.front;
+        next = w.next;
+        more = w.more;
         opens = joins x w.thing is w.is.0 w.is.1 ∙ ap (λ (t : List Field). fields_x x ++ t) w.opens ∙ sym (append_assoc (fields_x x) w.front (w.next ∷ w.more));
         rest = w.rest;
         parts = e ∙ ap (λ (t : List ℕ). text_of (fields_x x) ++ t) w.parts ∙ sym (append_assoc (text_of (fields_x x)) (text_of w.front) w.rest) ∙ ap (λ (t : List ℕ). t ++ w.rest) (sym (text_of-append (fields_x x) w.front));
@@ -156,16 +177,26 @@ module _ (X Y : Type 0) (IsX : X → Type 0) (IsY : Y → Type 0) (fields_x : X 
   then_bad : (bytes : List ℕ) (left : ℕ) (x : X) (rest : List ℕ) → IsX x → bytes ≡ text_of (fields_x x) ++ rest → IsBadFrom Y (λ y. IsY y × Has y x) after rest left → IsBadFrom Y IsY fields_y bytes left
   then_bad bytes left x rest is e w =
       let b = w.2 in
-      let n = length (text_of (fields_x x)) in
-      (n + w.0, omega (arith, w.1, ap length e, length-append (text_of (fields_x x)) rest), record {
-        thing = b.thing; is = b.is.0; front = fields_x x ++ b.front; next = b.next; more = b.more;
-        opens = joins x b.thing is b.is.0 b.is.1 ∙ ap (λ (t : List Field). fields_x x ++ t) b.opens ∙ sym (append_assoc (fields_x x) b.front (b.next ∷ b.more));
-        wrong = b.wrong; rest = b.rest;
-        parts = e ∙ ap (λ (t : List ℕ). text_of (fields_x x) ++ t) b.parts ∙ sym (append_assoc (text_of (fields_x x)) (text_of b.front) (bytes_of b.wrong ++ b.rest)) ∙ ap (λ (t : List ℕ). t ++ (bytes_of b.wrong ++ b.rest)) (sym (text_of-append (fields_x x) b.front));
-        like = b.like; place = b.place; bad = b.bad;
-        at_is = omega (arith, b.at_is, ap length (text_of-append (fields_x x) b.front), length-append (text_of (fields_x x)) (text_of b.front));
-        none = no_second x b.front b.wrong is b.none;
-      })
+      let n = length (text_of (fields_x x)) in (
+        n + w.0,
+        omega (arith, w.1, ap length e, length-append (text_of (fields_x x)) rest),
+        record {
+          thing = b.thing;
+          is = b.is.0;
+          front = fields_x x ++ b.front;
+          next = b.next;
+          more = b.more;
+          opens = joins x b.thing is b.is.0 b.is.1 ∙ ap (λ (t : List Field). fields_x x ++ t) b.opens ∙ sym (append_assoc (fields_x x) b.front (b.next ∷ b.more));
+          wrong = b.wrong;
+          rest = b.rest;
+          parts = e ∙ ap (λ (t : List ℕ). text_of (fields_x x) ++ t) b.parts ∙ sym (append_assoc (text_of (fields_x x)) (text_of b.front) (bytes_of b.wrong ++ b.rest)) ∙ ap (λ (t : List ℕ). t ++ (bytes_of b.wrong ++ b.rest)) (sym (text_of-append (fields_x x) b.front));
+          like = b.like;
+          place = b.place;
+          bad = b.bad;
+          at_is = omega (arith, b.at_is, ap length (text_of-append (fields_x x) b.front), length-append (text_of (fields_x x)) (text_of b.front));
+          none = no_second x b.front b.wrong is b.none;
+        },
+      )
 
   both_cut : (bytes : List ℕ) → IsBytes bytes → both bytes ≡ Err Short → EndsWithin Y IsY fields_y bytes
   unfolding both
@@ -195,14 +226,14 @@ module _ (X Y : Type 0) (IsX : X → Type 0) (IsY : Y → Type 0) (fields_x : X 
 pub reads_nothing : (X : Type 0) (Is : X → Type 0) (fields_of : X → List Field) (x : X) → Is x → ((other : X) → Is other → other ≡ x) → fields_of x ≡ [] → Reads X Is fields_of (λ bytes. Ok (x, bytes))
 reads_nothing X Is fields_of x is only none = record {
   found = λ bytes y rest fit e.
-    let pair : (x, bytes) ≡ (y, rest) = ok_is (x, bytes) (y, rest) e in
-    let same : x ≡ y = ap (λ (p : X × List ℕ). p.0) pair in
-    let left : bytes ≡ rest = ap (λ (p : X × List ℕ). p.1) pair in
-    (subst Is same is, left ∙ ap (λ (t : List Field). text_of t ++ rest) (sym none ∙ ap fields_of same));
+      let pair : (x, bytes) ≡ (y, rest) = ok_is (x, bytes) (y, rest) e in
+      let same : x ≡ y = ap (λ (p : X × List ℕ). p.0) pair in
+      let left : bytes ≡ rest = ap (λ (p : X × List ℕ). p.1) pair in
+      (subst Is same is, left ∙ ap (λ (t : List Field). text_of t ++ rest) (sym none ∙ ap fields_of same));
   again = λ y rest is_y.
-    let same = only y is_y in
-    let empty : fields_of y ≡ [] = ap fields_of same ∙ none in
-    ap done (ap₂ (λ (w : X) (t : List ℕ). (w, t)) (sym same) (ap (λ (t : List Field). text_of t ++ rest) empty));
+      let same = only y is_y in
+      let empty : fields_of y ≡ [] = ap fields_of same ∙ none in
+      ap done (ap₂ (λ (w : X) (t : List ℕ). (w, t)) (sym same) (ap (λ (t : List Field). text_of t ++ rest) empty));
   cut = λ bytes fit e. absurd cc;
   bad = λ bytes left fit e. absurd cc;
 }

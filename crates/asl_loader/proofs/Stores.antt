@@ -1,17 +1,15 @@
 -- What a verified image gives its writer, and what the writer has written in the end.
-use Rattle.std.proofs.Common.{◌≡◌, ℕ, zero, suc, ◌+◌, ◌≤◌, ◌<◌, ◌^◌, true, Bool, List, [], ◌∷◌, ◌++◌, length, refl, sym, ap, ◌∙◌, append_assoc, arith}
-use Rattle.std.specs.Prelude.{slice_get, Some, ◌&&◌}
-use Rattle.std.specs.List.{flat_map, AllByRecursion}
+use Rattle.std.proofs.Common.{◌≡◌, ℕ, suc, ◌<◌, ◌^◌, List, [], ◌∷◌, ◌++◌, length, refl, ap, ◌∙◌, append_assoc, arith}
+use Rattle.std.specs.Prelude.{slice_get, Some}
+use Rattle.std.specs.List.{AllByRecursion}
 use Rattle.asl_code.specs.declared.image.Function.{Function}
 use Rattle.asl_code.specs.declared.image.Image.{Image}
 use Rattle.asl_code.specs.declared.instr.Instr.{Instr}
 use Rattle.asl_code.specs.declared.lock.Lock.{Lock}
-use Rattle.asl_code.specs.Bodies.{total_len, first_of}
-use Rattle.asl_code.specs.Fits.{FitsImage}
 use Rattle.asl_code.specs.Spelling.{IsInstr}
 use Rattle.asl_code.specs.Verified.{IsVerified}
 use Rattle.asl_code.proofs.FitsLaws.{image_fits, body_within}
-use Rattle.asl_loader.specs.Bytes.{Field, text_of, two, magic, counted, class_fields, function_fields, instr_fields, list_fields, image_fields, IsFunction, IsList, AreItems, IsImage, SpellsImage}
+use Rattle.asl_loader.specs.Bytes.{Field, text_of, two, magic, counted, class_fields, function_fields, instr_fields, list_fields, IsFunction, IsList, AreItems, SpellsImage}
 use Rattle.asl_loader.specs.Writing.{Writes, HasFields}
 use Rattle.asl_loader.proofs.Reader.{text_of-append}
 

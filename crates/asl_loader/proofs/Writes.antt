@@ -1,7 +1,7 @@
 -- Writing things one after the other, as a loop does.
-use Rattle.std.proofs.Common.{◌≡◌, ℕ, ◌+◌, ◌≤◌, ◌<◌, List, [], ◌∷◌, ◌++◌, length, take, get_or, refl, sym, ap, subst, ◌∙◌, append_assoc}
+use Rattle.std.proofs.Common.{◌≡◌, ℕ, ◌+◌, ◌≤◌, ◌<◌, List, [], ◌∷◌, ◌++◌, length, take, get_or, sym, ap, subst, ◌∙◌, append_assoc}
 use Rattle.std.specs.List.{flat_map, AllByRecursion}
-use Rattle.std.proofs.lemmas.List.{append-nil, take_more, take_all, get_or_read}
+use Rattle.std.proofs.lemmas.List.{append-nil, take_more, take_all}
 use Rattle.std.proofs.lemmas.List.Concat.{flat_map-append}
 use Rattle.asl_loader.specs.Bytes.{Field, text_of}
 use Rattle.asl_loader.specs.Writing.{Writes, WritesEach}
@@ -19,9 +19,9 @@ module _ (X : Type 0) (Is : X → Type 0) (fields_of : X → List Field) where
   one_written old mid new xs x w v = record {
     each = each_more X Is xs x w.each v.is;
     added =
-      let fields : flat_map fields_of (xs ++ x ∷ []) ≡ flat_map fields_of xs ++ fields_of x = flat_map-append fields_of xs (x ∷ []) ∙ ap (λ (t : List Field). flat_map fields_of xs ++ t) (append-nil (fields_of x)) in
-      v.added ∙ ap (λ (t : List ℕ). t ++ text_of (fields_of x)) w.added ∙ append_assoc old (text_of (flat_map fields_of xs)) (text_of (fields_of x))
-      ∙ ap (λ (t : List ℕ). old ++ t) (sym (text_of-append (flat_map fields_of xs) (fields_of x))) ∙ ap (λ (t : List Field). old ++ text_of t) (sym fields);
+        let fields : flat_map fields_of (xs ++ x ∷ []) ≡ flat_map fields_of xs ++ fields_of x = flat_map-append fields_of xs (x ∷ []) ∙ ap (λ (t : List Field). flat_map fields_of xs ++ t) (append-nil (fields_of x)) in
+        v.added ∙ ap (λ (t : List ℕ). t ++ text_of (fields_of x)) w.added ∙ append_assoc old (text_of (flat_map fields_of xs)) (text_of (fields_of x))
+        ∙ ap (λ (t : List ℕ). old ++ t) (sym (text_of-append (flat_map fields_of xs) (fields_of x))) ∙ ap (λ (t : List Field). old ++ text_of t) (sym fields);
   }
 
   pub more_written : (old mid new : List ℕ) (xs : List X) (i : ℕ) (x : X) → i < length xs → x ≡ get_or xs i x → WritesEach X Is fields_of old mid (take i xs) → Writes X Is fields_of mid new x → WritesEach X Is fields_of old new (take (i + 1) xs)

@@ -1,5 +1,5 @@
 -- What is wrong with bytes that are those of no program (docs/BYTES.md, "Images").
-use Rattle.std.specs.Prelude.{◌≡◌, ◌≢◌, ℕ, ◌-◌, ◌<◌, ◌==◌, if◌then◌else◌, List, [], length, take, Result, Ok, Err}
+use Rattle.std.specs.Prelude.{◌≡◌, ◌≢◌, ℕ, ◌-◌, ◌<◌, ◌==◌, if◌then◌else◌, List, length, take, Result, Ok, Err}
 use Rattle.asl_code.specs.declared.image.Image.{Image}
 use Rattle.asl_code.specs.Verified.{IsAnswer, IsVerified}
 use Rattle.asl_loader.specs.declared.fault.LoadFault.{LoadFault}

@@ -7,12 +7,10 @@ ghost use Rattle.asl_loader.specs.Faults.{LoadUndoesStore, StoreUndoesLoad};
 pub fn image_and_bytes_are_one()
     ensures image { ImageOfSpellingIsOne }
     ensures bytes { SpellingOfImageIsOne }
-{
-}
+{}
 
 /// To load what was stored gives the same program, and to store what was loaded gives the same bytes.
 pub fn load_and_store_undo_each_other()
     ensures load { LoadUndoesStore }
     ensures store { StoreUndoesLoad }
-{
-}
+{}

@@ -225,7 +225,11 @@ fn classes_of(alloc: Global, count: u16, bytes: &[u8]) -> Result<(Items<u16>, &[
     Ok((classes, rest))
 }
 
-fn functions_of(alloc: Global, count: u16, bytes: &[u8]) -> Result<(Items<Function>, &[u8]), ReadError>
+fn functions_of(
+    alloc: Global,
+    count: u16,
+    bytes: &[u8],
+) -> Result<(Items<Function>, &[u8]), ReadError>
     ensures { Gives (λ x. (x.0, x.1.now)) result (items_at function_at count bytes.now) }
 {
     let mut functions = Items::new(alloc);
@@ -272,7 +276,11 @@ fn list_at(alloc: Global, bytes: &[u8]) -> Result<(Items<Lock>, &[u8]), ReadErro
     locks_of(alloc, count, rest)
 }
 
-fn lists_of(alloc: Global, count: u16, bytes: &[u8]) -> Result<(Items<Items<Lock>>, &[u8]), ReadError>
+fn lists_of(
+    alloc: Global,
+    count: u16,
+    bytes: &[u8],
+) -> Result<(Items<Items<Lock>>, &[u8]), ReadError>
     ensures { Gives (λ x. (x.0, x.1.now)) result (items_at list_at count bytes.now) }
 {
     let mut lists = Items::new(alloc);

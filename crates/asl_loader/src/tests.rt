@@ -39,7 +39,9 @@ fn fault(rt: &HostRuntime, bytes: &[u8]) -> Option<LoadFault> {
 fn counter_is_loaded_and_stored(rt: HostRuntime) -> Result<(), Fail> {
     image_and_bytes_are_one();
     load_and_store_undo_each_other();
-    let program = load(rt.alloc(), &COUNTER).ok().ok_or("the bytes are a program")?;
+    let program = load(rt.alloc(), &COUNTER)
+        .ok()
+        .ok_or("the bytes are a program")?;
     assert_eq!(rt; program.code().len(), 8);
     let bytes = store(rt.alloc(), &program)?;
     assert!(rt; bytes.as_slice() == COUNTER.as_slice());
@@ -49,7 +51,10 @@ fn counter_is_loaded_and_stored(rt: HostRuntime) -> Result<(), Fail> {
 #[test]
 fn cut_input_is_truncated(rt: HostRuntime) {
     for len in 0..94 {
-        assert_eq!(rt; fault(&rt, &COUNTER[..len]), Some(LoadFault::Truncated(len)));
+        assert_eq!(rt;
+            fault(&rt, &COUNTER[..len]),
+            Some(LoadFault::Truncated(len))
+        );
     }
     assert_eq!(rt; fault(&rt, b"XY"), Some(LoadFault::Truncated(2)));
     assert_eq!(rt; fault(&rt, b"ASLM"), Some(LoadFault::Truncated(4)));
@@ -71,7 +76,11 @@ fn first_wrong_byte_is_named(rt: HostRuntime) -> Result<(), Fail> {
         (94, 0, LoadFault::Trailing(94)),
         (79, 5, LoadFault::Verify(VerifyFault::Register(7))),
     ] {
-        assert_eq!(rt; fault(&rt, &changed(&rt, place, byte)?), Some(want), "byte {place}");
+        assert_eq!(rt;
+            fault(&rt, &changed(&rt, place, byte)?),
+            Some(want),
+            "byte {place}"
+        );
     }
     Ok(())
 }
@@ -117,7 +126,10 @@ fn faults_print_as_written(rt: HostRuntime) -> Result<(), Fail> {
         (LoadFault::Truncated(2), "Truncated(2)"),
         (LoadFault::BadField(24), "BadField(24)"),
         (LoadFault::Trailing(94), "Trailing(94)"),
-        (LoadFault::Verify(VerifyFault::Target(3)), "Verify(Target(3))"),
+        (
+            LoadFault::Verify(VerifyFault::Target(3)),
+            "Verify(Target(3))",
+        ),
         (LoadFault::OutOfMemory, "OutOfMemory"),
     ] {
         assert_eq!(rt; format!(in rt.alloc(); "{fault}")?.as_str(), text);

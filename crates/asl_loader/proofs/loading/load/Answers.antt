@@ -1,8 +1,6 @@
-use Rattle.std.proofs.Common.{◌≡◌, sym, ap, inl, inr, arith, ◌∙◌, refl}
+use Rattle.std.proofs.Common.{◌≡◌, inl, inr, arith, ◌∙◌, refl}
 use Rattle.std.proofs.lemmas.Result.{err_from_is_err_and}
-use Rattle.asl_code.specs.declared.image.Image.{Image}
-use Rattle.asl_loader.proofs.Loads.{IsWhole, found_is, refused_is, only_is, only_memory, not_both}
-use Rattle.asl_loader.proofs.Eight.{IsBytes}
+use Rattle.asl_loader.proofs.Loads.{found_is, refused_is, only_is, only_memory, not_both}
 use Rattle.asl_loader.proofs.loading.load.Goals as goal
 
 pub returns-in_err-image-clause-only : goal.returns-in_err-image-clause-only

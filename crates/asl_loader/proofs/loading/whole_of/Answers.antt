@@ -1,6 +1,4 @@
-use Rattle.std.proofs.Common.{◌≡◌, Err, arith}
-use Rattle.asl_loader.specs.declared.fault.Stop.TheVariants.{Bad}
-use Rattle.asl_loader.specs.Reading.{image_at}
+use Rattle.std.proofs.Common.{arith}
 use Rattle.asl_loader.proofs.Loads.{rest_within, left_within}
 use Rattle.asl_loader.proofs.loading.whole_of.Goals as goal
 

@@ -1,5 +1,5 @@
 use Rattle.std.proofs.lemmas.List.Elements.{All-from_recursion}
-use Rattle.std.specs.Prelude.{length, ◌<◌, ◌^◌}
+use Rattle.std.specs.Prelude.{◌<◌, ◌^◌}
 use Rattle.asl_code.specs.declared.image.Function.{Function}
 use Rattle.asl_loader.specs.Bytes.{function_fields, IsFunction}
 use Rattle.asl_loader.proofs.Writes.{none_written, more_at, all_written}
