@@ -5,4 +5,7 @@ pub mod Grants
 pub mod Lists
 pub mod Heaps
 pub mod Soundness
+pub mod Table
+pub mod Unique
+pub mod Reached
 pub mod Machines

@@ -6,7 +6,12 @@ use Rattle.asl_lock_forest.specs.Holding.{Holding, no_holding}
 use Rattle.asl_lock_forest.specs.Held.{Held}
 use Rattle.asl_machine.specs.State.{Object, Thread, State}
 use Rattle.asl_machine.specs.Run.{global_object, first_threads, start_of}
-use Rattle.asl_machine.specs.Step.{after}
+use Rattle.asl_machine.specs.declared.reply.Reply.{Reply}
+use Rattle.asl_machine.specs.declared.reply.Reply.TheVariants.{Blocked}
+use Rattle.asl_machine.specs.Step.{after, Step}
+use Rattle.asl_machine.specs.World.{SomeoneGoesOn}
+use Rattle.asl_machine.proofs.Table.{step_is}
+use Rattle.asl_machine.proofs.Reached.{someone_goes_on}
 use Rattle.asl_machine.specs.Twin.{turn_of, step_of, step_at}
 use Rattle.asl_machine.specs.Sound.{IsSound, IsMachine}
 use Rattle.asl_machine.proofs.Soundness.{start_sound, turn_follows, length-first_threads}
@@ -69,3 +74,16 @@ pub step_reply : (image : Image) (objects : List Object) (forest : Held) (thread
     (turn_of image forest.threads t thread objects forest.holding).reply ≡ (step_of image (state_of objects forest.holding threads) t).reply
 step_reply image objects forest threads t thread m at =
     ap (λ k. (turn_of image k t thread objects forest.holding).reply) m.counted ∙ sym (ap (λ o. (step_at image (state_of objects forest.holding threads) t o).reply) at)
+
+-- the step is one that the table allows
+pub step_table : (image : Image) (objects : List Object) (forest : Held) (threads : List Thread) (t : ℕ) (r : Reply) (new : State) → IsMachine image objects forest threads → t < length threads →
+    r ≡ (step_of image (state_of objects forest.holding threads) t).reply → new ≡ (step_of image (state_of objects forest.holding threads) t).state →
+    Step image (state_of objects forest.holding threads) t r new
+step_table image objects forest threads t r new m lt e f =
+    let old = state_of objects forest.holding threads in
+    subst (λ x. Step image old t x new) (sym e) (subst (Step image old t (step_of image old t).reply) (sym f) (step_is image old t m.sound lt))
+
+-- the reply decides whether someone goes on, who does so in the new state as in the old
+pub step_blocked : (image : Image) (objects : List Object) (forest : Held) (threads : List Thread) (t : ℕ) (r : Reply) → IsMachine image objects forest threads →
+    r ≡ (step_of image (state_of objects forest.holding threads) t).reply → r ≡ Blocked → SomeoneGoesOn image (state_of objects forest.holding threads)
+step_blocked image objects forest threads t r m e b = someone_goes_on image (state_of objects forest.holding threads) t m.sound (sym e ∙ b)

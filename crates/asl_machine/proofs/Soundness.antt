@@ -90,11 +90,11 @@ sound_after image s t thread objects holding sound lt m = record {
 }
 
 -- what a running thread of a sound state is, where it is at an instruction that it goes on from
-record Here (image : Image) (s : State) (t : ℕ) (a : Activity) : Type 0 where
-  sound : IsSound image s
-  there : t < length s.threads
-  is : activity_at s.threads t ≡ Some a
-  placed : IsPlaced image s.objects a
+pub record Here (image : Image) (s : State) (t : ℕ) (a : Activity) : Type 0 where
+  pub sound : IsSound image s
+  pub there : t < length s.threads
+  pub is : activity_at s.threads t ≡ Some a
+  pub placed : IsPlaced image s.objects a
 
 depth_here : (image : Image) (s : State) (t : ℕ) (a : Activity) → Here image s t a → depth_at s.threads t ≡ a.depth
 depth_here image s t a h = ap (λ o. option_map_or (λ (b : Activity). b.depth) o 0) h.is
@@ -192,7 +192,7 @@ placed_with image objects a to v p lies points =
 -- ---- the groups of instructions
 
 -- the thread's place in the state
-abbrev here_place : State → ℕ → Activity → Place
+abbrev pub here_place : State → ℕ → Activity → Place
 here_place s t a = record { thread = t; activity = a; objects = s.objects; holding = s.holding }
 
 -- what an instruction leaves may follow
@@ -346,7 +346,7 @@ instr_here image objects a p fits =
       | inr past ↦ let le : length image.code ≤ a.top.pc = past.0 in absurd (omega arith)
     ]
 
-here_of : (image : Image) (s : State) (t : ℕ) (a : Activity) → IsSound image s → slice_get s.threads t ≡ Some (Running a) → Here image s t a
+pub here_of : (image : Image) (s : State) (t : ℕ) (a : Activity) → IsSound image s → slice_get s.threads t ≡ Some (Running a) → Here image s t a
 here_of image s t a sound e =
     let at : activity_at s.threads t ≡ Some a = ap (option_and_then activity_of) e in
     record { sound = sound; there = slice_get_within s.threads t (Running a) e; is = at; placed = sound.placed t a at }

@@ -7,3 +7,4 @@ pub mod Twin
 pub mod Run
 pub mod Sound
 pub mod View
+pub mod World

@@ -1,13 +1,47 @@
 //! Laws of the machine, as functions that do nothing: what each ensures is the law.
-ghost use Rattle.std.specs.Prelude.{List};
-ghost use Rattle.asl_code.specs.declared.value.Value.{Value};
+ghost use Rattle.std.specs.Prelude.{◌≡◌, ◌<◌, ℕ, List};
+ghost use Rattle.asl_code.specs.declared.image.Image.{Image};
 ghost use Rattle.asl_code.specs.declared.lock.Lock.{Lock};
-ghost use Rattle.asl_machine.specs.State.{Object};
+ghost use Rattle.asl_code.specs.declared.value.Value.{Value};
+ghost use Rattle.asl_code.specs.Verified.{IsVerified};
+ghost use Rattle.asl_lock_forest.specs.Holding.{HoldsNothing, IsLawful, IsWithin};
+ghost use Rattle.asl_machine.specs.declared.reply.Reply.{Reply};
+ghost use Rattle.asl_machine.specs.State.{Object, State, depth_at};
 ghost use Rattle.asl_machine.specs.Request.{IsLeast, all_asks, request_of};
+ghost use Rattle.asl_machine.specs.Run.{IsReached};
+ghost use Rattle.asl_machine.specs.Step.{Step};
+ghost use Rattle.asl_machine.specs.Twin.{step_of};
+ghost use Rattle.asl_machine.specs.World.{SomeoneGoesOn};
 
 /// The request of a lock list is the least map that is at least every ask of its locks.
-#[tactic(auto, using(crate::proofs::RequestLaws::request_is_least, crate::proofs::Soundness::sound_after))]
+#[tactic(auto, using(crate::proofs::RequestLaws::request_is_least))]
 pub fn requests_are_least()
     ensures { (objects : List Object) (regs : List Value) (locks : List Lock) →
         IsLeast (all_asks objects regs locks) (request_of objects regs locks) }
+{}
+
+/// In each state that a schedule of a verified program reaches, each thread's step has exactly one line of the table:
+/// the computed step is one, and every other is that one.
+pub fn steps_have_one_line()
+    ensures some { (image : Image) (count : ℕ) (s : State) (t : ℕ) → IsVerified image → IsReached image count s
+        → t < count → Step image s t (step_of image s t).reply (step_of image s t).state }
+    ensures one { (image : Image) (count : ℕ) (s : State) (t : ℕ) (reply : Reply) (new : State)
+        → IsVerified image → IsReached image count s → Step image s t reply new
+        → (reply ≡ (step_of image s t).reply) × (new ≡ (step_of image s t).state) }
+{}
+
+/// In each reached state a thread that is in no section, as one that has ended, holds nothing, and the holding is lawful.
+pub fn reached_holdings_are_lawful()
+    ensures outside { (image : Image) (count : ℕ) (s : State) (t : ℕ) → IsVerified image → IsReached image count s
+        → depth_at s.threads t ≡ 0 → HoldsNothing s.holding t }
+    ensures lawful { (image : Image) (count : ℕ) (s : State) → IsVerified image → IsReached image count s
+        → IsLawful s.holding }
+    ensures within { (image : Image) (count : ℕ) (s : State) → IsVerified image → IsReached image count s
+        → IsWithin image.classes count s.holding }
+{}
+
+/// Where a step is blocked, some running thread holds a node, and its next step is not blocked.
+pub fn no_world_is_blocked()
+    ensures { (image : Image) (count : ℕ) (s : State) (t : ℕ) → IsVerified image → IsReached image count s
+        → (step_of image s t).reply ≡ Reply.Blocked → SomeoneGoesOn image s }
 {}

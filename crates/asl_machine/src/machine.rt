@@ -46,7 +46,9 @@ impl<'p> Model for Machine<'p> {
 impl<'p> Machine<'p> {
     ghost use Rattle.asl_lock_forest.specs.Holding.{held};
     ghost use Rattle.asl_lock_forest.specs.Node.{IsThere};
+    ghost use Rattle.asl_machine.specs.Step.{Step};
     ghost use Rattle.asl_machine.specs.Twin.{step_of};
+    ghost use Rattle.asl_machine.specs.World.{SomeoneGoesOn};
     ghost use Rattle.asl_machine.specs.View.{status_of};
     ghost use Rattle.asl_machine.specs.Sound.{IsSound, MayWantMemory};
 
@@ -63,12 +65,15 @@ impl<'p> Machine<'p> {
         Ok(start(alloc, program, n)?)
     }
 
-    /// Steps thread t: one instruction, or nothing where the thread has ended.
+    /// Steps thread t: one instruction, or nothing where the thread has ended. The step is one that the instruction table
+    /// allows, and the only one. Only a thread that is at an `acq` outside all sections may want memory.
     pub fn step(&mut self, alloc: Global, t: u32) -> Result<Reply, MachineFault>
+        ensures step { IfOk result (λ reply. Step self.old.image self.old.state t reply self.new.state) }
         ensures reply { IfOk result (λ reply. reply ≡ (step_of self.old.image self.old.state t).reply) }
         ensures state { IfOk result (λ _. self.new.state ≡ (step_of self.old.image self.old.state t).state) }
         ensures image { self.new.image ≡ self.old.image }
         ensures thread { IsErrOf result MachineFault.BadThread ↔ (length self.old.state.threads ≤ t) }
+        ensures blocked { IfOk result (λ reply. reply ≡ Reply.Blocked → SomeoneGoesOn self.old.image self.old.state) }
         ensures memory { IsErrOf result MachineFault.OutOfMemory → MayWantMemory self.old.image self.old.state t }
         ensures err { OnErr result (self.new ≡ self.old) }
     {

@@ -3,7 +3,7 @@ use Rattle.std.specs.Prelude.{IsSomeAnd}
 use Rattle.std.proofs.lemmas.Option.{slice_get_read}
 use Rattle.asl_machine.specs.Sound.{ThreadWantsMemory}
 use Rattle.asl_machine.proofs.Soundness.{thread_ready}
-use Rattle.asl_machine.proofs.Machines.{step_machine, step_state, step_reply}
+use Rattle.asl_machine.proofs.Machines.{step_machine, step_state, step_reply, step_table, step_blocked}
 use Rattle.asl_machine.proofs.machine.Machine.step.Goals as goal
 
 pub step-requires-clause-ready : goal.step-requires-clause-ready
@@ -40,3 +40,20 @@ returns-clause-state c =
     let told = c.in_ok-step.ensures in
     rw (← c.self.view_is) (step_state c.self.inside.program.now c.self.inside.heap c.step.new.heap c.self.inside.forest c.step.new.forest c.self.inside.threads.items c.args.t
     c.index_mut-thread.result.now c.step.new.self c.self.invariant at told.thread told.objects told.holding)
+
+pub returns-clause-step : goal.returns-clause-step
+returns-clause-step c =
+    let lt : c.args.t < length c.self.inside.threads.items = omega arith in
+    let at = slice_get_read c.self.inside.threads.items _ c.args.t c.index_mut-thread.result.now refl lt c.index_mut-thread.ensures.value in
+    let told = c.in_ok-step.ensures in
+    rw (← c.self.view_is) (step_table c.self.inside.program.now c.self.inside.heap c.self.inside.forest c.self.inside.threads.items c.args.t c.in_ok-step.field-0 _ c.self.invariant lt
+      (told.reply ∙ step_reply c.self.inside.program.now c.self.inside.heap c.self.inside.forest c.self.inside.threads.items c.args.t c.index_mut-thread.result.now c.self.invariant at)
+      (step_state c.self.inside.program.now c.self.inside.heap c.step.new.heap c.self.inside.forest c.step.new.forest c.self.inside.threads.items c.args.t
+        c.index_mut-thread.result.now c.step.new.self c.self.invariant at told.thread told.objects told.holding))
+
+pub returns-clause-blocked : goal.returns-clause-blocked
+returns-clause-blocked c =
+    let lt : c.args.t < length c.self.inside.threads.items = omega arith in
+    let at = slice_get_read c.self.inside.threads.items _ c.args.t c.index_mut-thread.result.now refl lt c.index_mut-thread.ensures.value in
+    λ b. rw (← c.self.view_is) (step_blocked c.self.inside.program.now c.self.inside.heap c.self.inside.forest c.self.inside.threads.items c.args.t c.in_ok-step.field-0 c.self.invariant
+      (c.in_ok-step.ensures.reply ∙ step_reply c.self.inside.program.now c.self.inside.heap c.self.inside.forest c.self.inside.threads.items c.args.t c.index_mut-thread.result.now c.self.invariant at) b)

@@ -1,0 +1,141 @@
+-- What holds of every state that a schedule reaches.
+use Rattle.std.proofs.Common.{◌≡◌, ◌≢◌, ℕ, zero, suc, ◌<◌, ◌≤◌, ◌⊎◌, ◌==◌, ◌&&◌, ◌||◌, Bool, true, false, cond, List, [], ◌∷◌, Option, Some, None, IsTrue, length, slice_get, refl, ap, sym, ◌∙◌, subst, inl, inr, arith, length-set, eqb-true, eq-eqb}
+use Rattle.std.specs.Prelude.{IsSome, option_and_then, unwrap_or}
+use Rattle.std.specs.List.{list_all}
+use Rattle.std.proofs.lemmas.Option.{slice_get_within}
+use Rattle.std.specs.Option.{option_map_or}
+use Rattle.asl_code.specs.declared.image.Image.{Image}
+use Rattle.asl_code.specs.declared.instr.Instr.{Instr}
+use Rattle.asl_code.specs.declared.instr.Instr.TheVariants as instr
+use Rattle.asl_code.specs.Fits.{FitsImage}
+use Rattle.asl_mode_lanes.specs.declared.mode.Mode.{Mode}
+use Rattle.asl_mode_lanes.specs.declared.mode.Mode.TheVariants.{NL}
+use Rattle.asl_mode_lanes.specs.Mode.{is_compatible, AreCompatible}
+use Rattle.asl_mode_lanes.proofs.ModeLaws.{compatible-NL}
+use Rattle.asl_lock_forest.specs.declared.node.Node.{Node}
+use Rattle.asl_lock_forest.specs.Holding.{Holding, Request, CanGrant, asked, held, HoldsNothing}
+use Rattle.asl_machine.specs.declared.reply.Reply.{Reply}
+use Rattle.asl_machine.specs.declared.reply.Reply.TheVariants as reply
+use Rattle.asl_machine.specs.State.{Activity, Thread, Running, Done, Failed, State, activity_of, activity_at, depth_at}
+use Rattle.asl_machine.specs.Run.{start_of, first_threads, state_after, IsReached}
+use Rattle.asl_machine.specs.Step.{At, Line, StepOf, Step}
+use Rattle.asl_machine.specs.Twin.{is_free, can_grant, step_at, step_of}
+use Rattle.asl_machine.specs.Sound.{IsSound}
+use Rattle.asl_machine.specs.World.{SomeoneGoesOn}
+use Rattle.asl_machine.proofs.Grants.{grant_when_free}
+use Rattle.asl_machine.proofs.Soundness.{start_sound, step_sound, length-first_threads}
+use Rattle.asl_machine.proofs.Table.{step_is, at_of}
+use Rattle.asl_lock_forest.proofs.Laws.{held_nothing}
+
+-- a step makes no thread and drops none
+pub step_count : (image : Image) (s : State) (t : ℕ) → length (step_of image s t).state.threads ≡ length s.threads
+step_count image s t =
+    elim (slice_get s.threads t) as (λ o. length (step_at image s t o).state.threads ≡ length s.threads) [
+      | None ↦ refl
+      | Some thread ↦ length-set s.threads t _
+    ]
+
+run_sound : (image : Image) (schedule : List ℕ) (s : State) → IsSound image s → IsSound image (state_after image s schedule)
+run_sound image [] s sound = sound
+run_sound image (t ∷ ts) s sound = run_sound image ts (step_of image s t).state (step_sound image s t sound)
+
+run_count : (image : Image) (schedule : List ℕ) (s : State) → length (state_after image s schedule).threads ≡ length s.threads
+run_count image [] s = refl
+run_count image (t ∷ ts) s = run_count image ts (step_of image s t).state ∙ step_count image s t
+
+-- every reached state is sound
+pub reached_sound : (image : Image) (count : ℕ) (s : State) → FitsImage image → IsReached image count s → IsSound image s
+reached_sound image count s fits r = subst (IsSound image) (sym r.leads) (run_sound image r.schedule (start_of image count) (start_sound image count fits))
+
+-- a reached state has as many threads as the start
+pub reached_count : (image : Image) (count : ℕ) (s : State) → IsReached image count s → length s.threads ≡ count
+reached_count image count s r =
+    ap (λ (u : State). length u.threads) r.leads ∙ run_count image r.schedule (start_of image count) ∙ length-first_threads image count
+
+-- ---- no world is blocked
+
+-- a line that blocks is an `acq` outside all sections, with a request that cannot be granted
+line_blocked : (at : At) (i : Instr) (n : State) → Line at i reply.Blocked n → (at.activity.depth ≡ 0) × ((request : Request) × (¬ CanGrant at.state.holding at.thread request))
+line_blocked at (instr.Acquire list) n h = (h.asks.outside, (h.request, h.taken))
+line_blocked at i n h = absurd h
+
+-- how many sections a thread is in
+abbrev depth_of_thread : Thread → ℕ
+depth_of_thread thread = option_map_or (λ (a : Activity). a.depth) (activity_of thread) 0
+
+-- a blocked thread runs, outside all sections, and what it asks cannot be granted
+blocked_at : (image : Image) (s : State) (t : ℕ) (thread : Thread) (n : State) → StepOf image s t (Some thread) reply.Blocked n →
+    (depth_of_thread thread ≡ 0) × ((request : Request) × (¬ CanGrant s.holding t request))
+blocked_at image s t (Running a) n h = line_blocked (at_of image s t a) h.0 n h.2
+blocked_at image s t (Done v) n h = let e = h.0 in cc
+blocked_at image s t (Failed f) n h = let e = h.0 in cc
+
+blocked : (image : Image) (s : State) (t : ℕ) → IsSound image s → (step_of image s t).reply ≡ reply.Blocked →
+    (depth_at s.threads t ≡ 0) × ((request : Request) × (¬ CanGrant s.holding t request))
+blocked image s t sound e =
+    elim (slice_get s.threads t) as (λ o. slice_get s.threads t ≡ o → (step_at image s t o).reply ≡ reply.Blocked →
+        (depth_at s.threads t ≡ 0) × ((request : Request) × (¬ CanGrant s.holding t request))) [
+      | None ↦ λ is b. cc
+      | Some thread ↦ λ is b.
+          let lt = slice_get_within s.threads t thread is in
+          let h = step_is image s t sound lt in
+          let k : StepOf image s t (Some thread) (step_of image s t).reply (step_of image s t).state = subst (λ o. StepOf image s t o (step_of image s t).reply (step_of image s t).state) is h in
+          let r = blocked_at image s t thread (step_of image s t).state (subst (λ x. StepOf image s t (Some thread) x (step_of image s t).state) e k) in
+          (ap (λ o. option_map_or (λ (a : Activity). a.depth) (option_and_then activity_of o) 0) is ∙ r.0, r.1)
+    ] refl e
+
+clash_here : (x y z : Bool) → ((x || y) && z) ≡ false → ((x ≡ false) × (y ≡ false)) ⊎ (z ≡ false)
+clash_here true y z e = inr e
+clash_here false true z e = inr e
+clash_here false false z e = inl (refl, refl)
+
+-- who is in the way of a request at a node
+someone : (h : Holding) (t : ℕ) (request : Request) (node : Node) (count : ℕ) → is_free h t request node count ≡ false →
+    (u : ℕ) × (u ≢ t) × (is_compatible (asked request node) (held h u node) ≡ false)
+someone h t request node zero e = let f : true ≡ false = e in cc
+someone h t request node (suc u) e =
+    elim (clash_here (u == t) (is_compatible (asked request node) (held h u node)) (is_free h t request node u) e) [
+      | inl here ↦ (u, (λ is. let f = eq-eqb u t is in let k = here.0 in cc), here.1)
+      | inr below ↦ someone h t request node u below
+    ]
+
+and_false : (x y : Bool) → (x && y) ≡ false → (x ≡ false) ⊎ (y ≡ false)
+and_false true y e = inr e
+and_false false y e = inl refl
+
+some_node : (h : Holding) (count t : ℕ) (request part : Request) → list_all (λ ask. is_free h t request ask.0 count) part ≡ false →
+    (node : Node) × (is_free h t request node count ≡ false)
+some_node h count t request [] e = let f : true ≡ false = e in cc
+some_node h count t request (ask ∷ rest) e =
+    elim (and_false _ _ e) [ | inl here ↦ (ask.0, here) | inr later ↦ some_node h count t request rest later ]
+
+not_yes : (b : Bool) → (b ≡ true → ⊥) → b ≡ false
+not_yes true h = absurd (h refl)
+not_yes false h = refl
+
+is_running : (o : Option Activity) → option_map_or (λ (a : Activity). a.depth) o 0 ≢ 0 → IsSome o
+is_running None h = absurd (h refl)
+is_running (Some a) h = refl
+
+-- where a step is blocked, some running thread holds a node and is not blocked
+pub someone_goes_on : (image : Image) (s : State) (t : ℕ) → IsSound image s → (step_of image s t).reply ≡ reply.Blocked → SomeoneGoesOn image s
+someone_goes_on image s t sound e =
+    let b = blocked image s t sound e in
+    let request = b.1.0 in
+    let count = length s.threads in
+    let refused : can_grant s.holding count t request ≡ false =
+        not_yes _ (λ yes. b.1.1 (grant_when_free image.classes count s.holding t request sound.within yes)) in
+    let at = some_node s.holding count t request request refused in
+    let way = someone s.holding t request at.0 count at.1 in
+    let clash = way.2 in
+    let holds : held s.holding way.0 at.0 ≢ NL = λ none.
+        (let goes : is_compatible (asked request at.0) (held s.holding way.0 at.0) ≡ true =
+            subst (λ m. AreCompatible (asked request at.0) m) (sym none) (compatible-NL (asked request at.0)) in cc) in
+    let inside : depth_at s.threads way.0 ≢ 0 = λ z. holds (held_nothing s.holding way.0 at.0 (sound.outside way.0 z)) in
+    record {
+      thread = way.0;
+      runs = is_running (activity_at s.threads way.0) inside;
+      node = at.0;
+      holds = holds;
+      goes_on = λ k. inside (blocked image s way.0 sound k).0
+    }

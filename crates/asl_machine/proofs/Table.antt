@@ -1,0 +1,188 @@
+-- The computed step is the one line of the table that applies, at each state that a verified program reaches.
+use Rattle.std.proofs.Common.{◌≡◌, ◌≢◌, ℕ, ℤ, ◌+◌, ◌-◌, ◌<◌, ◌≤◌, ◌⊎◌, ◌==◌, ◌&&◌, zero, suc, Bool, true, false, cond, List, [], ◌∷◌, Option, Some, None, Result, Ok, Err, IsTrue, length, set, slice_get, refl, ap, sym, ◌∙◌, subst, inl, inr, arith, eqb-true, eq-eqb, ne_eqb}
+use Rattle.std.specs.Prelude.{IsSome, unwrap_or}
+use Rattle.std.specs.Int.{w32, int_wrapping_add}
+use Rattle.std.proofs.lemmas.Option.{slice_get_cases, slice_get_within}
+use Rattle.asl_code.specs.declared.image.Image.{Image}
+use Rattle.asl_code.specs.declared.image.Function.{Function}
+use Rattle.asl_code.specs.declared.instr.Instr.{Instr}
+use Rattle.asl_code.specs.declared.instr.Instr.TheVariants as instr
+use Rattle.asl_code.specs.declared.lock.Lock.{Lock}
+use Rattle.asl_code.specs.declared.value.Value.{Value}
+use Rattle.asl_code.specs.declared.value.Value.TheVariants.{Int, Null, Addr}
+use Rattle.asl_code.specs.declared.value.Cell.{Cell}
+use Rattle.asl_code.specs.declared.value.Effect.{Effect}
+use Rattle.asl_code.specs.declared.value.Effect.TheVariants.{Read, Write}
+use Rattle.asl_code.specs.Fits.{FitsInstr}
+use Rattle.asl_code.specs.Verified.{is_taken}
+use Rattle.asl_lock_forest.specs.Holding.{Holding, Request, CanGrant, grant, release}
+use Rattle.asl_machine.specs.declared.fate.Fate.{Fate}
+use Rattle.asl_machine.specs.declared.fate.Fate.TheVariants as fate
+use Rattle.asl_machine.specs.declared.fault.Fault.{Fault}
+use Rattle.asl_machine.specs.declared.fault.Fault.TheVariants as fault
+use Rattle.asl_machine.specs.declared.reply.Reply.{Reply}
+use Rattle.asl_machine.specs.declared.reply.Reply.TheVariants as reply
+use Rattle.asl_machine.specs.State.{Object, Activity, Thread, Running, Done, Failed, State, cell_at, written}
+use Rattle.asl_machine.specs.Expression.{cell_of}
+use Rattle.asl_machine.specs.Access.{Points, AllPoint, is_protected}
+use Rattle.asl_machine.specs.Request.{locks_of, request_of}
+use Rattle.asl_machine.specs.Step.{At, advanced, advanced_with, going_on, after, Reads, ReadsAddress, is_allowed, Sets, GoesOn, Fails, are_integers, Adds, AddsNoIntegers, Loads, Stores, FailsNull, FailsType, FailsUnprotected, Returns, FailsOpen, Nests, Asks, Enters, Waits, Unnests, Leaves, Line, StepOf, Step}
+use Rattle.asl_machine.specs.Twin.{Left, Place, Turn, fate_of, set_left, sum_of, allowed_cell, loaded, accessed, accessed_by, store_left, left_alone, return_fate, acquire_fate, activity_moved, acquire_left, release_left, request_at, left_by, left_at, turn_by, turn_of, step_at, step_of, register_of, can_grant}
+use Rattle.asl_machine.specs.Sound.{IsPlaced, IsSound}
+use Rattle.asl_machine.proofs.Grants.{grant_when_free, can_grant-true}
+use Rattle.asl_machine.proofs.Soundness.{Here, here_of, here_place, instr_here, after_same}
+
+-- the line that a step by what an instruction leaves would be
+abbrev pub IsLine : At → Instr → Left → Type 0
+IsLine at i l = let turn = turn_by at.thread l in Line at i turn.reply (after at.state at.thread turn.thread turn.objects turn.holding)
+
+abbrev pub at_of : Image → State → ℕ → Activity → At
+at_of image s t a = record { image = image; state = s; thread = t; activity = a }
+
+-- a register that is there has a value, which the computed step reads
+read_there : (a : Activity) (r : ℕ) → r < length a.top.regs → slice_get a.top.regs r ≡ Some (register_of a.top r)
+read_there a r lt =
+    elim (slice_get_cases a.top.regs r).1 [
+      | inl found ↦ found.2 ∙ ap (λ (v : Value). Some v) (sym (ap (λ o. unwrap_or o Null) found.2))
+      | inr past ↦ let le : length a.top.regs ≤ r = past.0 in absurd (omega arith)
+    ]
+
+add_line : (at : At) (to left right : ℕ) (x y : Value) → Reads at left x → Reads at right y →
+    IsLine at (instr.Add to left right) (set_left (here_place at.state at.thread at.activity) to (sum_of x y))
+add_line at to left right (Int x) (Int y) p q = record { x = x; y = y; reads_left = p; reads_right = q; sets = refl }
+add_line at to left right (Int x) Null p q = record { x = Int x; y = Null; reads_left = p; reads_right = q; other = refl; fails = refl }
+add_line at to left right (Int x) (Addr o i) p q = record { x = Int x; y = Addr o i; reads_left = p; reads_right = q; other = refl; fails = refl }
+add_line at to left right Null y p q = record { x = Null; y = y; reads_left = p; reads_right = q; other = refl; fails = refl }
+add_line at to left right (Addr o i) y p q = record { x = Addr o i; y = y; reads_left = p; reads_right = q; other = refl; fails = refl }
+
+found_is : (o : Option Value) → IsSome o → o ≡ Some (unwrap_or o Null)
+found_is None h = let e = h in cc
+found_is (Some v) h = refl
+
+load_line : (at : At) (to address : ℕ) (v : Value) → Reads at address v → Points at.state.objects v →
+    IsLine at (instr.Load to address) (set_left (here_place at.state at.thread at.activity) to
+      (loaded at.state.objects (accessed at.state.holding at.state.objects at.thread at.activity.depth Read v)))
+load_line at to address (Int x) p q = (x, p, refl)
+load_line at to address Null p q = (p, refl)
+load_line at to address (Addr o i) p q =
+    elim (is_allowed at Read (cell_of o i)) as (λ b. is_allowed at Read (cell_of o i) ≡ b →
+        IsLine at (instr.Load to address) (set_left (here_place at.state at.thread at.activity) to (loaded at.state.objects (allowed_cell b Read (cell_of o i))))) [
+      | true ↦ λ e. record {
+          cell = cell_of o i; value = unwrap_or (cell_at at.state.objects (cell_of o i)) Null; reads_address = p; allowed = e;
+          there = found_is (cell_at at.state.objects (cell_of o i)) q; sets = refl }
+      | false ↦ λ e. record { reads_address = p; forbidden = e; named = refl; fails = refl }
+    ] refl
+
+store_line : (at : At) (address from : ℕ) (v w : Value) → Reads at address v → Reads at from w →
+    IsLine at (instr.Store address from) (store_left (here_place at.state at.thread at.activity) w (accessed at.state.holding at.state.objects at.thread at.activity.depth Write v))
+store_line at address from (Int x) w p q = (x, p, refl)
+store_line at address from Null w p q = (p, refl)
+store_line at address from (Addr o i) w p q =
+    elim (is_allowed at Write (cell_of o i)) as (λ b. is_allowed at Write (cell_of o i) ≡ b →
+        IsLine at (instr.Store address from) (store_left (here_place at.state at.thread at.activity) w (allowed_cell b Write (cell_of o i)))) [
+      | true ↦ λ e. record { cell = cell_of o i; value = w; reads_address = p; reads_value = q; allowed = e; goes_on = refl }
+      | false ↦ λ e. record { reads_address = p; forbidden = e; named = refl; fails = refl }
+    ] refl
+
+not_zero : (n : ℕ) → (n == 0) ≡ false → 0 < n
+not_zero n e = let ne : n ≢ 0 = λ z. let f = eq-eqb n 0 z in cc in omega arith
+
+return_line : (at : At) (from : ℕ) (v : Value) → at.activity.below ≡ [] → Reads at from v →
+    IsLine at (instr.Return from) (left_alone (here_place at.state at.thread at.activity) (return_fate at.activity.depth v))
+return_line at from v last p =
+    elim (at.activity.depth == 0) as (λ b. (at.activity.depth == 0) ≡ b →
+        IsLine at (instr.Return from) (left_alone (here_place at.state at.thread at.activity) (cond b (fate.Ends v) (fate.Fails fault.Open)))) [
+      | true ↦ λ e. record { value = v; last = last; outside = eqb-true _ _ e; reads_value = p; ends = refl }
+      | false ↦ λ e. record { last = last; inside = not_zero _ e; fails = refl }
+    ] refl
+
+-- going on in a number of sections is going on in an equal number
+same_depth : (at : At) (d e : ℕ) (objects : List Object) (holding : Holding) → d ≡ e →
+    GoesOn at e objects holding (after at.state at.thread (Running (going_on at.activity d (advanced at.activity.top))) objects holding)
+same_depth at d e objects holding is = ap (λ n. after at.state at.thread (Running (going_on at.activity n (advanced at.activity.top))) objects holding) is
+
+release_lines : (at : At) (z m : Bool) → ((at.activity.depth == 0) ≡ z) → ((at.activity.depth == 1) ≡ m) →
+    (let f = cond z (fate.Fails fault.NoSection) fate.GoesOn in
+     IsLine at instr.Release (record { fate = f; activity = activity_moved f (at.activity.depth - 1) at.activity; objects = at.state.objects; holding = cond m (release at.state.holding at.thread) at.state.holding }))
+release_lines at true true e k =
+    let none : at.activity.depth ≡ 0 = eqb-true _ _ e in let one : at.activity.depth ≡ 1 = eqb-true _ _ k in absurd (omega arith)
+release_lines at true false e k = (eqb-true _ _ e, refl)
+release_lines at false true e k =
+    let one : at.activity.depth ≡ 1 = eqb-true _ _ k in
+    inr (record { outer = one; goes_on = same_depth at (at.activity.depth - 1) 0 at.state.objects (release at.state.holding at.thread) (omega arith) })
+release_lines at false false e k =
+    let some : 0 < at.activity.depth = not_zero _ e in
+    let not_one : at.activity.depth ≢ 1 = λ z. let f = eq-eqb at.activity.depth 1 z in cc in
+    inl (record { inner = omega arith; goes_on = refl })
+
+release_line : (at : At) → IsLine at instr.Release (release_left (here_place at.state at.thread at.activity))
+release_line at = release_lines at (at.activity.depth == 0) (at.activity.depth == 1) refl refl
+
+acquire_lines : (at : At) (list : ℕ) (request : Request) (z m free : Bool) → ((at.activity.depth == 0) ≡ z) → ((at.activity.depth == 255) ≡ m) →
+    at.activity.depth ≤ 255 → (at.activity.depth ≡ 0 → Asks at list request) → (free ≡ true → CanGrant at.state.holding at.thread request) → (free ≡ false → ¬ CanGrant at.state.holding at.thread request) →
+    slice_get at.state.threads at.thread ≡ Some (Running at.activity) →
+    (let f = cond z (cond free fate.GoesOn fate.Waits) (cond m (fate.Fails fault.Deep) fate.GoesOn) in
+     IsLine at (instr.Acquire list) (record { fate = f; activity = activity_moved f (at.activity.depth + 1) at.activity; objects = at.state.objects;
+       holding = cond z (cond free (grant at.state.holding at.thread request) at.state.holding) at.state.holding }))
+acquire_lines at list request true m true e k small asks granted taken here =
+    let none : at.activity.depth ≡ 0 = eqb-true _ _ e in
+    inr (record { request = request; asks = asks none; free = granted refl;
+      goes_on = same_depth at (at.activity.depth + 1) 1 at.state.objects (grant at.state.holding at.thread request) (omega arith) })
+acquire_lines at list request true m false e k small asks granted taken here =
+    record { request = request; asks = asks (eqb-true _ _ e); taken = taken refl; same = after_same at.state at.thread (Running at.activity) here }
+acquire_lines at list request false true free e k small asks granted taken here = (eqb-true _ _ k, refl)
+acquire_lines at list request false false free e k small asks granted taken here =
+    let not_most : at.activity.depth ≢ 255 = λ z. let f = eq-eqb at.activity.depth 255 z in cc in
+    inl (record { inside = not_zero _ e; room = omega arith; goes_on = refl })
+
+-- ---- the line of each instruction
+
+line_there : (image : Image) (s : State) (t : ℕ) (a : Activity) (h : Here image s t a) → slice_get s.threads t ≡ Some (Running a) → (i : Instr) →
+    FitsInstr image a.top.function h.placed.function i → IsTrue (is_taken i) → IsLine (at_of image s t a) i (left_by image (length s.threads) (here_place s t a) i)
+line_there image s t a h here (instr.SetInt to number) fits taken = refl
+line_there image s t a h here (instr.Add to left right) fits taken =
+    let count = h.placed.registers in
+    add_line (at_of image s t a) to left right (register_of a.top left) (register_of a.top right)
+    (read_there a left (omega (arith, fits.1))) (read_there a right (omega (arith, fits.2)))
+line_there image s t a h here (instr.GlobalAddress to global) fits taken = refl
+line_there image s t a h here (instr.Load to address) fits taken =
+    let count = h.placed.registers in
+    let read = read_there a address (omega (arith, fits.1)) in
+    load_line (at_of image s t a) to address (register_of a.top address) read (h.placed.points address (register_of a.top address) read)
+line_there image s t a h here (instr.Store address from) fits taken =
+    let count = h.placed.registers in
+    store_line (at_of image s t a) address from (register_of a.top address) (register_of a.top from)
+    (read_there a address (omega (arith, fits.0))) (read_there a from (omega (arith, fits.1)))
+line_there image s t a h here (instr.Return from) fits taken =
+    let count = h.placed.registers in
+    return_line (at_of image s t a) from (register_of a.top from) h.placed.alone (read_there a from (omega arith))
+line_there image s t a h here (instr.Acquire list) fits taken =
+    let request = request_of s.objects a.top.regs (locks_of image list) in
+    let free = can_grant s.holding (length s.threads) t request in
+    acquire_lines (at_of image s t a) list request (a.depth == 0) (a.depth == 255) free refl refl h.placed.depth
+    (λ none. record { locks = fits.0; outside = none; listed = fits.1; is = ap (λ o. request_of s.objects a.top.regs (unwrap_or o [])) fits.1 })
+    (λ e. grant_when_free image.classes (length s.threads) s.holding t request h.sound.within e)
+    (λ e g. let yes = can_grant-true s.holding (length s.threads) t request g in cc)
+    here
+line_there image s t a h here instr.Release fits taken = release_line (at_of image s t a)
+line_there image s t a h here i fits taken = let e = taken in cc
+
+-- the computed step of what stands at the thread's number is a step
+step_there : (image : Image) (s : State) (t : ℕ) (thread : Thread) → IsSound image s → slice_get s.threads t ≡ Some thread →
+    StepOf image s t (Some thread) (step_at image s t (Some thread)).reply (step_at image s t (Some thread)).state
+step_there image s t (Running a) sound e =
+    let h = here_of image s t a sound e in
+    let found = instr_here image s.objects a h.placed sound.fits in
+    let l : IsLine (at_of image s t a) found.0 (left_at image (length s.threads) (here_place s t a) (slice_get image.code a.top.pc)) =
+        subst (λ o. IsLine (at_of image s t a) found.0 (left_at image (length s.threads) (here_place s t a) o)) (sym found.1) (line_there image s t a h e found.0 found.2 found.3) in
+    (found.0, found.1, l)
+step_there image s t (Done v) sound e = (refl, after_same s t (Done v) e)
+step_there image s t (Failed f) sound e = (refl, after_same s t (Failed f) e)
+
+-- the computed step is a step
+pub step_is : (image : Image) (s : State) (t : ℕ) → IsSound image s → t < length s.threads → Step image s t (step_of image s t).reply (step_of image s t).state
+step_is image s t sound lt =
+    elim (slice_get_cases s.threads t).1 [
+      | inl found ↦ subst (λ o. StepOf image s t o (step_at image s t o).reply (step_at image s t o).state) (sym found.2) (step_there image s t found.0 sound found.2)
+      | inr past ↦ let le : length s.threads ≤ t = past.0 in absurd (omega arith)
+    ]

@@ -1,0 +1,217 @@
+-- A step that the table allows is the computed one.
+use Rattle.std.proofs.Common.{◌≡◌, ◌≢◌, ℕ, ℤ, ◌+◌, ◌-◌, ◌<◌, ◌≤◌, ◌⊎◌, ◌==◌, Bool, true, false, cond, List, [], Option, Some, None, Result, Ok, Err, IsTrue, length, slice_get, refl, ap, sym, ◌∙◌, subst, inl, inr, arith, eq-eqb, ne_eqb}
+use Rattle.std.specs.Prelude.{unwrap_or}
+use Rattle.std.specs.Int.{w32, int_wrapping_add}
+use Rattle.asl_code.specs.declared.image.Image.{Image}
+use Rattle.asl_code.specs.declared.instr.Instr.{Instr}
+use Rattle.asl_code.specs.declared.instr.Instr.TheVariants as instr
+use Rattle.asl_code.specs.declared.lock.Lock.{Lock}
+use Rattle.asl_code.specs.declared.value.Value.{Value}
+use Rattle.asl_code.specs.declared.value.Value.TheVariants.{Int, Null, Addr}
+use Rattle.asl_code.specs.declared.value.Cell.{Cell}
+use Rattle.asl_code.specs.declared.value.Effect.{Effect}
+use Rattle.asl_code.specs.declared.value.Effect.TheVariants.{Read, Write}
+use Rattle.asl_lock_forest.specs.Holding.{Holding, Request, CanGrant, grant, release, IsWithin}
+use Rattle.asl_machine.specs.declared.fate.Fate.{Fate}
+use Rattle.asl_machine.specs.declared.fate.Fate.TheVariants as fate
+use Rattle.asl_machine.specs.declared.fault.Fault.{Fault}
+use Rattle.asl_machine.specs.declared.fault.Fault.TheVariants as fault
+use Rattle.asl_machine.specs.declared.reply.Reply.{Reply}
+use Rattle.asl_machine.specs.declared.reply.Reply.TheVariants as reply
+use Rattle.asl_machine.specs.State.{Object, Activity, Thread, Running, Done, Failed, State, cell_at, written}
+use Rattle.asl_machine.specs.Access.{is_protected}
+use Rattle.asl_machine.specs.Expression.{cell_of}
+use Rattle.asl_machine.specs.Request.{locks_of, request_of}
+use Rattle.asl_machine.specs.Step.{At, advanced, advanced_with, going_on, after, Reads, ReadsAddress, is_allowed, Sets, GoesOn, Fails, are_integers, Asks, Line, StepOf, Step}
+use Rattle.asl_machine.specs.Twin.{Left, fate_of, set_left, sum_of, allowed_cell, loaded, accessed, accessed_by, store_left, left_alone, return_fate, acquire_fate, activity_moved, holding_acquired, acquire_left, release_fate, holding_released, release_left, left_by, left_at, turn_by, turn_of, step_at, step_of, register_of, can_grant}
+use Rattle.asl_machine.specs.Sound.{IsSound}
+use Rattle.asl_machine.proofs.Grants.{grant_when_free, can_grant-true}
+use Rattle.asl_machine.proofs.Soundness.{here_place, after_same}
+use Rattle.asl_machine.proofs.Table.{at_of}
+
+-- the reply and the state are those that an instruction leaves
+abbrev pub IsLeft : At → Left → Reply → State → Type 0
+IsLeft at l r n = let turn = turn_by at.thread l in (r ≡ turn.reply) × (n ≡ after at.state at.thread turn.thread turn.objects turn.holding)
+
+reads_is : (at : At) (r : ℕ) (v : Value) → Reads at r v → register_of at.activity.top r ≡ v
+reads_is at r v e = ap (λ o. unwrap_or o Null) e
+
+only_set : (at : At) (to : ℕ) (value : Result Value Fault) (v : Value) (n : State) → value ≡ Ok v → Sets at to v n → IsLeft at (set_left (here_place at.state at.thread at.activity) to value) reply.Ran n
+only_set at to value v n e h = subst (λ x. IsLeft at (set_left (here_place at.state at.thread at.activity) to x) reply.Ran n) (sym e) (refl, h)
+
+only_unset : (at : At) (to : ℕ) (value : Result Value Fault) (f : Fault) (n : State) → value ≡ Err f → Fails at f n → IsLeft at (set_left (here_place at.state at.thread at.activity) to value) (reply.Fault f) n
+only_unset at to value f n e h = subst (λ x. IsLeft at (set_left (here_place at.state at.thread at.activity) to x) (reply.Fault f) n) (sym e) (refl, h)
+
+only_unstored : (at : At) (v : Value) (target : Result Cell Fault) (f : Fault) (n : State) → target ≡ Err f → Fails at f n → IsLeft at (store_left (here_place at.state at.thread at.activity) v target) (reply.Fault f) n
+only_unstored at v target f n e h = subst (λ x. IsLeft at (store_left (here_place at.state at.thread at.activity) v x) (reply.Fault f) n) (sym e) (refl, h)
+
+sum_is : (a b x y : Value) → a ≡ x → b ≡ y → sum_of a b ≡ sum_of x y
+sum_is a b x y p q = λ i. sum_of (p i) (q i)
+
+no_sum : (x y : Value) → are_integers x y ≡ false → sum_of x y ≡ Err fault.BadType
+no_sum (Int x) (Int y) e = cc
+no_sum (Int x) Null e = refl
+no_sum (Int x) (Addr o i) e = refl
+no_sum Null y e = refl
+no_sum (Addr o i) y e = refl
+
+target_is : (at : At) (effect : Effect) (r : ℕ) (v : Value) → Reads at r v →
+    accessed_by (here_place at.state at.thread at.activity) effect r ≡ accessed at.state.holding at.state.objects at.thread at.activity.depth effect v
+target_is at effect r v e = ap (accessed at.state.holding at.state.objects at.thread at.activity.depth effect) (reads_is at r v e)
+
+target_allowed : (at : At) (effect : Effect) (r : ℕ) (c : Cell) (b : Bool) → ReadsAddress at r c → is_allowed at effect c ≡ b →
+    accessed_by (here_place at.state at.thread at.activity) effect r ≡ allowed_cell b effect c
+target_allowed at effect r c b e k = target_is at effect r (Addr c.object c.offset) e ∙ ap (λ x. allowed_cell x effect c) k
+
+load_is : (objects : List Object) (target : Result Cell Fault) (c : Cell) (v : Value) → target ≡ Ok c → cell_at objects c ≡ Some v → loaded objects target ≡ Ok v
+load_is objects target c v e k = ap (loaded objects) e ∙ ap (λ o. Ok (unwrap_or o Null)) k
+
+load_fails : (objects : List Object) (target : Result Cell Fault) (f : Fault) → target ≡ Err f → loaded objects target ≡ Err f
+load_fails objects target f e = ap (loaded objects) e
+
+-- a depth of which a test is known
+zero_test : (d : ℕ) → d ≡ 0 → (d == 0) ≡ true
+zero_test d e = eq-eqb d 0 e
+
+some_test : (d : ℕ) → 0 < d → (d == 0) ≡ false
+some_test d lt = ne_eqb d 0 (λ e. absurd (omega arith))
+
+only_return : (at : At) (v w : Value) (b : Bool) (r : Reply) (n : State) → w ≡ v → (at.activity.depth == 0) ≡ b →
+    IsLeft at (left_alone (here_place at.state at.thread at.activity) (cond b (fate.Ends v) (fate.Fails fault.Open))) r n →
+    IsLeft at (left_alone (here_place at.state at.thread at.activity) (return_fate at.activity.depth w)) r n
+only_return at v w b r n e k h =
+    subst (λ x. IsLeft at (left_alone (here_place at.state at.thread at.activity) (return_fate at.activity.depth x)) r n) (sym e)
+    (subst (λ x. IsLeft at (left_alone (here_place at.state at.thread at.activity) (cond x (fate.Ends v) (fate.Fails fault.Open))) r n) (sym k) h)
+
+-- what a `rel` leaves, by the tests of the depth
+abbrev released_by : At → Bool → Bool → Left
+released_by at z m =
+    let f = cond z (fate.Fails fault.NoSection) fate.GoesOn in
+    record { fate = f; activity = activity_moved f (at.activity.depth - 1) at.activity; objects = at.state.objects; holding = cond m (release at.state.holding at.thread) at.state.holding }
+
+only_release : (at : At) (z m : Bool) (r : Reply) (n : State) → (at.activity.depth == 0) ≡ z → (at.activity.depth == 1) ≡ m → IsLeft at (released_by at z m) r n →
+    IsLeft at (release_left (here_place at.state at.thread at.activity)) r n
+only_release at z m r n e k h =
+    subst (λ x. IsLeft at (released_by at x (at.activity.depth == 1)) r n) (sym e) (subst (λ x. IsLeft at (released_by at z x) r n) (sym k) h)
+
+-- what an `acq` leaves, by the tests of the depth and of the request
+abbrev acquired_by : At → Request → Bool → Bool → Bool → Left
+acquired_by at request z m free =
+    let f = cond z (cond free fate.GoesOn fate.Waits) (cond m (fate.Fails fault.Deep) fate.GoesOn) in
+    record { fate = f; activity = activity_moved f (at.activity.depth + 1) at.activity; objects = at.state.objects;
+      holding = cond z (cond free (grant at.state.holding at.thread request) at.state.holding) at.state.holding }
+
+only_acquire : (at : At) (request : Request) (z m free test : Bool) (r : Reply) (n : State) → (at.activity.depth == 0) ≡ z → (at.activity.depth == 255) ≡ m → test ≡ free →
+    IsLeft at (acquired_by at request z m free) r n → IsLeft at (acquire_left (here_place at.state at.thread at.activity) test request) r n
+only_acquire at request z m free test r n e k g h =
+    subst (λ x. IsLeft at (acquired_by at request x (at.activity.depth == 255) test) r n) (sym e)
+    (subst (λ x. IsLeft at (acquired_by at request z x test) r n) (sym k) (subst (λ x. IsLeft at (acquired_by at request z m x) r n) (sym g) h))
+
+-- going on in as many sections
+goes_same : (at : At) (d e : ℕ) (objects : List Object) (holding : Holding) (n : State) → d ≡ e → GoesOn at d objects holding n → GoesOn at e objects holding n
+goes_same at d e objects holding n is h = subst (λ k. GoesOn at k objects holding n) is h
+
+request_same : (at : At) (list : ℕ) (request : Request) → Asks at list request → request_of at.state.objects at.activity.top.regs (locks_of at.image list) ≡ request
+request_same at list request asks = ap (λ o. request_of at.state.objects at.activity.top.regs (unwrap_or o [])) asks.listed ∙ sym asks.is
+
+not_yes : (b : Bool) → (b ≡ true → ⊥) → b ≡ false
+not_yes true h = absurd (h refl)
+not_yes false h = refl
+
+only_line : (image : Image) (s : State) (t : ℕ) (a : Activity) → IsSound image s → slice_get s.threads t ≡ Some (Running a) → (i : Instr) (r : Reply) (n : State) → Line (at_of image s t a) i r n →
+    IsLeft (at_of image s t a) (left_by image (length s.threads) (here_place s t a) i) r n
+only_line image s t a sound here (instr.SetInt to number) reply.Ran n h = (refl, h)
+only_line image s t a sound here (instr.Add to left right) reply.Ran n h =
+    let at = at_of image s t a in
+    only_set at to _ (Int (int_wrapping_add w32 h.x h.y)) n (sum_is _ _ (Int h.x) (Int h.y) (reads_is at left _ h.reads_left) (reads_is at right _ h.reads_right)) h.sets
+only_line image s t a sound here (instr.Add to left right) (reply.Fault fault.BadType) n h =
+    let at = at_of image s t a in
+    only_unset at to _ fault.BadType n (sum_is _ _ h.x h.y (reads_is at left _ h.reads_left) (reads_is at right _ h.reads_right) ∙ no_sum h.x h.y h.other) h.fails
+only_line image s t a sound here (instr.GlobalAddress to global) reply.Ran n h = (refl, h)
+only_line image s t a sound here (instr.Load to address) reply.Ran n h =
+    let at = at_of image s t a in
+    only_set at to _ h.value n (load_is s.objects _ h.cell h.value (target_allowed at Read address h.cell true h.reads_address h.allowed) h.there) h.sets
+only_line image s t a sound here (instr.Load to address) (reply.Fault fault.Null) n h =
+    let at = at_of image s t a in
+    only_unset at to _ fault.Null n (load_fails s.objects _ fault.Null (target_is at Read address Null h.0)) h.1
+only_line image s t a sound here (instr.Load to address) (reply.Fault fault.BadType) n h =
+    let at = at_of image s t a in
+    only_unset at to _ fault.BadType n (load_fails s.objects _ fault.BadType (target_is at Read address (Int h.0) h.1)) h.2
+only_line image s t a sound here (instr.Load to address) (reply.Fault (fault.Unprotected cell effect)) n h =
+    let at = at_of image s t a in
+    only_unset at to _ (fault.Unprotected cell effect) n
+    (load_fails s.objects _ (fault.Unprotected cell effect)
+      (target_allowed at Read address cell false h.reads_address h.forbidden ∙ ap (λ e. Err (fault.Unprotected cell e)) (sym h.named))) h.fails
+only_line image s t a sound here (instr.Store address from) reply.Ran n h =
+    let at = at_of image s t a in
+    let is : n ≡ after s t (Running (going_on a a.depth (advanced a.top))) (written s.objects h.cell (register_of a.top from)) s.holding =
+        h.goes_on ∙ ap (λ v. after s t (Running (going_on a a.depth (advanced a.top))) (written s.objects h.cell v) s.holding) (sym (reads_is at from _ h.reads_value)) in
+    subst (λ x. IsLeft at (store_left (here_place s t a) (register_of a.top from) x) reply.Ran n) (sym (target_allowed at Write address h.cell true h.reads_address h.allowed)) (refl, is)
+only_line image s t a sound here (instr.Store address from) (reply.Fault fault.Null) n h =
+    let at = at_of image s t a in only_unstored at _ _ fault.Null n (target_is at Write address Null h.0) h.1
+only_line image s t a sound here (instr.Store address from) (reply.Fault fault.BadType) n h =
+    let at = at_of image s t a in only_unstored at _ _ fault.BadType n (target_is at Write address (Int h.0) h.1) h.2
+only_line image s t a sound here (instr.Store address from) (reply.Fault (fault.Unprotected cell effect)) n h =
+    let at = at_of image s t a in
+    only_unstored at _ _ (fault.Unprotected cell effect) n
+    (target_allowed at Write address cell false h.reads_address h.forbidden ∙ ap (λ e. Err (fault.Unprotected cell e)) (sym h.named)) h.fails
+only_line image s t a sound here (instr.Return from) reply.Ran n h =
+    let at = at_of image s t a in only_return at h.value _ true reply.Ran n (reads_is at from _ h.reads_value) (zero_test _ h.outside) (refl, h.ends)
+only_line image s t a sound here (instr.Return from) (reply.Fault fault.Open) n h =
+    let at = at_of image s t a in only_return at _ _ false (reply.Fault fault.Open) n refl (some_test _ h.inside) (refl, h.fails)
+only_line image s t a sound here (instr.Acquire list) reply.Ran n h =
+    let at = at_of image s t a in
+    let test = can_grant s.holding (length s.threads) t (request_of s.objects a.top.regs (locks_of image list)) in
+    elim h [
+      | inl nests ↦
+          let room = nests.room in
+          only_acquire at _ false false test test reply.Ran n (some_test _ nests.inside) (ne_eqb a.depth 255 (λ e. absurd (omega arith))) refl (refl, nests.goes_on)
+      | inr enters ↦
+          let is = request_same at list enters.request enters.asks in
+          let none = enters.asks.outside in
+          let free : CanGrant s.holding t (request_of s.objects a.top.regs (locks_of image list)) = subst (CanGrant s.holding t) (sym is) enters.free in
+          only_acquire at _ true (a.depth == 255) true test reply.Ran n (zero_test _ none) refl (can_grant-true s.holding (length s.threads) t _ free)
+          (refl, goes_same at 1 (a.depth + 1) s.objects _ n (omega arith) (subst (λ q. GoesOn at 1 s.objects (grant s.holding t q) n) (sym is) enters.goes_on))
+    ]
+only_line image s t a sound here (instr.Acquire list) reply.Blocked n h =
+    let at = at_of image s t a in
+    let request = request_of s.objects a.top.regs (locks_of image list) in
+    let is = request_same at list h.request h.asks in
+    let taken : can_grant s.holding (length s.threads) t request ≡ false =
+        not_yes _ (λ e. h.taken (subst (CanGrant s.holding t) is (grant_when_free image.classes (length s.threads) s.holding t request sound.within e))) in
+    only_acquire at _ true (a.depth == 255) false _ reply.Blocked n (zero_test _ h.asks.outside) refl taken (refl, h.same ∙ sym (after_same s t (Running a) here))
+only_line image s t a sound here (instr.Acquire list) (reply.Fault fault.Deep) n h =
+    let at = at_of image s t a in
+    let most = h.0 in
+    only_acquire at _ false true _ _ (reply.Fault fault.Deep) n (some_test _ (omega arith)) (eq-eqb a.depth 255 most) refl (refl, h.1)
+only_line image s t a sound here instr.Release reply.Ran n h =
+    let at = at_of image s t a in
+    elim h [
+      | inl unnests ↦
+          let inner = unnests.inner in
+          only_release at false false reply.Ran n (some_test _ (omega arith)) (ne_eqb a.depth 1 (λ e. absurd (omega arith))) (refl, unnests.goes_on)
+      | inr leaves ↦
+          let outer = leaves.outer in
+          only_release at false true reply.Ran n (some_test _ (omega arith)) (eq-eqb a.depth 1 outer) (refl, goes_same at 0 (a.depth - 1) s.objects _ n (omega arith) leaves.goes_on)
+    ]
+only_line image s t a sound here instr.Release (reply.Fault fault.NoSection) n h =
+    let at = at_of image s t a in
+    let none = h.0 in
+    only_release at true false (reply.Fault fault.NoSection) n (zero_test _ none) (ne_eqb a.depth 1 (λ e. absurd (omega arith))) (refl, h.1)
+only_line image s t a sound here i r n h = absurd h
+
+only_there : (image : Image) (s : State) (t : ℕ) (thread : Thread) → IsSound image s → slice_get s.threads t ≡ Some thread → (r : Reply) (n : State) → StepOf image s t (Some thread) r n →
+    (r ≡ (step_at image s t (Some thread)).reply) × (n ≡ (step_at image s t (Some thread)).state)
+only_there image s t (Running a) sound e r n h =
+    let l = only_line image s t a sound e h.0 r n h.2 in
+    subst (λ o. IsLeft (at_of image s t a) (left_at image (length s.threads) (here_place s t a) o) r n) (sym h.1) l
+only_there image s t (Done v) sound e r n h = (h.0, h.1 ∙ sym (after_same s t (Done v) e))
+only_there image s t (Failed f) sound e r n h = (h.0, h.1 ∙ sym (after_same s t (Failed f) e))
+
+-- a step that the table allows is the computed one
+pub step_only : (image : Image) (s : State) (t : ℕ) → IsSound image s → (r : Reply) (n : State) → Step image s t r n → (r ≡ (step_of image s t).reply) × (n ≡ (step_of image s t).state)
+step_only image s t sound r n h =
+    elim (slice_get s.threads t) as (λ o. slice_get s.threads t ≡ o → StepOf image s t o r n → (r ≡ (step_at image s t o).reply) × (n ≡ (step_at image s t o).state)) [
+      | None ↦ λ e k. absurd k
+      | Some thread ↦ λ e k. only_there image s t thread sound e r n k
+    ] refl h
