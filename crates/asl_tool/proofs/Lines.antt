@@ -1,5 +1,5 @@
 -- The lines of a schedule, as a loop writes them: those of the steps so far, and then those of the rest.
-use Rattle.std.proofs.Common.{◌≡◌, ℕ, suc, ◌+◌, ◌<◌, List, [], ◌∷◌, ◌++◌, length, drop, get_or, refl, sym, ◌∙◌, ap, append_assoc, append-nil, drop-cons, add-one, arith}
+use Rattle.std.proofs.Common.{◌≡◌, ℕ, suc, ◌+◌, ◌<◌, List, [], ◌∷◌, ◌++◌, length, drop, get_or, refl, ◌∙◌, ap, drop-cons, add-one, arith}
 use Rattle.std.proofs.Math.ListN.{drop_of_length-le}
 use Rattle.asl_code.specs.declared.image.Image.{Image}
 use Rattle.asl_machine.specs.State.{State}
@@ -13,9 +13,9 @@ left_lines image s schedule number = step_lines number (drop number schedule) (r
 
 -- the next step's line, and then those of the steps behind it
 pub left_lines-step : (image : Image) (s : State) (schedule : List ℕ) (number : ℕ) → number < length schedule
-  → left_lines image s schedule number
+    → left_lines image s schedule number
     ≡ step_line number (get_or schedule number 0) (step_of image s (get_or schedule number 0)).reply
-      ++ left_lines image (step_of image s (get_or schedule number 0)).state schedule (number + 1)
+    ++ left_lines image (step_of image s (get_or schedule number 0)).state schedule (number + 1)
 left_lines-step image s schedule number lt =
     let head : drop number schedule ≡ get_or schedule number 0 ∷ drop (suc number) schedule = drop-cons schedule number 0 lt in
     ap (λ l. step_lines number l (replies_of image s l)) head

@@ -1,5 +1,5 @@
 -- From what a machine does to what `step` answers.
-use Rattle.std.proofs.Common.{◌≡◌, ◌≢◌, ℕ, ◌<◌, ◌≤◌, ◌⊎◌, List, length, string_bytes, IfOk, IfErr, OnOk, Result, Ok, Err, refl, sym, ap, ap₂, ◌∙◌, subst, inl, inr, arith}
+use Rattle.std.proofs.Common.{◌≡◌, ◌≢◌, ℕ, ◌<◌, List, length, IfOk, IfErr, OnOk, Result, Ok, Err, refl, sym, ap, ap₂, ◌∙◌, subst, arith}
 use Rattle.asl_code.specs.declared.image.Image.{Image}
 use Rattle.asl_machine.specs.declared.fault.MachineFault.{MachineFault}
 use Rattle.asl_machine.specs.declared.fault.MachineFault.TheVariants.{BadCount, BadThread, OutOfMemory}
@@ -15,9 +15,9 @@ count_of n some few = record { some = omega (arith, some); few = omega (arith, f
 
 -- the lines of the start state's replies are the output
 pub runs : {S : Type 0} (text : S → List ℕ) (image here : Image) (n : ℕ) (state : State) (schedule : List ℕ) (r : Result S MachineFault) → here ≡ image → state ≡ start_of image n → IsCount n
-  → OnOk r (AllThere (length state.threads) schedule)
-  → IfOk r (λ t. text t ≡ step_lines 0 schedule (replies_of here state schedule))
-  → IfOk r (λ t. IsRun image n schedule (text t))
+    → OnOk r (AllThere (length state.threads) schedule)
+    → IfOk r (λ t. text t ≡ step_lines 0 schedule (replies_of here state schedule))
+    → IfOk r (λ t. IsRun image n schedule (text t))
 runs text image here n state schedule (Ok t) at starts count there lines = record {
   count = count;
   there = subst (λ (k : ℕ). AllThere k schedule) (ap (λ (s : State). length s.threads) starts ∙ length-first_threads image n) there;
@@ -27,9 +27,9 @@ runs text image here n state schedule (Err f) at starts count there lines = tt
 
 -- a run that is refused names a thread that is not there, or memory
 pub refused : {S : Type 0} (image : Image) (n : ℕ) (state : State) (schedule : List ℕ) (r : Result S MachineFault) → state ≡ start_of image n → IsCount n
-  → (r ≡ Err BadThread → AllThere (length state.threads) schedule → ⊥)
-  → r ≢ Err BadCount
-  → IfErr r (IsRefusedRun n schedule)
+    → (r ≡ Err BadThread → AllThere (length state.threads) schedule → ⊥)
+    → r ≢ Err BadCount
+    → IfErr r (IsRefusedRun n schedule)
 refused image n state schedule (Ok t) starts count thread none = tt
 refused image n state schedule (Err BadCount) starts count thread none = absurd (none refl)
 refused image n state schedule (Err BadThread) starts count thread none =

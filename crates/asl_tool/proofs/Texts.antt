@@ -1,5 +1,5 @@
 -- Texts that grow in two steps.
-use Rattle.std.proofs.Common.{◌≡◌, ℕ, List, ◌++◌, ◌∙◌, ap, sym, append_assoc, OnOk, Ok, Err}
+use Rattle.std.proofs.Common.{◌≡◌, ℕ, List, ◌++◌, ◌∙◌, ap, append_assoc, OnOk, Ok, Err}
 use Rattle.std.specs.declared.result.Result.{Result}
 
 -- a text that grew by one piece, and where a call succeeds by another, has grown by both

@@ -1,3 +1,4 @@
 pub mod Streams
 pub mod Output
 pub mod Step
+pub mod Tool

@@ -9,5 +9,6 @@ mod streams;
 mod tool;
 mod words;
 
-pub use step::{StepFault, step_text};
-pub use tool::tool_alone;
+pub use step::StepFault;
+pub use streams::{ReadFault, WriteFault};
+pub use tool::{ToolFault, step_program, tool_alone};

@@ -2,10 +2,9 @@
 ghost use Rattle.std.specs.Prelude.{◌≡◌, ◌++◌, OnOk, string_bytes};
 ghost use Rattle.asl_tool.specs.Output.{address_text, value_text, effect_text, access_text, fault_text, reply_text, step_line};
 
-use std::alloc::AllocError;
-
 use asl_code::{Cell, Effect, Value};
 use asl_machine::{Fault, Reply};
+use std::alloc::AllocError;
 
 fn push_address(text: &mut String, object: u16, offset: u8) -> Result<(), AllocError>
     ensures { OnOk result (string_bytes text.new ≡ string_bytes text.old ++ address_text object offset) }
@@ -81,7 +80,12 @@ fn push_reply(text: &mut String, reply: Reply) -> Result<(), AllocError>
 }
 
 /// Adds the line of a step: its number, its thread and the reply.
-pub fn push_line(text: &mut String, number: usize, thread: u32, reply: Reply) -> Result<(), AllocError>
+pub fn push_line(
+    text: &mut String,
+    number: usize,
+    thread: u32,
+    reply: Reply,
+) -> Result<(), AllocError>
     ensures { OnOk result (string_bytes text.new ≡ string_bytes text.old ++ step_line number thread reply) }
 {
     write!(text, "{number} {thread} ")?;

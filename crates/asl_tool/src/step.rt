@@ -5,14 +5,12 @@ ghost use Rattle.asl_machine.specs.Twin.{step_of};
 ghost use Rattle.asl_tool.specs.Output.{step_lines};
 ghost use Rattle.asl_tool.specs.Step.{AllThere, IsRun, IsStepped, IsRefusedRun, IsRefusedStep};
 
-use std::alloc::{AllocError, Global};
-
+use crate::replies::push_line;
 use asl_assembler::{AsmFault, assemble};
 use asl_code::Program;
 use asl_machine::{Machine, MachineFault, Reply};
+use std::alloc::{AllocError, Global};
 use thiserror::Error;
-
-use crate::replies::push_line;
 
 /// Why `step` gives no output. Where several apply, the first is answered.
 #[derive(Debug, Drop, Error)]
@@ -58,7 +56,11 @@ fn program_text(
 }
 
 /// The lines of the machine's replies. The schedule is judged before the first step.
-fn schedule_text(alloc: Global, machine: &mut Machine<'_>, schedule: &[u32]) -> Result<String, MachineFault>
+fn schedule_text(
+    alloc: Global,
+    machine: &mut Machine<'_>,
+    schedule: &[u32],
+) -> Result<String, MachineFault>
     ensures there { OnOk result (AllThere (length machine.old.state.threads) schedule.now) }
     ensures lines { IfOk result (λ text. string_bytes text
         ≡ step_lines 0 schedule.now (replies_of machine.old.image machine.old.state schedule.now)) }
@@ -80,7 +82,11 @@ fn all_there(threads: u32, schedule: &[u32]) -> bool
 }
 
 /// The lines of the machine's replies to the schedule, whose threads are there.
-fn replies(alloc: Global, machine: &mut Machine<'_>, schedule: &[u32]) -> Result<String, MachineFault>
+fn replies(
+    alloc: Global,
+    machine: &mut Machine<'_>,
+    schedule: &[u32],
+) -> Result<String, MachineFault>
     requires { AllThere (length machine.old.state.threads) schedule.now }
     ensures lines { IfOk result (λ text. string_bytes text
         ≡ step_lines 0 schedule.now (replies_of machine.old.image machine.old.state schedule.now)) }

@@ -5,7 +5,6 @@ ghost use Rattle.asl_tool.specs.Streams.{AppendsPart};
 
 use std::alloc::Global;
 use std::io::{Read, Write};
-
 use thiserror::Error;
 
 /// The most bytes that an input may have.

@@ -1,22 +1,34 @@
 //! A run of the program: words, a reader and two writers in, the exit status out.
-use std::alloc::Global;
-use std::io::{Read, Write};
-
-use thiserror::Error;
+ghost use Rattle.std.specs.Prelude.{◌≡◌, Some, IsSome, IfSome, OnOk, IfErr, MatchResult};
+ghost use Rattle.asl_tool.specs.Tool.{WritesOutput, Refuses, IsStepStatus, IsTextStatus, EndsWith};
 
 use crate::step::{StepFault, step_text};
 use crate::streams::{ReadFault, WriteFault, read_whole, write_whole};
 use crate::words::{Invocation, read_words};
+use std::alloc::Global;
+use std::io::{Read, Write};
+use thiserror::Error;
+
+/// The status of what was done.
+const DONE: u8 = 0;
+/// The status of a refusal.
+const REFUSED: u8 = 1;
+/// The status of words that are no legal use.
+const WRONG_USAGE: u8 = 2;
 
 /// Why the program did not do what its words ask for. The name is what standard error gets.
 #[derive(Debug, Drop, Error)]
-enum ToolFault {
+pub enum ToolFault {
+    /// The input was not read to its end.
     #[error(transparent)]
     Read(ReadFault),
+    /// The input is no program, or is not run.
     #[error(transparent)]
     Step(StepFault),
+    /// The output was not written to its end.
     #[error(transparent)]
     Write(WriteFault),
+    /// There was no memory to judge the words.
     #[error("OutOfMemory")]
     OutOfMemory,
 }
@@ -29,44 +41,106 @@ pub fn tool_alone<R: Read, W: Write, E: Write>(
     reader: &mut R,
     writer: &mut W,
     errors: &mut E,
-) -> Option<u8> {
-    match read_words(alloc, words) {
+) -> Option<u8>
+    ensures alone { IsSome result }
+    ensures status { IfSome result
+        (EndsWith (R.remaining reader.old) (W.contents writer.old) (W.contents writer.new)) }
+{
+    let status = match read_words(alloc, words) {
         Ok(Invocation::Step { threads, schedule }) => {
-            let done = step(alloc, threads, schedule.as_slice(), reader, writer);
-            Some(status_of(done, errors))
+            stepped(alloc, threads, schedule.as_slice(), reader, writer, errors)
         }
-        Ok(Invocation::Help(text)) => {
-            let done = write_whole(writer, text.as_bytes()).map_err(ToolFault::Write);
-            Some(status_of(done, errors))
-        }
-        Ok(Invocation::WrongUsage(text)) => {
-            let _ = write_whole(errors, text.as_bytes());
-            Some(2)
-        }
-        Err(_) => Some(status_of(Err(ToolFault::OutOfMemory), errors)),
-    }
+        Ok(Invocation::Help(text)) => shown(text.as_str(), writer, errors),
+        Ok(Invocation::WrongUsage(text)) => wrong_usage(text.as_str(), errors),
+        Err(_) => status_of(Err(ToolFault::OutOfMemory), errors),
+    };
+    Some(status)
 }
 
-/// The command `step`.
-fn step<R: Read, W: Write>(
+/// Steps a program, and answers the status.
+fn stepped<R: Read, W: Write, E: Write>(
     alloc: Global,
     threads: u32,
     schedule: &[u32],
     reader: &mut R,
     writer: &mut W,
-) -> Result<(), ToolFault> {
-    let input = read_whole(alloc, reader).map_err(ToolFault::Read)?;
-    let text = step_text(alloc, threads, schedule, input.as_slice()).map_err(ToolFault::Step)?;
-    write_whole(writer, text.as_bytes()).map_err(ToolFault::Write)
+    errors: &mut E,
+) -> u8
+    ensures { IsStepStatus (R.remaining reader.old) (W.contents writer.old) (W.contents writer.new) threads
+        schedule.now result }
+{
+    let done = step_program(alloc, threads, schedule, reader, writer);
+    status_of(done, errors)
+}
+
+/// Shows a text, and answers the status.
+fn shown<W: Write, E: Write>(text: &str, writer: &mut W, errors: &mut E) -> u8
+    ensures { IsTextStatus (W.contents writer.old) (W.contents writer.new) text.now result }
+{
+    match write_whole(writer, text.as_bytes()) {
+        Ok(()) => DONE,
+        Err(fault) => status_of(Err(ToolFault::Write(fault)), errors),
+    }
+}
+
+/// Says why the words are no legal use, and answers the status.
+fn wrong_usage<E: Write>(text: &str, errors: &mut E) -> u8
+    ensures { result ≡ 2 }
+{
+    let _ = write_whole(errors, text.as_bytes());
+    WRONG_USAGE
+}
+
+/// The command `step`: reads the program, steps it, and writes the lines of its replies.
+pub fn step_program<R: Read, W: Write>(
+    alloc: Global,
+    threads: u32,
+    schedule: &[u32],
+    reader: &mut R,
+    writer: &mut W,
+) -> Result<(), ToolFault>
+    ensures ok { OnOk result
+        (WritesOutput (R.remaining reader.old) (W.contents writer.old) (W.contents writer.new) threads schedule.now) }
+    ensures err { IfErr result
+        (Refuses (R.remaining reader.old) (W.contents writer.old) (W.contents writer.new) threads schedule.now) }
+{
+    match read_whole(alloc, reader) {
+        Ok(input) => answer(alloc, threads, schedule, input.as_slice(), writer),
+        Err(fault) => Err(ToolFault::Read(fault)),
+    }
+}
+
+/// Steps the program of the input, and writes the lines of its replies.
+fn answer<W: Write>(
+    alloc: Global,
+    threads: u32,
+    schedule: &[u32],
+    input: &[u8],
+    writer: &mut W,
+) -> Result<(), ToolFault>
+    ensures ok { OnOk result
+        (WritesOutput (Some input.now) (W.contents writer.old) (W.contents writer.new) threads schedule.now) }
+    ensures err { IfErr result
+        (Refuses (Some input.now) (W.contents writer.old) (W.contents writer.new) threads schedule.now) }
+{
+    match step_text(alloc, threads, schedule, input) {
+        Ok(text) => match write_whole(writer, text.as_bytes()) {
+            Ok(()) => Ok(()),
+            Err(fault) => Err(ToolFault::Write(fault)),
+        },
+        Err(fault) => Err(ToolFault::Step(fault)),
+    }
 }
 
 /// The exit status; a fault's line goes to `errors`.
-fn status_of<E: Write>(done: Result<(), ToolFault>, errors: &mut E) -> u8 {
+fn status_of<E: Write>(done: Result<(), ToolFault>, errors: &mut E) -> u8
+    ensures { MatchResult done (λ _. result ≡ 0) (λ _. result ≡ 1) }
+{
     match done {
-        Ok(()) => 0,
+        Ok(()) => DONE,
         Err(fault) => {
             let _ = writeln!(errors, "asl: {fault}");
-            1
+            REFUSED
         }
     }
 }

@@ -1,10 +1,9 @@
 //! The words of the command line.
 ghost use Rattle.std.specs.Prelude.{◌≡◌, ◌<◌, ◌^◌, IfSome};
 
-use std::alloc::{AllocError, Global};
-
 use clap::error::ErrorKind;
 use clap::{Arg, ArgAction, ArgMatches, Command, Error};
+use std::alloc::{AllocError, Global};
 
 /// What the words of a command line ask for.
 #[derive(Debug, Drop)]
@@ -22,7 +21,8 @@ pub enum Invocation {
     WrongUsage(String),
 }
 
-const STEP_HELP: &str = "Reads a program in assembly text from standard input, makes a machine of N threads, \
+const STEP_HELP: &str =
+    "Reads a program in assembly text from standard input, makes a machine of N threads, \
     steps the threads in the given order, and writes one line a step: its number, its thread and the reply";
 
 /// Judges the words, which are those after the program's name. Only memory can fail.

@@ -1,7 +1,6 @@
-use std::test::Fail;
-
 use super::{ReadFault, WriteFault, read_whole, write_whole};
 use crate::fakes::{Endless, Feed, Sink};
+use std::test::Fail;
 
 #[test]
 fn reads_all_in_any_pieces(rt: HostRuntime) -> Result<(), Fail> {

@@ -1,12 +1,12 @@
 //! Whole runs over memory: what is written where, and the status.
+use super::tool_alone;
+use crate::fakes::{Endless, Feed, Sink};
 use std::alloc::{AllocError, Global};
 use std::process::Abort;
 use std::test::Fail;
 
-use super::tool_alone;
-use crate::fakes::{Endless, Feed, Sink};
-
-const COUNTER: &str = "version 1\nclasses 1\nglobal 0\nentry 0\nfn 1 5\nglob r1, g0\nacq 0\nload r2, r1\n\
+const COUNTER: &str =
+    "version 1\nclasses 1\nglobal 0\nentry 0\nfn 1 5\nglob r1, g0\nacq 0\nload r2, r1\n\
     int r3, 1\nadd r4, r2, r3\nstore r1, r4\nrel\nret r0\nlist\nexpr r1 write\n";
 
 /// The words of a line, which stand between single spaces.
@@ -32,7 +32,13 @@ fn expect_run(
     let mut writer = Vec::new(alloc);
     let mut errors = Vec::new(alloc);
     let mut reader = input.as_bytes();
-    let got = tool_alone(alloc, words.as_slice(), &mut reader, &mut writer, &mut errors);
+    let got = tool_alone(
+        alloc,
+        words.as_slice(),
+        &mut reader,
+        &mut writer,
+        &mut errors,
+    );
     assert_eq!(rt; got, Some(status));
     assert_eq!(rt; writer.as_slice(), output.as_bytes());
     assert_eq!(rt; errors.as_slice(), said.as_bytes());
@@ -58,17 +64,27 @@ fn two_threads_count(rt: HostRuntime) -> Result<(), Fail> {
 
 #[test]
 fn a_thread_ends_once(rt: HostRuntime) -> Result<(), Fail> {
-    let output = "0 0 ran\n1 0 ran\n2 0 ran\n3 0 ran\n4 0 ran\n5 0 ran\n6 0 ran\n7 0 ran\n8 0 ended\n";
-    expect_run(&rt, "step --threads 64 0 0 0 0 0 0 0 0 0", COUNTER, 0, output, "")?;
+    let output =
+        "0 0 ran\n1 0 ran\n2 0 ran\n3 0 ran\n4 0 ran\n5 0 ran\n6 0 ran\n7 0 ran\n8 0 ended\n";
+    expect_run(
+        &rt,
+        "step --threads 64 0 0 0 0 0 0 0 0 0",
+        COUNTER,
+        0,
+        output,
+        "",
+    )?;
     expect_run(&rt, "step --threads 64 63", COUNTER, 0, "0 63 ran\n", "")
 }
 
 #[test]
 fn accesses_want_locks(rt: HostRuntime) -> Result<(), Fail> {
-    let bare = "version 1\nclasses 1\nglobal 0\nentry 0\nfn 1 3\nglob r1, g0\nload r2, r1\nret r0\n";
+    let bare =
+        "version 1\nclasses 1\nglobal 0\nentry 0\nfn 1 3\nglob r1, g0\nload r2, r1\nret r0\n";
     let output = "0 0 ran\n1 0 fault Unprotected 0.0 read\n2 0 ended\n";
     expect_run(&rt, "step --threads 1 0 0 0", bare, 0, output, "")?;
-    let late = "version 1\nclasses 1\nglobal 0\nentry 0\nfn 1 3\nacq 0\nglob r1, g0\nload r2, r1\nret r0\n\
+    let late =
+        "version 1\nclasses 1\nglobal 0\nentry 0\nfn 1 3\nacq 0\nglob r1, g0\nload r2, r1\nret r0\n\
         list\nexpr r1 read\n";
     let output = "0 0 ran\n1 0 ran\n2 0 fault Unprotected 0.0 read\n";
     expect_run(&rt, "step --threads 1 0 0 0", late, 0, output, "")
@@ -86,25 +102,64 @@ fn a_fault_gives_the_locks_back(rt: HostRuntime) -> Result<(), Fail> {
 fn sections_open_and_close(rt: HostRuntime) -> Result<(), Fail> {
     expect_twice(&rt, "acq 0\nret r0\nlist\n", "0 0 ran\n1 0 fault Open\n")?;
     expect_twice(&rt, "rel\nret r0\n", "0 0 fault NoSection\n1 0 ended\n")?;
-    let nested = "version 1\nclasses 1\nglobal 0\nentry 0\nfn 1 2\nglob r1, g0\nacq 0\nacq 1\nstore r1, r0\n\
+    let nested =
+        "version 1\nclasses 1\nglobal 0\nentry 0\nfn 1 2\nglob r1, g0\nacq 0\nacq 1\nstore r1, r0\n\
         rel\nstore r1, r0\nrel\nret r0\nlist\nexpr r1 write\nlist\nexpr r1 write\n";
-    let output = "0 0 ran\n1 0 ran\n2 0 ran\n3 0 ran\n4 0 ran\n5 0 ran\n6 1 ran\n7 1 blocked\n8 0 ran\n9 1 ran\n";
-    expect_run(&rt, "step --threads 2 0 0 0 0 0 0 1 1 0 1", nested, 0, output, "")
+    let output =
+        "0 0 ran\n1 0 ran\n2 0 ran\n3 0 ran\n4 0 ran\n5 0 ran\n6 1 ran\n7 1 blocked\n8 0 ran\n9 1 ran\n";
+    expect_run(
+        &rt,
+        "step --threads 2 0 0 0 0 0 0 1 1 0 1",
+        nested,
+        0,
+        output,
+        "",
+    )
 }
 
 #[test]
 fn each_rule_of_an_image_is_named(rt: HostRuntime) -> Result<(), Fail> {
     let cases: [(&str, &str); 10] = [
-        ("version 1\nclasses 1025\nentry 0\nfn 1 1\nret r0\n", "asl: Verify(Limit)\n"),
-        ("version 1\nclasses 1\nglobal 1\nentry 0\nfn 1 1\nret r0\n", "asl: Verify(Table)\n"),
-        ("version 1\nclasses 0\nentry 1\nfn 1 1\nret r0\n", "asl: Verify(NoEntry)\n"),
-        ("version 1\nclasses 0\nentry 0\nfn 1 0\nret r0\n", "asl: Verify(FunctionRange)\n"),
-        ("version 1\nclasses 0\nentry 0\nfn 1 1\nret r0\nint r0, 1\n", "asl: Verify(FallsOut)\n"),
-        ("version 1\nclasses 0\nentry 0\nfn 1 1\nint r0, 1\njmp 2\n", "asl: Verify(Target(1))\n"),
-        ("version 1\nclasses 0\nentry 0\nfn 1 1\nint r1, 1\nret r1\n", "asl: Verify(Register(0))\n"),
-        ("version 1\nclasses 0\nentry 0\nfn 1 1\nint r0, 1\nglob r0, g0\nret r0\n", "asl: Verify(Operand(1))\n"),
-        ("version 1\nclasses 0\nentry 0\nfn 1 1\nnull r0\nret r0\n", "asl: Verify(Operand(0))\n"),
-        ("version 1\nclasses 0\nentry 0\nfn 1 1\nacq 0\nret r0\nlist\nexpr r1 read\n", "asl: Verify(ListBase(0))\n"),
+        (
+            "version 1\nclasses 1025\nentry 0\nfn 1 1\nret r0\n",
+            "asl: Verify(Limit)\n",
+        ),
+        (
+            "version 1\nclasses 1\nglobal 1\nentry 0\nfn 1 1\nret r0\n",
+            "asl: Verify(Table)\n",
+        ),
+        (
+            "version 1\nclasses 0\nentry 1\nfn 1 1\nret r0\n",
+            "asl: Verify(NoEntry)\n",
+        ),
+        (
+            "version 1\nclasses 0\nentry 0\nfn 1 0\nret r0\n",
+            "asl: Verify(FunctionRange)\n",
+        ),
+        (
+            "version 1\nclasses 0\nentry 0\nfn 1 1\nret r0\nint r0, 1\n",
+            "asl: Verify(FallsOut)\n",
+        ),
+        (
+            "version 1\nclasses 0\nentry 0\nfn 1 1\nint r0, 1\njmp 2\n",
+            "asl: Verify(Target(1))\n",
+        ),
+        (
+            "version 1\nclasses 0\nentry 0\nfn 1 1\nint r1, 1\nret r1\n",
+            "asl: Verify(Register(0))\n",
+        ),
+        (
+            "version 1\nclasses 0\nentry 0\nfn 1 1\nint r0, 1\nglob r0, g0\nret r0\n",
+            "asl: Verify(Operand(1))\n",
+        ),
+        (
+            "version 1\nclasses 0\nentry 0\nfn 1 1\nnull r0\nret r0\n",
+            "asl: Verify(Operand(0))\n",
+        ),
+        (
+            "version 1\nclasses 0\nentry 0\nfn 1 1\nacq 0\nret r0\nlist\nexpr r1 read\n",
+            "asl: Verify(ListBase(0))\n",
+        ),
     ];
     for (input, said) in cases.as_slice() {
         expect_refused(&rt, input, said)?;
@@ -117,12 +172,44 @@ fn refusals_come_in_order(rt: HostRuntime) -> Result<(), Fail> {
     expect_refused(&rt, "", "asl: Line(1)\n")?;
     expect_refused(&rt, "\n", "asl: Line(2)\n")?;
     expect_refused(&rt, "version 1\nclasses 1\nglobel 0\n", "asl: Line(3)\n")?;
-    expect_refused(&rt, "version 1\nclasses 0\nentry 0\n", "asl: Verify(NoEntry)\n")?;
+    expect_refused(
+        &rt,
+        "version 1\nclasses 0\nentry 0\n",
+        "asl: Verify(NoEntry)\n",
+    )?;
     expect_run(&rt, "step --threads 0 0", COUNTER, 1, "", "asl: BadCount\n")?;
-    expect_run(&rt, "step --threads 65 70", COUNTER, 1, "", "asl: BadCount\n")?;
-    expect_run(&rt, "step --threads 65 70", "version 2\n", 1, "", "asl: Line(1)\n")?;
-    expect_run(&rt, "step --threads 2 0 0 2", COUNTER, 1, "", "asl: BadThread\n")?;
-    expect_run(&rt, "step --threads 1 4294967295", COUNTER, 1, "", "asl: BadThread\n")
+    expect_run(
+        &rt,
+        "step --threads 65 70",
+        COUNTER,
+        1,
+        "",
+        "asl: BadCount\n",
+    )?;
+    expect_run(
+        &rt,
+        "step --threads 65 70",
+        "version 2\n",
+        1,
+        "",
+        "asl: Line(1)\n",
+    )?;
+    expect_run(
+        &rt,
+        "step --threads 2 0 0 2",
+        COUNTER,
+        1,
+        "",
+        "asl: BadThread\n",
+    )?;
+    expect_run(
+        &rt,
+        "step --threads 1 4294967295",
+        COUNTER,
+        1,
+        "",
+        "asl: BadThread\n",
+    )
 }
 
 #[test]
@@ -132,7 +219,13 @@ fn wrong_usage_reads_nothing(rt: HostRuntime) -> Result<(), Fail> {
     let mut reader = Feed::new(b"version 1\n", 4, 1);
     let mut writer = Vec::new(alloc);
     let mut errors = Vec::new(alloc);
-    let got = tool_alone(alloc, words.as_slice(), &mut reader, &mut writer, &mut errors);
+    let got = tool_alone(
+        alloc,
+        words.as_slice(),
+        &mut reader,
+        &mut writer,
+        &mut errors,
+    );
     assert_eq!(rt; got, Some(2));
     assert_eq!(rt; reader.calls, 0);
     assert!(rt; writer.is_empty() && !errors.is_empty());
@@ -145,7 +238,13 @@ fn help_goes_to_the_output(rt: HostRuntime) -> Result<(), Fail> {
     let words = split(alloc, "step --help")?;
     let mut writer = Vec::new(alloc);
     let mut errors = Vec::new(alloc);
-    let got = tool_alone(alloc, words.as_slice(), &mut Endless, &mut writer, &mut errors);
+    let got = tool_alone(
+        alloc,
+        words.as_slice(),
+        &mut Endless,
+        &mut writer,
+        &mut errors,
+    );
     assert_eq!(rt; got, Some(0));
     assert!(rt; !writer.is_empty() && errors.is_empty());
     Ok(())
@@ -158,7 +257,13 @@ fn pieces_change_nothing(rt: HostRuntime) -> Result<(), Fail> {
     let mut errors = Vec::new(alloc);
     let mut reader = Feed::new(COUNTER.as_bytes(), 1, 0);
     let mut writer = Sink::new(alloc, 1, 0, 0);
-    let got = tool_alone(alloc, words.as_slice(), &mut reader, &mut writer, &mut errors);
+    let got = tool_alone(
+        alloc,
+        words.as_slice(),
+        &mut reader,
+        &mut writer,
+        &mut errors,
+    );
     assert_eq!(rt; got, Some(0));
     assert_eq!(rt; writer.held.as_slice(), b"0 0 ran\n1 0 ran\n".as_slice());
     assert!(rt; errors.is_empty());
@@ -173,14 +278,26 @@ fn a_failing_reader_is_named(rt: HostRuntime) -> Result<(), Fail> {
         let mut errors = Vec::new(alloc);
         let mut reader = Feed::new(COUNTER.as_bytes(), 100, call);
         let mut writer = Sink::new(alloc, 9, 0, 0);
-        let got = tool_alone(alloc, words.as_slice(), &mut reader, &mut writer, &mut errors);
+        let got = tool_alone(
+            alloc,
+            words.as_slice(),
+            &mut reader,
+            &mut writer,
+            &mut errors,
+        );
         assert_eq!(rt; got, Some(1));
         assert!(rt; writer.held.is_empty());
         assert_eq!(rt; errors.as_slice(), b"asl: Read\n".as_slice());
     }
     let mut errors = Vec::new(alloc);
     let mut writer = Vec::new(alloc);
-    let got = tool_alone(alloc, words.as_slice(), &mut Endless, &mut writer, &mut errors);
+    let got = tool_alone(
+        alloc,
+        words.as_slice(),
+        &mut Endless,
+        &mut writer,
+        &mut errors,
+    );
     assert_eq!(rt; got, Some(1));
     assert_eq!(rt; errors.as_slice(), b"asl: TooLong\n".as_slice());
     Ok(())
@@ -197,7 +314,13 @@ fn a_failing_writer_is_named(rt: HostRuntime) -> Result<(), Fail> {
             let mut reader = COUNTER.as_bytes();
             let (fails_at, full_at) = if full { (0, call) } else { (call, 0) };
             let mut writer = Sink::new(alloc, 4, fails_at, full_at);
-            let got = tool_alone(alloc, words.as_slice(), &mut reader, &mut writer, &mut errors);
+            let got = tool_alone(
+                alloc,
+                words.as_slice(),
+                &mut reader,
+                &mut writer,
+                &mut errors,
+            );
             assert_eq!(rt; got, Some(1));
             assert!(rt; output.starts_with(writer.held.as_slice()));
             assert!(rt; writer.held.len() < output.len());

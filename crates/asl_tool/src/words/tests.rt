@@ -1,9 +1,8 @@
 //! Which words parse, and as what.
+use super::{Invocation, read_words};
 use std::alloc::{AllocError, Global};
 use std::process::Abort;
 use std::test::Fail;
-
-use super::{Invocation, read_words};
 
 /// What a word list must be read as.
 enum Wanted {
@@ -55,8 +54,14 @@ fn steps(rt: HostRuntime) -> Result<(), Fail> {
             ("step --threads 3 -- 0 1", Wanted::Step(3, &[0, 1])),
             ("step --threads 0 0", Wanted::Step(0, &[0])),
             ("step --threads 65 7", Wanted::Step(65, &[7])),
-            ("step --threads 4294967295 4294967295", Wanted::Step(4294967295, &[4294967295])),
-            ("step --threads 0000000000002 0000000000000000000001", Wanted::Step(2, &[1])),
+            (
+                "step --threads 4294967295 4294967295",
+                Wanted::Step(4294967295, &[4294967295]),
+            ),
+            (
+                "step --threads 0000000000002 0000000000000000000001",
+                Wanted::Step(2, &[1]),
+            ),
             ("step --threads 1 9 9 9", Wanted::Step(1, &[9, 9, 9])),
         ],
     )
@@ -126,7 +131,10 @@ fn wrong_numbers(rt: HostRuntime) -> Result<(), Fail> {
             ("step --threads 1.0 0", Wanted::WrongUsage),
             ("step --threads 4294967296 0", Wanted::WrongUsage),
             ("step --threads 1 4294967296", Wanted::WrongUsage),
-            ("step --threads 1 99999999999999999999999999", Wanted::WrongUsage),
+            (
+                "step --threads 1 99999999999999999999999999",
+                Wanted::WrongUsage,
+            ),
             ("step --threads 1 -- -1", Wanted::WrongUsage),
             ("step --threads 1 -1", Wanted::WrongUsage),
             ("step --threads 1 +1", Wanted::WrongUsage),

@@ -10,5 +10,5 @@ invariant-loop-number l = record {
   image : l.machine.image ≡ l.initial.machine.image;
   threads : length l.machine.state.threads ≡ length l.initial.machine.state.threads;
   told : string_bytes l.text ++ left_lines l.machine.image l.machine.state l.schedule l.number
-    ≡ step_lines 0 l.schedule (replies_of l.initial.machine.image l.initial.machine.state l.schedule)
+      ≡ step_lines 0 l.schedule (replies_of l.initial.machine.image l.initial.machine.state l.schedule);
 }

@@ -6,5 +6,5 @@ abbrev pub invariant-loop : goal.invariant-loop
 invariant-loop g l = record {
   short : length l.all.items ≤ 268435456;
   told : (bytes : List ℕ) → g.R.Read.remaining l.initial.reader ≡ Some bytes
-    → (rest : List ℕ) × (g.R.Read.remaining l.reader ≡ Some rest) × (l.all.items ++ rest ≡ bytes)
+      → (rest : List ℕ) × (g.R.Read.remaining l.reader ≡ Some rest) × (l.all.items ++ rest ≡ bytes);
 }
