@@ -605,7 +605,7 @@ not_before bytes place other lt p q =
     let end : field_end place ≡ place + 1 = rw early refl in
     let within : place + 1 ≤ other = omega arith in
     let same : take (place + 1) (instr_bytes w.0) ≡ take (place + 1) bytes =
-        sym (take-take (place + 1) other (instr_bytes w.0) within) ∙ ap (take (place + 1)) w.2 ∙ take-take (place + 1) other bytes within in
+    sym (take-take (place + 1) other (instr_bytes w.0) within) ∙ ap (take (place + 1)) w.2 ∙ take-take (place + 1) other bytes within in
     p.here w.0 w.1 (rw end same)
 
 pub place_is_one : FirstBadFieldIsOne

@@ -13,8 +13,8 @@ mod path;
 mod places;
 mod program;
 mod value;
-mod verify;
 mod value_bytes;
+mod verify;
 
 pub use fault::VerifyFault;
 pub use image::{Function, Image};

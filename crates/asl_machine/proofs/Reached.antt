@@ -74,7 +74,7 @@ blocked : (image : Image) (s : State) (t : ℕ) → IsSound image s → (step_of
     (depth_at s.threads t ≡ 0) × ((request : Request) × (¬ CanGrant s.holding t request))
 blocked image s t sound e =
     elim (slice_get s.threads t) as (λ o. slice_get s.threads t ≡ o → (step_at image s t o).reply ≡ reply.Blocked →
-        (depth_at s.threads t ≡ 0) × ((request : Request) × (¬ CanGrant s.holding t request))) [
+    (depth_at s.threads t ≡ 0) × ((request : Request) × (¬ CanGrant s.holding t request))) [
       | None ↦ λ is b. cc
       | Some thread ↦ λ is b.
           let lt = slice_get_within s.threads t thread is in
@@ -107,7 +107,7 @@ some_node : (h : Holding) (count t : ℕ) (request part : Request) → list_all 
     (node : Node) × (is_free h t request node count ≡ false)
 some_node h count t request [] e = let f : true ≡ false = e in cc
 some_node h count t request (ask ∷ rest) e =
-    elim (and_false _ _ e) [ | inl here ↦ (ask.0, here) | inr later ↦ some_node h count t request rest later ]
+    elim (and_false _ _ e) [ inl here ↦ (ask.0, here) | inr later ↦ some_node h count t request rest later ]
 
 not_yes : (b : Bool) → (b ≡ true → ⊥) → b ≡ false
 not_yes true h = absurd (h refl)
@@ -124,18 +124,18 @@ someone_goes_on image s t sound e =
     let request = b.1.0 in
     let count = length s.threads in
     let refused : can_grant s.holding count t request ≡ false =
-        not_yes _ (λ yes. b.1.1 (grant_when_free image.classes count s.holding t request sound.within yes)) in
+    not_yes _ (λ yes. b.1.1 (grant_when_free image.classes count s.holding t request sound.within yes)) in
     let at = some_node s.holding count t request request refused in
     let way = someone s.holding t request at.0 count at.1 in
     let clash = way.2 in
     let holds : held s.holding way.0 at.0 ≢ NL = λ none.
-        (let goes : is_compatible (asked request at.0) (held s.holding way.0 at.0) ≡ true =
-            subst (λ m. AreCompatible (asked request at.0) m) (sym none) (compatible-NL (asked request at.0)) in cc) in
+    (let goes : is_compatible (asked request at.0) (held s.holding way.0 at.0) ≡ true =
+    subst (λ m. AreCompatible (asked request at.0) m) (sym none) (compatible-NL (asked request at.0)) in cc) in
     let inside : depth_at s.threads way.0 ≢ 0 = λ z. holds (held_nothing s.holding way.0 at.0 (sound.outside way.0 z)) in
     record {
       thread = way.0;
       runs = is_running (activity_at s.threads way.0) inside;
       node = at.0;
       holds = holds;
-      goes_on = λ k. inside (blocked image s way.0 sound k).0
+      goes_on = λ k. inside (blocked image s way.0 sound k).0;
     }

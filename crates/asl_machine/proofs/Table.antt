@@ -61,15 +61,20 @@ found_is (Some v) h = refl
 
 load_line : (at : At) (to address : ℕ) (v : Value) → Reads at address v → Points at.state.objects v →
     IsLine at (instr.Load to address) (set_left (here_place at.state at.thread at.activity) to
-      (loaded at.state.objects (accessed at.state.holding at.state.objects at.thread at.activity.depth Read v)))
+    (loaded at.state.objects (accessed at.state.holding at.state.objects at.thread at.activity.depth Read v)))
 load_line at to address (Int x) p q = (x, p, refl)
 load_line at to address Null p q = (p, refl)
 load_line at to address (Addr o i) p q =
     elim (is_allowed at Read (cell_of o i)) as (λ b. is_allowed at Read (cell_of o i) ≡ b →
-        IsLine at (instr.Load to address) (set_left (here_place at.state at.thread at.activity) to (loaded at.state.objects (allowed_cell b Read (cell_of o i))))) [
+    IsLine at (instr.Load to address) (set_left (here_place at.state at.thread at.activity) to (loaded at.state.objects (allowed_cell b Read (cell_of o i))))) [
       | true ↦ λ e. record {
-          cell = cell_of o i; value = unwrap_or (cell_at at.state.objects (cell_of o i)) Null; reads_address = p; allowed = e;
-          there = found_is (cell_at at.state.objects (cell_of o i)) q; sets = refl }
+        cell = cell_of o i;
+        value = unwrap_or (cell_at at.state.objects (cell_of o i)) Null;
+        reads_address = p;
+        allowed = e;
+        there = found_is (cell_at at.state.objects (cell_of o i)) q;
+        sets = refl;
+      }
       | false ↦ λ e. record { reads_address = p; forbidden = e; named = refl; fails = refl }
     ] refl
 
@@ -79,7 +84,7 @@ store_line at address from (Int x) w p q = (x, p, refl)
 store_line at address from Null w p q = (p, refl)
 store_line at address from (Addr o i) w p q =
     elim (is_allowed at Write (cell_of o i)) as (λ b. is_allowed at Write (cell_of o i) ≡ b →
-        IsLine at (instr.Store address from) (store_left (here_place at.state at.thread at.activity) w (allowed_cell b Write (cell_of o i)))) [
+    IsLine at (instr.Store address from) (store_left (here_place at.state at.thread at.activity) w (allowed_cell b Write (cell_of o i)))) [
       | true ↦ λ e. record { cell = cell_of o i; value = w; reads_address = p; reads_value = q; allowed = e; goes_on = refl }
       | false ↦ λ e. record { reads_address = p; forbidden = e; named = refl; fails = refl }
     ] refl
@@ -91,7 +96,7 @@ return_line : (at : At) (from : ℕ) (v : Value) → at.activity.below ≡ [] �
     IsLine at (instr.Return from) (left_alone (here_place at.state at.thread at.activity) (return_fate at.activity.depth v))
 return_line at from v last p =
     elim (at.activity.depth == 0) as (λ b. (at.activity.depth == 0) ≡ b →
-        IsLine at (instr.Return from) (left_alone (here_place at.state at.thread at.activity) (cond b (fate.Ends v) (fate.Fails fault.Open)))) [
+    IsLine at (instr.Return from) (left_alone (here_place at.state at.thread at.activity) (cond b (fate.Ends v) (fate.Fails fault.Open)))) [
       | true ↦ λ e. record { value = v; last = last; outside = eqb-true _ _ e; reads_value = p; ends = refl }
       | false ↦ λ e. record { last = last; inside = not_zero _ e; fails = refl }
     ] refl
@@ -103,7 +108,7 @@ same_depth at d e objects holding is = ap (λ n. after at.state at.thread (Runni
 
 release_lines : (at : At) (z m : Bool) → ((at.activity.depth == 0) ≡ z) → ((at.activity.depth == 1) ≡ m) →
     (let f = cond z (fate.Fails fault.NoSection) fate.GoesOn in
-     IsLine at instr.Release (record { fate = f; activity = activity_moved f (at.activity.depth - 1) at.activity; objects = at.state.objects; holding = cond m (release at.state.holding at.thread) at.state.holding }))
+    IsLine at instr.Release (record { fate = f; activity = activity_moved f (at.activity.depth - 1) at.activity; objects = at.state.objects; holding = cond m (release at.state.holding at.thread) at.state.holding }))
 release_lines at true true e k =
     let none : at.activity.depth ≡ 0 = eqb-true _ _ e in let one : at.activity.depth ≡ 1 = eqb-true _ _ k in absurd (omega arith)
 release_lines at true false e k = (eqb-true _ _ e, refl)
@@ -122,12 +127,20 @@ acquire_lines : (at : At) (list : ℕ) (request : Request) (z m free : Bool) →
     at.activity.depth ≤ 255 → (at.activity.depth ≡ 0 → Asks at list request) → (free ≡ true → CanGrant at.state.holding at.thread request) → (free ≡ false → ¬ CanGrant at.state.holding at.thread request) →
     slice_get at.state.threads at.thread ≡ Some (Running at.activity) →
     (let f = cond z (cond free fate.GoesOn fate.Waits) (cond m (fate.Fails fault.Deep) fate.GoesOn) in
-     IsLine at (instr.Acquire list) (record { fate = f; activity = activity_moved f (at.activity.depth + 1) at.activity; objects = at.state.objects;
-       holding = cond z (cond free (grant at.state.holding at.thread request) at.state.holding) at.state.holding }))
+    IsLine at (instr.Acquire list) (record {
+      fate = f;
+      activity = activity_moved f (at.activity.depth + 1) at.activity;
+      objects = at.state.objects;
+      holding = cond z (cond free (grant at.state.holding at.thread request) at.state.holding) at.state.holding;
+    }))
 acquire_lines at list request true m true e k small asks granted taken here =
     let none : at.activity.depth ≡ 0 = eqb-true _ _ e in
-    inr (record { request = request; asks = asks none; free = granted refl;
-      goes_on = same_depth at (at.activity.depth + 1) 1 at.state.objects (grant at.state.holding at.thread request) (omega arith) })
+    inr (record {
+      request = request;
+      asks = asks none;
+      free = granted refl;
+      goes_on = same_depth at (at.activity.depth + 1) 1 at.state.objects (grant at.state.holding at.thread request) (omega arith);
+    })
 acquire_lines at list request true m false e k small asks granted taken here =
     record { request = request; asks = asks (eqb-true _ _ e); taken = taken refl; same = after_same at.state at.thread (Running at.activity) here }
 acquire_lines at list request false true free e k small asks granted taken here = (eqb-true _ _ k, refl)
@@ -174,7 +187,7 @@ step_there image s t (Running a) sound e =
     let h = here_of image s t a sound e in
     let found = instr_here image s.objects a h.placed sound.fits in
     let l : IsLine (at_of image s t a) found.0 (left_at image (length s.threads) (here_place s t a) (slice_get image.code a.top.pc)) =
-        subst (λ o. IsLine (at_of image s t a) found.0 (left_at image (length s.threads) (here_place s t a) o)) (sym found.1) (line_there image s t a h e found.0 found.2 found.3) in
+    subst (λ o. IsLine (at_of image s t a) found.0 (left_at image (length s.threads) (here_place s t a) o)) (sym found.1) (line_there image s t a h e found.0 found.2 found.3) in
     (found.0, found.1, l)
 step_there image s t (Done v) sound e = (refl, after_same s t (Done v) e)
 step_there image s t (Failed f) sound e = (refl, after_same s t (Failed f) e)

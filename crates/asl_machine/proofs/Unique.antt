@@ -98,8 +98,12 @@ only_release at z m r n e k h =
 abbrev acquired_by : At → Request → Bool → Bool → Bool → Left
 acquired_by at request z m free =
     let f = cond z (cond free fate.GoesOn fate.Waits) (cond m (fate.Fails fault.Deep) fate.GoesOn) in
-    record { fate = f; activity = activity_moved f (at.activity.depth + 1) at.activity; objects = at.state.objects;
-      holding = cond z (cond free (grant at.state.holding at.thread request) at.state.holding) at.state.holding }
+    record {
+      fate = f;
+      activity = activity_moved f (at.activity.depth + 1) at.activity;
+      objects = at.state.objects;
+      holding = cond z (cond free (grant at.state.holding at.thread request) at.state.holding) at.state.holding;
+    }
 
 only_acquire : (at : At) (request : Request) (z m free test : Bool) (r : Reply) (n : State) → (at.activity.depth == 0) ≡ z → (at.activity.depth == 255) ≡ m → test ≡ free →
     IsLeft at (acquired_by at request z m free) r n → IsLeft at (acquire_left (here_place at.state at.thread at.activity) test request) r n
@@ -141,11 +145,11 @@ only_line image s t a sound here (instr.Load to address) (reply.Fault (fault.Unp
     let at = at_of image s t a in
     only_unset at to _ (fault.Unprotected cell effect) n
     (load_fails s.objects _ (fault.Unprotected cell effect)
-      (target_allowed at Read address cell false h.reads_address h.forbidden ∙ ap (λ e. Err (fault.Unprotected cell e)) (sym h.named))) h.fails
+    (target_allowed at Read address cell false h.reads_address h.forbidden ∙ ap (λ e. Err (fault.Unprotected cell e)) (sym h.named))) h.fails
 only_line image s t a sound here (instr.Store address from) reply.Ran n h =
     let at = at_of image s t a in
     let is : n ≡ after s t (Running (going_on a a.depth (advanced a.top))) (written s.objects h.cell (register_of a.top from)) s.holding =
-        h.goes_on ∙ ap (λ v. after s t (Running (going_on a a.depth (advanced a.top))) (written s.objects h.cell v) s.holding) (sym (reads_is at from _ h.reads_value)) in
+    h.goes_on ∙ ap (λ v. after s t (Running (going_on a a.depth (advanced a.top))) (written s.objects h.cell v) s.holding) (sym (reads_is at from _ h.reads_value)) in
     subst (λ x. IsLeft at (store_left (here_place s t a) (register_of a.top from) x) reply.Ran n) (sym (target_allowed at Write address h.cell true h.reads_address h.allowed)) (refl, is)
 only_line image s t a sound here (instr.Store address from) (reply.Fault fault.Null) n h =
     let at = at_of image s t a in only_unstored at _ _ fault.Null n (target_is at Write address Null h.0) h.1
@@ -178,7 +182,7 @@ only_line image s t a sound here (instr.Acquire list) reply.Blocked n h =
     let request = request_of s.objects a.top.regs (locks_of image list) in
     let is = request_same at list h.request h.asks in
     let taken : can_grant s.holding (length s.threads) t request ≡ false =
-        not_yes _ (λ e. h.taken (subst (CanGrant s.holding t) is (grant_when_free image.classes (length s.threads) s.holding t request sound.within e))) in
+    not_yes _ (λ e. h.taken (subst (CanGrant s.holding t) is (grant_when_free image.classes (length s.threads) s.holding t request sound.within e))) in
     only_acquire at _ true (a.depth == 255) false _ reply.Blocked n (zero_test _ h.asks.outside) refl taken (refl, h.same ∙ sym (after_same s t (Running a) here))
 only_line image s t a sound here (instr.Acquire list) (reply.Fault fault.Deep) n h =
     let at = at_of image s t a in

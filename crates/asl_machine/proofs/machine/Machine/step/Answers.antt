@@ -47,13 +47,13 @@ returns-clause-step c =
     let at = slice_get_read c.self.inside.threads.items _ c.args.t c.index_mut-thread.result.now refl lt c.index_mut-thread.ensures.value in
     let told = c.in_ok-step.ensures in
     rw (← c.self.view_is) (step_table c.self.inside.program.now c.self.inside.heap c.self.inside.forest c.self.inside.threads.items c.args.t c.in_ok-step.field-0 _ c.self.invariant lt
-      (told.reply ∙ step_reply c.self.inside.program.now c.self.inside.heap c.self.inside.forest c.self.inside.threads.items c.args.t c.index_mut-thread.result.now c.self.invariant at)
-      (step_state c.self.inside.program.now c.self.inside.heap c.step.new.heap c.self.inside.forest c.step.new.forest c.self.inside.threads.items c.args.t
-        c.index_mut-thread.result.now c.step.new.self c.self.invariant at told.thread told.objects told.holding))
+    (told.reply ∙ step_reply c.self.inside.program.now c.self.inside.heap c.self.inside.forest c.self.inside.threads.items c.args.t c.index_mut-thread.result.now c.self.invariant at)
+    (step_state c.self.inside.program.now c.self.inside.heap c.step.new.heap c.self.inside.forest c.step.new.forest c.self.inside.threads.items c.args.t
+    c.index_mut-thread.result.now c.step.new.self c.self.invariant at told.thread told.objects told.holding))
 
 pub returns-clause-blocked : goal.returns-clause-blocked
 returns-clause-blocked c =
     let lt : c.args.t < length c.self.inside.threads.items = omega arith in
     let at = slice_get_read c.self.inside.threads.items _ c.args.t c.index_mut-thread.result.now refl lt c.index_mut-thread.ensures.value in
     λ b. rw (← c.self.view_is) (step_blocked c.self.inside.program.now c.self.inside.heap c.self.inside.forest c.self.inside.threads.items c.args.t c.in_ok-step.field-0 c.self.invariant
-      (c.in_ok-step.ensures.reply ∙ step_reply c.self.inside.program.now c.self.inside.heap c.self.inside.forest c.self.inside.threads.items c.args.t c.index_mut-thread.result.now c.self.invariant at) b)
+    (c.in_ok-step.ensures.reply ∙ step_reply c.self.inside.program.now c.self.inside.heap c.self.inside.forest c.self.inside.threads.items c.args.t c.index_mut-thread.result.now c.self.invariant at) b)
