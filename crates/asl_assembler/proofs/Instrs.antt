@@ -1,10 +1,6 @@
 -- A line is read as what its words say, and as nothing else.
-use Rattle.std.proofs.Common.{◌≡◌, ℕ, ◌+◌, ◌<◌, ◌≤◌, Bool, true, false, List, [], ◌∷◌, ◌++◌, length, map, Option, Some, None, refl, sym, ap, ◌∙◌, ◌⊎◌, inl, inr, arith, append_assoc, length-append}
-use Rattle.std.specs.Prelude.{if◌then◌else◌, nat_lt, codes}
+use Rattle.std.proofs.Common.{◌≡◌, ℕ, List, ◌∷◌, Some, ap}
 use Rattle.std.specs.Option.{option_map}
-use Rattle.std.specs.Str.{bytes_eq}
-use Rattle.std.proofs.lemmas.Slice.Eq.{bytes_eq-Decides}
-use Rattle.std.proofs.lemmas.Bool.{cases_Bool, lt-ltb, ltb-true}
 use Rattle.asl_code.specs.declared.instr.Instr.{Instr}
 use Rattle.asl_code.specs.declared.instr.Instr.TheVariants as instr
 use Rattle.asl_assembler.specs.declared.keyword.Keyword.{Keyword}
@@ -12,8 +8,8 @@ use Rattle.asl_assembler.specs.declared.keyword.Keyword.TheVariants as keyword
 use Rattle.asl_assembler.specs.Words.{AreWords, name_of}
 use Rattle.asl_assembler.specs.Text.{instr_tokens}
 use Rattle.asl_assembler.specs.Reading.{no_word, one, two, three, instr_of, with_numbers_of}
-use Rattle.asl_assembler.proofs.Options.{bound, mapped}
-use Rattle.asl_assembler.proofs.Readers.{byte, short, integer, register, global, effect, Behind, reads_0, reads_1, reads_2, reads_3, is_read_0, is_read_1, is_read_2, is_read_3}
+use Rattle.asl_assembler.proofs.Options.{mapped}
+use Rattle.asl_assembler.proofs.Readers.{byte, short, integer, register, global, Behind, reads_0, reads_1, reads_2, reads_3, is_read_0, is_read_1, is_read_2, is_read_3}
 
 -- The keyword of an instruction.
 abbrev pub instr_name : Instr → Keyword

@@ -1,6 +1,5 @@
 -- Each keyword is read from its name alone.
-use Rattle.std.proofs.Common.{◌≡◌, ℕ, Bool, true, false, List, [], ◌∷◌, Option, Some, None, refl, sym, ◌∙◌, ◌⊎◌, inl, inr}
-use Rattle.std.specs.Prelude.{if◌then◌else◌, codes}
+use Rattle.std.proofs.Common.{◌≡◌, ℕ, List, [], ◌∷◌, Some, refl, inl, inr}
 use Rattle.std.specs.Str.{bytes_eq}
 use Rattle.std.proofs.lemmas.Slice.Eq.{bytes_eq-Decides}
 use Rattle.std.proofs.lemmas.Bool.{cases_Bool}
@@ -10,7 +9,7 @@ use Rattle.asl_assembler.specs.declared.keyword.Keyword.{Keyword}
 use Rattle.asl_assembler.specs.declared.keyword.Keyword.TheVariants as keyword
 use Rattle.asl_assembler.specs.Words.{name_of}
 use Rattle.asl_assembler.specs.Text.{effect_name}
-use Rattle.asl_assembler.specs.Reading.{◌>>=◌, or_else, first_named, others, setters, directives, keyword_of, effect_named, effect_of}
+use Rattle.asl_assembler.specs.Reading.{or_else, first_named, others, setters, directives, keyword_of, effect_named, effect_of}
 use Rattle.asl_assembler.proofs.Options.{bound, chosen}
 
 pub name_read : (k : Keyword) → keyword_of (name_of k) ≡ Some k

@@ -1,5 +1,5 @@
 -- The lines of a listing are taken in, and nothing else is.
-use Rattle.std.proofs.Common.{◌≡◌, ℕ, ◌+◌, ◌-◌, ◌^◌, ◌<◌, ◌≤◌, List, [], ◌∷◌, ◌++◌, length, map, min, Option, Some, None, refl, sym, ap, ◌∙◌, suc, arith, append_assoc, append-nil, add-zero, zero-add}
+use Rattle.std.proofs.Common.{◌≡◌, ℕ, ◌+◌, List, [], ◌∷◌, ◌++◌, length, map, Option, Some, refl, sym, ap, ◌∙◌, suc, arith, append_assoc, append-nil, add-zero, zero-add}
 use Rattle.std.specs.List.{flat_map}
 use Rattle.asl_code.specs.declared.image.Image.{Image}
 use Rattle.asl_code.specs.declared.image.Function.{Function}
@@ -7,7 +7,6 @@ use Rattle.asl_code.specs.declared.instr.Instr.{Instr}
 use Rattle.asl_code.specs.declared.lock.Lock.{Lock}
 use Rattle.asl_assembler.specs.declared.line.Line.{Line}
 use Rattle.asl_assembler.specs.declared.line.Line.TheVariants as line
-use Rattle.asl_assembler.specs.declared.draft.Place.{Place}
 use Rattle.asl_assembler.specs.declared.draft.Place.TheVariants as place
 use Rattle.asl_assembler.specs.Text.{Body, Listing, lines_in, image_of, function_lines, list_lines, function_of, shortened}
 use Rattle.asl_assembler.specs.Reading.{◌>>=◌, State, next, finished, longer, blank_image}

@@ -1,5 +1,5 @@
 -- A line is read as what its words say, and as nothing else.
-use Rattle.std.proofs.Common.{◌≡◌, ℕ, ◌+◌, ◌<◌, ◌≤◌, Bool, true, false, List, [], ◌∷◌, ◌++◌, length, map, Option, Some, None, refl, sym, ap, ◌∙◌, ◌⊎◌, inl, inr, arith, append_assoc, append-nil, length-append}
+use Rattle.std.proofs.Common.{◌≡◌, ℕ, ◌+◌, ◌≤◌, true, List, [], ◌∷◌, ◌++◌, length, map, Option, Some, None, refl, sym, ap, ◌∙◌, ◌⊎◌, inl, inr, arith, append_assoc, append-nil, length-append}
 use Rattle.std.specs.Prelude.{if◌then◌else◌, ◌==◌, nat_lt, codes}
 use Rattle.std.specs.Option.{option_map}
 use Rattle.std.specs.Str.{bytes_eq}
@@ -21,8 +21,8 @@ use Rattle.asl_assembler.specs.declared.keyword.Keyword.TheVariants as keyword
 use Rattle.asl_assembler.specs.declared.line.Line.{Line}
 use Rattle.asl_assembler.specs.declared.line.Line.TheVariants as line
 use Rattle.asl_assembler.specs.Words.{AreWords, IsWord, name_of}
-use Rattle.asl_assembler.specs.Text.{IsLine, tokens_of, op_token, base_token, effect_token, effect_name}
-use Rattle.asl_assembler.specs.Reading.{◌>>=◌, or_else, by_op, no_word, one, two, instr_of, number_of, register_of, global_of, marked_of, effect_of, op_of, base_of, path_of, lock_with, expr_of, version_of, line_of, keyword_of, meaning_of}
+use Rattle.asl_assembler.specs.Text.{IsLine, op_token, base_token, effect_token, effect_name}
+use Rattle.asl_assembler.specs.Reading.{◌>>=◌, by_op, no_word, one, two, instr_of, register_of, global_of, marked_of, effect_of, op_of, base_of, path_of, lock_with, expr_of, version_of, line_of, keyword_of, meaning_of}
 use Rattle.asl_assembler.proofs.Options.{bound, guarded, mapped, chosen}
 use Rattle.asl_assembler.proofs.Numbers.{marked_read, read_marked, not_marked}
 use Rattle.asl_assembler.proofs.Keywords.{name_read, read_name, effect_read, read_effect}

@@ -1,14 +1,13 @@
 -- The functions that read a word, against what the word can be.
-use Rattle.std.proofs.Common.{◌≡◌, ℕ, ℤ, pos, neg_ℤ, ◌+◌, ◌-◌, ◌*◌, ◌^◌, ◌<◌, ◌≤◌, ◌⊎◌, Bool, true, false, ◌&&◌, List, [], ◌∷◌, length, Option, Some, None, IsTrue, refl, sym, ap, ◌∙◌, inl, inr, arith, eq-eqb}
-use Rattle.std.specs.Prelude.{if◌then◌else◌, ◌==◌, nat_lt, nat_le}
+use Rattle.std.proofs.Common.{◌≡◌, ℕ, ℤ, pos, neg_ℤ, ◌+◌, ◌-◌, ◌*◌, ◌^◌, Bool, true, false, ◌&&◌, List, [], ◌∷◌, length, Some, None, refl, sym, ap, ◌∙◌, inl, inr, eq-eqb}
+use Rattle.std.specs.Prelude.{◌==◌, nat_lt, nat_le}
 use Rattle.std.specs.List.{list_all}
-use Rattle.std.specs.Option.{option_map}
 use Rattle.std.specs.Char.{is_ascii_digit}
 use Rattle.std.proofs.lemmas.Bool.{cases_Bool, ltb-true, leb-true, lt-ltb, le-leb, and_parts, and_from}
 use Rattle.std.proofs.lemmas.Bool.Decides.{Decides-eqb}
 use Rattle.asl_assembler.specs.Words.{IsNumber, IsMarked, IsInteger, worth_after}
-use Rattle.asl_assembler.specs.Reading.{◌>>=◌, decimal_after, decimal_of, below, number_of, after_mark, marked_of, integer_by, integer_of, register_of, global_of}
-use Rattle.asl_assembler.proofs.Options.{bound, guarded, mapped, chosen}
+use Rattle.asl_assembler.specs.Reading.{decimal_after, decimal_of, below, number_of, after_mark, marked_of, integer_by, integer_of}
+use Rattle.asl_assembler.proofs.Options.{bound, guarded, mapped}
 
 -- Digits have a value.
 digits_read : (high : ℕ) (ds : List ℕ) → list_all is_ascii_digit ds ≡ true → decimal_after high ds ≡ Some (worth_after high ds)

@@ -1,11 +1,10 @@
 -- What reads a word as a token, and rows of words read so.
-use Rattle.std.proofs.Common.{◌≡◌, ℕ, ℤ, ◌^◌, List, [], ◌∷◌, Option, Some, None, refl, sym, ap, ◌∙◌}
-use Rattle.std.specs.Option.{option_map}
+use Rattle.std.proofs.Common.{◌≡◌, ℕ, ℤ, List, [], ◌∷◌, Option, Some, refl, ap}
 use Rattle.asl_code.specs.declared.value.Effect.{Effect}
 use Rattle.asl_assembler.specs.declared.keyword.Keyword.{Keyword}
-use Rattle.asl_assembler.specs.Words.{Token, Name, Byte, Short, Integer, Register, GlobalName, IsWord, AreWords, name_of, IsNumber}
+use Rattle.asl_assembler.specs.Words.{Token, Name, Byte, Short, Integer, Register, GlobalName, IsWord, AreWords, name_of}
 use Rattle.asl_assembler.specs.Text.{effect_token}
-use Rattle.asl_assembler.specs.Reading.{◌>>=◌, number_of, register_of, global_of, integer_of, effect_of, no_word, one_word, two_words, three_words, one, two, three}
+use Rattle.asl_assembler.specs.Reading.{◌>>=◌, number_of, register_of, global_of, integer_of, effect_of, no_word, one, two, three}
 use Rattle.asl_assembler.proofs.Options.{bound}
 use Rattle.asl_assembler.proofs.Numbers.{number_read, read_number, marked_read, read_marked, integer_read, read_integer}
 use Rattle.asl_assembler.proofs.Keywords.{effect_read, read_effect}

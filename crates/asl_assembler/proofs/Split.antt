@@ -1,10 +1,10 @@
 -- The first line and the first word of a list of bytes, as the lengths of prefixes cut them.
-use Rattle.std.proofs.Common.{◌≡◌, ℕ, ◌+◌, ◌<◌, ◌≤◌, ◌⊎◌, Bool, true, false, not, List, [], ◌∷◌, length, take, drop, refl, suc, sym, ap, ◌∙◌, inl, inr, arith}
+use Rattle.std.proofs.Common.{◌≡◌, ℕ, ◌<◌, true, false, List, [], ◌∷◌, length, take, drop, refl, suc, ap, ◌∙◌, inl, inr, arith}
 use Rattle.std.specs.Prelude.{◌==◌}
 use Rattle.std.specs.List.{prefix_len}
 use Rattle.std.proofs.Math.Numerals.{one-add}
 use Rattle.std.proofs.lemmas.Bool.{cases_Bool}
-use Rattle.asl_assembler.specs.Words.{lines_of, with_first, words_of, is_separator, begins_word}
+use Rattle.asl_assembler.specs.Words.{lines_of, with_first, words_of, is_separator}
 use Rattle.asl_assembler.specs.Reading.{is_line_byte, is_word_byte}
 
 line_end : (b : ℕ) (bs : List ℕ) → (b == 10) ≡ true → lines_of (b ∷ bs) ≡ take (prefix_len is_line_byte (b ∷ bs)) (b ∷ bs) ∷ lines_of (drop 1 (drop (prefix_len is_line_byte (b ∷ bs)) (b ∷ bs)))

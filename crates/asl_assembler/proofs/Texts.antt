@@ -4,17 +4,15 @@ use Rattle.std.specs.Prelude.{codes}
 use Rattle.std.proofs.lemmas.List.{take_all, take-take, take-append-drop}
 use Rattle.std.proofs.lemmas.Bool.{cases_lt}
 use Rattle.asl_code.specs.declared.image.Image.{Image}
-use Rattle.asl_code.specs.declared.instr.Instr.{Instr}
-use Rattle.asl_code.specs.declared.lock.Lock.{Lock}
 use Rattle.asl_assembler.specs.declared.line.Line.{Line}
 use Rattle.asl_assembler.specs.declared.draft.Place.{Place}
 use Rattle.asl_assembler.specs.declared.draft.Place.TheVariants as place
 use Rattle.asl_assembler.specs.Words.{lines_of, words_of}
-use Rattle.asl_assembler.specs.Text.{IsLine, AreLines, worded, unless_blank, lines_in, image_of, LinesSpell, Spells, CanBegin, IsBadLine}
+use Rattle.asl_assembler.specs.Text.{AreLines, worded, unless_blank, lines_in, LinesSpell, Spells, CanBegin, IsBadLine}
 use Rattle.asl_assembler.specs.Reading.{◌>>=◌, State, next, finished, step_words, step_line, or_line, and_then, image_from, blank_image, meaning_of, keyword_of, line_of, number_of, decimal_of}
 use Rattle.asl_assembler.proofs.Options.{bound}
 use Rattle.asl_assembler.proofs.Meanings.{meaning_reads, is_meaning}
-use Rattle.asl_assembler.proofs.Listings.{complete, IsListing, is_listing, listing_taken}
+use Rattle.asl_assembler.proofs.Listings.{complete, is_listing, listing_taken}
 
 -- The state behind lines of bytes, and the image that they leave.
 abbrev pub walk : List (List ℕ) → State → Option State

@@ -1,5 +1,5 @@
-use Rattle.std.proofs.Common.{◌≡◌, ◌⊎◌, ℕ, true, false, Ok, Err, inl, inr, ap, sym}
-use Rattle.asl_code.specs.Verified.{IsVerified, IsAnswer, applies}
+use Rattle.std.proofs.Common.{◌≡◌, true, false, inl}
+use Rattle.asl_code.specs.Verified.{IsAnswer, applies}
 use Rattle.asl_assembler.specs.Words.{lines_of}
 use Rattle.asl_assembler.specs.Text.{Spells, IsBadLine}
 use Rattle.asl_assembler.proofs.Texts.{image_spelled, one_image, bad_line, not_both}

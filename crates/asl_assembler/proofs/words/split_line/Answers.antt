@@ -1,4 +1,4 @@
-use Rattle.std.proofs.Common.{◌≡◌, refl, ◌-◌, ◌≤◌, [], length, take, drop, arith, length-drop}
+use Rattle.std.proofs.Common.{◌≡◌, refl, ◌-◌, ◌≤◌, [], length, drop, arith, length-drop}
 use Rattle.std.proofs.lemmas.List.{take_all, nil_from_length}
 use Rattle.std.proofs.lemmas.List.Sums.{prefix_len-le-length}
 use Rattle.asl_assembler.specs.Reading.{is_line_byte}
