@@ -1,7 +1,16 @@
--- What a write that failed on its way leaves in a writer.
-use Rattle.std.specs.Prelude.{ℕ, List, Option, take}
+-- What a write that failed on its way leaves in a writer, and when an input is too long.
+use Rattle.std.specs.Prelude.{ℕ, ◌<◌, List, Option, take, length, IfSome}
+use Rattle.asl_tool.specs.declared.streams.ReadFault.{ReadFault}
+use Rattle.asl_tool.specs.declared.streams.ReadFault.TheVariants as fault
+use Rattle.asl_tool.specs.declared.streams.TheConstants.{MOST_INPUT}
 use Rattle.std.specs.Io.KnownBytes.{Appends}
 
 -- known bytes grow by a first part of the bytes
 abbrev pub AppendsPart : Option (List ℕ) → Option (List ℕ) → List ℕ → Type 0
 AppendsPart old new bytes = (count : ℕ) × Appends old new (take count bytes)
+
+-- an input that is too long has more bytes than the limit, where that is known; of the other faults nothing is said
+abbrev pub IsReadFault : Option (List ℕ) → ReadFault → Type 0
+IsReadFault known fault.TooLong = IfSome known (λ bytes. MOST_INPUT < length bytes)
+IsReadFault known fault.Read = Unit {0}
+IsReadFault known fault.OutOfMemory = Unit {0}

@@ -5,7 +5,7 @@ use Rattle.std.specs.Io.KnownBytes.{Appends}
 use Rattle.asl_tool.specs.declared.step.StepFault.{StepFault}
 use Rattle.asl_tool.specs.declared.tool.ToolFault.{ToolFault}
 use Rattle.asl_tool.specs.declared.tool.ToolFault.TheVariants as fault
-use Rattle.asl_tool.specs.Streams.{AppendsPart}
+use Rattle.asl_tool.specs.Streams.{AppendsPart, IsReadFault}
 use Rattle.asl_tool.specs.Step.{IsStepped, IsRefusedStep}
 
 -- the input is all that the reader had, where that is known
@@ -37,7 +37,7 @@ pub record RefusesInput (known old new : Option (List ℕ)) (threads : ℕ) (sch
 
 -- what each fault leaves: only one of the writer leaves anything in it
 abbrev pub Refuses : Option (List ℕ) → Option (List ℕ) → Option (List ℕ) → ℕ → List ℕ → ToolFault → Type 0
-Refuses known old new threads schedule (fault.Read cause) = Appends old new []
+Refuses known old new threads schedule (fault.Read cause) = IsReadFault known cause × Appends old new []
 Refuses known old new threads schedule (fault.Step cause) = RefusesInput known old new threads schedule cause
 Refuses known old new threads schedule (fault.Write cause) = WritesPart known old new threads schedule
 Refuses known old new threads schedule fault.OutOfMemory = Appends old new []

@@ -1,7 +1,7 @@
 //! Reading the whole of the input, and writing the whole of the output.
-ghost use Rattle.std.specs.Prelude.{◌≡◌, ◌<◌, ◌≤◌, length, [], take, IfOk, IfSome, OnOk, OnErr};
+ghost use Rattle.std.specs.Prelude.{◌≡◌, ◌<◌, ◌≤◌, length, [], take, IfOk, IfErr, IfSome, OnOk, OnErr};
 ghost use Rattle.std.specs.Io.KnownBytes.{Appends};
-ghost use Rattle.asl_tool.specs.Streams.{AppendsPart};
+ghost use Rattle.asl_tool.specs.Streams.{AppendsPart, IsReadFault};
 
 use std::alloc::Global;
 use std::io::{Read, Write};
@@ -33,6 +33,7 @@ pub struct WriteFault;
 pub fn read_whole<R: Read>(alloc: Global, reader: &mut R) -> Result<Vec<u8>, ReadFault>
     ensures whole { IfOk result (λ all. IfSome (R.remaining reader.old) (λ bytes. all.items ≡ bytes)) }
     ensures short { IfOk result (λ all. length all.items ≤ MOST_INPUT) }
+    ensures fault { IfErr result (IsReadFault (R.remaining reader.old)) }
 {
     let mut all = Vec::new(alloc);
     let mut buffer = [0u8; 4096];
