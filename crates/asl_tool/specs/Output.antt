@@ -1,5 +1,5 @@
 -- What the command `step` writes: a line for each step of the schedule, with the step's number, its thread and the
--- machine's reply (README.md, docs/INSTRUCTIONS.md). Numbers are in decimal digits.
+-- machine's reply (docs/INSTRUCTIONS.md). Numbers are in decimal digits.
 use Rattle.std.specs.Prelude.{ℕ, suc, List, [], ◌∷◌, ◌++◌, codes}
 use Rattle.std.specs.Fmt.{decimal, signed_decimal}
 use Rattle.asl_code.specs.declared.value.Value.{Value}
