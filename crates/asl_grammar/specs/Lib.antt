@@ -1,0 +1,4 @@
+pub mod Token
+pub mod Written
+pub mod Spelling
+pub mod Automaton

@@ -1,0 +1,5 @@
+//! Tokens and grammar of the source language: reading bytes as tokens, and telling whether tokens are a program.
+#![tactic(auto)]
+
+pub mod control;
+pub mod token;
