@@ -2,3 +2,5 @@ pub mod Token
 pub mod Written
 pub mod Spelling
 pub mod Automaton
+pub mod Lex
+pub mod Grammar

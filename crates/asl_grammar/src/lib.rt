@@ -2,4 +2,5 @@
 #![tactic(auto)]
 
 pub mod control;
+pub mod lexer;
 pub mod token;
