@@ -1,2 +1,4 @@
 pub mod Complete
 pub mod Sound
+pub mod Scan
+pub mod Viable

@@ -4,3 +4,5 @@ pub mod Spelling
 pub mod Automaton
 pub mod Lex
 pub mod Grammar
+pub mod View
+pub mod Reader
