@@ -270,9 +270,6 @@ finished : (x : List ℕ) (s : Stack) (r : List Token) → IsInside s → s.fram
 finished x s r h e =
     let p : s.top.pending ≡ None = h.pending in simp (program_on-push, block_on-to_block, e, p)
 
-outside_empty : (is : List Item) → IsOutside (stack_of is)
-outside_empty is = record { top = refl; frames = refl; arguments = refl }
-
 inside_body : (s : Stack) → IsOutside s → IsInside s
 inside_body s o = record { pending = ap (λ (p : Part). p.pending) o.top; arguments = o.arguments }
 
@@ -354,7 +351,7 @@ good (AfterHeader o) k s (Fixed mark.OpenBrace) e f = begin_fits o s k f
 good AfterReturn k s (Name x) e f = (f, λ r. refl)
 good (Returned x) k s (Fixed mark.Semicolon) e f = (f, λ r. refl)
 good (BodyEnd x) k s (Fixed mark.CloseBrace) e f =
-    (outside_empty (s.items ++ function_of x s ∷ []), λ r. finished x s r f.0 f.1)
+    (record { top = refl; frames = f.1; arguments = f.0.arguments }, λ r. finished x s r f.0 f.1)
 good _ k s t e f = tt
 
 -- what many tokens keep

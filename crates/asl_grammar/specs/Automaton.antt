@@ -69,20 +69,66 @@ pub data Act : Type 0 where
   Close : Act
   Finish : List ℕ → Act
 
--- the control behind a token and what the token completes, or nothing where the token may not stand
+-- The four tables give the control behind a token and what the token completes, or nothing where the token may
+-- not stand; each goes on with the one above it.
+
+-- inside a value, and the arguments of a call
+abbrev pub operand_step : Control → Token → Option (Control × Act)
+operand_step (AfterMinus x) (Number n) = Some (LineEnd (Assigns x (Literal true n)), Keep)
+operand_step (AfterOperator x y o) (Name z) = Some (LineEnd (Assigns x (Binary y o z)), Keep)
+operand_step (AfterAmpersand x) (Name y) = Some (AfterAddress x y, Keep)
+operand_step (AfterAddress x y) (Fixed mark.Semicolon) = Some (StatementStart, Emit (Assigns x (GlobalAddress y)))
+operand_step (AfterAddress x y) (Fixed mark.OpenBracket) = Some (AfterBracket x y, Keep)
+operand_step (AfterBracket x y) (Number n) = Some (AfterIndex x y n, Keep)
+operand_step (AfterIndex x y n) (Fixed mark.CloseBracket) = Some (LineEnd (Assigns x (FieldAddress y n)), Keep)
+operand_step (AfterStar x) (Name y) = Some (LineEnd (Assigns x (Loaded y)), Keep)
+operand_step (AfterNew x) (Number n) = Some (LineEnd (Assigns x (Created n)), Keep)
+operand_step (FirstArgument x f) (Name a) = Some (AfterArgument x f, Argument a)
+operand_step (FirstArgument x f) (Fixed mark.CloseParen) = Some (CallEnd x f, Keep)
+operand_step (AfterArgument x f) (Fixed mark.Comma) = Some (NextArgument x f, Keep)
+operand_step (AfterArgument x f) (Fixed mark.CloseParen) = Some (CallEnd x f, Keep)
+operand_step (NextArgument x f) (Name a) = Some (AfterArgument x f, Argument a)
+operand_step (CallEnd x f) (Fixed mark.Semicolon) = Some (StatementStart, EmitCall x f)
+operand_step _ _ = None
+
+-- the beginning of a value, and what may follow a name there
+abbrev pub value_step : Control → Token → Option (Control × Act)
+value_step (AfterBecomes x) (Fixed mark.Minus) = Some (AfterMinus x, Keep)
+value_step (AfterBecomes x) (Fixed mark.Null) = Some (LineEnd (Assigns x NullValue), Keep)
+value_step (AfterBecomes x) (Fixed mark.Ampersand) = Some (AfterAmpersand x, Keep)
+value_step (AfterBecomes x) (Fixed mark.Star) = Some (AfterStar x, Keep)
+value_step (AfterBecomes x) (Fixed mark.New) = Some (AfterNew x, Keep)
+value_step (AfterBecomes x) (Name y) = Some (AfterValue x y, Keep)
+value_step (AfterBecomes x) (Number n) = Some (LineEnd (Assigns x (Literal false n)), Keep)
+value_step (AfterValue x y) (Fixed mark.Semicolon) = Some (StatementStart, Emit (Assigns x (Copied y)))
+value_step (AfterValue x y) (Fixed mark.Plus) = Some (AfterOperator x y Add, Keep)
+value_step (AfterValue x y) (Fixed mark.Minus) = Some (AfterOperator x y Subtract, Keep)
+value_step (AfterValue x y) (Fixed mark.Less) = Some (AfterOperator x y IsLess, Keep)
+value_step (AfterValue x y) (Fixed mark.Same) = Some (AfterOperator x y IsEqual, Keep)
+value_step (AfterValue x y) (Fixed mark.OpenParen) = Some (FirstArgument x y, Keep)
+value_step c t = operand_step c t
+
+-- globals, the head of a function and its last line
+abbrev pub item_step : Control → Token → Option (Control × Act)
+item_step ItemStart (Fixed mark.Global) = Some (AfterGlobal, Keep)
+item_step ItemStart (Fixed mark.Fn) = Some (AfterFn, Keep)
+item_step AfterGlobal (Name x) = Some (GlobalNamed x, Keep)
+item_step (GlobalNamed x) (Fixed mark.Semicolon) = Some (ItemStart, Declare x)
+item_step AfterFn (Name x) = Some (FunctionNamed x, Keep)
+item_step (FunctionNamed x) (Fixed mark.OpenParen) = Some (FirstParameter, Start x)
+item_step FirstParameter (Name x) = Some (AfterParameter, Parameter x)
+item_step FirstParameter (Fixed mark.CloseParen) = Some (BodyStart, Keep)
+item_step AfterParameter (Fixed mark.Comma) = Some (NextParameter, Keep)
+item_step AfterParameter (Fixed mark.CloseParen) = Some (BodyStart, Keep)
+item_step NextParameter (Name x) = Some (AfterParameter, Parameter x)
+item_step BodyStart (Fixed mark.OpenBrace) = Some (StatementStart, Keep)
+item_step AfterReturn (Name x) = Some (Returned x, Keep)
+item_step (Returned x) (Fixed mark.Semicolon) = Some (BodyEnd x, Keep)
+item_step (BodyEnd x) (Fixed mark.CloseBrace) = Some (ItemStart, Finish x)
+item_step c t = value_step c t
+
+-- statements and the braces of their blocks
 abbrev pub step : Control → Kind → Token → Option (Control × Act)
-step ItemStart k (Fixed mark.Global) = Some (AfterGlobal, Keep)
-step ItemStart k (Fixed mark.Fn) = Some (AfterFn, Keep)
-step AfterGlobal k (Name x) = Some (GlobalNamed x, Keep)
-step (GlobalNamed x) k (Fixed mark.Semicolon) = Some (ItemStart, Declare x)
-step AfterFn k (Name x) = Some (FunctionNamed x, Keep)
-step (FunctionNamed x) k (Fixed mark.OpenParen) = Some (FirstParameter, Start x)
-step FirstParameter k (Name x) = Some (AfterParameter, Parameter x)
-step FirstParameter k (Fixed mark.CloseParen) = Some (BodyStart, Keep)
-step AfterParameter k (Fixed mark.Comma) = Some (NextParameter, Keep)
-step AfterParameter k (Fixed mark.CloseParen) = Some (BodyStart, Keep)
-step NextParameter k (Name x) = Some (AfterParameter, Parameter x)
-step BodyStart k (Fixed mark.OpenBrace) = Some (StatementStart, Keep)
 step StatementStart k (Name x) = Some (Target x, Keep)
 step StatementStart k (Fixed mark.Star) = Some (StoreStart, Keep)
 step StatementStart k (Fixed mark.Out) = Some (AfterOut, Keep)
@@ -94,34 +140,6 @@ step StatementStart Then (Fixed mark.CloseBrace) = Some (AfterThen, Close)
 step StatementStart Inner (Fixed mark.CloseBrace) = Some (StatementStart, Close)
 step AfterThen k (Fixed mark.Else) = Some (AfterHeader OfElse, Keep)
 step (Target x) k (Fixed mark.Becomes) = Some (AfterBecomes x, Keep)
-step (AfterBecomes x) k (Fixed mark.Minus) = Some (AfterMinus x, Keep)
-step (AfterBecomes x) k (Fixed mark.Null) = Some (LineEnd (Assigns x NullValue), Keep)
-step (AfterBecomes x) k (Fixed mark.Ampersand) = Some (AfterAmpersand x, Keep)
-step (AfterBecomes x) k (Fixed mark.Star) = Some (AfterStar x, Keep)
-step (AfterBecomes x) k (Fixed mark.New) = Some (AfterNew x, Keep)
-step (AfterBecomes x) k (Name y) = Some (AfterValue x y, Keep)
-step (AfterBecomes x) k (Number n) = Some (LineEnd (Assigns x (Literal false n)), Keep)
-step (AfterMinus x) k (Number n) = Some (LineEnd (Assigns x (Literal true n)), Keep)
-step (AfterValue x y) k (Fixed mark.Semicolon) = Some (StatementStart, Emit (Assigns x (Copied y)))
-step (AfterValue x y) k (Fixed mark.Plus) = Some (AfterOperator x y Add, Keep)
-step (AfterValue x y) k (Fixed mark.Minus) = Some (AfterOperator x y Subtract, Keep)
-step (AfterValue x y) k (Fixed mark.Less) = Some (AfterOperator x y IsLess, Keep)
-step (AfterValue x y) k (Fixed mark.Same) = Some (AfterOperator x y IsEqual, Keep)
-step (AfterValue x y) k (Fixed mark.OpenParen) = Some (FirstArgument x y, Keep)
-step (AfterOperator x y o) k (Name z) = Some (LineEnd (Assigns x (Binary y o z)), Keep)
-step (AfterAmpersand x) k (Name y) = Some (AfterAddress x y, Keep)
-step (AfterAddress x y) k (Fixed mark.Semicolon) = Some (StatementStart, Emit (Assigns x (GlobalAddress y)))
-step (AfterAddress x y) k (Fixed mark.OpenBracket) = Some (AfterBracket x y, Keep)
-step (AfterBracket x y) k (Number n) = Some (AfterIndex x y n, Keep)
-step (AfterIndex x y n) k (Fixed mark.CloseBracket) = Some (LineEnd (Assigns x (FieldAddress y n)), Keep)
-step (AfterStar x) k (Name y) = Some (LineEnd (Assigns x (Loaded y)), Keep)
-step (AfterNew x) k (Number n) = Some (LineEnd (Assigns x (Created n)), Keep)
-step (FirstArgument x f) k (Name a) = Some (AfterArgument x f, Argument a)
-step (FirstArgument x f) k (Fixed mark.CloseParen) = Some (CallEnd x f, Keep)
-step (AfterArgument x f) k (Fixed mark.Comma) = Some (NextArgument x f, Keep)
-step (AfterArgument x f) k (Fixed mark.CloseParen) = Some (CallEnd x f, Keep)
-step (NextArgument x f) k (Name a) = Some (AfterArgument x f, Argument a)
-step (CallEnd x f) k (Fixed mark.Semicolon) = Some (StatementStart, EmitCall x f)
 step (LineEnd l) k (Fixed mark.Semicolon) = Some (StatementStart, Emit l)
 step StoreStart k (Name x) = Some (StoreTarget x, Keep)
 step (StoreTarget x) k (Fixed mark.Becomes) = Some (StoreValue x, Keep)
@@ -130,10 +148,7 @@ step AfterOut k (Name x) = Some (LineEnd (Shows x), Keep)
 step AfterIf k (Name x) = Some (AfterHeader (OfIf x), Keep)
 step AfterWhile k (Name x) = Some (AfterHeader (OfWhile x), Keep)
 step (AfterHeader o) k (Fixed mark.OpenBrace) = Some (StatementStart, Begin o)
-step AfterReturn k (Name x) = Some (Returned x, Keep)
-step (Returned x) k (Fixed mark.Semicolon) = Some (BodyEnd x, Keep)
-step (BodyEnd x) k (Fixed mark.CloseBrace) = Some (ItemStart, Finish x)
-step _ _ _ = None
+step c k t = item_step c t
 
 -- whose block an open block is, with what came before its brace
 pub data Header : Type 0 where
@@ -245,7 +260,8 @@ apply (Emit l) s = put (Simple l) s
 apply (EmitCall x f) s = record (put (Simple (Calls x f s.arguments)) s) { arguments = [] }
 apply (Begin o) s = open_block o s
 apply Close s = close_frames s.frames s
-apply (Finish x) s = stack_of (s.items ++ function_of x s ∷ [])
+apply (Finish x) s =
+    record (stack_of (s.items ++ function_of x s ∷ [])) { arguments = s.arguments; frames = s.frames }
 
 -- the kind of a block
 abbrev pub header_kind : Header → Kind

@@ -6,3 +6,4 @@ pub mod Lex
 pub mod Grammar
 pub mod View
 pub mod Reader
+pub mod ControlView

@@ -216,10 +216,7 @@ impl<'t> Tokens<'t> {
         ensures tokens { spots_left result ≡ tokens_of text.now }
         ensures bad { bad_left result ≡ bad_place text.now }
     {
-        Tokens {
-            rest: text,
-            at: 0,
-        }
+        Tokens { rest: text, at: 0 }
     }
 
     /// Passes the next `n` bytes.

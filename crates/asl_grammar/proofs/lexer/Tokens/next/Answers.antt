@@ -7,11 +7,12 @@ pub pass-requires : goal.pass-requires
 pass-requires c = (front_fits _ _ _ (sym c.in-Some.ensures)).1
 
 pub returns-in-Some-clause-found : goal.returns-in-Some-clause-found
-returns-in-Some-clause-found c =
-    (sym c.skip_blanks.ensures.tokens
-        ∙ spots_after_token _ _ _ _ _ _ c.skip_blanks.ensures.at_token c.in-Some.ensures c.pass.ensures.rest c.pass.ensures.at,
-        sym c.skip_blanks.ensures.bad
-        ∙ bad_after_token _ _ _ _ _ _ c.skip_blanks.ensures.at_token c.in-Some.ensures c.pass.ensures.rest c.pass.ensures.at)
+returns-in-Some-clause-found c = (
+  sym c.skip_blanks.ensures.tokens
+      ∙ spots_after_token _ _ _ _ _ _ c.skip_blanks.ensures.at_token c.in-Some.ensures c.pass.ensures.rest c.pass.ensures.at,
+  sym c.skip_blanks.ensures.bad
+      ∙ bad_after_token _ _ _ _ _ _ c.skip_blanks.ensures.at_token c.in-Some.ensures c.pass.ensures.rest c.pass.ensures.at,
+)
 
 pub returns-in-Some-clause-shorter : goal.returns-in-Some-clause-shorter
 returns-in-Some-clause-shorter c =
