@@ -2,3 +2,4 @@ pub mod Complete
 pub mod Sound
 pub mod Scan
 pub mod Viable
+pub mod Judged

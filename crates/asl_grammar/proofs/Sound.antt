@@ -355,7 +355,7 @@ good (BodyEnd x) k s (Fixed mark.CloseBrace) e f =
 good _ k s t e f = tt
 
 -- what many tokens keep
-abbrev Kept : State → List Token → Option State → Type 0
+abbrev pub Kept : State → List Token → Option State → Type 0
 Kept w ts None = Unit {0}
 Kept w ts (Some v) =
     Fits v.control v.stack × ((r : List Token) → state_on v.control v.stack r ≡ state_on w.control w.stack (ts ++ r))

@@ -7,3 +7,4 @@ pub mod Grammar
 pub mod View
 pub mod Reader
 pub mod ControlView
+pub mod Seen
