@@ -1,6 +1,5 @@
 -- The automaton stops at the first token with which no program goes on, and nowhere else.
 use Rattle.std.proofs.Common.{◌≡◌, ℕ, List, [], ◌∷◌, ◌++◌, Option, Some, None, refl, sym, ap, ◌∙◌, subst, append_assoc, map}
-use Rattle.std.specs.Option.{MatchOption}
 use Rattle.std.proofs.lemmas.List.{append-nil, map-append}
 use Rattle.asl_grammar.specs.declared.token.Mark.{Mark}
 use Rattle.asl_grammar.specs.declared.token.Mark.TheVariants as mark
@@ -10,7 +9,7 @@ use Rattle.asl_grammar.specs.Token.{Token, Fixed, Name, Number, Spot}
 use Rattle.asl_grammar.specs.Written.{Block, Stmt, Item}
 use Rattle.asl_grammar.specs.Spelling.{program_on}
 use Rattle.asl_grammar.specs.Automaton.{Opening, OfIf, OfElse, OfWhile, OfAtomic, Control, ItemStart, StatementStart, AfterThen, Act, Keep, Declare, Start, Parameter, Argument, Emit, EmitCall, Begin, Close, Finish, step, Header, ThenBlock, ElseBlock, Frame, Stack, State, state_of, apply, close_frames, else_header, kind_of, header_kind, ready, ready_then, moved, next_ready, next, run, run_with, whole, whole_at}
-use Rattle.asl_grammar.specs.Grammar.{IsProgram, IsViable, StopsAt, IsGrammarFault, bare}
+use Rattle.asl_grammar.specs.Grammar.{IsProgram, IsViable, StopsAt, IsGrammarFault, bare, Judges}
 use Rattle.asl_grammar.specs.Seen.{Place, start_place, innermost, settled, settled_by, opening_kind, outer_kinds, kinds_after, placed, next_place, fault_at_end, fault_with, fault_from}
 use Rattle.asl_grammar.proofs.Complete.{run_program}
 use Rattle.asl_grammar.proofs.Sound.{Fits, IsOutside, Kept, run_keeps}
@@ -143,10 +142,6 @@ stuck_viable : (ts : List Token) (t : Token) (w : State) → run (state_of []) t
 stuck_viable ts t w e n v =
     let P : List Token → Type 0 = λ us. IsProgram us in
     stuck_program ts t v.more w e n (subst P (append_assoc ts (t ∷ []) v.more) v.whole)
-
--- what an answer says of the tokens
-abbrev pub Judges : List Spot → ℕ → Option ℕ → Type 0
-Judges ss end o = MatchOption o (IsProgram (bare ss)) (IsGrammarFault ss end)
 
 judged_end : (c : Control) (s : Stack) (before : List Spot) (end : ℕ) → run (state_of []) (bare before) ≡ Some (record { control = c; stack = s }) → Judges before end (fault_at_end c end)
 judged_end ItemStart s before end e = record { program = s.items; spelled = spelled (bare before) s.items (ap whole e) }

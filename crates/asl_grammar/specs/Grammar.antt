@@ -1,5 +1,5 @@
 -- Which token lists are programs, and where one stops being the beginning of a program.
-use Rattle.std.specs.Prelude.{◌≡◌, ℕ, List, [], ◌∷◌, ◌++◌, IsTrue, map}
+use Rattle.std.specs.Prelude.{◌≡◌, ℕ, List, [], ◌∷◌, ◌++◌, IsTrue, map, Option, MatchOption}
 use Rattle.asl_grammar.specs.Token.{Token, Spot}
 use Rattle.asl_grammar.specs.Written.{Item}
 use Rattle.asl_grammar.specs.Spelling.{program_on}
@@ -33,3 +33,7 @@ pub record IsGrammarFault (ss : List Spot) (end at : ℕ) : Type 0 where
   pub begins : IsViable (bare before)
   pub stops : StopsAt (bare before) rest end at
   pub no_program : IsProgram (bare ss) → ⊥
+
+-- what an answer says of the tokens: they are a program, or it is the place of their fault
+abbrev pub Judges : List Spot → ℕ → Option ℕ → Type 0
+Judges ss end at = MatchOption at (IsProgram (bare ss)) (IsGrammarFault ss end)

@@ -8,3 +8,4 @@ pub mod View
 pub mod Reader
 pub mod ControlView
 pub mod Seen
+pub mod SeenView

@@ -3,4 +3,5 @@
 
 pub mod control;
 pub mod lexer;
+pub mod recognizer;
 pub mod token;

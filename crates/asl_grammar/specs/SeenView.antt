@@ -1,0 +1,10 @@
+-- The code's control and stack of kinds as a place of the automaton.
+use Rattle.std.specs.Prelude.{ℕ, List, reverse}
+use Rattle.asl_grammar.specs.declared.control.Control as control
+use Rattle.asl_grammar.specs.declared.control.Kind.{Kind}
+use Rattle.asl_grammar.specs.Seen.{Place}
+use Rattle.asl_grammar.specs.ControlView.{control_of}
+
+-- a control, and the kinds of the open blocks with the innermost last
+abbrev pub place_in : control.Control → List Kind → Place
+place_in c kinds = record { control = control_of c; kinds = reverse kinds }
