@@ -189,3 +189,15 @@ judged_from (s ∷ rest) before end w e =
 -- the automaton's answer: the tokens are a program, or it is the place of the first with which none goes on
 pub judged : (ss : List Spot) (end : ℕ) → Judges ss end (fault_from start_place ss end)
 judged ss end = judged_from ss [] end (state_of []) refl
+
+-- the answer where the recogniser stops, and at the end
+pub stopped : (all rest left : List Spot) (end : ℕ) (p : Place) (s : Spot) → fault_from p rest end ≡ fault_from start_place all end → rest ≡ s ∷ left → None ≡ next_place p s.token → Judges all end (Some s.at)
+stopped all rest left end p s e r n =
+    let f : fault_from p (s ∷ left) end ≡ Some s.at = ap (λ (o : Option Place). fault_with o s.at (λ q. fault_from q left end)) (sym n) in
+    let P : Option ℕ → Type 0 = λ o. Judges all end o in
+    subst P (sym e ∙ ap (λ (ss : List Spot). fault_from p ss end) r ∙ f) (judged all end)
+
+pub ended : (all rest : List Spot) (end : ℕ) (p : Place) → fault_from p rest end ≡ fault_from start_place all end → rest ≡ [] → Judges all end (fault_at_end p.control end)
+ended all rest end p e r =
+    let P : Option ℕ → Type 0 = λ o. Judges all end o in
+    subst P (sym e ∙ ap (λ (ss : List Spot). fault_from p ss end) r) (judged all end)

@@ -3,3 +3,4 @@ pub mod Sound
 pub mod Scan
 pub mod Viable
 pub mod Judged
+pub mod Reading

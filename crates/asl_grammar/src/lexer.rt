@@ -262,3 +262,17 @@ impl<'t> Tokens<'t> {
         }
     }
 }
+
+/// The first place of `text` where neither a blank nor a token stands.
+pub fn first_bad(text: &[u8]) -> Option<usize>
+    ensures { result ≡ bad_place text.now }
+{
+    let mut tokens = Tokens::new(text);
+    'reading: loop {
+        match tokens.next() {
+            Found::Token(_) => {}
+            Found::End => return None,
+            Found::Bad(at) => return Some(at),
+        }
+    }
+}

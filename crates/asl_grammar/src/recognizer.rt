@@ -73,3 +73,22 @@ fn fault_at_end(control: Control<'_>, end: usize) -> Option<usize>
         _ => Some(end),
     }
 }
+
+/// The place of the first token with which no program goes on, or the text's length where it stops too early; nothing
+/// where the tokens are a program.
+///
+/// A text is read up to its first place where no token stands. Takes a byte of memory for each open block.
+pub fn first_fault(alloc: Global, text: &[u8]) -> Result<Option<usize>, AllocError>
+    ensures { IfOk result (Judges (tokens_of text.now) (length text.now)) }
+{
+    let mut tokens = Tokens::new(text);
+    let mut kinds = Vec::new(alloc);
+    let mut control = Control::ItemStart;
+    'reading: while let Found::Token(spot) = tokens.next() {
+        match advance(control, &mut kinds, spot.token)? {
+            None => return Ok(Some(spot.at)),
+            Some(next) => control = next,
+        }
+    }
+    Ok(fault_at_end(control, text.len()))
+}
