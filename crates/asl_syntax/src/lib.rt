@@ -1,13 +1,8 @@
-// A library with one function.
+//! Source text to tree and back.
 #![tactic(auto)]
 
-ghost use Rattle.std.specs.Prelude.{◌≡◌};
-ghost use Rattle.asl_syntax.specs.Echo.{echo_of};
+mod mentions;
+mod name;
+pub mod tree;
 
-// The `ensures` clause is the contract: what `echo` returns is `echo_of` of its argument, a definition
-// in `specs/Echo.antt`, which a caller's clause can cite too.
-pub fn echo(x: usize) -> usize
-    ensures { result ≡ echo_of x }
-{
-    x
-}
+pub use name::Name;

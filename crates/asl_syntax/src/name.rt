@@ -1,0 +1,66 @@
+ghost use Rattle.std.specs.Prelude.{◌≡◌, ◌≤◌, length};
+ghost use Rattle.std.specs.Option.{SomeIff};
+
+use arrayvec::ArrayVec;
+use std::marker::Model;
+
+/// A name of the source, 64 bytes at the most. Contracts see the list of its bytes.
+#[derive(Debug, Drop, PartialEq, Eq)]
+pub struct Name {
+    bytes: ArrayVec<u8, 64>,
+}
+
+impl Model for Name {
+    ghost use Rattle.std.specs.Prelude.{List, ℕ, length, ◌≤◌};
+
+    ghost Value = { List ℕ };
+
+    ghost view = { λ n. n.bytes.items };
+
+    ghost invariant = { λ n. length n.bytes.items ≤ 64 };
+
+    ghost inverse = { λ bytes. record { bytes = record { items = bytes } } };
+}
+
+impl Name {
+    /// The most bytes that a name has.
+    pub const MOST: usize = 64;
+
+    /// The name of these bytes, which are not too many.
+    pub fn from_slice(bytes: &[u8]) -> Name
+        requires { length bytes.now ≤ 64 }
+        ensures { result ≡ bytes.now }
+    {
+        let mut name = ArrayVec::new();
+        for b in bytes {
+            name.push(*b);
+        }
+        Name { bytes: name }
+    }
+
+    /// The name of these bytes, if they are not too many.
+    pub fn try_from_slice(bytes: &[u8]) -> Option<Name>
+        ensures { SomeIff result (length bytes.now ≤ 64) bytes.now }
+    {
+        if bytes.len() > Name::MOST {
+            None
+        } else {
+            Some(Name::from_slice(bytes))
+        }
+    }
+
+    /// The bytes of the name.
+    pub fn as_slice(&self) -> &[u8]
+        ensures bytes { result.now ≡ self.now }
+        ensures bound { length result.now ≤ 64 }
+    {
+        self.bytes.as_slice()
+    }
+
+    /// The same name again.
+    pub fn copy(&self) -> Name
+        ensures { result ≡ self.now }
+    {
+        Name::from_slice(self.as_slice())
+    }
+}
