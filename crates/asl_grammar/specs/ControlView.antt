@@ -1,6 +1,6 @@
 -- The code's controls and acts as the values that the automaton's definition speaks of.
 use Rattle.std.specs.Prelude.{ℕ, List}
-use Rattle.std.specs.Str.Parse.{digits_value}
+use Rattle.asl_grammar.specs.Lex.{number_value}
 use Rattle.asl_grammar.specs.declared.control.Right as right
 use Rattle.asl_grammar.specs.declared.control.Right.TheVariants as rights
 use Rattle.asl_grammar.specs.declared.control.Line as line
@@ -17,14 +17,14 @@ use Rattle.asl_grammar.specs.Automaton.{Opening, Control, Act, OfIf, OfElse, OfW
 
 -- the right side of an assignment
 abbrev pub right_of : right.Right → Right
-right_of (rights.Literal x y) = Literal x (digits_value 10 y.now)
+right_of (rights.Literal x y) = Literal x (number_value y.now)
 right_of rights.NullValue = NullValue
 right_of (rights.Copied x) = Copied x.now
 right_of (rights.Binary x y z) = Binary x.now y z.now
 right_of (rights.GlobalAddress x) = GlobalAddress x.now
-right_of (rights.FieldAddress x y) = FieldAddress x.now (digits_value 10 y.now)
+right_of (rights.FieldAddress x y) = FieldAddress x.now (number_value y.now)
 right_of (rights.Loaded x) = Loaded x.now
-right_of (rights.Created x) = Created (digits_value 10 x.now)
+right_of (rights.Created x) = Created (number_value x.now)
 
 -- a statement without blocks
 abbrev pub line_of : line.Line → Line
@@ -60,7 +60,7 @@ control_of (controls.AfterOperator x y z) = AfterOperator x.now y.now z
 control_of (controls.AfterAmpersand x) = AfterAmpersand x.now
 control_of (controls.AfterAddress x y) = AfterAddress x.now y.now
 control_of (controls.AfterBracket x y) = AfterBracket x.now y.now
-control_of (controls.AfterIndex x y z) = AfterIndex x.now y.now (digits_value 10 z.now)
+control_of (controls.AfterIndex x y z) = AfterIndex x.now y.now (number_value z.now)
 control_of (controls.AfterStar x) = AfterStar x.now
 control_of (controls.AfterNew x) = AfterNew x.now
 control_of (controls.FirstArgument x y) = FirstArgument x.now y.now

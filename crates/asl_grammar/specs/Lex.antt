@@ -1,6 +1,5 @@
 -- Reading bytes as tokens: the longest token first, blanks between.
-use Rattle.std.specs.Prelude.{ℕ, zero, suc, ◌+◌, ◌-◌, List, [], ◌∷◌, Bool, true, false, Option, Some, None, if◌then◌else◌, ◌==◌, nat_le, ◌&&◌, ◌||◌, not, codes, bytes_eq, take, length, is_none}
-use Rattle.std.specs.Str.Parse.{digits_value}
+use Rattle.std.specs.Prelude.{ℕ, zero, suc, ◌+◌, ◌-◌, ◌*◌, List, [], ◌∷◌, Bool, true, false, Option, Some, None, if◌then◌else◌, ◌==◌, nat_le, ◌&&◌, ◌||◌, not, codes, bytes_eq, take, length, is_none}
 use Rattle.asl_grammar.specs.declared.token.Mark.{Mark}
 use Rattle.asl_grammar.specs.declared.token.Mark.TheVariants as mark
 use Rattle.asl_grammar.specs.Token.{Token, Fixed, Name, Number, Spot}
@@ -50,12 +49,21 @@ abbrev pub symbol_token : Option Mark → Option (Token × ℕ)
 symbol_token None = None
 symbol_token (Some m) = Some (Fixed m, 1)
 
+-- the value of decimal digits behind others of value n
+abbrev pub value_from : ℕ → List ℕ → ℕ
+value_from n [] = n
+value_from n (d ∷ ds) = value_from (n * 10 + (d - 48)) ds
+
+-- the value of decimal digits
+abbrev pub number_value : List ℕ → ℕ
+number_value ds = value_from 0 ds
+
 -- a name or word of n bytes, a number of n digits
 abbrev pub letters_token : List ℕ → ℕ → Token × ℕ
 letters_token bs n = (word_or_name (word_of (take n bs)) (take n bs), n)
 
 abbrev pub digits_token : List ℕ → ℕ → Token × ℕ
-digits_token bs n = (Number (digits_value 10 (take n bs)), n)
+digits_token bs n = (Number (number_value (take n bs)), n)
 
 -- the longest token at the front, and how many bytes it takes
 abbrev pub front : List ℕ → Option (Token × ℕ)

@@ -1,6 +1,6 @@
 -- The code's tokens as the values that definitions speak of.
 use Rattle.std.specs.Prelude.{ℕ, List}
-use Rattle.std.specs.Str.Parse.{digits_value}
+use Rattle.asl_grammar.specs.Lex.{number_value}
 use Rattle.asl_grammar.specs.declared.token.Token as code
 use Rattle.asl_grammar.specs.declared.token.Token.TheVariants as tokens
 use Rattle.asl_grammar.specs.declared.token.Spot as spot
@@ -11,7 +11,7 @@ use Rattle.asl_grammar.specs.Token.{Token, Fixed, Name, Number, Spot}
 abbrev pub token_of : code.Token → Token
 token_of (tokens.Fixed m) = Fixed m
 token_of (tokens.Name s) = Name s.now
-token_of (tokens.Number s) = Number (digits_value 10 s.now)
+token_of (tokens.Number s) = Number (number_value s.now)
 
 abbrev pub spot_of : spot.Spot → Spot
 spot_of s = record { token = token_of s.token; at = s.at }

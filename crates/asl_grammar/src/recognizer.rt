@@ -51,7 +51,11 @@ fn nest(kinds: &mut Vec<Kind>, act: Act<'_>) -> Result<(), AllocError>
 }
 
 /// The control behind a token, or nothing where no program goes on with it.
-fn advance<'t>(control: Control<'t>, kinds: &mut Vec<Kind>, token: Token<'t>) -> Result<Option<Control<'t>>, AllocError>
+fn advance<'t>(
+    control: Control<'t>,
+    kinds: &mut Vec<Kind>,
+    token: Token<'t>,
+) -> Result<Option<Control<'t>>, AllocError>
     ensures { IfOk result (λ next. option_map (λ c. place_in c kinds.new.items) next
         ≡ next_place (place_in control.entry kinds.old.items) (token_of token.entry)) }
 {
