@@ -1,11 +1,8 @@
 -- The limits counted token by token.
 use Rattle.std.specs.Prelude.{ℕ, suc, ◌-◌, List, [], ◌∷◌, Bool, Option, Some, None, if◌then◌else◌}
-use Rattle.std.specs.Option.{option_map}
 use Rattle.asl_grammar.specs.declared.token.Mark.{Mark}
 use Rattle.asl_grammar.specs.declared.token.Mark.TheVariants as mark
 use Rattle.asl_grammar.specs.Token.{Token, Fixed, Name, Number, Spot}
-use Rattle.asl_grammar.specs.View.{token_of}
-use Rattle.asl_syntax.specs.declared.limit.Counts as code
 use Rattle.asl_syntax.specs.Limit.{Tally, one_more, is_over}
 
 -- the names in a head behind one more token
@@ -48,14 +45,3 @@ noted y t = record {
 abbrev pub over_from : Tally → List Spot → Option ℕ
 over_from y [] = None
 over_from y (s ∷ ss) = if is_over y s.token then Some s.at else over_from (noted y s.token) ss
-
--- the code's counts
-abbrev pub tally_in : code.Counts → Tally
-tally_in c = record {
-  last = option_map token_of c.last;
-  functions = c.functions;
-  globals = c.globals;
-  atomics = c.atomics;
-  braces = c.braces;
-  head = c.head;
-}

@@ -2,10 +2,10 @@
 
 ghost use Rattle.std.specs.Prelude.{◌≡◌, ◌≢◌, ℕ, ◌^◌, ◌<◌, ◌≤◌, length, min, IsTrue, false, [], Option, Some, None};
 ghost use Rattle.std.specs.Option.{option_map, ForSome};
-ghost use Rattle.asl_grammar.specs.Lex.{number_value};
+ghost use Rattle.asl_grammar.specs.Lex.{number_value, tokens_of};
 ghost use Rattle.asl_grammar.specs.View.{token_of};
-ghost use Rattle.asl_syntax.specs.Limit.{number_over, first_place, byte_over};
-ghost use Rattle.asl_syntax.specs.Tallied.{head_after};
+ghost use Rattle.asl_syntax.specs.Limit.{number_over, one_more, tally_of, byte_over, first_place, first_limit};
+ghost use Rattle.asl_syntax.specs.Tallied.{over_from};
 
 use asl_grammar::lexer::{Found, Tokens};
 use asl_grammar::token::{Mark, Token};
@@ -46,28 +46,42 @@ pub struct Counts<'t> {
     atomics: u32,
     braces: u32,
     head: Option<u32>,
+    ghost few_functions: { functions ≤ 256 },
+    ghost few_globals: { globals ≤ 1024 },
+    ghost few_atomics: { atomics ≤ 1024 },
+    ghost few_braces: { braces ≤ 64 },
+    ghost few_names: { ForSome head (λ n. n ≤ 5) },
 }
 
-/// The names in the head of a function behind one more token.
-fn head_after(head: Option<u32>, token: Token<'_>) -> Option<u32>
-    requires { ForSome head (λ n. n < 2 ^ 31) }
-    ensures { result ≡ head_after head (token_of token.entry) }
+/// One more name in the head of a function.
+fn one_more(head: Option<u32>) -> Option<u32>
+    requires { ForSome head (λ n. n ≤ 5) }
+    ensures { result ≡ one_more head }
 {
-    match token {
-        Token::Fixed(Mark::Fn) => Some(0),
-        Token::Fixed(Mark::OpenParen) => head,
-        Token::Fixed(Mark::Comma) => head,
-        Token::Name(_) => match head {
-            None => None,
-            Some(n) => Some(n + 1),
-        },
-        _ => None,
+    match head {
+        None => None,
+        Some(n) => Some(n + 1),
     }
 }
 
 impl<'t> Counts<'t> {
-    ghost use Rattle.asl_syntax.specs.Limit.{is_over, is_fifth};
-    ghost use Rattle.asl_syntax.specs.Tallied.{tally_in, noted};
+    ghost use Rattle.asl_syntax.specs.Limit.{is_over, is_fifth, tally_of};
+    ghost use Rattle.asl_syntax.specs.Tallied.{noted};
+    ghost use Rattle.asl_syntax.specs.TallyView.{tally_in};
+
+    /// No token so far.
+    fn new() -> Counts<'t>
+        ensures { tally_in result ≡ tally_of [] }
+    {
+        Counts {
+            last: None,
+            functions: 0,
+            globals: 0,
+            atomics: 0,
+            braces: 0,
+            head: None,
+        }
+    }
 
     /// Whether the token goes past a limit.
     fn is_over(&self, token: Token<'_>) -> bool
@@ -93,4 +107,67 @@ impl<'t> Counts<'t> {
             Some(n) => n >= 5,
         }
     }
+
+    /// The counts behind a token that goes past no limit.
+    fn noted(self, token: Token<'t>) -> Counts<'t>
+        requires { is_over (tally_in self) (token_of token) ≡ false }
+        ensures { tally_in result ≡ noted (tally_in self.entry) (token_of token.entry) }
+    {
+        let last = Some(token);
+        let Counts { functions, globals, atomics, braces, head, .. } = self;
+        let next = Counts { last, functions, globals, atomics, braces, head: None };
+        match token {
+            Token::Fixed(Mark::Fn) => Counts { last, functions: functions + 1, globals, atomics, braces, head: Some(0) },
+            Token::Fixed(Mark::Global) => Counts { last, functions, globals: globals + 1, atomics, braces, head: None },
+            Token::Fixed(Mark::Atomic) => Counts { last, functions, globals, atomics: atomics + 1, braces, head: None },
+            Token::Fixed(Mark::OpenBrace) => Counts { last, functions, globals, atomics, braces: braces + 1, head: None },
+            Token::Fixed(Mark::CloseBrace) => {
+                Counts { last, functions, globals, atomics, braces: braces.saturating_sub(1), head: None }
+            }
+            Token::Fixed(Mark::OpenParen) => Counts { last, functions, globals, atomics, braces, head },
+            Token::Fixed(Mark::Comma) => Counts { last, functions, globals, atomics, braces, head },
+            Token::Name(_) => Counts { last, functions, globals, atomics, braces, head: one_more(head) },
+            _ => next,
+        }
+    }
+}
+
+/// The place of the first token of `text` that goes past a limit.
+fn first_over(text: &[u8]) -> Option<usize>
+    ensures { result ≡ over_from (tally_of []) (tokens_of text.now) }
+{
+    let mut tokens = Tokens::new(text);
+    let mut counts = Counts::new();
+    'reading: while let Found::Token(spot) = tokens.next() {
+        if counts.is_over(spot.token) {
+            return Some(spot.at);
+        }
+        counts = counts.noted(spot.token);
+    }
+    None
+}
+
+/// The first byte of a text of `len` bytes that is too many.
+fn byte_over(len: usize) -> Option<usize>
+    ensures { result ≡ byte_over len }
+{
+    if len > MOST_BYTES { Some(MOST_BYTES) } else { None }
+}
+
+/// The first of two places.
+fn first_place(one: Option<usize>, other: Option<usize>) -> Option<usize>
+    ensures { result ≡ first_place one other }
+{
+    match (one, other) {
+        (None, _) => other,
+        (_, None) => one,
+        (Some(a), Some(b)) => Some(a.min(b)),
+    }
+}
+
+/// The first place of `text` where a limit is passed.
+pub fn first_limit(text: &[u8]) -> Option<usize>
+    ensures { result ≡ first_limit text.now }
+{
+    first_place(first_over(text), byte_over(text.len()))
 }

@@ -1,0 +1,15 @@
+-- what is left gives the answer
+use Rattle.std.proofs.Common.{◌≡◌, []}
+use Rattle.asl_grammar.specs.Lex.{tokens_of}
+use Rattle.asl_grammar.specs.Reader.{spots_left, bytes_left}
+use Rattle.asl_syntax.specs.Limit.{tally_of}
+use Rattle.asl_syntax.specs.Tallied.{over_from}
+use Rattle.asl_syntax.specs.TallyView.{tally_in}
+use Rattle.asl_syntax.proofs.limit.first_over.Given as goal
+
+abbrev pub invariant-reading : goal.invariant-reading
+invariant-reading l =
+    over_from (tally_in l.counts) (spots_left l.tokens) ≡ over_from (tally_of []) (tokens_of l.fn.text)
+
+abbrev pub decreases-reading : goal.decreases-reading
+decreases-reading l = bytes_left l.tokens

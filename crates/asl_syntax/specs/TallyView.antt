@@ -1,0 +1,16 @@
+-- The code's counts as a tally.
+use Rattle.std.specs.Option.{option_map}
+use Rattle.asl_grammar.specs.View.{token_of}
+use Rattle.asl_syntax.specs.declared.limit.Counts as code
+use Rattle.asl_syntax.specs.Limit.{Tally}
+
+-- the code's counts
+abbrev pub tally_in : code.Counts → Tally
+tally_in c = record {
+  last = option_map token_of c.last;
+  functions = c.functions;
+  globals = c.globals;
+  atomics = c.atomics;
+  braces = c.braces;
+  head = c.head;
+}
