@@ -1,6 +1,7 @@
 //! Source text to tree and back.
 #![tactic(auto)]
 
+mod build;
 mod limit;
 mod mentions;
 mod name;

@@ -1,0 +1,61 @@
+-- Which names and numbers the code's tree has room for.
+use Rattle.std.specs.Prelude.{◌≡◌, ℕ, ◌≤◌, List, [], ◌∷◌, Bool, true, false, Option, Some, None, length}
+use Rattle.asl_grammar.specs.declared.token.Mark.TheVariants as mark
+use Rattle.asl_grammar.specs.Token.{Token, Fixed, Name, Number, Spot}
+use Rattle.asl_grammar.specs.Written.{Right, Line, Literal, NullValue, Copied, Binary, GlobalAddress, FieldAddress, Loaded, Created, Assigns, Calls, Stores, Shows}
+use Rattle.asl_grammar.specs.Automaton.{Opening, Control, Act, OfIf, OfElse, OfWhile, OfAtomic, ItemStart, AfterGlobal, GlobalNamed, AfterFn, FunctionNamed, FirstParameter, AfterParameter, NextParameter, BodyStart, StatementStart, AfterThen, Target, AfterBecomes, AfterMinus, AfterValue, AfterOperator, AfterAmpersand, AfterAddress, AfterBracket, AfterIndex, AfterStar, AfterNew, FirstArgument, AfterArgument, NextArgument, CallEnd, LineEnd, StoreStart, StoreTarget, StoreValue, AfterOut, AfterIf, AfterWhile, AfterHeader, AfterReturn, Returned, BodyEnd, Keep, Declare, Start, Parameter, Argument, Emit, EmitCall, Begin, Close, Finish, step}
+use Rattle.asl_grammar.specs.Seen.{settled}
+use Rattle.asl_syntax.specs.Built.{Stack, kind_of, ready, apply}
+
+-- a name is short enough
+abbrev pub NameFits : List ℕ → Type 0
+NameFits x = length x ≤ 64
+
+-- the names and the number of a value
+abbrev pub RightFits : Right → Type 0
+RightFits (Literal true n) = n ≤ 2147483648
+RightFits (Literal false n) = n ≤ 2147483647
+RightFits NullValue = Unit {0}
+RightFits (Copied x) = NameFits x
+RightFits (Binary x y z) = NameFits x × NameFits z
+RightFits (GlobalAddress x) = NameFits x
+RightFits (FieldAddress x y) = NameFits x × y ≤ 255
+RightFits (Loaded x) = NameFits x
+RightFits (Created x) = x ≤ 255
+
+-- those of a statement without blocks
+abbrev pub LineFits : Line → Type 0
+LineFits (Assigns x y) = NameFits x × RightFits y
+LineFits (Calls x y z) = NameFits x × NameFits y
+LineFits (Stores x y) = NameFits x × NameFits y
+LineFits (Shows x) = NameFits x
+
+-- the name before a block
+abbrev pub OpeningFits : Opening → Type 0
+OpeningFits (OfIf x) = NameFits x
+OpeningFits OfElse = Unit {0}
+OpeningFits (OfWhile x) = NameFits x
+OpeningFits OfAtomic = Unit {0}
+
+-- those of what a token completes
+abbrev pub ActFits : Act → Type 0
+ActFits Keep = Unit {0}
+ActFits (Declare x) = NameFits x
+ActFits (Start x) = NameFits x
+ActFits (Parameter x) = NameFits x
+ActFits (Argument x) = NameFits x
+ActFits (Emit x) = LineFits x
+ActFits (EmitCall x y) = NameFits x × NameFits y
+ActFits (Begin x) = OpeningFits x
+ActFits Close = Unit {0}
+ActFits (Finish x) = NameFits x
+
+-- each act fits, along the automaton's run
+abbrev pub ActsFit-with : Option (Control × Act) → Stack → (Control → Stack → Type 0) → Type 0
+ActsFit-with None s go = Unit {0}
+ActsFit-with (Some (c, a)) s go = ActFits a × go c (apply a s)
+
+abbrev pub ActsFit : Control → Stack → List Spot → Type 0
+ActsFit c s [] = Unit {0}
+ActsFit c s (x ∷ xs) =
+    ActsFit-with (step (settled c x.token) (kind_of (ready c x.token s).frames) x.token) (ready c x.token s) (λ d r. ActsFit d r xs)
