@@ -55,6 +55,9 @@ settle_part p = record { done = settle_pending p.done p.pending; pending = None 
 abbrev pub put_part : Statement → Part → Part
 put_part x p = record { done = p.done ++ x ∷ []; pending = p.pending }
 
+abbrev pub put : Statement → Stack → Stack
+put x s = record s { top = put_part x s.top }
+
 abbrev pub else_header : Option (List ℕ × Block) → Header
 else_header None = ElseBlock [] NoMore
 else_header (Some (x, a)) = ElseBlock x a
@@ -86,9 +89,9 @@ apply (Declare x) s = record s { items = s.items ++ GlobalItem x ∷ [] }
 apply (Start x) s = record s { name = x; parameters = [] }
 apply (Parameter x) s = record s { parameters = s.parameters ++ x ∷ [] }
 apply (Argument a) s = record s { arguments = s.arguments ++ a ∷ [] }
-apply (Emit l) s = record s { top = put_part (line_meaning l) s.top }
+apply (Emit l) s = put (line_meaning l) s
 apply (EmitCall x f) s =
-    record s { top = put_part (AssignStatement x (CallValue f s.arguments)) s.top; arguments = [] }
+    record (put (AssignStatement x (CallValue f s.arguments)) s) { arguments = [] }
 apply (Begin o) s =
     record s { top = no_part; frames = record { header = header_of o s.top.pending; outer = s.top.done } ∷ s.frames }
 apply Close s = close_frames s.frames s

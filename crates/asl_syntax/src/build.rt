@@ -2,13 +2,14 @@
 
 ghost use Rattle.std.specs.Prelude.{◌≡◌, ℤ, ◌≤◌, map, reverse, length, IfOk};
 ghost use Rattle.asl_grammar.specs.Written.{Literal};
+ghost use Rattle.asl_grammar.specs.Automaton.{EmitCall, Begin, Close, Finish};
 ghost use Rattle.asl_grammar.specs.Lex.{number_value, tokens_of};
 ghost use Rattle.asl_grammar.specs.View.{token_of};
 ghost use Rattle.asl_grammar.specs.ControlView.{control_of, act_of, opening_of, line_of, right_of};
 ghost use Rattle.asl_syntax.specs.View.{value_of, statement_of, block_of};
 ghost use Rattle.asl_syntax.specs.Spelled.{literal, right_meaning, line_meaning};
 ghost use Rattle.asl_syntax.specs.Fits.{NameFits, RightFits, LineFits, OpeningFits, ActFits};
-ghost use Rattle.asl_syntax.specs.Built.{no_part, settle_part, put_part, header_of, closed, apply, kind_of, ready};
+ghost use Rattle.asl_syntax.specs.Built.{no_part, no_stack, settle_part, put, header_of, closed, apply, kind_of, ready};
 ghost use Rattle.asl_syntax.specs.BuildView.{part_of, pending_of, header_in};
 
 use crate::limit::capped_value;
@@ -144,4 +145,138 @@ fn shut(frame: Frame, body: Vec<Statement>) -> Result<Part, AllocError>
         done: outer,
         pending: None,
     })
+}
+
+/// What has been built.
+#[derive(Drop)]
+struct Builder {
+    alloc: Global,
+    items: Vec<Item>,
+    name: Name,
+    parameters: Vec<Name>,
+    arguments: Vec<Name>,
+    top: Part,
+    frames: Vec<Frame>,
+}
+
+impl Builder {
+    ghost use Rattle.asl_syntax.specs.BuilderView.{stack_of};
+
+    /// Nothing yet.
+    fn new(alloc: Global) -> Builder
+        ensures { stack_of result ≡ no_stack }
+    {
+        Builder {
+            alloc,
+            items: Vec::new(alloc),
+            name: Name::from_slice(&[]),
+            parameters: Vec::new(alloc),
+            arguments: Vec::new(alloc),
+            top: no_part(alloc),
+            frames: Vec::new(alloc),
+        }
+    }
+
+    /// The kind of the innermost open block.
+    fn kind(&self) -> Kind
+        ensures { result ≡ kind_of (stack_of self.now).frames }
+    {
+        match self.frames.last() {
+            None => Kind::Body,
+            Some(frame) => match frame.header {
+                Header::Then(_) => Kind::Then,
+                _ => Kind::Inner,
+            },
+        }
+    }
+
+    /// Behind the block of an `if` any token but `else` begins a new statement.
+    fn get_ready(&mut self, control: Control<'_>, token: Token<'_>) -> Result<(), AllocError>
+        ensures { IfOk result (λ _. stack_of self.new ≡ ready (control_of control.entry) (token_of token.entry) (stack_of self.old)) }
+    {
+        match (control, token) {
+            (Control::AfterThen, Token::Fixed(Mark::Else)) => {}
+            (Control::AfterThen, _) => settle(self.alloc, &mut self.top)?,
+            _ => {}
+        }
+        Ok(())
+    }
+
+    /// Adds a statement to the innermost block.
+    fn put(&mut self, statement: Statement) -> Result<(), AllocError>
+        ensures { IfOk result (λ _. stack_of self.new ≡ put (statement_of statement) (stack_of self.old)) }
+    {
+        self.top.done.push(statement)?;
+        Ok(())
+    }
+
+    /// Opens a block.
+    fn open(&mut self, opening: Opening<'_>) -> Result<(), AllocError>
+        requires { OpeningFits (opening_of opening) }
+        ensures { IfOk result (λ _. stack_of self.new ≡ apply (Begin (opening_of opening.entry)) (stack_of self.old)) }
+    {
+        let Part { done, pending } = mem::replace(&mut self.top, no_part(self.alloc));
+        let header = make_header(self.alloc, opening, pending);
+        self.frames.push(Frame {
+            header,
+            outer: done,
+        })?;
+        Ok(())
+    }
+
+    /// Closes the innermost block.
+    fn close(&mut self) -> Result<(), AllocError>
+        ensures { IfOk result (λ _. stack_of self.new ≡ apply Close (stack_of self.old)) }
+    {
+        if let Some(frame) = self.frames.pop() {
+            let Part { done, pending: _ } = mem::replace(&mut self.top, no_part(self.alloc));
+            self.top = shut(frame, done)?;
+        }
+        Ok(())
+    }
+
+    /// Ends the present function.
+    fn finish(&mut self, returned: Name) -> Result<(), AllocError>
+        ensures { IfOk result (λ _. stack_of self.new ≡ apply (Finish returned) (stack_of self.old)) }
+    {
+        let Part { done, pending: _ } = mem::replace(&mut self.top, no_part(self.alloc));
+        self.items.push(Item::Function(Function {
+            name: mem::replace(&mut self.name, Name::from_slice(&[])),
+            parameters: mem::replace(&mut self.parameters, Vec::new(self.alloc)),
+            body: done,
+            returned,
+        }))?;
+        Ok(())
+    }
+
+    /// Ends a call, with the arguments so far.
+    fn call(&mut self, target: Name, function: Name) -> Result<(), AllocError>
+        ensures { IfOk result (λ _. stack_of self.new ≡ apply (EmitCall target function) (stack_of self.old)) }
+    {
+        let arguments = mem::replace(&mut self.arguments, Vec::new(self.alloc));
+        self.put(Statement::Assign(target, Value::Call(function, arguments)))
+    }
+
+    /// Builds what a token completes.
+    fn apply(&mut self, act: Act<'_>) -> Result<(), AllocError>
+        requires { ActFits (act_of act) }
+        ensures { IfOk result (λ _. stack_of self.new ≡ apply (act_of act.entry) (stack_of self.old)) }
+    {
+        match act {
+            Act::Keep => {}
+            Act::Declare(x) => self.items.push(Item::Global(Name::from_slice(x)))?,
+            Act::Start(x) => {
+                self.name = Name::from_slice(x);
+                self.parameters.clear();
+            }
+            Act::Parameter(x) => self.parameters.push(Name::from_slice(x))?,
+            Act::Argument(x) => self.arguments.push(Name::from_slice(x))?,
+            Act::Emit(line) => self.put(statement(line))?,
+            Act::EmitCall(x, f) => self.call(Name::from_slice(x), Name::from_slice(f))?,
+            Act::Begin(opening) => self.open(opening)?,
+            Act::Close => self.close()?,
+            Act::Finish(x) => self.finish(Name::from_slice(x))?,
+        }
+        Ok(())
+    }
 }

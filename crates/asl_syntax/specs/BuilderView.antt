@@ -1,0 +1,17 @@
+-- The code's builder as the value that the builder's definition speaks of.
+use Rattle.std.specs.Prelude.{map, reverse}
+use Rattle.asl_syntax.specs.declared.build.Builder as code
+use Rattle.asl_syntax.specs.View.{item_of}
+use Rattle.asl_syntax.specs.Built.{Stack}
+use Rattle.asl_syntax.specs.BuildView.{part_of, frame_of}
+
+-- what has been built, with the innermost block first
+abbrev pub stack_of : code.Builder → Stack
+stack_of b = record {
+  items = map item_of b.items.items;
+  name = b.name;
+  parameters = b.parameters.items;
+  arguments = b.arguments.items;
+  top = part_of b.top;
+  frames = reverse (map frame_of b.frames.items);
+}
