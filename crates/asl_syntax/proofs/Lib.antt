@@ -2,3 +2,4 @@ pub mod Numbers
 pub mod Tallying
 pub mod Plain
 pub mod Fitting
+pub mod Building

@@ -50,6 +50,15 @@ ActFits (Begin x) = OpeningFits x
 ActFits Close = Unit {0}
 ActFits (Finish x) = NameFits x
 
+-- the act of a step fits, if there is one
+abbrev pub StepFits : Option (Control × Act) → Type 0
+StepFits None = Unit {0}
+StepFits (Some (c, a)) = ActFits a
+
+-- the act at the next token fits
+abbrev pub NextFits : Control → Stack → Token → Type 0
+NextFits c s t = StepFits (step (settled c t) (kind_of (ready c t s).frames) t)
+
 -- each act fits, along the automaton's run
 abbrev pub ActsFit-with : Option (Control × Act) → Stack → (Control → Stack → Type 0) → Type 0
 ActsFit-with None s go = Unit {0}

@@ -1,5 +1,6 @@
 -- The code's tree as the value that contracts speak of.
-use Rattle.std.specs.Prelude.{ℕ, List, [], ◌∷◌, map}
+use Rattle.std.specs.Prelude.{ℕ, List, [], ◌∷◌, map, Vec}
+use Rattle.std.specs.declared.alloc.Global.{Global}
 use Rattle.asl_syntax.specs.declared.tree.Value as value
 use Rattle.asl_syntax.specs.declared.tree.Value.TheVariants as values
 use Rattle.asl_syntax.specs.declared.tree.Statement as code
@@ -48,3 +49,7 @@ function_of f =
 abbrev pub item_of : item.Item → Item
 item_of (items.Global x) = GlobalItem x
 item_of (items.Function f) = FunctionItem (function_of f)
+
+-- the items of a program
+abbrev pub items_of : Vec item.Item Global → List Item
+items_of v = map item_of v.items

@@ -2,20 +2,23 @@
 
 ghost use Rattle.std.specs.Prelude.{◌≡◌, ℤ, ◌≤◌, map, reverse, length, IfOk};
 ghost use Rattle.asl_grammar.specs.Written.{Literal};
-ghost use Rattle.asl_grammar.specs.Automaton.{EmitCall, Begin, Close, Finish};
+ghost use Rattle.asl_grammar.specs.Automaton.{ItemStart, EmitCall, Begin, Close, Finish};
 ghost use Rattle.asl_grammar.specs.Lex.{number_value, tokens_of};
 ghost use Rattle.asl_grammar.specs.View.{token_of};
 ghost use Rattle.asl_grammar.specs.ControlView.{control_of, act_of, opening_of, line_of, right_of};
-ghost use Rattle.asl_syntax.specs.View.{value_of, statement_of, block_of};
+ghost use Rattle.asl_syntax.specs.View.{value_of, statement_of, block_of, items_of};
+ghost use Rattle.std.specs.Option.{option_map};
 ghost use Rattle.asl_syntax.specs.Spelled.{literal, right_meaning, line_meaning};
-ghost use Rattle.asl_syntax.specs.Fits.{NameFits, RightFits, LineFits, OpeningFits, ActFits};
-ghost use Rattle.asl_syntax.specs.Built.{no_part, no_stack, settle_part, put, header_of, closed, apply, kind_of, ready};
+ghost use Rattle.asl_syntax.specs.Fits.{NameFits, RightFits, LineFits, OpeningFits, ActFits, NextFits, ActsFit};
+ghost use Rattle.asl_syntax.specs.Built.{no_part, no_stack, settle_part, put, header_of, closed, apply, kind_of, ready, next, whole_at, built_from};
 ghost use Rattle.asl_syntax.specs.BuildView.{part_of, pending_of, header_in};
 
 use crate::limit::capped_value;
 use crate::name::Name;
 use crate::tree::{Function, Item, Statement, Value};
-use asl_grammar::control::{Act, Control, Kind, Line, Opening, Right};
+use asl_grammar::control::{Act, Control, Kind, Line, Opening, Right, step};
+use asl_grammar::lexer::{Found, Tokens};
+use asl_grammar::recognizer::settled;
 use asl_grammar::token::{Mark, Token};
 use std::alloc::{AllocError, Global};
 use std::mem;
@@ -160,7 +163,7 @@ struct Builder {
 }
 
 impl Builder {
-    ghost use Rattle.asl_syntax.specs.BuilderView.{stack_of};
+    ghost use Rattle.asl_syntax.specs.BuilderView.{stack_of, state_in};
 
     /// Nothing yet.
     fn new(alloc: Global) -> Builder
@@ -279,4 +282,47 @@ impl Builder {
         }
         Ok(())
     }
+
+    /// Reads one token: the control behind it, or nothing where it may not stand.
+    fn advance<'t>(&mut self, control: Control<'t>, token: Token<'t>) -> Result<Option<Control<'t>>, AllocError>
+        requires { NextFits (control_of control) (stack_of self.old) (token_of token) }
+        ensures { IfOk result (λ o. option_map (λ c. state_in c self.new) o
+            ≡ next (control_of control.entry) (stack_of self.old) (token_of token.entry)) }
+    {
+        self.get_ready(control, token)?;
+        match step(settled(control, token), self.kind(), token) {
+            None => Ok(None),
+            Some(transition) => {
+                self.apply(transition.act)?;
+                Ok(Some(transition.control))
+            }
+        }
+    }
+
+    /// The items, where a program may end.
+    fn into_items(self, control: Control<'_>) -> Option<Vec<Item>>
+        ensures { option_map items_of result ≡ whole_at (control_of control.entry) (stack_of self) }
+    {
+        match control {
+            Control::ItemStart => Some(self.items),
+            _ => None,
+        }
+    }
+}
+
+/// The items of a text, if its tokens are a program.
+pub fn build(alloc: Global, text: &[u8]) -> Result<Option<Vec<Item>>, AllocError>
+    requires { ActsFit ItemStart no_stack (tokens_of text.now) }
+    ensures { IfOk result (λ items. option_map items_of items ≡ built_from ItemStart no_stack (tokens_of text.now)) }
+{
+    let mut tokens = Tokens::new(text);
+    let mut builder = Builder::new(alloc);
+    let mut control = Control::ItemStart;
+    'reading: while let Found::Token(spot) = tokens.next() {
+        match builder.advance(control, spot.token)? {
+            None => return Ok(None),
+            Some(next) => control = next,
+        }
+    }
+    Ok(builder.into_items(control))
 }

@@ -1,24 +1,75 @@
-//! The names of a program in the order of the text.
+//! The names of a program in the order of the text, each with what it does where it stands.
 
 ghost use Rattle.std.specs.Prelude.{◌≡◌, ◌++◌, map, IfOk};
-ghost use Rattle.asl_syntax.specs.Mentions.{block_mentions, statement_mentions};
-ghost use Rattle.asl_syntax.specs.View.{statement_of, block_of};
-ghost use Rattle.asl_syntax.specs.MentionView.{mention_of};
+ghost use Rattle.asl_syntax.specs.Mentions.{UsesLocal, DeclaresParameter, value_mentions, block_mentions, statement_mentions, function_mentions, item_mentions, mentions};
+ghost use Rattle.asl_syntax.specs.View.{value_of, statement_of, block_of, function_of, item_of};
+ghost use Rattle.asl_syntax.specs.MentionView.{mentions_of};
 
 use crate::name::Name;
-use crate::tree::Statement;
-use std::alloc::AllocError;
+use crate::tree::{Function, Item, Statement, Value};
+use std::alloc::{AllocError, Global};
 
-/// What a name does where it stands.
+/// A name, and what it does where it stands.
 #[derive(Clone, Copy)]
 pub enum Mention<'a> {
     Global(&'a Name),
+    Function(&'a Name),
+    Parameter(&'a Name),
     Assigned(&'a Name),
+    Local(&'a Name),
+    GlobalUse(&'a Name),
+    /// A call, with how many arguments.
+    Call(&'a Name, usize),
 }
 
+/// The names of arguments.
+fn push_locals<'a>(out: &mut Vec<Mention<'a>>, names: &'a [Name]) -> Result<(), AllocError>
+    ensures { IfOk result (λ _. mentions_of out.new.items ≡ mentions_of out.old.items ++ map UsesLocal names.now) }
+{
+    for name in names {
+        out.push(Mention::Local(name))?;
+    }
+    Ok(())
+}
+
+/// The names of parameters.
+fn push_parameters<'a>(out: &mut Vec<Mention<'a>>, names: &'a [Name]) -> Result<(), AllocError>
+    ensures { IfOk result (λ _. mentions_of out.new.items ≡ mentions_of out.old.items ++ map DeclaresParameter names.now) }
+{
+    for name in names {
+        out.push(Mention::Parameter(name))?;
+    }
+    Ok(())
+}
+
+/// The names of a value.
+fn push_value<'a>(out: &mut Vec<Mention<'a>>, value: &'a Value) -> Result<(), AllocError>
+    ensures { IfOk result (λ _. mentions_of out.new.items ≡ mentions_of out.old.items ++ value_mentions (value_of value.now)) }
+{
+    match value {
+        Value::Number(_) => {}
+        Value::Null => {}
+        Value::Local(x) => out.push(Mention::Local(x))?,
+        Value::Binary(x, _, y) => {
+            out.push(Mention::Local(x))?;
+            out.push(Mention::Local(y))?;
+        }
+        Value::Global(x) => out.push(Mention::GlobalUse(x))?,
+        Value::Field(x, _) => out.push(Mention::Local(x))?,
+        Value::Load(x) => out.push(Mention::Local(x))?,
+        Value::New(_) => {}
+        Value::Call(f, arguments) => {
+            out.push(Mention::Call(f, arguments.len()))?;
+            push_locals(out, arguments)?;
+        }
+    }
+    Ok(())
+}
+
+/// The names of statements.
 #[cycle(mentions)]
 fn push_block<'a>(out: &mut Vec<Mention<'a>>, block: &'a [Statement]) -> Result<(), AllocError>
-    ensures { IfOk result (λ _. map mention_of out.new.items ≡ map mention_of out.old.items ++ block_mentions (block_of block.now)) }
+    ensures { IfOk result (λ _. mentions_of out.new.items ≡ mentions_of out.old.items ++ block_mentions (block_of block.now)) }
 {
     for statement in block {
         push_statement(out, statement)?;
@@ -26,27 +77,64 @@ fn push_block<'a>(out: &mut Vec<Mention<'a>>, block: &'a [Statement]) -> Result<
     Ok(())
 }
 
+/// The names of a statement.
 #[cycle(mentions)]
 fn push_statement<'a>(out: &mut Vec<Mention<'a>>, statement: &'a Statement) -> Result<(), AllocError>
-    ensures { IfOk result (λ _. map mention_of out.new.items ≡ map mention_of out.old.items ++ statement_mentions (statement_of statement.now)) }
+    ensures { IfOk result (λ _. mentions_of out.new.items ≡ mentions_of out.old.items ++ statement_mentions (statement_of statement.now)) }
 {
     match statement {
-        Statement::Assign(x, _) => out.push(Mention::Assigned(x))?,
-        Statement::Store(x, y) => {
-            out.push(Mention::Global(x))?;
-            out.push(Mention::Global(y))?;
+        Statement::Assign(x, value) => {
+            out.push(Mention::Assigned(x))?;
+            push_value(out, value)?;
         }
-        Statement::Out(x) => out.push(Mention::Global(x))?,
+        Statement::Store(x, y) => {
+            out.push(Mention::Local(x))?;
+            out.push(Mention::Local(y))?;
+        }
+        Statement::Out(x) => out.push(Mention::Local(x))?,
         Statement::If(x, first, second) => {
-            out.push(Mention::Global(x))?;
+            out.push(Mention::Local(x))?;
             push_block(out, first)?;
             push_block(out, second)?;
         }
         Statement::While(x, body) => {
-            out.push(Mention::Global(x))?;
+            out.push(Mention::Local(x))?;
             push_block(out, body)?;
         }
         Statement::Atomic(body) => push_block(out, body)?,
     }
     Ok(())
+}
+
+/// The names of a function.
+pub fn push_function<'a>(out: &mut Vec<Mention<'a>>, function: &'a Function) -> Result<(), AllocError>
+    ensures { IfOk result (λ _. mentions_of out.new.items ≡ mentions_of out.old.items ++ function_mentions (function_of function.now)) }
+{
+    out.push(Mention::Function(&function.name))?;
+    push_parameters(out, &function.parameters)?;
+    push_block(out, &function.body)?;
+    out.push(Mention::Local(&function.returned))?;
+    Ok(())
+}
+
+/// The names of an item.
+fn push_item<'a>(out: &mut Vec<Mention<'a>>, item: &'a Item) -> Result<(), AllocError>
+    ensures { IfOk result (λ _. mentions_of out.new.items ≡ mentions_of out.old.items ++ item_mentions (item_of item.now)) }
+{
+    match item {
+        Item::Global(x) => out.push(Mention::Global(x))?,
+        Item::Function(function) => push_function(out, function)?,
+    }
+    Ok(())
+}
+
+/// The names of a program.
+pub fn mentions<'a>(alloc: Global, items: &'a [Item]) -> Result<Vec<Mention<'a>>, AllocError>
+    ensures { IfOk result (λ v. mentions_of v.items ≡ mentions (map item_of items.now)) }
+{
+    let mut out = Vec::new(alloc);
+    for item in items {
+        push_item(&mut out, item)?;
+    }
+    Ok(out)
 }
