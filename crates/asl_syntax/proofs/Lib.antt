@@ -3,3 +3,4 @@ pub mod Tallying
 pub mod Plain
 pub mod Fitting
 pub mod Building
+pub mod KnownNames

@@ -5,6 +5,7 @@ mod build;
 mod limit;
 mod mentions;
 mod name;
+mod names;
 pub mod tree;
 
 pub use name::Name;

@@ -1,0 +1,16 @@
+-- Which names the code's maps know.
+use Rattle.std.specs.Prelude.{ℕ, List, Bool, Option, is_some}
+use Rattle.std.specs.Borrow.{Bor}
+use Rattle.std.specs.Ordering.{nat_cmp}
+use Rattle.std.specs.Cmp.Lexicographic.{slice_cmp}
+use Rattle.std.specs.BTreeMap as tree
+use Rattle.asl_syntax.specs.declared.names.Known as code
+use Rattle.asl_syntax.specs.Rules.{Names, Counts}
+
+-- the number beside a name
+abbrev pub counts_in : code.Known → Counts
+counts_in m q = tree.get_by (λ (k : Bor (List ℕ)). slice_cmp nat_cmp q k.now) m.names
+
+-- which names there are
+abbrev pub names_known : code.Known → Names
+names_known m q = is_some (counts_in m q)

@@ -1,0 +1,268 @@
+//! The rules of names.
+
+ghost use Rattle.std.specs.Prelude.{◌≡◌, ℕ, List, map, length, is_some, if◌then◌else◌, IfOk};
+ghost use Rattle.std.specs.Option.{option_copied};
+ghost use Rattle.asl_syntax.specs.MentionView.{mention_of, mentions_of};
+ghost use Rattle.asl_syntax.specs.Rules.{no_count, with_count, no_name, with_name, first_twice, declared_in, names_in, unknown_use, first_unknown_use, unknown_in_function, first_unknown, parameter_counts, is_wrong_call, wrong_call_from, name_places, places_with, is_main, has_main};
+ghost use Rattle.asl_grammar.specs.Lex.{tokens_of};
+ghost use Rattle.asl_grammar.specs.Reader.{spots_left, bytes_left};
+ghost use Rattle.asl_syntax.specs.Mentions.{function_mentions};
+ghost use Rattle.asl_syntax.specs.View.{function_of, item_of};
+ghost use Rattle.asl_syntax.specs.declared.names.Space.TheVariants.{Globals, Functions};
+ghost use Rattle.asl_syntax.specs.KnownView.{counts_in, names_known};
+
+use crate::mentions::{Mention, push_function};
+use crate::name::Name;
+use crate::tree::{Function, Item};
+use asl_grammar::lexer::{Found, Tokens};
+use asl_grammar::token::Token;
+use std::alloc::{AllocError, Global};
+use std::collections::BTreeMap;
+
+/// A name space.
+#[derive(Clone, Copy)]
+pub enum Space {
+    Globals,
+    Functions,
+    Locals,
+}
+
+/// Names, each with a number.
+#[derive(Drop)]
+pub struct Known<'a> {
+    names: BTreeMap<&'a [u8], usize>,
+}
+
+impl<'a> Known<'a> {
+    /// No name.
+    fn new(alloc: Global) -> Known<'a>
+        ensures counts { counts_in result ≡ no_count }
+        ensures names { names_known result ≡ no_name }
+    {
+        Known {
+            names: BTreeMap::new(alloc),
+        }
+    }
+
+    /// Adds a name with its number, in place of an older one.
+    fn add(&mut self, name: &'a Name, number: usize) -> Result<(), AllocError>
+        ensures counts { IfOk result (λ _. counts_in self.new ≡ with_count name.now number (counts_in self.old)) }
+        ensures names { IfOk result (λ _. names_known self.new ≡ with_name name.now (names_known self.old)) }
+    {
+        self.names.insert(name.as_slice(), number)?;
+        Ok(())
+    }
+
+    /// The number beside a name.
+    fn find(&self, name: &Name) -> Option<usize>
+        ensures { result ≡ counts_in self.now name.now }
+    {
+        self.names.get(name.as_slice()).copied()
+    }
+
+    /// Whether a name is there.
+    fn has(&self, name: &Name) -> bool
+        ensures { result ≡ names_known self.now name.now }
+    {
+        self.names.contains_key(name.as_slice())
+    }
+}
+
+/// The first name that is declared a second time: of globals, of functions, or of the parameters of one function.
+pub fn first_twice(alloc: Global, mentions: &[Mention<'_>]) -> Result<Option<Name>, AllocError>
+    ensures { IfOk result (λ o. o ≡ first_twice no_name no_name no_name (mentions_of mentions.now)) }
+{
+    let mut globals = Known::new(alloc);
+    let mut functions = Known::new(alloc);
+    let mut parameters = Known::new(alloc);
+    for mention in mentions {
+        match mention {
+            Mention::Global(x) => {
+                if globals.has(x) {
+                    return Ok(Some(x.copy()));
+                }
+                globals.add(x, 0)?;
+            }
+            Mention::Function(x) => {
+                if functions.has(x) {
+                    return Ok(Some(x.copy()));
+                }
+                functions.add(x, 0)?;
+                parameters = Known::new(alloc);
+            }
+            Mention::Parameter(x) => {
+                if parameters.has(x) {
+                    return Ok(Some(x.copy()));
+                }
+                parameters.add(x, 0)?;
+            }
+            _ => {}
+        }
+    }
+    Ok(None)
+}
+
+/// The name that a mention declares in a name space.
+fn declared_in(space: Space, mention: Mention<'_>) -> Option<&Name>
+    ensures { option_copied result ≡ declared_in space (mention_of mention.entry) }
+{
+    match (space, mention) {
+        (Space::Globals, Mention::Global(x)) => Some(x),
+        (Space::Functions, Mention::Function(x)) => Some(x),
+        (Space::Locals, Mention::Parameter(x)) => Some(x),
+        (Space::Locals, Mention::Assigned(x)) => Some(x),
+        _ => None,
+    }
+}
+
+/// The names that are declared in a name space.
+fn names_in<'a>(alloc: Global, space: Space, mentions: &[Mention<'a>]) -> Result<Known<'a>, AllocError>
+    ensures { IfOk result (λ known. names_known known ≡ names_in space (mentions_of mentions.now)) }
+{
+    let mut known = Known::new(alloc);
+    let mut i = mentions.len();
+    while i > 0 {
+        i -= 1;
+        if let Some(name) = declared_in(space, mentions[i]) {
+            known.add(name, 0)?;
+        }
+    }
+    Ok(known)
+}
+
+/// A used name that its name space does not have.
+fn unknown_use<'a>(globals: &Known<'_>, functions: &Known<'_>, locals: &Known<'_>, mention: Mention<'a>) -> Option<&'a Name>
+    ensures { option_copied result ≡ unknown_use (names_known globals.now) (names_known functions.now) (names_known locals.now) (mention_of mention.entry) }
+{
+    match mention {
+        Mention::Local(x) => {
+            if locals.has(x) {
+                None
+            } else {
+                Some(x)
+            }
+        }
+        Mention::GlobalUse(x) => {
+            if globals.has(x) {
+                None
+            } else {
+                Some(x)
+            }
+        }
+        Mention::Call(x, _) => {
+            if functions.has(x) {
+                None
+            } else {
+                Some(x)
+            }
+        }
+        _ => None,
+    }
+}
+
+/// The first name of a function that is used and not known.
+fn unknown_in_function(alloc: Global, globals: &Known<'_>, functions: &Known<'_>, function: &Function) -> Result<Option<Name>, AllocError>
+    ensures { IfOk result (λ o. o ≡ unknown_in_function (names_known globals.now) (names_known functions.now) (function_mentions (function_of function.now))) }
+{
+    let mut own = Vec::new(alloc);
+    push_function(&mut own, function)?;
+    let locals = names_in(alloc, Space::Locals, &own)?;
+    for mention in own.as_slice() {
+        if let Some(name) = unknown_use(globals, functions, &locals, *mention) {
+            return Ok(Some(name.copy()));
+        }
+    }
+    Ok(None)
+}
+
+/// The first name of a program that is used and nowhere declared.
+pub fn unknown(alloc: Global, items: &[Item], mentions: &[Mention<'_>]) -> Result<Option<Name>, AllocError>
+    ensures { IfOk result (λ o. o ≡ first_unknown (names_in Globals (mentions_of mentions.now)) (names_in Functions (mentions_of mentions.now)) (map item_of items.now)) }
+{
+    let globals = names_in(alloc, Space::Globals, mentions)?;
+    let functions = names_in(alloc, Space::Functions, mentions)?;
+    for item in items {
+        if let Item::Function(function) = item {
+            if let Some(name) = unknown_in_function(alloc, &globals, &functions, function)? {
+                return Ok(Some(name));
+            }
+        }
+    }
+    Ok(None)
+}
+
+/// How many parameters each function has.
+pub fn parameter_counts(alloc: Global, items: &[Item]) -> Result<Known<'_>, AllocError>
+    ensures { IfOk result (λ known. counts_in known ≡ parameter_counts (map item_of items.now)) }
+{
+    let mut known = Known::new(alloc);
+    let mut i = items.len();
+    while i > 0 {
+        i -= 1;
+        if let Item::Function(function) = &items[i] {
+            known.add(&function.name, function.parameters.len())?;
+        }
+    }
+    Ok(known)
+}
+
+/// Whether a mention is a call with too many or too few arguments.
+fn is_wrong_call(counts: &Known<'_>, mention: Mention<'_>) -> bool
+    ensures { result ≡ is_wrong_call (counts_in counts.now) (mention_of mention.entry) }
+{
+    match mention {
+        Mention::Call(f, n) => match counts.find(f) {
+            None => false,
+            Some(k) => k != n,
+        },
+        _ => false,
+    }
+}
+
+/// The place of the next name token.
+fn next_name(tokens: &mut Tokens<'_>) -> Option<usize>
+    ensures { name_places (spots_left tokens.old) ≡ places_with result (name_places (spots_left tokens.new)) }
+{
+    'reading: while let Found::Token(spot) = tokens.next() {
+        if let Token::Name(_) = spot.token {
+            return Some(spot.at);
+        }
+    }
+    None
+}
+
+/// The place of the first wrong call, where the mentions are those of the name tokens of `text` one by one.
+pub fn wrong_call(counts: &Known<'_>, mentions: &[Mention<'_>], text: &[u8]) -> Option<usize>
+    ensures { result ≡ wrong_call_from (counts_in counts.now) (mentions_of mentions.now) (name_places (tokens_of text.now)) }
+{
+    let mut tokens = Tokens::new(text);
+    for mention in mentions {
+        let at = next_name(&mut tokens)?;
+        if is_wrong_call(counts, *mention) {
+            return Some(at);
+        }
+    }
+    None
+}
+
+/// Whether an item is a function `main` of one parameter.
+fn is_main(item: &Item) -> bool
+    ensures { result ≡ is_main (item_of item.now) }
+{
+    match item {
+        Item::Global(_) => false,
+        Item::Function(function) => function.name.as_slice() == b"main".as_slice() && function.parameters.len() == 1,
+    }
+}
+
+/// Whether there is a function `main` of one parameter.
+pub fn has_main(items: &[Item]) -> bool
+    ensures { result ≡ has_main (map item_of items.now) }
+{
+    for item in items {
+        if is_main(item) {
+            return true;
+        }
+    }
+    false
+}
