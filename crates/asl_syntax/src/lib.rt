@@ -1,11 +1,17 @@
 //! Source text to tree and back.
 #![tactic(auto)]
 
+mod ast;
 mod build;
+mod fault;
 mod limit;
 mod mentions;
 mod name;
 mod names;
+mod parser;
 pub mod tree;
 
+pub use ast::Ast;
+pub use fault::SyntaxFault;
 pub use name::Name;
+pub use parser::parse;

@@ -2,6 +2,8 @@ ghost use Rattle.std.specs.Prelude.{◌≡◌, ◌≤◌, length};
 ghost use Rattle.std.specs.Option.{SomeIff};
 
 use arrayvec::ArrayVec;
+use std::fmt;
+use std::fmt::Write;
 use std::marker::Model;
 
 /// A name of the source, 64 bytes at the most. Contracts see the list of its bytes.
@@ -62,5 +64,14 @@ impl Name {
         ensures { result ≡ self.now }
     {
         Name::from_slice(self.as_slice())
+    }
+}
+
+impl fmt::Display for Name {
+    fn fmt<W: fmt::Write>(&self, f: &mut fmt::Formatter<W>) -> fmt::Result {
+        for b in self.as_slice() {
+            f.write_char(char::from(*b))?;
+        }
+        Ok(())
     }
 }

@@ -1,0 +1,105 @@
+ghost use Rattle.std.specs.Prelude.{◌≡◌, IfOk, IfErr, OnOk, map, None};
+ghost use Rattle.asl_grammar.specs.Lex.{tokens_of};
+ghost use Rattle.asl_grammar.specs.Grammar.{IsProgram, bare};
+ghost use Rattle.asl_syntax.specs.View.{items_of, item_of};
+ghost use Rattle.asl_syntax.specs.AstView.{tree_of};
+ghost use Rattle.asl_syntax.specs.Spelled.{Spells};
+ghost use Rattle.asl_syntax.specs.Limit.{first_limit};
+ghost use Rattle.asl_syntax.specs.Parsed.{first_wide, IsLexed, IsSpelled, Parses};
+ghost use Rattle.asl_syntax.specs.Fault.{IsFault};
+ghost use Rattle.asl_syntax.specs.Checked.{IsWritten};
+
+use crate::ast::Ast;
+use crate::build::build;
+use crate::fault::SyntaxFault;
+use crate::limit::first_limit;
+use crate::mentions::mentions;
+use crate::names::{first_twice, has_main, parameter_counts, unknown, wrong_call};
+use crate::tree::Item;
+use asl_grammar::lexer::first_bad;
+use asl_grammar::recognizer::first_fault;
+use std::alloc::Global;
+
+/// The place of the first byte that is not ASCII.
+fn first_wide(text: &[u8]) -> Option<usize>
+    ensures { result ≡ first_wide text.now }
+{
+    text.iter().position(|b| *b >= 128)
+}
+
+/// Whether the text is blanks and tokens throughout.
+fn check_tokens(text: &[u8]) -> Result<(), SyntaxFault>
+    ensures ok { OnOk result (IsLexed text.now) }
+    ensures err { IfErr result (IsFault text.now) }
+{
+    if let Some(at) = first_wide(text) {
+        return Err(SyntaxFault::NotAscii(at));
+    }
+    if let Some(at) = first_bad(text) {
+        return Err(SyntaxFault::Token(at));
+    }
+    Ok(())
+}
+
+/// Whether the tokens are a program within the limits.
+fn check_grammar(alloc: Global, text: &[u8]) -> Result<(), SyntaxFault>
+    requires { IsLexed text.now }
+    ensures ok { OnOk result (IsWritten text.now) }
+    ensures err { IfErr result (IsFault text.now) }
+{
+    if let Some(at) = first_fault(alloc, text)? {
+        return Err(SyntaxFault::Grammar(at));
+    }
+    if let Some(at) = first_limit(text) {
+        return Err(SyntaxFault::Limit(at));
+    }
+    Ok(())
+}
+
+/// The items of a program within the limits.
+fn make_items(alloc: Global, text: &[u8]) -> Result<Vec<Item>, SyntaxFault>
+    requires { IsWritten text.now }
+    ensures ok { IfOk result (λ v. IsSpelled text.now (items_of v)) }
+    ensures err { IfErr result (IsFault text.now) }
+{
+    match build(alloc, text)? {
+        Some(items) => Ok(items),
+        None => Err(SyntaxFault::Grammar(text.len())),
+    }
+}
+
+/// Whether the names of a program break no rule.
+fn check_names(alloc: Global, items: &[Item], text: &[u8]) -> Result<(), SyntaxFault>
+    requires { IsSpelled text.now (map item_of items.now) }
+    ensures ok { OnOk result (Parses text.now (map item_of items.now)) }
+    ensures err { IfErr result (IsFault text.now) }
+{
+    let mentions = mentions(alloc, items)?;
+    if let Some(name) = first_twice(alloc, &mentions)? {
+        return Err(SyntaxFault::Twice(name));
+    }
+    if let Some(name) = unknown(alloc, items, &mentions)? {
+        return Err(SyntaxFault::Unknown(name));
+    }
+    let counts = parameter_counts(alloc, items)?;
+    if let Some(at) = wrong_call(&counts, &mentions, text) {
+        return Err(SyntaxFault::Arity(at));
+    }
+    if !has_main(items) {
+        return Err(SyntaxFault::NoMain);
+    }
+    Ok(())
+}
+
+/// The tree that a text spells, or the first fault of the text. Each kind of fault is judged over the whole text before
+/// the next kind.
+pub fn parse(alloc: Global, text: &[u8]) -> Result<Ast, SyntaxFault>
+    ensures ok { IfOk result (λ a. Parses text.now (tree_of a)) }
+    ensures err { IfErr result (IsFault text.now) }
+{
+    check_tokens(text)?;
+    check_grammar(alloc, text)?;
+    let items = make_items(alloc, text)?;
+    check_names(alloc, &items, text)?;
+    Ok(Ast::new(items))
+}
