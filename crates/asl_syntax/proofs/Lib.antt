@@ -4,3 +4,5 @@ pub mod Plain
 pub mod Fitting
 pub mod Building
 pub mod KnownNames
+pub mod Made
+pub mod Digits

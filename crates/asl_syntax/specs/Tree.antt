@@ -1,5 +1,5 @@
 -- The tree of a program as a value that contracts speak of: what the text means, without its redundant forms.
-use Rattle.std.specs.Prelude.{ℕ, ℤ, List}
+use Rattle.std.specs.Prelude.{ℕ, ℤ, List, [], ◌∷◌}
 use Rattle.asl_grammar.specs.declared.control.Operator.{Operator}
 
 -- what stands at the right of `=`
@@ -39,3 +39,15 @@ pub record Function : Type 0 where
 pub data Item : Type 0 where
   GlobalItem : List ℕ → Item
   FunctionItem : Function → Item
+
+-- the globals of a program in order
+abbrev pub globals_of : List Item → List (List ℕ)
+globals_of [] = []
+globals_of (GlobalItem x ∷ is) = x ∷ globals_of is
+globals_of (FunctionItem f ∷ is) = globals_of is
+
+-- its functions in order
+abbrev pub functions_of : List Item → List Function
+functions_of [] = []
+functions_of (GlobalItem x ∷ is) = functions_of is
+functions_of (FunctionItem f ∷ is) = f ∷ functions_of is

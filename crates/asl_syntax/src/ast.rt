@@ -1,7 +1,9 @@
 ghost use Rattle.asl_syntax.specs.View.{items_of};
 ghost use Rattle.asl_syntax.specs.Parsed.{IsParsed};
 
+use crate::name::Name;
 use crate::tree::{Function, Item};
+use std::alloc::{AllocError, Global};
 
 /// The tree of a program that breaks no rule. Only `parse` makes one.
 #[derive(Drop)]
@@ -11,8 +13,9 @@ pub struct Ast {
 }
 
 impl Ast {
-    ghost use Rattle.std.specs.Prelude.{◌≡◌, map};
-    ghost use Rattle.asl_syntax.specs.View.{item_of};
+    ghost use Rattle.std.specs.Prelude.{◌≡◌, map, IfOk};
+    ghost use Rattle.asl_syntax.specs.View.{item_of, function_of};
+    ghost use Rattle.asl_syntax.specs.Tree.{globals_of, functions_of};
     ghost use Rattle.asl_syntax.specs.AstView.{tree_of};
 
     /// The program of these items, which some text spells without breaking a rule.
@@ -28,5 +31,31 @@ impl Ast {
         ensures { map item_of result.now ≡ tree_of self.now }
     {
         self.items.as_slice()
+    }
+
+    /// The globals in the order of the text.
+    pub fn globals(&self, alloc: Global) -> Result<Vec<&Name>, AllocError>
+        ensures { IfOk result (λ v. map (λ x. x.now) v.items ≡ globals_of (tree_of self.now)) }
+    {
+        let mut globals = Vec::new(alloc);
+        for item in self.items.as_slice() {
+            if let Item::Global(name) = item {
+                globals.push(name)?;
+            }
+        }
+        Ok(globals)
+    }
+
+    /// The functions in the order of the text.
+    pub fn functions(&self, alloc: Global) -> Result<Vec<&Function>, AllocError>
+        ensures { IfOk result (λ v. map (λ f. function_of f.now) v.items ≡ functions_of (tree_of self.now)) }
+    {
+        let mut functions = Vec::new(alloc);
+        for item in self.items.as_slice() {
+            if let Item::Function(function) = item {
+                functions.push(function)?;
+            }
+        }
+        Ok(functions)
     }
 }

@@ -9,9 +9,11 @@ mod mentions;
 mod name;
 mod names;
 mod parser;
+mod printer;
 pub mod tree;
 
 pub use ast::Ast;
 pub use fault::SyntaxFault;
 pub use name::Name;
 pub use parser::parse;
+pub use printer::print;

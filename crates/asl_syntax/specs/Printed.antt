@@ -1,0 +1,126 @@
+-- The text that a tree is printed as: its tokens, one space between, and a newline at the end.
+use Rattle.std.specs.Prelude.{ℕ, zero, suc, ◌+◌, ℤ, pos, negsuc, List, [], ◌∷◌, ◌++◌, if◌then◌else◌, ◌==◌, codes, map, drop}
+use Rattle.std.specs.Int.Digits.{digits_of}
+use Rattle.asl_grammar.specs.declared.token.Mark.{Mark}
+use Rattle.asl_grammar.specs.declared.token.Mark.TheVariants as mark
+use Rattle.asl_grammar.specs.Spelling.{symbol_of}
+use Rattle.asl_syntax.specs.Tree.{Value, IntegerValue, NullValue, LocalValue, BinaryValue, GlobalValue, FieldValue, LoadValue, NewValue, CallValue, Statement, AssignStatement, StoreStatement, OutStatement, IfStatement, WhileStatement, AtomicStatement, Block, NoMore, Then, Function, Item, GlobalItem, FunctionItem}
+
+-- the bytes of a word or symbol
+abbrev pub mark_bytes : Mark → List ℕ
+mark_bytes mark.Global = codes "global"
+mark_bytes mark.Fn = codes "fn"
+mark_bytes mark.Return = codes "return"
+mark_bytes mark.Null = codes "null"
+mark_bytes mark.New = codes "new"
+mark_bytes mark.Out = codes "out"
+mark_bytes mark.If = codes "if"
+mark_bytes mark.Else = codes "else"
+mark_bytes mark.While = codes "while"
+mark_bytes mark.Atomic = codes "atomic"
+mark_bytes mark.OpenParen = codes "("
+mark_bytes mark.CloseParen = codes ")"
+mark_bytes mark.OpenBrace = codes "{"
+mark_bytes mark.CloseBrace = codes "}"
+mark_bytes mark.OpenBracket = codes "["
+mark_bytes mark.CloseBracket = codes "]"
+mark_bytes mark.Comma = codes ","
+mark_bytes mark.Semicolon = codes ";"
+mark_bytes mark.Becomes = codes "="
+mark_bytes mark.Same = codes "=="
+mark_bytes mark.Plus = codes "+"
+mark_bytes mark.Minus = codes "-"
+mark_bytes mark.Less = codes "<"
+mark_bytes mark.Ampersand = codes "&"
+mark_bytes mark.Star = codes "*"
+
+-- decimal digits, none for 0
+abbrev pub digit_bytes : ℕ → List ℕ
+digit_bytes n = map (λ d. d + 48) (digits_of 10 n)
+
+-- a number without needless zeros
+abbrev pub decimal : ℕ → List ℕ
+decimal n = if n == 0 then 48 ∷ [] else digit_bytes n
+
+-- a token with a space before it
+abbrev pub piece : List ℕ → List ℕ
+piece bytes = 32 ∷ bytes
+
+abbrev pub mark_piece : Mark → List ℕ
+mark_piece m = piece (mark_bytes m)
+
+abbrev pub number_piece : ℕ → List ℕ
+number_piece n = piece (decimal n)
+
+-- names with commas between
+abbrev pub later_names_bytes : List (List ℕ) → List ℕ
+later_names_bytes [] = []
+later_names_bytes (x ∷ xs) = mark_piece mark.Comma ++ (piece x ++ later_names_bytes xs)
+
+abbrev pub names_bytes : List (List ℕ) → List ℕ
+names_bytes [] = []
+names_bytes (x ∷ xs) = piece x ++ later_names_bytes xs
+
+abbrev pub integer_bytes : ℤ → List ℕ
+integer_bytes (pos n) = number_piece n
+integer_bytes (negsuc n) = mark_piece mark.Minus ++ number_piece (suc n)
+
+abbrev pub value_bytes : Value → List ℕ
+value_bytes (IntegerValue z) = integer_bytes z
+value_bytes NullValue = mark_piece mark.Null
+value_bytes (LocalValue x) = piece x
+value_bytes (BinaryValue x o y) = piece x ++ (mark_piece (symbol_of o) ++ piece y)
+value_bytes (GlobalValue x) = mark_piece mark.Ampersand ++ piece x
+value_bytes (FieldValue x n) =
+    mark_piece mark.Ampersand ++ (piece x ++ (mark_piece mark.OpenBracket ++ (number_piece n ++ mark_piece mark.CloseBracket)))
+value_bytes (LoadValue x) = mark_piece mark.Star ++ piece x
+value_bytes (NewValue n) = mark_piece mark.New ++ number_piece n
+value_bytes (CallValue f args) =
+    piece f ++ (mark_piece mark.OpenParen ++ (names_bytes args ++ mark_piece mark.CloseParen))
+
+-- statements; an `else` is printed where it has statements
+abbrev mutual
+  pub statement_bytes : Statement → List ℕ
+  statement_bytes (AssignStatement x v) =
+      piece x ++ (mark_piece mark.Becomes ++ (value_bytes v ++ mark_piece mark.Semicolon))
+  statement_bytes (StoreStatement x y) =
+      mark_piece mark.Star ++ (piece x ++ (mark_piece mark.Becomes ++ (piece y ++ mark_piece mark.Semicolon)))
+  statement_bytes (OutStatement x) = mark_piece mark.Out ++ (piece x ++ mark_piece mark.Semicolon)
+  statement_bytes (IfStatement x a b) =
+      mark_piece mark.If ++ (piece x ++ (mark_piece mark.OpenBrace ++ (block_bytes a ++ (mark_piece mark.CloseBrace ++ else_bytes b))))
+  statement_bytes (WhileStatement x a) =
+      mark_piece mark.While ++ (piece x ++ (mark_piece mark.OpenBrace ++ (block_bytes a ++ mark_piece mark.CloseBrace)))
+  statement_bytes (AtomicStatement a) =
+      mark_piece mark.Atomic ++ (mark_piece mark.OpenBrace ++ (block_bytes a ++ mark_piece mark.CloseBrace))
+
+  pub block_bytes : Block → List ℕ
+  block_bytes NoMore = []
+  block_bytes (Then s b) = statement_bytes s ++ block_bytes b
+
+  pub else_bytes : Block → List ℕ
+  else_bytes NoMore = []
+  else_bytes (Then s b) =
+      mark_piece mark.Else ++ (mark_piece mark.OpenBrace ++ ((statement_bytes s ++ block_bytes b) ++ mark_piece mark.CloseBrace))
+
+-- the head of a function, and its last line
+abbrev pub head_bytes : Function → List ℕ
+head_bytes f =
+    mark_piece mark.Fn ++ (piece f.name ++ (mark_piece mark.OpenParen ++ (names_bytes f.parameters ++ (mark_piece mark.CloseParen ++ mark_piece mark.OpenBrace))))
+
+abbrev pub last_line_bytes : List ℕ → List ℕ
+last_line_bytes x = mark_piece mark.Return ++ (piece x ++ (mark_piece mark.Semicolon ++ mark_piece mark.CloseBrace))
+
+abbrev pub function_bytes : Function → List ℕ
+function_bytes f = head_bytes f ++ (block_bytes f.body ++ last_line_bytes f.returned)
+
+abbrev pub item_bytes : Item → List ℕ
+item_bytes (GlobalItem x) = mark_piece mark.Global ++ (piece x ++ mark_piece mark.Semicolon)
+item_bytes (FunctionItem f) = function_bytes f
+
+abbrev pub items_bytes : List Item → List ℕ
+items_bytes [] = []
+items_bytes (i ∷ is) = item_bytes i ++ items_bytes is
+
+-- the text of a tree, without the first space
+abbrev pub printed : List Item → List ℕ
+printed tree = drop 1 (items_bytes tree) ++ 10 ∷ []
