@@ -6,3 +6,4 @@ pub mod Building
 pub mod KnownNames
 pub mod Made
 pub mod Digits
+pub mod Spaced

@@ -78,29 +78,48 @@ value_bytes (NewValue n) = mark_piece mark.New ++ number_piece n
 value_bytes (CallValue f args) =
     piece f ++ (mark_piece mark.OpenParen ++ (names_bytes args ++ mark_piece mark.CloseParen))
 
--- statements; an `else` is printed where it has statements
+-- what stands before the block of an `if` and of a `while`
+abbrev pub if_head : List ℕ → List ℕ
+if_head x = mark_piece mark.If ++ (piece x ++ mark_piece mark.OpenBrace)
+
+abbrev pub while_head : List ℕ → List ℕ
+while_head x = mark_piece mark.While ++ (piece x ++ mark_piece mark.OpenBrace)
+
+-- what stands between the two blocks of an `if`, and behind the second: an `else` is printed where it has statements
+abbrev pub else_open : Block → List ℕ
+else_open NoMore = mark_piece mark.CloseBrace
+else_open (Then s b) = mark_piece mark.CloseBrace ++ (mark_piece mark.Else ++ mark_piece mark.OpenBrace)
+
+abbrev pub else_close : Block → List ℕ
+else_close NoMore = []
+else_close (Then s b) = mark_piece mark.CloseBrace
+
+-- statements without blocks
+abbrev pub assign_bytes : List ℕ → Value → List ℕ
+assign_bytes x v = piece x ++ (mark_piece mark.Becomes ++ (value_bytes v ++ mark_piece mark.Semicolon))
+
+abbrev pub store_bytes : List ℕ → List ℕ → List ℕ
+store_bytes x y =
+    mark_piece mark.Star ++ (piece x ++ (mark_piece mark.Becomes ++ (piece y ++ mark_piece mark.Semicolon)))
+
+abbrev pub out_bytes : List ℕ → List ℕ
+out_bytes x = mark_piece mark.Out ++ (piece x ++ mark_piece mark.Semicolon)
+
+-- statements
 abbrev mutual
   pub statement_bytes : Statement → List ℕ
-  statement_bytes (AssignStatement x v) =
-      piece x ++ (mark_piece mark.Becomes ++ (value_bytes v ++ mark_piece mark.Semicolon))
-  statement_bytes (StoreStatement x y) =
-      mark_piece mark.Star ++ (piece x ++ (mark_piece mark.Becomes ++ (piece y ++ mark_piece mark.Semicolon)))
-  statement_bytes (OutStatement x) = mark_piece mark.Out ++ (piece x ++ mark_piece mark.Semicolon)
+  statement_bytes (AssignStatement x v) = assign_bytes x v
+  statement_bytes (StoreStatement x y) = store_bytes x y
+  statement_bytes (OutStatement x) = out_bytes x
   statement_bytes (IfStatement x a b) =
-      mark_piece mark.If ++ (piece x ++ (mark_piece mark.OpenBrace ++ (block_bytes a ++ (mark_piece mark.CloseBrace ++ else_bytes b))))
-  statement_bytes (WhileStatement x a) =
-      mark_piece mark.While ++ (piece x ++ (mark_piece mark.OpenBrace ++ (block_bytes a ++ mark_piece mark.CloseBrace)))
+      if_head x ++ (block_bytes a ++ (else_open b ++ (block_bytes b ++ else_close b)))
+  statement_bytes (WhileStatement x a) = while_head x ++ (block_bytes a ++ mark_piece mark.CloseBrace)
   statement_bytes (AtomicStatement a) =
-      mark_piece mark.Atomic ++ (mark_piece mark.OpenBrace ++ (block_bytes a ++ mark_piece mark.CloseBrace))
+      (mark_piece mark.Atomic ++ mark_piece mark.OpenBrace) ++ (block_bytes a ++ mark_piece mark.CloseBrace)
 
   pub block_bytes : Block → List ℕ
   block_bytes NoMore = []
   block_bytes (Then s b) = statement_bytes s ++ block_bytes b
-
-  pub else_bytes : Block → List ℕ
-  else_bytes NoMore = []
-  else_bytes (Then s b) =
-      mark_piece mark.Else ++ (mark_piece mark.OpenBrace ++ ((statement_bytes s ++ block_bytes b) ++ mark_piece mark.CloseBrace))
 
 -- the head of a function, and its last line
 abbrev pub head_bytes : Function → List ℕ

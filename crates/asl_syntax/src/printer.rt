@@ -1,7 +1,8 @@
 ghost use Rattle.std.specs.Prelude.{◌≡◌, ◌++◌, ◌+◌, map, drop, IfOk};
 ghost use Rattle.asl_syntax.specs.View.{value_of, statement_of, block_of, function_of, item_of};
 ghost use Rattle.asl_syntax.specs.AstView.{tree_of};
-ghost use Rattle.asl_syntax.specs.Printed.{mark_bytes, digit_bytes, piece, mark_piece, number_piece, later_names_bytes, names_bytes, integer_bytes, value_bytes, statement_bytes, block_bytes, else_bytes, head_bytes, last_line_bytes, item_bytes, items_bytes, printed};
+ghost use Rattle.asl_syntax.specs.Printed.{mark_bytes, digit_bytes, piece, mark_piece, number_piece, later_names_bytes, names_bytes, integer_bytes, value_bytes, statement_bytes, block_bytes, assign_bytes, store_bytes, out_bytes, if_head, while_head, else_open, else_close, head_bytes, last_line_bytes, item_bytes, items_bytes, printed};
+ghost use Rattle.asl_grammar.specs.declared.token.Mark.TheVariants as mark;
 ghost use Rattle.asl_grammar.specs.Spelling.{symbol_of};
 ghost use Rattle.asl_syntax.specs.Tree.{CallValue};
 
@@ -182,6 +183,86 @@ fn push_value(out: &mut Vec<u8>, value: &Value) -> Result<(), AllocError>
     }
 }
 
+/// Writes an assignment.
+fn push_assign(out: &mut Vec<u8>, target: &Name, value: &Value) -> Result<(), AllocError>
+    ensures { IfOk result (λ _. out.new.items ≡ out.old.items ++ assign_bytes target.now (value_of value.now)) }
+{
+    push_name(out, target)?;
+    push_mark(out, Mark::Becomes)?;
+    push_value(out, value)?;
+    push_mark(out, Mark::Semicolon)
+}
+
+/// Writes a store.
+fn push_store(out: &mut Vec<u8>, target: &Name, value: &Name) -> Result<(), AllocError>
+    ensures { IfOk result (λ _. out.new.items ≡ out.old.items ++ store_bytes target.now value.now) }
+{
+    push_mark(out, Mark::Star)?;
+    push_name(out, target)?;
+    push_mark(out, Mark::Becomes)?;
+    push_name(out, value)?;
+    push_mark(out, Mark::Semicolon)
+}
+
+/// Writes an output.
+fn push_out(out: &mut Vec<u8>, value: &Name) -> Result<(), AllocError>
+    ensures { IfOk result (λ _. out.new.items ≡ out.old.items ++ out_bytes value.now) }
+{
+    push_mark(out, Mark::Out)?;
+    push_name(out, value)?;
+    push_mark(out, Mark::Semicolon)
+}
+
+/// Writes what stands before the block of an `if`.
+fn open_if(out: &mut Vec<u8>, test: &Name) -> Result<(), AllocError>
+    ensures { IfOk result (λ _. out.new.items ≡ out.old.items ++ if_head test.now) }
+{
+    push_mark(out, Mark::If)?;
+    push_name(out, test)?;
+    push_mark(out, Mark::OpenBrace)
+}
+
+/// Writes what stands before the block of a `while`.
+fn open_while(out: &mut Vec<u8>, test: &Name) -> Result<(), AllocError>
+    ensures { IfOk result (λ _. out.new.items ≡ out.old.items ++ while_head test.now) }
+{
+    push_mark(out, Mark::While)?;
+    push_name(out, test)?;
+    push_mark(out, Mark::OpenBrace)
+}
+
+/// Writes what stands before the block of an `atomic`.
+fn open_atomic(out: &mut Vec<u8>) -> Result<(), AllocError>
+    ensures { IfOk result (λ _. out.new.items ≡ out.old.items ++ (mark_piece mark.Atomic ++ mark_piece mark.OpenBrace)) }
+{
+    push_mark(out, Mark::Atomic)?;
+    push_mark(out, Mark::OpenBrace)
+}
+
+/// Writes what stands between the two blocks of an `if`.
+fn open_else(out: &mut Vec<u8>, block: &[Statement]) -> Result<(), AllocError>
+    ensures { IfOk result (λ _. out.new.items ≡ out.old.items ++ else_open (block_of block.now)) }
+{
+    push_mark(out, Mark::CloseBrace)?;
+    match block {
+        [] => Ok(()),
+        [_first, _later @ ..] => {
+            push_mark(out, Mark::Else)?;
+            push_mark(out, Mark::OpenBrace)
+        }
+    }
+}
+
+/// Writes what stands behind the second block of an `if`.
+fn close_else(out: &mut Vec<u8>, block: &[Statement]) -> Result<(), AllocError>
+    ensures { IfOk result (λ _. out.new.items ≡ out.old.items ++ else_close (block_of block.now)) }
+{
+    match block {
+        [] => Ok(()),
+        [_first, _later @ ..] => push_mark(out, Mark::CloseBrace),
+    }
+}
+
 /// Writes the statements of a block.
 #[cycle(print)]
 fn push_block(out: &mut Vec<u8>, block: &[Statement]) -> Result<(), AllocError>
@@ -193,69 +274,34 @@ fn push_block(out: &mut Vec<u8>, block: &[Statement]) -> Result<(), AllocError>
     Ok(())
 }
 
-/// Writes an `else`, where it has statements.
-#[cycle(print)]
-fn push_else(out: &mut Vec<u8>, block: &[Statement]) -> Result<(), AllocError>
-    ensures { IfOk result (λ _. out.new.items ≡ out.old.items ++ else_bytes (block_of block.now)) }
-{
-    match block {
-        [] => Ok(()),
-        [first, later @ ..] => {
-            push_mark(out, Mark::Else)?;
-            push_mark(out, Mark::OpenBrace)?;
-            push_statement(out, first)?;
-            push_block(out, later)?;
-            push_mark(out, Mark::CloseBrace)
-        }
-    }
-}
-
 /// Writes a statement.
 #[cycle(print)]
 fn push_statement(out: &mut Vec<u8>, statement: &Statement) -> Result<(), AllocError>
     ensures { IfOk result (λ _. out.new.items ≡ out.old.items ++ statement_bytes (statement_of statement.now)) }
 {
     match statement {
-        Statement::Assign(x, value) => {
-            push_name(out, x)?;
-            push_mark(out, Mark::Becomes)?;
-            push_value(out, value)?;
-            push_mark(out, Mark::Semicolon)
-        }
-        Statement::Store(x, y) => {
-            push_mark(out, Mark::Star)?;
-            push_name(out, x)?;
-            push_mark(out, Mark::Becomes)?;
-            push_name(out, y)?;
-            push_mark(out, Mark::Semicolon)
-        }
-        Statement::Out(x) => {
-            push_mark(out, Mark::Out)?;
-            push_name(out, x)?;
-            push_mark(out, Mark::Semicolon)
-        }
+        Statement::Assign(x, value) => push_assign(out, x, value)?,
+        Statement::Store(x, y) => push_store(out, x, y)?,
+        Statement::Out(x) => push_out(out, x)?,
         Statement::If(x, first, second) => {
-            push_mark(out, Mark::If)?;
-            push_name(out, x)?;
-            push_mark(out, Mark::OpenBrace)?;
+            open_if(out, x)?;
             push_block(out, first)?;
-            push_mark(out, Mark::CloseBrace)?;
-            push_else(out, second)
+            open_else(out, second)?;
+            push_block(out, second)?;
+            close_else(out, second)?;
         }
         Statement::While(x, body) => {
-            push_mark(out, Mark::While)?;
-            push_name(out, x)?;
-            push_mark(out, Mark::OpenBrace)?;
+            open_while(out, x)?;
             push_block(out, body)?;
-            push_mark(out, Mark::CloseBrace)
+            push_mark(out, Mark::CloseBrace)?;
         }
         Statement::Atomic(body) => {
-            push_mark(out, Mark::Atomic)?;
-            push_mark(out, Mark::OpenBrace)?;
+            open_atomic(out)?;
             push_block(out, body)?;
-            push_mark(out, Mark::CloseBrace)
+            push_mark(out, Mark::CloseBrace)?;
         }
     }
+    Ok(())
 }
 
 /// Writes the head of a function.

@@ -6,5 +6,5 @@ use Rattle.asl_syntax.proofs.printer.+push_digits.Goals as goal
 pub returns-in_ok-push : goal.returns-in_ok-push
 returns-in_ok-push t c =
     let e = digits_more c.args.number (omega arith) in
-    let a = append_assoc c.args.out.now.items (digit_bytes (c.args.number / 10)) (c.args.number % 10 + 48 ∷ []) in
+    let a = append_assoc c.args.out.now.items (digit_bytes (c.args.number / 10)) ((c.args.number % 10 + 48) ∷ []) in
     cc (c.in_ok-push.ensures.items, c.in_ok-push_digits.ensures)

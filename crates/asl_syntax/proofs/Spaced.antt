@@ -1,0 +1,96 @@
+-- A printed tree is the spelling of the tree, with a space before each token.
+use Rattle.std.proofs.Common.{◌≡◌, ℕ, zero, suc, ℤ, pos, negsuc, List, [], ◌∷◌, ◌++◌, Bool, true, false, refl, sym, ap, ◌∙◌, append_assoc, map}
+use Rattle.std.proofs.lemmas.List.{append-nil}
+use Rattle.asl_grammar.specs.declared.token.Mark.{Mark}
+use Rattle.asl_grammar.specs.declared.token.Mark.TheVariants as mark
+use Rattle.asl_grammar.specs.Token.{Token, Fixed, Name, Number}
+use Rattle.asl_grammar.specs.Written as w
+use Rattle.asl_grammar.specs.Spelling.{symbol_of, later_names_on, names_on, right_on, line_on, stmt_on, block_on, else_on, function_on, item_on, program_on}
+use Rattle.asl_syntax.specs.Tree.{Value, IntegerValue, NullValue, LocalValue, BinaryValue, GlobalValue, FieldValue, LoadValue, NewValue, CallValue, Statement, AssignStatement, StoreStatement, OutStatement, IfStatement, WhileStatement, AtomicStatement, Block, NoMore, Then, Function, Item, GlobalItem, FunctionItem}
+use Rattle.asl_syntax.specs.Spelled.{stmt_meaning, block_meaning, else_meaning, item_meaning, line_meaning, Spells}
+use Rattle.asl_syntax.specs.Writing.{integer_writing, assign_writing, statement_writing, block_writing, else_writing, function_writing, item_writing, writing}
+use Rattle.asl_syntax.specs.Printed.{mark_bytes, decimal, piece, mark_piece, number_piece, later_names_bytes, names_bytes, integer_bytes, value_bytes, statement_bytes, block_bytes, else_open, else_close, head_bytes, last_line_bytes, function_bytes, item_bytes, items_bytes}
+
+-- the bytes of a token, and of many with a space before each
+abbrev pub token_bytes : Token → List ℕ
+token_bytes (Fixed m) = mark_bytes m
+token_bytes (Name x) = x
+token_bytes (Number n) = decimal n
+
+abbrev pub spaced : List Token → List ℕ
+spaced [] = []
+spaced (t ∷ ts) = piece (token_bytes t) ++ spaced ts
+
+-- writing a tree and taking its meaning gives the tree
+assign_back : (x : List ℕ) (v : Value) → line_meaning (assign_writing x v) ≡ AssignStatement x v
+assign_back x (IntegerValue (pos n)) = refl
+assign_back x (IntegerValue (negsuc n)) = refl
+assign_back x NullValue = refl
+assign_back x (LocalValue y) = refl
+assign_back x (BinaryValue y o z) = refl
+assign_back x (GlobalValue y) = refl
+assign_back x (FieldValue y n) = refl
+assign_back x (LoadValue y) = refl
+assign_back x (NewValue n) = refl
+assign_back x (CallValue f args) = refl
+
+mutual
+  statement_back : (s : Statement) → stmt_meaning (statement_writing s) ≡ s
+  statement_back (AssignStatement x v) = assign_back x v
+  statement_back (StoreStatement x y) = refl
+  statement_back (OutStatement x) = refl
+  statement_back (IfStatement x a b) =
+      ap (λ (c : Block). IfStatement x c (else_meaning (else_writing b))) (block_back a)
+      ∙ ap (λ (c : Block). IfStatement x a c) (else_back b)
+  statement_back (WhileStatement x a) = ap (WhileStatement x) (block_back a)
+  statement_back (AtomicStatement a) = ap AtomicStatement (block_back a)
+
+  block_back : (b : Block) → block_meaning (block_writing b) ≡ b
+  block_back NoMore = refl
+  block_back (Then s b) =
+      ap (λ (t : Statement). Then t (block_meaning (block_writing b))) (statement_back s)
+      ∙ ap (Then s) (block_back b)
+
+  else_back : (b : Block) → else_meaning (else_writing b) ≡ b
+  else_back NoMore = refl
+  else_back (Then s b) =
+      ap (λ (t : Statement). Then t (block_meaning (block_writing b))) (statement_back s)
+      ∙ ap (Then s) (block_back b)
+
+item_back : (i : Item) → item_meaning (item_writing i) ≡ i
+item_back (GlobalItem x) = refl
+item_back (FunctionItem f) =
+    ap (λ (b : Block). FunctionItem (record { name = f.name; parameters = f.parameters; body = b; returned = f.returned })) (block_back f.body)
+
+items_back : (is : List Item) → map item_meaning (writing is) ≡ is
+items_back [] = refl
+items_back (i ∷ is) =
+    ap (λ (j : Item). j ∷ map item_meaning (writing is)) (item_back i) ∙ ap (λ (js : List Item). i ∷ js) (items_back is)
+
+-- a tree's own writing spells it
+pub writing_spells : (tree : List Item) → Spells tree (program_on (writing tree) [])
+writing_spells tree = record { written = writing tree; meaning = items_back tree; spelled = refl }
+
+-- printing writes the tokens of that writing
+later_names_spaced : (xs : List (List ℕ)) (r : List Token) → later_names_bytes xs ++ spaced r ≡ spaced (later_names_on xs r)
+later_names_spaced [] r = refl
+later_names_spaced (x ∷ xs) r =
+    simp (append_assoc) (ap (λ (bs : List ℕ). mark_piece mark.Comma ++ (piece x ++ bs)) (later_names_spaced xs r))
+
+names_spaced : (xs : List (List ℕ)) (r : List Token) → names_bytes xs ++ spaced r ≡ spaced (names_on xs r)
+names_spaced [] r = refl
+names_spaced (x ∷ xs) r = simp (append_assoc) (ap (λ (bs : List ℕ). piece x ++ bs) (later_names_spaced xs r))
+
+-- an assignment, its `;` too
+assign_spaced : (x : List ℕ) (v : Value) (r : List Token) → (piece x ++ (mark_piece mark.Becomes ++ value_bytes v)) ++ spaced r ≡ spaced (line_on (assign_writing x v) r)
+assign_spaced x (IntegerValue (pos n)) r = simp (append_assoc)
+assign_spaced x (IntegerValue (negsuc n)) r = simp (append_assoc)
+assign_spaced x NullValue r = simp (append_assoc)
+assign_spaced x (LocalValue y) r = simp (append_assoc)
+assign_spaced x (BinaryValue y o z) r = simp (append_assoc)
+assign_spaced x (GlobalValue y) r = simp (append_assoc)
+assign_spaced x (FieldValue y n) r = simp (append_assoc)
+assign_spaced x (LoadValue y) r = simp (append_assoc)
+assign_spaced x (NewValue n) r = simp (append_assoc)
+assign_spaced x (CallValue f args) r =
+    simp (append_assoc) (ap (λ (bs : List ℕ). piece x ++ (mark_piece mark.Becomes ++ (piece f ++ (mark_piece mark.OpenParen ++ bs)))) (names_spaced args (Fixed mark.CloseParen ∷ r)))
