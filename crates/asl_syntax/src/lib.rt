@@ -17,3 +17,6 @@ pub use fault::SyntaxFault;
 pub use name::Name;
 pub use parser::parse;
 pub use printer::print;
+
+#[cfg(test)]
+mod tests;
