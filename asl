@@ -11,9 +11,16 @@ is_stale() {
   [ -n "$(find "$root/crates" -name out -prune -o -type f \( -name '*.rt' -o -name '*.antt' \) -newer "$binary" -print -quit)" ]
 }
 
-# the crates that the program stands on, in the order of crates.txt, which is lowest first
+# the crates of the repository that the program stands on, in the order of crates.txt, which is lowest first
 crates_below() {
-  sed -n 's/^\([a-z_0-9]*\)[^:#]*:.*/\1/p' "$root/crates.txt" | grep -vx asl
+  awk -F: '
+    !/^#/ && NF > 1 { split($1, word, " "); name[++count] = word[1]; uses[word[1]] = $2 }
+    END {
+      needed["asl"] = 1
+      for (i = count; i > 0; i--)
+        if (name[i] in needed) { n = split(uses[name[i]], dep, " "); for (k = 1; k <= n; k++) needed[dep[k]] = 1 }
+      for (i = 1; i <= count; i++) if (name[i] != "asl" && name[i] in needed) print name[i]
+    }' "$root/crates.txt"
 }
 
 build() {
