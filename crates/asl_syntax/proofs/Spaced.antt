@@ -9,17 +9,7 @@ use Rattle.asl_grammar.specs.Spelling.{symbol_of, later_names_on, names_on, righ
 use Rattle.asl_syntax.specs.Tree.{Value, IntegerValue, NullValue, LocalValue, BinaryValue, GlobalValue, FieldValue, LoadValue, NewValue, CallValue, Statement, AssignStatement, StoreStatement, OutStatement, IfStatement, WhileStatement, AtomicStatement, Block, NoMore, Then, Function, Item, GlobalItem, FunctionItem}
 use Rattle.asl_syntax.specs.Spelled.{stmt_meaning, block_meaning, else_meaning, item_meaning, line_meaning, Spells}
 use Rattle.asl_syntax.specs.Writing.{integer_writing, assign_writing, statement_writing, block_writing, else_writing, function_writing, item_writing, writing}
-use Rattle.asl_syntax.specs.Printed.{mark_bytes, decimal, piece, mark_piece, number_piece, later_names_bytes, names_bytes, integer_bytes, value_bytes, statement_bytes, block_bytes, if_head, while_head, assign_bytes, else_open, else_close, head_bytes, last_line_bytes, function_bytes, item_bytes, items_bytes}
-
--- the bytes of a token, and of many with a space before each
-abbrev pub token_bytes : Token → List ℕ
-token_bytes (Fixed m) = mark_bytes m
-token_bytes (Name x) = x
-token_bytes (Number n) = decimal n
-
-abbrev pub spaced : List Token → List ℕ
-spaced [] = []
-spaced (t ∷ ts) = piece (token_bytes t) ++ spaced ts
+use Rattle.asl_syntax.specs.Printed.{mark_bytes, decimal, token_bytes, spaced, piece, mark_piece, number_piece, later_names_bytes, names_bytes, integer_bytes, value_bytes, statement_bytes, block_bytes, if_head, while_head, assign_bytes, else_open, else_close, head_bytes, last_line_bytes, function_bytes, item_bytes, items_bytes}
 
 -- writing a tree and taking its meaning gives the tree
 assign_back : (x : List ℕ) (v : Value) → line_meaning (assign_writing x v) ≡ AssignStatement x v

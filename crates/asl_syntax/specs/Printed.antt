@@ -3,6 +3,7 @@ use Rattle.std.specs.Prelude.{ℕ, zero, suc, ◌+◌, ℤ, pos, negsuc, List, [
 use Rattle.std.specs.Int.Digits.{digits_of}
 use Rattle.asl_grammar.specs.declared.token.Mark.{Mark}
 use Rattle.asl_grammar.specs.declared.token.Mark.TheVariants as mark
+use Rattle.asl_grammar.specs.Token.{Token, Fixed, Name, Number}
 use Rattle.asl_grammar.specs.Spelling.{symbol_of}
 use Rattle.asl_syntax.specs.Tree.{Value, IntegerValue, NullValue, LocalValue, BinaryValue, GlobalValue, FieldValue, LoadValue, NewValue, CallValue, Statement, AssignStatement, StoreStatement, OutStatement, IfStatement, WhileStatement, AtomicStatement, Block, NoMore, Then, Function, Item, GlobalItem, FunctionItem}
 
@@ -51,6 +52,16 @@ mark_piece m = piece (mark_bytes m)
 
 abbrev pub number_piece : ℕ → List ℕ
 number_piece n = piece (decimal n)
+
+-- the bytes of a token, and of many with a space before each
+abbrev pub token_bytes : Token → List ℕ
+token_bytes (Fixed m) = mark_bytes m
+token_bytes (Name x) = x
+token_bytes (Number n) = decimal n
+
+abbrev pub spaced : List Token → List ℕ
+spaced [] = []
+spaced (t ∷ ts) = piece (token_bytes t) ++ spaced ts
 
 -- names with commas between
 abbrev pub later_names_bytes : List (List ℕ) → List ℕ

@@ -4,6 +4,7 @@
 mod ast;
 mod build;
 mod fault;
+pub mod laws;
 mod limit;
 mod mentions;
 mod name;

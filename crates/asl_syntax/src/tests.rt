@@ -11,6 +11,7 @@ fn outcome(alloc: Global, source: &[u8]) -> Result<String, AllocError> {
 }
 
 /// A text, and its outcome or its printed form.
+#[derive(Drop)]
 struct Case {
     source: &'static str,
     expected: &'static str,
@@ -310,6 +311,7 @@ fn printed(rt: HostRuntime) -> Result<(), Fail> {
 }
 
 /// A text that repeats parts of it.
+#[derive(Drop)]
 struct Long {
     before: &'static str,
     part: &'static str,

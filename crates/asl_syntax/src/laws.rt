@@ -1,0 +1,23 @@
+//! Laws of texts and trees, as functions that do nothing: what each ensures is the law.
+
+ghost use Rattle.std.specs.Prelude.{◌≡◌, ℕ, List, []};
+ghost use Rattle.asl_grammar.specs.Token.{Spot};
+ghost use Rattle.asl_grammar.specs.Grammar.{bare};
+ghost use Rattle.asl_grammar.specs.Spelling.{program_on};
+ghost use Rattle.asl_syntax.specs.Tree.{Item};
+ghost use Rattle.asl_syntax.specs.Spelled.{Spells};
+ghost use Rattle.asl_syntax.specs.Parsed.{Parses};
+ghost use Rattle.asl_syntax.specs.Writing.{writing};
+ghost use Rattle.asl_syntax.specs.Printed.{items_bytes, spaced};
+
+/// The tokens of a text spell one tree at the most, so a text has one tree at the most.
+pub fn a_text_has_one_tree()
+    ensures tokens { (t u : List Item) (ss : List Spot) → Spells t (bare ss) → Spells u (bare ss) → t ≡ u }
+    ensures text { (t u : List Item) (text : List ℕ) → Parses text t → Parses text u → t ≡ u }
+{}
+
+/// A tree is printed as tokens that spell it, each behind a space.
+pub fn a_printed_tree_is_spelled()
+    ensures spells { (t : List Item) → Spells t (program_on (writing t) []) }
+    ensures bytes { (t : List Item) → items_bytes t ≡ spaced (program_on (writing t) []) }
+{}
