@@ -5,7 +5,7 @@ use std::test::Fail;
 /// `ok`, or the fault of a text.
 fn outcome(alloc: Global, source: &[u8]) -> Result<String, AllocError> {
     match parse(alloc, source) {
-        Ok(_) => String::from_str(alloc, "ok"),
+        Ok(_ast) => String::from_str(alloc, "ok"),
         Err(fault) => fault.to_string(alloc),
     }
 }
