@@ -49,7 +49,11 @@ fn value(right: Right<'_>) -> Value
         Right::Literal(minus, digits) => Value::Number(number(minus, digits)),
         Right::NullValue => Value::Null,
         Right::Copied(x) => Value::Local(Name::from_slice(x)),
-        Right::Binary(x, operator, y) => Value::Binary(Name::from_slice(x), operator, Name::from_slice(y)),
+        Right::Binary(x, operator, y) => Value::Binary(
+            Name::from_slice(x),
+            operator,
+            Name::from_slice(y),
+        ),
         Right::GlobalAddress(x) => Value::Global(Name::from_slice(x)),
         Right::FieldAddress(x, digits) => Value::Field(Name::from_slice(x), small_number(digits)),
         Right::Loaded(x) => Value::Load(Name::from_slice(x)),
@@ -113,7 +117,11 @@ fn settle(alloc: Global, part: &mut Part) -> Result<(), AllocError>
 }
 
 /// The header of a block that opens where perhaps an `if` waits.
-fn make_header(alloc: Global, opening: Opening<'_>, pending: Option<(Name, Vec<Statement>)>) -> Header
+fn make_header(
+    alloc: Global,
+    opening: Opening<'_>,
+    pending: Option<(Name, Vec<Statement>)>,
+) -> Header
     requires { OpeningFits (opening_of opening) }
     ensures { header_in result ≡ header_of (opening_of opening.entry) (pending_of pending) }
 {
@@ -284,7 +292,11 @@ impl Builder {
     }
 
     /// Reads one token: the control behind it, or nothing where it may not stand.
-    fn advance<'t>(&mut self, control: Control<'t>, token: Token<'t>) -> Result<Option<Control<'t>>, AllocError>
+    fn advance<'t>(
+        &mut self,
+        control: Control<'t>,
+        token: Token<'t>,
+    ) -> Result<Option<Control<'t>>, AllocError>
         requires { NextFits (control_of control) (stack_of self.old) (token_of token) }
         ensures { IfOk result (λ o. option_map (λ c. state_in c self.new) o
             ≡ next (control_of control.entry) (stack_of self.old) (token_of token.entry)) }

@@ -19,7 +19,9 @@ pub fn capped_value(digits: &[u8]) -> u32
 {
     let mut value = 0u32;
     for d in digits {
-        value = value.saturating_mul(10).saturating_add(u32::from(d.saturating_sub(b'0')));
+        value = value
+            .saturating_mul(10)
+            .saturating_add(u32::from(d.saturating_sub(b'0')));
     }
     value
 }
@@ -114,19 +116,89 @@ impl<'t> Counts<'t> {
         ensures { tally_in result ≡ noted (tally_in self.entry) (token_of token.entry) }
     {
         let last = Some(token);
-        let Counts { functions, globals, atomics, braces, head, .. } = self;
-        let next = Counts { last, functions, globals, atomics, braces, head: None };
+        let Counts {
+            functions,
+            globals,
+            atomics,
+            braces,
+            head,
+            ..
+        } = self;
+        let next = Counts {
+            last,
+            functions,
+            globals,
+            atomics,
+            braces,
+            head: None,
+        };
         match token {
-            Token::Fixed(Mark::Fn) => Counts { last, functions: functions + 1, globals, atomics, braces, head: Some(0) },
-            Token::Fixed(Mark::Global) => Counts { last, functions, globals: globals + 1, atomics, braces, head: None },
-            Token::Fixed(Mark::Atomic) => Counts { last, functions, globals, atomics: atomics + 1, braces, head: None },
-            Token::Fixed(Mark::OpenBrace) => Counts { last, functions, globals, atomics, braces: braces + 1, head: None },
+            Token::Fixed(Mark::Fn) => Counts {
+                last,
+                functions: functions + 1,
+                globals,
+                atomics,
+                braces,
+                head: Some(0),
+            },
+            Token::Fixed(Mark::Global) => Counts {
+                last,
+                functions,
+                globals: globals + 1,
+                atomics,
+                braces,
+                head: None,
+            },
+            Token::Fixed(Mark::Atomic) => Counts {
+                last,
+                functions,
+                globals,
+                atomics: atomics + 1,
+                braces,
+                head: None,
+            },
+            Token::Fixed(Mark::OpenBrace) => Counts {
+                last,
+                functions,
+                globals,
+                atomics,
+                braces: braces + 1,
+                head: None,
+            },
             Token::Fixed(Mark::CloseBrace) => {
-                Counts { last, functions, globals, atomics, braces: braces.saturating_sub(1), head: None }
+                Counts {
+                    last,
+                    functions,
+                    globals,
+                    atomics,
+                    braces: braces.saturating_sub(1),
+                    head: None,
+                }
             }
-            Token::Fixed(Mark::OpenParen) => Counts { last, functions, globals, atomics, braces, head },
-            Token::Fixed(Mark::Comma) => Counts { last, functions, globals, atomics, braces, head },
-            Token::Name(_) => Counts { last, functions, globals, atomics, braces, head: one_more(head) },
+            Token::Fixed(Mark::OpenParen) => Counts {
+                last,
+                functions,
+                globals,
+                atomics,
+                braces,
+                head,
+            },
+            Token::Fixed(Mark::Comma) => Counts {
+                last,
+                functions,
+                globals,
+                atomics,
+                braces,
+                head,
+            },
+            Token::Name(_) => Counts {
+                last,
+                functions,
+                globals,
+                atomics,
+                braces,
+                head: one_more(head),
+            },
             _ => next,
         }
     }
@@ -151,7 +223,11 @@ fn first_over(text: &[u8]) -> Option<usize>
 fn byte_over(len: usize) -> Option<usize>
     ensures { result ≡ byte_over len }
 {
-    if len > MOST_BYTES { Some(MOST_BYTES) } else { None }
+    if len > MOST_BYTES {
+        Some(MOST_BYTES)
+    } else {
+        None
+    }
 }
 
 /// The first of two places.

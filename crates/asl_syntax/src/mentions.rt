@@ -79,7 +79,10 @@ fn push_block<'a>(out: &mut Vec<Mention<'a>>, block: &'a [Statement]) -> Result<
 
 /// The names of a statement.
 #[cycle(mentions)]
-fn push_statement<'a>(out: &mut Vec<Mention<'a>>, statement: &'a Statement) -> Result<(), AllocError>
+fn push_statement<'a>(
+    out: &mut Vec<Mention<'a>>,
+    statement: &'a Statement,
+) -> Result<(), AllocError>
     ensures { IfOk result (λ _. mentions_of out.new.items ≡ mentions_of out.old.items ++ statement_mentions (statement_of statement.now)) }
 {
     match statement {
@@ -107,7 +110,10 @@ fn push_statement<'a>(out: &mut Vec<Mention<'a>>, statement: &'a Statement) -> R
 }
 
 /// The names of a function.
-pub fn push_function<'a>(out: &mut Vec<Mention<'a>>, function: &'a Function) -> Result<(), AllocError>
+pub fn push_function<'a>(
+    out: &mut Vec<Mention<'a>>,
+    function: &'a Function,
+) -> Result<(), AllocError>
     ensures { IfOk result (λ _. mentions_of out.new.items ≡ mentions_of out.old.items ++ function_mentions (function_of function.now)) }
 {
     out.push(Mention::Function(&function.name))?;

@@ -116,7 +116,11 @@ fn declared_in(space: Space, mention: Mention<'_>) -> Option<&Name>
 }
 
 /// The names that are declared in a name space.
-fn names_in<'a>(alloc: Global, space: Space, mentions: &[Mention<'a>]) -> Result<Known<'a>, AllocError>
+fn names_in<'a>(
+    alloc: Global,
+    space: Space,
+    mentions: &[Mention<'a>],
+) -> Result<Known<'a>, AllocError>
     ensures { IfOk result (λ known. names_known known ≡ names_in space (mentions_of mentions.now)) }
 {
     let mut known = Known::new(alloc);
@@ -131,37 +135,29 @@ fn names_in<'a>(alloc: Global, space: Space, mentions: &[Mention<'a>]) -> Result
 }
 
 /// A used name that its name space does not have.
-fn unknown_use<'a>(globals: &Known<'_>, functions: &Known<'_>, locals: &Known<'_>, mention: Mention<'a>) -> Option<&'a Name>
+fn unknown_use<'a>(
+    globals: &Known<'_>,
+    functions: &Known<'_>,
+    locals: &Known<'_>,
+    mention: Mention<'a>,
+) -> Option<&'a Name>
     ensures { option_copied result ≡ unknown_use (names_known globals.now) (names_known functions.now) (names_known locals.now) (mention_of mention.entry) }
 {
     match mention {
-        Mention::Local(x) => {
-            if locals.has(x) {
-                None
-            } else {
-                Some(x)
-            }
-        }
-        Mention::GlobalUse(x) => {
-            if globals.has(x) {
-                None
-            } else {
-                Some(x)
-            }
-        }
-        Mention::Call(x, _) => {
-            if functions.has(x) {
-                None
-            } else {
-                Some(x)
-            }
-        }
+        Mention::Local(x) => { if locals.has(x) { None } else { Some(x) } }
+        Mention::GlobalUse(x) => { if globals.has(x) { None } else { Some(x) } }
+        Mention::Call(x, _) => { if functions.has(x) { None } else { Some(x) } }
         _ => None,
     }
 }
 
 /// The first name of a function that is used and not known.
-fn unknown_in_function(alloc: Global, globals: &Known<'_>, functions: &Known<'_>, function: &Function) -> Result<Option<Name>, AllocError>
+fn unknown_in_function(
+    alloc: Global,
+    globals: &Known<'_>,
+    functions: &Known<'_>,
+    function: &Function,
+) -> Result<Option<Name>, AllocError>
     ensures { IfOk result (λ o. o ≡ unknown_in_function (names_known globals.now) (names_known functions.now) (function_mentions (function_of function.now))) }
 {
     let mut own = Vec::new(alloc);
@@ -176,7 +172,11 @@ fn unknown_in_function(alloc: Global, globals: &Known<'_>, functions: &Known<'_>
 }
 
 /// The first name of a program that is used and nowhere declared.
-pub fn unknown(alloc: Global, items: &[Item], mentions: &[Mention<'_>]) -> Result<Option<Name>, AllocError>
+pub fn unknown(
+    alloc: Global,
+    items: &[Item],
+    mentions: &[Mention<'_>],
+) -> Result<Option<Name>, AllocError>
     ensures { IfOk result (λ o. o ≡ first_unknown (names_in Globals (mentions_of mentions.now)) (names_in Functions (mentions_of mentions.now)) (map item_of items.now)) }
 {
     let globals = names_in(alloc, Space::Globals, mentions)?;
@@ -251,7 +251,8 @@ fn is_main(item: &Item) -> bool
 {
     match item {
         Item::Global(_) => false,
-        Item::Function(function) => function.name.as_slice() == b"main".as_slice() && function.parameters.len() == 1,
+        Item::Function(function) => function.name.as_slice() == b"main".as_slice()
+            && function.parameters.len() == 1,
     }
 }
 

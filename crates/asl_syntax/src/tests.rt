@@ -520,7 +520,10 @@ fn too_long_when_printed(rt: HostRuntime) -> Result<(), Fail> {
 
 #[test]
 fn readers(rt: HostRuntime) -> Result<(), Fail> {
-    let ast = parse(rt.alloc(), b"global a; fn f(){x=1;return x;} global b; fn main(t){return t;}")?;
+    let ast = parse(
+        rt.alloc(),
+        b"global a; fn f(){x=1;return x;} global b; fn main(t){return t;}",
+    )?;
     let globals = ast.globals(rt.alloc())?;
     let functions = ast.functions(rt.alloc())?;
     assert_eq!(rt; ast.items().len(), 4);

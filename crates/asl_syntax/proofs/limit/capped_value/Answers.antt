@@ -8,9 +8,10 @@ pub loop-d-preserved : goal.loop-d-preserved
 loop-d-preserved c =
     let ds = c.args.digits.now in
     let i = c.loop-d.d-index in
-    let e : min c.saturating_add-value.result 4294967295 ≡ min (c.loop-d.value * 10 + (get_or ds i 0 - 48)) 4294967295 = omega (arith, c.saturating_mul.ensures, c.saturating_add-value.ensures, c.saturating_sub.ensures, c.from.ensures) in
-    (capped_more ds i c.loop-d.value c.saturating_add-value.result 4294967295 (omega arith) e ∙ c.loop-d.invariant.0,
-        omega (arith, c.saturating_add-value.ensures))
+    let e : min c.saturating_add-value.result 4294967295 ≡ min (c.loop-d.value * 10 + (get_or ds i 0 - 48)) 4294967295 = omega (arith, c.saturating_mul.ensures, c.saturating_add-value.ensures, c.saturating_sub.ensures, c.from.ensures) in (
+      capped_more ds i c.loop-d.value c.saturating_add-value.result 4294967295 (omega arith) e ∙ c.loop-d.invariant.0,
+      omega (arith, c.saturating_add-value.ensures),
+    )
 
 pub returns : goal.returns
 returns c =
