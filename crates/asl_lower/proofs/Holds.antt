@@ -1,0 +1,280 @@
+-- The facts hold of each lowering.
+use Rattle.std.proofs.Common.{◌≡◌, ◌≢◌, ℕ, suc, ◌+◌, ◌-◌, ◌<◌, ◌≤◌, inl, inr, IsTrue, List, [], ◌∷◌, length, take, Some, slice_get, sym, ap, ◌∙◌, subst, arith}
+use Rattle.std.specs.List.{Contains, sum_by}
+use Rattle.std.proofs.lemmas.Bool.{cases_order, false≢true}
+use Rattle.std.proofs.lemmas.Option.{slice_get_within}
+use Rattle.asl_code.specs.declared.image.Function as entry
+use Rattle.asl_code.specs.declared.instr.Instr.{Instr}
+use Rattle.asl_code.specs.declared.instr.Instr.TheVariants as instr
+use Rattle.asl_syntax.specs.Tree.{Function, Item}
+use Rattle.asl_lower.specs.declared.section.Section.{Section}
+use Rattle.asl_lower.specs.Names.{functions_of, Scope, scope_of, register}
+use Rattle.std.proofs.lemmas.List.{take-take, take_all}
+use Rattle.std.proofs.lemmas.List.Sums.{sum_by-take-le}
+use Rattle.asl_lower.specs.Place.{Place, origin, past_function, past_functions}
+use Rattle.asl_lower.specs.Lowered.{Lowered, IsLowering, AreLoweredFunctions, end_of, entry_of}
+use Rattle.asl_lower.specs.Region.{open_at, open_behind, sites_before, sections_before, start_of, InBody, InSection, GoesOn}
+use Rattle.asl_lower.specs.Facts.{IsParted, IsNested, HasSections, ReturnsLast, StaysInside, IsNumbered}
+use Rattle.asl_lower.proofs.Grows.{Precedes, by_function}
+use Rattle.asl_lower.proofs.Counts.{sum_more}
+use Rattle.asl_lower.proofs.Balance.{block_balance}
+use Rattle.asl_lower.proofs.Stands.{is_plain, Stands, Plainly, Makes, Invokes, Jumps, Tests, Enters, Leaves}
+use Rattle.asl_lower.proofs.Bodies.{Placed, Body, Begins, begins, next_begins, body_of, in_body, number_placed, pc_inhabited}
+use Rattle.asl_lower.proofs.Points.{last_of, body_stands, body_moves}
+use Rattle.asl_lower.proofs.Opened.{points, section_there, Kind, Keeps, Opens, Closes, kind_at}
+
+-- the body of a pc of the code
+body_at : (is : List Item) (l : Lowered) → IsLowering is l → (pc : ℕ) → pc < length l.code → (number : ℕ) × Body is l number pc
+body_at is l h pc low =
+    let b = pc_inhabited is l h pc low in
+    (b.number, record { placed = b.placed; low = b.low; high = b.high })
+
+-- the `ret` of a function
+return_at : (is : List Item) (l : Lowered) (n : ℕ) → (w : Placed is l origin (end_of is) n) → slice_get l.code (last_of w.function w.place).pc ≡ Some (instr.Return (register (scope_of is n w.function) w.function.returned))
+return_at is l n w = w.lowered.returns
+
+body_in_code : (is : List Item) (l : Lowered) → IsLowering is l → (n pc : ℕ) → Body is l n pc → pc < length l.code
+body_in_code is l h n pc b = omega (arith, b.high, b.placed.after.pc, h.code)
+
+-- the steps inside a body
+nested_steps : (is : List Item) (l : Lowered) → IsLowering is l → (pc to : ℕ) (i : Instr) → slice_get l.code pc ≡ Some i → GoesOn i pc to → open_at l.code to ≡ open_behind (Some i) (open_at l.code pc)
+nested_steps is l h pc to i e g =
+    let b = body_at is l h pc (slice_get_within l.code pc i e) in
+    (body_moves is l b.0 pc to i b.1 e g).opened
+
+-- a `ret` stands where the statements of its body end
+return_place : (is : List Item) (l : Lowered) (n pc from : ℕ) → (b : Body is l n pc) → slice_get l.code pc ≡ Some (instr.Return from) → pc ≡ (last_of b.placed.function b.placed.place).pc
+return_place is l n pc from b e =
+    elim (body_stands is l n pc b) [
+      | inr at ↦ at
+      | inl s ↦ absurd (no_return _ l _ _ pc from e s)
+    ]
+  where
+    no_return : (sc : Scope) (l : Lowered) (lo hi : Place) (pc from : ℕ) → slice_get l.code pc ≡ Some (instr.Return from) → Stands sc l lo hi pc → ⊥
+    no_return sc l lo hi pc from e (Plainly i f t) = (let same : i ≡ instr.Return from = cc in
+        let P : Instr → Type 0 = λ j. IsTrue (is_plain j) in false≢true (subst P same t))
+    no_return sc l lo hi pc from e (Makes r c n f g k x) = cc
+    no_return sc l lo hi pc from e (Invokes r a n f) = cc
+    no_return sc l lo hi pc from e (Jumps n f g k o) = cc
+    no_return sc l lo hi pc from e (Tests r n f g k o) = cc
+    no_return sc l lo hi pc from e (Enters n w at) =
+        (let f : slice_get l.code pc ≡ Some (instr.Acquire n) = ap (slice_get l.code) (sym at) ∙ w.enters in cc)
+    no_return sc l lo hi pc from e (Leaves n w at) =
+        (let f : slice_get l.code pc ≡ Some instr.Release = ap (slice_get l.code) (sym at) ∙ w.leaves in cc)
+
+-- nothing is open where the statements of a body end
+end_opened : (is : List Item) (l : Lowered) (n : ℕ) → (w : Placed is l origin (end_of is) n) → open_at l.code (last_of w.function w.place).pc ≡ []
+end_opened is l n w =
+    block_balance (scope_of is n w.function) l w.function.body w.place w.lowered.body ∙ w.none_open
+
+empty_points : (l : Lowered) (pc : ℕ) (n : ℕ) (xs : List ℕ) → open_at l.code pc ≡ n ∷ xs → open_at l.code pc ≡ [] → ⊥
+empty_points l pc n xs e f = cc
+
+pub lowering_nested : (is : List Item) (l : Lowered) → IsLowering is l → IsNested l
+lowering_nested is l h =
+    record {
+      steps = nested_steps is l h;
+      leaves = λ pc e none. leaves_nothing pc e none (kind_at is l h pc (slice_get_within l.code pc instr.Release e));
+      starts = λ number f e.
+          let w = number_placed is l h number (slice_get_within l.functions number f e) in
+          ap (open_at l.code) w.start ∙ w.none_open;
+      returns = λ pc from e.
+          let b = body_at is l h pc (slice_get_within l.code pc (instr.Return from) e) in
+          ap (open_at l.code) (return_place is l b.0 pc from b.1 e) ∙ end_opened is l b.0 b.1.placed;
+      points = λ pc number low.
+          let p = points is l h pc (omega arith) in
+          (p.inside number, p.opened number);
+    }
+  where
+    leaves_nothing : (pc : ℕ) → slice_get l.code pc ≡ Some instr.Release → open_at l.code pc ≡ [] → Kind l pc → ⊥
+    leaves_nothing pc e none (Keeps i f o a r) = r (let q : Some i ≡ Some instr.Release = sym f ∙ e in cc)
+    leaves_nothing pc e none (Opens n w at) = (let f : slice_get l.code pc ≡ Some (instr.Acquire n) = ap (slice_get l.code) (sym at) ∙ w.enters in cc)
+    leaves_nothing pc e none (Closes n w at) = empty_points l pc n _ (ap (open_at l.code) (sym at) ∙ w.around) none
+
+-- where the last function ends
+ended : (is : List Item) (l : Lowered) (n : ℕ) (fs : List Function) (p : Place) → AreLoweredFunctions is l n fs p → Begins l n p → Begins l (n + length fs) (past_functions fs p)
+ended is l n [] p h b =
+    let e : n ≡ n + 0 = omega arith in
+    let P : ℕ → Type 0 = λ m. Begins l m p in
+    subst P e b
+ended is l n (f ∷ fs) p h b =
+    let e : suc n + length fs ≡ n + suc (length fs) = omega arith in
+    let P : ℕ → Type 0 = λ m. Begins l m (past_functions fs (past_function f p)) in
+    subst P e (ended is l (suc n) fs (past_function f p) h.1 (next_begins is l n f p h.0 b))
+
+all_ended : (is : List Item) (l : Lowered) → IsLowering is l → Begins l (length l.functions) (end_of is)
+all_ended is l h =
+    let P : ℕ → Type 0 = λ m. Begins l m (end_of is) in
+    let e : 0 + length (functions_of is) ≡ length l.functions = omega (arith, h.functions) in
+    subst P e (ended is l 0 (functions_of is) origin h.bodies (begins l))
+
+-- the bodies before a number have no more instructions than those before a greater one
+starts_rise : (l : Lowered) (a b : ℕ) → a ≤ b → start_of l.functions a ≤ start_of l.functions b
+starts_rise l a b low =
+    let len : entry.Function → ℕ = λ f. f.len in
+    let e : take a (take b l.functions) ≡ take a l.functions = take-take a b l.functions low in
+    let f : sum_by len (take a (take b l.functions)) ≤ sum_by len (take b l.functions) = sum_by-take-le len (take b l.functions) a in
+    omega (arith, f, ap (sum_by len) e)
+
+-- the body of a lower number ends where that of a greater one begins, or before
+apart : (l : Lowered) (a b pc : ℕ) → a < b → InBody l a pc → InBody l b pc → ⊥
+apart l a b pc low x y =
+    let len : entry.Function → ℕ = λ f. f.len in
+    let e : start_of l.functions (suc a) ≡ start_of l.functions a + x.function.len = sum_more len l.functions a x.function x.in_table in
+    let f : start_of l.functions (suc a) ≤ start_of l.functions b = starts_rise l (suc a) b low in
+    omega (arith, x.before_end, y.start)
+
+pub lowering_parted : (is : List Item) (l : Lowered) → IsLowering is l → IsParted l
+lowering_parted is l h =
+    record {
+      total = ap (sum_by (λ (f : entry.Function). f.len)) (sym (take_all (length l.functions) l.functions (omega arith))) ∙ (all_ended is l h).start ∙ sym h.code;
+      some_body = λ pc low. (let b = body_at is l h pc low in (b.0, in_body is l b.0 pc b.1));
+      one_body = λ pc a b x y. elim (cases_order a b) [
+        | inl same ↦ same
+        | inr other ↦ elim other [ inl less ↦ absurd (apart l a b pc less x y) | inr more ↦ absurd (apart l b a pc more y x) ]
+      ];
+      in_code = λ pc number x. body_in_code is l h number pc (body_of is l h number pc x);
+    }
+
+-- the section of an `acq`, and of a `rel`
+acquire_section : (l : Lowered) (pc number : ℕ) → slice_get l.code pc ≡ Some (instr.Acquire number) → Kind l pc → (s : Section) × (slice_get l.sections number ≡ Some s) × (s.acquire ≡ pc)
+acquire_section l pc number e (Keeps i f o a r) =
+    absurd (a number (let q : Some i ≡ Some (instr.Acquire number) = sym f ∙ e in cc))
+acquire_section l pc number e (Opens n w at) =
+    let f : slice_get l.code pc ≡ Some (instr.Acquire n) = ap (slice_get l.code) (sym at) ∙ w.enters in
+    let same : n ≡ number = (let q : Some (instr.Acquire n) ≡ Some (instr.Acquire number) = sym f ∙ e in cc) in
+    (w.section, ap (slice_get l.sections) (sym same) ∙ w.in_table, at)
+acquire_section l pc number e (Closes n w at) =
+    (let f : slice_get l.code pc ≡ Some instr.Release = ap (slice_get l.code) (sym at) ∙ w.leaves in cc)
+
+release_section : (l : Lowered) (pc : ℕ) → slice_get l.code pc ≡ Some instr.Release → Kind l pc → (number : ℕ) × (s : Section) × (slice_get l.sections number ≡ Some s) × (s.release ≡ pc)
+release_section l pc e (Keeps i f o a r) = absurd (r (let q : Some i ≡ Some instr.Release = sym f ∙ e in cc))
+release_section l pc e (Opens n w at) =
+    (let f : slice_get l.code pc ≡ Some (instr.Acquire n) = ap (slice_get l.code) (sym at) ∙ w.enters in cc)
+release_section l pc e (Closes n w at) = (n, w.section, w.in_table, at)
+
+pub lowering_sections : (is : List Item) (l : Lowered) → IsLowering is l → HasSections l
+lowering_sections is l h =
+    record {
+      there = section_there is l h;
+      entered = λ pc number e. acquire_section l pc number e (kind_at is l h pc (slice_get_within l.code pc (instr.Acquire number) e));
+      left = λ pc e. release_section l pc e (kind_at is l h pc (slice_get_within l.code pc instr.Release e));
+    }
+
+-- the place and the length of a function of the table
+entry_is : (is : List Item) (l : Lowered) → IsLowering is l → (n : ℕ) (f : entry.Function) → slice_get l.functions n ≡ Some f → (w : Placed is l origin (end_of is) n) × (start_of l.functions n + f.len ≡ (past_function w.function w.place).pc)
+entry_is is l h n f e =
+    let w = number_placed is l h n (slice_get_within l.functions n f e) in
+    let g : Precedes w.place (past_function w.function w.place) = by_function w.function w.place in
+    let q : Some f ≡ Some (entry_of w.function w.place) = sym e ∙ w.lowered.in_table in
+    let same : f ≡ entry_of w.function w.place = cc in
+    let n : f.len ≡ (past_function w.function w.place).pc - w.place.pc = ap (λ (x : entry.Function). x.len) same in
+    (w, omega (arith, w.start, n, g.pc))
+
+pub lowering_returns : (is : List Item) (l : Lowered) → IsLowering is l → ReturnsLast l
+lowering_returns is l h =
+    record {
+      there = λ number f e.
+          let w = entry_is is l h number f e in
+          ((last_of w.0.function w.0.place).pc, register (scope_of is number w.0.function) w.0.function.returned, w.1, w.0.lowered.returns);
+      only_there = λ pc number from f e x r.
+          let b = body_of is l h number pc x in
+          let w = entry_is is l h number f e in
+          let at : pc ≡ (last_of b.placed.function b.placed.place).pc = return_place is l number pc from b r in
+          let q : Some x.function ≡ Some f = sym x.in_table ∙ e in
+          let same : x.function ≡ f = cc in
+          let v : Some x.function ≡ Some (entry_of b.placed.function b.placed.place) = sym x.in_table ∙ b.placed.lowered.in_table in
+          let u : x.function ≡ entry_of b.placed.function b.placed.place = cc in
+          let n : f.len ≡ (past_function b.placed.function b.placed.place).pc - b.placed.place.pc = ap (λ (y : entry.Function). y.len) (sym same ∙ u) in
+          let g : Precedes b.placed.place (past_function b.placed.function b.placed.place) = by_function b.placed.function b.placed.place in
+          omega (arith, at, n, g.pc, b.placed.start);
+    }
+
+-- the section goes on behind each of its points but its `rel`
+section_stays : (is : List Item) (l : Lowered) → IsLowering is l → (pc to number : ℕ) (i : Instr) (s : Section) → slice_get l.sections number ≡ Some s → InSection l number pc → pc ≢ s.release → slice_get l.code pc ≡ Some i → GoesOn i pc to → InSection l number to
+section_stays is l h pc to number i s e x other f g =
+    let low : pc < length l.code = slice_get_within l.code pc i f in
+    let b = body_at is l h pc low in
+    let m = body_moves is l b.0 pc to i b.1 f g in
+    let same : x.0 ≡ s = (let q : Some x.0 ≡ Some s = sym x.1 ∙ e in cc) in
+    let end : x.0.release ≡ s.release = ap (λ (d : Section). d.release) same in
+    let further : pc < x.0.release = omega (arith, x.2.within, end, other) in
+    let next : InSection l number (suc pc) = (x.0, x.1, record { behind = omega (arith, x.2.behind); within = omega (arith, further) }) in
+    let here_open : Contains (open_at l.code (suc pc)) number = (points is l h (suc pc) (omega arith)).opened number next in
+    let e2 : open_at l.code to ≡ open_at l.code (suc pc) = m.opened ∙ sym (ap (λ v. open_behind v (open_at l.code pc)) f) in
+    let P : List ℕ → Type 0 = λ os. Contains os number in
+    (points is l h to (omega (arith, m.high, b.1.placed.after.pc, h.code))).inside number (subst P (sym e2) here_open)
+
+pub lowering_stays : (is : List Item) (l : Lowered) → IsLowering is l → StaysInside l
+lowering_stays is l h =
+    record {
+      body = λ pc to number i x e g.
+          let b = body_of is l h number pc x in
+          let m = body_moves is l number pc to i b e g in
+          in_body is l number to (record { placed = b.placed; low = m.low; high = omega (arith, m.high) });
+      section = section_stays is l h;
+    }
+
+-- what the site of a `new` is
+made_site : (sc : Scope) (l : Lowered) (lo hi : Place) (pc to cells site : ℕ) → slice_get l.code pc ≡ Some (instr.New to cells site) → Stands sc l lo hi pc → (site ≡ sites_before l.code pc) × (site < hi.site)
+made_site sc l lo hi pc to cells site e (Plainly i f t) =
+    let q : Some i ≡ Some (instr.New to cells site) = sym f ∙ e in
+    let same : i ≡ instr.New to cells site = cc in
+    let P : Instr → Type 0 = λ j. IsTrue (is_plain j) in
+    absurd (false≢true (subst P same t))
+made_site sc l lo hi pc to cells site e (Makes r c n f g k x) =
+    let q : Some (instr.New r c n) ≡ Some (instr.New to cells site) = sym f ∙ e in
+    let same : n ≡ site = cc in
+    (sym same ∙ x, omega (arith, k, same))
+made_site sc l lo hi pc to cells site e (Invokes r a n f) = cc
+made_site sc l lo hi pc to cells site e (Jumps n f g k o) = cc
+made_site sc l lo hi pc to cells site e (Tests r n f g k o) = cc
+made_site sc l lo hi pc to cells site e (Enters n w at) =
+    (let f : slice_get l.code pc ≡ Some (instr.Acquire n) = ap (slice_get l.code) (sym at) ∙ w.enters in cc)
+made_site sc l lo hi pc to cells site e (Leaves n w at) =
+    (let f : slice_get l.code pc ≡ Some instr.Release = ap (slice_get l.code) (sym at) ∙ w.leaves in cc)
+
+site_of : (is : List Item) (l : Lowered) → IsLowering is l → (pc to cells site : ℕ) → slice_get l.code pc ≡ Some (instr.New to cells site) → (site ≡ sites_before l.code pc) × (site < l.sites)
+site_of is l h pc to cells site e =
+    let b = body_at is l h pc (slice_get_within l.code pc (instr.New to cells site) e) in
+    elim (body_stands is l b.0 pc b.1) [
+      | inl s ↦ (let m = made_site _ l _ _ pc to cells site e s in (m.0, omega (arith, m.1, b.1.placed.after.site, h.sites)))
+      | inr at ↦ (let r : slice_get l.code pc ≡ Some (instr.Return (register (scope_of is b.0 b.1.placed.function) b.1.placed.function.returned)) = ap (slice_get l.code) at ∙ b.1.placed.lowered.returns in cc)
+    ]
+
+-- the number of the section of an `acq`
+entered_number : (sc : Scope) (l : Lowered) (lo hi : Place) (pc number : ℕ) → slice_get l.code pc ≡ Some (instr.Acquire number) → Stands sc l lo hi pc → number ≡ sections_before l.code pc
+entered_number sc l lo hi pc number e (Plainly i f t) =
+    let q : Some i ≡ Some (instr.Acquire number) = sym f ∙ e in
+    let same : i ≡ instr.Acquire number = cc in
+    let P : Instr → Type 0 = λ j. IsTrue (is_plain j) in
+    absurd (false≢true (subst P same t))
+entered_number sc l lo hi pc number e (Makes r c n f g k x) = cc
+entered_number sc l lo hi pc number e (Invokes r a n f) = cc
+entered_number sc l lo hi pc number e (Jumps n f g k o) = cc
+entered_number sc l lo hi pc number e (Tests r n f g k o) = cc
+entered_number sc l lo hi pc number e (Enters n w at) =
+    let f : slice_get l.code pc ≡ Some (instr.Acquire n) = ap (slice_get l.code) (sym at) ∙ w.enters in
+    let same : n ≡ number = (let q : Some (instr.Acquire n) ≡ Some (instr.Acquire number) = sym f ∙ e in cc) in
+    sym same ∙ w.counted ∙ ap (sections_before l.code) at
+entered_number sc l lo hi pc number e (Leaves n w at) =
+    (let f : slice_get l.code pc ≡ Some instr.Release = ap (slice_get l.code) (sym at) ∙ w.leaves in cc)
+
+number_of_acquire : (is : List Item) (l : Lowered) → IsLowering is l → (pc number : ℕ) → slice_get l.code pc ≡ Some (instr.Acquire number) → number ≡ sections_before l.code pc
+number_of_acquire is l h pc number e =
+    let b = body_at is l h pc (slice_get_within l.code pc (instr.Acquire number) e) in
+    elim (body_stands is l b.0 pc b.1) [
+      | inl s ↦ entered_number _ l _ _ pc number e s
+      | inr at ↦ (let r : slice_get l.code pc ≡ Some (instr.Return (register (scope_of is b.0 b.1.placed.function) b.1.placed.function.returned)) = ap (slice_get l.code) at ∙ b.1.placed.lowered.returns in cc)
+    ]
+
+pub lowering_numbered : (is : List Item) (l : Lowered) → IsLowering is l → IsNumbered l
+lowering_numbered is l h =
+    let k = (all_ended is l h).counted in
+    record {
+      sites = λ pc to cells site e. (site_of is l h pc to cells site e).0;
+      sections = number_of_acquire is l h;
+      all_sites = ap (sites_before l.code) h.code ∙ k.sites ∙ sym h.sites;
+      all_sections = ap (sections_before l.code) h.code ∙ k.sections ∙ sym h.sections;
+      known_sites = λ pc to cells site e. (site_of is l h pc to cells site e).1;
+    }

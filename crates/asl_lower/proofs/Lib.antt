@@ -1,0 +1,13 @@
+pub mod Grows
+pub mod Balance
+pub mod Counts
+pub mod Stands
+pub mod Sections
+pub mod Bodies
+pub mod Points
+pub mod Opened
+pub mod Holds
+pub mod Slices
+pub mod Laid
+pub mod Emits
+pub mod Numbering

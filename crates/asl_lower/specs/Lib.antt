@@ -1,0 +1,9 @@
+pub mod Names
+pub mod NamesView
+pub mod Place
+pub mod Lowered
+pub mod Region
+pub mod OutputView
+pub mod ScopeView
+pub mod Facts
+pub mod Layout

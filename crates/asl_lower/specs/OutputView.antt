@@ -1,0 +1,16 @@
+-- What has been emitted, as the values that definitions speak of.
+use Rattle.std.specs.Prelude.{◌≡◌, List, ◌++◌, length}
+use Rattle.asl_code.specs.declared.instr.Instr.{Instr}
+use Rattle.asl_lower.specs.declared.section.Section.{Section}
+use Rattle.asl_lower.specs.declared.output.Output.{Output}
+use Rattle.asl_lower.specs.Place.{Place}
+
+-- the place behind all that has been emitted
+abbrev pub place_of : Output → Place
+place_of o = record { pc = length o.code.items; site = o.sites; section = length o.sections.items }
+
+-- this code and these sections have been added, and the output is at the place behind them
+pub record Adds (old new : Output) (code : List Instr) (sections : List Section) (past : Place) : Type 0 where
+  pub adds_code : new.code.items ≡ old.code.items ++ code
+  pub adds_sections : new.sections.items ≡ old.sections.items ++ sections
+  pub place : place_of new ≡ past

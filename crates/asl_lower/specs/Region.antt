@@ -1,0 +1,111 @@
+-- Sections that are open, bare and inner functions, and where an instruction goes on (docs/SOURCE.md, "Templates").
+use Rattle.std.specs.Prelude.{◌≡◌, ◌≢◌, ℕ, suc, zero, ◌+◌, ◌<◌, ◌≤◌, ◌⊎◌, Bool, true, false, IsTrue, List, [], ◌∷◌, Option, Some, take, slice_get, sum_by, count_by}
+use Rattle.asl_code.specs.declared.image.Function as entry
+use Rattle.asl_code.specs.declared.instr.Instr.{Instr}
+use Rattle.asl_code.specs.declared.instr.Instr.TheVariants as instr
+use Rattle.asl_lower.specs.declared.section.Section.{Section}
+use Rattle.asl_lower.specs.Lowered.{Lowered}
+
+-- the open sections without the innermost (docs/SOURCE.md, "Templates")
+abbrev pub without_innermost : List ℕ → List ℕ
+without_innermost [] = []
+without_innermost (s ∷ opened) = opened
+
+-- the sections that are open behind an instruction: an `acq` opens one, a `rel` closes the innermost (docs/SOURCE.md, "Templates")
+abbrev pub open_behind : Option Instr → List ℕ → List ℕ
+open_behind (Some (instr.Acquire s)) opened = s ∷ opened
+open_behind (Some instr.Release) opened = without_innermost opened
+open_behind i opened = opened
+
+-- the sections that are open before the instruction at a pc, the innermost first (docs/SOURCE.md, "Templates")
+abbrev pub open_at : List Instr → ℕ → List ℕ
+open_at code zero = []
+open_at code (suc pc) = open_behind (slice_get code pc) (open_at code pc)
+
+-- the instruction makes an object; it enters a section (docs/SOURCE.md, "Templates")
+abbrev pub is_new : Instr → Bool
+is_new (instr.New to cells site) = true
+is_new i = false
+
+abbrev pub is_acquire : Instr → Bool
+is_acquire (instr.Acquire s) = true
+is_acquire i = false
+
+-- how many `new`, and how many `acq`, stand before the pc (docs/SOURCE.md, "Templates")
+abbrev pub sites_before : List Instr → ℕ → ℕ
+sites_before code pc = count_by is_new (take pc code)
+
+abbrev pub sections_before : List Instr → ℕ → ℕ
+sections_before code pc = count_by is_acquire (take pc code)
+
+-- the pc is a point of the section: behind its `acq`, and up to its `rel` (docs/SOURCE.md, "Templates")
+pub record IsPoint (s : Section) (pc : ℕ) : Type 0 where
+  pub behind : s.acquire < pc
+  pub within : pc ≤ s.release
+
+-- the pc is a point of the section of this number (docs/SOURCE.md, "Templates")
+abbrev pub InSection : Lowered → ℕ → ℕ → Type 0
+InSection l number pc = (s : Section) × (slice_get l.sections number ≡ Some s) × IsPoint s pc
+
+-- where the body of a function begins (docs/SOURCE.md, "Templates")
+abbrev pub start_of : List entry.Function → ℕ → ℕ
+start_of fs number = sum_by (λ (f : entry.Function). f.len) (take number fs)
+
+-- the pc is in the body of the function of this number (docs/SOURCE.md, "Templates")
+pub record InBody (l : Lowered) (number pc : ℕ) : Type 0 where
+  pub function : entry.Function
+  pub in_table : slice_get l.functions number ≡ Some function
+  pub start : start_of l.functions number ≤ pc
+  pub before_end : pc < start_of l.functions number + function.len
+
+-- the section of this number: its `acq` and its `rel` stand in the body of its function, and behind the `acq` it is
+-- open until the `rel`, around all that is entered in it (docs/SOURCE.md, "Templates")
+pub record IsSection (l : Lowered) (number : ℕ) : Type 0 where
+  pub section : Section
+  pub in_table : slice_get l.sections number ≡ Some section
+  pub enters : slice_get l.code section.acquire ≡ Some (instr.Acquire number)
+  pub leaves : slice_get l.code section.release ≡ Some instr.Release
+  pub before : section.acquire < section.release
+  pub first_inside : InBody l section.function section.acquire
+  pub last_inside : InBody l section.function section.release
+  pub around : open_at l.code section.release ≡ number ∷ open_at l.code section.acquire
+
+-- where control may go on in the same body, from an instruction at a pc (docs/SOURCE.md, "Templates")
+abbrev pub GoesOn : Instr → ℕ → ℕ → Type 0
+GoesOn (instr.Jump target) pc to = to ≡ target
+GoesOn (instr.JumpIfZero test target) pc to = (to ≡ target) ⊎ (to ≡ suc pc)
+GoesOn (instr.Return from) pc to = ⊥
+GoesOn i pc to = to ≡ suc pc
+
+-- `to` is a successor of the instruction at `pc` (docs/SOURCE.md, "Templates")
+abbrev pub IsSuccessor : Lowered → ℕ → ℕ → Type 0
+IsSuccessor l pc to = (i : Instr) × (slice_get l.code pc ≡ Some i) × GoesOn i pc to
+
+-- the instruction at the pc calls the function (docs/SOURCE.md, "Templates")
+abbrev pub CallsAt : Lowered → ℕ → ℕ → Type 0
+CallsAt l pc callee = (to : ℕ) × (first : ℕ) × (slice_get l.code pc ≡ Some (instr.Call to first callee))
+
+-- `main`, and each function that a bare function calls outside a section (docs/SOURCE.md, "Templates")
+pub data IsBare (l : Lowered) : ℕ → Type 0 where
+  Main : IsBare l l.main
+  CalledOutside : (caller pc callee : ℕ) → IsBare l caller → InBody l caller pc → CallsAt l pc callee → open_at l.code pc ≡ [] → IsBare l callee
+
+-- each function that is called inside a section or by an inner function (docs/SOURCE.md, "Templates")
+pub data IsInner (l : Lowered) : ℕ → Type 0 where
+  CalledInside : (pc callee : ℕ) → CallsAt l pc callee → open_at l.code pc ≢ [] → IsInner l callee
+  CalledByInner : (caller pc callee : ℕ) → IsInner l caller → InBody l caller pc → CallsAt l pc callee → IsInner l callee
+
+-- the instruction reads or writes a cell (docs/SOURCE.md, "Templates")
+abbrev pub is_access : Instr → Bool
+is_access (instr.Load to address) = true
+is_access (instr.Store address from) = true
+is_access i = false
+
+-- a bare function has an access outside its sections there (docs/SOURCE.md, "Templates")
+pub record IsBareAccess (l : Lowered) (function pc : ℕ) : Type 0 where
+  pub bare : IsBare l function
+  pub inside : InBody l function pc
+  pub instruction : Instr
+  pub stands : slice_get l.code pc ≡ Some instruction
+  pub access : IsTrue (is_access instruction)
+  pub outside : open_at l.code pc ≡ []

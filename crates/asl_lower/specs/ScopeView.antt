@@ -1,0 +1,14 @@
+-- The scope of a function, as the value that definitions speak of.
+use Rattle.std.specs.Prelude.{map}
+use Rattle.asl_syntax.specs.View.{item_of}
+use Rattle.asl_lower.specs.declared.scope.Scope as code
+use Rattle.asl_lower.specs.Names.{Scope, globals_of, functions_of, function_names}
+use Rattle.asl_lower.specs.NamesView.{names_of}
+
+abbrev pub scope_view : code.Scope → Scope
+scope_view s = record {
+  function = s.function;
+  locals = names_of s.locals.now;
+  globals = globals_of (map item_of s.items.now);
+  functions = function_names (functions_of (map item_of s.items.now));
+}

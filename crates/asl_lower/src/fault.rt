@@ -1,0 +1,18 @@
+use thiserror::Error;
+
+/// Why a program is not lowered. The first that applies is answered.
+#[derive(Clone, Copy, Debug, PartialEq, Eq, Error)]
+pub enum LowerFault {
+    /// The function of this number has more than 64 registers; it is the first.
+    #[error("Registers({0})")]
+    Registers(u16),
+    /// The code has more than 65,535 instructions.
+    #[error("CodeSize")]
+    CodeSize,
+    /// A bare function has an access outside its sections; the pc is the lowest.
+    #[error("AccessOutsideSection({0}, {1})")]
+    AccessOutsideSection(u16, u16),
+    /// The memory ran out.
+    #[error("OutOfMemory")]
+    OutOfMemory,
+}

@@ -1,0 +1,50 @@
+//! Laws of lowerings, as functions that do nothing: what each ensures is the law.
+ghost use Rattle.std.specs.Prelude.{◌≡◌, ◌≢◌, ℕ, List, []};
+ghost use Rattle.asl_syntax.specs.Tree.{Item};
+ghost use Rattle.asl_lower.specs.Lowered.{Lowered, IsLowering};
+ghost use Rattle.asl_lower.specs.Layout.{lowering_of};
+ghost use Rattle.asl_lower.specs.Region.{open_at, InBody, CallsAt, IsBare, IsInner};
+ghost use Rattle.asl_lower.specs.Facts.{IsParted, IsNested, HasSections, ReturnsLast, StaysInside, IsNumbered};
+
+/// Each program has one lowering.
+pub fn one_lowering()
+    ensures there { (is : List Item) → IsLowering is (lowering_of is) }
+    ensures one { (is : List Item) (l m : Lowered) → IsLowering is l → IsLowering is m → l ≡ m }
+{}
+
+/// The bodies of the functions part the code.
+pub fn bodies_part_the_code()
+    ensures { (is : List Item) (l : Lowered) → IsLowering is l → IsParted l }
+{}
+
+/// Sections nest: what is open changes only at `acq` and `rel`, and nothing is open at the ends of a body.
+pub fn sections_nest()
+    ensures { (is : List Item) (l : Lowered) → IsLowering is l → IsNested l }
+{}
+
+/// The table of sections has each section of the code, and no other.
+pub fn sections_are_listed()
+    ensures { (is : List Item) (l : Lowered) → IsLowering is l → HasSections l }
+{}
+
+/// A `ret` ends each body, and stands nowhere else.
+pub fn returns_stand_last()
+    ensures { (is : List Item) (l : Lowered) → IsLowering is l → ReturnsLast l }
+{}
+
+/// Control stays in its body, and in a section until its `rel`.
+pub fn control_stays_inside()
+    ensures { (is : List Item) (l : Lowered) → IsLowering is l → StaysInside l }
+{}
+
+/// Sites and sections are numbered in the order of the code.
+pub fn numbers_follow_the_code()
+    ensures { (is : List Item) (l : Lowered) → IsLowering is l → IsNumbered l }
+{}
+
+/// What a bare function calls outside a section is bare; what is called in a section or by an inner function is inner.
+pub fn calls_pass_on()
+    ensures outside { (l : Lowered) (f pc g : ℕ) → IsBare l f → InBody l f pc → CallsAt l pc g → open_at l.code pc ≡ [] → IsBare l g }
+    ensures inside { (l : Lowered) (pc g : ℕ) → CallsAt l pc g → open_at l.code pc ≢ [] → IsInner l g }
+    ensures inner { (l : Lowered) (f pc g : ℕ) → IsInner l f → InBody l f pc → CallsAt l pc g → IsInner l g }
+{}

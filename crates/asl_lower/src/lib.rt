@@ -1,0 +1,20 @@
+//! The code of a program: each statement by its template, functions one after the other.
+#![tactic(auto)]
+
+mod emit;
+mod fault;
+mod functions;
+mod laws;
+mod locals;
+mod names;
+mod output;
+mod scope;
+mod section;
+mod statements;
+
+pub use fault::LowerFault;
+pub use laws::{
+    bodies_part_the_code, calls_pass_on, control_stays_inside, numbers_follow_the_code,
+    one_lowering, returns_stand_last, sections_are_listed, sections_nest,
+};
+pub use section::Section;

@@ -1,0 +1,46 @@
+//! What the names of a function's body mean.
+
+ghost use Rattle.std.specs.Prelude.{◌≡◌, ◌<◌, ◌≤◌, length, map};
+ghost use Rattle.asl_lower.specs.Names.{globals_of, functions_of};
+ghost use Rattle.asl_syntax.specs.View.{item_of};
+
+use crate::names::{function_number, global_number, number_of};
+use asl_syntax::Name;
+use asl_syntax::tree::Item;
+
+/// A function's number and its locals, among the items of its program.
+#[derive(Clone, Copy)]
+pub struct Scope<'a> {
+    pub function: u16,
+    pub locals: &'a [&'a Name],
+    pub items: &'a [Item],
+    ghost few_locals: { length locals.now ≤ 64 },
+    ghost few_globals: { length (globals_of (map item_of items.now)) ≤ 1024 },
+    ghost few_functions: { length (functions_of (map item_of items.now)) ≤ 256 },
+}
+
+impl Scope<'_> {
+    ghost use Rattle.asl_lower.specs.Names.{register, global_number, function_number};
+    ghost use Rattle.asl_lower.specs.ScopeView.{scope_view};
+
+    /// The register of a local.
+    pub fn register(&self, name: &Name) -> u8
+        ensures { result ≡ register (scope_view self.now) name.now }
+    {
+        number_of(self.locals, name) as u8
+    }
+
+    /// The number of a global.
+    pub fn global(&self, name: &Name) -> u16
+        ensures { result ≡ global_number (scope_view self.now) name.now }
+    {
+        global_number(self.items, name) as u16
+    }
+
+    /// The number of a function.
+    pub fn callee(&self, name: &Name) -> u16
+        ensures { result ≡ function_number (scope_view self.now) name.now }
+    {
+        function_number(self.items, name) as u16
+    }
+}

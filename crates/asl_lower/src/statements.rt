@@ -1,0 +1,88 @@
+//! Emitting the code of statements, each by its template.
+
+ghost use Rattle.std.specs.Prelude.{◌≡◌, ◌+◌, ◌<◌, ◌≤◌, length, IfOk};
+ghost use Rattle.asl_syntax.specs.View.{statement_of, block_of};
+ghost use Rattle.asl_lower.specs.Names.{stmt_arguments, block_arguments};
+ghost use Rattle.asl_lower.specs.Place.{past_stmt, past_block};
+ghost use Rattle.asl_lower.specs.Layout.{stmt_code, block_code, stmt_sections, block_sections};
+ghost use Rattle.asl_lower.specs.OutputView.{Adds, place_of};
+ghost use Rattle.asl_lower.specs.ScopeView.{scope_view};
+
+use crate::emit::emit_value;
+use crate::output::{Full, Output};
+use crate::scope::Scope;
+use asl_code::Instr;
+use asl_syntax::tree::Statement;
+
+/// Emits the code of statements, one after the other.
+#[cycle(emit)]
+pub fn emit_block(out: &mut Output, scope: &Scope<'_>, block: &[Statement]) -> Result<(), Full>
+    requires { length scope.now.locals.now + block_arguments (block_of block.now) ≤ 64 }
+    ensures ok { IfOk result (λ _. Adds out.old out.new (block_code (scope_view scope.now) (block_of block.now) (place_of out.old)) (block_sections (scope_view scope.now) (block_of block.now) (place_of out.old)) (past_block (block_of block.now) (place_of out.old))) }
+    ensures full { result ≡ Err Full.CodeSize → 65535 < (past_block (block_of block.now) (place_of out.old)).pc }
+{
+    for statement in block {
+        emit_statement(out, scope, statement)?;
+    }
+    Ok(())
+}
+
+/// Emits the code of a statement; a jump forward is patched once its target is known.
+#[cycle(emit)]
+fn emit_statement(out: &mut Output, scope: &Scope<'_>, statement: &Statement) -> Result<(), Full>
+    requires { length scope.now.locals.now + stmt_arguments (statement_of statement.now) ≤ 64 }
+    ensures ok { IfOk result (λ _. Adds out.old out.new (stmt_code (scope_view scope.now) (statement_of statement.now) (place_of out.old)) (stmt_sections (scope_view scope.now) (statement_of statement.now) (place_of out.old)) (past_stmt (statement_of statement.now) (place_of out.old))) }
+    ensures full { result ≡ Err Full.CodeSize → 65535 < (past_stmt (statement_of statement.now) (place_of out.old)).pc }
+{
+    match statement {
+        Statement::Assign(x, value) => {
+            let to = scope.register(x);
+            emit_value(out, scope, to, value)
+        }
+        Statement::Store(x, y) => {
+            let address = scope.register(x);
+            let from = scope.register(y);
+            out.push(Instr::Store { address, from })
+        }
+        Statement::Out(x) => {
+            let from = scope.register(x);
+            out.push(Instr::Output { from })
+        }
+        Statement::If(x, first, second) => {
+            let test = scope.register(x);
+            let branch = out.code.len();
+            out.push(Instr::JumpIfZero { test, target: 0 })?;
+            emit_block(out, scope, first)?;
+            if second.is_empty() {
+                let target = out.here();
+                out.patch(branch, Instr::JumpIfZero { test, target });
+                return Ok(());
+            }
+            let leap = out.code.len();
+            out.push(Instr::Jump { target: 0 })?;
+            let target = out.here();
+            out.patch(branch, Instr::JumpIfZero { test, target });
+            emit_block(out, scope, second)?;
+            let target = out.here();
+            out.patch(leap, Instr::Jump { target });
+            Ok(())
+        }
+        Statement::While(x, body) => {
+            let test = scope.register(x);
+            let from = out.here();
+            out.push(Instr::JumpIfZero { test, target: 0 })?;
+            emit_block(out, scope, body)?;
+            out.push(Instr::Jump { target: from })?;
+            let target = out.here();
+            out.patch(usize::from(from), Instr::JumpIfZero { test, target });
+            Ok(())
+        }
+        Statement::Atomic(body) => {
+            let number = out.sections.len();
+            let acquire = out.here();
+            out.enter(scope.function)?;
+            emit_block(out, scope, body)?;
+            out.leave(number, scope.function, acquire)
+        }
+    }
+}
