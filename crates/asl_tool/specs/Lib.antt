@@ -1,4 +1,6 @@
 pub mod Streams
 pub mod Output
+pub mod Program
 pub mod Step
+pub mod Command
 pub mod Tool

@@ -1,14 +1,17 @@
 //! The program `asl` without its process: words, a reader and writers in, a status out.
 #![tactic(auto)]
 
+mod command;
 #[cfg(test)]
 mod fakes;
+mod program;
 mod replies;
 mod step;
 mod streams;
 mod tool;
 mod words;
 
-pub use step::StepFault;
+pub use command::{Command, CommandFault, output_of};
+pub use program::{ProgramFault, read_program};
 pub use streams::{ReadFault, WriteFault};
-pub use tool::{ToolFault, step_program, tool_alone};
+pub use tool::{ToolFault, perform, tool_alone};

@@ -1,46 +1,17 @@
-//! The command `step`: from the text of a program to the lines of its replies.
+//! The command `step`: from a program to the lines of its replies.
 ghost use Rattle.std.specs.Prelude.{◌≡◌, ◌≢◌, ◌↔◌, ◌<◌, IsTrue, IfOk, IfErr, OnOk, length, string_bytes};
 ghost use Rattle.asl_machine.specs.Run.{replies_of};
 ghost use Rattle.asl_machine.specs.Twin.{step_of};
 ghost use Rattle.asl_tool.specs.Output.{step_lines};
-ghost use Rattle.asl_tool.specs.Step.{AllThere, IsRun, IsStepped, IsRefusedRun, IsRefusedStep};
+ghost use Rattle.asl_tool.specs.Step.{AllThere, IsRun, IsRefusedRun};
 
 use crate::replies::push_line;
-use asl_assembler::{AsmFault, assemble};
 use asl_code::Program;
 use asl_machine::{Machine, MachineFault, Reply};
 use std::alloc::{AllocError, Global};
-use thiserror::Error;
-
-/// Why `step` gives no output. Where several apply, the first is answered.
-#[derive(Debug, Drop, Error)]
-pub enum StepFault {
-    /// The input is no program.
-    #[error(transparent)]
-    Program(AsmFault),
-    /// There is no machine of so many threads, the schedule names a thread that is not there, or memory ran out.
-    #[error(transparent)]
-    Machine(MachineFault),
-}
-
-/// The lines of a schedule's replies: the text in `input` is assembled, and a machine of so many threads is stepped.
-pub fn step_text(
-    alloc: Global,
-    threads: u32,
-    schedule: &[u32],
-    input: &[u8],
-) -> Result<String, StepFault>
-    ensures ok { IfOk result (λ text. IsStepped input.now threads schedule.now (string_bytes text)) }
-    ensures err { IfErr result (λ fault. IsRefusedStep input.now threads schedule.now fault) }
-{
-    match assemble(alloc, input) {
-        Ok(program) => program_text(alloc, threads, schedule, &program).map_err(StepFault::Machine),
-        Err(fault) => Err(StepFault::Program(fault)),
-    }
-}
 
 /// The lines of the program's replies.
-fn program_text(
+pub fn program_text(
     alloc: Global,
     threads: u32,
     schedule: &[u32],

@@ -1,8 +1,8 @@
 //! A run of the program: words, a reader and two writers in, the exit status out.
 ghost use Rattle.std.specs.Prelude.{◌≡◌, Some, IsSome, IfSome, OnOk, IfErr, MatchResult};
-ghost use Rattle.asl_tool.specs.Tool.{WritesOutput, Refuses, IsStepStatus, IsTextStatus, EndsWith};
+ghost use Rattle.asl_tool.specs.Tool.{WritesOutput, Refuses, IsCommandStatus, IsTextStatus, EndsWith};
 
-use crate::step::{StepFault, step_text};
+use crate::command::{Command, CommandFault, output_of};
 use crate::streams::{ReadFault, WriteFault, read_whole, write_whole};
 use crate::words::{Invocation, read_words};
 use std::alloc::Global;
@@ -22,9 +22,9 @@ pub enum ToolFault {
     /// The input was not read to its end.
     #[error(transparent)]
     Read(ReadFault),
-    /// The input is no program, or is not run.
+    /// The input is not what the command takes, or its program is not run.
     #[error(transparent)]
-    Step(StepFault),
+    Command(CommandFault),
     /// The output was not written to its end.
     #[error(transparent)]
     Write(WriteFault),
@@ -47,9 +47,7 @@ pub fn tool_alone<R: Read, W: Write, E: Write>(
         (EndsWith (R.remaining reader.old) (W.contents writer.old) (W.contents writer.new)) }
 {
     let status = match read_words(alloc, words) {
-        Ok(Invocation::Step { threads, schedule }) => {
-            stepped(alloc, threads, schedule.as_slice(), reader, writer, errors)
-        }
+        Ok(Invocation::Run(command)) => performed(alloc, &command, reader, writer, errors),
         Ok(Invocation::Help(text)) => shown(text.as_str(), writer, errors),
         Ok(Invocation::WrongUsage(text)) => wrong_usage(text.as_str(), errors),
         Err(_) => status_of(Err(ToolFault::OutOfMemory), errors),
@@ -57,19 +55,18 @@ pub fn tool_alone<R: Read, W: Write, E: Write>(
     Some(status)
 }
 
-/// Steps a program, and answers the status.
-fn stepped<R: Read, W: Write, E: Write>(
+/// Performs a command, and answers the status.
+fn performed<R: Read, W: Write, E: Write>(
     alloc: Global,
-    threads: u32,
-    schedule: &[u32],
+    command: &Command,
     reader: &mut R,
     writer: &mut W,
     errors: &mut E,
 ) -> u8
-    ensures { IsStepStatus (R.remaining reader.old) (W.contents writer.old) (W.contents writer.new) threads
-        schedule.now result }
+    ensures { IsCommandStatus (R.remaining reader.old) (W.contents writer.old) (W.contents writer.new)
+        command.now result }
 {
-    let done = step_program(alloc, threads, schedule, reader, writer);
+    let done = perform(alloc, command, reader, writer);
     status_of(done, errors)
 }
 
@@ -91,44 +88,42 @@ fn wrong_usage<E: Write>(text: &str, errors: &mut E) -> u8
     WRONG_USAGE
 }
 
-/// The command `step`: reads the program, steps it, and writes the lines of its replies.
-pub fn step_program<R: Read, W: Write>(
+/// Performs a command: reads the input to its end, and writes the command's output for it.
+pub fn perform<R: Read, W: Write>(
     alloc: Global,
-    threads: u32,
-    schedule: &[u32],
+    command: &Command,
     reader: &mut R,
     writer: &mut W,
 ) -> Result<(), ToolFault>
     ensures ok { OnOk result
-        (WritesOutput (R.remaining reader.old) (W.contents writer.old) (W.contents writer.new) threads schedule.now) }
+        (WritesOutput (R.remaining reader.old) (W.contents writer.old) (W.contents writer.new) command.now) }
     ensures err { IfErr result
-        (Refuses (R.remaining reader.old) (W.contents writer.old) (W.contents writer.new) threads schedule.now) }
+        (Refuses (R.remaining reader.old) (W.contents writer.old) (W.contents writer.new) command.now) }
 {
     match read_whole(alloc, reader) {
-        Ok(input) => answer(alloc, threads, schedule, input.as_slice(), writer),
+        Ok(input) => answer(alloc, command, input.as_slice(), writer),
         Err(fault) => Err(ToolFault::Read(fault)),
     }
 }
 
-/// Steps the program of the input, and writes the lines of its replies.
+/// Writes the command's output for the input.
 fn answer<W: Write>(
     alloc: Global,
-    threads: u32,
-    schedule: &[u32],
+    command: &Command,
     input: &[u8],
     writer: &mut W,
 ) -> Result<(), ToolFault>
     ensures ok { OnOk result
-        (WritesOutput (Some input.now) (W.contents writer.old) (W.contents writer.new) threads schedule.now) }
+        (WritesOutput (Some input.now) (W.contents writer.old) (W.contents writer.new) command.now) }
     ensures err { IfErr result
-        (Refuses (Some input.now) (W.contents writer.old) (W.contents writer.new) threads schedule.now) }
+        (Refuses (Some input.now) (W.contents writer.old) (W.contents writer.new) command.now) }
 {
-    match step_text(alloc, threads, schedule, input) {
-        Ok(text) => match write_whole(writer, text.as_bytes()) {
+    match output_of(alloc, command, input) {
+        Ok(output) => match write_whole(writer, output.as_slice()) {
             Ok(()) => Ok(()),
             Err(fault) => Err(ToolFault::Write(fault)),
         },
-        Err(fault) => Err(ToolFault::Step(fault)),
+        Err(fault) => Err(ToolFault::Command(fault)),
     }
 }
 

@@ -1,20 +1,16 @@
 //! The words of the command line.
 ghost use Rattle.std.specs.Prelude.{◌≡◌, ◌<◌, ◌^◌, IfSome};
 
+use crate::command::Command;
 use clap::error::ErrorKind;
-use clap::{Arg, ArgAction, ArgMatches, Command, Error};
+use clap::{Arg, ArgAction, ArgMatches, Error};
 use std::alloc::{AllocError, Global};
 
 /// What the words of a command line ask for.
 #[derive(Debug, Drop)]
 pub enum Invocation {
-    /// `step`: read a program, and step its threads in the order of the schedule.
-    Step {
-        /// How many threads the machine has.
-        threads: u32,
-        /// The thread of each step.
-        schedule: Vec<u32>,
-    },
+    /// The words name a command.
+    Run(Command),
     /// The words ask for help: the text to show.
     Help(String),
     /// The words are no legal use: the text that says why.
@@ -22,8 +18,10 @@ pub enum Invocation {
 }
 
 const STEP_HELP: &str =
-    "Reads a program in assembly text from standard input, makes a machine of N threads, \
+    "Reads a program, an image or assembly text, from standard input, makes a machine of N threads, \
     steps the threads in the given order, and writes one line a step: its number, its thread and the reply";
+
+const ASM_HELP: &str = "Reads a program in assembly text from standard input, and writes its image";
 
 /// Judges the words, which are those after the program's name. Only memory can fail.
 pub fn read_words(alloc: Global, words: &[String]) -> Result<Invocation, AllocError> {
@@ -31,24 +29,39 @@ pub fn read_words(alloc: Global, words: &[String]) -> Result<Invocation, AllocEr
     match parsed {
         Ok(matches) => match matches.subcommand() {
             Some(("step", step)) => read_step(alloc, step),
+            Some(("asm", _)) => Ok(Invocation::Run(Command::Assemble)),
             _ => wrong_usage(alloc, "a command is missing"),
         },
         Err(error) => refused(alloc, &error),
     }
 }
 
-fn command<'a>(alloc: Global) -> Result<Command<'a>, AllocError> {
-    let command = Command::new(alloc, "asl")
-        .about("Steps programs of atomic sections under inferred locks")
+fn command<'a>(alloc: Global) -> Result<clap::Command<'a>, AllocError> {
+    let command = clap::Command::new(alloc, "asl")
+        .about("Assembles and steps programs of atomic sections under inferred locks")
         .no_binary_name(true)
         .bin_name("asl")?
         .subcommand_required(true)
         .disable_help_subcommand(true)
+        .subcommand(bare_command(alloc, "asm", "asl asm", ASM_HELP)?)?
         .subcommand(step_command(alloc)?)?;
     Ok(command)
 }
 
-fn step_command<'a>(alloc: Global) -> Result<Command<'a>, AllocError> {
+/// A command that takes no more words.
+fn bare_command<'a>(
+    alloc: Global,
+    name: &'a str,
+    whole_name: &'a str,
+    help: &'a str,
+) -> Result<clap::Command<'a>, AllocError> {
+    let command = clap::Command::new(alloc, name)
+        .about(help)
+        .bin_name(whole_name)?;
+    Ok(command)
+}
+
+fn step_command<'a>(alloc: Global) -> Result<clap::Command<'a>, AllocError> {
     let threads = Arg::new(alloc, "threads")
         .long("threads")
         .value_name("N")
@@ -61,7 +74,7 @@ fn step_command<'a>(alloc: Global) -> Result<Command<'a>, AllocError> {
         .required(true)
         .num_args(1..)
         .action(ArgAction::Append);
-    let command = Command::new(alloc, "step")
+    let command = clap::Command::new(alloc, "step")
         .about(STEP_HELP)
         .bin_name("asl step")?
         .arg(threads)?
@@ -83,7 +96,7 @@ fn read_step(alloc: Global, matches: &ArgMatches<'_>) -> Result<Invocation, Allo
             None => return not_a_number(alloc, word),
         }
     }
-    Ok(Invocation::Step { threads, schedule })
+    Ok(Invocation::Run(Command::Step { threads, schedule }))
 }
 
 /// The number that the digits spell, if they are only digits, at least one, and the number is below 2^32.

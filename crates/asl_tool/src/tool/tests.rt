@@ -18,7 +18,16 @@ fn split(alloc: Global, line: &str) -> Result<Vec<String>, AllocError> {
     Ok(words)
 }
 
-/// Runs the words on the input, and compares the status and what was written.
+/// The image of the counter: 94 bytes.
+const IMAGE: &[u8; 94] =
+    b"ASLM\x00\x01\x00\x01\x00\x01\x00\x00\x00\x01\x01\x05\x00\x08\x00\x00\x00\x08\
+    \x08\x01\x00\x00\x00\x00\x00\x00\x12\x00\x00\x00\x00\x00\x00\x00\
+    \x0a\x02\x01\x00\x00\x00\x00\x00\x01\x03\x00\x00\x00\x00\x00\x01\
+    \x04\x04\x02\x03\x00\x00\x00\x00\x0b\x01\x04\x00\x00\x00\x00\x00\
+    \x13\x00\x00\x00\x00\x00\x00\x00\x10\x00\x00\x00\x00\x00\x00\x00\
+    \x00\x01\x00\x01\x02\x01\x01\x00";
+
+/// Runs the words on a text, and compares the status and what was written.
 fn expect_run(
     rt: &(impl Abort + AllocGlobal),
     words: &str,
@@ -27,11 +36,24 @@ fn expect_run(
     output: &str,
     said: &str,
 ) -> Result<(), Fail> {
+    let input = input.as_bytes();
+    expect_bytes(rt, words, input, status, output.as_bytes(), said)
+}
+
+/// Runs the words on bytes, and compares the status and what was written.
+fn expect_bytes(
+    rt: &(impl Abort + AllocGlobal),
+    words: &str,
+    input: &[u8],
+    status: u8,
+    output: &[u8],
+    said: &str,
+) -> Result<(), Fail> {
     let alloc = rt.alloc();
     let words = split(alloc, words)?;
     let mut writer = Vec::new(alloc);
     let mut errors = Vec::new(alloc);
-    let mut reader = input.as_bytes();
+    let mut reader = input;
     let got = tool_alone(
         alloc,
         words.as_slice(),
@@ -40,7 +62,7 @@ fn expect_run(
         &mut errors,
     );
     assert_eq!(rt; got, Some(status));
-    assert_eq!(rt; writer.as_slice(), output.as_bytes());
+    assert_eq!(rt; writer.as_slice(), output);
     assert_eq!(rt; errors.as_slice(), said.as_bytes());
     Ok(())
 }
@@ -209,6 +231,48 @@ fn refusals_come_in_order(rt: HostRuntime) -> Result<(), Fail> {
         1,
         "",
         "asl: BadThread\n",
+    )
+}
+
+#[test]
+fn a_text_becomes_an_image(rt: HostRuntime) -> Result<(), Fail> {
+    expect_bytes(&rt, "asm", COUNTER.as_bytes(), 0, IMAGE, "")?;
+    let spaced = COUNTER.replace(rt.alloc(), "\n", "\r\n\n")?;
+    expect_bytes(&rt, "asm", spaced.as_bytes(), 0, IMAGE, "")?;
+    expect_bytes(&rt, "asm", IMAGE, 1, b"", "asl: Line(1)\n")?;
+    expect_run(
+        &rt,
+        "asm",
+        "version 1\nclasses 0\nentry 0\n",
+        1,
+        "",
+        "asl: Verify(NoEntry)\n",
+    )
+}
+
+#[test]
+fn an_image_steps_as_its_text(rt: HostRuntime) -> Result<(), Fail> {
+    let words = "step --threads 2 0 0 1 1";
+    let output = b"0 0 ran\n1 0 ran\n2 1 ran\n3 1 blocked\n";
+    expect_bytes(&rt, words, IMAGE, 0, output, "")?;
+    expect_bytes(&rt, words, &IMAGE[..93], 1, b"", "asl: Truncated(93)\n")?;
+    expect_bytes(&rt, words, &IMAGE[..4], 1, b"", "asl: Truncated(4)\n")?;
+    expect_bytes(&rt, words, &IMAGE[..3], 1, b"", "asl: Line(1)\n")?;
+    expect_bytes(&rt, words, b"ASLMASLM", 1, b"", "asl: Version\n")?;
+    expect_bytes(&rt, words, b" ASLM", 1, b"", "asl: Line(1)\n")
+}
+
+#[test]
+fn an_image_ends_where_it_ends(rt: HostRuntime) -> Result<(), Fail> {
+    let mut input = IMAGE.as_slice().to_vec(rt.alloc())?;
+    input.extend_from_slice(COUNTER.as_bytes())?;
+    expect_bytes(
+        &rt,
+        "step --threads 1 0",
+        input.as_slice(),
+        1,
+        b"",
+        "asl: Trailing(94)\n",
     )
 }
 

@@ -1,5 +1,6 @@
 //! Which words parse, and as what.
 use super::{Invocation, read_words};
+use crate::command::Command;
 use std::alloc::{AllocError, Global};
 use std::process::Abort;
 use std::test::Fail;
@@ -7,6 +8,7 @@ use std::test::Fail;
 /// What a word list must be read as.
 enum Wanted {
     Step(u32, &'static [u32]),
+    Assemble,
     Help,
     WrongUsage,
 }
@@ -24,9 +26,10 @@ fn split(alloc: Global, line: &str) -> Result<Vec<String>, AllocError> {
 
 fn is_as_wanted(got: &Invocation, wanted: &Wanted) -> bool {
     match (got, wanted) {
-        (Invocation::Step { threads, schedule }, Wanted::Step(count, order)) => {
+        (Invocation::Run(Command::Step { threads, schedule }), Wanted::Step(count, order)) => {
             threads == count && schedule.as_slice() == *order
         }
+        (Invocation::Run(Command::Assemble), Wanted::Assemble) => true,
         (Invocation::Help(text), Wanted::Help) => !text.is_empty(),
         (Invocation::WrongUsage(text), Wanted::WrongUsage) => !text.is_empty(),
         _ => false,
@@ -68,6 +71,11 @@ fn steps(rt: HostRuntime) -> Result<(), Fail> {
 }
 
 #[test]
+fn texts_and_images(rt: HostRuntime) -> Result<(), Fail> {
+    check(&rt, &[("asm", Wanted::Assemble)])
+}
+
+#[test]
 fn help(rt: HostRuntime) -> Result<(), Fail> {
     check(
         &rt,
@@ -76,6 +84,7 @@ fn help(rt: HostRuntime) -> Result<(), Fail> {
             ("-h", Wanted::Help),
             ("step --help", Wanted::Help),
             ("step -h", Wanted::Help),
+            ("asm --help", Wanted::Help),
             ("step --threads 2 --help", Wanted::Help),
         ],
     )
@@ -91,7 +100,10 @@ fn wrong_commands(rt: HostRuntime) -> Result<(), Fail> {
             ("Step --threads 1 0", Wanted::WrongUsage),
             ("ste --threads 1 0", Wanted::WrongUsage),
             ("steps --threads 1 0", Wanted::WrongUsage),
-            ("asm", Wanted::WrongUsage),
+            ("asm asm", Wanted::WrongUsage),
+            ("asm --threads 1", Wanted::WrongUsage),
+            ("dis 0", Wanted::WrongUsage),
+            ("asm -", Wanted::WrongUsage),
             ("run --threads 1 --workers 1 --limit 5", Wanted::WrongUsage),
             ("--threads 1 step 0", Wanted::WrongUsage),
             ("--version", Wanted::WrongUsage),

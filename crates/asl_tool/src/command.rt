@@ -1,0 +1,88 @@
+//! The commands: from the bytes of an input to those of the output.
+ghost use Rattle.std.specs.Prelude.{IfOk, IfErr};
+ghost use Rattle.asl_tool.specs.Step.{IsStepped};
+ghost use Rattle.asl_tool.specs.Command.{IsAssembled, IsOutput, IsRefused, IsRefusedStep, IsRefusedText};
+
+use crate::program::{ProgramFault, read_program};
+use crate::step::program_text;
+use asl_assembler::assemble;
+use asl_loader::store;
+use asl_machine::MachineFault;
+use std::alloc::Global;
+use thiserror::Error;
+
+/// What is made of an input.
+#[derive(Debug, Drop)]
+pub enum Command {
+    /// `step`: the lines of the replies of the input's program.
+    Step {
+        /// How many threads the machine has.
+        threads: u32,
+        /// The thread of each step.
+        schedule: Vec<u32>,
+    },
+    /// `asm`: the image of the input, which is assembly text.
+    Assemble,
+}
+
+/// Why a command gives no output. Where several apply, the first is answered.
+#[derive(Debug, Drop, Error)]
+pub enum CommandFault {
+    /// The input is not what the command takes.
+    #[error(transparent)]
+    Program(ProgramFault),
+    /// There is no machine of so many threads, the schedule names a thread that is not there, or memory ran out.
+    #[error(transparent)]
+    Machine(MachineFault),
+    /// Memory ran out.
+    #[error("OutOfMemory")]
+    OutOfMemory,
+}
+
+/// The output of the command for the input.
+pub fn output_of(alloc: Global, command: &Command, input: &[u8]) -> Result<Vec<u8>, CommandFault>
+    ensures ok { IfOk result (λ bytes. IsOutput command.now input.now bytes.items) }
+    ensures err { IfErr result (λ fault. IsRefused command.now input.now fault) }
+{
+    match command {
+        Command::Step { threads, schedule } => {
+            stepped(alloc, *threads, schedule.as_slice(), input)
+        }
+        Command::Assemble => assembled(alloc, input),
+    }
+}
+
+/// The lines of the replies of the input's program.
+fn stepped(
+    alloc: Global,
+    threads: u32,
+    schedule: &[u32],
+    input: &[u8],
+) -> Result<Vec<u8>, CommandFault>
+    ensures ok { IfOk result (λ bytes. IsStepped input.now threads schedule.now bytes.items) }
+    ensures err { IfErr result (λ fault. IsRefusedStep input.now threads schedule.now fault) }
+{
+    let program = match read_program(alloc, input) {
+        Ok(program) => program,
+        Err(fault) => return Err(CommandFault::Program(fault)),
+    };
+    match program_text(alloc, threads, schedule, &program) {
+        Ok(text) => Ok(text.into_bytes()),
+        Err(fault) => Err(CommandFault::Machine(fault)),
+    }
+}
+
+/// The image of the text.
+fn assembled(alloc: Global, text: &[u8]) -> Result<Vec<u8>, CommandFault>
+    ensures ok { IfOk result (λ bytes. IsAssembled text.now bytes.items) }
+    ensures err { IfErr result (λ fault. IsRefusedText text.now fault) }
+{
+    let program = match assemble(alloc, text) {
+        Ok(program) => program,
+        Err(fault) => return Err(CommandFault::Program(ProgramFault::Text(fault))),
+    };
+    match store(alloc, &program) {
+        Ok(bytes) => Ok(bytes),
+        Err(_) => Err(CommandFault::OutOfMemory),
+    }
+}
