@@ -11,3 +11,7 @@ pub mod Slices
 pub mod Laid
 pub mod Emits
 pub mod Numbering
+pub mod Owned
+pub mod Marks
+pub mod Outside
+pub mod Lowest

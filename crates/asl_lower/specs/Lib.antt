@@ -7,3 +7,4 @@ pub mod OutputView
 pub mod ScopeView
 pub mod Facts
 pub mod Layout
+pub mod Reach

@@ -1,6 +1,7 @@
 //! The code of a program: each statement by its template, functions one after the other.
 #![tactic(auto)]
 
+mod bare;
 mod emit;
 mod fault;
 mod functions;
