@@ -1,9 +1,10 @@
 //! Laws of lowerings, as functions that do nothing: what each ensures is the law.
-ghost use Rattle.std.specs.Prelude.{◌≡◌, ◌≢◌, ℕ, List, []};
+ghost use Rattle.std.specs.Prelude.{◌≡◌, ◌≢◌, ℕ, List, [], IsTrue, slice_get};
+ghost use Rattle.asl_code.specs.declared.instr.Instr.{Instr};
 ghost use Rattle.asl_syntax.specs.Tree.{Item};
 ghost use Rattle.asl_lower.specs.Lowered.{Lowered, IsLowering};
 ghost use Rattle.asl_lower.specs.Layout.{lowering_of};
-ghost use Rattle.asl_lower.specs.Region.{open_at, InBody, CallsAt, IsBare, IsInner};
+ghost use Rattle.asl_lower.specs.Region.{open_at, InBody, CallsAt, IsBare, IsInner, is_access, IsBareAccess};
 ghost use Rattle.asl_lower.specs.Facts.{IsParted, IsNested, HasSections, ReturnsLast, StaysInside, IsNumbered};
 
 /// Each program has one lowering.
@@ -47,4 +48,9 @@ pub fn calls_pass_on()
     ensures outside { (l : Lowered) (f pc g : ℕ) → IsBare l f → InBody l f pc → CallsAt l pc g → open_at l.code pc ≡ [] → IsBare l g }
     ensures inside { (l : Lowered) (pc g : ℕ) → CallsAt l pc g → open_at l.code pc ≢ [] → IsInner l g }
     ensures inner { (l : Lowered) (f pc g : ℕ) → IsInner l f → InBody l f pc → CallsAt l pc g → IsInner l g }
+{}
+
+/// Where no bare function has an access outside its sections, each access in the body of a bare function is in a section.
+pub fn bare_accesses_are_in_sections()
+    ensures { (l : Lowered) → ((g q : ℕ) → ¬ IsBareAccess l g q) → (f pc : ℕ) (i : Instr) → IsBare l f → InBody l f pc → slice_get l.code pc ≡ Some i → IsTrue (is_access i) → open_at l.code pc ≢ [] }
 {}

@@ -15,7 +15,7 @@ mod statements;
 
 pub use fault::LowerFault;
 pub use laws::{
-    bodies_part_the_code, calls_pass_on, control_stays_inside, numbers_follow_the_code,
-    one_lowering, returns_stand_last, sections_are_listed, sections_nest,
+    bare_accesses_are_in_sections, bodies_part_the_code, calls_pass_on, control_stays_inside,
+    numbers_follow_the_code, one_lowering, returns_stand_last, sections_are_listed, sections_nest,
 };
 pub use section::Section;
