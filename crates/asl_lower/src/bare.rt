@@ -204,3 +204,83 @@ fn is_access(instr: &Instr) -> bool
 {
     matches!(instr, Instr::Load { .. } | Instr::Store { .. })
 }
+
+#[cfg(test)]
+mod tests {
+    use super::*;
+    use std::test::Fail;
+
+    const END: Instr = Instr::Return { from: 0 };
+
+    const LOAD: Instr = Instr::Load { to: 0, address: 0 };
+
+    const ENTER: Instr = Instr::Acquire { list: 0 };
+
+    fn call(function: u16) -> Instr {
+        Instr::Call {
+            to: 0,
+            first: 0,
+            function,
+        }
+    }
+
+    fn body(len: u32) -> Function
+        ensures { result.len ≡ len }
+    {
+        Function {
+            params: 0,
+            regs: 1,
+            len,
+        }
+    }
+
+    fn two_calls_away(alloc: Global) -> Result<Option<(u16, u16)>, AllocError> {
+        let functions = [body(2), body(2), body(2)];
+        let code = [call(1), END, call(2), END, LOAD, END];
+        first_bare_access(alloc, &functions, 0, &code)
+    }
+
+    fn called_in_a_section(alloc: Global) -> Result<Option<(u16, u16)>, AllocError> {
+        let functions = [body(4), body(2)];
+        let code = [ENTER, call(1), Instr::Release, END, LOAD, END];
+        first_bare_access(alloc, &functions, 0, &code)
+    }
+
+    fn called_in_a_section_and_behind_it(alloc: Global) -> Result<Option<(u16, u16)>, AllocError> {
+        let functions = [body(5), body(2)];
+        let code = [ENTER, call(1), Instr::Release, call(1), END, LOAD, END];
+        first_bare_access(alloc, &functions, 0, &code)
+    }
+
+    fn called_by_nobody(alloc: Global) -> Result<Option<(u16, u16)>, AllocError> {
+        let functions = [body(2), body(6)];
+        let code = [
+            LOAD,
+            END,
+            ENTER,
+            ENTER,
+            Instr::Release,
+            LOAD,
+            Instr::Release,
+            END,
+        ];
+        first_bare_access(alloc, &functions, 1, &code)
+    }
+
+    fn called_in_front_of_main(alloc: Global) -> Result<Option<(u16, u16)>, AllocError> {
+        let functions = [body(2), body(3)];
+        let code = [LOAD, END, LOAD, call(0), END];
+        first_bare_access(alloc, &functions, 1, &code)
+    }
+
+    #[test]
+    fn the_lowest_access_outside_sections_is_found(rt: HostRuntime) -> Result<(), Fail> {
+        let alloc = rt.alloc();
+        assert!(rt; two_calls_away(alloc)? == Some((2, 4)));
+        assert!(rt; called_in_a_section(alloc)?.is_none());
+        assert!(rt; called_in_a_section_and_behind_it(alloc)? == Some((1, 5)));
+        assert!(rt; called_by_nobody(alloc)?.is_none());
+        assert!(rt; called_in_front_of_main(alloc)? == Some((0, 0)));
+        Ok(())
+    }
+}
