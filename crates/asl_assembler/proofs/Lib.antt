@@ -7,3 +7,6 @@ pub mod Instrs
 pub mod Meanings
 pub mod Listings
 pub mod Texts
+pub mod Writes
+pub mod Prints
+pub mod Bodies

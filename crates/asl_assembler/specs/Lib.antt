@@ -1,3 +1,5 @@
 pub mod Words
 pub mod Text
 pub mod Reading
+pub mod Canonical
+pub mod Writing

@@ -2,16 +2,19 @@
 #![tactic(auto)]
 
 mod assembly;
+mod disassembly;
 mod draft;
 mod keyword;
 pub mod laws;
 mod line;
 mod number;
 mod operand;
+mod print;
 mod read;
 mod words;
 
 pub use assembly::{AsmFault, assemble};
+pub use disassembly::disassemble;
 
 #[cfg(test)]
 mod tests;

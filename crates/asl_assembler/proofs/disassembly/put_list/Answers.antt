@@ -1,0 +1,17 @@
+use Rattle.std.proofs.Common.{List, string_bytes}
+use Rattle.std.proofs.lemmas.Result.{on_ok_weaker}
+use Rattle.asl_code.specs.declared.lock.Lock.{Lock}
+use Rattle.asl_assembler.specs.declared.line.Line.TheVariants as line
+use Rattle.asl_assembler.specs.Text.{list_lines}
+use Rattle.asl_assembler.proofs.Prints.{line_then, lines_mapped, as_one}
+use Rattle.asl_assembler.proofs.disassembly.put_list.Goals as goal
+
+pub returns : goal.returns
+returns c =
+    let old = string_bytes c.args.text.now in
+    let mid = string_bytes c.push_str.new.self in
+    let new = string_bytes c.put_locks.new.text in
+    on_ok_weaker c.put_locks.result
+    (λ w. as_one (List Lock) list_lines old new c.args.locks.now
+    (line_then old mid new line.List _ (record { fits = record { fields = (tt, tt); path = tt }; added = c.in_ok-push_str.ensures.bytes }) (lines_mapped Lock line.Lock mid new c.args.locks.now w)))
+    c.put_locks.ensures

@@ -1,0 +1,110 @@
+//! Lines of the canonical text.
+ghost use Rattle.std.specs.Prelude.{◌≡◌, OnOk, string_bytes};
+ghost use Rattle.asl_code.specs.declared.lock.Base.{Base};
+ghost use Rattle.asl_code.specs.declared.lock.Lock.TheVariants as lock;
+ghost use Rattle.asl_code.specs.declared.path.Op.{Op};
+ghost use Rattle.asl_assembler.specs.declared.line.Line.TheVariants as line;
+ghost use Rattle.asl_assembler.specs.Text.{effect_token};
+ghost use Rattle.asl_assembler.specs.Canonical.{word_of};
+ghost use Rattle.asl_assembler.specs.Writing.{Writes, WritesEach, WritesLine, FitsBase, base_text, FitsOp, op_text};
+
+use asl_code::{Base, Effect, Expr, Instr, Lock, Op};
+use std::alloc::AllocError;
+
+/// The line of an instruction.
+pub(crate) fn put_instr(text: &mut String, instr: &Instr) -> Result<(), AllocError>
+    ensures { OnOk result (WritesLine (string_bytes text.old) (string_bytes text.new) (line.Instruction instr.now)) }
+{
+    match *instr {
+        Instr::SetInt { to, value } => write!(text, "int r{to}, {value}\n"),
+        Instr::SetNull { to } => write!(text, "null r{to}\n"),
+        Instr::Move { to, from } => write!(text, "mov r{to}, r{from}\n"),
+        Instr::Add { to, left, right } => write!(text, "add r{to}, r{left}, r{right}\n"),
+        Instr::Subtract { to, left, right } => write!(text, "sub r{to}, r{left}, r{right}\n"),
+        Instr::LessThan { to, left, right } => write!(text, "lt r{to}, r{left}, r{right}\n"),
+        Instr::Equals { to, left, right } => write!(text, "eq r{to}, r{left}, r{right}\n"),
+        Instr::GlobalAddress { to, global } => write!(text, "glob r{to}, g{global}\n"),
+        Instr::FieldAddress { to, from, offset } => {
+            write!(text, "field r{to}, r{from}, {offset}\n")
+        }
+        Instr::Load { to, address } => write!(text, "load r{to}, r{address}\n"),
+        Instr::Store { address, from } => write!(text, "store r{address}, r{from}\n"),
+        Instr::New { to, cells, class } => write!(text, "new r{to}, {cells}, {class}\n"),
+        Instr::Jump { target } => write!(text, "jmp {target}\n"),
+        Instr::JumpIfZero { test, target } => write!(text, "jz r{test}, {target}\n"),
+        Instr::Call {
+            to,
+            first,
+            function,
+        } => write!(text, "call r{to}, r{first}, {function}\n"),
+        Instr::Return { from } => write!(text, "ret r{from}\n"),
+        Instr::Output { from } => write!(text, "out r{from}\n"),
+        Instr::Acquire { list } => write!(text, "acq {list}\n"),
+        Instr::Release => text.push_str("rel\n"),
+    }
+}
+
+/// The word of an effect.
+fn effect_name(effect: Effect) -> &'static str
+    ensures { result.now ≡ word_of (effect_token effect) }
+{
+    match effect {
+        Effect::Read => "read",
+        Effect::Write => "write",
+    }
+}
+
+fn put_base(text: &mut String, base: Base) -> Result<(), AllocError>
+    ensures { OnOk result (Writes Base FitsBase base_text (string_bytes text.old) (string_bytes text.new) base) }
+{
+    match base {
+        Base::Reg(register) => write!(text, "r{register}"),
+        Base::Global(global) => write!(text, "g{global}"),
+    }
+}
+
+fn put_op(text: &mut String, op: Op) -> Result<(), AllocError>
+    ensures { OnOk result (Writes Op FitsOp op_text (string_bytes text.old) (string_bytes text.new) op) }
+{
+    match op {
+        Op::Deref => text.push_str(" *"),
+        Op::Off(offset) => write!(text, " .{offset}"),
+    }
+}
+
+fn put_ops(text: &mut String, ops: &[Op]) -> Result<(), AllocError>
+    ensures { OnOk result (WritesEach Op FitsOp op_text (string_bytes text.old) (string_bytes text.new) ops.now) }
+{
+    for op in ops {
+        put_op(text, *op)?;
+    }
+    Ok(())
+}
+
+fn put_expr(text: &mut String, expr: &Expr, effect: Effect) -> Result<(), AllocError>
+    ensures { OnOk result (WritesLine (string_bytes text.old) (string_bytes text.new) (line.Lock (lock.Expr expr.now effect))) }
+{
+    text.push_str("expr ")?;
+    put_base(text, expr.base)?;
+    put_ops(text, expr.path.as_slice())?;
+    let effect = effect_name(effect);
+    write!(text, " {effect}\n")
+}
+
+/// The line of a lock.
+pub(crate) fn put_lock(text: &mut String, lock: &Lock) -> Result<(), AllocError>
+    ensures { OnOk result (WritesLine (string_bytes text.old) (string_bytes text.new) (line.Lock lock.now)) }
+{
+    match lock {
+        Lock::Root(effect) => {
+            let effect = effect_name(*effect);
+            write!(text, "root {effect}\n")
+        }
+        Lock::Class(class, effect) => {
+            let class = *class;
+            let effect = effect_name(*effect);
+            write!(text, "class {class} {effect}\n")
+        }
+        Lock::Expr(expr, effect) => put_expr(text, expr, *effect),
+    }
+}
