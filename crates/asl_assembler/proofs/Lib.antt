@@ -10,3 +10,6 @@ pub mod Texts
 pub mod Writes
 pub mod Prints
 pub mod Bodies
+pub mod Decimals
+pub mod Lines
+pub mod Canonicals

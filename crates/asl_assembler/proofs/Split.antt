@@ -41,8 +41,8 @@ past_gap (b ∷ bs) =
 word_more : (b : ℕ) (bs : List ℕ) → is_separator b ≡ false → prefix_len is_word_byte (b ∷ bs) ≡ suc (prefix_len is_word_byte bs)
 word_more b bs h = rw h (one-add (prefix_len is_word_byte bs))
 
-joined : (b c : ℕ) (bs : List ℕ) → is_separator b ≡ false → is_separator c ≡ false → words_of (b ∷ c ∷ bs) ≡ with_first b (words_of (c ∷ bs))
-joined b c bs h k = rw (h, k) refl
+pub goes_on : (b c : ℕ) (bs : List ℕ) → is_separator b ≡ false → is_separator c ≡ false → words_of (b ∷ c ∷ bs) ≡ with_first b (words_of (c ∷ bs))
+goes_on b c bs h k = rw (h, k) refl
 
 ended : (b c : ℕ) (bs : List ℕ) → is_separator b ≡ false → is_separator c ≡ true → words_of (b ∷ c ∷ bs) ≡ (b ∷ []) ∷ words_of (c ∷ bs)
 ended b c bs h k = rw (h, k) refl
@@ -55,7 +55,7 @@ whole_word b [] h = rw (word_more b [] h) (rw h refl)
 whole_word b (c ∷ bs) h =
     rw (word_more b (c ∷ bs) h) (elim (cases_Bool (is_separator c)) [
       | inl k ↦ rw (no_more c bs k) (ended b c bs h k)
-      | inr k ↦ joined b c bs h k ∙ ap (with_first b) (whole_word c bs k)
+      | inr k ↦ goes_on b c bs h k ∙ ap (with_first b) (whole_word c bs k)
     ])
 
 -- The first word of a line that has one.

@@ -4,7 +4,7 @@ ghost use Rattle.asl_code.specs.declared.instr.Instr.{Instr};
 ghost use Rattle.asl_code.specs.declared.lock.Lock.{Lock};
 ghost use Rattle.asl_assembler.specs.declared.line.Line.{Line};
 ghost use Rattle.asl_assembler.specs.declared.line.Line.TheVariants as line;
-ghost use Rattle.asl_assembler.specs.Text.{Body};
+ghost use Rattle.asl_assembler.specs.Text.{Body, Spells};
 ghost use Rattle.asl_assembler.specs.Canonical.{bodies, canonical_text, line_text, FitsLine, FitsText};
 ghost use Rattle.asl_assembler.specs.Writing.{Writes, WritesEach, WritesLine, FitsGlobal, global_text, FitsInstr, instr_text};
 ghost use Rattle.asl_assembler.specs.Writing.{FitsLock, lock_text, FitsBody, body_text, FitsList, list_text};
@@ -15,7 +15,8 @@ use std::alloc::{AllocError, Global};
 
 /// The canonical text of the program (`docs/ASSEMBLY.md`). Nothing is refused, unless memory runs out.
 pub fn disassemble(alloc: Global, program: &Program) -> Result<Vec<u8>, AllocError>
-    ensures { IfOk result (λ text. text.items ≡ canonical_text program.now) }
+    ensures canonical { IfOk result (λ text. text.items ≡ canonical_text program.now) }
+    ensures spelled { IfOk result (λ text. Spells text.items program.now) }
 {
     let mut text = String::new(alloc);
     put_image(&mut text, program.image())?;

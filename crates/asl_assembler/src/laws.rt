@@ -3,6 +3,8 @@ ghost use Rattle.std.specs.Prelude.{◌≡◌, List, ℕ};
 ghost use Rattle.asl_code.specs.declared.image.Image.{Image};
 ghost use Rattle.asl_assembler.specs.Words.{lines_of};
 ghost use Rattle.asl_assembler.specs.Text.{Spells, IsBadLine};
+ghost use Rattle.asl_assembler.specs.Canonical.{canonical_text, FitsText};
+ghost use Rattle.asl_code.specs.Verified.{IsVerified};
 
 /// A text spells one image at the most, and has a bad line exactly where it spells none; one line at the most is the
 /// bad one.
@@ -10,4 +12,13 @@ pub fn texts_spell_one_image()
     ensures image { (text : List ℕ) (image other : Image) → Spells text image → Spells text other → image ≡ other }
     ensures line { (text : List ℕ) (number other : ℕ) → IsBadLine (lines_of text) number → IsBadLine (lines_of text) other → number ≡ other }
     ensures either { (text : List ℕ) (image : Image) (number : ℕ) → Spells text image → IsBadLine (lines_of text) number → ⊥ }
+{}
+
+/// The canonical text of a verified image that some text spells, or whose numbers fit their fields, spells this image and
+/// no other. So to assemble what was disassembled gives the program back.
+pub fn canonical_texts_are_spelled()
+    ensures spelled { (image : Image) → IsVerified image → FitsText image → Spells (canonical_text image) image }
+    ensures fits { (image : Image) (text : List ℕ) → IsVerified image → Spells text image → FitsText image }
+    ensures back { (image other : Image) (text : List ℕ) → IsVerified image → Spells text image
+        → Spells (canonical_text image) other → other ≡ image }
 {}

@@ -1,6 +1,17 @@
+use Rattle.std.proofs.Common.{◌≡◌, ℕ, List, ◌++◌, ◌∙◌, ap, sym, subst, arith, string_bytes}
 use Rattle.asl_code.proofs.FitsLaws.{image_fits}
-use Rattle.std.proofs.Common.{arith}
+use Rattle.asl_assembler.specs.Text.{Spells}
+use Rattle.asl_assembler.specs.Canonical.{canonical_text}
+use Rattle.asl_assembler.proofs.Canonicals.{canonical_spelled}
 use Rattle.asl_assembler.proofs.disassembly.disassemble.Goals as goal
 
 pub put_image-requires : goal.put_image-requires
 put_image-requires c = rw c.image.ensures.image (let f = image_fits c.args.program.now c.image.ensures.verified in omega (arith, f.few_classes))
+
+pub returns-clause-spelled : goal.returns-clause-spelled
+returns-clause-spelled c =
+    let i = c.args.program.now in
+    let w = rw c.image.ensures.image at c.in_ok-put_image.ensures in
+    let bytes : c.into_bytes.result.items ≡ string_bytes c.put_image.new.text = ap (λ v. v.items) c.into_bytes.ensures.value in
+    let all : c.into_bytes.result.items ≡ canonical_text i = bytes ∙ w.added ∙ ap (λ (t : List ℕ). t ++ canonical_text i) c.new-text.ensures.bytes in
+    subst (λ (t : List ℕ). Spells t i) (sym all) (canonical_spelled i c.image.ensures.verified w.fits)
