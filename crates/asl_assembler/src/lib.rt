@@ -17,4 +17,6 @@ pub use assembly::{AsmFault, assemble};
 pub use disassembly::disassemble;
 
 #[cfg(test)]
+mod canonical_tests;
+#[cfg(test)]
 mod tests;
