@@ -4,3 +4,5 @@ pub mod Scan
 pub mod Viable
 pub mod Judged
 pub mod Reading
+pub mod Real
+pub mod Apart

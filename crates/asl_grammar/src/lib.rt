@@ -2,6 +2,7 @@
 #![tactic(auto)]
 
 pub mod control;
+pub mod laws;
 pub mod lexer;
 pub mod recognizer;
 pub mod token;
