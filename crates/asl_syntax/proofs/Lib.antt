@@ -7,3 +7,10 @@ pub mod KnownNames
 pub mod Made
 pub mod Digits
 pub mod Spaced
+pub mod Decimals
+pub mod Respelled
+pub mod Narrow
+pub mod Leaner
+pub mod Named
+pub mod Within
+pub mod Printing

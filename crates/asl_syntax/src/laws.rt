@@ -1,14 +1,15 @@
 //! Laws of texts and trees, as functions that do nothing: what each ensures is the law.
 
-ghost use Rattle.std.specs.Prelude.{◌≡◌, ℕ, List, []};
+ghost use Rattle.std.specs.Prelude.{◌≡◌, ℕ, List, [], IsTrue};
 ghost use Rattle.asl_grammar.specs.Token.{Spot};
+ghost use Rattle.asl_grammar.specs.Lex.{are_tokens, tokens_of};
 ghost use Rattle.asl_grammar.specs.Grammar.{bare};
 ghost use Rattle.asl_grammar.specs.Spelling.{program_on};
 ghost use Rattle.asl_syntax.specs.Tree.{Item};
 ghost use Rattle.asl_syntax.specs.Spelled.{Spells};
-ghost use Rattle.asl_syntax.specs.Parsed.{Parses};
+ghost use Rattle.asl_syntax.specs.Parsed.{IsLexed, Parses};
 ghost use Rattle.asl_syntax.specs.Writing.{writing};
-ghost use Rattle.asl_syntax.specs.Printed.{items_bytes, spaced};
+ghost use Rattle.asl_syntax.specs.Printed.{items_bytes, spaced, printed};
 
 /// The tokens of a text spell one tree at the most, so a text has one tree at the most.
 pub fn a_text_has_one_tree()
@@ -20,4 +21,12 @@ pub fn a_text_has_one_tree()
 pub fn a_printed_tree_is_spelled()
     ensures spells { (t : List Item) → Spells t (program_on (writing t) []) }
     ensures bytes { (t : List Item) → items_bytes t ≡ spaced (program_on (writing t) []) }
+{}
+
+/// The text that a tree with real names is printed as is ASCII and all blanks and tokens, and its tokens are the tree's
+/// own spelling. A tree that some text spells has real names.
+pub fn a_printed_tree_is_lexed()
+    ensures lexed { (t : List Item) → IsTrue (are_tokens (program_on (writing t) [])) → IsLexed (printed t) }
+    ensures tokens { (t : List Item) → IsTrue (are_tokens (program_on (writing t) [])) → bare (tokens_of (printed t)) ≡ program_on (writing t) [] }
+    ensures names { (t : List Item) (text : List ℕ) → Spells t (bare (tokens_of text)) → IsTrue (are_tokens (program_on (writing t) [])) }
 {}

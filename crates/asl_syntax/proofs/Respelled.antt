@@ -1,0 +1,90 @@
+-- Printed tokens are read back.
+use Rattle.std.proofs.Common.{◌≡◌, ℕ, zero, suc, ◌+◌, ◌-◌, ◌<◌, ◌≤◌, List, [], ◌∷◌, ◌++◌, Bool, true, false, cond, not, nat_le, nat_lt, ◌&&◌, ◌||◌, Option, Some, None, IsTrue, codes, refl, sym, ap, ◌∙◌, arith, length, take, drop, append_assoc, ⊎_elim}
+use Rattle.std.specs.List.{prefix_len}
+use Rattle.std.proofs.lemmas.Bool.{cond-true, cond-false, and_parts, and_from, or_cases, leb-true, lt-leb, le-ltb, eqb-true, not_from_false}
+use Rattle.asl_grammar.specs.declared.token.Mark.{Mark}
+use Rattle.asl_grammar.specs.declared.token.Mark.TheVariants as mark
+use Rattle.asl_grammar.specs.Token.{Token, Fixed, Name, Number, Spot}
+use Rattle.asl_grammar.specs.Grammar.{bare}
+use Rattle.asl_grammar.specs.Lex.{is_blank, is_digit, is_letter, is_name_byte, front, spots, bad_from, tokens_of, bad_place, all_bytes, has_name_bytes, is_name, is_token, are_tokens}
+use Rattle.asl_grammar.proofs.Apart.{Apart, drop_front, front_letters, front_name, front_number, front_equals, at_token_front}
+use Rattle.asl_grammar.proofs.Scan.{spots_token, bad_token}
+use Rattle.asl_syntax.specs.Parsed.{first_wide}
+use Rattle.asl_syntax.specs.Printed.{mark_bytes, decimal, token_bytes, spaced}
+use Rattle.asl_syntax.proofs.Decimals.{IsDecimal, decimal_is}
+
+-- what stands behind a printed token
+abbrev behind : List Token → List ℕ
+behind ts = spaced ts ++ 10 ∷ []
+
+behind_apart : (ts : List Token) → Apart (behind ts)
+behind_apart [] = record { names = refl; digits = refl; equals = refl }
+behind_apart (t ∷ ts) = record { names = refl; digits = refl; equals = refl }
+
+front_mark : (m : Mark) (r : List ℕ) → Apart r → front (mark_bytes m ++ r) ≡ Some (Fixed m, length (mark_bytes m))
+front_mark mark.Global r a = front_letters (codes "global") r refl a.names
+front_mark mark.Fn r a = front_letters (codes "fn") r refl a.names
+front_mark mark.Return r a = front_letters (codes "return") r refl a.names
+front_mark mark.Null r a = front_letters (codes "null") r refl a.names
+front_mark mark.New r a = front_letters (codes "new") r refl a.names
+front_mark mark.Out r a = front_letters (codes "out") r refl a.names
+front_mark mark.If r a = front_letters (codes "if") r refl a.names
+front_mark mark.Else r a = front_letters (codes "else") r refl a.names
+front_mark mark.While r a = front_letters (codes "while") r refl a.names
+front_mark mark.Atomic r a = front_letters (codes "atomic") r refl a.names
+front_mark mark.Becomes r a = front_equals r a
+front_mark _ r a = refl
+
+front_decimal : (n : ℕ) (ds r : List ℕ) → IsDecimal n ds → Apart r → front (ds ++ r) ≡ Some (Number n, length ds)
+front_decimal n ds r d a =
+    front_number ds r d.some d.digits a.digits ∙ ap (λ (k : ℕ). Some (Number k, length ds)) d.value
+
+-- a token behind which a space or a newline stands
+front_token : (t : Token) (r : List ℕ) → IsTrue (is_token t) → Apart r → front (token_bytes t ++ r) ≡ Some (t, length (token_bytes t))
+front_token (Fixed m) r h a = front_mark m r a
+front_token (Name x) r h a = front_name x r h a.names
+front_token (Number n) r h a = front_decimal n (decimal n) r (decimal_is n) a
+
+-- a token and all behind it, from any place on
+read_token : (t : Token) (ts : List Token) (at : ℕ) → IsTrue (is_token t) → ((n : ℕ) → bare (spots (behind ts) 0 n) ≡ ts) → bare (spots ((token_bytes t ++ spaced ts) ++ 10 ∷ []) 0 at) ≡ t ∷ ts
+read_token t ts at h rest =
+    let bs : List ℕ = token_bytes t in
+    let f : front (bs ++ behind ts) ≡ Some (t, length bs) = front_token t (behind ts) h (behind_apart ts) in
+    ap (λ (cs : List ℕ). bare (spots cs 0 at)) (append_assoc bs (spaced ts) (10 ∷ []))
+    ∙ ap bare (spots_token (bs ++ behind ts) at t (length bs) (at_token_front (bs ++ behind ts) t (length bs) f) f)
+    ∙ ap (λ (us : List Token). t ∷ us) (ap (λ (cs : List ℕ). bare (spots cs 0 (at + length bs))) (drop_front bs (behind ts)) ∙ rest (at + length bs))
+
+read_behind : (ts : List Token) (at : ℕ) → IsTrue (are_tokens ts) → bare (spots (behind ts) 0 at) ≡ ts
+read_behind [] at h = refl
+read_behind (t ∷ ts) at h =
+    let p = and_parts (is_token t) (are_tokens ts) h in
+    read_token t ts (suc at) p.0 (λ n. read_behind ts n p.1)
+
+-- the bytes of tokens with one space between and a newline at the end are read as the tokens
+pub read_spaced : (ts : List Token) → IsTrue (are_tokens ts) → bare (tokens_of (drop 1 (spaced ts) ++ 10 ∷ [])) ≡ ts
+read_spaced [] h = refl
+read_spaced (t ∷ ts) h =
+    let p = and_parts (is_token t) (are_tokens ts) h in
+    read_token t ts 0 p.0 (λ n. read_behind ts n p.1)
+
+-- and each byte of them is a blank or a token's
+good_token : (t : Token) (ts : List Token) (at : ℕ) → IsTrue (is_token t) → ((n : ℕ) → bad_from (behind ts) 0 n ≡ None) → bad_from ((token_bytes t ++ spaced ts) ++ 10 ∷ []) 0 at ≡ None
+good_token t ts at h rest =
+    let bs : List ℕ = token_bytes t in
+    let f : front (bs ++ behind ts) ≡ Some (t, length bs) = front_token t (behind ts) h (behind_apart ts) in
+    ap (λ (cs : List ℕ). bad_from cs 0 at) (append_assoc bs (spaced ts) (10 ∷ []))
+    ∙ bad_token (bs ++ behind ts) at t (length bs) (at_token_front (bs ++ behind ts) t (length bs) f) f
+    ∙ ap (λ (cs : List ℕ). bad_from cs 0 (at + length bs)) (drop_front bs (behind ts))
+    ∙ rest (at + length bs)
+
+good_behind : (ts : List Token) (at : ℕ) → IsTrue (are_tokens ts) → bad_from (behind ts) 0 at ≡ None
+good_behind [] at h = refl
+good_behind (t ∷ ts) at h =
+    let p = and_parts (is_token t) (are_tokens ts) h in
+    good_token t ts (suc at) p.0 (λ n. good_behind ts n p.1)
+
+pub good_spaced : (ts : List Token) → IsTrue (are_tokens ts) → bad_place (drop 1 (spaced ts) ++ 10 ∷ []) ≡ None
+good_spaced [] h = refl
+good_spaced (t ∷ ts) h =
+    let p = and_parts (is_token t) (are_tokens ts) h in
+    good_token t ts 0 p.0 (λ n. good_behind ts n p.1)
