@@ -14,3 +14,5 @@ pub mod Leaner
 pub mod Named
 pub mod Within
 pub mod Printing
+pub mod Mentioned
+pub mod ReadBack

@@ -12,7 +12,7 @@ use Rattle.asl_syntax.specs.Checked.{IsWritten}
 use Rattle.asl_syntax.proofs.Fitting.{acts_fit}
 use Rattle.asl_syntax.proofs.Plain.{built_meaning, spells_built}
 
-none_first : (a b : Option ℕ) → first_place a b ≡ None → a ≡ None
+pub none_first : (a b : Option ℕ) → first_place a b ≡ None → a ≡ None
 none_first None b e = refl
 none_first (Some a) None e = cc
 none_first (Some a) (Some b) e = cc

@@ -1,13 +1,17 @@
 //! Laws of texts and trees, as functions that do nothing: what each ensures is the law.
 
-ghost use Rattle.std.specs.Prelude.{◌≡◌, ℕ, List, [], IsTrue};
-ghost use Rattle.asl_grammar.specs.Token.{Spot};
+ghost use Rattle.std.specs.Prelude.{◌≡◌, ℕ, ◌<◌, ◌≤◌, List, [], IsTrue, length, map};
+ghost use Rattle.asl_grammar.specs.Token.{Token, Spot};
 ghost use Rattle.asl_grammar.specs.Lex.{are_tokens, tokens_of};
 ghost use Rattle.asl_grammar.specs.Grammar.{bare};
 ghost use Rattle.asl_grammar.specs.Spelling.{program_on};
 ghost use Rattle.asl_syntax.specs.Tree.{Item};
 ghost use Rattle.asl_syntax.specs.Spelled.{Spells};
 ghost use Rattle.asl_syntax.specs.Parsed.{IsLexed, Parses};
+ghost use Rattle.asl_syntax.specs.Fault.{IsFault};
+ghost use Rattle.asl_syntax.specs.declared.fault.SyntaxFault.TheVariants.{Limit};
+ghost use Rattle.asl_syntax.specs.Mentions.{mentions};
+ghost use Rattle.asl_syntax.specs.TokenNames.{token_names, mention_name};
 ghost use Rattle.asl_syntax.specs.Writing.{writing};
 ghost use Rattle.asl_syntax.specs.Printed.{items_bytes, spaced, printed};
 
@@ -29,4 +33,16 @@ pub fn a_printed_tree_is_lexed()
     ensures lexed { (t : List Item) → IsTrue (are_tokens (program_on (writing t) [])) → IsLexed (printed t) }
     ensures tokens { (t : List Item) → IsTrue (are_tokens (program_on (writing t) [])) → bare (tokens_of (printed t)) ≡ program_on (writing t) [] }
     ensures names { (t : List Item) (text : List ℕ) → Spells t (bare (tokens_of text)) → IsTrue (are_tokens (program_on (writing t) [])) }
+{}
+
+/// The tokens of a tree have the names that the tree mentions, one by one in the same order.
+pub fn a_tree_mentions_its_names()
+    ensures { (t : List Item) (ts : List Token) → Spells t ts → token_names ts ≡ map mention_name (mentions t) }
+{}
+
+/// The text that a parsed tree is printed as parses to that tree, or it is too long: then its fault is the first byte
+/// that is too many.
+pub fn a_printed_tree_is_read_back()
+    ensures kept { (t : List Item) (text : List ℕ) → Parses text t → length (printed t) ≤ 1048576 → Parses (printed t) t }
+    ensures long { (t : List Item) (text : List ℕ) → Parses text t → 1048576 < length (printed t) → IsFault (printed t) (Limit 1048576) }
 {}
