@@ -1,13 +1,12 @@
 -- A tree's own writing is what any text of the tree writes, but for the minus of `-0` and empty `else`s.
-use Rattle.std.proofs.Common.{◌≡◌, ℕ, zero, suc, List, [], ◌∷◌, Bool, true, false, refl, sym, ap, ◌∙◌, subst, map}
-use Rattle.asl_grammar.specs.declared.token.Mark.{Mark}
+use Rattle.std.proofs.Common.{ℕ, zero, suc, List, [], ◌∷◌, true, false, subst, map}
 use Rattle.asl_grammar.specs.declared.token.Mark.TheVariants as mark
-use Rattle.asl_grammar.specs.Token.{Token, Fixed, Name, Number}
+use Rattle.asl_grammar.specs.Token.{Token, Fixed, Number}
 use Rattle.asl_grammar.specs.Written as w
-use Rattle.asl_grammar.specs.Spelling.{symbol_of, later_names_on, names_on, line_on, stmt_on, block_on, else_on, function_on, item_on, program_on}
+use Rattle.asl_grammar.specs.Spelling.{later_names_on, names_on, line_on, stmt_on, block_on, else_on, item_on, program_on}
 use Rattle.asl_syntax.specs.Tree.{Item}
-use Rattle.asl_syntax.specs.Spelled.{line_meaning, stmt_meaning, block_meaning, else_meaning, function_meaning, item_meaning, Spells}
-use Rattle.asl_syntax.specs.Writing.{statement_writing, block_writing, else_writing, function_writing, item_writing, writing}
+use Rattle.asl_syntax.specs.Spelled.{line_meaning, stmt_meaning, block_meaning, else_meaning, item_meaning, Spells}
+use Rattle.asl_syntax.specs.Writing.{statement_writing, block_writing, else_writing, item_writing, writing}
 
 -- what is kept where tokens are left out so
 pub record Keeps (R : List Token → List Token → Type 0) : Type 0 where

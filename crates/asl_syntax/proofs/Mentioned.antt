@@ -1,14 +1,14 @@
 -- A tree mentions the names of its tokens, one by one.
-use Rattle.std.proofs.Common.{◌≡◌, ℕ, suc, List, [], ◌∷◌, ◌++◌, Bool, true, false, cond, Option, Some, None, length, refl, sym, ap, ◌∙◌, subst, map, append_assoc, arith}
+use Rattle.std.proofs.Common.{◌≡◌, ℕ, suc, List, [], ◌∷◌, ◌++◌, Bool, true, false, cond, Option, Some, None, length, refl, sym, ap, ◌∙◌, map, append_assoc, arith}
 use Rattle.std.proofs.lemmas.Bool.{cond-false}
 use Rattle.std.proofs.lemmas.List.{map-append}
 use Rattle.asl_grammar.specs.declared.token.Mark.TheVariants as mark
 use Rattle.asl_grammar.specs.Token.{Token, Fixed, Name, Number, Spot}
 use Rattle.asl_grammar.specs.Grammar.{bare}
 use Rattle.asl_grammar.specs.Written as w
-use Rattle.asl_grammar.specs.Spelling.{symbol_of, later_names_on, names_on, right_on, line_on, stmt_on, block_on, else_on, function_on, item_on, program_on}
+use Rattle.asl_grammar.specs.Spelling.{later_names_on, names_on, line_on, stmt_on, block_on, else_on, function_on, item_on, program_on}
 use Rattle.asl_syntax.specs.Tree.{Item}
-use Rattle.asl_syntax.specs.Mentions.{Mention, DeclaresParameter, UsesLocal, value_mentions, statement_mentions, block_mentions, function_mentions, item_mentions, mentions}
+use Rattle.asl_syntax.specs.Mentions.{Mention, DeclaresParameter, UsesLocal, statement_mentions, block_mentions, function_mentions, item_mentions, mentions}
 use Rattle.asl_syntax.specs.Rules.{Counts, is_wrong_call, wrong_call_from, wrong_call, parameter_counts, name_place, name_places}
 use Rattle.asl_syntax.specs.Spelled.{line_meaning, stmt_meaning, block_meaning, else_meaning, function_meaning, item_meaning, Spells}
 use Rattle.asl_syntax.specs.TokenNames.{token_names, mention_name}

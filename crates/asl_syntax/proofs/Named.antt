@@ -1,7 +1,7 @@
 -- The tokens of a printed tree are tokens, and its names are those of each text of the tree.
-use Rattle.std.proofs.Common.{◌≡◌, ℕ, List, [], ◌∷◌, IsTrue, refl, ap}
+use Rattle.std.proofs.Common.{List, ◌∷◌, IsTrue}
 use Rattle.std.proofs.lemmas.Bool.{and_parts, and_from}
-use Rattle.asl_grammar.specs.Token.{Token, Fixed, Name, Number}
+use Rattle.asl_grammar.specs.Token.{Token}
 use Rattle.asl_grammar.specs.Lex.{is_token, are_tokens}
 use Rattle.asl_syntax.proofs.Leaner.{Keeps}
 

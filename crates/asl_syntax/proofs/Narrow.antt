@@ -1,11 +1,11 @@
 -- Printed bytes are ASCII.
-use Rattle.std.proofs.Common.{◌≡◌, ℕ, zero, suc, ◌+◌, ◌-◌, ◌<◌, ◌≤◌, List, [], ◌∷◌, ◌++◌, Bool, true, false, cond, not, nat_le, nat_lt, ◌&&◌, ◌||◌, ◌==◌, Option, Some, None, IsTrue, refl, sym, ap, ◌∙◌, arith, length, drop, ⊎_elim}
+use Rattle.std.proofs.Common.{◌≡◌, ℕ, ◌+◌, ◌<◌, ◌≤◌, List, [], ◌∷◌, ◌++◌, Bool, true, not, nat_le, nat_lt, ◌&&◌, ◌||◌, ◌==◌, None, IsTrue, refl, ap, ◌∙◌, arith, length, drop, ⊎_elim}
 use Rattle.std.specs.List.{prefix_len}
-use Rattle.std.proofs.lemmas.Bool.{cond-true, cond-false, and_parts, and_from, or_cases, or_left, leb-true, lt-leb, le-ltb, eqb-true, not_from_false}
+use Rattle.std.proofs.lemmas.Bool.{cond-true, cond-false, and_parts, and_from, or_cases, leb-true, lt-leb, le-ltb, eqb-true}
 use Rattle.asl_grammar.specs.declared.token.Mark.{Mark}
 use Rattle.asl_grammar.specs.declared.token.Mark.TheVariants as mark
 use Rattle.asl_grammar.specs.Token.{Token, Fixed, Name, Number}
-use Rattle.asl_grammar.specs.Lex.{is_digit, is_letter, is_name_byte, all_bytes, has_name_bytes, is_name, is_token, are_tokens, word_of}
+use Rattle.asl_grammar.specs.Lex.{is_digit, is_letter, is_name_byte, all_bytes, has_name_bytes, is_token, are_tokens}
 use Rattle.asl_syntax.specs.Parsed.{first_wide}
 use Rattle.asl_syntax.specs.Printed.{mark_bytes, decimal, token_bytes, spaced}
 use Rattle.asl_syntax.proofs.Decimals.{decimal_is}

@@ -1,5 +1,5 @@
 -- A printed tree is read back.
-use Rattle.std.proofs.Common.{◌≡◌, ℕ, List, [], ◌∷◌, ◌++◌, Option, None, IsTrue, sym, ap, ◌∙◌, subst, drop}
+use Rattle.std.proofs.Common.{◌≡◌, ℕ, List, [], ◌∷◌, ◌++◌, IsTrue, sym, ap, ◌∙◌, drop}
 use Rattle.std.proofs.lemmas.List.{append-nil}
 use Rattle.asl_grammar.specs.Token.{Token}
 use Rattle.asl_grammar.specs.Lex.{tokens_of, bad_place, are_tokens}
@@ -10,7 +10,7 @@ use Rattle.asl_syntax.specs.Tree.{Item}
 use Rattle.asl_syntax.specs.Spelled.{Spells}
 use Rattle.asl_syntax.specs.Writing.{writing}
 use Rattle.asl_syntax.specs.Printed.{items_bytes, spaced, printed}
-use Rattle.asl_syntax.specs.Parsed.{first_wide, IsLexed, Parses}
+use Rattle.asl_syntax.specs.Parsed.{first_wide, IsLexed}
 use Rattle.asl_syntax.proofs.Leaner.{leaner}
 use Rattle.asl_syntax.proofs.Named.{keeps_real}
 use Rattle.asl_syntax.proofs.Narrow.{ascii_spaced}

@@ -1,15 +1,13 @@
 -- Printed tokens are read back.
-use Rattle.std.proofs.Common.{◌≡◌, ℕ, zero, suc, ◌+◌, ◌-◌, ◌<◌, ◌≤◌, List, [], ◌∷◌, ◌++◌, Bool, true, false, cond, not, nat_le, nat_lt, ◌&&◌, ◌||◌, Option, Some, None, IsTrue, codes, refl, sym, ap, ◌∙◌, arith, length, take, drop, append_assoc, ⊎_elim}
-use Rattle.std.specs.List.{prefix_len}
-use Rattle.std.proofs.lemmas.Bool.{cond-true, cond-false, and_parts, and_from, or_cases, leb-true, lt-leb, le-ltb, eqb-true, not_from_false}
+use Rattle.std.proofs.Common.{◌≡◌, ℕ, suc, ◌+◌, List, [], ◌∷◌, ◌++◌, Some, None, IsTrue, codes, refl, ap, ◌∙◌, length, drop, append_assoc}
+use Rattle.std.proofs.lemmas.Bool.{and_parts}
 use Rattle.asl_grammar.specs.declared.token.Mark.{Mark}
 use Rattle.asl_grammar.specs.declared.token.Mark.TheVariants as mark
-use Rattle.asl_grammar.specs.Token.{Token, Fixed, Name, Number, Spot}
+use Rattle.asl_grammar.specs.Token.{Token, Fixed, Name, Number}
 use Rattle.asl_grammar.specs.Grammar.{bare}
-use Rattle.asl_grammar.specs.Lex.{is_blank, is_digit, is_letter, is_name_byte, front, spots, bad_from, tokens_of, bad_place, all_bytes, has_name_bytes, is_name, is_token, are_tokens}
+use Rattle.asl_grammar.specs.Lex.{front, spots, bad_from, tokens_of, bad_place, is_token, are_tokens}
 use Rattle.asl_grammar.proofs.Apart.{Apart, drop_front, front_letters, front_name, front_number, front_equals, at_token_front}
 use Rattle.asl_grammar.proofs.Scan.{spots_token, bad_token}
-use Rattle.asl_syntax.specs.Parsed.{first_wide}
 use Rattle.asl_syntax.specs.Printed.{mark_bytes, decimal, token_bytes, spaced}
 use Rattle.asl_syntax.proofs.Decimals.{IsDecimal, decimal_is}
 
