@@ -33,7 +33,7 @@ letters_at w r n e =
     ap (letters_token (w ++ r)) e
     ∙ ap (λ (x : List ℕ). (word_or_name (word_of x) x, length w)) (take_front w r)
 
-all_name_bytes : (b : ℕ) (x : List ℕ) → IsTrue (has_name_bytes (b ∷ x)) → IsTrue (all_bytes is_name_byte (b ∷ x))
+pub all_name_bytes : (b : ℕ) (x : List ℕ) → IsTrue (has_name_bytes (b ∷ x)) → IsTrue (all_bytes is_name_byte (b ∷ x))
 all_name_bytes b x h =
     let p = and_parts (is_letter b) (all_bytes is_name_byte x) h in
     and_from _ _ (or_left _ _ p.0) p.1
@@ -55,7 +55,7 @@ front_name x r h e =
     ∙ ap (λ (o : Option Mark). Some (word_or_name o x, length x)) (no_word (word_of x) p.1)
 
 -- a number
-digit_no_letter : (d : ℕ) → is_digit d ≡ true → is_letter d ≡ false
+pub digit_no_letter : (d : ℕ) → is_digit d ≡ true → is_letter d ≡ false
 digit_no_letter d h =
     let small : d ≤ 57 = leb-true d 57 (and_parts (nat_le 48 d) (nat_le d 57) h).1 in
     or_from _ _ (or_from _ _ (and_left _ _ (lt-leb 65 d (omega arith))) (and_left _ _ (lt-leb 97 d (omega arith)))) (ne_eqb d 95 (λ e. omega arith))
@@ -72,9 +72,6 @@ front_number (d ∷ ds) r some h e =
     cond-false (is_letter d) _ _ (digit_no_letter d digit)
     ∙ cond-true (is_digit d) _ _ digit
     ∙ ap (λ (p : Token × ℕ). Some p) (digits_at (d ∷ ds) r (leading is_digit (d ∷ (ds ++ r))) (leading-append is_digit (d ∷ ds) r h e))
-
-pub front_equals : (r : List ℕ) → Apart r → front (61 ∷ r) ≡ Some (Fixed mark.Becomes, 1)
-front_equals r a = ap (λ (p : Token × ℕ). Some p) a.equals
 
 -- no token begins with a blank
 space_no_front : (b : ℕ) (c : ℕ) (bs : List ℕ) → front (c ∷ bs) ≡ None → (b == c) ≡ true → front (b ∷ bs) ≡ None

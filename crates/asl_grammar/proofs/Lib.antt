@@ -6,3 +6,5 @@ pub mod Judged
 pub mod Reading
 pub mod Real
 pub mod Apart
+pub mod OneFault
+pub mod Longest

@@ -8,12 +8,12 @@ use Rattle.asl_grammar.specs.Grammar.{bare}
 use Rattle.asl_grammar.specs.Lex.{is_blank, is_digit, is_letter, is_name_byte, leading, word_of, word_or_name, equals_token, symbol_of_byte, symbol_token, letters_token, front, spots, spot_then, tokens_of, all_bytes, has_name_bytes, is_token, are_tokens}
 
 -- the bytes that are counted pass the test
-taken_pass : (p : ℕ → Bool) (bs : List ℕ) → IsTrue (all_bytes p (take (leading p bs) bs))
+pub taken_pass : (p : ℕ → Bool) (bs : List ℕ) → IsTrue (all_bytes p (take (leading p bs) bs))
 taken_pass p [] = refl
 taken_pass p (b ∷ bs) =
     cond_both (p b) (suc (leading p bs)) 0 (λ n. IsTrue (all_bytes p (take n (b ∷ bs)))) (λ e. and_from _ _ e (taken_pass p bs)) (λ e. refl)
 
-taken_name : (b : ℕ) (bs : List ℕ) → is_letter b ≡ true → IsTrue (has_name_bytes (take (leading is_name_byte (b ∷ bs)) (b ∷ bs)))
+pub taken_name : (b : ℕ) (bs : List ℕ) → is_letter b ≡ true → IsTrue (has_name_bytes (take (leading is_name_byte (b ∷ bs)) (b ∷ bs)))
 taken_name b bs e =
     cond_both (is_name_byte b) (suc (leading is_name_byte bs)) 0 (λ n. IsTrue (has_name_bytes (take n (b ∷ bs)))) (λ f. and_from _ _ e (taken_pass is_name_byte bs)) (λ f. absurd (both_ways (is_name_byte b) f (or_left _ _ e)))
 

@@ -34,7 +34,7 @@ run-append (t ∷ ts) us w = then_run ts us (next w t) (λ n. run-append ts us n
     then_run ts us None h = refl
     then_run ts us (Some n) h = h n
 
-are_tokens-append : (ts us : List Token) → IsTrue (are_tokens ts) → IsTrue (are_tokens us) → IsTrue (are_tokens (ts ++ us))
+pub are_tokens-append : (ts us : List Token) → IsTrue (are_tokens ts) → IsTrue (are_tokens us) → IsTrue (are_tokens (ts ++ us))
 are_tokens-append [] us h k = k
 are_tokens-append (t ∷ ts) us h k =
     and_from _ _ (and_parts _ _ h).0 (are_tokens-append ts us (and_parts _ _ h).1 k)

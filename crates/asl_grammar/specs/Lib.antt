@@ -9,3 +9,4 @@ pub mod Reader
 pub mod ControlView
 pub mod Seen
 pub mod SeenView
+pub mod Bytes

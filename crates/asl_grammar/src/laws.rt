@@ -1,9 +1,10 @@
 //! Laws of texts and tokens, as functions that do nothing: what each ensures is the law.
 
-ghost use Rattle.std.specs.Prelude.{◌≡◌, ℕ, ◌<◌, List, ◌++◌, IsTrue, Some, length};
-ghost use Rattle.asl_grammar.specs.Token.{Name, Number};
+ghost use Rattle.std.specs.Prelude.{◌≡◌, ℕ, ◌<◌, List, ◌++◌, IsTrue, Option, Some, length};
+ghost use Rattle.asl_grammar.specs.Token.{Token, Name, Number};
 ghost use Rattle.asl_grammar.specs.Lex.{is_digit, is_name_byte, leading, number_value, front, all_bytes, is_name, are_tokens, tokens_of};
-ghost use Rattle.asl_grammar.specs.Grammar.{bare};
+ghost use Rattle.asl_grammar.specs.Bytes.{IsSpelling, IsFront};
+ghost use Rattle.asl_grammar.specs.Grammar.{bare, IsGrammarFault};
 
 /// The names of a text's tokens are names: a letter and name bytes, and no word.
 pub fn a_text_has_real_tokens()
@@ -14,4 +15,16 @@ pub fn a_text_has_real_tokens()
 pub fn a_token_is_read_whole()
     ensures name { (x r : List ℕ) → IsTrue (is_name x) → leading is_name_byte r ≡ 0 → front (x ++ r) ≡ Some (Name x, length x) }
     ensures number { (ds r : List ℕ) → 0 < length ds → IsTrue (all_bytes is_digit ds) → leading is_digit r ≡ 0 → front (ds ++ r) ≡ Some (Number (number_value ds), length ds) }
+{}
+
+/// The token at the front of a text is the longest one there, and no other answer is; bytes spell one token at the most.
+pub fn a_front_is_the_longest_token()
+    ensures front { (text : List ℕ) → IsFront text (front text) }
+    ensures only { (text : List ℕ) (o : Option (Token × ℕ)) → IsFront text o → o ≡ front text }
+    ensures one { (bytes : List ℕ) (t u : Token) → IsSpelling t bytes → IsSpelling u bytes → t ≡ u }
+{}
+
+/// A text stops being the beginning of a program at one place at the most.
+pub fn a_text_has_one_grammar_fault()
+    ensures { (text : List ℕ) (end a b : ℕ) → IsGrammarFault (tokens_of text) end a → IsGrammarFault (tokens_of text) end b → a ≡ b }
 {}
