@@ -1,14 +1,13 @@
 -- Printed tokens are read back.
-use Rattle.std.proofs.Common.{◌≡◌, ℕ, suc, ◌+◌, List, [], ◌∷◌, ◌++◌, Some, None, IsTrue, codes, refl, ap, ◌∙◌, length, drop, append_assoc}
+use Rattle.std.proofs.Common.{◌≡◌, ℕ, suc, ◌+◌, List, [], ◌∷◌, ◌++◌, Some, None, IsTrue, refl, ap, ◌∙◌, length, drop, append_assoc}
 use Rattle.std.proofs.lemmas.Bool.{and_parts}
-use Rattle.asl_grammar.specs.declared.token.Mark.{Mark}
-use Rattle.asl_grammar.specs.declared.token.Mark.TheVariants as mark
 use Rattle.asl_grammar.specs.Token.{Token, Fixed, Name, Number}
 use Rattle.asl_grammar.specs.Grammar.{bare}
 use Rattle.asl_grammar.specs.Lex.{front, spots, bad_from, tokens_of, bad_place, is_token, are_tokens}
-use Rattle.asl_grammar.proofs.Apart.{Apart, drop_front, front_letters, front_name, front_number, front_equals, at_token_front}
+use Rattle.asl_grammar.proofs.Apart.{Apart, drop_front, front_name, front_number, at_token_front}
+use Rattle.asl_grammar.proofs.Longest.{front_mark}
 use Rattle.asl_grammar.proofs.Scan.{spots_token, bad_token}
-use Rattle.asl_syntax.specs.Printed.{mark_bytes, decimal, token_bytes, spaced}
+use Rattle.asl_syntax.specs.Printed.{decimal, token_bytes, spaced}
 use Rattle.asl_syntax.proofs.Decimals.{IsDecimal, decimal_is}
 
 -- what stands behind a printed token
@@ -18,20 +17,6 @@ behind ts = spaced ts ++ 10 ∷ []
 behind_apart : (ts : List Token) → Apart (behind ts)
 behind_apart [] = record { names = refl; digits = refl; equals = refl }
 behind_apart (t ∷ ts) = record { names = refl; digits = refl; equals = refl }
-
-front_mark : (m : Mark) (r : List ℕ) → Apart r → front (mark_bytes m ++ r) ≡ Some (Fixed m, length (mark_bytes m))
-front_mark mark.Global r a = front_letters (codes "global") r refl a.names
-front_mark mark.Fn r a = front_letters (codes "fn") r refl a.names
-front_mark mark.Return r a = front_letters (codes "return") r refl a.names
-front_mark mark.Null r a = front_letters (codes "null") r refl a.names
-front_mark mark.New r a = front_letters (codes "new") r refl a.names
-front_mark mark.Out r a = front_letters (codes "out") r refl a.names
-front_mark mark.If r a = front_letters (codes "if") r refl a.names
-front_mark mark.Else r a = front_letters (codes "else") r refl a.names
-front_mark mark.While r a = front_letters (codes "while") r refl a.names
-front_mark mark.Atomic r a = front_letters (codes "atomic") r refl a.names
-front_mark mark.Becomes r a = front_equals r a
-front_mark _ r a = refl
 
 front_decimal : (n : ℕ) (ds r : List ℕ) → IsDecimal n ds → Apart r → front (ds ++ r) ≡ Some (Number n, length ds)
 front_decimal n ds r d a =

@@ -1,39 +1,12 @@
 -- The text that a tree is printed as: its tokens, one space between, and a newline at the end.
-use Rattle.std.specs.Prelude.{ℕ, zero, suc, ◌+◌, ℤ, pos, negsuc, List, [], ◌∷◌, ◌++◌, if◌then◌else◌, ◌==◌, codes, map, drop}
+use Rattle.std.specs.Prelude.{ℕ, suc, ◌+◌, ℤ, pos, negsuc, List, [], ◌∷◌, ◌++◌, if◌then◌else◌, ◌==◌, map, drop}
 use Rattle.std.specs.Int.Digits.{digits_of}
 use Rattle.asl_grammar.specs.declared.token.Mark.{Mark}
 use Rattle.asl_grammar.specs.declared.token.Mark.TheVariants as mark
 use Rattle.asl_grammar.specs.Token.{Token, Fixed, Name, Number}
+pub use Rattle.asl_grammar.specs.Bytes.{mark_bytes}
 use Rattle.asl_grammar.specs.Spelling.{symbol_of}
 use Rattle.asl_syntax.specs.Tree.{Value, IntegerValue, NullValue, LocalValue, BinaryValue, GlobalValue, FieldValue, LoadValue, NewValue, CallValue, Statement, AssignStatement, StoreStatement, OutStatement, IfStatement, WhileStatement, AtomicStatement, Block, NoMore, Then, Function, Item, GlobalItem, FunctionItem}
-
--- the bytes of a word or symbol
-abbrev pub mark_bytes : Mark → List ℕ
-mark_bytes mark.Global = codes "global"
-mark_bytes mark.Fn = codes "fn"
-mark_bytes mark.Return = codes "return"
-mark_bytes mark.Null = codes "null"
-mark_bytes mark.New = codes "new"
-mark_bytes mark.Out = codes "out"
-mark_bytes mark.If = codes "if"
-mark_bytes mark.Else = codes "else"
-mark_bytes mark.While = codes "while"
-mark_bytes mark.Atomic = codes "atomic"
-mark_bytes mark.OpenParen = codes "("
-mark_bytes mark.CloseParen = codes ")"
-mark_bytes mark.OpenBrace = codes "{"
-mark_bytes mark.CloseBrace = codes "}"
-mark_bytes mark.OpenBracket = codes "["
-mark_bytes mark.CloseBracket = codes "]"
-mark_bytes mark.Comma = codes ","
-mark_bytes mark.Semicolon = codes ";"
-mark_bytes mark.Becomes = codes "="
-mark_bytes mark.Same = codes "=="
-mark_bytes mark.Plus = codes "+"
-mark_bytes mark.Minus = codes "-"
-mark_bytes mark.Less = codes "<"
-mark_bytes mark.Ampersand = codes "&"
-mark_bytes mark.Star = codes "*"
 
 -- decimal digits, none for 0
 abbrev pub digit_bytes : ℕ → List ℕ
