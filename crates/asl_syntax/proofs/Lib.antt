@@ -16,3 +16,4 @@ pub mod Within
 pub mod Printing
 pub mod Mentioned
 pub mod ReadBack
+pub mod Outcomes

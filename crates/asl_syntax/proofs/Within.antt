@@ -1,9 +1,8 @@
 -- A printed tree passes no limit of tokens where a text of the tree passes none.
-use Rattle.std.proofs.Common.{◌≡◌, ℕ, suc, ◌-◌, List, [], ◌∷◌, Bool, true, false, not, ◌&&◌, cond, Option, Some, None, IsTrue, refl, sym, ap, ◌∙◌, subst, arith}
+use Rattle.std.proofs.Common.{◌≡◌, ℕ, suc, ◌-◌, List, [], ◌∷◌, Bool, true, false, not, ◌&&◌, cond, Option, Some, None, IsTrue, refl, sym, ◌∙◌, subst, arith}
 use Rattle.std.proofs.lemmas.Bool.{cond-false, and_parts, and_from, not-true}
-use Rattle.asl_grammar.specs.declared.token.Mark.{Mark}
 use Rattle.asl_grammar.specs.declared.token.Mark.TheVariants as mark
-use Rattle.asl_grammar.specs.Token.{Token, Fixed, Name, Number, Spot}
+use Rattle.asl_grammar.specs.Token.{Token, Fixed, Number, Spot}
 use Rattle.asl_grammar.specs.Grammar.{bare}
 use Rattle.asl_grammar.specs.Spelling.{program_on}
 use Rattle.asl_syntax.specs.Tree.{Item}
@@ -15,7 +14,7 @@ use Rattle.asl_syntax.proofs.Tallying.{over_is_limit}
 use Rattle.asl_syntax.proofs.Leaner.{Keeps, leaner}
 
 -- no token goes past a limit, from a tally on
-abbrev are_within : Tally → List Token → Bool
+abbrev pub are_within : Tally → List Token → Bool
 are_within y [] = true
 are_within y (t ∷ ts) = not (is_over y t) && are_within (noted y t) ts
 
@@ -67,9 +66,12 @@ keeps_within : Keeps StaysWithin
 keeps_within =
     record { none = λ y h. h; same = same_within; sign = sign_within; empty = empty_within }
 
--- by the tokens of a text of the tree, and those of the text that is printed
-pub limits_kept : (tree : List Item) (ss rs : List Spot) → Spells tree (bare ss) → bare rs ≡ program_on (writing tree) [] → limit_from [] ss ≡ None → limit_from [] rs ≡ None
-limits_kept tree ss rs s e h =
-    let w : IsTrue (are_within (tally_of []) (bare ss)) = within_by_none ss (tally_of []) (over_is_limit ss [] ∙ h) in
-    let v : IsTrue (are_within (tally_of []) (program_on (writing tree) [])) = leaner StaysWithin keeps_within tree (bare ss) s (tally_of []) w in
-    sym (over_is_limit rs []) ∙ none_by_within rs (tally_of []) (subst (λ (ts : List Token). IsTrue (are_within (tally_of []) ts)) (sym e) v)
+-- from a text of the tree to the tree's own spelling, and on to a text that has it
+pub within_kept : (tree : List Item) (ss : List Spot) → Spells tree (bare ss) → limit_from [] ss ≡ None → IsTrue (are_within (tally_of []) (program_on (writing tree) []))
+within_kept tree ss s h =
+    leaner StaysWithin keeps_within tree (bare ss) s (tally_of []) (within_by_none ss (tally_of []) (over_is_limit ss [] ∙ h))
+
+pub limits_from_within : (ss : List Spot) (ts : List Token) → bare ss ≡ ts → IsTrue (are_within (tally_of []) ts) → limit_from [] ss ≡ None
+limits_from_within ss ts e h =
+    sym (over_is_limit ss [])
+    ∙ none_by_within ss (tally_of []) (subst (λ (us : List Token). IsTrue (are_within (tally_of []) us)) (sym e) h)
