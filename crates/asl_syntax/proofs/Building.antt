@@ -1,11 +1,11 @@
 -- One token of the builder's loop.
-use Rattle.std.proofs.Common.{◌≡◌, List, [], ◌∷◌, Option, Some, None, refl, sym, ap, ◌∙◌, subst}
-use Rattle.asl_grammar.specs.Token.{Token, Spot}
+use Rattle.std.proofs.Common.{◌≡◌, List, ◌∷◌, Option, Some, None, sym, ap, ◌∙◌, subst}
+use Rattle.asl_grammar.specs.Token.{Spot}
 use Rattle.asl_grammar.specs.Automaton.{Control, Act, step}
 use Rattle.asl_grammar.specs.Seen.{settled}
 use Rattle.asl_syntax.specs.Tree.{Item}
 use Rattle.asl_syntax.specs.Built.{Stack, State, apply, kind_of, ready, moved, next, built_with, built_from}
-use Rattle.asl_syntax.specs.Fits.{ActFits, ActsFit-with, ActsFit}
+use Rattle.asl_syntax.specs.Fits.{ActsFit-with, ActsFit}
 
 -- what is left builds the same
 pub same_next : (c d : Control) (s r : Stack) (x : Spot) (all : Option (List Item)) (rest left : List Spot) → built_from c s rest ≡ all → rest ≡ x ∷ left → Some (record { control = d; stack = r }) ≡ next c s x.token → built_from d r left ≡ all

@@ -1,18 +1,15 @@
 -- Where no limit is passed, what the automaton completes fits the code's tree.
-use Rattle.std.proofs.Common.{◌≡◌, ℕ, ◌≤◌, List, [], ◌∷◌, Bool, true, false, Option, Some, None, if◌then◌else◌, cond, ◌||◌, ◌==◌, nat_lt, nat_le, length, refl, sym, ap, ◌∙◌, subst, arith}
+use Rattle.std.proofs.Common.{◌≡◌, ℕ, ◌≤◌, List, [], ◌∷◌, Bool, true, false, Option, Some, None, cond, ◌||◌, ◌==◌, nat_lt, length, refl, sym, ap, ◌∙◌}
 use Rattle.std.proofs.lemmas.Bool.{ltb-false, or_parts}
-use Rattle.asl_grammar.specs.declared.token.Mark.{Mark}
 use Rattle.asl_grammar.specs.declared.token.Mark.TheVariants as mark
 use Rattle.asl_grammar.specs.declared.control.Kind.{Kind}
 use Rattle.asl_grammar.specs.declared.control.Kind.TheVariants.{Body, Then, Inner}
-use Rattle.asl_grammar.specs.declared.control.Operator.TheVariants.{Add, Subtract, IsLess, IsEqual}
 use Rattle.asl_grammar.specs.Token.{Token, Fixed, Name, Number, Spot}
-use Rattle.asl_grammar.specs.Written.{Right, Line, Literal, NullValue, Copied, Binary, GlobalAddress, FieldAddress, Loaded, Created, Assigns, Calls, Stores, Shows}
-use Rattle.asl_grammar.specs.Automaton.{Opening, Control, Act, OfIf, OfElse, OfWhile, OfAtomic, ItemStart, AfterGlobal, GlobalNamed, AfterFn, FunctionNamed, FirstParameter, AfterParameter, NextParameter, BodyStart, StatementStart, AfterThen, Target, AfterBecomes, AfterMinus, AfterValue, AfterOperator, AfterAmpersand, AfterAddress, AfterBracket, AfterIndex, AfterStar, AfterNew, FirstArgument, AfterArgument, NextArgument, CallEnd, LineEnd, StoreStart, StoreTarget, StoreValue, AfterOut, AfterIf, AfterWhile, AfterHeader, AfterReturn, Returned, BodyEnd, Keep, Declare, Start, Parameter, Argument, Emit, EmitCall, Begin, Close, Finish, step}
+use Rattle.asl_grammar.specs.Automaton.{Control, Act, ItemStart, AfterGlobal, GlobalNamed, AfterFn, FunctionNamed, FirstParameter, AfterParameter, NextParameter, BodyStart, StatementStart, AfterThen, Target, AfterBecomes, AfterMinus, AfterValue, AfterOperator, AfterAmpersand, AfterAddress, AfterBracket, AfterIndex, AfterStar, AfterNew, FirstArgument, AfterArgument, NextArgument, CallEnd, LineEnd, StoreStart, StoreTarget, StoreValue, AfterOut, AfterIf, AfterWhile, AfterHeader, AfterReturn, Returned, BodyEnd, step}
 use Rattle.asl_grammar.specs.Seen.{settled, settled_by}
 use Rattle.asl_syntax.specs.Built.{Stack, kind_of, ready, apply, no_stack}
-use Rattle.asl_syntax.specs.Limit.{Tally, tally_of, last_of, is_fifth, is_over, number_over, limit_from}
-use Rattle.asl_syntax.specs.Fits.{NameFits, RightFits, LineFits, OpeningFits, ActFits, ActsFit-with, ActsFit}
+use Rattle.asl_syntax.specs.Limit.{tally_of, last_of, is_over, number_over, limit_from}
+use Rattle.asl_syntax.specs.Fits.{NameFits, LineFits, OpeningFits, ActFits, ActsFit-with, ActsFit}
 
 -- those of a line so far; a number is to come behind the token that says its range
 abbrev pub ControlFits : Control → Option Token → Type 0

@@ -2,9 +2,8 @@
 use Rattle.std.proofs.Common.{◌≡◌, ℕ, List, [], Option, Some, None, refl, sym, ◌∙◌, length}
 use Rattle.asl_grammar.specs.Automaton.{ItemStart}
 use Rattle.asl_grammar.specs.Lex.{tokens_of}
-use Rattle.asl_grammar.specs.Grammar.{IsProgram, bare}
 use Rattle.asl_syntax.specs.Tree.{Item}
-use Rattle.asl_syntax.specs.Limit.{limit_from, first_place, byte_over, first_limit}
+use Rattle.asl_syntax.specs.Limit.{limit_from, first_place, byte_over}
 use Rattle.asl_syntax.specs.Built.{no_stack, built_from}
 use Rattle.asl_syntax.specs.Fits.{ActsFit}
 use Rattle.asl_syntax.specs.Parsed.{IsSpelled}

@@ -1,8 +1,6 @@
 -- Building the trees that written ones mean is building written ones and taking their meaning.
-use Rattle.std.proofs.Common.{◌≡◌, ℕ, List, [], ◌∷◌, ◌++◌, Option, Some, None, refl, sym, ap, ◌∙◌, subst, map}
-use Rattle.std.specs.Option.{option_map}
+use Rattle.std.proofs.Common.{◌≡◌, ℕ, List, [], ◌∷◌, ◌++◌, Option, Some, None, refl, sym, ap, ◌∙◌, map}
 use Rattle.std.proofs.lemmas.List.{map-append}
-use Rattle.asl_grammar.specs.declared.token.Mark.{Mark}
 use Rattle.asl_grammar.specs.declared.token.Mark.TheVariants as mark
 use Rattle.asl_grammar.specs.declared.control.Kind.{Kind}
 use Rattle.asl_grammar.specs.Token.{Token, Fixed, Spot}
@@ -10,14 +8,14 @@ use Rattle.asl_grammar.specs.Written as w
 use Rattle.asl_grammar.specs.Spelling.{program_on}
 use Rattle.asl_grammar.specs.Automaton.{Opening, OfIf, OfElse, OfWhile, OfAtomic, Control, ItemStart, StatementStart, AfterThen, Act, Keep, Declare, Start, Parameter, Argument, Emit, EmitCall, Begin, Close, Finish, step}
 use Rattle.asl_grammar.specs.Automaton as a
-use Rattle.asl_grammar.specs.Grammar.{IsProgram, bare}
+use Rattle.asl_grammar.specs.Grammar.{bare}
 use Rattle.asl_grammar.specs.Seen.{settled, settled_by}
 use Rattle.asl_grammar.proofs.Complete.{run_program}
 use Rattle.asl_grammar.proofs.Judged.{spelled}
-use Rattle.asl_syntax.specs.Tree.{Statement, IfStatement, WhileStatement, AtomicStatement, Block, NoMore, Then, Function, Item, GlobalItem, FunctionItem}
+use Rattle.asl_syntax.specs.Tree.{Statement, Block, Then, Item}
 use Rattle.asl_syntax.specs.View.{block}
-use Rattle.asl_syntax.specs.Spelled.{line_meaning, stmt_meaning, block_meaning, else_meaning, function_meaning, item_meaning, Spells}
-use Rattle.asl_syntax.specs.Built.{Header, ThenBlock, ElseBlock, WhileBlock, AtomicBlock, Part, Frame, Stack, no_stack, settle_pending, settle_part, else_header, header_of, closed, close_frames, apply, header_kind, kind_of, ready, ready_then, State, moved, next_ready, next, whole_at, built_with, built_from}
+use Rattle.asl_syntax.specs.Spelled.{stmt_meaning, block_meaning, item_meaning, Spells}
+use Rattle.asl_syntax.specs.Built.{Header, ThenBlock, ElseBlock, WhileBlock, AtomicBlock, Part, Frame, Stack, no_stack, settle_pending, else_header, closed, close_frames, apply, header_kind, kind_of, ready, ready_then, State, moved, next_ready, next, whole_at, built_with, built_from}
 
 abbrev statements : List w.Stmt → List Statement
 statements ss = map stmt_meaning ss

@@ -1,15 +1,12 @@
 -- A printed tree is the spelling of the tree, with a space before each token.
-use Rattle.std.proofs.Common.{◌≡◌, ℕ, zero, suc, ℤ, pos, negsuc, List, [], ◌∷◌, ◌++◌, Bool, true, false, refl, sym, ap, ◌∙◌, append_assoc, map}
-use Rattle.std.proofs.lemmas.List.{append-nil}
-use Rattle.asl_grammar.specs.declared.token.Mark.{Mark}
+use Rattle.std.proofs.Common.{◌≡◌, ℕ, pos, negsuc, List, [], ◌∷◌, ◌++◌, refl, ap, ◌∙◌, append_assoc, map}
 use Rattle.asl_grammar.specs.declared.token.Mark.TheVariants as mark
-use Rattle.asl_grammar.specs.Token.{Token, Fixed, Name, Number}
-use Rattle.asl_grammar.specs.Written as w
-use Rattle.asl_grammar.specs.Spelling.{symbol_of, later_names_on, names_on, right_on, line_on, stmt_on, block_on, else_on, function_on, item_on, program_on}
+use Rattle.asl_grammar.specs.Token.{Token, Fixed, Name}
+use Rattle.asl_grammar.specs.Spelling.{later_names_on, names_on, line_on, stmt_on, block_on, else_on, item_on, program_on}
 use Rattle.asl_syntax.specs.Tree.{Value, IntegerValue, NullValue, LocalValue, BinaryValue, GlobalValue, FieldValue, LoadValue, NewValue, CallValue, Statement, AssignStatement, StoreStatement, OutStatement, IfStatement, WhileStatement, AtomicStatement, Block, NoMore, Then, Function, Item, GlobalItem, FunctionItem}
 use Rattle.asl_syntax.specs.Spelled.{stmt_meaning, block_meaning, else_meaning, item_meaning, line_meaning, Spells}
-use Rattle.asl_syntax.specs.Writing.{integer_writing, assign_writing, statement_writing, block_writing, else_writing, function_writing, item_writing, writing}
-use Rattle.asl_syntax.specs.Printed.{mark_bytes, decimal, token_bytes, spaced, piece, mark_piece, number_piece, later_names_bytes, names_bytes, integer_bytes, value_bytes, statement_bytes, block_bytes, if_head, while_head, assign_bytes, else_open, else_close, head_bytes, last_line_bytes, function_bytes, item_bytes, items_bytes}
+use Rattle.asl_syntax.specs.Writing.{assign_writing, statement_writing, block_writing, else_writing, item_writing, writing}
+use Rattle.asl_syntax.specs.Printed.{spaced, piece, mark_piece, later_names_bytes, names_bytes, value_bytes, statement_bytes, block_bytes, if_head, while_head, else_open, else_close, head_bytes, last_line_bytes, item_bytes, items_bytes}
 
 -- writing a tree and taking its meaning gives the tree
 assign_back : (x : List ℕ) (v : Value) → line_meaning (assign_writing x v) ≡ AssignStatement x v

@@ -1,8 +1,7 @@
 -- Counting token by token counts what stands before.
-use Rattle.std.proofs.Common.{◌≡◌, List, [], ◌∷◌, Option, Some, if◌then◌else◌, cond, refl, ap, ◌∙◌}
-use Rattle.asl_grammar.specs.declared.token.Mark.{Mark}
+use Rattle.std.proofs.Common.{◌≡◌, List, [], ◌∷◌, Some, if◌then◌else◌, refl, ap, ◌∙◌}
 use Rattle.asl_grammar.specs.declared.token.Mark.TheVariants as mark
-use Rattle.asl_grammar.specs.Token.{Token, Fixed, Name, Number, Spot}
+use Rattle.asl_grammar.specs.Token.{Token, Fixed, Name, Spot}
 use Rattle.asl_syntax.specs.Limit.{Tally, tally_of, is_over, limit_from}
 use Rattle.asl_syntax.specs.Tallied.{noted, over_from}
 

@@ -1,5 +1,5 @@
 -- The tree of an `Ast`.
-use Rattle.std.specs.Prelude.{List, map}
+use Rattle.std.specs.Prelude.{List}
 use Rattle.asl_syntax.specs.declared.ast.Ast as code
 use Rattle.asl_syntax.specs.Tree.{Item}
 use Rattle.asl_syntax.specs.View.{items_of}

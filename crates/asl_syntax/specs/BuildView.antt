@@ -1,5 +1,5 @@
 -- What the code has built, as the value that the builder's definition speaks of.
-use Rattle.std.specs.Prelude.{ℕ, List, Option, Some, None, map, reverse, Vec}
+use Rattle.std.specs.Prelude.{ℕ, List, Option, Some, None, map, Vec}
 use Rattle.std.specs.declared.alloc.Global.{Global}
 use Rattle.asl_syntax.specs.declared.tree.Statement as tree
 use Rattle.asl_syntax.specs.declared.build.Part as part
@@ -7,8 +7,8 @@ use Rattle.asl_syntax.specs.declared.build.Header as header
 use Rattle.asl_syntax.specs.declared.build.Header.TheVariants as headers
 use Rattle.asl_syntax.specs.declared.build.Frame as frame
 use Rattle.asl_syntax.specs.Tree.{Block}
-use Rattle.asl_syntax.specs.View.{statement_of, block_of, item_of}
-use Rattle.asl_syntax.specs.Built.{Header, ThenBlock, ElseBlock, WhileBlock, AtomicBlock, Part, Frame, Stack}
+use Rattle.asl_syntax.specs.View.{statement_of, block_of}
+use Rattle.asl_syntax.specs.Built.{Header, ThenBlock, ElseBlock, WhileBlock, AtomicBlock, Part, Frame}
 
 -- an `if` that waits
 abbrev pub pending_of : Option (List ℕ × Vec tree.Statement Global) → Option (List ℕ × Block)

@@ -1,14 +1,12 @@
 -- The automaton with the trees that the code builds.
 use Rattle.std.specs.Prelude.{ℕ, List, [], ◌∷◌, ◌++◌, Option, Some, None}
-use Rattle.asl_grammar.specs.declared.token.Mark.{Mark}
 use Rattle.asl_grammar.specs.declared.token.Mark.TheVariants as mark
 use Rattle.asl_grammar.specs.declared.control.Kind.{Kind}
 use Rattle.asl_grammar.specs.declared.control.Kind.TheVariants as kind
 use Rattle.asl_grammar.specs.Token.{Token, Fixed, Spot}
-use Rattle.asl_grammar.specs.Written.{Line}
-use Rattle.asl_grammar.specs.Automaton.{Opening, OfIf, OfElse, OfWhile, OfAtomic, Control, ItemStart, StatementStart, AfterThen, Act, Keep, Declare, Start, Parameter, Argument, Emit, EmitCall, Begin, Close, Finish, step}
+use Rattle.asl_grammar.specs.Automaton.{Opening, OfIf, OfElse, OfWhile, OfAtomic, Control, ItemStart, AfterThen, Act, Keep, Declare, Start, Parameter, Argument, Emit, EmitCall, Begin, Close, Finish, step}
 use Rattle.asl_grammar.specs.Seen.{settled}
-use Rattle.asl_syntax.specs.Tree.{Statement, IfStatement, WhileStatement, AtomicStatement, AssignStatement, CallValue, Block, NoMore, Then, Function, Item, GlobalItem, FunctionItem}
+use Rattle.asl_syntax.specs.Tree.{Statement, IfStatement, WhileStatement, AtomicStatement, AssignStatement, CallValue, Block, NoMore, Function, Item, GlobalItem, FunctionItem}
 use Rattle.asl_syntax.specs.View.{block}
 use Rattle.asl_syntax.specs.Spelled.{line_meaning}
 

@@ -1,5 +1,5 @@
 -- What each fault says of a text: no fault before it in the list applies, and it names the first place.
-use Rattle.std.specs.Prelude.{◌≡◌, ℕ, List, Option, Some, None, length, Bool, false}
+use Rattle.std.specs.Prelude.{◌≡◌, ℕ, List, Some, None, length, false}
 use Rattle.asl_grammar.specs.Lex.{tokens_of, bad_place}
 use Rattle.asl_grammar.specs.Grammar.{IsProgram, IsGrammarFault, bare}
 use Rattle.asl_syntax.specs.declared.fault.SyntaxFault as code

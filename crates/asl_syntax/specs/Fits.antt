@@ -1,9 +1,8 @@
 -- Which names and numbers the code's tree has room for.
-use Rattle.std.specs.Prelude.{◌≡◌, ℕ, ◌≤◌, List, [], ◌∷◌, Bool, true, false, Option, Some, None, length}
-use Rattle.asl_grammar.specs.declared.token.Mark.TheVariants as mark
-use Rattle.asl_grammar.specs.Token.{Token, Fixed, Name, Number, Spot}
+use Rattle.std.specs.Prelude.{ℕ, ◌≤◌, List, [], ◌∷◌, true, false, Option, Some, None, length}
+use Rattle.asl_grammar.specs.Token.{Token, Spot}
 use Rattle.asl_grammar.specs.Written.{Right, Line, Literal, NullValue, Copied, Binary, GlobalAddress, FieldAddress, Loaded, Created, Assigns, Calls, Stores, Shows}
-use Rattle.asl_grammar.specs.Automaton.{Opening, Control, Act, OfIf, OfElse, OfWhile, OfAtomic, ItemStart, AfterGlobal, GlobalNamed, AfterFn, FunctionNamed, FirstParameter, AfterParameter, NextParameter, BodyStart, StatementStart, AfterThen, Target, AfterBecomes, AfterMinus, AfterValue, AfterOperator, AfterAmpersand, AfterAddress, AfterBracket, AfterIndex, AfterStar, AfterNew, FirstArgument, AfterArgument, NextArgument, CallEnd, LineEnd, StoreStart, StoreTarget, StoreValue, AfterOut, AfterIf, AfterWhile, AfterHeader, AfterReturn, Returned, BodyEnd, Keep, Declare, Start, Parameter, Argument, Emit, EmitCall, Begin, Close, Finish, step}
+use Rattle.asl_grammar.specs.Automaton.{Opening, Control, Act, OfIf, OfElse, OfWhile, OfAtomic, Keep, Declare, Start, Parameter, Argument, Emit, EmitCall, Begin, Close, Finish, step}
 use Rattle.asl_grammar.specs.Seen.{settled}
 use Rattle.asl_syntax.specs.Built.{Stack, kind_of, ready, apply}
 

@@ -1,5 +1,5 @@
 -- Which names the code's maps know.
-use Rattle.std.specs.Prelude.{ℕ, List, Bool, Option, is_some}
+use Rattle.std.specs.Prelude.{ℕ, List, is_some}
 use Rattle.std.specs.Borrow.{Bor}
 use Rattle.std.specs.Ordering.{nat_cmp}
 use Rattle.std.specs.Cmp.Lexicographic.{slice_cmp}

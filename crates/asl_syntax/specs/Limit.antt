@@ -1,6 +1,5 @@
 -- The limits of a source text, each at the token that goes past it.
-use Rattle.std.specs.Prelude.{ℕ, suc, ◌-◌, List, [], ◌∷◌, Bool, true, false, Option, Some, None, if◌then◌else◌, ◌==◌, nat_lt, nat_le, ◌||◌, length, min}
-use Rattle.asl_grammar.specs.declared.token.Mark.{Mark}
+use Rattle.std.specs.Prelude.{ℕ, suc, ◌-◌, List, [], ◌∷◌, Bool, false, Option, Some, None, if◌then◌else◌, ◌==◌, nat_lt, nat_le, ◌||◌, length, min}
 use Rattle.asl_grammar.specs.declared.token.Mark.TheVariants as mark
 use Rattle.asl_grammar.specs.Token.{Token, Fixed, Name, Number, Spot}
 use Rattle.asl_grammar.specs.Lex.{tokens_of}

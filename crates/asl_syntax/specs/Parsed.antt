@@ -1,5 +1,5 @@
 -- Which tree a text spells, and that it breaks no rule.
-use Rattle.std.specs.Prelude.{◌≡◌, ℕ, List, Bool, Option, None, IsTrue, nat_le, position}
+use Rattle.std.specs.Prelude.{◌≡◌, ℕ, List, Option, None, IsTrue, nat_le, position}
 use Rattle.asl_grammar.specs.Lex.{tokens_of, bad_place}
 use Rattle.asl_grammar.specs.Grammar.{bare}
 use Rattle.asl_syntax.specs.Tree.{Item}

@@ -1,10 +1,10 @@
 -- The rules of names: what is declared twice, what is nowhere declared, and which calls have too many or too few
 -- arguments.
-use Rattle.std.specs.Prelude.{ℕ, List, [], ◌∷◌, Bool, true, false, Option, Some, None, if◌then◌else◌, ◌==◌, ◌||◌, ◌&&◌, not, bytes_eq, codes, length}
+use Rattle.std.specs.Prelude.{ℕ, List, [], ◌∷◌, Bool, false, Option, Some, None, if◌then◌else◌, ◌==◌, ◌||◌, ◌&&◌, not, bytes_eq, codes, length}
 use Rattle.asl_grammar.specs.Token.{Token, Name, Spot}
 use Rattle.asl_syntax.specs.declared.names.Space.{Space}
 use Rattle.asl_syntax.specs.declared.names.Space.TheVariants.{Globals, Functions, Locals}
-use Rattle.asl_syntax.specs.Tree.{Function, Item, GlobalItem, FunctionItem}
+use Rattle.asl_syntax.specs.Tree.{Item, GlobalItem, FunctionItem}
 use Rattle.asl_syntax.specs.Mentions.{Mention, DeclaresGlobal, DeclaresFunction, DeclaresParameter, AssignsLocal, UsesLocal, UsesGlobal, CallsFunction, function_mentions, mentions}
 
 -- which names are known: none, or one more

@@ -1,5 +1,5 @@
 -- The tree that a written program means, and which tokens spell a tree.
-use Rattle.std.specs.Prelude.{◌≡◌, ℕ, zero, suc, ℤ, pos, negsuc, List, [], ◌∷◌, Bool, true, false, map}
+use Rattle.std.specs.Prelude.{◌≡◌, ℕ, zero, suc, ℤ, pos, negsuc, List, [], Bool, true, false, map}
 use Rattle.asl_grammar.specs.Token.{Token}
 use Rattle.asl_grammar.specs.Written as w
 use Rattle.asl_grammar.specs.Spelling.{program_on}

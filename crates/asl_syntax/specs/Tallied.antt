@@ -1,8 +1,7 @@
 -- The limits counted token by token.
-use Rattle.std.specs.Prelude.{ℕ, suc, ◌-◌, List, [], ◌∷◌, Bool, Option, Some, None, if◌then◌else◌}
-use Rattle.asl_grammar.specs.declared.token.Mark.{Mark}
+use Rattle.std.specs.Prelude.{ℕ, suc, ◌-◌, List, [], ◌∷◌, Option, Some, None, if◌then◌else◌}
 use Rattle.asl_grammar.specs.declared.token.Mark.TheVariants as mark
-use Rattle.asl_grammar.specs.Token.{Token, Fixed, Name, Number, Spot}
+use Rattle.asl_grammar.specs.Token.{Token, Fixed, Name, Spot}
 use Rattle.asl_syntax.specs.Limit.{Tally, one_more, is_over}
 
 -- the names in a head behind one more token

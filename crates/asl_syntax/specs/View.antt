@@ -1,5 +1,5 @@
 -- The code's tree as the value that contracts speak of.
-use Rattle.std.specs.Prelude.{ℕ, List, [], ◌∷◌, map, Vec}
+use Rattle.std.specs.Prelude.{List, [], ◌∷◌, map, Vec}
 use Rattle.std.specs.declared.alloc.Global.{Global}
 use Rattle.asl_syntax.specs.declared.tree.Value as value
 use Rattle.asl_syntax.specs.declared.tree.Value.TheVariants as values

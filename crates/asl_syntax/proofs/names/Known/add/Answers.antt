@@ -1,9 +1,8 @@
-use Rattle.std.proofs.Common.{◌≡◌, ap, cond, ◌∙◌, Some, is_some, List, ℕ}
+use Rattle.std.proofs.Common.{ap, cond, ◌∙◌, Some, is_some, List, ℕ}
 use Rattle.std.specs.Prelude.{bytes_eq}
 use Rattle.std.proofs.Math.Path.{fun_ext}
 use Rattle.std.proofs.lemmas.Map.Text.{btree_map_updates_str}
-use Rattle.asl_syntax.specs.Rules.{with_count, with_name}
-use Rattle.asl_syntax.specs.KnownView.{counts_in, names_known}
+use Rattle.asl_syntax.specs.KnownView.{counts_in}
 use Rattle.asl_syntax.proofs.KnownNames.{is_some_with}
 use Rattle.asl_syntax.proofs.names.Known.add.Goals as goal
 
