@@ -8,3 +8,4 @@ pub mod Real
 pub mod Apart
 pub mod OneFault
 pub mod Longest
+pub mod OneReading

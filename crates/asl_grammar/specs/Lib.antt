@@ -10,3 +10,4 @@ pub mod ControlView
 pub mod Seen
 pub mod SeenView
 pub mod Bytes
+pub mod Readings

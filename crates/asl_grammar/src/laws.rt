@@ -1,9 +1,10 @@
 //! Laws of texts and tokens, as functions that do nothing: what each ensures is the law.
 
 ghost use Rattle.std.specs.Prelude.{◌≡◌, ℕ, ◌<◌, List, ◌++◌, IsTrue, Option, Some, length};
-ghost use Rattle.asl_grammar.specs.Token.{Token, Name, Number};
-ghost use Rattle.asl_grammar.specs.Lex.{is_digit, is_name_byte, leading, number_value, front, all_bytes, is_name, are_tokens, tokens_of};
+ghost use Rattle.asl_grammar.specs.Token.{Token, Name, Number, Spot};
+ghost use Rattle.asl_grammar.specs.Lex.{is_digit, is_name_byte, leading, number_value, front, all_bytes, is_name, are_tokens, tokens_of, bad_place};
 ghost use Rattle.asl_grammar.specs.Bytes.{IsSpelling, IsFront};
+ghost use Rattle.asl_grammar.specs.Readings.{IsReading};
 ghost use Rattle.asl_grammar.specs.Grammar.{bare, IsGrammarFault};
 
 /// The names of a text's tokens are names: a letter and name bytes, and no word.
@@ -27,4 +28,12 @@ pub fn a_front_is_the_longest_token()
 /// A text stops being the beginning of a program at one place at the most.
 pub fn a_text_has_one_grammar_fault()
     ensures { (text : List ℕ) (end a b : ℕ) → IsGrammarFault (tokens_of text) end a → IsGrammarFault (tokens_of text) end b → a ≡ b }
+{}
+
+/// A text is blanks and longest tokens, one after the other, to its end or to a place where no token stands; in one way,
+/// which is how it is read.
+pub fn a_text_has_one_reading()
+    ensures read { (text : List ℕ) → IsReading text 0 (tokens_of text) (bad_place text) }
+    ensures tokens { (text : List ℕ) (ss : List Spot) (end : Option ℕ) → IsReading text 0 ss end → ss ≡ tokens_of text }
+    ensures end { (text : List ℕ) (ss : List Spot) (end : Option ℕ) → IsReading text 0 ss end → end ≡ bad_place text }
 {}
