@@ -17,3 +17,4 @@ pub mod Printing
 pub mod Mentioned
 pub mod ReadBack
 pub mod Outcomes
+pub mod Few

@@ -13,7 +13,7 @@ pub struct Ast {
 }
 
 impl Ast {
-    ghost use Rattle.std.specs.Prelude.{◌≡◌, map, IfOk};
+    ghost use Rattle.std.specs.Prelude.{◌≡◌, ◌≤◌, length, map, IfOk};
     ghost use Rattle.asl_syntax.specs.View.{item_of, function_of};
     ghost use Rattle.asl_syntax.specs.Tree.{globals_of, functions_of};
     ghost use Rattle.asl_syntax.specs.AstView.{tree_of};
@@ -26,9 +26,12 @@ impl Ast {
         Ast { items }
     }
 
-    /// The globals and functions in the order of the text.
+    /// The globals and functions in the order of the text. They are few, as the limits of a text say.
     pub fn items(&self) -> &[Item]
-        ensures { map item_of result.now ≡ tree_of self.now }
+        ensures items { map item_of result.now ≡ tree_of self.now }
+        ensures parsed { ∥ IsParsed (tree_of self.now) ∥₁ }
+        ensures few_globals { length (globals_of (tree_of self.now)) ≤ 1024 }
+        ensures few_functions { length (functions_of (tree_of self.now)) ≤ 256 }
     {
         self.items.as_slice()
     }
