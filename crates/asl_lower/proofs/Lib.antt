@@ -15,3 +15,5 @@ pub mod Owned
 pub mod Marks
 pub mod Outside
 pub mod Lowest
+pub mod Listed
+pub mod Emitted

@@ -8,3 +8,5 @@ pub mod ScopeView
 pub mod Facts
 pub mod Layout
 pub mod Reach
+pub mod Refused
+pub mod Kept

@@ -1,3 +1,4 @@
+use std::alloc::AllocError;
 use thiserror::Error;
 
 /// Why a program is not lowered. The first that applies is answered.
@@ -15,4 +16,15 @@ pub enum LowerFault {
     /// The memory ran out.
     #[error("OutOfMemory")]
     OutOfMemory,
+}
+
+impl From<AllocError> for LowerFault {
+    ghost use Rattle.std.specs.Prelude.{◌≡◌};
+    ghost use Rattle.asl_lower.specs.declared.fault.LowerFault.TheVariants.{OutOfMemory};
+
+    ghost from_gives = { λ _ e. e ≡ OutOfMemory };
+
+    fn from(_failed: AllocError) -> LowerFault {
+        LowerFault::OutOfMemory
+    }
 }

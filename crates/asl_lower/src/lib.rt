@@ -2,11 +2,14 @@
 #![tactic(auto)]
 
 mod bare;
+mod draft;
 mod emit;
 mod fault;
 mod functions;
 mod laws;
 mod locals;
+mod lower;
+mod lowering;
 mod names;
 mod output;
 mod scope;
@@ -18,4 +21,5 @@ pub use laws::{
     bare_accesses_are_in_sections, bodies_part_the_code, calls_pass_on, control_stays_inside,
     numbers_follow_the_code, one_lowering, returns_stand_last, sections_are_listed, sections_nest,
 };
+pub use lowering::Lowering;
 pub use section::Section;

@@ -1,0 +1,74 @@
+//! The code of a program, before its accesses are judged.
+
+ghost use Rattle.std.specs.Prelude.{◌≡◌, ◌≤◌, None, length, map, codes, IfOk, IfErr};
+ghost use Rattle.asl_syntax.specs.View.{item_of};
+ghost use Rattle.asl_lower.specs.Names.{globals_of, functions_of, function_names, number_of};
+ghost use Rattle.asl_lower.specs.Layout.{lowering_of};
+ghost use Rattle.asl_lower.specs.Refused.{first_wide, IsRefused};
+ghost use Rattle.asl_lower.specs.Kept.{lowered_of};
+
+use crate::fault::LowerFault;
+use crate::functions::{emit_functions, first_wide};
+use crate::names::function_number;
+use crate::output::{Full, Output};
+use asl_code::Function;
+use asl_syntax::Name;
+use asl_syntax::tree::Item;
+use std::alloc::Global;
+
+/// What has been emitted for a program.
+#[derive(Drop)]
+pub struct Draft {
+    pub globals: u16,
+    pub functions: Vec<Function>,
+    pub main: u16,
+    pub out: Output,
+}
+
+/// How many globals a program has.
+fn count_globals(items: &[Item]) -> usize
+    ensures { result ≡ length (globals_of (map item_of items.now)) }
+{
+    let mut count = 0;
+    for item in items {
+        if let Item::Global(_) = item {
+            count += 1;
+        }
+    }
+    count
+}
+
+/// The number of the function `main`.
+fn main_number(items: &[Item]) -> usize
+    ensures number { result ≡ number_of (function_names (functions_of (map item_of items.now))) (codes "main") }
+    ensures bound { result ≤ length (functions_of (map item_of items.now)) }
+{
+    function_number(items, &Name::from_slice(b"main"))
+}
+
+/// The code of a program, if its functions have few registers and it has few instructions.
+pub fn make_draft(alloc: Global, items: &[Item]) -> Result<Draft, LowerFault>
+    requires few_globals { length (globals_of (map item_of items.now)) ≤ 1024 }
+    requires few_functions { length (functions_of (map item_of items.now)) ≤ 256 }
+    ensures lowered { IfOk result (λ d. lowered_of d ≡ lowering_of (map item_of items.now)) }
+    ensures few_registers { IfOk result (λ _. first_wide 0 (functions_of (map item_of items.now)) ≡ None) }
+    ensures refused { IfErr result (IsRefused (map item_of items.now)) }
+{
+    if let Some(number) = first_wide(alloc, items)? {
+        return Err(LowerFault::Registers(number));
+    }
+    let mut out = Output::new(alloc);
+    let functions = match emit_functions(alloc, &mut out, items) {
+        Ok(functions) => functions,
+        Err(Full::CodeSize) => return Err(LowerFault::CodeSize),
+        Err(Full::OutOfMemory) => return Err(LowerFault::OutOfMemory),
+    };
+    let globals = count_globals(items) as u16;
+    let main = main_number(items) as u16;
+    Ok(Draft {
+        globals,
+        functions,
+        main,
+        out,
+    })
+}
