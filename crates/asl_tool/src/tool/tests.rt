@@ -175,7 +175,7 @@ fn each_rule_of_an_image_is_named(rt: HostRuntime) -> Result<(), Fail> {
             "asl: Verify(Operand(1))\n",
         ),
         (
-            "version 1\nclasses 0\nentry 0\nfn 1 1\nnull r0\nret r0\n",
+            "version 1\nclasses 1\nentry 0\nfn 1 1\nnew r0, 0, 0\nret r0\n",
             "asl: Verify(Operand(0))\n",
         ),
         (
