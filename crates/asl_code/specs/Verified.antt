@@ -116,15 +116,10 @@ has_registers i f Release = true
 
 -- whether the verifier takes the instruction yet: of the rest it says that their operands are not there
 abbrev pub is_taken : Instr → Bool
-is_taken (SetInt to value) = true
-is_taken (Add to left right) = true
-is_taken (GlobalAddress to global) = true
-is_taken (Load to address) = true
-is_taken (Store address from) = true
-is_taken (Return from) = true
-is_taken (Acquire list) = true
-is_taken Release = true
-is_taken instr = false
+is_taken (FieldAddress to from offset) = false
+is_taken (New to cells class) = false
+is_taken (Call to first function) = false
+is_taken instr = true
 
 -- whether the global, class or list that the instruction names is there, and a new object has a cell (docs/LIMITS.md, Operand)
 abbrev pub names_operands : Image → Instr → Bool

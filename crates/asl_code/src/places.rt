@@ -129,16 +129,9 @@ fn has_operands(image: &Image, instr: &Instr) -> bool
 fn is_taken(instr: &Instr) -> bool
     ensures { result ≡ is_taken instr.now }
 {
-    matches!(
+    !matches!(
         instr,
-        Instr::SetInt { .. }
-            | Instr::Add { .. }
-            | Instr::GlobalAddress { .. }
-            | Instr::Load { .. }
-            | Instr::Store { .. }
-            | Instr::Return { .. }
-            | Instr::Acquire { .. }
-            | Instr::Release
+        Instr::FieldAddress { .. } | Instr::New { .. } | Instr::Call { .. }
     )
 }
 

@@ -237,6 +237,9 @@ fn pair(case: usize) -> Option<([Instr; 2], Option<VerifyFault>)> {
         ),
         22 => (Instr::GlobalAddress { to: 0, global: 1 }, operand),
         23 => (Instr::Acquire { list: 1 }, operand),
+        24 => (Instr::Jump { target: 1 }, None),
+        25 => (Instr::JumpIfZero { test: 1, target: 0 }, None),
+        26 => (Instr::Output { from: 1 }, None),
         _ => return None,
     };
     Some(([first, END], fault))
@@ -252,16 +255,11 @@ fn faulty_pair(case: usize) -> Option<([Instr; 2], Option<VerifyFault>)> {
             [END, Instr::JumpIfZero { test: 0, target: 0 }],
             VerifyFault::FallsOut,
         ),
-        2 => ([END, Instr::Jump { target: 0 }], VerifyFault::Operand(1)),
-        3 => ([out, out], VerifyFault::Target(0)),
-        4 => ([high, out], VerifyFault::Target(1)),
-        5 => (
+        2 => ([out, out], VerifyFault::Target(0)),
+        3 => ([high, out], VerifyFault::Target(1)),
+        4 => (
             [Instr::GlobalAddress { to: 0, global: 1 }, high],
             VerifyFault::Register(1),
-        ),
-        6 => (
-            [Instr::Acquire { list: 0 }, Instr::Jump { target: 0 }],
-            VerifyFault::Operand(1),
         ),
         _ => return None,
     };
@@ -275,7 +273,7 @@ fn image_of_pair(alloc: Global, pair: [Instr; 2]) -> Result<Image, AllocError> {
 
 #[test]
 fn judges_each_instruction(rt: HostRuntime) -> Result<(), Fail> {
-    for case in 0..24 {
+    for case in 0..27 {
         let (instrs, want) = pair(case).ok_or("no such case")?;
         assert_eq!(rt;
             fault_of(image_of_pair(rt.alloc(), instrs)?),
@@ -283,7 +281,7 @@ fn judges_each_instruction(rt: HostRuntime) -> Result<(), Fail> {
             "at {case}"
         );
     }
-    for case in 0..7 {
+    for case in 0..5 {
         let (instrs, want) = faulty_pair(case).ok_or("no such case")?;
         assert_eq!(rt;
             fault_of(image_of_pair(rt.alloc(), instrs)?),
@@ -580,10 +578,7 @@ fn bodies(case: usize) -> Option<([Instr; 4], Option<VerifyFault>)> {
             [nop, END, nop, Instr::Jump { target: 1 }],
             Some(VerifyFault::Target(3)),
         ),
-        3 => (
-            [nop, END, nop, Instr::Jump { target: 2 }],
-            Some(VerifyFault::Operand(3)),
-        ),
+        3 => ([nop, END, nop, Instr::Jump { target: 2 }], None),
         4 => ([set, END, nop, END], None),
         5 => ([nop, END, set, END], Some(VerifyFault::Register(2))),
         // Without parameters no register is taken, so the arguments may begin at the number of registers.
@@ -593,7 +588,7 @@ fn bodies(case: usize) -> Option<([Instr; 4], Option<VerifyFault>)> {
         9 => ([enter, END, enter, END], Some(VerifyFault::ListBase(2))),
         10 => (
             [nop, END, enter, Instr::Jump { target: 2 }],
-            Some(VerifyFault::Operand(3)),
+            Some(VerifyFault::ListBase(2)),
         ),
         _ => return None,
     };

@@ -1,7 +1,7 @@
 -- Each step keeps what holds of every reached state: one lemma for the parts that a step may change, and one a group
 -- of instructions.
-use Rattle.std.proofs.Common.{◌≡◌, ◌≢◌, ℕ, ◌+◌, ◌-◌, ◌<◌, ◌≤◌, ◌⊎◌, ◌==◌, ◌++◌, ◌^◌, zero, suc, pos, replicate, map, length-append, Bool, true, false, cond, List, [], ◌∷◌, Option, Some, None, Result, Ok, Err, IfOk, IsTrue, length, set, slice_get, refl, ap, sym, ◌∙◌, subst, inl, inr, arith, length-set, eqb-true, eq-eqb, All}
-use Rattle.std.specs.Prelude.{IsSome, IsSomeAnd, option_map, option_and_then, unwrap_or}
+use Rattle.std.proofs.Common.{◌≡◌, ◌≢◌, ℕ, ℤ, ◌+◌, ◌-◌, ◌<◌, ◌≤◌, ◌⊎◌, ◌==◌, ◌++◌, ◌^◌, zero, suc, pos, replicate, map, length-append, Bool, true, false, cond, List, [], ◌∷◌, Option, Some, None, Result, Ok, Err, IfOk, IsTrue, length, set, slice_get, refl, ap, sym, ◌∙◌, subst, inl, inr, arith, length-set, eqb-true, eq-eqb, All}
+use Rattle.std.specs.Prelude.{int_lt, IsSome, IsSomeAnd, option_map, option_and_then, unwrap_or}
 use Rattle.std.specs.Option.{option_map_or}
 use Rattle.std.proofs.lemmas.Bool.Decides.{eqb_tells}
 use Rattle.std.proofs.lemmas.Option.{slice_get_cases, slice_get_within, same_Some}
@@ -35,8 +35,8 @@ use Rattle.asl_machine.specs.State.{Object, Frame, Activity, Thread, Running, Do
 use Rattle.asl_machine.specs.Expression.{cell_of}
 use Rattle.asl_machine.specs.Access.{Points, AllPoint, AreOfClasses, IsReady, CanDo, is_protected}
 use Rattle.asl_machine.specs.Request.{LockOfClass, locks_of, request_of}
-use Rattle.asl_machine.specs.Step.{advanced, advanced_with, going_on, after}
-use Rattle.asl_machine.specs.Twin.{Left, Place, Turn, fate_of, set_left, sum_of, loaded, accessed, accessed_by, store_left, left_alone, return_fate, acquire_fate, activity_moved, holding_acquired, acquire_left, release_fate, holding_released, release_left, request_at, left_by, left_at, turn_by, turn_of, step_at, step_of, register_of, can_grant}
+use Rattle.asl_machine.specs.Step.{placed_at, advanced, advanced_with, going_on, after, is_zero}
+use Rattle.asl_machine.specs.Twin.{Left, Place, Turn, fate_of, set_left, computed, added, subtracted, compared, truth, same_value, jump_left, show_left, loaded, accessed, accessed_by, store_left, left_alone, return_fate, acquire_fate, activity_moved, holding_acquired, acquire_left, release_fate, holding_released, release_left, request_at, left_by, left_at, turn_by, turn_of, step_at, step_of, register_of, can_grant}
 use Rattle.asl_machine.specs.Sound.{IsPlaced, AreSound, IsSound, IsMachine, ThreadReady}
 use Rattle.asl_machine.specs.Run.{global_object, first_frame, first_thread, first_threads, start_of}
 use Rattle.asl_machine.proofs.Lists.{get_same, get_other, get_either, set_same}
@@ -172,10 +172,14 @@ next_place : (image : Image) (objects : List Object) (a : Activity) (p : IsPlace
     LiesIn image a.top.function (a.top.pc + 1) p.function
 next_place image objects a p i fits at goes = fits.goes_on a.top.function a.top.pc p.function i p.lies at goes
 
+placed_jumped : (image : Image) (objects : List Object) (a : Activity) (depth target : ℕ) (p : IsPlaced image objects a) → LiesIn image a.top.function target p.function → depth ≤ 255 →
+    IsPlaced image objects (going_on a depth (placed_at target a.top))
+placed_jumped image objects a depth target p lies small =
+    record { function = p.function; lies = lies; registers = p.registers; points = p.points; depth = small; alone = p.alone }
+
 placed_advanced : (image : Image) (objects : List Object) (a : Activity) (depth : ℕ) (p : IsPlaced image objects a) → LiesIn image a.top.function (a.top.pc + 1) p.function → depth ≤ 255 →
     IsPlaced image objects (going_on a depth (advanced a.top))
-placed_advanced image objects a depth p lies small =
-    record { function = p.function; lies = lies; registers = p.registers; points = p.points; depth = small; alone = p.alone }
+placed_advanced image objects a depth p lies small = placed_jumped image objects a depth (a.top.pc + 1) p lies small
 
 placed_with : (image : Image) (objects : List Object) (a : Activity) (to : ℕ) (v : Value) (p : IsPlaced image objects a) → LiesIn image a.top.function (a.top.pc + 1) p.function → Points objects v →
     IsPlaced image objects (going_on a a.depth (advanced_with to v a.top))
@@ -205,12 +209,16 @@ follows_set image s t a h lies to (Ok v) p =
     follows_goes image s t a _ s.objects h h.sound.objects (λ w q. q) (placed_with image s.objects a to v h.placed lies p) (λ e. e)
 follows_set image s t a h lies to (Err f) p = follows_fail image s t a f h
 
-sum_points : (objects : List Object) (x y : Value) → IfOk (sum_of x y) (Points objects)
-sum_points objects (Int x) (Int y) = tt
-sum_points objects (Int x) Null = tt
-sum_points objects (Int x) (Addr o i) = tt
-sum_points objects Null y = tt
-sum_points objects (Addr o i) y = tt
+computed_points : (objects : List Object) (operation : ℤ → ℤ → Value) → ((x y : ℤ) → Points objects (operation x y)) → (x y : Value) → IfOk (computed operation x y) (Points objects)
+computed_points objects operation h (Int x) (Int y) = h x y
+computed_points objects operation h (Int x) Null = tt
+computed_points objects operation h (Int x) (Addr o i) = tt
+computed_points objects operation h Null y = tt
+computed_points objects operation h (Addr o i) y = tt
+
+truth_points : (objects : List Object) (b : Bool) → Points objects (truth b)
+truth_points objects true = tt
+truth_points objects false = tt
 
 found_points : (objects : List Object) (o : Option Value) → ((v : Value) → o ≡ Some v → Points objects v) → Points objects (unwrap_or o Null)
 found_points objects None h = tt
@@ -228,6 +236,20 @@ follows_store image s t a h lies value (Ok cell) p =
     follows_goes image s t a _ more h (sound_written image s.objects cell value h.sound.objects p) grows
     (grown image s.objects more _ grows (placed_advanced image s.objects a a.depth h.placed lies h.placed.depth)) (λ e. e)
 follows_store image s t a h lies value (Err f) p = follows_fail image s t a f h
+
+follows_jump : (image : Image) (s : State) (t : ℕ) (a : Activity) (h : Here image s t a) (target : ℕ) → LiesIn image a.top.function target h.placed.function →
+    Follows image s t (jump_left (here_place s t a) target)
+follows_jump image s t a h target lies =
+    follows_goes image s t a _ s.objects h h.sound.objects (λ v p. p) (placed_jumped image s.objects a a.depth target h.placed lies h.placed.depth) (λ e. e)
+
+follows_show : (image : Image) (s : State) (t : ℕ) (a : Activity) (h : Here image s t a) → LiesIn image a.top.function (a.top.pc + 1) h.placed.function → (value : Value) →
+    Follows image s t (show_left (here_place s t a) value)
+follows_show image s t a h lies value =
+    follows_goes image s t a _ s.objects h h.sound.objects (λ v p. p) (placed_advanced image s.objects a a.depth h.placed lies h.placed.depth) (λ e. e)
+
+either_lies : (image : Image) (n x y : ℕ) (f : Function) (b : Bool) → LiesIn image n x f → LiesIn image n y f → LiesIn image n (cond b x y) f
+either_lies image n x y f true p q = p
+either_lies image n x y f false p q = q
 
 follows_return : (image : Image) (s : State) (t : ℕ) (a : Activity) (h : Here image s t a) (value : Value) → Follows image s t (left_alone (here_place s t a) (return_fate a.depth value))
 follows_return image s t a h value =
@@ -308,9 +330,22 @@ follows_instr : (image : Image) (s : State) (t : ℕ) (a : Activity) (h : Here i
     FitsInstr image a.top.function h.placed.function i → IsTrue (is_taken i) → Follows image s t (left_by image (length s.threads) (here_place s t a) i)
 follows_instr image s t a h (instr.SetInt to number) at fits taken =
     follows_set image s t a h (next_place image s.objects a h.placed _ h.sound.fits at refl) to (Ok (Int number)) tt
+follows_instr image s t a h (instr.SetNull to) at fits taken =
+    follows_set image s t a h (next_place image s.objects a h.placed _ h.sound.fits at refl) to (Ok Null) tt
+follows_instr image s t a h (instr.Move to from) at fits taken =
+    follows_set image s t a h (next_place image s.objects a h.placed _ h.sound.fits at refl) to (Ok (register_of a.top from)) (register_points s.objects a from h.placed.points)
 follows_instr image s t a h (instr.Add to left right) at fits taken =
-    follows_set image s t a h (next_place image s.objects a h.placed _ h.sound.fits at refl) to (sum_of (register_of a.top left) (register_of a.top right))
-    (sum_points s.objects (register_of a.top left) (register_of a.top right))
+    follows_set image s t a h (next_place image s.objects a h.placed _ h.sound.fits at refl) to (computed added (register_of a.top left) (register_of a.top right))
+    (computed_points s.objects added (λ x y. tt) (register_of a.top left) (register_of a.top right))
+follows_instr image s t a h (instr.Subtract to left right) at fits taken =
+    follows_set image s t a h (next_place image s.objects a h.placed _ h.sound.fits at refl) to (computed subtracted (register_of a.top left) (register_of a.top right))
+    (computed_points s.objects subtracted (λ x y. tt) (register_of a.top left) (register_of a.top right))
+follows_instr image s t a h (instr.LessThan to left right) at fits taken =
+    follows_set image s t a h (next_place image s.objects a h.placed _ h.sound.fits at refl) to (computed compared (register_of a.top left) (register_of a.top right))
+    (computed_points s.objects compared (λ x y. truth_points s.objects (int_lt x y)) (register_of a.top left) (register_of a.top right))
+follows_instr image s t a h (instr.Equals to left right) at fits taken =
+    let same = same_value (register_of a.top left) (register_of a.top right) in
+    follows_set image s t a h (next_place image s.objects a h.placed _ h.sound.fits at refl) to (Ok (truth same)) (truth_points s.objects same)
 follows_instr image s t a h (instr.GlobalAddress to global) at fits taken =
     follows_set image s t a h (next_place image s.objects a h.placed _ h.sound.fits at refl) to (Ok (Addr global 0)) (h.sound.objects.globals global fits.1)
 follows_instr image s t a h (instr.Load to address) at fits taken =
@@ -319,6 +354,13 @@ follows_instr image s t a h (instr.Load to address) at fits taken =
 follows_instr image s t a h (instr.Store address from) at fits taken =
     follows_store image s t a h (next_place image s.objects a h.placed _ h.sound.fits at refl) (register_of a.top from) (accessed_by (here_place s t a) Write address)
     (register_points s.objects a from h.placed.points)
+follows_instr image s t a h (instr.Jump target) at fits taken = follows_jump image s t a h target fits
+follows_instr image s t a h (instr.JumpIfZero test target) at fits taken =
+    let next = next_place image s.objects a h.placed _ h.sound.fits at refl in
+    follows_jump image s t a h _
+    (either_lies image a.top.function target (a.top.pc + 1) h.placed.function (is_zero (register_of a.top test)) fits.1 next)
+follows_instr image s t a h (instr.Output from) at fits taken =
+    follows_show image s t a h (next_place image s.objects a h.placed _ h.sound.fits at refl) (register_of a.top from)
 follows_instr image s t a h (instr.Return from) at fits taken = follows_return image s t a h (register_of a.top from)
 follows_instr image s t a h (instr.Acquire list) at fits taken =
     follows_enter image s t a h (next_place image s.objects a h.placed _ h.sound.fits at refl) (locks_of image list) (locks_fit image h.placed.function list fits.0 fits.1 fits.2)
@@ -376,7 +418,15 @@ step_sound image s t sound =
 
 can_do : (image : Image) (a : Activity) (n : ℕ) (f : Function) (i : Instr) → length a.top.regs ≡ f.regs → FitsInstr image n f i → IsTrue (is_taken i) → CanDo image a.top i
 can_do image a n f (instr.SetInt to number) e h k = omega arith
+can_do image a n f (instr.SetNull to) e h k = omega arith
+can_do image a n f (instr.Move to from) e h k = (omega (arith, h.0), omega (arith, h.1))
 can_do image a n f (instr.Add to left right) e h k = (omega (arith, h.0), omega (arith, h.1), omega (arith, h.2))
+can_do image a n f (instr.Subtract to left right) e h k = (omega (arith, h.0), omega (arith, h.1), omega (arith, h.2))
+can_do image a n f (instr.LessThan to left right) e h k = (omega (arith, h.0), omega (arith, h.1), omega (arith, h.2))
+can_do image a n f (instr.Equals to left right) e h k = (omega (arith, h.0), omega (arith, h.1), omega (arith, h.2))
+can_do image a n f (instr.Jump target) e h k = tt
+can_do image a n f (instr.JumpIfZero test target) e h k = omega (arith, h.0)
+can_do image a n f (instr.Output from) e h k = omega arith
 can_do image a n f (instr.GlobalAddress to global) e h k = omega (arith, h.0)
 can_do image a n f (instr.Load to address) e h k = (omega (arith, h.0), omega (arith, h.1))
 can_do image a n f (instr.Store address from) e h k = (omega (arith, h.0), omega (arith, h.1))

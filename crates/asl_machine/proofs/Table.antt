@@ -1,7 +1,11 @@
 -- The computed step is the one line of the table that applies, at each state that a verified program reaches.
-use Rattle.std.proofs.Common.{◌≡◌, ◌≢◌, ℕ, ℤ, ◌+◌, ◌-◌, ◌<◌, ◌≤◌, ◌⊎◌, ◌==◌, ◌&&◌, zero, suc, Bool, true, false, cond, List, [], ◌∷◌, Option, Some, None, Result, Ok, Err, IsTrue, length, set, slice_get, refl, ap, sym, ◌∙◌, subst, inl, inr, arith, eqb-true, eq-eqb, ne_eqb}
+use Rattle.std.proofs.Common.{◌≡◌, ◌≢◌, ℕ, ℤ, pos, ◌+◌, ◌-◌, ◌<◌, ◌≤◌, ◌⊎◌, ◌==◌, ◌&&◌, zero, suc, Bool, true, false, cond, List, [], ◌∷◌, Option, Some, None, Result, Ok, Err, IsTrue, length, set, slice_get, refl, ap, sym, ◌∙◌, subst, inl, inr, arith, eqb-true, eq-eqb, ne_eqb}
 use Rattle.std.specs.Prelude.{IsSome, unwrap_or}
-use Rattle.std.specs.Int.{w32, int_wrapping_add}
+use Rattle.std.specs.Int.{w32, int_wrapping_add, int_wrapping_sub}
+use Rattle.std.specs.Ordering.{int_eq}
+use Rattle.std.specs.Prelude.{int_lt, ◌<ℤ◌, ◌≤ℤ◌}
+use Rattle.std.proofs.lemmas.Bool.Decides.{Decides-int_eq}
+use Rattle.std.proofs.lemmas.Int.{ints}
 use Rattle.std.proofs.lemmas.Option.{slice_get_cases, slice_get_within}
 use Rattle.asl_code.specs.declared.image.Image.{Image}
 use Rattle.asl_code.specs.declared.image.Function.{Function}
@@ -26,8 +30,8 @@ use Rattle.asl_machine.specs.State.{Object, Activity, Thread, Running, Done, Fai
 use Rattle.asl_machine.specs.Expression.{cell_of}
 use Rattle.asl_machine.specs.Access.{Points, AllPoint, is_protected}
 use Rattle.asl_machine.specs.Request.{locks_of, request_of}
-use Rattle.asl_machine.specs.Step.{At, advanced, advanced_with, going_on, after, Reads, ReadsAddress, is_allowed, Sets, GoesOn, Fails, are_integers, Adds, AddsNoIntegers, Loads, Stores, FailsNull, FailsType, FailsUnprotected, Returns, FailsOpen, Nests, Asks, Enters, Waits, Unnests, Leaves, Line, StepOf, Step}
-use Rattle.asl_machine.specs.Twin.{Left, Place, Turn, fate_of, set_left, sum_of, allowed_cell, loaded, accessed, accessed_by, store_left, left_alone, return_fate, acquire_fate, activity_moved, acquire_left, release_left, request_at, left_by, left_at, turn_by, turn_of, step_at, step_of, register_of, can_grant}
+use Rattle.asl_machine.specs.Step.{At, placed_at, advanced, advanced_with, going_on, after, Reads, ReadsAddress, is_allowed, Sets, GoesOn, Fails, are_integers, is_zero, Computes, FailsOperands, IsBelow, IsNotBelow, AreSame, AreOther, JumpsIfZero, PassesBy, Loads, Stores, FailsNull, FailsType, FailsUnprotected, Returns, FailsOpen, Nests, Asks, Enters, Waits, Unnests, Leaves, Line, StepOf, Step}
+use Rattle.asl_machine.specs.Twin.{Left, Place, Turn, fate_of, set_left, computed, added, subtracted, compared, truth, same_value, jump_left, show_left, allowed_cell, loaded, accessed, accessed_by, store_left, left_alone, return_fate, acquire_fate, activity_moved, acquire_left, release_left, request_at, left_by, left_at, turn_by, turn_of, step_at, step_of, register_of, can_grant}
 use Rattle.asl_machine.specs.Sound.{IsPlaced, IsSound}
 use Rattle.asl_machine.proofs.Grants.{grant_when_free, can_grant-true}
 use Rattle.asl_machine.proofs.Soundness.{Here, here_of, here_place, instr_here, after_same}
@@ -47,13 +51,77 @@ read_there a r lt =
       | inr past ↦ let le : length a.top.regs ≤ r = past.0 in absurd (omega arith)
     ]
 
-add_line : (at : At) (to left right : ℕ) (x y : Value) → Reads at left x → Reads at right y →
-    IsLine at (instr.Add to left right) (set_left (here_place at.state at.thread at.activity) to (sum_of x y))
-add_line at to left right (Int x) (Int y) p q = record { x = x; y = y; reads_left = p; reads_right = q; sets = refl }
-add_line at to left right (Int x) Null p q = record { x = Int x; y = Null; reads_left = p; reads_right = q; other = refl; fails = refl }
-add_line at to left right (Int x) (Addr o i) p q = record { x = Int x; y = Addr o i; reads_left = p; reads_right = q; other = refl; fails = refl }
-add_line at to left right Null y p q = record { x = Null; y = y; reads_left = p; reads_right = q; other = refl; fails = refl }
-add_line at to left right (Addr o i) y p q = record { x = Addr o i; y = y; reads_left = p; reads_right = q; other = refl; fails = refl }
+-- where the thread is when the register has the value
+abbrev with_value : At → ℕ → Value → State
+with_value at to value = after at.state at.thread (Running (going_on at.activity at.activity.depth (advanced_with to value at.activity.top))) at.state.objects at.state.holding
+
+-- the line of an operation on two integers
+computed_line : (at : At) (i : Instr) (operation : ℤ → ℤ → Value) (to left right : ℕ) →
+    ((x y : ℤ) → Reads at left (Int x) → Reads at right (Int y) → Line at i reply.Ran (with_value at to (operation x y))) →
+    ((n : State) → FailsOperands at left right n → Line at i (reply.Fault fault.BadType) n) → (x y : Value) → Reads at left x → Reads at right y →
+    IsLine at i (set_left (here_place at.state at.thread at.activity) to (computed operation x y))
+computed_line at i operation to left right good bad (Int x) (Int y) p q = good x y p q
+computed_line at i operation to left right good bad (Int x) Null p q = bad _ (record { x = Int x; y = Null; reads_left = p; reads_right = q; other = refl; fails = refl })
+computed_line at i operation to left right good bad (Int x) (Addr o k) p q =
+    bad _ (record { x = Int x; y = Addr o k; reads_left = p; reads_right = q; other = refl; fails = refl })
+computed_line at i operation to left right good bad Null y p q = bad _ (record { x = Null; y = y; reads_left = p; reads_right = q; other = refl; fails = refl })
+computed_line at i operation to left right good bad (Addr o k) y p q =
+    bad _ (record { x = Addr o k; y = y; reads_left = p; reads_right = q; other = refl; fails = refl })
+
+below_line : (at : At) (to left right : ℕ) (x y : ℤ) → Reads at left (Int x) → Reads at right (Int y) → Line at (instr.LessThan to left right) reply.Ran (with_value at to (compared x y))
+below_line at to left right x y p q =
+    elim (int_lt x y) as (λ b. int_lt x y ≡ b → Line at (instr.LessThan to left right) reply.Ran (with_value at to (truth b))) [
+      | true ↦ λ e. inl (record { x = x; y = y; reads_left = p; reads_right = q; below = omega (arith, ints); sets = refl })
+      | false ↦ λ e. inr (record { x = x; y = y; reads_left = p; reads_right = q; not_below = omega (arith, ints); sets = refl })
+    ] refl
+
+-- two values of which the test says that they are the same, are
+pub same_is : (x y : Value) → same_value x y ≡ true → x ≡ y
+same_is (Int x) (Int y) e = ap (λ z. Int z) ((Decides-int_eq x y).0 e)
+same_is (Int x) Null e = cc
+same_is (Int x) (Addr p j) e = cc
+same_is Null (Int y) e = cc
+same_is Null Null e = refl
+same_is Null (Addr p j) e = cc
+same_is (Addr o i) (Int y) e = cc
+same_is (Addr o i) Null e = cc
+same_is (Addr o i) (Addr p j) e =
+    let both = and_parts (o == p) (i == j) e in
+    ap (λ n. Addr n i) (eqb-true o p both.0) ∙ ap (λ n. Addr p n) (eqb-true i j both.1)
+  where
+    and_parts : (a b : Bool) → (a && b) ≡ true → (a ≡ true) × (b ≡ true)
+    and_parts true true e = (refl, refl)
+    and_parts true false e = cc
+    and_parts false b e = cc
+
+-- a value is the same as itself
+pub same_self : (x : Value) → same_value x x ≡ true
+same_self (Int x) = (Decides-int_eq x x).1 refl
+same_self Null = refl
+same_self (Addr o i) = ap (λ b. b && (i == i)) (eq-eqb o o refl) ∙ eq-eqb i i refl
+
+equal_line : (at : At) (to left right : ℕ) (x y : Value) → Reads at left x → Reads at right y →
+    IsLine at (instr.Equals to left right) (set_left (here_place at.state at.thread at.activity) to (Ok (truth (same_value x y))))
+equal_line at to left right x y p q =
+    elim (same_value x y) as (λ b. same_value x y ≡ b → Line at (instr.Equals to left right) reply.Ran (with_value at to (truth b))) [
+      | true ↦ λ e. inl (record { value = x; reads_left = p; reads_right = q ∙ ap (λ (v : Value). Some v) (sym (same_is x y e)); sets = refl })
+      | false ↦ λ e. inr (record {
+        x = x;
+        y = y;
+        reads_left = p;
+        reads_right = q;
+        other = λ is. let yes = ap (same_value x) (sym is) ∙ same_self x in cc;
+        sets = refl;
+      })
+    ] refl
+
+jump_line : (at : At) (test target : ℕ) (v : Value) → Reads at test v →
+    IsLine at (instr.JumpIfZero test target) (jump_left (here_place at.state at.thread at.activity) (cond (is_zero v) target (at.activity.top.pc + 1)))
+jump_line at test target v p =
+    elim (is_zero v) as (λ b. is_zero v ≡ b → IsLine at (instr.JumpIfZero test target) (jump_left (here_place at.state at.thread at.activity) (cond b target (at.activity.top.pc + 1)))) [
+      | true ↦ λ e. inl (record { value = v; reads_value = p; is = e; goes_to = refl })
+      | false ↦ λ e. inr (record { value = v; reads_value = p; is_not = e; goes_on = refl })
+    ] refl
 
 found_is : (o : Option Value) → IsSome o → o ≡ Some (unwrap_or o Null)
 found_is None h = let e = h in cc
@@ -153,9 +221,28 @@ acquire_lines at list request false false free e k small asks granted taken here
 line_there : (image : Image) (s : State) (t : ℕ) (a : Activity) (h : Here image s t a) → slice_get s.threads t ≡ Some (Running a) → (i : Instr) →
     FitsInstr image a.top.function h.placed.function i → IsTrue (is_taken i) → IsLine (at_of image s t a) i (left_by image (length s.threads) (here_place s t a) i)
 line_there image s t a h here (instr.SetInt to number) fits taken = refl
+line_there image s t a h here (instr.SetNull to) fits taken = refl
+line_there image s t a h here (instr.Move to from) fits taken =
+    let count = h.placed.registers in
+    record { value = register_of a.top from; reads_value = read_there a from (omega (arith, fits.1)); sets = refl }
 line_there image s t a h here (instr.Add to left right) fits taken =
     let count = h.placed.registers in
-    add_line (at_of image s t a) to left right (register_of a.top left) (register_of a.top right)
+    computed_line (at_of image s t a) (instr.Add to left right) added to left right (λ x y p q. record { x = x; y = y; reads_left = p; reads_right = q; sets = refl }) (λ n k. k)
+    (register_of a.top left) (register_of a.top right)
+    (read_there a left (omega (arith, fits.1))) (read_there a right (omega (arith, fits.2)))
+line_there image s t a h here (instr.Subtract to left right) fits taken =
+    let count = h.placed.registers in
+    computed_line (at_of image s t a) (instr.Subtract to left right) subtracted to left right (λ x y p q. record { x = x; y = y; reads_left = p; reads_right = q; sets = refl }) (λ n k. k)
+    (register_of a.top left) (register_of a.top right)
+    (read_there a left (omega (arith, fits.1))) (read_there a right (omega (arith, fits.2)))
+line_there image s t a h here (instr.LessThan to left right) fits taken =
+    let count = h.placed.registers in
+    computed_line (at_of image s t a) (instr.LessThan to left right) compared to left right (below_line (at_of image s t a) to left right) (λ n k. k)
+    (register_of a.top left) (register_of a.top right)
+    (read_there a left (omega (arith, fits.1))) (read_there a right (omega (arith, fits.2)))
+line_there image s t a h here (instr.Equals to left right) fits taken =
+    let count = h.placed.registers in
+    equal_line (at_of image s t a) to left right (register_of a.top left) (register_of a.top right)
     (read_there a left (omega (arith, fits.1))) (read_there a right (omega (arith, fits.2)))
 line_there image s t a h here (instr.GlobalAddress to global) fits taken = refl
 line_there image s t a h here (instr.Load to address) fits taken =
@@ -166,6 +253,13 @@ line_there image s t a h here (instr.Store address from) fits taken =
     let count = h.placed.registers in
     store_line (at_of image s t a) address from (register_of a.top address) (register_of a.top from)
     (read_there a address (omega (arith, fits.0))) (read_there a from (omega (arith, fits.1)))
+line_there image s t a h here (instr.Jump target) fits taken = refl
+line_there image s t a h here (instr.JumpIfZero test target) fits taken =
+    let count = h.placed.registers in
+    jump_line (at_of image s t a) test target (register_of a.top test) (read_there a test (omega (arith, fits.0)))
+line_there image s t a h here (instr.Output from) fits taken =
+    let count = h.placed.registers in
+    record { reads_value = read_there a from (omega arith); goes_on = refl }
 line_there image s t a h here (instr.Return from) fits taken =
     let count = h.placed.registers in
     return_line (at_of image s t a) from (register_of a.top from) h.placed.alone (read_there a from (omega arith))

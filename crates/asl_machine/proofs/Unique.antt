@@ -1,7 +1,8 @@
 -- A step that the table allows is the computed one.
-use Rattle.std.proofs.Common.{◌≡◌, ◌≢◌, ℕ, ℤ, ◌+◌, ◌-◌, ◌<◌, ◌≤◌, ◌⊎◌, ◌==◌, Bool, true, false, cond, List, [], Option, Some, None, Result, Ok, Err, IsTrue, length, slice_get, refl, ap, sym, ◌∙◌, subst, inl, inr, arith, eq-eqb, ne_eqb}
+use Rattle.std.proofs.Common.{◌≡◌, ◌≢◌, ℕ, ℤ, pos, ◌+◌, ◌-◌, ◌<◌, ◌≤◌, ◌⊎◌, ◌==◌, Bool, true, false, cond, List, [], Option, Some, None, Result, Ok, Err, IsTrue, length, slice_get, refl, ap, sym, ◌∙◌, subst, inl, inr, arith, eq-eqb, ne_eqb}
 use Rattle.std.specs.Prelude.{unwrap_or}
-use Rattle.std.specs.Int.{w32, int_wrapping_add}
+use Rattle.std.specs.Prelude.{int_lt, ◌<ℤ◌, ◌≤ℤ◌}
+use Rattle.std.proofs.lemmas.Int.{ints}
 use Rattle.asl_code.specs.declared.image.Image.{Image}
 use Rattle.asl_code.specs.declared.instr.Instr.{Instr}
 use Rattle.asl_code.specs.declared.instr.Instr.TheVariants as instr
@@ -22,12 +23,12 @@ use Rattle.asl_machine.specs.State.{Object, Activity, Thread, Running, Done, Fai
 use Rattle.asl_machine.specs.Access.{is_protected}
 use Rattle.asl_machine.specs.Expression.{cell_of}
 use Rattle.asl_machine.specs.Request.{locks_of, request_of}
-use Rattle.asl_machine.specs.Step.{At, advanced, advanced_with, going_on, after, Reads, ReadsAddress, is_allowed, Sets, GoesOn, Fails, are_integers, Asks, Line, StepOf, Step}
-use Rattle.asl_machine.specs.Twin.{Left, fate_of, set_left, sum_of, allowed_cell, loaded, accessed, accessed_by, store_left, left_alone, return_fate, acquire_fate, activity_moved, holding_acquired, acquire_left, release_fate, holding_released, release_left, left_by, left_at, turn_by, turn_of, step_at, step_of, register_of, can_grant}
+use Rattle.asl_machine.specs.Step.{At, placed_at, advanced, advanced_with, going_on, after, Reads, ReadsAddress, is_allowed, Sets, GoesOn, GoesTo, Fails, are_integers, FailsOperands, is_zero, Asks, Line, StepOf, Step}
+use Rattle.asl_machine.specs.Twin.{Left, fate_of, set_left, computed, added, subtracted, compared, truth, same_value, jump_left, show_left, allowed_cell, loaded, accessed, accessed_by, store_left, left_alone, return_fate, acquire_fate, activity_moved, holding_acquired, acquire_left, release_fate, holding_released, release_left, left_by, left_at, turn_by, turn_of, step_at, step_of, register_of, can_grant}
 use Rattle.asl_machine.specs.Sound.{IsSound}
 use Rattle.asl_machine.proofs.Grants.{grant_when_free, can_grant-true}
 use Rattle.asl_machine.proofs.Soundness.{here_place, after_same}
-use Rattle.asl_machine.proofs.Table.{at_of}
+use Rattle.asl_machine.proofs.Table.{at_of, same_is, same_self}
 
 -- the reply and the state are those that an instruction leaves
 abbrev pub IsLeft : At → Left → Reply → State → Type 0
@@ -35,6 +36,10 @@ IsLeft at l r n = let turn = turn_by at.thread l in (r ≡ turn.reply) × (n ≡
 
 reads_is : (at : At) (r : ℕ) (v : Value) → Reads at r v → register_of at.activity.top r ≡ v
 reads_is at r v e = ap (λ o. unwrap_or o Null) e
+
+not_yes : (b : Bool) → (b ≡ true → ⊥) → b ≡ false
+not_yes true h = absurd (h refl)
+not_yes false h = refl
 
 only_set : (at : At) (to : ℕ) (value : Result Value Fault) (v : Value) (n : State) → value ≡ Ok v → Sets at to v n → IsLeft at (set_left (here_place at.state at.thread at.activity) to value) reply.Ran n
 only_set at to value v n e h = subst (λ x. IsLeft at (set_left (here_place at.state at.thread at.activity) to x) reply.Ran n) (sym e) (refl, h)
@@ -45,15 +50,53 @@ only_unset at to value f n e h = subst (λ x. IsLeft at (set_left (here_place at
 only_unstored : (at : At) (v : Value) (target : Result Cell Fault) (f : Fault) (n : State) → target ≡ Err f → Fails at f n → IsLeft at (store_left (here_place at.state at.thread at.activity) v target) (reply.Fault f) n
 only_unstored at v target f n e h = subst (λ x. IsLeft at (store_left (here_place at.state at.thread at.activity) v x) (reply.Fault f) n) (sym e) (refl, h)
 
-sum_is : (a b x y : Value) → a ≡ x → b ≡ y → sum_of a b ≡ sum_of x y
-sum_is a b x y p q = λ i. sum_of (p i) (q i)
+computed_is : (at : At) (operation : ℤ → ℤ → Value) (left right : ℕ) (x y : Value) → Reads at left x → Reads at right y →
+    computed operation (register_of at.activity.top left) (register_of at.activity.top right) ≡ computed operation x y
+computed_is at operation left right x y p q = λ i. computed operation (reads_is at left x p i) (reads_is at right y q i)
 
-no_sum : (x y : Value) → are_integers x y ≡ false → sum_of x y ≡ Err fault.BadType
-no_sum (Int x) (Int y) e = cc
-no_sum (Int x) Null e = refl
-no_sum (Int x) (Addr o i) e = refl
-no_sum Null y e = refl
-no_sum (Addr o i) y e = refl
+not_computed : (operation : ℤ → ℤ → Value) (x y : Value) → are_integers x y ≡ false → computed operation x y ≡ Err fault.BadType
+not_computed operation (Int x) (Int y) e = cc
+not_computed operation (Int x) Null e = refl
+not_computed operation (Int x) (Addr o i) e = refl
+not_computed operation Null y e = refl
+not_computed operation (Addr o i) y e = refl
+
+only_computed : (at : At) (operation : ℤ → ℤ → Value) (to left right : ℕ) (x y : ℤ) (v : Value) (n : State) → Reads at left (Int x) → Reads at right (Int y) → operation x y ≡ v → Sets at to v n →
+    IsLeft at (set_left (here_place at.state at.thread at.activity) to (computed operation (register_of at.activity.top left) (register_of at.activity.top right))) reply.Ran n
+only_computed at operation to left right x y v n p q e h =
+    only_set at to _ v n (computed_is at operation left right (Int x) (Int y) p q ∙ ap {A = Value} {B = Result Value Fault} (λ w. Ok w) e) h
+
+only_uncomputed : (at : At) (operation : ℤ → ℤ → Value) (to left right : ℕ) (n : State) → FailsOperands at left right n →
+    IsLeft at (set_left (here_place at.state at.thread at.activity) to (computed operation (register_of at.activity.top left) (register_of at.activity.top right))) (reply.Fault fault.BadType) n
+only_uncomputed at operation to left right n h =
+    only_unset at to _ fault.BadType n (computed_is at operation left right h.x h.y h.reads_left h.reads_right ∙ not_computed operation h.x h.y h.other) h.fails
+
+-- the answer to a test that is known
+lower : (x y : ℤ) → x <ℤ y → compared x y ≡ Int (pos 1)
+lower x y lt =
+    elim (int_lt x y) as (λ b. int_lt x y ≡ b → truth b ≡ Int (pos 1)) [
+      | true ↦ λ e. refl
+      | false ↦ λ e. absurd (omega (arith, ints))
+    ] refl
+
+not_lower : (x y : ℤ) → y ≤ℤ x → compared x y ≡ Int (pos 0)
+not_lower x y le =
+    elim (int_lt x y) as (λ b. int_lt x y ≡ b → truth b ≡ Int (pos 0)) [
+      | true ↦ λ e. absurd (omega (arith, ints))
+      | false ↦ λ e. refl
+    ] refl
+
+only_equal : (at : At) (to left right : ℕ) (x y : Value) (b : Bool) (n : State) → Reads at left x → Reads at right y → same_value x y ≡ b → Sets at to (truth b) n →
+    IsLeft at (set_left (here_place at.state at.thread at.activity) to (Ok (truth (same_value (register_of at.activity.top left) (register_of at.activity.top right))))) reply.Ran n
+only_equal at to left right x y b n p q e h =
+    let tested : same_value (register_of at.activity.top left) (register_of at.activity.top right) ≡ b = (λ i. same_value (reads_is at left x p i) (reads_is at right y q i)) ∙ e in
+    only_set at to _ (truth b) n (ap {A = Bool} {B = Result Value Fault} (λ t. Ok (truth t)) tested) h
+
+only_jump : (at : At) (test target : ℕ) (v : Value) (b : Bool) (n : State) → Reads at test v → is_zero v ≡ b → GoesTo at (cond b target (at.activity.top.pc + 1)) n →
+    IsLeft at (jump_left (here_place at.state at.thread at.activity) (cond (is_zero (register_of at.activity.top test)) target (at.activity.top.pc + 1))) reply.Ran n
+only_jump at test target v b n p e h =
+    let tested : is_zero (register_of at.activity.top test) ≡ b = ap is_zero (reads_is at test v p) ∙ e in
+    (refl, subst (λ c. GoesTo at (cond c target (at.activity.top.pc + 1)) n) (sym tested) h)
 
 target_is : (at : At) (effect : Effect) (r : ℕ) (v : Value) → Reads at r v →
     accessed_by (here_place at.state at.thread at.activity) effect r ≡ accessed at.state.holding at.state.objects at.thread at.activity.depth effect v
@@ -118,19 +161,32 @@ goes_same at d e objects holding n is h = subst (λ k. GoesOn at k objects holdi
 request_same : (at : At) (list : ℕ) (request : Request) → Asks at list request → request_of at.state.objects at.activity.top.regs (locks_of at.image list) ≡ request
 request_same at list request asks = ap (λ o. request_of at.state.objects at.activity.top.regs (unwrap_or o [])) asks.listed ∙ sym asks.is
 
-not_yes : (b : Bool) → (b ≡ true → ⊥) → b ≡ false
-not_yes true h = absurd (h refl)
-not_yes false h = refl
-
 only_line : (image : Image) (s : State) (t : ℕ) (a : Activity) → IsSound image s → slice_get s.threads t ≡ Some (Running a) → (i : Instr) (r : Reply) (n : State) → Line (at_of image s t a) i r n →
     IsLeft (at_of image s t a) (left_by image (length s.threads) (here_place s t a) i) r n
 only_line image s t a sound here (instr.SetInt to number) reply.Ran n h = (refl, h)
+only_line image s t a sound here (instr.SetNull to) reply.Ran n h = (refl, h)
+only_line image s t a sound here (instr.Move to from) reply.Ran n h =
+    let at = at_of image s t a in only_set at to _ h.value n (ap {A = Value} {B = Result Value Fault} (λ w. Ok w) (reads_is at from _ h.reads_value)) h.sets
 only_line image s t a sound here (instr.Add to left right) reply.Ran n h =
+    only_computed (at_of image s t a) added to left right h.x h.y _ n h.reads_left h.reads_right refl h.sets
+only_line image s t a sound here (instr.Add to left right) (reply.Fault fault.BadType) n h = only_uncomputed (at_of image s t a) added to left right n h
+only_line image s t a sound here (instr.Subtract to left right) reply.Ran n h =
+    only_computed (at_of image s t a) subtracted to left right h.x h.y _ n h.reads_left h.reads_right refl h.sets
+only_line image s t a sound here (instr.Subtract to left right) (reply.Fault fault.BadType) n h = only_uncomputed (at_of image s t a) subtracted to left right n h
+only_line image s t a sound here (instr.LessThan to left right) reply.Ran n h =
     let at = at_of image s t a in
-    only_set at to _ (Int (int_wrapping_add w32 h.x h.y)) n (sum_is _ _ (Int h.x) (Int h.y) (reads_is at left _ h.reads_left) (reads_is at right _ h.reads_right)) h.sets
-only_line image s t a sound here (instr.Add to left right) (reply.Fault fault.BadType) n h =
+    elim h [
+      | inl below ↦ only_computed at compared to left right below.x below.y _ n below.reads_left below.reads_right (lower below.x below.y below.below) below.sets
+      | inr above ↦ only_computed at compared to left right above.x above.y _ n above.reads_left above.reads_right (not_lower above.x above.y above.not_below) above.sets
+    ]
+only_line image s t a sound here (instr.LessThan to left right) (reply.Fault fault.BadType) n h = only_uncomputed (at_of image s t a) compared to left right n h
+only_line image s t a sound here (instr.Equals to left right) reply.Ran n h =
     let at = at_of image s t a in
-    only_unset at to _ fault.BadType n (sum_is _ _ h.x h.y (reads_is at left _ h.reads_left) (reads_is at right _ h.reads_right) ∙ no_sum h.x h.y h.other) h.fails
+    elim h [
+      | inl same ↦ only_equal at to left right same.value same.value true n same.reads_left same.reads_right (same_self same.value) same.sets
+      | inr other ↦
+          only_equal at to left right other.x other.y false n other.reads_left other.reads_right (not_yes _ (λ e. other.other (same_is other.x other.y e))) other.sets
+    ]
 only_line image s t a sound here (instr.GlobalAddress to global) reply.Ran n h = (refl, h)
 only_line image s t a sound here (instr.Load to address) reply.Ran n h =
     let at = at_of image s t a in
@@ -159,6 +215,15 @@ only_line image s t a sound here (instr.Store address from) (reply.Fault (fault.
     let at = at_of image s t a in
     only_unstored at _ _ (fault.Unprotected cell effect) n
     (target_allowed at Write address cell false h.reads_address h.forbidden ∙ ap (λ e. Err (fault.Unprotected cell e)) (sym h.named)) h.fails
+only_line image s t a sound here (instr.Jump target) reply.Ran n h = (refl, h)
+only_line image s t a sound here (instr.JumpIfZero test target) reply.Ran n h =
+    let at = at_of image s t a in
+    elim h [
+      | inl jumps ↦ only_jump at test target jumps.value true n jumps.reads_value jumps.is jumps.goes_to
+      | inr passes ↦ only_jump at test target passes.value false n passes.reads_value passes.is_not passes.goes_on
+    ]
+only_line image s t a sound here (instr.Output from) (reply.Out value) n h =
+    let at = at_of image s t a in (ap {A = Value} {B = Reply} (λ v. reply.Out v) (sym (reads_is at from value h.reads_value)), h.goes_on)
 only_line image s t a sound here (instr.Return from) reply.Ran n h =
     let at = at_of image s t a in only_return at h.value _ true reply.Ran n (reads_is at from _ h.reads_value) (zero_test _ h.outside) (refl, h.ends)
 only_line image s t a sound here (instr.Return from) (reply.Fault fault.Open) n h =

@@ -10,7 +10,7 @@ use Rattle.asl_lock_forest.specs.Holding.{Holding, HoldsNothing, is_covered}
 use Rattle.asl_lock_forest.specs.Held.{Held}
 use Rattle.asl_code.specs.declared.image.Image.{Image}
 use Rattle.asl_code.specs.declared.instr.Instr.{Instr}
-use Rattle.asl_code.specs.declared.instr.Instr.TheVariants.{SetInt, Add, GlobalAddress, Load, Store, Return, Acquire, Release}
+use Rattle.asl_code.specs.declared.instr.Instr.TheVariants.{SetInt, SetNull, Move, Add, Subtract, LessThan, Equals, GlobalAddress, Load, Store, Jump, JumpIfZero, Return, Output, Acquire, Release}
 use Rattle.asl_machine.specs.Request.{LockOfClass, locks_of}
 use Rattle.asl_machine.specs.State.{Object, Frame, Activity, class_of, cell_at}
 use Rattle.asl_machine.specs.Expression.{cell_of}
@@ -37,11 +37,19 @@ AreOfClasses classes objects = (number class : ℕ) → class_of objects number 
 -- the registers, globals and lists that the instruction names are there, and the classes that its locks name
 abbrev pub CanDo : Image → Frame → Instr → Type 0
 CanDo image f (SetInt to number) = to < length f.regs
+CanDo image f (SetNull to) = to < length f.regs
+CanDo image f (Move to from) = (to < length f.regs) × (from < length f.regs)
 CanDo image f (Add to left right) = (to < length f.regs) × (left < length f.regs) × (right < length f.regs)
+CanDo image f (Subtract to left right) = (to < length f.regs) × (left < length f.regs) × (right < length f.regs)
+CanDo image f (LessThan to left right) = (to < length f.regs) × (left < length f.regs) × (right < length f.regs)
+CanDo image f (Equals to left right) = (to < length f.regs) × (left < length f.regs) × (right < length f.regs)
 CanDo image f (GlobalAddress to global) = to < length f.regs
 CanDo image f (Load to address) = (to < length f.regs) × (address < length f.regs)
 CanDo image f (Store address from) = (address < length f.regs) × (from < length f.regs)
+CanDo image f (Jump target) = Unit {0}
+CanDo image f (JumpIfZero test target) = test < length f.regs
 CanDo image f (Return from) = from < length f.regs
+CanDo image f (Output from) = from < length f.regs
 CanDo image f (Acquire list) = (list < length image.lists) × All (LockOfClass image.classes) (locks_of image list)
 CanDo image f Release = Unit {0}
 CanDo image f instr = ⊥

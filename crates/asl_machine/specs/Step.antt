@@ -1,7 +1,8 @@
 -- One step of a thread, as the instruction table says it (docs/INSTRUCTIONS.md): a line for each instruction and
 -- each reply that it can give. What a verified program never does has no line.
-use Rattle.std.specs.Prelude.{◌≡◌, ℕ, ℤ, ◌+◌, ◌-◌, ◌<◌, ◌⊎◌, Bool, false, true, ◌&&◌, List, [], Option, None, Some, slice_get, slice_set}
-use Rattle.std.specs.Int.{w32, int_wrapping_add}
+use Rattle.std.specs.Prelude.{◌≡◌, ◌≢◌, ℕ, ℤ, pos, ◌+◌, ◌-◌, ◌<◌, ◌<ℤ◌, ◌≤ℤ◌, ◌⊎◌, Bool, false, true, ◌&&◌, List, [], Option, None, Some, slice_get, slice_set}
+use Rattle.std.specs.Int.{w32, int_wrapping_add, int_wrapping_sub}
+use Rattle.std.specs.Ordering.{int_eq}
 use Rattle.asl_code.specs.declared.image.Image.{Image}
 use Rattle.asl_code.specs.declared.instr.Instr.{Instr}
 use Rattle.asl_code.specs.declared.instr.Instr.TheVariants as instr
@@ -27,9 +28,13 @@ pub record At : Type 0 where
   pub thread : ℕ
   pub activity : Activity
 
+-- the frame at this place of the code
+abbrev pub placed_at : ℕ → Frame → Frame
+placed_at pc f = record { function = f.function; pc = pc; regs = f.regs; result = f.result }
+
 -- the frame at its next instruction
 abbrev pub advanced : Frame → Frame
-advanced f = record { function = f.function; pc = f.pc + 1; regs = f.regs; result = f.result }
+advanced f = placed_at (f.pc + 1) f
 
 -- the frame at its next instruction, with the value in the register
 abbrev pub advanced_with : ℕ → Value → Frame → Frame
@@ -65,6 +70,11 @@ abbrev pub GoesOn : At → ℕ → List Object → Holding → State → Type 0
 GoesOn at depth objects holding new =
     new ≡ after at.state at.thread (Running (going_on at.activity depth (advanced at.activity.top))) objects holding
 
+-- the thread goes on at this place of the code
+abbrev pub GoesTo : At → ℕ → State → Type 0
+GoesTo at target new =
+    new ≡ after at.state at.thread (Running (going_on at.activity at.activity.depth (placed_at target at.activity.top))) at.state.objects at.state.holding
+
 -- the thread has failed, and holds nothing
 abbrev pub Fails : At → Fault → State → Type 0
 Fails at f new = new ≡ after at.state at.thread (Failed f) at.state.objects (release at.state.holding at.thread)
@@ -74,16 +84,81 @@ abbrev pub are_integers : Value → Value → Bool
 are_integers (Int x) (Int y) = true
 are_integers x y = false
 
--- `add` of two integers: the sum, which wraps at 32 bits
-pub record Adds (at : At) (to left right : ℕ) (new : State) : Type 0 where
+-- whether a jump that asks for zero goes to its target: at the integer 0 and at null
+abbrev pub is_zero : Value → Bool
+is_zero (Int x) = int_eq x (pos 0)
+is_zero Null = true
+is_zero (Addr object offset) = false
+
+-- `mov`: the register gets the other's value
+pub record Moves (at : At) (to from : ℕ) (new : State) : Type 0 where
+  pub value : Value
+  pub reads_value : Reads at from value
+  pub sets : Sets at to value new
+
+-- `add` or `sub` of two integers
+pub record Computes (at : At) (operation : ℤ → ℤ → ℤ) (to left right : ℕ) (new : State) : Type 0 where
   pub x : ℤ
   pub y : ℤ
   pub reads_left : Reads at left (Int x)
   pub reads_right : Reads at right (Int y)
-  pub sets : Sets at to (Int (int_wrapping_add w32 x y)) new
+  pub sets : Sets at to (Int (operation x y)) new
 
--- `add` of values that are not both integers
-pub record AddsNoIntegers (at : At) (left right : ℕ) (new : State) : Type 0 where
+-- `lt` of two integers of which the left one is the lower
+pub record IsBelow (at : At) (to left right : ℕ) (new : State) : Type 0 where
+  pub x : ℤ
+  pub y : ℤ
+  pub reads_left : Reads at left (Int x)
+  pub reads_right : Reads at right (Int y)
+  pub below : x <ℤ y
+  pub sets : Sets at to (Int (pos 1)) new
+
+-- `lt` of two integers of which the left one is not the lower
+pub record IsNotBelow (at : At) (to left right : ℕ) (new : State) : Type 0 where
+  pub x : ℤ
+  pub y : ℤ
+  pub reads_left : Reads at left (Int x)
+  pub reads_right : Reads at right (Int y)
+  pub not_below : y ≤ℤ x
+  pub sets : Sets at to (Int (pos 0)) new
+
+-- `eq` where both registers have one value
+pub record AreSame (at : At) (to left right : ℕ) (new : State) : Type 0 where
+  pub value : Value
+  pub reads_left : Reads at left value
+  pub reads_right : Reads at right value
+  pub sets : Sets at to (Int (pos 1)) new
+
+-- `eq` where the registers have different values
+pub record AreOther (at : At) (to left right : ℕ) (new : State) : Type 0 where
+  pub x : Value
+  pub y : Value
+  pub reads_left : Reads at left x
+  pub reads_right : Reads at right y
+  pub other : x ≢ y
+  pub sets : Sets at to (Int (pos 0)) new
+
+-- `jz` where the register has zero
+pub record JumpsIfZero (at : At) (test target : ℕ) (new : State) : Type 0 where
+  pub value : Value
+  pub reads_value : Reads at test value
+  pub is : is_zero value ≡ true
+  pub goes_to : GoesTo at target new
+
+-- `jz` where the register has anything else
+pub record PassesBy (at : At) (test : ℕ) (new : State) : Type 0 where
+  pub value : Value
+  pub reads_value : Reads at test value
+  pub is_not : is_zero value ≡ false
+  pub goes_on : GoesOn at at.activity.depth at.state.objects at.state.holding new
+
+-- `out` of the register's value
+pub record Shows (at : At) (from : ℕ) (value : Value) (new : State) : Type 0 where
+  pub reads_value : Reads at from value
+  pub goes_on : GoesOn at at.activity.depth at.state.objects at.state.holding new
+
+-- `add`, `sub` or `lt` of values that are not both integers
+pub record FailsOperands (at : At) (left right : ℕ) (new : State) : Type 0 where
   pub x : Value
   pub y : Value
   pub reads_left : Reads at left x
@@ -178,8 +253,15 @@ pub record Leaves (at : At) (new : State) : Type 0 where
 -- a running thread's instruction, its reply and the state after it: the lines of the table
 abbrev pub Line : At → Instr → Reply → State → Type 0
 Line at (instr.SetInt to number) reply.Ran new = Sets at to (Int number) new
-Line at (instr.Add to left right) reply.Ran new = Adds at to left right new
-Line at (instr.Add to left right) (reply.Fault fault.BadType) new = AddsNoIntegers at left right new
+Line at (instr.SetNull to) reply.Ran new = Sets at to Null new
+Line at (instr.Move to from) reply.Ran new = Moves at to from new
+Line at (instr.Add to left right) reply.Ran new = Computes at (int_wrapping_add w32) to left right new
+Line at (instr.Add to left right) (reply.Fault fault.BadType) new = FailsOperands at left right new
+Line at (instr.Subtract to left right) reply.Ran new = Computes at (int_wrapping_sub w32) to left right new
+Line at (instr.Subtract to left right) (reply.Fault fault.BadType) new = FailsOperands at left right new
+Line at (instr.LessThan to left right) reply.Ran new = IsBelow at to left right new ⊎ IsNotBelow at to left right new
+Line at (instr.LessThan to left right) (reply.Fault fault.BadType) new = FailsOperands at left right new
+Line at (instr.Equals to left right) reply.Ran new = AreSame at to left right new ⊎ AreOther at to left right new
 Line at (instr.GlobalAddress to global) reply.Ran new = Sets at to (Addr global 0) new
 Line at (instr.Load to address) reply.Ran new = Loads at to address new
 Line at (instr.Load to address) (reply.Fault fault.Null) new = FailsNull at address new
@@ -189,8 +271,11 @@ Line at (instr.Store address from) reply.Ran new = Stores at address from new
 Line at (instr.Store address from) (reply.Fault fault.Null) new = FailsNull at address new
 Line at (instr.Store address from) (reply.Fault fault.BadType) new = FailsType at address new
 Line at (instr.Store address from) (reply.Fault (fault.Unprotected cell effect)) new = FailsUnprotected at address cell Write effect new
+Line at (instr.Jump target) reply.Ran new = GoesTo at target new
+Line at (instr.JumpIfZero test target) reply.Ran new = JumpsIfZero at test target new ⊎ PassesBy at test new
 Line at (instr.Return from) reply.Ran new = Returns at from new
 Line at (instr.Return from) (reply.Fault fault.Open) new = FailsOpen at new
+Line at (instr.Output from) (reply.Out value) new = Shows at from value new
 Line at (instr.Acquire list) reply.Ran new = Nests at new ⊎ Enters at list new
 Line at (instr.Acquire list) reply.Blocked new = Waits at list new
 Line at (instr.Acquire list) (reply.Fault fault.Deep) new = (at.activity.depth ≡ 255) × Fails at fault.Deep new

@@ -1,9 +1,10 @@
 -- The step, computed: for a verified program the reply and the state of the one line of the table that applies
 -- (specs/Step.antt). It answers something also where no line applies; nobody asks there.
-use Rattle.std.specs.Prelude.{◌≡◌, ℕ, zero, suc, ◌+◌, ◌-◌, Bool, true, ◌&&◌, ◌||◌, ◌==◌, List, [], Option, None, Some, Result, Ok, Err, slice_get, unwrap_or, length, if◌then◌else◌}
+use Rattle.std.specs.Prelude.{◌≡◌, ℕ, zero, suc, ◌+◌, ◌-◌, ℤ, pos, int_lt, Bool, true, false, ◌&&◌, ◌||◌, ◌==◌, List, [], Option, None, Some, Result, Ok, Err, slice_get, unwrap_or, length, if◌then◌else◌}
 use Rattle.std.specs.List.{list_all}
 use Rattle.std.specs.Option.{option_map_or}
-use Rattle.std.specs.Int.{w32, int_wrapping_add}
+use Rattle.std.specs.Int.{w32, int_wrapping_add, int_wrapping_sub}
+use Rattle.std.specs.Ordering.{int_eq}
 use Rattle.asl_code.specs.declared.image.Image.{Image}
 use Rattle.asl_code.specs.declared.instr.Instr.{Instr}
 use Rattle.asl_code.specs.declared.instr.Instr.TheVariants as instr
@@ -27,7 +28,7 @@ use Rattle.asl_machine.specs.State.{Object, Frame, Activity, Thread, Running, Do
 use Rattle.asl_machine.specs.Access.{is_protected}
 use Rattle.asl_machine.specs.Expression.{cell_of}
 use Rattle.asl_machine.specs.Request.{request_of, locks_of}
-use Rattle.asl_machine.specs.Step.{advanced, advanced_with, going_on, after}
+use Rattle.asl_machine.specs.Step.{placed_at, advanced, advanced_with, going_on, after, is_zero}
 
 -- what an instruction leaves: what becomes of its thread, and the parts of the state that it may have changed
 pub record Left : Type 0 where
@@ -69,10 +70,34 @@ activity_set a to (Err f) = a
 abbrev pub set_left : Place → ℕ → Result Value Fault → Left
 set_left p to value = record { fate = fate_of value; activity = activity_set p.activity to value; objects = p.objects; holding = p.holding }
 
+-- the result of an operation on two integers
+abbrev pub computed : (ℤ → ℤ → Value) → Value → Value → Result Value Fault
+computed operation (Int x) (Int y) = Ok (operation x y)
+computed operation x y = Err fault.BadType
+
+-- the integer for the answer to a test: 1 where it holds
+abbrev pub truth : Bool → Value
+truth true = Int (pos 1)
+truth false = Int (pos 0)
+
 -- the sum of two integers
-abbrev pub sum_of : Value → Value → Result Value Fault
-sum_of (Int x) (Int y) = Ok (Int (int_wrapping_add w32 x y))
-sum_of x y = Err fault.BadType
+abbrev pub added : ℤ → ℤ → Value
+added x y = Int (int_wrapping_add w32 x y)
+
+-- the difference of two integers
+abbrev pub subtracted : ℤ → ℤ → Value
+subtracted x y = Int (int_wrapping_sub w32 x y)
+
+-- whether an integer is below another
+abbrev pub compared : ℤ → ℤ → Value
+compared x y = truth (int_lt x y)
+
+-- whether two values are the same
+abbrev pub same_value : Value → Value → Bool
+same_value (Int x) (Int y) = int_eq x y
+same_value Null Null = true
+same_value (Addr o i) (Addr p j) = o == p && i == j
+same_value x y = false
 
 -- the cell, where the access is allowed
 abbrev pub allowed_cell : Bool → Effect → Cell → Result Cell Fault
@@ -109,6 +134,16 @@ abbrev pub store_left : Place → Value → Result Cell Fault → Left
 store_left p value target =
     record { fate = fate_of target; activity = activity_stored p.activity target; objects = objects_stored p.objects value target; holding = p.holding }
 
+-- the thread goes on at this place of the code
+abbrev pub jump_left : Place → ℕ → Left
+jump_left p target =
+    record { fate = fate.GoesOn; activity = going_on p.activity p.activity.depth (placed_at target p.activity.top); objects = p.objects; holding = p.holding }
+
+-- the thread goes on, and shows the value
+abbrev pub show_left : Place → Value → Left
+show_left p value =
+    record { fate = fate.Shows value; activity = going_on p.activity p.activity.depth (advanced p.activity.top); objects = p.objects; holding = p.holding }
+
 -- what becomes of a thread whose last frame returns the value, in so many sections
 abbrev pub return_fate : ℕ → Value → Fate
 return_fate depth value = if depth == 0 then fate.Ends value else fate.Fails fault.Open
@@ -131,6 +166,7 @@ acquire_fate depth free =
 -- where a thread is that goes on in another number of sections, or does not go on
 abbrev pub activity_moved : Fate → ℕ → Activity → Activity
 activity_moved fate.GoesOn depth a = going_on a depth (advanced a.top)
+activity_moved (fate.Shows value) depth a = a
 activity_moved (fate.Ends value) depth a = a
 activity_moved (fate.Fails f) depth a = a
 activity_moved fate.Waits depth a = a
@@ -176,11 +212,21 @@ request_at image p list = request_of p.objects p.activity.top.regs (locks_of ima
 -- what the instruction leaves, with so many threads
 abbrev pub left_by : Image → ℕ → Place → Instr → Left
 left_by image count p (instr.SetInt to number) = set_left p to (Ok (Int number))
-left_by image count p (instr.Add to left right) = set_left p to (sum_of (register_of p.activity.top left) (register_of p.activity.top right))
+left_by image count p (instr.SetNull to) = set_left p to (Ok Null)
+left_by image count p (instr.Move to from) = set_left p to (Ok (register_of p.activity.top from))
+left_by image count p (instr.Add to left right) = set_left p to (computed added (register_of p.activity.top left) (register_of p.activity.top right))
+left_by image count p (instr.Subtract to left right) = set_left p to (computed subtracted (register_of p.activity.top left) (register_of p.activity.top right))
+left_by image count p (instr.LessThan to left right) = set_left p to (computed compared (register_of p.activity.top left) (register_of p.activity.top right))
+left_by image count p (instr.Equals to left right) =
+    set_left p to (Ok (truth (same_value (register_of p.activity.top left) (register_of p.activity.top right))))
 left_by image count p (instr.GlobalAddress to global) = set_left p to (Ok (Addr global 0))
 left_by image count p (instr.Load to address) = set_left p to (loaded p.objects (accessed_by p Read address))
 left_by image count p (instr.Store address from) = store_left p (register_of p.activity.top from) (accessed_by p Write address)
+left_by image count p (instr.Jump target) = jump_left p target
+left_by image count p (instr.JumpIfZero test target) =
+    jump_left p (if is_zero (register_of p.activity.top test) then target else p.activity.top.pc + 1)
 left_by image count p (instr.Return from) = left_alone p (return_fate p.activity.depth (register_of p.activity.top from))
+left_by image count p (instr.Output from) = show_left p (register_of p.activity.top from)
 left_by image count p (instr.Acquire list) =
     acquire_left p (can_grant p.holding count p.thread (request_at image p list)) (request_at image p list)
 left_by image count p instr.Release = release_left p
@@ -194,6 +240,7 @@ left_at image count p (Some i) = left_by image count p i
 -- the answer to a step, by what becomes of the thread
 abbrev pub reply_of : Fate → Reply
 reply_of fate.GoesOn = reply.Ran
+reply_of (fate.Shows value) = reply.Out value
 reply_of (fate.Ends value) = reply.Ran
 reply_of (fate.Fails f) = reply.Fault f
 reply_of fate.Waits = reply.Blocked
@@ -201,6 +248,7 @@ reply_of fate.Waits = reply.Blocked
 -- the thread after a step
 abbrev pub thread_after : Fate → Activity → Thread
 thread_after fate.GoesOn activity = Running activity
+thread_after (fate.Shows value) activity = Running activity
 thread_after (fate.Ends value) activity = Done value
 thread_after (fate.Fails f) activity = Failed f
 thread_after fate.Waits activity = Running activity
@@ -208,6 +256,7 @@ thread_after fate.Waits activity = Running activity
 -- the holding after a step: one that fails gives all back
 abbrev pub holding_after : Fate → ℕ → Holding → Holding
 holding_after fate.GoesOn t holding = holding
+holding_after (fate.Shows value) t holding = holding
 holding_after (fate.Ends value) t holding = holding
 holding_after (fate.Fails f) t holding = release holding t
 holding_after fate.Waits t holding = holding

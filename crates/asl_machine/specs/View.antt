@@ -16,6 +16,7 @@ thread_of (status.Failed f) activity = Failed f
 -- the status of a thread that this becomes of
 abbrev pub status_by : Fate → Status
 status_by fate.GoesOn = status.Running
+status_by (fate.Shows value) = status.Running
 status_by (fate.Ends value) = status.Done value
 status_by (fate.Fails f) = status.Failed f
 status_by fate.Waits = status.Running

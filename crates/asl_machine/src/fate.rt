@@ -6,6 +6,8 @@ use asl_code::Value;
 pub enum Fate {
     /// It goes on.
     GoesOn,
+    /// It goes on, and shows this value.
+    Shows(Value),
     /// It has ended with this value.
     Ends(Value),
     /// It fails.

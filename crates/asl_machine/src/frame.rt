@@ -30,7 +30,7 @@ impl Frame {
     ghost use Rattle.asl_code.specs.Fits.{FitsImage};
     ghost use Rattle.asl_code.specs.declared.value.Value.TheVariants.{Int};
     ghost use Rattle.asl_machine.specs.Run.{first_frame};
-    ghost use Rattle.asl_machine.specs.Step.{advanced, advanced_with};
+    ghost use Rattle.asl_machine.specs.Step.{placed_at, advanced, advanced_with};
 
     /// The frame in which thread t starts: the entry function's, with the thread's number as the parameter.
     pub fn entry(alloc: Global, program: &Program, t: u32) -> Result<Frame, AllocError>
@@ -75,6 +75,13 @@ impl Frame {
         ensures { self.new ≡ advanced self.old }
     {
         self.pc += 1;
+    }
+
+    /// Goes to this place of the code.
+    pub fn jump(&mut self, target: u16)
+        ensures { self.new ≡ placed_at target self.old }
+    {
+        self.pc = target;
     }
 
     /// Puts the value into the register and goes to the next instruction.
@@ -147,7 +154,7 @@ impl Activity {
     ghost use Rattle.asl_code.specs.Fits.{FitsImage};
     ghost use Rattle.asl_code.specs.declared.value.Value.TheVariants.{Int};
     ghost use Rattle.asl_machine.specs.Run.{first_frame};
-    ghost use Rattle.asl_machine.specs.Step.{advanced, advanced_with, going_on};
+    ghost use Rattle.asl_machine.specs.Step.{placed_at, advanced, advanced_with, going_on};
     ghost use Rattle.asl_machine.specs.Twin.{register_of};
 
     /// What thread t is at when it starts.
@@ -202,6 +209,13 @@ impl Activity {
         ensures { self.new ≡ going_on self.old self.old.depth (advanced self.old.top) }
     {
         self.top.advance();
+    }
+
+    /// Goes to this place of the code.
+    pub fn jump(&mut self, target: u16)
+        ensures { self.new ≡ going_on self.old self.old.depth (placed_at target self.old.top) }
+    {
+        self.top.jump(target);
     }
 
     /// Puts the value into the register and goes to the next instruction.

@@ -5,6 +5,7 @@ ghost use Rattle.asl_lock_forest.specs.Request.{names_once, asks_modes, asks_par
 ghost use Rattle.asl_machine.specs.Access.{AreOfClasses, AllPoint, IsReady, CanDo};
 ghost use Rattle.asl_machine.specs.Request.{LockOfClass, request_of, locks_of};
 ghost use Rattle.asl_machine.specs.State.{cell_at};
+ghost use Rattle.asl_machine.specs.Step.{placed_at, advanced, going_on};
 ghost use Rattle.asl_machine.specs.Twin.{place, left_by, accessed_by, WantsMemory, can_grant, fate_of, activity_set, activity_stored, objects_stored, return_fate, release_fate, activity_moved, holding_released, acquire_fate, holding_acquired};
 
 use crate::fate::Fate;
@@ -12,7 +13,7 @@ use crate::fault::Fault;
 use crate::frame::Activity;
 use crate::heap::Heap;
 use crate::request::request;
-use crate::values::{access, load, sum};
+use crate::values::{access, comparison, difference, equality, is_zero, load, sum};
 use asl_code::{Cell, Effect, Instr, Lock, Program, Value};
 use asl_lock_forest::{Forest, Node};
 use asl_mode_lanes::Mode;
@@ -43,9 +44,26 @@ pub fn perform(
 {
     match instr {
         Instr::SetInt { to, value } => Ok(set(activity, to, Ok(Value::Int(value)))),
+        Instr::SetNull { to } => Ok(set(activity, to, Ok(Value::Null))),
+        Instr::Move { to, from } => {
+            let value = activity.read(from);
+            Ok(set(activity, to, Ok(value)))
+        }
         Instr::Add { to, left, right } => {
             let value = sum(activity.read(left), activity.read(right));
             Ok(set(activity, to, value))
+        }
+        Instr::Subtract { to, left, right } => {
+            let value = difference(activity.read(left), activity.read(right));
+            Ok(set(activity, to, value))
+        }
+        Instr::LessThan { to, left, right } => {
+            let value = comparison(activity.read(left), activity.read(right));
+            Ok(set(activity, to, value))
+        }
+        Instr::Equals { to, left, right } => {
+            let value = equality(activity.read(left), activity.read(right));
+            Ok(set(activity, to, Ok(value)))
         }
         Instr::GlobalAddress { to, global } => Ok(set(activity, to, Ok(Value::Addr(global, 0)))),
         Instr::Load { to, address } => {
@@ -57,7 +75,14 @@ pub fn perform(
             let value = activity.read(from);
             Ok(store(activity, heap, cell, value))
         }
+        Instr::Jump { target } => Ok(jump(activity, target)),
+        Instr::JumpIfZero { test, target } => {
+            let zero = is_zero(activity.read(test));
+            let place = if zero { target } else { activity.pc() + 1 };
+            Ok(jump(activity, place))
+        }
         Instr::Return { from } => Ok(give(activity, activity.read(from))),
+        Instr::Output { from } => Ok(show(activity, activity.read(from))),
         Instr::Acquire { list } => acquire(alloc, heap, forest, t, activity, locks(program, list)),
         Instr::Release => Ok(leave(forest, t, activity)),
         _ => unreachable!(),
@@ -135,6 +160,25 @@ fn store(
         }
         Err(fault) => Fate::Fails(fault),
     }
+}
+
+/// Goes to this place of the code.
+fn jump(activity: &mut Activity, target: u16) -> Fate
+    ensures fate { result ≡ Fate.GoesOn }
+    ensures activity { activity.new ≡ going_on activity.old activity.old.depth (placed_at target activity.old.top) }
+{
+    activity.jump(target);
+    Fate::GoesOn
+}
+
+/// Shows the value.
+fn show(activity: &mut Activity, value: Value) -> Fate
+    requires room { activity.old.top.pc + 1 < 2 ^ 16 }
+    ensures fate { result ≡ Fate.Shows value }
+    ensures activity { activity.new ≡ going_on activity.old activity.old.depth (advanced activity.old.top) }
+{
+    activity.advance();
+    Fate::Shows(value)
 }
 
 /// Ends the thread with the value, or fails inside a section.

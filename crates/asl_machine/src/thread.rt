@@ -141,7 +141,7 @@ fn status_after(fate: Fate) -> Status
     ensures { result ≡ status_by fate }
 {
     match fate {
-        Fate::GoesOn | Fate::Waits => Status::Running,
+        Fate::GoesOn | Fate::Shows(_) | Fate::Waits => Status::Running,
         Fate::Ends(value) => Status::Done(value),
         Fate::Fails(fault) => Status::Failed(fault),
     }
@@ -153,6 +153,7 @@ fn reply(fate: Fate) -> Reply
 {
     match fate {
         Fate::GoesOn | Fate::Ends(_) => Reply::Ran,
+        Fate::Shows(value) => Reply::Out(value),
         Fate::Fails(fault) => Reply::Fault(fault),
         Fate::Waits => Reply::Blocked,
     }

@@ -1,8 +1,9 @@
 //! What instructions compute: values for registers, and the cells that they access.
 ghost use Rattle.std.specs.Prelude.{◌≡◌, ◌<◌, IfOk, IsSome};
+ghost use Rattle.asl_machine.specs.Step.{is_zero};
 ghost use Rattle.asl_machine.specs.State.{cell_at};
 ghost use Rattle.asl_machine.specs.Access.{is_protected, Points, AreOfClasses};
-ghost use Rattle.asl_machine.specs.Twin.{sum_of, allowed_cell, accessed, loaded};
+ghost use Rattle.asl_machine.specs.Twin.{computed, added, subtracted, compared, truth, same_value, allowed_cell, accessed, loaded};
 
 use crate::fault::Fault;
 use crate::heap::Heap;
@@ -11,11 +12,67 @@ use asl_lock_forest::Forest;
 
 /// The sum of two integers, which wraps at 32 bits.
 pub fn sum(left: Value, right: Value) -> Result<Value, Fault>
-    ensures { result ≡ sum_of left right }
+    ensures { result ≡ computed added left right }
 {
     match (left, right) {
         (Value::Int(x), Value::Int(y)) => Ok(Value::Int(x.wrapping_add(y))),
         _ => Err(Fault::BadType),
+    }
+}
+
+/// The difference of two integers, which wraps at 32 bits.
+pub fn difference(left: Value, right: Value) -> Result<Value, Fault>
+    ensures { result ≡ computed subtracted left right }
+{
+    match (left, right) {
+        (Value::Int(x), Value::Int(y)) => Ok(Value::Int(x.wrapping_sub(y))),
+        _ => Err(Fault::BadType),
+    }
+}
+
+/// Whether an integer is below another.
+pub fn comparison(left: Value, right: Value) -> Result<Value, Fault>
+    ensures { result ≡ computed compared left right }
+{
+    match (left, right) {
+        (Value::Int(x), Value::Int(y)) => Ok(integer_for(x < y)),
+        _ => Err(Fault::BadType),
+    }
+}
+
+/// Whether the values are the same.
+pub fn equality(left: Value, right: Value) -> Value
+    ensures { result ≡ truth (same_value left right) }
+{
+    integer_for(is_same(left, right))
+}
+
+fn is_same(left: Value, right: Value) -> bool
+    ensures { result ≡ same_value left right }
+{
+    match (left, right) {
+        (Value::Int(x), Value::Int(y)) => x == y,
+        (Value::Null, Value::Null) => true,
+        (Value::Addr(o, i), Value::Addr(p, j)) => o == p && i == j,
+        _ => false,
+    }
+}
+
+/// 1 where the test holds, else 0.
+fn integer_for(holds: bool) -> Value
+    ensures { result ≡ truth holds }
+{
+    if holds { Value::Int(1) } else { Value::Int(0) }
+}
+
+/// Whether a jump that asks for zero goes to its target.
+pub fn is_zero(value: Value) -> bool
+    ensures { result ≡ is_zero value }
+{
+    match value {
+        Value::Int(x) => x == 0,
+        Value::Null => true,
+        Value::Addr(_, _) => false,
     }
 }
 
