@@ -116,8 +116,6 @@ has_registers i f Release = true
 
 -- whether the verifier takes the instruction yet: of the rest it says that their operands are not there
 abbrev pub is_taken : Instr → Bool
-is_taken (FieldAddress to from offset) = false
-is_taken (New to cells class) = false
 is_taken (Call to first function) = false
 is_taken instr = true
 

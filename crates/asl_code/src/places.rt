@@ -129,10 +129,7 @@ fn has_operands(image: &Image, instr: &Instr) -> bool
 fn is_taken(instr: &Instr) -> bool
     ensures { result ≡ is_taken instr.now }
 {
-    !matches!(
-        instr,
-        Instr::FieldAddress { .. } | Instr::New { .. } | Instr::Call { .. }
-    )
+    !matches!(instr, Instr::Call { .. })
 }
 
 /// Whether what the instruction names is there, and a new object has a cell.

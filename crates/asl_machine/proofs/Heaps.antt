@@ -1,18 +1,21 @@
--- What a store leaves of the heap: its objects, their classes and their sizes.
-use Rattle.std.proofs.Common.{◌≡◌, ◌≢◌, ℕ, ◌<◌, ◌⊎◌, List, [], ◌∷◌, Option, Some, None, length, set, slice_get, refl, ap, sym, ◌∙◌, subst, inl, inr, arith, length-set}
+-- What a store and a new object leave of the heap: its objects, their classes and their sizes.
+use Rattle.std.proofs.Common.{◌≡◌, ◌≢◌, ℕ, ◌+◌, ◌<◌, ◌⊎◌, ◌++◌, Bool, true, false, cond, ltb, replicate, pos, zero, suc, List, [], ◌∷◌, Option, Some, None, Result, Ok, Err, IfOk, length, set, slice_get, refl, ap, sym, ◌∙◌, subst, inl, inr, arith, length-set}
 use Rattle.std.specs.Prelude.{IsSome, option_map, option_and_then}
 use Rattle.std.specs.Option.{option_map_or}
 use Rattle.std.proofs.lemmas.Bool.Decides.{eqb_tells}
+use Rattle.std.proofs.lemmas.Bool.{ltb-true}
+use Rattle.std.proofs.lemmas.List.{length_push, length-replicate}
 use Rattle.std.proofs.lemmas.Option.{slice_get_within}
 use Rattle.asl_code.specs.declared.image.Image.{Image}
 use Rattle.asl_code.specs.declared.value.Value.{Value}
 use Rattle.asl_code.specs.declared.value.Value.TheVariants.{Int, Null, Addr}
 use Rattle.asl_code.specs.declared.value.Cell.{Cell}
-use Rattle.asl_machine.specs.State.{Object, cell_at, class_of, with_cell, written}
+use Rattle.asl_machine.specs.State.{Object, cell_at, class_of, size_of, with_cell, written, fresh_object}
 use Rattle.asl_machine.specs.Expression.{cell_of}
+use Rattle.asl_machine.specs.Twin.{address_or_bounds, address_moved}
 use Rattle.asl_machine.specs.Access.{Points, AllPoint, AreOfClasses}
 use Rattle.asl_machine.specs.Sound.{AreSound}
-use Rattle.asl_machine.proofs.Lists.{get_same, get_other, get_kept, get_either}
+use Rattle.asl_machine.proofs.Lists.{get_same, get_other, get_kept, get_either, one_more, replicated, get_before, get_last, is_there}
 
 -- after a store an object is as it was, or has another value in one cell
 store_object : (objects : List Object) (c : Cell) (v : Value) (n : ℕ) → (slice_get (written objects c v) n ≡ slice_get objects n)
@@ -39,6 +42,17 @@ class_of-written objects c v n =
     elim (store_object objects c v n) [
       | inl same ↦ ap (option_map (λ (o : Object). o.class)) same
       | inr at ↦ ap (option_map (λ (o : Object). o.class)) at.2 ∙ sym (ap (option_map (λ (o : Object). o.class)) at.1)
+    ]
+
+-- a store changes no size
+pub size_of-written : (objects : List Object) (c : Cell) (v : Value) (n : ℕ) → size_of (written objects c v) n ≡ size_of objects n
+size_of-written objects c v n =
+    elim (store_object objects c v n) [
+      | inl same ↦ ap (option_map (λ (o : Object). length o.cells)) same
+      | inr at ↦
+          ap (option_map (λ (o : Object). length o.cells)) at.2
+          ∙ ap (λ (n : ℕ). Some n) (length-set at.0.cells c.offset v)
+          ∙ sym (ap (option_map (λ (o : Object). length o.cells)) at.1)
     ]
 
 some_is : (a b : Option Value) → a ≡ b → IsSome a → IsSome b
@@ -98,6 +112,82 @@ sound_written image objects c v sound p = record {
     | inl is ↦ points_kept objects c v w (subst (Points objects) (sym is) p)
     | inr old ↦ points_kept objects c v w (sound.points x w old)
   ];
+  sizes = λ n size e. sound.sizes n size (sym (size_of-written objects c v n) ∙ e);
   few = let l = length-written objects c v in let k = sound.few in omega arith;
   globals = λ g lt. cell_kept objects c v (cell_of g 0) (sound.globals g lt);
 }
+
+-- ---- one object more
+
+-- what is read of the objects after one more is made was there, or is read of that one
+either_made : {B : Type 0} (g : Option Object → Option B) (objects : List Object) (o : Object) (n : ℕ) (b : B) → g None ≡ None → g (slice_get (objects ++ o ∷ []) n) ≡ Some b →
+    (g (slice_get objects n) ≡ Some b) ⊎ (g (Some o) ≡ Some b)
+either_made g objects o n b none e =
+    elim (slice_get (objects ++ o ∷ []) n) as (λ x. slice_get (objects ++ o ∷ []) n ≡ x → g x ≡ Some b → (g (slice_get objects n) ≡ Some b) ⊎ (g (Some o) ≡ Some b)) [
+      | None ↦ λ f k. let bad = sym none ∙ k in cc
+      | Some p ↦ λ f k. elim (one_more objects o p n f) [
+        | inl before ↦ inl (ap g before ∙ k)
+        | inr is ↦ inr (ap (λ (q : Object). g (Some q)) (sym is) ∙ k)
+      ]
+    ] refl e
+
+-- a cell that is there is there when more objects are made
+pub cell_before : (objects more : List Object) (x : Cell) → IsSome (cell_at objects x) → IsSome (cell_at (objects ++ more) x)
+cell_before objects more x h =
+    elim (slice_get objects x.object) as (λ o. slice_get objects x.object ≡ o → IsSome (option_and_then (λ (p : Object). slice_get p.cells x.offset) o) → IsSome (cell_at (objects ++ more) x)) [
+      | None ↦ λ e k. let f = k in cc
+      | Some p ↦ λ e k. some_is _ _ (sym (ap (option_and_then (λ (q : Object). slice_get q.cells x.offset)) (get_before objects more x.object p e))) k
+    ] refl h
+
+-- what pointed to a cell still does
+pub points_before : (objects more : List Object) (w : Value) → Points objects w → Points (objects ++ more) w
+points_before objects more (Int number) h = tt
+points_before objects more Null h = tt
+points_before objects more (Addr object offset) h = cell_before objects more (cell_of object offset) h
+
+zero_points : (objects : List Object) (w : Value) → w ≡ Int (pos 0) → Points objects w
+zero_points objects w e = subst (Points objects) (sym e) tt
+
+-- sound objects are sound with one more
+pub sound_made : (image : Image) (objects : List Object) (class cells : ℕ) → AreSound image objects → class < image.classes → 0 < cells → length objects < 65536 →
+    AreSound image (objects ++ fresh_object class cells ∷ [])
+sound_made image objects class cells sound lt some room =
+    let more = objects ++ fresh_object class cells ∷ [] in
+    record {
+      classes = λ n c e. elim (either_made (option_map (λ (o : Object). o.class)) objects (fresh_object class cells) n c refl e) [
+        | inl before ↦ sound.classes n c before
+        | inr is ↦ let same : class ≡ c = cc in omega arith
+      ];
+      points = λ x w e. elim (either_made (option_and_then (λ (o : Object). slice_get o.cells x.offset)) objects (fresh_object class cells) x.object w refl e) [
+        | inl before ↦ points_before objects (fresh_object class cells ∷ []) w (sound.points x w before)
+        | inr is ↦ zero_points more w (replicated cells x.offset (Int (pos 0)) w is)
+      ];
+      sizes = λ n size e. elim (either_made (option_map (λ (o : Object). length o.cells)) objects (fresh_object class cells) n size refl e) [
+        | inl before ↦ sound.sizes n size before
+        | inr is ↦ let same : length (replicate {A = Value} cells (Int (pos 0))) ≡ size = cc in let l = length-replicate cells (Int (pos 0)) in omega arith
+      ];
+      few = let l = length_push objects (fresh_object class cells) in omega arith;
+      globals = λ g k. cell_before objects (fresh_object class cells ∷ []) (cell_of g 0) (sound.globals g k);
+    }
+
+-- the first cell of the object that was made is there
+pub made_points : (objects : List Object) (class cells : ℕ) → 0 < cells → Points (objects ++ fresh_object class cells ∷ []) (Addr (length objects) 0)
+made_points objects class cells some =
+    let l = length-replicate cells (Int (pos 0)) in
+    some_is _ _ (sym (cell_from _ 0 (fresh_object class cells) (get_last objects (fresh_object class cells))))
+    (is_there (replicate cells (Int (pos 0))) 0 (omega arith))
+
+-- an address so many cells on is that of a cell that is there
+pub moved_points : (objects : List Object) (places : ℕ) (v : Value) → IfOk (address_moved objects places v) (Points objects)
+moved_points objects places (Int number) = tt
+moved_points objects places Null = tt
+moved_points objects places (Addr o i) =
+    elim (slice_get objects o) as (λ x. slice_get objects o ≡ x →
+    IfOk (address_or_bounds (option_and_then (λ size. cond (ltb (i + places) size) (Some (cell_of o (i + places))) None) (option_map (λ (p : Object). length p.cells) x))) (Points objects)) [
+      | None ↦ λ e. tt
+      | Some p ↦ λ e.
+          elim (ltb (i + places) (length p.cells)) as (λ b. ltb (i + places) (length p.cells) ≡ b → IfOk (address_or_bounds (cond b (Some (cell_of o (i + places))) None)) (Points objects)) [
+            | true ↦ λ k. some_is _ _ (sym (cell_from _ (i + places) p e)) (is_there p.cells (i + places) (ltb-true _ _ k))
+            | false ↦ λ k. tt
+          ] refl
+    ] refl

@@ -31,16 +31,16 @@ use Rattle.asl_machine.specs.declared.fate.Fate.{Fate}
 use Rattle.asl_machine.specs.declared.fate.Fate.TheVariants as fate
 use Rattle.asl_machine.specs.declared.fault.Fault.{Fault}
 use Rattle.asl_machine.specs.declared.fault.Fault.TheVariants as fault
-use Rattle.asl_machine.specs.State.{Object, Frame, Activity, Thread, Running, Done, Failed, State, cell_at, class_of, written, activity_of, activity_at, depth_at}
+use Rattle.asl_machine.specs.State.{Object, Frame, Activity, Thread, Running, Done, Failed, State, cell_at, class_of, size_of, written, fresh_object, activity_of, activity_at, depth_at}
 use Rattle.asl_machine.specs.Expression.{cell_of}
 use Rattle.asl_machine.specs.Access.{Points, AllPoint, AreOfClasses, IsReady, CanDo, is_protected}
 use Rattle.asl_machine.specs.Request.{LockOfClass, locks_of, request_of}
 use Rattle.asl_machine.specs.Step.{placed_at, advanced, advanced_with, going_on, after, is_zero}
-use Rattle.asl_machine.specs.Twin.{Left, Place, Turn, fate_of, set_left, computed, added, subtracted, compared, truth, same_value, jump_left, show_left, loaded, accessed, accessed_by, store_left, left_alone, return_fate, acquire_fate, activity_moved, holding_acquired, acquire_left, release_fate, holding_released, release_left, request_at, left_by, left_at, turn_by, turn_of, step_at, step_of, register_of, can_grant}
+use Rattle.asl_machine.specs.Twin.{Left, Place, Turn, fate_of, set_left, computed, added, subtracted, compared, truth, same_value, jump_left, show_left, address_moved, activity_set, make_left, loaded, accessed, accessed_by, store_left, left_alone, return_fate, acquire_fate, activity_moved, holding_acquired, acquire_left, release_fate, holding_released, release_left, request_at, left_by, left_at, turn_by, turn_of, step_at, step_of, register_of, can_grant}
 use Rattle.asl_machine.specs.Sound.{IsPlaced, AreSound, IsSound, IsMachine, ThreadReady}
 use Rattle.asl_machine.specs.Run.{global_object, first_frame, first_thread, first_threads, start_of}
-use Rattle.asl_machine.proofs.Lists.{get_same, get_other, get_either, set_same}
-use Rattle.asl_machine.proofs.Heaps.{sound_written, points_kept}
+use Rattle.asl_machine.proofs.Lists.{get_same, get_other, get_either, set_same, one_more, replicated}
+use Rattle.asl_machine.proofs.Heaps.{sound_written, points_kept, sound_made, points_before, made_points, moved_points}
 use Rattle.asl_machine.proofs.Grants.{grant_when_free}
 use Rattle.asl_machine.proofs.RequestLaws.{request_is_rooted, request_asks_modes, request_is_of_classes}
 
@@ -237,6 +237,27 @@ follows_store image s t a h lies value (Ok cell) p =
     (grown image s.objects more _ grows (placed_advanced image s.objects a a.depth h.placed lies h.placed.depth)) (λ e. e)
 follows_store image s t a h lies value (Err f) p = follows_fail image s t a f h
 
+follows_make : (image : Image) (s : State) (t : ℕ) (a : Activity) (h : Here image s t a) → LiesIn image a.top.function (a.top.pc + 1) h.placed.function → (to cells class : ℕ) → class < image.classes → 0 < cells →
+    Follows image s t (make_left (here_place s t a) to cells class)
+unfolding grown
+follows_make image s t a h lies to cells class lt some =
+    let more = s.objects ++ fresh_object class cells ∷ [] in
+    let few : length s.objects ≤ 65536 = h.sound.objects.few in
+    elim (length s.objects == 65536) as (λ b. (length s.objects == 65536) ≡ b →
+    Follows image s t (record {
+      fate = fate_of (cond {A = Result Value Fault} b (Err fault.Full) (Ok (Addr (length s.objects) 0)));
+      activity = activity_set a to (cond b (Err fault.Full) (Ok (Addr (length s.objects) 0)));
+      objects = cond b s.objects more;
+      holding = s.holding;
+    })) [
+      | true ↦ λ e. follows_fail image s t a fault.Full h
+      | false ↦ λ e.
+          let not_most : length s.objects ≢ 65536 = λ z. let f = eq-eqb (length s.objects) 65536 z in cc in
+          let grows : (v : Value) → Points s.objects v → Points more v = points_before s.objects (fresh_object class cells ∷ []) in
+          follows_goes image s t a _ more h (sound_made image s.objects class cells h.sound.objects lt some (omega arith)) grows
+          (placed_with image more a to (Addr (length s.objects) 0) (grown image s.objects more a grows h.placed) lies (made_points s.objects class cells some)) (λ e. e)
+    ] refl
+
 follows_jump : (image : Image) (s : State) (t : ℕ) (a : Activity) (h : Here image s t a) (target : ℕ) → LiesIn image a.top.function target h.placed.function →
     Follows image s t (jump_left (here_place s t a) target)
 follows_jump image s t a h target lies =
@@ -348,6 +369,11 @@ follows_instr image s t a h (instr.Equals to left right) at fits taken =
     follows_set image s t a h (next_place image s.objects a h.placed _ h.sound.fits at refl) to (Ok (truth same)) (truth_points s.objects same)
 follows_instr image s t a h (instr.GlobalAddress to global) at fits taken =
     follows_set image s t a h (next_place image s.objects a h.placed _ h.sound.fits at refl) to (Ok (Addr global 0)) (h.sound.objects.globals global fits.1)
+follows_instr image s t a h (instr.FieldAddress to from places) at fits taken =
+    follows_set image s t a h (next_place image s.objects a h.placed _ h.sound.fits at refl) to (address_moved s.objects places (register_of a.top from))
+    (moved_points s.objects places (register_of a.top from))
+follows_instr image s t a h (instr.New to cells class) at fits taken =
+    follows_make image s t a h (next_place image s.objects a h.placed _ h.sound.fits at refl) to cells class fits.2 fits.1
 follows_instr image s t a h (instr.Load to address) at fits taken =
     let target = accessed_by (here_place s t a) Read address in
     follows_set image s t a h (next_place image s.objects a h.placed _ h.sound.fits at refl) to (loaded s.objects target) (loaded_points image s.objects target h.sound.objects)
@@ -428,6 +454,8 @@ can_do image a n f (instr.Jump target) e h k = tt
 can_do image a n f (instr.JumpIfZero test target) e h k = omega (arith, h.0)
 can_do image a n f (instr.Output from) e h k = omega arith
 can_do image a n f (instr.GlobalAddress to global) e h k = omega (arith, h.0)
+can_do image a n f (instr.FieldAddress to from places) e h k = (omega (arith, h.0), omega (arith, h.1))
+can_do image a n f (instr.New to cells class) e h k = omega (arith, h.0)
 can_do image a n f (instr.Load to address) e h k = (omega (arith, h.0), omega (arith, h.1))
 can_do image a n f (instr.Store address from) e h k = (omega (arith, h.0), omega (arith, h.1))
 can_do image a n f (instr.Return from) e h k = omega arith
@@ -455,17 +483,13 @@ thread_ready image objects forest threads t (Running a) m e =
         room = omega arith;
         points = h.placed.points;
         object_classes = subst (λ n. AreOfClasses n objects) (sym m.classes) m.sound.objects.classes;
+        few_objects = m.sound.objects.few;
         outside = outside_here image s t a h;
       },
       subst (λ o. IsSomeAnd o (CanDo image a.top)) (sym found.1) (can_do image a a.top.function h.placed.function found.0 h.placed.registers found.2 found.3),
     )
 
 -- ---- the start
-
-replicated : {X : Type 0} (n r : ℕ) (x v : X) → slice_get (replicate n x) r ≡ Some v → v ≡ x
-replicated zero r x v e = cc
-replicated (suc n) zero x v e = cc
-replicated (suc n) (suc r) x v e = replicated n r x v e
 
 first_values : (t m r : ℕ) (v : Value) (objects : List Object) → slice_get (Int (pos t) ∷ replicate m (Int (pos 0))) r ≡ Some v → Points objects v
 first_values t m zero v objects e = let is : Int (pos t) ≡ v = cc in subst (Points objects) is tt
@@ -491,12 +515,6 @@ first_placed image objects t fits =
   where
     counted : (x y : Value) (n m : ℕ) → n ≡ m → 1 ≤ m → length (x ∷ replicate (n - 1) y) ≡ m
     counted x y n m e le = let l = length-replicate (n - 1) y in omega arith
-
-one_more : {X : Type 0} (xs : List X) (y z : X) (u : ℕ) → slice_get (xs ++ y ∷ []) u ≡ Some z → (slice_get xs u ≡ Some z) ⊎ (z ≡ y)
-one_more [] y z zero e = inr (cc)
-one_more [] y z (suc u) e = inl (cc)
-one_more (x ∷ xs) y z zero e = inl e
-one_more (x ∷ xs) y z (suc u) e = one_more xs y z u e
 
 first_found : (image : Image) (n u : ℕ) (thread : Thread) → slice_get (first_threads image n) u ≡ Some thread → (t : ℕ) × (thread ≡ first_thread image t)
 first_found image zero u thread e = cc
@@ -526,6 +544,11 @@ global_class [] n class e = e
 global_class (c ∷ cs) zero class e = e
 global_class (c ∷ cs) (suc n) class e = global_class cs n class e
 
+global_size : (classes : List ℕ) (n size : ℕ) → size_of (map global_object classes) n ≡ Some size → 0 < size
+global_size [] n size e = cc
+global_size (c ∷ cs) zero size e = let one : 1 ≡ size = cc in omega arith
+global_size (c ∷ cs) (suc n) size e = global_size cs n size e
+
 global_value : (objects : List Object) (classes : List ℕ) (o i : ℕ) (v : Value) → cell_at (map global_object classes) (cell_of o i) ≡ Some v → Points objects v
 global_value objects [] o i v e = cc
 global_value objects (c ∷ cs) zero zero v e = let is : Int (pos 0) ≡ v = cc in subst (Points objects) is tt
@@ -542,6 +565,7 @@ start_sound image n fits =
         classes = λ k class e. fits.global_fits k class (global_class image.globals k class e);
         points = λ c v e. global_value objects image.globals c.object c.offset v e;
         globals = λ g lt. global_there image.globals g lt;
+        sizes = λ n size e. global_size image.globals n size e;
         few = let l = length-map image.globals global_object in let k = fits.few_globals in omega arith;
       };
       placed = λ u a e. start_placed image objects n u a fits e;

@@ -1,9 +1,10 @@
 -- The computed step is the one line of the table that applies, at each state that a verified program reaches.
-use Rattle.std.proofs.Common.{◌≡◌, ◌≢◌, ℕ, ℤ, pos, ◌+◌, ◌-◌, ◌<◌, ◌≤◌, ◌⊎◌, ◌==◌, ◌&&◌, zero, suc, Bool, true, false, cond, List, [], ◌∷◌, Option, Some, None, Result, Ok, Err, IsTrue, length, set, slice_get, refl, ap, sym, ◌∙◌, subst, inl, inr, arith, eqb-true, eq-eqb, ne_eqb}
+use Rattle.std.proofs.Common.{◌≡◌, ◌≢◌, ℕ, ℤ, pos, ◌+◌, ◌-◌, ◌<◌, ◌≤◌, ◌⊎◌, ◌==◌, ◌&&◌, zero, suc, ltb, ◌++◌, Bool, true, false, cond, List, [], ◌∷◌, Option, Some, None, Result, Ok, Err, IsTrue, length, set, slice_get, refl, ap, sym, ◌∙◌, subst, inl, inr, arith, eqb-true, eq-eqb, ne_eqb}
 use Rattle.std.specs.Prelude.{IsSome, unwrap_or}
 use Rattle.std.specs.Int.{w32, int_wrapping_add, int_wrapping_sub}
 use Rattle.std.specs.Ordering.{int_eq}
-use Rattle.std.specs.Prelude.{int_lt, ◌<ℤ◌, ◌≤ℤ◌}
+use Rattle.std.specs.Prelude.{int_lt, ◌<ℤ◌, ◌≤ℤ◌, option_map, option_and_then}
+use Rattle.std.proofs.lemmas.Bool.{ltb-true, ltb-false}
 use Rattle.std.proofs.lemmas.Bool.Decides.{Decides-int_eq}
 use Rattle.std.proofs.lemmas.Int.{ints}
 use Rattle.std.proofs.lemmas.Option.{slice_get_cases, slice_get_within}
@@ -26,12 +27,12 @@ use Rattle.asl_machine.specs.declared.fault.Fault.{Fault}
 use Rattle.asl_machine.specs.declared.fault.Fault.TheVariants as fault
 use Rattle.asl_machine.specs.declared.reply.Reply.{Reply}
 use Rattle.asl_machine.specs.declared.reply.Reply.TheVariants as reply
-use Rattle.asl_machine.specs.State.{Object, Activity, Thread, Running, Done, Failed, State, cell_at, written}
+use Rattle.asl_machine.specs.State.{Object, Activity, Thread, Running, Done, Failed, State, cell_at, size_of, written, fresh_object}
 use Rattle.asl_machine.specs.Expression.{cell_of}
 use Rattle.asl_machine.specs.Access.{Points, AllPoint, is_protected}
 use Rattle.asl_machine.specs.Request.{locks_of, request_of}
-use Rattle.asl_machine.specs.Step.{At, placed_at, advanced, advanced_with, going_on, after, Reads, ReadsAddress, is_allowed, Sets, GoesOn, Fails, are_integers, is_zero, Computes, FailsOperands, IsBelow, IsNotBelow, AreSame, AreOther, JumpsIfZero, PassesBy, Loads, Stores, FailsNull, FailsType, FailsUnprotected, Returns, FailsOpen, Nests, Asks, Enters, Waits, Unnests, Leaves, Line, StepOf, Step}
-use Rattle.asl_machine.specs.Twin.{Left, Place, Turn, fate_of, set_left, computed, added, subtracted, compared, truth, same_value, jump_left, show_left, allowed_cell, loaded, accessed, accessed_by, store_left, left_alone, return_fate, acquire_fate, activity_moved, acquire_left, release_left, request_at, left_by, left_at, turn_by, turn_of, step_at, step_of, register_of, can_grant}
+use Rattle.asl_machine.specs.Step.{At, placed_at, advanced, advanced_with, going_on, after, Reads, ReadsAddress, is_allowed, Sets, GoesOn, Fails, are_integers, is_zero, Computes, FailsOperands, IsBelow, IsNotBelow, AreSame, AreOther, JumpsIfZero, PassesBy, MovesOn, FailsBounds, Makes, Loads, Stores, FailsNull, FailsType, FailsUnprotected, Returns, FailsOpen, Nests, Asks, Enters, Waits, Unnests, Leaves, Line, StepOf, Step}
+use Rattle.asl_machine.specs.Twin.{Left, Place, Turn, fate_of, set_left, computed, added, subtracted, compared, truth, same_value, jump_left, show_left, address_or_bounds, address_moved, activity_set, make_left, allowed_cell, loaded, accessed, accessed_by, store_left, left_alone, return_fate, acquire_fate, activity_moved, acquire_left, release_left, request_at, left_by, left_at, turn_by, turn_of, step_at, step_of, register_of, can_grant}
 use Rattle.asl_machine.specs.Sound.{IsPlaced, IsSound}
 use Rattle.asl_machine.proofs.Grants.{grant_when_free, can_grant-true}
 use Rattle.asl_machine.proofs.Soundness.{Here, here_of, here_place, instr_here, after_same}
@@ -146,6 +147,42 @@ load_line at to address (Addr o i) p q =
       | false ↦ λ e. record { reads_address = p; forbidden = e; named = refl; fails = refl }
     ] refl
 
+field_line : (at : At) (to from places : ℕ) (v : Value) → Reads at from v → Points at.state.objects v →
+    IsLine at (instr.FieldAddress to from places) (set_left (here_place at.state at.thread at.activity) to (address_moved at.state.objects places v))
+field_line at to from places (Int x) p q = (x, p, refl)
+field_line at to from places Null p q = (p, refl)
+field_line at to from places (Addr o i) p q =
+    elim (slice_get at.state.objects o) as (λ x. slice_get at.state.objects o ≡ x → IsSome (option_and_then (λ (r : Object). slice_get r.cells i) x) →
+    IsLine at (instr.FieldAddress to from places) (set_left (here_place at.state at.thread at.activity) to
+    (address_or_bounds (option_and_then (λ size. cond (ltb (i + places) size) (Some (cell_of o (i + places))) None) (option_map (λ (r : Object). length r.cells) x))))) [
+      | None ↦ λ e k. let f = k in cc
+      | Some r ↦ λ e k. inside at to from places o i (length r.cells) p (ap (option_map (λ (z : Object). length z.cells)) e)
+    ] refl q
+  where
+    inside : (at : At) (to from places o i size : ℕ) → Reads at from (Addr o i) → size_of at.state.objects o ≡ Some size →
+        IsLine at (instr.FieldAddress to from places) (set_left (here_place at.state at.thread at.activity) to (address_or_bounds (cond (ltb (i + places) size) (Some (cell_of o (i + places))) None)))
+    inside at to from places o i size p sized =
+        elim (ltb (i + places) size) as (λ b. ltb (i + places) size ≡ b →
+        IsLine at (instr.FieldAddress to from places) (set_left (here_place at.state at.thread at.activity) to (address_or_bounds (cond b (Some (cell_of o (i + places))) None)))) [
+          | true ↦ λ e. record { cell = cell_of o i; size = size; reads_address = p; sized = sized; inside = ltb-true _ _ e; sets = refl }
+          | false ↦ λ e. record { cell = cell_of o i; size = size; reads_address = p; sized = sized; outside = ltb-false _ _ e; fails = refl }
+        ] refl
+
+make_line : (at : At) (to cells class : ℕ) → length at.state.objects ≤ 65536 →
+    IsLine at (instr.New to cells class) (make_left (here_place at.state at.thread at.activity) to cells class)
+make_line at to cells class few =
+    let objects = at.state.objects in
+    elim (length objects == 65536) as (λ b. (length objects == 65536) ≡ b →
+    IsLine at (instr.New to cells class) (record {
+      fate = fate_of (cond {A = Result Value Fault} b (Err fault.Full) (Ok (Addr (length objects) 0)));
+      activity = activity_set at.activity to (cond b (Err fault.Full) (Ok (Addr (length objects) 0)));
+      objects = cond b objects (objects ++ fresh_object class cells ∷ []);
+      holding = at.state.holding;
+    })) [
+      | true ↦ λ e. (eqb-true _ _ e, refl)
+      | false ↦ λ e. let not_most : length objects ≢ 65536 = λ z. let f = eq-eqb (length objects) 65536 z in cc in record { room = omega arith; makes = refl }
+    ] refl
+
 store_line : (at : At) (address from : ℕ) (v w : Value) → Reads at address v → Reads at from w →
     IsLine at (instr.Store address from) (store_left (here_place at.state at.thread at.activity) w (accessed at.state.holding at.state.objects at.thread at.activity.depth Write v))
 store_line at address from (Int x) w p q = (x, p, refl)
@@ -245,6 +282,11 @@ line_there image s t a h here (instr.Equals to left right) fits taken =
     equal_line (at_of image s t a) to left right (register_of a.top left) (register_of a.top right)
     (read_there a left (omega (arith, fits.1))) (read_there a right (omega (arith, fits.2)))
 line_there image s t a h here (instr.GlobalAddress to global) fits taken = refl
+line_there image s t a h here (instr.FieldAddress to from places) fits taken =
+    let count = h.placed.registers in
+    let read = read_there a from (omega (arith, fits.1)) in
+    field_line (at_of image s t a) to from places (register_of a.top from) read (h.placed.points from (register_of a.top from) read)
+line_there image s t a h here (instr.New to cells class) fits taken = make_line (at_of image s t a) to cells class h.sound.objects.few
 line_there image s t a h here (instr.Load to address) fits taken =
     let count = h.placed.registers in
     let read = read_there a address (omega (arith, fits.1)) in

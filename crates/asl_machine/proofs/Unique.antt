@@ -1,7 +1,8 @@
 -- A step that the table allows is the computed one.
-use Rattle.std.proofs.Common.{◌≡◌, ◌≢◌, ℕ, ℤ, pos, ◌+◌, ◌-◌, ◌<◌, ◌≤◌, ◌⊎◌, ◌==◌, Bool, true, false, cond, List, [], Option, Some, None, Result, Ok, Err, IsTrue, length, slice_get, refl, ap, sym, ◌∙◌, subst, inl, inr, arith, eq-eqb, ne_eqb}
+use Rattle.std.proofs.Common.{◌≡◌, ◌≢◌, ℕ, ℤ, pos, ◌+◌, ◌-◌, ◌<◌, ◌≤◌, ◌⊎◌, ◌==◌, ◌++◌, ◌∷◌, ltb, Bool, true, false, cond, List, [], Option, Some, None, Result, Ok, Err, IsTrue, length, slice_get, refl, ap, sym, ◌∙◌, subst, inl, inr, arith, eq-eqb, ne_eqb}
 use Rattle.std.specs.Prelude.{unwrap_or}
-use Rattle.std.specs.Prelude.{int_lt, ◌<ℤ◌, ◌≤ℤ◌}
+use Rattle.std.specs.Prelude.{int_lt, ◌<ℤ◌, ◌≤ℤ◌, option_and_then}
+use Rattle.std.proofs.lemmas.Bool.{lt-ltb, le-ltb}
 use Rattle.std.proofs.lemmas.Int.{ints}
 use Rattle.asl_code.specs.declared.image.Image.{Image}
 use Rattle.asl_code.specs.declared.instr.Instr.{Instr}
@@ -19,12 +20,12 @@ use Rattle.asl_machine.specs.declared.fault.Fault.{Fault}
 use Rattle.asl_machine.specs.declared.fault.Fault.TheVariants as fault
 use Rattle.asl_machine.specs.declared.reply.Reply.{Reply}
 use Rattle.asl_machine.specs.declared.reply.Reply.TheVariants as reply
-use Rattle.asl_machine.specs.State.{Object, Activity, Thread, Running, Done, Failed, State, cell_at, written}
+use Rattle.asl_machine.specs.State.{Object, Activity, Thread, Running, Done, Failed, State, cell_at, size_of, written, fresh_object}
 use Rattle.asl_machine.specs.Access.{is_protected}
 use Rattle.asl_machine.specs.Expression.{cell_of}
 use Rattle.asl_machine.specs.Request.{locks_of, request_of}
 use Rattle.asl_machine.specs.Step.{At, placed_at, advanced, advanced_with, going_on, after, Reads, ReadsAddress, is_allowed, Sets, GoesOn, GoesTo, Fails, are_integers, FailsOperands, is_zero, Asks, Line, StepOf, Step}
-use Rattle.asl_machine.specs.Twin.{Left, fate_of, set_left, computed, added, subtracted, compared, truth, same_value, jump_left, show_left, allowed_cell, loaded, accessed, accessed_by, store_left, left_alone, return_fate, acquire_fate, activity_moved, holding_acquired, acquire_left, release_fate, holding_released, release_left, left_by, left_at, turn_by, turn_of, step_at, step_of, register_of, can_grant}
+use Rattle.asl_machine.specs.Twin.{Left, fate_of, set_left, computed, added, subtracted, compared, truth, same_value, jump_left, show_left, address_or_bounds, address_moved, activity_set, make_left, allowed_cell, loaded, accessed, accessed_by, store_left, left_alone, return_fate, acquire_fate, activity_moved, holding_acquired, acquire_left, release_fate, holding_released, release_left, left_by, left_at, turn_by, turn_of, step_at, step_of, register_of, can_grant}
 use Rattle.asl_machine.specs.Sound.{IsSound}
 use Rattle.asl_machine.proofs.Grants.{grant_when_free, can_grant-true}
 use Rattle.asl_machine.proofs.Soundness.{here_place, after_same}
@@ -97,6 +98,30 @@ only_jump : (at : At) (test target : ℕ) (v : Value) (b : Bool) (n : State) →
 only_jump at test target v b n p e h =
     let tested : is_zero (register_of at.activity.top test) ≡ b = ap is_zero (reads_is at test v p) ∙ e in
     (refl, subst (λ c. GoesTo at (cond c target (at.activity.top.pc + 1)) n) (sym tested) h)
+
+moved_is : (at : At) (places from : ℕ) (v : Value) → Reads at from v → address_moved at.state.objects places (register_of at.activity.top from) ≡ address_moved at.state.objects places v
+moved_is at places from v e = ap (address_moved at.state.objects places) (reads_is at from v e)
+
+moved_tested : (at : At) (places from size : ℕ) (c : Cell) (b : Bool) → ReadsAddress at from c → size_of at.state.objects c.object ≡ Some size → ltb (c.offset + places) size ≡ b →
+    address_moved at.state.objects places (register_of at.activity.top from) ≡ address_or_bounds (cond b (Some (cell_of c.object (c.offset + places))) None)
+moved_tested at places from size c b e sized tested =
+    moved_is at places from (Addr c.object c.offset) e
+    ∙ ap (λ o. address_or_bounds (option_and_then (λ n. cond (ltb (c.offset + places) n) (Some (cell_of c.object (c.offset + places))) None) o)) sized
+    ∙ ap (λ x. address_or_bounds (cond x (Some (cell_of c.object (c.offset + places))) None)) tested
+
+-- what a `new` leaves, by the test of the objects
+abbrev made_by : At → ℕ → ℕ → ℕ → Bool → Left
+made_by at to cells class b =
+    record {
+      fate = fate_of (cond {A = Result Value Fault} b (Err fault.Full) (Ok (Addr (length at.state.objects) 0)));
+      activity = activity_set at.activity to (cond b (Err fault.Full) (Ok (Addr (length at.state.objects) 0)));
+      objects = cond b at.state.objects (at.state.objects ++ fresh_object class cells ∷ []);
+      holding = at.state.holding;
+    }
+
+only_make : (at : At) (to cells class : ℕ) (b : Bool) (r : Reply) (n : State) → (length at.state.objects == 65536) ≡ b → IsLeft at (made_by at to cells class b) r n →
+    IsLeft at (make_left (here_place at.state at.thread at.activity) to cells class) r n
+only_make at to cells class b r n e h = subst (λ x. IsLeft at (made_by at to cells class x) r n) (sym e) h
 
 target_is : (at : At) (effect : Effect) (r : ℕ) (v : Value) → Reads at r v →
     accessed_by (here_place at.state at.thread at.activity) effect r ≡ accessed at.state.holding at.state.objects at.thread at.activity.depth effect v
@@ -188,6 +213,21 @@ only_line image s t a sound here (instr.Equals to left right) reply.Ran n h =
           only_equal at to left right other.x other.y false n other.reads_left other.reads_right (not_yes _ (λ e. other.other (same_is other.x other.y e))) other.sets
     ]
 only_line image s t a sound here (instr.GlobalAddress to global) reply.Ran n h = (refl, h)
+only_line image s t a sound here (instr.FieldAddress to from places) reply.Ran n h =
+    let at = at_of image s t a in
+    only_set at to _ _ n (moved_tested at places from h.size h.cell true h.reads_address h.sized (lt-ltb _ _ h.inside)) h.sets
+only_line image s t a sound here (instr.FieldAddress to from places) (reply.Fault fault.Null) n h =
+    let at = at_of image s t a in only_unset at to _ fault.Null n (moved_is at places from Null h.0) h.1
+only_line image s t a sound here (instr.FieldAddress to from places) (reply.Fault fault.BadType) n h =
+    let at = at_of image s t a in only_unset at to _ fault.BadType n (moved_is at places from (Int h.0) h.1) h.2
+only_line image s t a sound here (instr.FieldAddress to from places) (reply.Fault fault.Bounds) n h =
+    let at = at_of image s t a in
+    only_unset at to _ fault.Bounds n (moved_tested at places from h.size h.cell false h.reads_address h.sized (le-ltb _ _ h.outside)) h.fails
+only_line image s t a sound here (instr.New to cells class) reply.Ran n h =
+    let room = h.room in
+    only_make (at_of image s t a) to cells class false reply.Ran n (ne_eqb (length s.objects) 65536 (λ e. absurd (omega arith))) (refl, h.makes)
+only_line image s t a sound here (instr.New to cells class) (reply.Fault fault.Full) n h =
+    only_make (at_of image s t a) to cells class true (reply.Fault fault.Full) n (eq-eqb (length s.objects) 65536 h.0) (refl, h.1)
 only_line image s t a sound here (instr.Load to address) reply.Ran n h =
     let at = at_of image s t a in
     only_set at to _ h.value n (load_is s.objects _ h.cell h.value (target_allowed at Read address h.cell true h.reads_address h.allowed) h.there) h.sets

@@ -10,7 +10,7 @@ use Rattle.asl_lock_forest.specs.Holding.{Holding, HoldsNothing, is_covered}
 use Rattle.asl_lock_forest.specs.Held.{Held}
 use Rattle.asl_code.specs.declared.image.Image.{Image}
 use Rattle.asl_code.specs.declared.instr.Instr.{Instr}
-use Rattle.asl_code.specs.declared.instr.Instr.TheVariants.{SetInt, SetNull, Move, Add, Subtract, LessThan, Equals, GlobalAddress, Load, Store, Jump, JumpIfZero, Return, Output, Acquire, Release}
+use Rattle.asl_code.specs.declared.instr.Instr.TheVariants.{SetInt, SetNull, Move, Add, Subtract, LessThan, Equals, GlobalAddress, FieldAddress, Load, Store, New, Jump, JumpIfZero, Return, Output, Acquire, Release}
 use Rattle.asl_machine.specs.Request.{LockOfClass, locks_of}
 use Rattle.asl_machine.specs.State.{Object, Frame, Activity, class_of, cell_at}
 use Rattle.asl_machine.specs.Expression.{cell_of}
@@ -44,8 +44,10 @@ CanDo image f (Subtract to left right) = (to < length f.regs) × (left < length 
 CanDo image f (LessThan to left right) = (to < length f.regs) × (left < length f.regs) × (right < length f.regs)
 CanDo image f (Equals to left right) = (to < length f.regs) × (left < length f.regs) × (right < length f.regs)
 CanDo image f (GlobalAddress to global) = to < length f.regs
+CanDo image f (FieldAddress to from places) = (to < length f.regs) × (from < length f.regs)
 CanDo image f (Load to address) = (to < length f.regs) × (address < length f.regs)
 CanDo image f (Store address from) = (address < length f.regs) × (from < length f.regs)
+CanDo image f (New to cells class) = to < length f.regs
 CanDo image f (Jump target) = Unit {0}
 CanDo image f (JumpIfZero test target) = test < length f.regs
 CanDo image f (Return from) = from < length f.regs
@@ -62,4 +64,5 @@ pub record IsReady (image : Image) (forest : Held) (objects : List Object) (thre
   pub room : activity.top.pc + 1 < 2 ^ 16
   pub points : AllPoint objects activity.top.regs
   pub object_classes : AreOfClasses forest.classes objects
+  pub few_objects : length objects ≤ 65536
   pub outside : activity.depth ≡ 0 → HoldsNothing forest.holding thread

@@ -8,7 +8,7 @@ use Rattle.asl_code.specs.declared.value.Value.{Value}
 use Rattle.asl_code.specs.declared.value.Cell.{Cell}
 use Rattle.asl_lock_forest.specs.Held.{Held}
 use Rattle.asl_lock_forest.specs.Holding.{HoldsNothing, IsLawful, IsWithin}
-use Rattle.asl_machine.specs.State.{Object, Activity, Thread, Running, Done, Failed, State, cell_at, class_of, activity_at, depth_at}
+use Rattle.asl_machine.specs.State.{Object, Activity, Thread, Running, Done, Failed, State, cell_at, size_of, class_of, activity_at, depth_at}
 use Rattle.asl_machine.specs.Expression.{cell_of}
 use Rattle.asl_machine.specs.Access.{Points, AllPoint, AreOfClasses, IsReady, CanDo}
 use Rattle.asl_machine.specs.Twin.{WantsMemory}
@@ -26,6 +26,7 @@ pub record IsPlaced (image : Image) (objects : List Object) (activity : Activity
 pub record AreSound (image : Image) (objects : List Object) : Type 0 where
   pub classes : AreOfClasses image.classes objects
   pub points : (cell : Cell) (value : Value) → cell_at objects cell ≡ Some value → Points objects value
+  pub sizes : (number size : ℕ) → size_of objects number ≡ Some size → 0 < size
   pub few : length objects ≤ 65536
   pub globals : (global : ℕ) → global < length image.globals → IsSome (cell_at objects (cell_of global 0))
 
@@ -45,7 +46,7 @@ ThreadReady image forest objects t (Running activity) =
 ThreadReady image forest objects t (Done value) = Unit {0}
 ThreadReady image forest objects t (Failed f) = Unit {0}
 
--- the thread runs and is at an `acq` outside all sections
+-- the thread runs and is at an instruction that may want memory
 abbrev pub ThreadWantsMemory : Image → Thread → Type 0
 ThreadWantsMemory image (Running activity) = IsSomeAnd (slice_get image.code activity.top.pc) (WantsMemory activity)
 ThreadWantsMemory image (Done value) = ⊥
@@ -58,6 +59,6 @@ pub record IsMachine (image : Image) (objects : List Object) (forest : Held) (th
   pub counted : forest.threads ≡ length threads
   pub few_threads : length threads ≤ 64
 
--- the thread of this number is there, runs, and is at an `acq` outside all sections
+-- the thread of this number is there, runs, and is at an instruction that may want memory
 abbrev pub MayWantMemory : Image → State → ℕ → Type 0
 MayWantMemory image s t = IsSomeAnd (slice_get s.threads t) (ThreadWantsMemory image)

@@ -38,6 +38,10 @@ pub record State : Type 0 where
   pub holding : Holding
   pub threads : List Thread
 
+-- a new object of the class, with so many cells
+abbrev pub fresh_object : ℕ → ℕ → Object
+fresh_object class cells = record { class = class; cells = replicate cells (Int (pos 0)) }
+
 -- what a cell holds, if the cell is there
 abbrev pub cell_at : List Object → Cell → Option Value
 cell_at objects cell = option_and_then (λ (object : Object). slice_get object.cells cell.offset) (slice_get objects cell.object)

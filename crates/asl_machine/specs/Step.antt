@@ -1,6 +1,6 @@
 -- One step of a thread, as the instruction table says it (docs/INSTRUCTIONS.md): a line for each instruction and
 -- each reply that it can give. What a verified program never does has no line.
-use Rattle.std.specs.Prelude.{◌≡◌, ◌≢◌, ℕ, ℤ, pos, ◌+◌, ◌-◌, ◌<◌, ◌<ℤ◌, ◌≤ℤ◌, ◌⊎◌, Bool, false, true, ◌&&◌, List, [], Option, None, Some, slice_get, slice_set}
+use Rattle.std.specs.Prelude.{◌≡◌, ◌≢◌, ℕ, ℤ, pos, ◌+◌, ◌-◌, ◌<◌, ◌≤◌, ◌<ℤ◌, ◌≤ℤ◌, ◌⊎◌, Bool, false, true, ◌&&◌, List, [], ◌∷◌, ◌++◌, length, Option, None, Some, slice_get, slice_set}
 use Rattle.std.specs.Int.{w32, int_wrapping_add, int_wrapping_sub}
 use Rattle.std.specs.Ordering.{int_eq}
 use Rattle.asl_code.specs.declared.image.Image.{Image}
@@ -17,7 +17,7 @@ use Rattle.asl_machine.specs.declared.fault.Fault.{Fault}
 use Rattle.asl_machine.specs.declared.fault.Fault.TheVariants as fault
 use Rattle.asl_machine.specs.declared.reply.Reply.{Reply}
 use Rattle.asl_machine.specs.declared.reply.Reply.TheVariants as reply
-use Rattle.asl_machine.specs.State.{Object, Frame, Activity, Thread, Running, Done, Failed, State, cell_at, written}
+use Rattle.asl_machine.specs.State.{Object, Frame, Activity, Thread, Running, Done, Failed, State, cell_at, size_of, written, fresh_object}
 use Rattle.asl_machine.specs.Access.{is_protected}
 use Rattle.asl_machine.specs.Request.{request_of}
 
@@ -166,6 +166,31 @@ pub record FailsOperands (at : At) (left right : ℕ) (new : State) : Type 0 whe
   pub other : are_integers x y ≡ false
   pub fails : Fails at fault.BadType new
 
+-- `field`: the address so many cells on, in the same object
+pub record MovesOn (at : At) (to from places : ℕ) (new : State) : Type 0 where
+  pub cell : Cell
+  pub size : ℕ
+  pub reads_address : ReadsAddress at from cell
+  pub sized : size_of at.state.objects cell.object ≡ Some size
+  pub inside : cell.offset + places < size
+  pub sets : Sets at to (Addr cell.object (cell.offset + places)) new
+
+-- `field` where the object has no cell so many on
+pub record FailsBounds (at : At) (from places : ℕ) (new : State) : Type 0 where
+  pub cell : Cell
+  pub size : ℕ
+  pub reads_address : ReadsAddress at from cell
+  pub sized : size_of at.state.objects cell.object ≡ Some size
+  pub outside : size ≤ cell.offset + places
+  pub fails : Fails at fault.Bounds new
+
+-- `new` where there is room: an object of so many cells and of this class comes last, and the register gets its address
+pub record Makes (at : At) (to cells class : ℕ) (new : State) : Type 0 where
+  pub room : length at.state.objects < 65536
+  pub makes : new ≡ after at.state at.thread
+      (Running (going_on at.activity at.activity.depth (advanced_with to (Addr (length at.state.objects) 0) at.activity.top)))
+      (at.state.objects ++ fresh_object class cells ∷ []) at.state.holding
+
 -- `load` of a cell that the thread may read
 pub record Loads (at : At) (to address : ℕ) (new : State) : Type 0 where
   pub cell : Cell
@@ -263,6 +288,10 @@ Line at (instr.LessThan to left right) reply.Ran new = IsBelow at to left right 
 Line at (instr.LessThan to left right) (reply.Fault fault.BadType) new = FailsOperands at left right new
 Line at (instr.Equals to left right) reply.Ran new = AreSame at to left right new ⊎ AreOther at to left right new
 Line at (instr.GlobalAddress to global) reply.Ran new = Sets at to (Addr global 0) new
+Line at (instr.FieldAddress to from places) reply.Ran new = MovesOn at to from places new
+Line at (instr.FieldAddress to from places) (reply.Fault fault.Null) new = FailsNull at from new
+Line at (instr.FieldAddress to from places) (reply.Fault fault.BadType) new = FailsType at from new
+Line at (instr.FieldAddress to from places) (reply.Fault fault.Bounds) new = FailsBounds at from places new
 Line at (instr.Load to address) reply.Ran new = Loads at to address new
 Line at (instr.Load to address) (reply.Fault fault.Null) new = FailsNull at address new
 Line at (instr.Load to address) (reply.Fault fault.BadType) new = FailsType at address new
@@ -271,6 +300,8 @@ Line at (instr.Store address from) reply.Ran new = Stores at address from new
 Line at (instr.Store address from) (reply.Fault fault.Null) new = FailsNull at address new
 Line at (instr.Store address from) (reply.Fault fault.BadType) new = FailsType at address new
 Line at (instr.Store address from) (reply.Fault (fault.Unprotected cell effect)) new = FailsUnprotected at address cell Write effect new
+Line at (instr.New to cells class) reply.Ran new = Makes at to cells class new
+Line at (instr.New to cells class) (reply.Fault fault.Full) new = (length at.state.objects ≡ 65536) × Fails at fault.Full new
 Line at (instr.Jump target) reply.Ran new = GoesTo at target new
 Line at (instr.JumpIfZero test target) reply.Ran new = JumpsIfZero at test target new ⊎ PassesBy at test new
 Line at (instr.Return from) reply.Ran new = Returns at from new

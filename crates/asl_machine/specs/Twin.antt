@@ -1,6 +1,6 @@
 -- The step, computed: for a verified program the reply and the state of the one line of the table that applies
 -- (specs/Step.antt). It answers something also where no line applies; nobody asks there.
-use Rattle.std.specs.Prelude.{◌≡◌, ℕ, zero, suc, ◌+◌, ◌-◌, ℤ, pos, int_lt, Bool, true, false, ◌&&◌, ◌||◌, ◌==◌, List, [], Option, None, Some, Result, Ok, Err, slice_get, unwrap_or, length, if◌then◌else◌}
+use Rattle.std.specs.Prelude.{◌≡◌, ℕ, zero, suc, ◌+◌, ◌-◌, ℤ, pos, int_lt, Bool, true, false, ◌&&◌, ◌||◌, ◌==◌, List, [], ◌∷◌, ◌++◌, Option, None, Some, Result, Ok, Err, slice_get, unwrap_or, length, if◌then◌else◌}
 use Rattle.std.specs.List.{list_all}
 use Rattle.std.specs.Option.{option_map_or}
 use Rattle.std.specs.Int.{w32, int_wrapping_add, int_wrapping_sub}
@@ -24,10 +24,10 @@ use Rattle.asl_machine.specs.declared.fault.Fault.{Fault}
 use Rattle.asl_machine.specs.declared.fault.Fault.TheVariants as fault
 use Rattle.asl_machine.specs.declared.reply.Reply.{Reply}
 use Rattle.asl_machine.specs.declared.reply.Reply.TheVariants as reply
-use Rattle.asl_machine.specs.State.{Object, Frame, Activity, Thread, Running, Done, Failed, State, cell_at, written}
+use Rattle.asl_machine.specs.State.{Object, Frame, Activity, Thread, Running, Done, Failed, State, cell_at, written, fresh_object}
 use Rattle.asl_machine.specs.Access.{is_protected}
-use Rattle.asl_machine.specs.Expression.{cell_of}
-use Rattle.asl_machine.specs.Request.{request_of, locks_of}
+use Rattle.asl_machine.specs.Expression.{cell_of, moved}
+use Rattle.asl_machine.specs.Request.{heap_of, request_of, locks_of}
 use Rattle.asl_machine.specs.Step.{placed_at, advanced, advanced_with, going_on, after, is_zero}
 
 -- what an instruction leaves: what becomes of its thread, and the parts of the state that it may have changed
@@ -98,6 +98,31 @@ same_value (Int x) (Int y) = int_eq x y
 same_value Null Null = true
 same_value (Addr o i) (Addr p j) = o == p && i == j
 same_value x y = false
+
+-- the address of the cell, if there is one
+abbrev pub address_or_bounds : Option Cell → Result Value Fault
+address_or_bounds None = Err fault.Bounds
+address_or_bounds (Some cell) = Ok (Addr cell.object cell.offset)
+
+-- the address so many cells on
+abbrev pub address_moved : List Object → ℕ → Value → Result Value Fault
+address_moved objects places (Int number) = Err fault.BadType
+address_moved objects places Null = Err fault.Null
+address_moved objects places (Addr object offset) = address_or_bounds (moved (heap_of objects) places (cell_of object offset))
+
+-- the address of an object that is made, where there is room for one
+abbrev pub made_address : List Object → Result Value Fault
+made_address objects = if length objects == 65536 then Err fault.Full else Ok (Addr (length objects) 0)
+
+-- the objects after an object of the class with so many cells is made, where there is room for one
+abbrev pub made_objects : List Object → ℕ → ℕ → List Object
+made_objects objects cells class = if length objects == 65536 then objects else objects ++ fresh_object class cells ∷ []
+
+-- the register gets the address of a new object, or the thread fails
+abbrev pub make_left : Place → ℕ → ℕ → ℕ → Left
+make_left p to cells class =
+    let address = made_address p.objects in
+    record { fate = fate_of address; activity = activity_set p.activity to address; objects = made_objects p.objects cells class; holding = p.holding }
 
 -- the cell, where the access is allowed
 abbrev pub allowed_cell : Bool → Effect → Cell → Result Cell Fault
@@ -220,8 +245,10 @@ left_by image count p (instr.LessThan to left right) = set_left p to (computed c
 left_by image count p (instr.Equals to left right) =
     set_left p to (Ok (truth (same_value (register_of p.activity.top left) (register_of p.activity.top right))))
 left_by image count p (instr.GlobalAddress to global) = set_left p to (Ok (Addr global 0))
+left_by image count p (instr.FieldAddress to from places) = set_left p to (address_moved p.objects places (register_of p.activity.top from))
 left_by image count p (instr.Load to address) = set_left p to (loaded p.objects (accessed_by p Read address))
 left_by image count p (instr.Store address from) = store_left p (register_of p.activity.top from) (accessed_by p Write address)
+left_by image count p (instr.New to cells class) = make_left p to cells class
 left_by image count p (instr.Jump target) = jump_left p target
 left_by image count p (instr.JumpIfZero test target) =
     jump_left p (if is_zero (register_of p.activity.top test) then target else p.activity.top.pc + 1)
@@ -296,7 +323,8 @@ step_at image s t (Some thread) =
 abbrev pub step_of : Image → State → ℕ → Stepped
 step_of image s t = step_at image s t (slice_get s.threads t)
 
--- the instruction is an `acq` outside all sections, the one that may want memory
+-- the instruction is a `new`, or an `acq` outside all sections: those that may want memory
 abbrev pub WantsMemory : Activity → Instr → Type 0
+WantsMemory activity (instr.New to cells class) = Unit {0}
 WantsMemory activity (instr.Acquire list) = activity.depth ≡ 0
 WantsMemory activity i = ⊥

@@ -58,7 +58,7 @@ fn walk(heap: &Heap, op: Op, cell: Cell) -> Option<Cell>
 }
 
 /// The cell so many places on, if the object has it.
-fn go_on(heap: &Heap, places: u8, cell: Cell) -> Option<Cell>
+pub fn go_on(heap: &Heap, places: u8, cell: Cell) -> Option<Cell>
     ensures { result ≡ moved (heap_of heap.now) places cell }
 {
     let size = heap.size(usize::from(cell.object))?;

@@ -1,5 +1,5 @@
 //! The objects of a machine and what their cells hold.
-ghost use Rattle.std.specs.Prelude.{◌≡◌, ◌<◌, ℕ, IfOk, Some, length, slice_get, map, option_map, replicate, pos, IsSome};
+ghost use Rattle.std.specs.Prelude.{◌≡◌, ◌<◌, ◌++◌, ◌∷◌, [], ℕ, IfOk, OnOk, OnErr, Some, length, slice_get, map, option_map, replicate, pos, IsSome};
 
 use asl_code::{Cell, Value};
 use std::alloc::{AllocError, Global};
@@ -25,7 +25,7 @@ impl Model for Object {
 }
 
 impl Object {
-    ghost use Rattle.asl_machine.specs.State.{with_cell};
+    ghost use Rattle.asl_machine.specs.State.{with_cell, fresh_object};
     ghost use Rattle.asl_machine.specs.Run.{global_object};
 
     /// The object of a global.
@@ -35,6 +35,16 @@ impl Object {
         let mut cells = Vec::new(alloc);
         cells.push(Value::Int(0))?;
         Ok(Object { class, cells })
+    }
+
+    /// A new object of the class, with so many cells.
+    fn fresh(alloc: Global, cells: u8, class: u16) -> Result<Object, AllocError>
+        ensures { IfOk result (λ object. object ≡ fresh_object class cells) }
+    {
+        Ok(Object {
+            class,
+            cells: zeros(alloc, cells)?,
+        })
     }
 
     fn class(&self) -> u16
@@ -63,6 +73,17 @@ impl Object {
     }
 }
 
+/// So many cells that hold 0.
+fn zeros(alloc: Global, count: u8) -> Result<Vec<Value>, AllocError>
+    ensures { IfOk result (λ cells. cells.items ≡ replicate count (Value.Int (pos 0))) }
+{
+    let mut cells = Vec::new(alloc);
+    for _ in 0..count {
+        cells.push(Value::Int(0))?;
+    }
+    Ok(cells)
+}
+
 /// All objects, by their numbers. Contracts see the list of them.
 #[derive(Debug, Drop)]
 pub struct Heap {
@@ -79,7 +100,7 @@ impl Model for Heap {
 }
 
 impl Heap {
-    ghost use Rattle.asl_machine.specs.State.{cell_at, size_of, class_of, written};
+    ghost use Rattle.asl_machine.specs.State.{cell_at, size_of, class_of, written, fresh_object};
     ghost use Rattle.asl_machine.specs.Run.{global_object};
 
     /// The objects of the globals of these classes.
@@ -136,6 +157,19 @@ impl Heap {
         ensures { cell_at self.now cell ≡ Some result }
     {
         self.cell(cell).unwrap()
+    }
+
+    /// Makes an object of the class with so many cells, and answers its number.
+    pub fn make(&mut self, alloc: Global, cells: u8, class: u16) -> Result<u16, AllocError>
+        requires { length self.old < 65536 }
+        ensures number { IfOk result (λ number. number ≡ length self.old) }
+        ensures objects { OnOk result (self.new ≡ self.old ++ fresh_object class cells ∷ []) }
+        ensures err { OnErr result (self.new ≡ self.old) }
+    {
+        let number = self.objects.len() as u16;
+        let object = Object::fresh(alloc, cells, class)?;
+        self.objects.push(object)?;
+        Ok(number)
     }
 
     /// Puts the value into the cell.

@@ -1,19 +1,19 @@
 //! What one instruction does for the thread that is at it.
-ghost use Rattle.std.specs.Prelude.{◌≡◌, ◌<◌, ◌+◌, ◌-◌, ◌^◌, IfOk, OnOk, OnErr, IsSome, IsTrue, All, if◌then◌else◌, Some, length, slice_get};
+ghost use Rattle.std.specs.Prelude.{◌≡◌, ◌<◌, ◌≤◌, ◌+◌, ◌-◌, ◌^◌, IfOk, OnOk, OnErr, IsSome, IsTrue, All, if◌then◌else◌, Some, length, slice_get};
 ghost use Rattle.asl_lock_forest.specs.Holding.{HoldsNothing, grant};
 ghost use Rattle.asl_lock_forest.specs.Request.{names_once, asks_modes, asks_parents, IsOfClasses};
 ghost use Rattle.asl_machine.specs.Access.{AreOfClasses, AllPoint, IsReady, CanDo};
 ghost use Rattle.asl_machine.specs.Request.{LockOfClass, request_of, locks_of};
 ghost use Rattle.asl_machine.specs.State.{cell_at};
 ghost use Rattle.asl_machine.specs.Step.{placed_at, advanced, going_on};
-ghost use Rattle.asl_machine.specs.Twin.{place, left_by, accessed_by, WantsMemory, can_grant, fate_of, activity_set, activity_stored, objects_stored, return_fate, release_fate, activity_moved, holding_released, acquire_fate, holding_acquired};
+ghost use Rattle.asl_machine.specs.Twin.{place, left_by, accessed_by, WantsMemory, made_address, made_objects, can_grant, fate_of, activity_set, activity_stored, objects_stored, return_fate, release_fate, activity_moved, holding_released, acquire_fate, holding_acquired};
 
 use crate::fate::Fate;
 use crate::fault::Fault;
 use crate::frame::Activity;
 use crate::heap::Heap;
 use crate::request::request;
-use crate::values::{access, comparison, difference, equality, is_zero, load, sum};
+use crate::values::{access, comparison, difference, equality, is_zero, load, move_on, sum};
 use asl_code::{Cell, Effect, Instr, Lock, Program, Value};
 use asl_lock_forest::{Forest, Node};
 use asl_mode_lanes::Mode;
@@ -66,6 +66,10 @@ pub fn perform(
             Ok(set(activity, to, Ok(value)))
         }
         Instr::GlobalAddress { to, global } => Ok(set(activity, to, Ok(Value::Addr(global, 0)))),
+        Instr::FieldAddress { to, from, offset } => {
+            let address = move_on(heap, offset, activity.read(from));
+            Ok(set(activity, to, address))
+        }
         Instr::Load { to, address } => {
             let cell = target(heap, forest, t, activity, Effect::Read, address);
             Ok(set(activity, to, load(heap, cell)))
@@ -74,6 +78,10 @@ pub fn perform(
             let cell = target(heap, forest, t, activity, Effect::Write, address);
             let value = activity.read(from);
             Ok(store(activity, heap, cell, value))
+        }
+        Instr::New { to, cells, class } => {
+            let address = make(alloc, heap, cells, class)?;
+            Ok(set(activity, to, address))
         }
         Instr::Jump { target } => Ok(jump(activity, target)),
         Instr::JumpIfZero { test, target } => {
@@ -137,6 +145,25 @@ fn set(activity: &mut Activity, to: u8, value: Result<Value, Fault>) -> Fate
         }
         Err(fault) => Fate::Fails(fault),
     }
+}
+
+/// Makes an object, and answers its address, unless there are as many objects as there may be.
+fn make(
+    alloc: Global,
+    heap: &mut Heap,
+    cells: u8,
+    class: u16,
+) -> Result<Result<Value, Fault>, AllocError>
+    requires { length heap.old ≤ 65536 }
+    ensures address { IfOk result (λ address. address ≡ made_address heap.old) }
+    ensures objects { OnOk result (heap.new ≡ made_objects heap.old cells class) }
+    ensures err { OnErr result (heap.new ≡ heap.old) }
+{
+    if heap.len() == 65_536 {
+        return Ok(Err(Fault::Full));
+    }
+    let number = heap.make(alloc, cells, class)?;
+    Ok(Ok(Value::Addr(number, 0)))
 }
 
 /// Puts the value into the cell, or fails.

@@ -3,8 +3,9 @@ ghost use Rattle.std.specs.Prelude.{◌≡◌, ◌<◌, IfOk, IsSome};
 ghost use Rattle.asl_machine.specs.Step.{is_zero};
 ghost use Rattle.asl_machine.specs.State.{cell_at};
 ghost use Rattle.asl_machine.specs.Access.{is_protected, Points, AreOfClasses};
-ghost use Rattle.asl_machine.specs.Twin.{computed, added, subtracted, compared, truth, same_value, allowed_cell, accessed, loaded};
+ghost use Rattle.asl_machine.specs.Twin.{address_moved, computed, added, subtracted, compared, truth, same_value, allowed_cell, accessed, loaded};
 
+use crate::eval::go_on;
 use crate::fault::Fault;
 use crate::heap::Heap;
 use asl_code::{Cell, Effect, Value};
@@ -73,6 +74,20 @@ pub fn is_zero(value: Value) -> bool
         Value::Int(x) => x == 0,
         Value::Null => true,
         Value::Addr(_, _) => false,
+    }
+}
+
+/// The address so many cells on, in the same object.
+pub fn move_on(heap: &Heap, places: u8, value: Value) -> Result<Value, Fault>
+    ensures { result ≡ address_moved heap.now places value }
+{
+    match value {
+        Value::Addr(object, offset) => match go_on(heap, places, Cell { object, offset }) {
+            Some(cell) => Ok(Value::Addr(cell.object, cell.offset)),
+            None => Err(Fault::Bounds),
+        },
+        Value::Null => Err(Fault::Null),
+        Value::Int(_) => Err(Fault::BadType),
     }
 }
 
