@@ -8,7 +8,7 @@ use Rattle.std.proofs.lemmas.Bool.{cases_Bool, and_parts, and_from, leb-true, lt
 use Rattle.asl_code.specs.Bodies.{Body, bodies_from, first_of, is_inside, body_of}
 use Rattle.asl_code.specs.Fits.{LiesIn, FitsFunction, FitsInstr, FitsImage, FitsBase, FitsLock, HasBase, HasLock}
 use Rattle.asl_code.specs.Lines.{body_at}
-use Rattle.asl_code.specs.Verified.{keeps_limits, keeps_function_limits, keeps_list_limit, has_base, has_lock, has_tables, has_entry, has_range, has_ranges, has_end, has_ends, is_end, has_target, has_registers, names_operands, has_operands, has_base_register, has_lock_base, has_list_bases, is_failure, fails_at, IsVerified}
+use Rattle.asl_code.specs.Verified.{keeps_limits, keeps_function_limits, keeps_list_limit, has_base, has_lock, has_tables, has_entry, has_range, has_ranges, has_end, has_ends, is_end, has_target, has_registers, has_operands, has_base_register, has_lock_base, has_list_bases, is_failure, fails_at, IsVerified}
 use Rattle.asl_code.specs.declared.image.Function.{Function}
 use Rattle.asl_code.specs.declared.image.Image.{Image}
 use Rattle.asl_code.specs.declared.fault.VerifyFault.TheVariants as fault
@@ -107,7 +107,7 @@ fit_registers i n f (Output from) fits = lt-ltb _ _ fits
 fit_registers i n f (Acquire list) fits = refl
 fit_registers i n f Release fits = refl
 
-pub fit_operands : (i : Image) (n : ℕ) (f : Function) (instr : Instr) → FitsInstr i n f instr → names_operands i instr ≡ true
+pub fit_operands : (i : Image) (n : ℕ) (f : Function) (instr : Instr) → FitsInstr i n f instr → has_operands i instr ≡ true
 fit_operands i n f (GlobalAddress to global) fits = lt-ltb _ _ fits.1
 fit_operands i n f (New to cells class) fits = and_from _ _ (lt-ltb _ _ fits.1) (lt-ltb _ _ fits.2)
 fit_operands i n f (Acquire list) fits = lt-ltb _ _ (slice_get_within i.lists list fits.0 fits.1)
@@ -204,5 +204,5 @@ verified_from_facts i facts fault.FunctionRange = ap not (facts_ranges i facts)
 verified_from_facts i facts fault.FallsOut = ap not (facts_ends i facts)
 verified_from_facts i facts (fault.Target pc) = none_fails (has_target i) i pc (λ n f instr at is. fit_target i n f instr (facts.instr_fits n pc f instr at is))
 verified_from_facts i facts (fault.Register pc) = none_fails (λ b. has_registers i b.function) i pc (λ n f instr at is. fit_registers i n f instr (facts.instr_fits n pc f instr at is))
-verified_from_facts i facts (fault.Operand pc) = none_fails (λ b. has_operands i) i pc (λ n f instr at is. and_from _ _ (facts.instr_taken n pc f instr at is) (fit_operands i n f instr (facts.instr_fits n pc f instr at is)))
+verified_from_facts i facts (fault.Operand pc) = none_fails (λ b. has_operands i) i pc (λ n f instr at is. fit_operands i n f instr (facts.instr_fits n pc f instr at is))
 verified_from_facts i facts (fault.ListBase pc) = none_fails (λ b. has_list_bases i b.function) i pc (λ n f instr at is. fit_bases i n f instr (facts.instr_fits n pc f instr at is))

@@ -8,7 +8,7 @@ use Rattle.std.proofs.lemmas.Bool.{cases_lt, both_ways, and_parts, eqb-true, ltb
 use Rattle.asl_code.specs.Bodies.{Body, bodies_from, total_len, first_of, is_inside, body_of}
 use Rattle.asl_code.specs.Fits.{LiesIn, FitsFunction, FitsInstr, FitsImage, FitsBase, FitsLock, HasBase, HasLock}
 use Rattle.asl_code.specs.Lines.{body_at}
-use Rattle.asl_code.specs.Verified.{keeps_limits, keeps_function_limits, keeps_list_limit, has_base, has_lock, has_tables, has_range, has_ranges, has_end, is_end, has_target, has_registers, has_arguments, is_taken, names_operands, has_operands, has_base_register, has_lock_base, has_list_bases, is_failure, fails_at, IsVerified}
+use Rattle.asl_code.specs.Verified.{keeps_limits, keeps_function_limits, keeps_list_limit, has_base, has_lock, has_tables, has_range, has_ranges, has_end, is_end, has_target, has_registers, has_arguments, has_operands, has_base_register, has_lock_base, has_list_bases, is_failure, fails_at, IsVerified}
 use Rattle.asl_code.specs.declared.image.Function.{Function}
 use Rattle.asl_code.specs.declared.image.Image.{Image}
 use Rattle.asl_code.specs.declared.fault.VerifyFault.TheVariants as fault
@@ -216,7 +216,7 @@ told_list i f list tables there bases =
     )
 
 -- the tests of an instruction together tell that it fits
-pub told_instr : (i : Image) (n : ℕ) (f : Function) (instr : Instr) → slice_get i.functions n ≡ Some f → list_all (list_all (has_lock i)) i.lists ≡ true → has_target i (body_at (first_of i.functions n) f) instr ≡ true → has_registers i f instr ≡ true → names_operands i instr ≡ true → has_list_bases i f instr ≡ true → FitsInstr i n f instr
+pub told_instr : (i : Image) (n : ℕ) (f : Function) (instr : Instr) → slice_get i.functions n ≡ Some f → list_all (list_all (has_lock i)) i.lists ≡ true → has_target i (body_at (first_of i.functions n) f) instr ≡ true → has_registers i f instr ≡ true → has_operands i instr ≡ true → has_list_bases i f instr ≡ true → FitsInstr i n f instr
 told_instr i n f (SetInt to value) is tables target registers operands bases = ltb-true _ _ registers
 told_instr i n f (SetNull to) is tables target registers operands bases = ltb-true _ _ registers
 told_instr i n f (Move to from) is tables target registers operands bases = told_two to from f.regs registers
@@ -243,13 +243,8 @@ fits_at i v n pc f instr at is =
     told_instr i n f instr at.function (and_parts _ _ (tables_there i v)).1
     (passed_at (has_target i) i n pc f instr at is (v (fault.Target pc)))
     (passed_at (λ b. has_registers i b.function) i n pc f instr at is (v (fault.Register pc)))
-    (and_parts _ _ (passed_at (λ b. has_operands i) i n pc f instr at is (v (fault.Operand pc)))).1
+    (passed_at (λ b. has_operands i) i n pc f instr at is (v (fault.Operand pc)))
     (passed_at (λ b. has_list_bases i b.function) i n pc f instr at is (v (fault.ListBase pc)))
-
--- the instruction at a place of a body is one that is taken
-pub taken_at : (i : Image) → IsVerified i → (n pc : ℕ) (f : Function) (instr : Instr) → LiesIn i n pc f → slice_get i.code pc ≡ Some instr → IsTrue (is_taken instr)
-taken_at i v n pc f instr at is =
-    (and_parts _ _ (passed_at (λ b. has_operands i) i n pc f instr at is (v (fault.Operand pc)))).0
 
 -- a function's body among the bodies
 pub body_there : (first : ℕ) (fs : List Function) (n : ℕ) (f : Function) → slice_get fs n ≡ Some f → slice_get (bodies_from first fs) n ≡ Some (body_at (begin first fs n) f)
@@ -314,7 +309,6 @@ image_fits i v =
       function_fits = λ n f is. told_function f (passes_at keeps_function_limits i.functions n f functions.1 is) (passes_at has_range i.functions n f ranges.0 is);
       total = eqb-true _ _ ranges.1;
       instr_fits = fits_at i v;
-      instr_taken = taken_at i v;
       goes_on = next_at i v;
     }
 

@@ -1,7 +1,7 @@
 -- What a verified image is, read as facts: what it has, and what holds of the instruction at each place of its code.
-use Rattle.std.specs.Prelude.{◌≡◌, ℕ, ◌+◌, ◌<◌, ◌≤◌, false, IsTrue, List, length, Some, slice_get, All}
+use Rattle.std.specs.Prelude.{◌≡◌, ℕ, ◌+◌, ◌<◌, ◌≤◌, false, List, length, Some, slice_get, All}
 use Rattle.asl_code.specs.Bodies.{first_of, total_len}
-use Rattle.asl_code.specs.Verified.{is_end, is_taken}
+use Rattle.asl_code.specs.Verified.{is_end}
 use Rattle.asl_code.specs.declared.image.Function.{Function}
 use Rattle.asl_code.specs.declared.image.Image.{Image}
 use Rattle.asl_code.specs.declared.instr.Instr.{Instr}
@@ -84,5 +84,4 @@ pub record FitsImage (i : Image) : Type 0 where
   pub function_fits : (n : ℕ) (f : Function) → slice_get i.functions n ≡ Some f → FitsFunction f
   pub total : total_len i.functions ≡ length i.code
   pub instr_fits : (n pc : ℕ) (f : Function) (instr : Instr) → LiesIn i n pc f → slice_get i.code pc ≡ Some instr → FitsInstr i n f instr
-  pub instr_taken : (n pc : ℕ) (f : Function) (instr : Instr) → LiesIn i n pc f → slice_get i.code pc ≡ Some instr → IsTrue (is_taken instr)
   pub goes_on : (n pc : ℕ) (f : Function) (instr : Instr) → LiesIn i n pc f → slice_get i.code pc ≡ Some instr → is_end instr ≡ false → LiesIn i n (pc + 1) f

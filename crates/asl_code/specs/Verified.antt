@@ -114,21 +114,12 @@ has_registers i f (Output from) = has_register f from
 has_registers i f (Acquire list) = true
 has_registers i f Release = true
 
--- whether the verifier takes the instruction yet: of the rest it says that their operands are not there
-abbrev pub is_taken : Instr → Bool
-is_taken (Call to first function) = false
-is_taken instr = true
-
 -- whether the global, class or list that the instruction names is there, and a new object has a cell (docs/LIMITS.md, Operand)
-abbrev pub names_operands : Image → Instr → Bool
-names_operands i (GlobalAddress to global) = nat_lt global (length i.globals)
-names_operands i (New to cells class) = nat_lt 0 cells && nat_lt class i.classes
-names_operands i (Acquire list) = nat_lt list (length i.lists)
-names_operands i instr = true
-
--- whether the instruction has its operands (docs/LIMITS.md, Operand)
 abbrev pub has_operands : Image → Instr → Bool
-has_operands i instr = is_taken instr && names_operands i instr
+has_operands i (GlobalAddress to global) = nat_lt global (length i.globals)
+has_operands i (New to cells class) = nat_lt 0 cells && nat_lt class i.classes
+has_operands i (Acquire list) = nat_lt list (length i.lists)
+has_operands i instr = true
 
 -- whether the function has the base, where it is a register (docs/LIMITS.md, ListBase)
 abbrev pub has_base_register : Function → Base → Bool

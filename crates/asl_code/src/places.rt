@@ -2,7 +2,7 @@ ghost use Rattle.std.specs.Prelude.{◌≡◌, ◌+◌, ◌&&◌, nat_le, nat_lt
 ghost use Rattle.std.specs.List.{list_all};
 ghost use Rattle.asl_code.specs.Bodies.{Body};
 ghost use Rattle.asl_code.specs.Lines.{test_of, body_at, IsLowestFailing};
-ghost use Rattle.asl_code.specs.Verified.{keeps_limits, has_ranges, has_target, has_register, has_arguments, has_registers, is_taken, names_operands, has_operands, has_lock_base, has_list_bases};
+ghost use Rattle.asl_code.specs.Verified.{keeps_limits, has_ranges, has_target, has_register, has_arguments, has_registers, has_operands, has_lock_base, has_list_bases};
 
 use crate::image::{Function, Image};
 use crate::instr::Instr;
@@ -119,22 +119,9 @@ fn has_arguments(image: &Image, function: &Function, first: u8, callee: u16) -> 
     }
 }
 
+/// Whether what the instruction names is there, and a new object has a cell.
 fn has_operands(image: &Image, instr: &Instr) -> bool
     ensures { result ≡ has_operands image.now instr.now }
-{
-    is_taken(instr) && names_operands(image, instr)
-}
-
-/// Whether the verifier takes the instruction yet.
-fn is_taken(instr: &Instr) -> bool
-    ensures { result ≡ is_taken instr.now }
-{
-    !matches!(instr, Instr::Call { .. })
-}
-
-/// Whether what the instruction names is there, and a new object has a cell.
-fn names_operands(image: &Image, instr: &Instr) -> bool
-    ensures { result ≡ names_operands image.now instr.now }
 {
     match *instr {
         Instr::GlobalAddress { global, .. } => usize::from(global) < image.globals.len(),

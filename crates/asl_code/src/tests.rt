@@ -217,7 +217,7 @@ fn pair(case: usize) -> Option<([Instr; 2], Option<VerifyFault>)> {
                 first: 1,
                 function: 0,
             },
-            operand,
+            None,
         ),
         20 => (
             Instr::Call {
@@ -582,7 +582,7 @@ fn bodies(case: usize) -> Option<([Instr; 4], Option<VerifyFault>)> {
         4 => ([set, END, nop, END], None),
         5 => ([nop, END, set, END], Some(VerifyFault::Register(2))),
         // Without parameters no register is taken, so the arguments may begin at the number of registers.
-        6 => ([call, END, call, END], Some(VerifyFault::Operand(0))),
+        6 => ([call, END, call, END], None),
         7 => ([nop, END, past, END], Some(VerifyFault::Register(2))),
         8 => ([enter, END, nop, END], None),
         9 => ([enter, END, enter, END], Some(VerifyFault::ListBase(2))),

@@ -4,6 +4,7 @@ pub mod RequestLaws
 pub mod Grants
 pub mod Lists
 pub mod Heaps
+pub mod Frames
 pub mod Soundness
 pub mod Table
 pub mod Unique

@@ -1,11 +1,12 @@
 -- Each step keeps what holds of every reached state: one lemma for the parts that a step may change, and one a group
 -- of instructions.
-use Rattle.std.proofs.Common.{◌≡◌, ◌≢◌, ℕ, ℤ, ◌+◌, ◌-◌, ◌<◌, ◌≤◌, ◌⊎◌, ◌==◌, ◌++◌, ◌^◌, zero, suc, pos, replicate, map, length-append, Bool, true, false, cond, List, [], ◌∷◌, Option, Some, None, Result, Ok, Err, IfOk, IsTrue, length, set, slice_get, refl, ap, sym, ◌∙◌, subst, inl, inr, arith, length-set, eqb-true, eq-eqb, All}
+use Rattle.std.proofs.Common.{◌≡◌, ◌≢◌, ℕ, ℤ, ◌+◌, ◌-◌, ◌<◌, ◌≤◌, ◌⊎◌, ◌==◌, ◌++◌, ◌^◌, zero, suc, pos, replicate, take, drop, map, length-append, Bool, true, false, cond, List, [], ◌∷◌, Option, Some, None, Result, Ok, Err, IfOk, IsTrue, length, set, slice_get, refl, ap, sym, ◌∙◌, subst, inl, inr, arith, length-set, eqb-true, eq-eqb, All}
 use Rattle.std.specs.Prelude.{int_lt, IsSome, IsSomeAnd, option_map, option_and_then, unwrap_or}
 use Rattle.std.specs.Option.{option_map_or}
 use Rattle.std.proofs.lemmas.Bool.Decides.{eqb_tells}
 use Rattle.std.proofs.lemmas.Option.{slice_get_cases, slice_get_within, same_Some}
-use Rattle.std.proofs.lemmas.List.{length-replicate, length-map}
+use Rattle.std.proofs.lemmas.List.{length-replicate, length-map, length-drop, length-take-le}
+use Rattle.asl_code.proofs.Told.{slice_get-drop}
 use Rattle.asl_code.specs.declared.image.Image.{Image}
 use Rattle.asl_code.specs.declared.image.Function.{Function}
 use Rattle.asl_code.specs.declared.instr.Instr.{Instr}
@@ -18,7 +19,7 @@ use Rattle.asl_code.specs.declared.value.Cell.{Cell}
 use Rattle.asl_code.specs.declared.value.Effect.{Effect}
 use Rattle.asl_code.specs.declared.value.Effect.TheVariants.{Read, Write}
 use Rattle.asl_code.specs.Fits.{FitsImage, FitsInstr, FitsLock, LiesIn}
-use Rattle.asl_code.specs.Verified.{is_end, is_taken}
+use Rattle.asl_code.specs.Verified.{is_end}
 use Rattle.asl_code.proofs.FitsLaws.{lies_within}
 use Rattle.std.specs.FinMap as finite
 use Rattle.asl_mode_lanes.specs.declared.mode.Mode.{Mode}
@@ -36,9 +37,10 @@ use Rattle.asl_machine.specs.Expression.{cell_of}
 use Rattle.asl_machine.specs.Access.{Points, AllPoint, AreOfClasses, IsReady, CanDo, is_protected}
 use Rattle.asl_machine.specs.Request.{LockOfClass, locks_of, request_of}
 use Rattle.asl_machine.specs.Step.{placed_at, advanced, advanced_with, going_on, after, is_zero}
-use Rattle.asl_machine.specs.Twin.{Left, Place, Turn, fate_of, set_left, computed, added, subtracted, compared, truth, same_value, jump_left, show_left, address_moved, activity_set, make_left, loaded, accessed, accessed_by, store_left, left_alone, return_fate, acquire_fate, activity_moved, holding_acquired, acquire_left, release_fate, holding_released, release_left, request_at, left_by, left_at, turn_by, turn_of, step_at, step_of, register_of, can_grant}
-use Rattle.asl_machine.specs.Sound.{IsPlaced, AreSound, IsSound, IsMachine, ThreadReady}
-use Rattle.asl_machine.specs.Run.{global_object, first_frame, first_thread, first_threads, start_of}
+use Rattle.asl_machine.specs.Twin.{Left, Place, Turn, fate_of, set_left, computed, added, subtracted, compared, truth, same_value, jump_left, show_left, address_moved, activity_set, make_left, loaded, accessed, accessed_by, store_left, left_alone, called, call_left, return_left, acquire_fate, activity_moved, holding_acquired, acquire_left, release_fate, holding_released, release_left, request_at, left_by, left_at, turn_by, turn_of, step_at, step_of, register_of, can_grant}
+use Rattle.asl_machine.specs.Sound.{IsPlaced, IsSuspended, AreSuspended, AreSound, IsSound, IsMachine, ThreadReady}
+use Rattle.asl_machine.specs.Calls.{function_of, first_registers, first_frame, values_from, frame_count, with_result, IsAwaited}
+use Rattle.asl_machine.specs.Run.{global_object, first_thread, first_threads, start_of}
 use Rattle.asl_machine.proofs.Lists.{get_same, get_other, get_either, set_same, one_more, replicated}
 use Rattle.asl_machine.proofs.Heaps.{sound_written, points_kept, sound_made, points_before, made_points, moved_points}
 use Rattle.asl_machine.proofs.Grants.{grant_when_free}
@@ -58,9 +60,30 @@ pub record MayFollow (image : Image) (s : State) (t : ℕ) (thread : Thread) (ob
   pub lawful : IsLawful holding
   pub within : IsWithin image.classes (length s.threads) holding
 
+-- frames that wait do so over objects to which all that pointed still points
+below_grown : (image : Image) (objects more : List Object) → ((v : Value) → Points objects v → Points more v) → (above : ℕ) (result : Option ℕ) (frames : List Frame) →
+    AreSuspended image objects above result frames → AreSuspended image more above result frames
+below_grown image objects more g above result [] h = h
+below_grown image objects more g above result (f ∷ fs) h = (
+  record {
+    function = h.0.function;
+    call = h.0.call;
+    to = h.0.to;
+    first = h.0.first;
+    inside = h.0.inside;
+    calls = h.0.calls;
+    awaits = h.0.awaits;
+    behind = h.0.behind;
+    lies = h.0.lies;
+    registers = h.0.registers;
+    points = λ r v e. g v (h.0.points r v e);
+  },
+  below_grown image objects more g f.function f.result fs h.1,
+)
+
 grown : (image : Image) (objects more : List Object) (a : Activity) → ((v : Value) → Points objects v → Points more v) → IsPlaced image objects a → IsPlaced image more a
 grown image objects more a g p =
-    record { function = p.function; lies = p.lies; registers = p.registers; points = λ r v e. g v (p.points r v e); depth = p.depth; alone = p.alone }
+    record { function = p.function; lies = p.lies; registers = p.registers; points = λ r v e. g v (p.points r v e); depth = p.depth; below = below_grown image objects more g a.top.function a.top.result a.below p.below; few = p.few }
 
 -- the state in which they stand so is sound
 pub sound_after : (image : Image) (s : State) (t : ℕ) (thread : Thread) (objects : List Object) (holding : Holding) → IsSound image s → t < length s.threads →
@@ -175,7 +198,7 @@ next_place image objects a p i fits at goes = fits.goes_on a.top.function a.top.
 placed_jumped : (image : Image) (objects : List Object) (a : Activity) (depth target : ℕ) (p : IsPlaced image objects a) → LiesIn image a.top.function target p.function → depth ≤ 255 →
     IsPlaced image objects (going_on a depth (placed_at target a.top))
 placed_jumped image objects a depth target p lies small =
-    record { function = p.function; lies = lies; registers = p.registers; points = p.points; depth = small; alone = p.alone }
+    record { function = p.function; lies = lies; registers = p.registers; points = p.points; depth = small; below = p.below; few = p.few }
 
 placed_advanced : (image : Image) (objects : List Object) (a : Activity) (depth : ℕ) (p : IsPlaced image objects a) → LiesIn image a.top.function (a.top.pc + 1) p.function → depth ≤ 255 →
     IsPlaced image objects (going_on a depth (advanced a.top))
@@ -190,7 +213,8 @@ placed_with image objects a to v p lies points =
       registers = length-set a.top.regs to v ∙ p.registers;
       points = λ r w e. elim (get_either a.top.regs to r v w e) [ inl is ↦ subst (Points objects) (sym is) points | inr old ↦ p.points r w old ];
       depth = p.depth;
-      alone = p.alone;
+      below = p.below;
+      few = p.few;
     }
 
 -- ---- the groups of instructions
@@ -272,12 +296,123 @@ either_lies : (image : Image) (n x y : ℕ) (f : Function) (b : Bool) → LiesIn
 either_lies image n x y f true p q = p
 either_lies image n x y f false p q = q
 
-follows_return : (image : Image) (s : State) (t : ℕ) (a : Activity) (h : Here image s t a) (value : Value) → Follows image s t (left_alone (here_place s t a) (return_fate a.depth value))
-follows_return image s t a h value =
-    elim (a.depth == 0) as (λ b. (a.depth == 0) ≡ b → Follows image s t (left_alone (here_place s t a) (cond b (fate.Ends value) (fate.Fails fault.Open)))) [
-      | true ↦ λ e. follows_end image s t a value h (eqb-true _ _ e)
-      | false ↦ λ e. follows_fail image s t a fault.Open h
+-- ---- calls and returns
+
+filled : (xs : List Value) (m r : ℕ) (z v : Value) → slice_get (xs ++ replicate m z) r ≡ Some v → (slice_get xs r ≡ Some v) ⊎ (v ≡ z)
+filled [] m r z v e = inr (replicated m r z v e)
+filled (x ∷ xs) m zero z v e = inl e
+filled (x ∷ xs) m (suc r) z v e = filled xs m r z v e
+
+taken_from : {X : Type 0} (k : ℕ) (xs : List X) (r : ℕ) (v : X) → slice_get (take k xs) r ≡ Some v → slice_get xs r ≡ Some v
+taken_from zero xs r v e = cc
+taken_from (suc k) [] r v e = cc
+taken_from (suc k) (x ∷ xs) zero v e = e
+taken_from (suc k) (x ∷ xs) (suc r) v e = taken_from k xs r v e
+
+values_point : (objects : List Object) (regs : List Value) (first count : ℕ) → AllPoint objects regs → AllPoint objects (values_from regs first count)
+values_point objects regs first count p r v e = p (first + r) v (sym (slice_get-drop first regs r) ∙ taken_from count (drop first regs) r v e)
+
+first_points : (objects : List Object) (arguments : List Value) (count : ℕ) → AllPoint objects arguments → AllPoint objects (first_registers arguments count)
+first_points objects arguments count p r v e =
+    elim (filled arguments (count - length arguments) r (Int (pos 0)) v e) [ inl own ↦ p r v own | inr is ↦ subst (Points objects) (sym is) tt ]
+
+length-values : (regs : List Value) (first count : ℕ) → first + count ≤ length regs → length (values_from regs first count) ≡ count
+length-values regs first count le = let l = length-drop first regs in length-take-le count (drop first regs) (omega arith)
+
+length-first : (arguments : List Value) (count : ℕ) → length arguments ≤ count → length (first_registers arguments count) ≡ count
+length-first arguments count le =
+    let l = length-append arguments (replicate (count - length arguments) (Int (pos 0))) in
+    let k = length-replicate (count - length arguments) (Int (pos 0)) in
+    omega arith
+
+-- a function that is there
+pub function_is : (image : Image) (n : ℕ) (f : Function) → slice_get image.functions n ≡ Some f → function_of image n ≡ f
+function_is image n f e = ap (λ o. unwrap_or o (record { params = 0; regs = 0; len = 0 })) e
+
+placed_called : (image : Image) (objects : List Object) (a : Activity) (to first n : ℕ) (callee : Function) (p : IsPlaced image objects a) → FitsImage image → slice_get image.code a.top.pc ≡ Some (instr.Call to first n) →
+    slice_get image.functions n ≡ Some callee → first + callee.params ≤ p.function.regs → LiesIn image a.top.function (a.top.pc + 1) p.function → suc (length a.below) < 256 → IsPlaced image objects (called image a to first n)
+placed_called image objects a to first n callee p fits at there enough next room =
+    let is = function_is image n callee there in
+    let params : (function_of image n).params ≡ callee.params = ap (λ (f : Function). f.params) is in
+    let regs : (function_of image n).regs ≡ callee.regs = ap (λ (f : Function). f.regs) is in
+    let good = fits.function_fits n callee there in
+    let some = good.some in
+    let fewer = good.params in
+    let own = p.registers in
+    let arguments = values_from a.top.regs first (function_of image n).params in
+    let count : length arguments ≡ (function_of image n).params = length-values a.top.regs first (function_of image n).params (omega arith) in
+    record {
+      function = callee;
+      lies = record { function = there; low = omega arith; high = omega arith };
+      registers = length-first arguments (function_of image n).regs (omega arith) ∙ regs;
+      points = first_points objects arguments (function_of image n).regs (values_point objects a.top.regs first (function_of image n).params p.points);
+      depth = p.depth;
+      below = (
+        record {
+          function = p.function;
+          call = a.top.pc;
+          to = to;
+          first = first;
+          inside = p.lies;
+          calls = at;
+          awaits = refl;
+          behind = refl;
+          lies = next;
+          registers = p.registers;
+          points = p.points;
+        },
+        p.below,
+      );
+      few = room;
+    }
+
+follows_call : (image : Image) (s : State) (t : ℕ) (a : Activity) (h : Here image s t a) (to first n : ℕ) (callee : Function) → slice_get image.code a.top.pc ≡ Some (instr.Call to first n) →
+    slice_get image.functions n ≡ Some callee → first + callee.params ≤ h.placed.function.regs → LiesIn image a.top.function (a.top.pc + 1) h.placed.function → Follows image s t (call_left image (here_place s t a) to first n)
+follows_call image s t a h to first n callee at there enough next =
+    let few : length a.below < 256 = h.placed.few in
+    elim (frame_count a == 256) as (λ b. (frame_count a == 256) ≡ b →
+    Follows image s t (record { fate = cond b (fate.Fails fault.Stack) fate.GoesOn; activity = cond b a (called image a to first n); objects = s.objects; holding = s.holding })) [
+      | true ↦ λ e. follows_fail image s t a fault.Stack h
+      | false ↦ λ e.
+          let not_most : frame_count a ≢ 256 = λ z. let f = eq-eqb (frame_count a) 256 z in cc in
+          follows_goes image s t a _ s.objects h h.sound.objects (λ v p. p) (placed_called image s.objects a to first n callee h.placed h.sound.fits at there enough next (omega arith)) (λ e. e)
     ] refl
+
+-- the register that awaits a value is there
+awaited_there : (image : Image) (objects : List Object) (above : ℕ) (result : Option ℕ) (f : Frame) → FitsImage image → (u : IsSuspended image objects above result f) → u.to < length f.regs
+awaited_there image objects above result f fits u =
+    let fit = fits.instr_fits f.function u.call u.function (instr.Call u.to u.first above) u.inside u.calls in
+    let count = u.registers in
+    omega (arith, fit.0)
+
+placed_returned : (image : Image) (objects : List Object) (depth : ℕ) (above : ℕ) (result : Option ℕ) (f : Frame) (fs : List Frame) (v : Value) → depth ≤ 255 → suc (length fs) < 256 → Points objects v →
+    AreSuspended image objects above result (f ∷ fs) → IsPlaced image objects (record { depth = depth; top = with_result result v f; below = fs })
+placed_returned image objects depth above result f fs v small room points h =
+    let u = h.0 in
+    subst (λ r. IsPlaced image objects (record { depth = depth; top = with_result r v f; below = fs })) (sym u.awaits)
+    (record {
+      function = u.function;
+      lies = u.lies;
+      registers = length-set f.regs u.to v ∙ u.registers;
+      points = λ r w e. elim (get_either f.regs u.to r v w e) [ inl is ↦ subst (Points objects) (sym is) points | inr old ↦ u.points r w old ];
+      depth = small;
+      below = h.1;
+      few = omega arith;
+    })
+
+follows_return : (image : Image) (s : State) (t : ℕ) (a : Activity) (h : Here image s t a) (value : Value) → Points s.objects value → Follows image s t (return_left (here_place s t a) value a.below)
+follows_return image s t a h value points = by image s t a h value points a.below h.placed.below h.placed.few
+  where
+    by : (image : Image) (s : State) (t : ℕ) (a : Activity) (h : Here image s t a) (value : Value) → Points s.objects value → (frames : List Frame) → AreSuspended image s.objects a.top.function a.top.result frames →
+        length frames < 256 → Follows image s t (return_left (here_place s t a) value frames)
+    by image s t a h value points [] below few =
+        elim (a.depth == 0) as (λ b. (a.depth == 0) ≡ b → Follows image s t (left_alone (here_place s t a) (cond b (fate.Ends value) (fate.Fails fault.Open)))) [
+          | true ↦ λ e. follows_end image s t a value h (eqb-true _ _ e)
+          | false ↦ λ e. follows_fail image s t a fault.Open h
+        ] refl
+    by image s t a h value points (f ∷ fs) below few =
+        follows_goes image s t a _ s.objects h h.sound.objects (λ v p. p)
+        (placed_returned image s.objects a.depth a.top.function a.top.result f fs value h.placed.depth few points below) (λ e. e)
 
 follows_leave : (image : Image) (s : State) (t : ℕ) (a : Activity) (h : Here image s t a) → LiesIn image a.top.function (a.top.pc + 1) h.placed.function → Follows image s t (release_left (here_place s t a))
 follows_leave image s t a h lies =
@@ -348,50 +483,52 @@ register_points objects a r p = found_points objects (slice_get a.top.regs r) (�
 
 -- what the instruction that a thread is at leaves may follow
 follows_instr : (image : Image) (s : State) (t : ℕ) (a : Activity) (h : Here image s t a) (i : Instr) → slice_get image.code a.top.pc ≡ Some i →
-    FitsInstr image a.top.function h.placed.function i → IsTrue (is_taken i) → Follows image s t (left_by image (length s.threads) (here_place s t a) i)
-follows_instr image s t a h (instr.SetInt to number) at fits taken =
+    FitsInstr image a.top.function h.placed.function i → Follows image s t (left_by image (length s.threads) (here_place s t a) i)
+follows_instr image s t a h (instr.SetInt to number) at fits =
     follows_set image s t a h (next_place image s.objects a h.placed _ h.sound.fits at refl) to (Ok (Int number)) tt
-follows_instr image s t a h (instr.SetNull to) at fits taken =
+follows_instr image s t a h (instr.SetNull to) at fits =
     follows_set image s t a h (next_place image s.objects a h.placed _ h.sound.fits at refl) to (Ok Null) tt
-follows_instr image s t a h (instr.Move to from) at fits taken =
+follows_instr image s t a h (instr.Move to from) at fits =
     follows_set image s t a h (next_place image s.objects a h.placed _ h.sound.fits at refl) to (Ok (register_of a.top from)) (register_points s.objects a from h.placed.points)
-follows_instr image s t a h (instr.Add to left right) at fits taken =
+follows_instr image s t a h (instr.Add to left right) at fits =
     follows_set image s t a h (next_place image s.objects a h.placed _ h.sound.fits at refl) to (computed added (register_of a.top left) (register_of a.top right))
     (computed_points s.objects added (λ x y. tt) (register_of a.top left) (register_of a.top right))
-follows_instr image s t a h (instr.Subtract to left right) at fits taken =
+follows_instr image s t a h (instr.Subtract to left right) at fits =
     follows_set image s t a h (next_place image s.objects a h.placed _ h.sound.fits at refl) to (computed subtracted (register_of a.top left) (register_of a.top right))
     (computed_points s.objects subtracted (λ x y. tt) (register_of a.top left) (register_of a.top right))
-follows_instr image s t a h (instr.LessThan to left right) at fits taken =
+follows_instr image s t a h (instr.LessThan to left right) at fits =
     follows_set image s t a h (next_place image s.objects a h.placed _ h.sound.fits at refl) to (computed compared (register_of a.top left) (register_of a.top right))
     (computed_points s.objects compared (λ x y. truth_points s.objects (int_lt x y)) (register_of a.top left) (register_of a.top right))
-follows_instr image s t a h (instr.Equals to left right) at fits taken =
+follows_instr image s t a h (instr.Equals to left right) at fits =
     let same = same_value (register_of a.top left) (register_of a.top right) in
     follows_set image s t a h (next_place image s.objects a h.placed _ h.sound.fits at refl) to (Ok (truth same)) (truth_points s.objects same)
-follows_instr image s t a h (instr.GlobalAddress to global) at fits taken =
+follows_instr image s t a h (instr.GlobalAddress to global) at fits =
     follows_set image s t a h (next_place image s.objects a h.placed _ h.sound.fits at refl) to (Ok (Addr global 0)) (h.sound.objects.globals global fits.1)
-follows_instr image s t a h (instr.FieldAddress to from places) at fits taken =
+follows_instr image s t a h (instr.FieldAddress to from places) at fits =
     follows_set image s t a h (next_place image s.objects a h.placed _ h.sound.fits at refl) to (address_moved s.objects places (register_of a.top from))
     (moved_points s.objects places (register_of a.top from))
-follows_instr image s t a h (instr.New to cells class) at fits taken =
+follows_instr image s t a h (instr.New to cells class) at fits =
     follows_make image s t a h (next_place image s.objects a h.placed _ h.sound.fits at refl) to cells class fits.2 fits.1
-follows_instr image s t a h (instr.Load to address) at fits taken =
+follows_instr image s t a h (instr.Load to address) at fits =
     let target = accessed_by (here_place s t a) Read address in
     follows_set image s t a h (next_place image s.objects a h.placed _ h.sound.fits at refl) to (loaded s.objects target) (loaded_points image s.objects target h.sound.objects)
-follows_instr image s t a h (instr.Store address from) at fits taken =
+follows_instr image s t a h (instr.Store address from) at fits =
     follows_store image s t a h (next_place image s.objects a h.placed _ h.sound.fits at refl) (register_of a.top from) (accessed_by (here_place s t a) Write address)
     (register_points s.objects a from h.placed.points)
-follows_instr image s t a h (instr.Jump target) at fits taken = follows_jump image s t a h target fits
-follows_instr image s t a h (instr.JumpIfZero test target) at fits taken =
+follows_instr image s t a h (instr.Jump target) at fits = follows_jump image s t a h target fits
+follows_instr image s t a h (instr.JumpIfZero test target) at fits =
     let next = next_place image s.objects a h.placed _ h.sound.fits at refl in
     follows_jump image s t a h _
     (either_lies image a.top.function target (a.top.pc + 1) h.placed.function (is_zero (register_of a.top test)) fits.1 next)
-follows_instr image s t a h (instr.Output from) at fits taken =
+follows_instr image s t a h (instr.Output from) at fits =
     follows_show image s t a h (next_place image s.objects a h.placed _ h.sound.fits at refl) (register_of a.top from)
-follows_instr image s t a h (instr.Return from) at fits taken = follows_return image s t a h (register_of a.top from)
-follows_instr image s t a h (instr.Acquire list) at fits taken =
+follows_instr image s t a h (instr.Call to first function) at fits =
+    follows_call image s t a h to first function fits.1.0 at fits.1.1 fits.1.2 (next_place image s.objects a h.placed _ h.sound.fits at refl)
+follows_instr image s t a h (instr.Return from) at fits =
+    follows_return image s t a h (register_of a.top from) (register_points s.objects a from h.placed.points)
+follows_instr image s t a h (instr.Acquire list) at fits =
     follows_enter image s t a h (next_place image s.objects a h.placed _ h.sound.fits at refl) (locks_of image list) (locks_fit image h.placed.function list fits.0 fits.1 fits.2)
-follows_instr image s t a h instr.Release at fits taken = follows_leave image s t a h (next_place image s.objects a h.placed _ h.sound.fits at refl)
-follows_instr image s t a h i at fits taken = let e = taken in cc
+follows_instr image s t a h instr.Release at fits = follows_leave image s t a h (next_place image s.objects a h.placed _ h.sound.fits at refl)
 
 -- ---- the step
 
@@ -401,7 +538,7 @@ after_same s t thread e = λ i. record { objects = s.objects; holding = s.holdin
 
 -- the instruction that a placed thread is at is there, and fits its function
 pub instr_here : (image : Image) (objects : List Object) (a : Activity) (p : IsPlaced image objects a) → FitsImage image →
-    (i : Instr) × (slice_get image.code a.top.pc ≡ Some i) × FitsInstr image a.top.function p.function i × IsTrue (is_taken i)
+    (i : Instr) × (slice_get image.code a.top.pc ≡ Some i) × FitsInstr image a.top.function p.function i
 instr_here image objects a p fits =
     let inside : a.top.pc < length image.code = omega (arith, lies_within image a.top.function a.top.pc p.function p.lies, fits.total) in
     elim (slice_get_cases image.code a.top.pc).1 [
@@ -409,7 +546,6 @@ instr_here image objects a p fits =
         found.0,
         found.2,
         fits.instr_fits a.top.function a.top.pc p.function found.0 p.lies found.2,
-        fits.instr_taken a.top.function a.top.pc p.function found.0 p.lies found.2,
       )
       | inr past ↦ let le : length image.code ≤ a.top.pc = past.0 in absurd (omega arith)
     ]
@@ -426,7 +562,7 @@ turn_follows image s t (Running a) sound e =
     let h = here_of image s t a sound e in
     let found = instr_here image s.objects a h.placed sound.fits in
     let l = left_by image (length s.threads) (here_place s t a) found.0 in
-    let m : Follows image s t l = follows_instr image s t a h found.0 found.1 found.2 found.3 in
+    let m : Follows image s t l = follows_instr image s t a h found.0 found.1 found.2 in
     subst (λ o. let turn = turn_by t (left_at image (length s.threads) (here_place s t a) o) in IsSound image (after s t turn.thread turn.objects turn.holding)) (sym found.1)
     (sound_after image s t (turn_by t l).thread (turn_by t l).objects (turn_by t l).holding sound h.there m)
 turn_follows image s t (Done v) sound e = subst (IsSound image) (sym (after_same s t (Done v) e)) sound
@@ -442,26 +578,34 @@ step_sound image s t sound =
 
 -- ---- what the code's steps stand on
 
-can_do : (image : Image) (a : Activity) (n : ℕ) (f : Function) (i : Instr) → length a.top.regs ≡ f.regs → FitsInstr image n f i → IsTrue (is_taken i) → CanDo image a.top i
-can_do image a n f (instr.SetInt to number) e h k = omega arith
-can_do image a n f (instr.SetNull to) e h k = omega arith
-can_do image a n f (instr.Move to from) e h k = (omega (arith, h.0), omega (arith, h.1))
-can_do image a n f (instr.Add to left right) e h k = (omega (arith, h.0), omega (arith, h.1), omega (arith, h.2))
-can_do image a n f (instr.Subtract to left right) e h k = (omega (arith, h.0), omega (arith, h.1), omega (arith, h.2))
-can_do image a n f (instr.LessThan to left right) e h k = (omega (arith, h.0), omega (arith, h.1), omega (arith, h.2))
-can_do image a n f (instr.Equals to left right) e h k = (omega (arith, h.0), omega (arith, h.1), omega (arith, h.2))
-can_do image a n f (instr.Jump target) e h k = tt
-can_do image a n f (instr.JumpIfZero test target) e h k = omega (arith, h.0)
-can_do image a n f (instr.Output from) e h k = omega arith
-can_do image a n f (instr.GlobalAddress to global) e h k = omega (arith, h.0)
-can_do image a n f (instr.FieldAddress to from places) e h k = (omega (arith, h.0), omega (arith, h.1))
-can_do image a n f (instr.New to cells class) e h k = omega (arith, h.0)
-can_do image a n f (instr.Load to address) e h k = (omega (arith, h.0), omega (arith, h.1))
-can_do image a n f (instr.Store address from) e h k = (omega (arith, h.0), omega (arith, h.1))
-can_do image a n f (instr.Return from) e h k = omega arith
-can_do image a n f (instr.Acquire list) e h k = (slice_get_within image.lists list h.0 h.1, locks_fit image f list h.0 h.1 h.2)
-can_do image a n f instr.Release e h k = tt
-can_do image a n f i e h k = let z = k in cc
+can_do : (image : Image) (a : Activity) (n : ℕ) (f : Function) (i : Instr) → length a.top.regs ≡ f.regs → FitsInstr image n f i → CanDo image a.top i
+can_do image a n f (instr.SetInt to number) e h = omega arith
+can_do image a n f (instr.SetNull to) e h = omega arith
+can_do image a n f (instr.Move to from) e h = (omega (arith, h.0), omega (arith, h.1))
+can_do image a n f (instr.Add to left right) e h = (omega (arith, h.0), omega (arith, h.1), omega (arith, h.2))
+can_do image a n f (instr.Subtract to left right) e h = (omega (arith, h.0), omega (arith, h.1), omega (arith, h.2))
+can_do image a n f (instr.LessThan to left right) e h = (omega (arith, h.0), omega (arith, h.1), omega (arith, h.2))
+can_do image a n f (instr.Equals to left right) e h = (omega (arith, h.0), omega (arith, h.1), omega (arith, h.2))
+can_do image a n f (instr.Jump target) e h = tt
+can_do image a n f (instr.JumpIfZero test target) e h = omega (arith, h.0)
+can_do image a n f (instr.Output from) e h = omega arith
+can_do image a n f (instr.GlobalAddress to global) e h = omega (arith, h.0)
+can_do image a n f (instr.FieldAddress to from places) e h = (omega (arith, h.0), omega (arith, h.1))
+can_do image a n f (instr.New to cells class) e h = omega (arith, h.0)
+can_do image a n f (instr.Load to address) e h = (omega (arith, h.0), omega (arith, h.1))
+can_do image a n f (instr.Store address from) e h = (omega (arith, h.0), omega (arith, h.1))
+can_do image a n f (instr.Call to first function) e h =
+    let params = ap (λ (g : Function). g.params) (function_is image function h.1.0 h.1.1) in
+    (slice_get_within image.functions function h.1.0 h.1.1, omega (arith, h.1.2))
+can_do image a n f (instr.Return from) e h = omega arith
+can_do image a n f (instr.Acquire list) e h = (slice_get_within image.lists list h.0 h.1, locks_fit image f list h.0 h.1 h.2)
+can_do image a n f instr.Release e h = tt
+
+-- where a frame waits below, it has the register that awaits
+pub awaited_below : (image : Image) (objects : List Object) (above : ℕ) (result : Option ℕ) (frames : List Frame) → FitsImage image → AreSuspended image objects above result frames → IsAwaited result frames
+awaited_below image objects above result [] fits h = tt
+awaited_below image objects above result (f ∷ fs) fits h =
+    subst (λ r. IsSomeAnd r (λ register. register < length f.regs)) (sym h.0.awaits) (awaited_there image objects above result f fits h.0)
 
 -- a thread of a machine is ready for its step
 pub thread_ready : (image : Image) (objects : List Object) (forest : Held) (threads : List Thread) (t : ℕ) (thread : Thread) → IsMachine image objects forest threads →
@@ -478,6 +622,7 @@ thread_ready image objects forest threads t (Running a) m e =
     let counted = m.counted in
     let below : t < length threads = h.there in (
       record {
+        fits = m.sound.fits;
         there = omega arith;
         classes = m.classes;
         room = omega arith;
@@ -485,8 +630,9 @@ thread_ready image objects forest threads t (Running a) m e =
         object_classes = subst (λ n. AreOfClasses n objects) (sym m.classes) m.sound.objects.classes;
         few_objects = m.sound.objects.few;
         outside = outside_here image s t a h;
+        awaited = awaited_below image objects a.top.function a.top.result a.below m.sound.fits h.placed.below;
       },
-      subst (λ o. IsSomeAnd o (CanDo image a.top)) (sym found.1) (can_do image a a.top.function h.placed.function found.0 h.placed.registers found.2 found.3),
+      subst (λ o. IsSomeAnd o (CanDo image a.top)) (sym found.1) (can_do image a a.top.function h.placed.function found.0 h.placed.registers found.2),
     )
 
 -- ---- the start
@@ -510,7 +656,8 @@ first_placed image objects t fits =
       registers = count _ (ap (λ (g : Function). g.regs) is);
       points = λ r v e. first_values t _ r v objects e;
       depth = omega arith;
-      alone = refl;
+      below = refl;
+      few = omega arith;
     }
   where
     counted : (x y : Value) (n m : ℕ) → n ≡ m → 1 ≤ m → length (x ∷ replicate (n - 1) y) ≡ m

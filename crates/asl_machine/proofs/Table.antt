@@ -1,6 +1,6 @@
 -- The computed step is the one line of the table that applies, at each state that a verified program reaches.
 use Rattle.std.proofs.Common.{◌≡◌, ◌≢◌, ℕ, ℤ, pos, ◌+◌, ◌-◌, ◌<◌, ◌≤◌, ◌⊎◌, ◌==◌, ◌&&◌, zero, suc, ltb, ◌++◌, Bool, true, false, cond, List, [], ◌∷◌, Option, Some, None, Result, Ok, Err, IsTrue, length, set, slice_get, refl, ap, sym, ◌∙◌, subst, inl, inr, arith, eqb-true, eq-eqb, ne_eqb}
-use Rattle.std.specs.Prelude.{IsSome, unwrap_or}
+use Rattle.std.specs.Prelude.{IsSome, IsSomeAnd, unwrap_or}
 use Rattle.std.specs.Int.{w32, int_wrapping_add, int_wrapping_sub}
 use Rattle.std.specs.Ordering.{int_eq}
 use Rattle.std.specs.Prelude.{int_lt, ◌<ℤ◌, ◌≤ℤ◌, option_map, option_and_then}
@@ -19,7 +19,6 @@ use Rattle.asl_code.specs.declared.value.Cell.{Cell}
 use Rattle.asl_code.specs.declared.value.Effect.{Effect}
 use Rattle.asl_code.specs.declared.value.Effect.TheVariants.{Read, Write}
 use Rattle.asl_code.specs.Fits.{FitsInstr}
-use Rattle.asl_code.specs.Verified.{is_taken}
 use Rattle.asl_lock_forest.specs.Holding.{Holding, Request, CanGrant, grant, release}
 use Rattle.asl_machine.specs.declared.fate.Fate.{Fate}
 use Rattle.asl_machine.specs.declared.fate.Fate.TheVariants as fate
@@ -27,15 +26,16 @@ use Rattle.asl_machine.specs.declared.fault.Fault.{Fault}
 use Rattle.asl_machine.specs.declared.fault.Fault.TheVariants as fault
 use Rattle.asl_machine.specs.declared.reply.Reply.{Reply}
 use Rattle.asl_machine.specs.declared.reply.Reply.TheVariants as reply
-use Rattle.asl_machine.specs.State.{Object, Activity, Thread, Running, Done, Failed, State, cell_at, size_of, written, fresh_object}
+use Rattle.asl_machine.specs.State.{Object, Frame, Activity, Thread, Running, Done, Failed, State, cell_at, size_of, written, fresh_object}
 use Rattle.asl_machine.specs.Expression.{cell_of}
 use Rattle.asl_machine.specs.Access.{Points, AllPoint, is_protected}
+use Rattle.asl_machine.specs.Calls.{first_frame, values_from, frame_count, with_result, IsAwaited}
 use Rattle.asl_machine.specs.Request.{locks_of, request_of}
-use Rattle.asl_machine.specs.Step.{At, placed_at, advanced, advanced_with, going_on, after, Reads, ReadsAddress, is_allowed, Sets, GoesOn, Fails, are_integers, is_zero, Computes, FailsOperands, IsBelow, IsNotBelow, AreSame, AreOther, JumpsIfZero, PassesBy, MovesOn, FailsBounds, Makes, Loads, Stores, FailsNull, FailsType, FailsUnprotected, Returns, FailsOpen, Nests, Asks, Enters, Waits, Unnests, Leaves, Line, StepOf, Step}
-use Rattle.asl_machine.specs.Twin.{Left, Place, Turn, fate_of, set_left, computed, added, subtracted, compared, truth, same_value, jump_left, show_left, address_or_bounds, address_moved, activity_set, make_left, allowed_cell, loaded, accessed, accessed_by, store_left, left_alone, return_fate, acquire_fate, activity_moved, acquire_left, release_left, request_at, left_by, left_at, turn_by, turn_of, step_at, step_of, register_of, can_grant}
+use Rattle.asl_machine.specs.Step.{At, placed_at, advanced, advanced_with, going_on, after, Reads, ReadsAddress, is_allowed, Sets, GoesOn, Fails, are_integers, is_zero, Computes, FailsOperands, IsBelow, IsNotBelow, AreSame, AreOther, JumpsIfZero, PassesBy, MovesOn, FailsBounds, Makes, Loads, Stores, FailsNull, FailsType, FailsUnprotected, Returns, ReturnsTo, Calls, FailsOpen, Nests, Asks, Enters, Waits, Unnests, Leaves, Line, StepOf, Step}
+use Rattle.asl_machine.specs.Twin.{Left, Place, Turn, fate_of, set_left, computed, added, subtracted, compared, truth, same_value, jump_left, show_left, address_or_bounds, address_moved, activity_set, make_left, allowed_cell, loaded, accessed, accessed_by, store_left, left_alone, called, call_left, return_left, acquire_fate, activity_moved, acquire_left, release_left, request_at, left_by, left_at, turn_by, turn_of, step_at, step_of, register_of, can_grant}
 use Rattle.asl_machine.specs.Sound.{IsPlaced, IsSound}
 use Rattle.asl_machine.proofs.Grants.{grant_when_free, can_grant-true}
-use Rattle.asl_machine.proofs.Soundness.{Here, here_of, here_place, instr_here, after_same}
+use Rattle.asl_machine.proofs.Soundness.{Here, here_of, here_place, instr_here, after_same, function_is, awaited_below}
 
 -- the line that a step by what an instruction leaves would be
 abbrev pub IsLine : At → Instr → Left → Type 0
@@ -197,13 +197,55 @@ store_line at address from (Addr o i) w p q =
 not_zero : (n : ℕ) → (n == 0) ≡ false → 0 < n
 not_zero n e = let ne : n ≢ 0 = λ z. let f = eq-eqb n 0 z in cc in omega arith
 
-return_line : (at : At) (from : ℕ) (v : Value) → at.activity.below ≡ [] → Reads at from v →
-    IsLine at (instr.Return from) (left_alone (here_place at.state at.thread at.activity) (return_fate at.activity.depth v))
-return_line at from v last p =
+return_line : (at : At) (from : ℕ) (v : Value) (below : List Frame) → at.activity.below ≡ below → IsAwaited at.activity.top.result below → Reads at from v →
+    IsLine at (instr.Return from) (return_left (here_place at.state at.thread at.activity) v below)
+return_line at from v [] last awaited p =
     elim (at.activity.depth == 0) as (λ b. (at.activity.depth == 0) ≡ b →
     IsLine at (instr.Return from) (left_alone (here_place at.state at.thread at.activity) (cond b (fate.Ends v) (fate.Fails fault.Open)))) [
-      | true ↦ λ e. record { value = v; last = last; outside = eqb-true _ _ e; reads_value = p; ends = refl }
+      | true ↦ λ e. inr (record { value = v; last = last; outside = eqb-true _ _ e; reads_value = p; ends = refl })
       | false ↦ λ e. record { last = last; inside = not_zero _ e; fails = refl }
+    ] refl
+return_line at from v (f ∷ fs) waiting awaited p =
+    elim at.activity.top.result as (λ r. at.activity.top.result ≡ r → IsSomeAnd r (λ register. register < length f.regs) →
+    IsLine at (instr.Return from) (return_left (here_place at.state at.thread at.activity) v (f ∷ fs))) [
+      | None ↦ λ e k. absurd k
+      | Some to ↦ λ e k. inl (record {
+        caller = f;
+        others = fs;
+        to = to;
+        value = v;
+        waiting = waiting;
+        awaits = e;
+        reads_value = p;
+        returns = ap (λ r. after at.state at.thread (Running (record { depth = at.activity.depth; top = with_result r v f; below = fs })) at.state.objects at.state.holding) e;
+      })
+    ] refl awaited
+
+-- a call copies as many registers as the function that is there takes
+pub called_same : (at : At) (to first n : ℕ) (callee : Function) → slice_get at.image.functions n ≡ Some callee →
+    after at.state at.thread (Running (called at.image at.activity to first n)) at.state.objects at.state.holding
+    ≡ after at.state at.thread (Running (record {
+      depth = at.activity.depth;
+      top = first_frame at.image n (values_from at.activity.top.regs first callee.params) (Some to);
+      below = advanced at.activity.top ∷ at.activity.below;
+    })) at.state.objects at.state.holding
+called_same at to first n callee there =
+    ap (λ count. after at.state at.thread (Running (record {
+      depth = at.activity.depth;
+      top = first_frame at.image n (values_from at.activity.top.regs first count) (Some to);
+      below = advanced at.activity.top ∷ at.activity.below;
+    })) at.state.objects at.state.holding) (ap (λ (f : Function). f.params) (function_is at.image n callee there))
+
+call_line : (at : At) (to first n : ℕ) (callee : Function) → slice_get at.image.functions n ≡ Some callee → length at.activity.below < 256 →
+    IsLine at (instr.Call to first n) (call_left at.image (here_place at.state at.thread at.activity) to first n)
+call_line at to first n callee there few =
+    let a = at.activity in
+    elim (frame_count a == 256) as (λ b. (frame_count a == 256) ≡ b →
+    IsLine at (instr.Call to first n) (record { fate = cond b (fate.Fails fault.Stack) fate.GoesOn; activity = cond b a (called at.image a to first n); objects = at.state.objects; holding = at.state.holding })) [
+      | true ↦ λ e. (eqb-true _ _ e, refl)
+      | false ↦ λ e.
+          let not_most : frame_count a ≢ 256 = λ z. let f = eq-eqb (frame_count a) 256 z in cc in
+          record { callee = callee; room = omega arith; is = there; calls = called_same at to first n callee there }
     ] refl
 
 -- going on in a number of sections is going on in an equal number
@@ -256,56 +298,58 @@ acquire_lines at list request false false free e k small asks granted taken here
 -- ---- the line of each instruction
 
 line_there : (image : Image) (s : State) (t : ℕ) (a : Activity) (h : Here image s t a) → slice_get s.threads t ≡ Some (Running a) → (i : Instr) →
-    FitsInstr image a.top.function h.placed.function i → IsTrue (is_taken i) → IsLine (at_of image s t a) i (left_by image (length s.threads) (here_place s t a) i)
-line_there image s t a h here (instr.SetInt to number) fits taken = refl
-line_there image s t a h here (instr.SetNull to) fits taken = refl
-line_there image s t a h here (instr.Move to from) fits taken =
+    FitsInstr image a.top.function h.placed.function i → IsLine (at_of image s t a) i (left_by image (length s.threads) (here_place s t a) i)
+line_there image s t a h here (instr.SetInt to number) fits = refl
+line_there image s t a h here (instr.SetNull to) fits = refl
+line_there image s t a h here (instr.Move to from) fits =
     let count = h.placed.registers in
     record { value = register_of a.top from; reads_value = read_there a from (omega (arith, fits.1)); sets = refl }
-line_there image s t a h here (instr.Add to left right) fits taken =
+line_there image s t a h here (instr.Add to left right) fits =
     let count = h.placed.registers in
     computed_line (at_of image s t a) (instr.Add to left right) added to left right (λ x y p q. record { x = x; y = y; reads_left = p; reads_right = q; sets = refl }) (λ n k. k)
     (register_of a.top left) (register_of a.top right)
     (read_there a left (omega (arith, fits.1))) (read_there a right (omega (arith, fits.2)))
-line_there image s t a h here (instr.Subtract to left right) fits taken =
+line_there image s t a h here (instr.Subtract to left right) fits =
     let count = h.placed.registers in
     computed_line (at_of image s t a) (instr.Subtract to left right) subtracted to left right (λ x y p q. record { x = x; y = y; reads_left = p; reads_right = q; sets = refl }) (λ n k. k)
     (register_of a.top left) (register_of a.top right)
     (read_there a left (omega (arith, fits.1))) (read_there a right (omega (arith, fits.2)))
-line_there image s t a h here (instr.LessThan to left right) fits taken =
+line_there image s t a h here (instr.LessThan to left right) fits =
     let count = h.placed.registers in
     computed_line (at_of image s t a) (instr.LessThan to left right) compared to left right (below_line (at_of image s t a) to left right) (λ n k. k)
     (register_of a.top left) (register_of a.top right)
     (read_there a left (omega (arith, fits.1))) (read_there a right (omega (arith, fits.2)))
-line_there image s t a h here (instr.Equals to left right) fits taken =
+line_there image s t a h here (instr.Equals to left right) fits =
     let count = h.placed.registers in
     equal_line (at_of image s t a) to left right (register_of a.top left) (register_of a.top right)
     (read_there a left (omega (arith, fits.1))) (read_there a right (omega (arith, fits.2)))
-line_there image s t a h here (instr.GlobalAddress to global) fits taken = refl
-line_there image s t a h here (instr.FieldAddress to from places) fits taken =
+line_there image s t a h here (instr.GlobalAddress to global) fits = refl
+line_there image s t a h here (instr.FieldAddress to from places) fits =
     let count = h.placed.registers in
     let read = read_there a from (omega (arith, fits.1)) in
     field_line (at_of image s t a) to from places (register_of a.top from) read (h.placed.points from (register_of a.top from) read)
-line_there image s t a h here (instr.New to cells class) fits taken = make_line (at_of image s t a) to cells class h.sound.objects.few
-line_there image s t a h here (instr.Load to address) fits taken =
+line_there image s t a h here (instr.New to cells class) fits = make_line (at_of image s t a) to cells class h.sound.objects.few
+line_there image s t a h here (instr.Load to address) fits =
     let count = h.placed.registers in
     let read = read_there a address (omega (arith, fits.1)) in
     load_line (at_of image s t a) to address (register_of a.top address) read (h.placed.points address (register_of a.top address) read)
-line_there image s t a h here (instr.Store address from) fits taken =
+line_there image s t a h here (instr.Store address from) fits =
     let count = h.placed.registers in
     store_line (at_of image s t a) address from (register_of a.top address) (register_of a.top from)
     (read_there a address (omega (arith, fits.0))) (read_there a from (omega (arith, fits.1)))
-line_there image s t a h here (instr.Jump target) fits taken = refl
-line_there image s t a h here (instr.JumpIfZero test target) fits taken =
+line_there image s t a h here (instr.Jump target) fits = refl
+line_there image s t a h here (instr.JumpIfZero test target) fits =
     let count = h.placed.registers in
     jump_line (at_of image s t a) test target (register_of a.top test) (read_there a test (omega (arith, fits.0)))
-line_there image s t a h here (instr.Output from) fits taken =
+line_there image s t a h here (instr.Output from) fits =
     let count = h.placed.registers in
     record { reads_value = read_there a from (omega arith); goes_on = refl }
-line_there image s t a h here (instr.Return from) fits taken =
+line_there image s t a h here (instr.Call to first function) fits = call_line (at_of image s t a) to first function fits.1.0 fits.1.1 h.placed.few
+line_there image s t a h here (instr.Return from) fits =
     let count = h.placed.registers in
-    return_line (at_of image s t a) from (register_of a.top from) h.placed.alone (read_there a from (omega arith))
-line_there image s t a h here (instr.Acquire list) fits taken =
+    return_line (at_of image s t a) from (register_of a.top from) a.below refl (awaited_below image s.objects a.top.function a.top.result a.below h.sound.fits h.placed.below)
+    (read_there a from (omega arith))
+line_there image s t a h here (instr.Acquire list) fits =
     let request = request_of s.objects a.top.regs (locks_of image list) in
     let free = can_grant s.holding (length s.threads) t request in
     acquire_lines (at_of image s t a) list request (a.depth == 0) (a.depth == 255) free refl refl h.placed.depth
@@ -313,8 +357,7 @@ line_there image s t a h here (instr.Acquire list) fits taken =
     (λ e. grant_when_free image.classes (length s.threads) s.holding t request h.sound.within e)
     (λ e g. let yes = can_grant-true s.holding (length s.threads) t request g in cc)
     here
-line_there image s t a h here instr.Release fits taken = release_line (at_of image s t a)
-line_there image s t a h here i fits taken = let e = taken in cc
+line_there image s t a h here instr.Release fits = release_line (at_of image s t a)
 
 -- the computed step of what stands at the thread's number is a step
 step_there : (image : Image) (s : State) (t : ℕ) (thread : Thread) → IsSound image s → slice_get s.threads t ≡ Some thread →
@@ -323,7 +366,7 @@ step_there image s t (Running a) sound e =
     let h = here_of image s t a sound e in
     let found = instr_here image s.objects a h.placed sound.fits in
     let l : IsLine (at_of image s t a) found.0 (left_at image (length s.threads) (here_place s t a) (slice_get image.code a.top.pc)) =
-    subst (λ o. IsLine (at_of image s t a) found.0 (left_at image (length s.threads) (here_place s t a) o)) (sym found.1) (line_there image s t a h e found.0 found.2 found.3) in
+    subst (λ o. IsLine (at_of image s t a) found.0 (left_at image (length s.threads) (here_place s t a) o)) (sym found.1) (line_there image s t a h e found.0 found.2) in
     (found.0, found.1, l)
 step_there image s t (Done v) sound e = (refl, after_same s t (Done v) e)
 step_there image s t (Failed f) sound e = (refl, after_same s t (Failed f) e)

@@ -20,16 +20,17 @@ use Rattle.asl_machine.specs.declared.fault.Fault.{Fault}
 use Rattle.asl_machine.specs.declared.fault.Fault.TheVariants as fault
 use Rattle.asl_machine.specs.declared.reply.Reply.{Reply}
 use Rattle.asl_machine.specs.declared.reply.Reply.TheVariants as reply
-use Rattle.asl_machine.specs.State.{Object, Activity, Thread, Running, Done, Failed, State, cell_at, size_of, written, fresh_object}
+use Rattle.asl_machine.specs.State.{Object, Frame, Activity, Thread, Running, Done, Failed, State, cell_at, size_of, written, fresh_object}
 use Rattle.asl_machine.specs.Access.{is_protected}
+use Rattle.asl_machine.specs.Calls.{frame_count, with_register, with_result}
 use Rattle.asl_machine.specs.Expression.{cell_of}
 use Rattle.asl_machine.specs.Request.{locks_of, request_of}
-use Rattle.asl_machine.specs.Step.{At, placed_at, advanced, advanced_with, going_on, after, Reads, ReadsAddress, is_allowed, Sets, GoesOn, GoesTo, Fails, are_integers, FailsOperands, is_zero, Asks, Line, StepOf, Step}
-use Rattle.asl_machine.specs.Twin.{Left, fate_of, set_left, computed, added, subtracted, compared, truth, same_value, jump_left, show_left, address_or_bounds, address_moved, activity_set, make_left, allowed_cell, loaded, accessed, accessed_by, store_left, left_alone, return_fate, acquire_fate, activity_moved, holding_acquired, acquire_left, release_fate, holding_released, release_left, left_by, left_at, turn_by, turn_of, step_at, step_of, register_of, can_grant}
+use Rattle.asl_machine.specs.Step.{At, placed_at, advanced, advanced_with, going_on, after, Reads, ReadsAddress, is_allowed, Sets, GoesOn, GoesTo, Fails, are_integers, FailsOperands, is_zero, ReturnsTo, Asks, Line, StepOf, Step}
+use Rattle.asl_machine.specs.Twin.{Left, fate_of, set_left, computed, added, subtracted, compared, truth, same_value, jump_left, show_left, address_or_bounds, address_moved, activity_set, make_left, allowed_cell, loaded, accessed, accessed_by, store_left, left_alone, return_fate, called, call_left, return_left, acquire_fate, activity_moved, holding_acquired, acquire_left, release_fate, holding_released, release_left, left_by, left_at, turn_by, turn_of, step_at, step_of, register_of, can_grant}
 use Rattle.asl_machine.specs.Sound.{IsSound}
 use Rattle.asl_machine.proofs.Grants.{grant_when_free, can_grant-true}
 use Rattle.asl_machine.proofs.Soundness.{here_place, after_same}
-use Rattle.asl_machine.proofs.Table.{at_of, same_is, same_self}
+use Rattle.asl_machine.proofs.Table.{at_of, same_is, same_self, called_same}
 
 -- the reply and the state are those that an instruction leaves
 abbrev pub IsLeft : At → Left → Reply → State → Type 0
@@ -151,6 +152,35 @@ only_return at v w b r n e k h =
     subst (λ x. IsLeft at (left_alone (here_place at.state at.thread at.activity) (return_fate at.activity.depth x)) r n) (sym e)
     (subst (λ x. IsLeft at (left_alone (here_place at.state at.thread at.activity) (cond x (fate.Ends v) (fate.Fails fault.Open))) r n) (sym k) h)
 
+-- the last frame returns
+only_last : (at : At) (v w : Value) (b : Bool) (r : Reply) (n : State) → at.activity.below ≡ [] → w ≡ v → (at.activity.depth == 0) ≡ b →
+    IsLeft at (left_alone (here_place at.state at.thread at.activity) (cond b (fate.Ends v) (fate.Fails fault.Open))) r n →
+    IsLeft at (return_left (here_place at.state at.thread at.activity) w at.activity.below) r n
+only_last at v w b r n last e k h = subst (λ fs. IsLeft at (return_left (here_place at.state at.thread at.activity) w fs) r n) (sym last) (only_return at v w b r n e k h)
+
+-- a frame with one below returns
+only_returned : (at : At) (from : ℕ) (n : State) (h : ReturnsTo at from n) → IsLeft at (return_left (here_place at.state at.thread at.activity) (register_of at.activity.top from) at.activity.below) reply.Ran n
+only_returned at from n h =
+    let same : with_result at.activity.top.result (register_of at.activity.top from) h.caller ≡ with_register h.to h.value h.caller =
+    (λ i. with_result (h.awaits i) (reads_is at from h.value h.reads_value i) h.caller) in
+    let is = h.returns
+    ∙ sym (ap (λ (f : Frame). after at.state at.thread (Running (record { depth = at.activity.depth; top = f; below = h.others })) at.state.objects at.state.holding) same) in
+    subst (λ fs. IsLeft at (return_left (here_place at.state at.thread at.activity) (register_of at.activity.top from) fs) reply.Ran n) (sym h.waiting) (refl, is)
+
+-- what a `call` leaves, by the test of the frames
+abbrev called_by : At → ℕ → ℕ → ℕ → Bool → Left
+called_by at to first n b =
+    record {
+      fate = cond b (fate.Fails fault.Stack) fate.GoesOn;
+      activity = cond b at.activity (called at.image at.activity to first n);
+      objects = at.state.objects;
+      holding = at.state.holding;
+    }
+
+only_call : (at : At) (to first n : ℕ) (b : Bool) (r : Reply) (new : State) → (frame_count at.activity == 256) ≡ b → IsLeft at (called_by at to first n b) r new →
+    IsLeft at (call_left at.image (here_place at.state at.thread at.activity) to first n) r new
+only_call at to first n b r new e h = subst (λ x. IsLeft at (called_by at to first n x) r new) (sym e) h
+
 -- what a `rel` leaves, by the tests of the depth
 abbrev released_by : At → Bool → Bool → Left
 released_by at z m =
@@ -264,10 +294,21 @@ only_line image s t a sound here (instr.JumpIfZero test target) reply.Ran n h =
     ]
 only_line image s t a sound here (instr.Output from) (reply.Out value) n h =
     let at = at_of image s t a in (ap {A = Value} {B = Reply} (λ v. reply.Out v) (sym (reads_is at from value h.reads_value)), h.goes_on)
+only_line image s t a sound here (instr.Call to first function) reply.Ran n h =
+    let at = at_of image s t a in
+    let room = h.room in
+    only_call at to first function false reply.Ran n (ne_eqb (frame_count a) 256 (λ e. absurd (omega arith)))
+    (refl, h.calls ∙ sym (called_same at to first function h.callee h.is))
+only_line image s t a sound here (instr.Call to first function) (reply.Fault fault.Stack) n h =
+    only_call (at_of image s t a) to first function true (reply.Fault fault.Stack) n (eq-eqb (frame_count a) 256 h.0) (refl, h.1)
 only_line image s t a sound here (instr.Return from) reply.Ran n h =
-    let at = at_of image s t a in only_return at h.value _ true reply.Ran n (reads_is at from _ h.reads_value) (zero_test _ h.outside) (refl, h.ends)
+    let at = at_of image s t a in
+    elim h [
+      | inl returned ↦ only_returned at from n returned
+      | inr ends ↦ only_last at ends.value _ true reply.Ran n ends.last (reads_is at from _ ends.reads_value) (zero_test _ ends.outside) (refl, ends.ends)
+    ]
 only_line image s t a sound here (instr.Return from) (reply.Fault fault.Open) n h =
-    let at = at_of image s t a in only_return at _ _ false (reply.Fault fault.Open) n refl (some_test _ h.inside) (refl, h.fails)
+    let at = at_of image s t a in only_last at _ _ false (reply.Fault fault.Open) n h.last refl (some_test _ h.inside) (refl, h.fails)
 only_line image s t a sound here (instr.Acquire list) reply.Ran n h =
     let at = at_of image s t a in
     let test = can_grant s.holding (length s.threads) t (request_of s.objects a.top.regs (locks_of image list)) in

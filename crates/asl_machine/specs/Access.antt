@@ -10,7 +10,9 @@ use Rattle.asl_lock_forest.specs.Holding.{Holding, HoldsNothing, is_covered}
 use Rattle.asl_lock_forest.specs.Held.{Held}
 use Rattle.asl_code.specs.declared.image.Image.{Image}
 use Rattle.asl_code.specs.declared.instr.Instr.{Instr}
-use Rattle.asl_code.specs.declared.instr.Instr.TheVariants.{SetInt, SetNull, Move, Add, Subtract, LessThan, Equals, GlobalAddress, FieldAddress, Load, Store, New, Jump, JumpIfZero, Return, Output, Acquire, Release}
+use Rattle.asl_code.specs.declared.instr.Instr.TheVariants.{SetInt, SetNull, Move, Add, Subtract, LessThan, Equals, GlobalAddress, FieldAddress, Load, Store, New, Jump, JumpIfZero, Call, Return, Output, Acquire, Release}
+use Rattle.asl_code.specs.Fits.{FitsImage}
+use Rattle.asl_machine.specs.Calls.{function_of, IsAwaited}
 use Rattle.asl_machine.specs.Request.{LockOfClass, locks_of}
 use Rattle.asl_machine.specs.State.{Object, Frame, Activity, class_of, cell_at}
 use Rattle.asl_machine.specs.Expression.{cell_of}
@@ -50,15 +52,17 @@ CanDo image f (Store address from) = (address < length f.regs) × (from < length
 CanDo image f (New to cells class) = to < length f.regs
 CanDo image f (Jump target) = Unit {0}
 CanDo image f (JumpIfZero test target) = test < length f.regs
+CanDo image f (Call to first function) =
+    (function < length image.functions) × (first + (function_of image function).params ≤ length f.regs)
 CanDo image f (Return from) = from < length f.regs
 CanDo image f (Output from) = from < length f.regs
 CanDo image f (Acquire list) = (list < length image.lists) × All (LockOfClass image.classes) (locks_of image list)
 CanDo image f Release = Unit {0}
-CanDo image f instr = ⊥
 
--- what an instruction of a thread stands on: the cells that its registers point to are there, and outside all sections
--- the thread holds nothing
+-- what an instruction of a thread stands on: the cells that its registers point to are there, outside all sections
+-- the thread holds nothing, and a frame below has the register that awaits the value of the one above
 pub record IsReady (image : Image) (forest : Held) (objects : List Object) (thread : ℕ) (activity : Activity) : Type 0 where
+  pub fits : FitsImage image
   pub there : thread < forest.threads
   pub classes : forest.classes ≡ image.classes
   pub room : activity.top.pc + 1 < 2 ^ 16
@@ -66,3 +70,4 @@ pub record IsReady (image : Image) (forest : Held) (objects : List Object) (thre
   pub object_classes : AreOfClasses forest.classes objects
   pub few_objects : length objects ≤ 65536
   pub outside : activity.depth ≡ 0 → HoldsNothing forest.holding thread
+  pub awaited : IsAwaited activity.top.result activity.below

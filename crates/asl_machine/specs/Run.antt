@@ -1,28 +1,17 @@
 -- Runs of a program: the state in which its threads start, and the replies and states of a schedule.
-use Rattle.std.specs.Prelude.{◌≡◌, ◌<◌, ℕ, zero, suc, ◌-◌, List, [], ◌∷◌, ◌++◌, map, length, take, replicate, sum_by, All, Option, None, Some, slice_get, unwrap_or, pos}
+use Rattle.std.specs.Prelude.{◌≡◌, ◌<◌, ℕ, zero, suc, List, [], ◌∷◌, ◌++◌, map, All, None, pos}
 use Rattle.asl_code.specs.declared.image.Image.{Image}
-use Rattle.asl_code.specs.Bodies.{first_of}
-use Rattle.asl_code.specs.declared.image.Function.{Function}
 use Rattle.asl_code.specs.declared.value.Value.{Value}
 use Rattle.asl_code.specs.declared.value.Value.TheVariants.{Int}
 use Rattle.asl_lock_forest.specs.Holding.{no_holding}
 use Rattle.asl_machine.specs.declared.reply.Reply.{Reply}
-use Rattle.asl_machine.specs.State.{Object, Frame, Activity, Thread, Running, State}
+use Rattle.asl_machine.specs.State.{Object, Thread, Running, State}
+use Rattle.asl_machine.specs.Calls.{first_frame}
 use Rattle.asl_machine.specs.Twin.{step_of}
 
 -- the object of a global: one cell, which holds Int 0
 abbrev pub global_object : ℕ → Object
 global_object class = record { class = class; cells = Int (pos 0) ∷ [] }
-
--- the registers of a new frame: the arguments, and Int 0 in those that are no parameters
-abbrev pub first_registers : List Value → ℕ → List Value
-first_registers arguments count = arguments ++ replicate (count - length arguments) (Int (pos 0))
-
--- a new frame of a function with these arguments, at its first instruction
-abbrev pub first_frame : Image → ℕ → List Value → Option ℕ → Frame
-first_frame image number arguments result =
-    let function = unwrap_or (slice_get image.functions number) (record { params = 0; regs = 0; len = 0 }) in
-    record { function = number; pc = first_of image.functions number; regs = first_registers arguments function.regs; result = result }
 
 -- thread t at its start: in the entry function, with its own number as the parameter, in no section
 abbrev pub first_thread : Image → ℕ → Thread

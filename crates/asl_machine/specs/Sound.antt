@@ -1,26 +1,51 @@
--- What holds of every state that a verified program reaches: each thread is in a body, with the registers of its
+-- What holds of every state that a verified program reaches: each frame is in a body, with the registers of its
 -- function; every address is that of a cell that is there; who is in no section holds nothing.
-use Rattle.std.specs.Prelude.{◌≡◌, ◌<◌, ◌≤◌, ◌+◌, ℕ, List, [], length, Option, Some, slice_get, IsSome, IsSomeAnd}
+use Rattle.std.specs.Prelude.{◌≡◌, ◌<◌, ◌≤◌, ◌+◌, ℕ, List, [], ◌∷◌, length, Option, None, Some, slice_get, IsSome, IsSomeAnd}
 use Rattle.asl_code.specs.declared.image.Function.{Function}
 use Rattle.asl_code.specs.declared.image.Image.{Image}
 use Rattle.asl_code.specs.Fits.{FitsImage, LiesIn}
+use Rattle.asl_code.specs.declared.instr.Instr.TheVariants.{Call}
 use Rattle.asl_code.specs.declared.value.Value.{Value}
 use Rattle.asl_code.specs.declared.value.Cell.{Cell}
 use Rattle.asl_lock_forest.specs.Held.{Held}
 use Rattle.asl_lock_forest.specs.Holding.{HoldsNothing, IsLawful, IsWithin}
-use Rattle.asl_machine.specs.State.{Object, Activity, Thread, Running, Done, Failed, State, cell_at, size_of, class_of, activity_at, depth_at}
+use Rattle.asl_machine.specs.State.{Object, Frame, Activity, Thread, Running, Done, Failed, State, cell_at, size_of, class_of, activity_at, depth_at}
 use Rattle.asl_machine.specs.Expression.{cell_of}
 use Rattle.asl_machine.specs.Access.{Points, AllPoint, AreOfClasses, IsReady, CanDo}
 use Rattle.asl_machine.specs.Twin.{WantsMemory}
 
--- a running thread is in the body of its function, with that function's registers; every address in them is a cell's
+-- a frame waits behind the `call` of its own function's body that made the frame above, which is of this function and
+-- whose value goes to this register; it has its function's registers, and every address in them is a cell's
+pub record IsSuspended (image : Image) (objects : List Object) (above : ℕ) (result : Option ℕ) (frame : Frame) : Type 0 where
+  pub function : Function
+  pub call : ℕ
+  pub to : ℕ
+  pub first : ℕ
+  pub inside : LiesIn image frame.function call function
+  pub calls : slice_get image.code call ≡ Some (Call to first above)
+  pub awaits : result ≡ Some to
+  pub behind : frame.pc ≡ call + 1
+  pub lies : LiesIn image frame.function frame.pc function
+  pub registers : length frame.regs ≡ function.regs
+  pub points : AllPoint objects frame.regs
+
+-- the frames below one of this function, whose value goes to this register: each waits for the one above it, and no
+-- register awaits the value of the last
+abbrev pub AreSuspended : Image → List Object → ℕ → Option ℕ → List Frame → Type 0
+AreSuspended image objects above result [] = result ≡ None
+AreSuspended image objects above result (frame ∷ frames) =
+    IsSuspended image objects above result frame × AreSuspended image objects frame.function frame.result frames
+
+-- a running thread is in the body of its function, with that function's registers; every address in them is a cell's;
+-- the frames below are suspended
 pub record IsPlaced (image : Image) (objects : List Object) (activity : Activity) : Type 0 where
   pub function : Function
   pub lies : LiesIn image activity.top.function activity.top.pc function
   pub registers : length activity.top.regs ≡ function.regs
   pub points : AllPoint objects activity.top.regs
   pub depth : activity.depth ≤ 255
-  pub alone : activity.below ≡ []
+  pub below : AreSuspended image objects activity.top.function activity.top.result activity.below
+  pub few : length activity.below < 256
 
 -- the objects are those that addresses and classes speak of
 pub record AreSound (image : Image) (objects : List Object) : Type 0 where

@@ -1,8 +1,9 @@
 -- One step of a thread, as the instruction table says it (docs/INSTRUCTIONS.md): a line for each instruction and
--- each reply that it can give. What a verified program never does has no line.
+-- each reply that it can give. A reply that an instruction never gives has no line.
 use Rattle.std.specs.Prelude.{◌≡◌, ◌≢◌, ℕ, ℤ, pos, ◌+◌, ◌-◌, ◌<◌, ◌≤◌, ◌<ℤ◌, ◌≤ℤ◌, ◌⊎◌, Bool, false, true, ◌&&◌, List, [], ◌∷◌, ◌++◌, length, Option, None, Some, slice_get, slice_set}
 use Rattle.std.specs.Int.{w32, int_wrapping_add, int_wrapping_sub}
 use Rattle.std.specs.Ordering.{int_eq}
+use Rattle.asl_code.specs.declared.image.Function.{Function}
 use Rattle.asl_code.specs.declared.image.Image.{Image}
 use Rattle.asl_code.specs.declared.instr.Instr.{Instr}
 use Rattle.asl_code.specs.declared.instr.Instr.TheVariants as instr
@@ -18,6 +19,7 @@ use Rattle.asl_machine.specs.declared.fault.Fault.TheVariants as fault
 use Rattle.asl_machine.specs.declared.reply.Reply.{Reply}
 use Rattle.asl_machine.specs.declared.reply.Reply.TheVariants as reply
 use Rattle.asl_machine.specs.State.{Object, Frame, Activity, Thread, Running, Done, Failed, State, cell_at, size_of, written, fresh_object}
+use Rattle.asl_machine.specs.Calls.{first_frame, values_from, frame_count, with_register}
 use Rattle.asl_machine.specs.Access.{is_protected}
 use Rattle.asl_machine.specs.Request.{request_of}
 
@@ -224,6 +226,33 @@ pub record FailsUnprotected (at : At) (address : ℕ) (cell : Cell) (expected ef
   pub named : effect ≡ expected
   pub fails : Fails at (fault.Unprotected cell effect) new
 
+-- `call` with room for a frame: the caller goes to its next instruction, and a frame of the function begins above it,
+-- its parameters copied from the caller's registers; its value will go to the caller's register
+pub record Calls (at : At) (to first function : ℕ) (new : State) : Type 0 where
+  pub callee : Function
+  pub room : frame_count at.activity < 256
+  pub is : slice_get at.image.functions function ≡ Some callee
+  pub calls : new ≡ after at.state at.thread (Running (record {
+    depth = at.activity.depth;
+    top = first_frame at.image function (values_from at.activity.top.regs first callee.params) (Some to);
+    below = advanced at.activity.top ∷ at.activity.below;
+  })) at.state.objects at.state.holding
+
+-- `ret` from a frame with one below: it ends, and its value goes to the register below that awaits it
+pub record ReturnsTo (at : At) (from : ℕ) (new : State) : Type 0 where
+  pub caller : Frame
+  pub others : List Frame
+  pub to : ℕ
+  pub value : Value
+  pub waiting : at.activity.below ≡ caller ∷ others
+  pub awaits : at.activity.top.result ≡ Some to
+  pub reads_value : Reads at from value
+  pub returns : new ≡ after at.state at.thread (Running (record {
+    depth = at.activity.depth;
+    top = with_register to value caller;
+    below = others;
+  })) at.state.objects at.state.holding
+
 -- `ret` from the last frame, outside all sections: the thread ends with the register's value
 pub record Returns (at : At) (from : ℕ) (new : State) : Type 0 where
   pub value : Value
@@ -304,7 +333,9 @@ Line at (instr.New to cells class) reply.Ran new = Makes at to cells class new
 Line at (instr.New to cells class) (reply.Fault fault.Full) new = (length at.state.objects ≡ 65536) × Fails at fault.Full new
 Line at (instr.Jump target) reply.Ran new = GoesTo at target new
 Line at (instr.JumpIfZero test target) reply.Ran new = JumpsIfZero at test target new ⊎ PassesBy at test new
-Line at (instr.Return from) reply.Ran new = Returns at from new
+Line at (instr.Call to first function) reply.Ran new = Calls at to first function new
+Line at (instr.Call to first function) (reply.Fault fault.Stack) new = (frame_count at.activity ≡ 256) × Fails at fault.Stack new
+Line at (instr.Return from) reply.Ran new = ReturnsTo at from new ⊎ Returns at from new
 Line at (instr.Return from) (reply.Fault fault.Open) new = FailsOpen at new
 Line at (instr.Output from) (reply.Out value) new = Shows at from value new
 Line at (instr.Acquire list) reply.Ran new = Nests at new ⊎ Enters at list new

@@ -25,6 +25,7 @@ use Rattle.asl_machine.specs.declared.fault.Fault.TheVariants as fault
 use Rattle.asl_machine.specs.declared.reply.Reply.{Reply}
 use Rattle.asl_machine.specs.declared.reply.Reply.TheVariants as reply
 use Rattle.asl_machine.specs.State.{Object, Frame, Activity, Thread, Running, Done, Failed, State, cell_at, written, fresh_object}
+use Rattle.asl_machine.specs.Calls.{function_of, first_frame, values_from, frame_count, with_result}
 use Rattle.asl_machine.specs.Access.{is_protected}
 use Rattle.asl_machine.specs.Expression.{cell_of, moved}
 use Rattle.asl_machine.specs.Request.{heap_of, request_of, locks_of}
@@ -169,9 +170,56 @@ abbrev pub show_left : Place → Value → Left
 show_left p value =
     record { fate = fate.Shows value; activity = going_on p.activity p.activity.depth (advanced p.activity.top); objects = p.objects; holding = p.holding }
 
+-- what a thread is at when it has called the function
+abbrev pub called : Image → Activity → ℕ → ℕ → ℕ → Activity
+called image a to first function =
+    record {
+      depth = a.depth;
+      top = first_frame image function (values_from a.top.regs first (function_of image function).params) (Some to);
+      below = advanced a.top ∷ a.below;
+    }
+
+-- what becomes of a thread that calls: there are at most 256 frames
+abbrev pub call_fate : Activity → Fate
+call_fate a = if frame_count a == 256 then fate.Fails fault.Stack else fate.GoesOn
+
+-- where a thread is that calls the function, or has no room for a frame more
+abbrev pub activity_called : Image → Activity → ℕ → ℕ → ℕ → Activity
+activity_called image a to first function = if frame_count a == 256 then a else called image a to first function
+
+-- the thread calls the function, or fails
+abbrev pub call_left : Image → Place → ℕ → ℕ → ℕ → Left
+call_left image p to first function =
+    record {
+      fate = call_fate p.activity;
+      activity = activity_called image p.activity to first function;
+      objects = p.objects;
+      holding = p.holding;
+    }
+
 -- what becomes of a thread whose last frame returns the value, in so many sections
 abbrev pub return_fate : ℕ → Value → Fate
 return_fate depth value = if depth == 0 then fate.Ends value else fate.Fails fault.Open
+
+-- what becomes of a thread whose top frame returns the value to the frames below
+abbrev pub fate_returned : Activity → Value → List Frame → Fate
+fate_returned a value [] = return_fate a.depth value
+fate_returned a value (caller ∷ others) = fate.GoesOn
+
+-- where a thread is whose top frame returns the value to the frames below
+abbrev pub activity_returned : Activity → Value → List Frame → Activity
+activity_returned a value [] = a
+activity_returned a value (caller ∷ others) = record { depth = a.depth; top = with_result a.top.result value caller; below = others }
+
+-- the top frame returns the value
+abbrev pub return_left : Place → Value → List Frame → Left
+return_left p value below =
+    record {
+      fate = fate_returned p.activity value below;
+      activity = activity_returned p.activity value below;
+      objects = p.objects;
+      holding = p.holding;
+    }
 
 -- whether each other thread below the count holds the node in a mode that goes with what is asked there
 abbrev pub is_free : Holding → ℕ → Request → Node → ℕ → Bool
@@ -252,12 +300,12 @@ left_by image count p (instr.New to cells class) = make_left p to cells class
 left_by image count p (instr.Jump target) = jump_left p target
 left_by image count p (instr.JumpIfZero test target) =
     jump_left p (if is_zero (register_of p.activity.top test) then target else p.activity.top.pc + 1)
-left_by image count p (instr.Return from) = left_alone p (return_fate p.activity.depth (register_of p.activity.top from))
+left_by image count p (instr.Call to first function) = call_left image p to first function
+left_by image count p (instr.Return from) = return_left p (register_of p.activity.top from) p.activity.below
 left_by image count p (instr.Output from) = show_left p (register_of p.activity.top from)
 left_by image count p (instr.Acquire list) =
     acquire_left p (can_grant p.holding count p.thread (request_at image p list)) (request_at image p list)
 left_by image count p instr.Release = release_left p
-left_by image count p i = left_alone p fate.Waits
 
 -- what the instruction leaves, if one is there
 abbrev pub left_at : Image → ℕ → Place → Option Instr → Left
@@ -323,8 +371,9 @@ step_at image s t (Some thread) =
 abbrev pub step_of : Image → State → ℕ → Stepped
 step_of image s t = step_at image s t (slice_get s.threads t)
 
--- the instruction is a `new`, or an `acq` outside all sections: those that may want memory
+-- the instruction is a `new`, a `call`, or an `acq` outside all sections: those that may want memory
 abbrev pub WantsMemory : Activity → Instr → Type 0
 WantsMemory activity (instr.New to cells class) = Unit {0}
+WantsMemory activity (instr.Call to first function) = Unit {0}
 WantsMemory activity (instr.Acquire list) = activity.depth ≡ 0
 WantsMemory activity i = ⊥

@@ -1,35 +1,37 @@
 //! Where a running thread is: its frames, and how many sections it is in.
-ghost use Rattle.std.specs.Prelude.{◌≡◌, ◌<◌, ◌+◌, ◌-◌, ◌^◌, ℕ, IfOk, IfSome, Some, length, slice_get, pos, ◌∷◌, []};
+ghost use Rattle.std.specs.Prelude.{◌≡◌, ◌≢◌, ◌↔◌, IsTrue, ◌<◌, ◌≤◌, ◌+◌, ◌-◌, ◌^◌, ℕ, IfOk, IfSome, OnOk, OnErr, Some, length, slice_get, pos, ◌∷◌, []};
 ghost use Rattle.asl_code.specs.Fits.{FitsImage};
 ghost use Rattle.asl_code.specs.Bodies.{first_of, total_len};
-ghost use Rattle.asl_machine.specs.Run.{first_registers as first_values};
+ghost use Rattle.asl_machine.specs.Calls.{function_of, first_registers};
 
 use asl_code::{Function, Program, Value};
 use std::alloc::{AllocError, Global};
 use std::marker::Model;
+use std::mem;
 
-/// A frame of a function.
+/// A frame of a function: the place of its next instruction, its registers, and the register of the frame below that
+/// awaits its value.
 #[derive(Debug, Drop)]
 pub struct Frame {
     function: u16,
     pc: u16,
     regs: Vec<Value>,
+    result: Option<u8>,
 }
 
 impl Model for Frame {
-    ghost use Rattle.std.specs.Prelude.{None};
     ghost use Rattle.asl_machine.specs.State.{Frame};
 
     ghost Value = { Frame };
 
-    ghost view = { λ f. record { function = f.function; pc = f.pc; regs = f.regs.items; result = None } };
+    ghost view = { λ f. record { function = f.function; pc = f.pc; regs = f.regs.items; result = f.result } };
 }
 
 impl Frame {
     ghost use Rattle.std.specs.Prelude.{◌∷◌, [], None};
     ghost use Rattle.asl_code.specs.Fits.{FitsImage};
     ghost use Rattle.asl_code.specs.declared.value.Value.TheVariants.{Int};
-    ghost use Rattle.asl_machine.specs.Run.{first_frame};
+    ghost use Rattle.asl_machine.specs.Calls.{first_frame, values_from, with_result};
     ghost use Rattle.asl_machine.specs.Step.{placed_at, advanced, advanced_with};
 
     /// The frame in which thread t starts: the entry function's, with the thread's number as the parameter.
@@ -39,11 +41,38 @@ impl Frame {
         ensures { IfOk result (λ frame. frame ≡ first_frame program.now program.now.start (Int (pos t) ∷ []) None) }
     {
         let function = program.start();
-        let regs = first_registers(alloc, Value::Int(t as i32), entry_registers(program))?;
+        let parameter = [Value::Int(t as i32)];
         Ok(Frame {
             function,
-            pc: entry_place(program),
-            regs,
+            pc: first_place(program, function),
+            regs: registers(alloc, &parameter, register_count(program, function))?,
+            result: None,
+        })
+    }
+
+    /// The frame that this one begins by calling the function with its registers from `first` on.
+    pub fn call(
+        &self,
+        alloc: Global,
+        program: &Program,
+        to: u8,
+        first: u8,
+        function: u16,
+    ) -> Result<Frame, AllocError>
+        requires fits { FitsImage program.now }
+        requires there { function < length program.now.functions }
+        requires arguments { first + (function_of program.now function).params ≤ length self.now.regs }
+        ensures { IfOk result (λ frame. frame ≡ first_frame program.now function
+            (values_from self.now.regs first (function_of program.now function).params) (Some to)) }
+    {
+        let count = usize::from(parameter_count(program, function));
+        let first = usize::from(first);
+        let arguments = &self.regs[first..first + count];
+        Ok(Frame {
+            function,
+            pc: first_place(program, function),
+            regs: registers(alloc, arguments, register_count(program, function))?,
+            result: Some(to),
         })
     }
 
@@ -93,23 +122,41 @@ impl Frame {
         self.regs[usize::from(register)] = value;
         self.pc += 1;
     }
+
+    /// Takes the value of the frame above into the register that awaits it.
+    fn receive(&mut self, awaiting: Option<u8>, value: Value)
+        requires { IfSome awaiting (λ register. register < length self.old.regs) }
+        ensures { self.new ≡ with_result awaiting value self.old }
+    {
+        if let Some(register) = awaiting {
+            self.regs[usize::from(register)] = value;
+        }
+    }
 }
 
-/// How many registers the entry function has.
-fn entry_registers(program: &Program) -> u8
-    requires { FitsImage program.now }
-    ensures registers { IfSome (slice_get program.now.functions program.now.start) (λ f. result ≡ f.regs) }
-    ensures some { 0 < result }
+/// How many registers the function has.
+fn register_count(program: &Program, function: u16) -> u8
+    requires { function < length program.now.functions }
+    ensures { result ≡ (function_of program.now function).regs }
 {
-    program.functions()[usize::from(program.start())].regs
+    program.functions()[usize::from(function)].regs
 }
 
-/// Where the entry function begins.
-fn entry_place(program: &Program) -> u16
-    requires { FitsImage program.now }
-    ensures { result ≡ first_of program.now.functions program.now.start }
+/// How many parameters the function has.
+fn parameter_count(program: &Program, function: u16) -> u8
+    requires { function < length program.now.functions }
+    ensures { result ≡ (function_of program.now function).params }
 {
-    total_of(&program.functions()[..usize::from(program.start())]) as u16
+    program.functions()[usize::from(function)].params
+}
+
+/// Where the function begins.
+fn first_place(program: &Program, function: u16) -> u16
+    requires fits { FitsImage program.now }
+    requires there { function < length program.now.functions }
+    ensures { result ≡ first_of program.now.functions function }
+{
+    total_of(&program.functions()[..usize::from(function)]) as u16
 }
 
 /// How many instructions the functions have together.
@@ -120,42 +167,42 @@ fn total_of(functions: &[Function]) -> u32
     functions.iter().map(|f| f.len).sum()
 }
 
-/// So many registers, of which the first is a parameter.
-fn first_registers(alloc: Global, parameter: Value, count: u8) -> Result<Vec<Value>, AllocError>
-    requires { 0 < count }
-    ensures { IfOk result (λ regs. regs.items ≡ first_values (parameter ∷ []) count) }
+/// So many registers, of which the first are the parameters.
+fn registers(alloc: Global, arguments: &[Value], count: u8) -> Result<Vec<Value>, AllocError>
+    requires { length arguments.now ≤ count }
+    ensures { IfOk result (λ regs. regs.items ≡ first_registers arguments.now count) }
 {
-    let mut regs = Vec::new(alloc);
-    regs.push(parameter)?;
-    for _ in 1..count {
+    let mut regs = arguments.to_vec(alloc)?;
+    for _ in arguments.len()..usize::from(count) {
         regs.push(Value::Int(0))?;
     }
     Ok(regs)
 }
 
-/// What a running thread is at: how many sections it is in, and its frame.
+/// What a running thread is at: how many sections it is in, its top frame, and the frames below, the nearest last.
 #[derive(Debug, Drop)]
 pub struct Activity {
     depth: u8,
     top: Frame,
+    below: Vec<Frame>,
 }
 
 impl Model for Activity {
-    ghost use Rattle.std.specs.Prelude.{[]};
+    ghost use Rattle.std.specs.Prelude.{reverse};
     ghost use Rattle.asl_machine.specs.State.{Activity};
 
     ghost Value = { Activity };
 
-    ghost view = { λ a. record { depth = a.depth; top = a.top; below = [] } };
+    ghost view = { λ a. record { depth = a.depth; top = a.top; below = reverse a.below.items } };
 }
 
 impl Activity {
     ghost use Rattle.std.specs.Prelude.{◌∷◌, [], None};
     ghost use Rattle.asl_code.specs.Fits.{FitsImage};
     ghost use Rattle.asl_code.specs.declared.value.Value.TheVariants.{Int};
-    ghost use Rattle.asl_machine.specs.Run.{first_frame};
+    ghost use Rattle.asl_machine.specs.Calls.{first_frame, frame_count, IsAwaited};
     ghost use Rattle.asl_machine.specs.Step.{placed_at, advanced, advanced_with, going_on};
-    ghost use Rattle.asl_machine.specs.Twin.{register_of};
+    ghost use Rattle.asl_machine.specs.Twin.{register_of, called, activity_returned};
 
     /// What thread t is at when it starts.
     pub fn first(alloc: Global, program: &Program, t: u32) -> Result<Activity, AllocError>
@@ -170,6 +217,7 @@ impl Activity {
         Ok(Activity {
             depth: 0,
             top: Frame::entry(alloc, program, t)?,
+            below: Vec::new(alloc),
         })
     }
 
@@ -178,6 +226,13 @@ impl Activity {
         ensures { result ≡ self.now.depth }
     {
         self.depth
+    }
+
+    /// How many frames the thread has.
+    pub fn frames(&self) -> usize
+        ensures { result ≡ frame_count self.now }
+    {
+        self.below.len() + 1
     }
 
     /// The place of the next instruction.
@@ -245,5 +300,45 @@ impl Activity {
     {
         self.depth -= 1;
         self.top.advance();
+    }
+    /// Calls the function with the registers from `first` on; its value will go to the register `to`. The caller goes to
+    /// its next instruction.
+    pub fn call(
+        &mut self,
+        alloc: Global,
+        program: &Program,
+        to: u8,
+        first: u8,
+        function: u16,
+    ) -> Result<(), AllocError>
+        requires fits { FitsImage program.now }
+        requires there { function < length program.now.functions }
+        requires arguments { first + (function_of program.now function).params ≤ length self.old.top.regs }
+        requires room { self.old.top.pc + 1 < 2 ^ 16 }
+        ensures called { OnOk result (self.new ≡ called program.now self.old to first function) }
+        ensures err { OnErr result (self.new ≡ self.old) }
+    {
+        let frame = self.top.call(alloc, program, to, first, function)?;
+        self.below.push(frame)?;
+        self.top.advance();
+        let last = self.below.len() - 1;
+        mem::swap(&mut self.top, &mut self.below[last]);
+        Ok(())
+    }
+
+    /// Ends the top frame, if one is below, which gets the value: whether one is below.
+    pub fn give(&mut self, value: Value) -> bool
+        requires { IsAwaited self.old.top.result self.old.below }
+        ensures below { IsTrue result ↔ (self.old.below ≢ []) }
+        ensures activity { self.new ≡ activity_returned self.old value self.old.below }
+    {
+        match self.below.pop() {
+            Some(mut caller) => {
+                caller.receive(self.top.result, value);
+                self.top = caller;
+                true
+            }
+            None => false,
+        }
     }
 }

@@ -66,8 +66,8 @@ impl<'p> Machine<'p> {
     }
 
     /// Steps thread t: one instruction, or nothing where the thread has ended. The step is one that the instruction table
-    /// allows, and the only one. Only a thread that is at a `new`, or at an `acq` outside all
-    /// sections, may want memory.
+    /// allows, and the only one. Only a thread that is at a `new`, at a `call`, or at an `acq`
+    /// outside all sections may want memory.
     pub fn step(&mut self, alloc: Global, t: u32) -> Result<Reply, MachineFault>
         ensures step { IfOk result (λ reply. Step self.old.image self.old.state t reply self.new.state) }
         ensures reply { IfOk result (λ reply. reply ≡ (step_of self.old.image self.old.state t).reply) }

@@ -4,9 +4,11 @@ ghost use Rattle.asl_lock_forest.specs.Holding.{HoldsNothing, grant};
 ghost use Rattle.asl_lock_forest.specs.Request.{names_once, asks_modes, asks_parents, IsOfClasses};
 ghost use Rattle.asl_machine.specs.Access.{AreOfClasses, AllPoint, IsReady, CanDo};
 ghost use Rattle.asl_machine.specs.Request.{LockOfClass, request_of, locks_of};
+ghost use Rattle.asl_code.specs.Fits.{FitsImage};
 ghost use Rattle.asl_machine.specs.State.{cell_at};
+ghost use Rattle.asl_machine.specs.Calls.{function_of, IsAwaited};
 ghost use Rattle.asl_machine.specs.Step.{placed_at, advanced, going_on};
-ghost use Rattle.asl_machine.specs.Twin.{place, left_by, accessed_by, WantsMemory, made_address, made_objects, can_grant, fate_of, activity_set, activity_stored, objects_stored, return_fate, release_fate, activity_moved, holding_released, acquire_fate, holding_acquired};
+ghost use Rattle.asl_machine.specs.Twin.{place, left_by, accessed_by, WantsMemory, made_address, made_objects, can_grant, fate_of, activity_set, activity_stored, objects_stored, call_fate, activity_called, fate_returned, activity_returned, release_fate, activity_moved, holding_released, acquire_fate, holding_acquired};
 
 use crate::fate::Fate;
 use crate::fault::Fault;
@@ -89,11 +91,18 @@ pub fn perform(
             let place = if zero { target } else { activity.pc() + 1 };
             Ok(jump(activity, place))
         }
-        Instr::Return { from } => Ok(give(activity, activity.read(from))),
+        Instr::Call {
+            to,
+            first,
+            function,
+        } => call(alloc, program, activity, to, first, function),
+        Instr::Return { from } => {
+            let value = activity.read(from);
+            Ok(give(activity, value))
+        }
         Instr::Output { from } => Ok(show(activity, activity.read(from))),
         Instr::Acquire { list } => acquire(alloc, heap, forest, t, activity, locks(program, list)),
         Instr::Release => Ok(leave(forest, t, activity)),
-        _ => unreachable!(),
     }
 }
 
@@ -208,11 +217,39 @@ fn show(activity: &mut Activity, value: Value) -> Fate
     Fate::Shows(value)
 }
 
-/// Ends the thread with the value, or fails inside a section.
-fn give(activity: &Activity, value: Value) -> Fate
-    ensures { result ≡ return_fate activity.now.depth value }
+/// Calls the function, unless there are as many frames as there may be.
+fn call(
+    alloc: Global,
+    program: &Program,
+    activity: &mut Activity,
+    to: u8,
+    first: u8,
+    function: u16,
+) -> Result<Fate, AllocError>
+    requires fits { FitsImage program.now }
+    requires there { function < length program.now.functions }
+    requires arguments { first + (function_of program.now function).params ≤ length activity.old.top.regs }
+    requires room { activity.old.top.pc + 1 < 2 ^ 16 }
+    ensures fate { IfOk result (λ fate. fate ≡ call_fate activity.old) }
+    ensures activity { OnOk result (activity.new ≡ activity_called program.now activity.old to first function) }
+    ensures err { OnErr result (activity.new ≡ activity.old) }
 {
-    if activity.depth() == 0 {
+    if activity.frames() == 256 {
+        return Ok(Fate::Fails(Fault::Stack));
+    }
+    activity.call(alloc, program, to, first, function)?;
+    Ok(Fate::GoesOn)
+}
+
+/// Returns the value to the frame below. The last frame ends the thread with it, or fails inside a section.
+fn give(activity: &mut Activity, value: Value) -> Fate
+    requires { IsAwaited activity.old.top.result activity.old.below }
+    ensures fate { result ≡ fate_returned activity.old value activity.old.below }
+    ensures activity { activity.new ≡ activity_returned activity.old value activity.old.below }
+{
+    if activity.give(value) {
+        Fate::GoesOn
+    } else if activity.depth() == 0 {
         Fate::Ends(value)
     } else {
         Fate::Fails(Fault::Open)
