@@ -71,6 +71,17 @@ impl Forest {
         })
     }
 
+    /// A forest over the same classes and threads, in which the same is held.
+    pub fn try_copy(&self, alloc: Global) -> Result<Self, AllocError>
+        ensures { IfOk result (λ forest. forest ≡ self.now) }
+    {
+        Ok(Forest {
+            classes: self.classes,
+            threads: self.threads,
+            entries: self.entries.as_slice().to_vec(alloc)?,
+        })
+    }
+
     /// Grants all that is asked, and answers `true`; or grants nothing, where another thread is in the way.
     pub fn try_acquire(
         &mut self,

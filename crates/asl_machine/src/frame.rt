@@ -50,6 +50,18 @@ impl Frame {
         })
     }
 
+    /// An equal frame.
+    fn try_copy(&self, alloc: Global) -> Result<Frame, AllocError>
+        ensures { IfOk result (λ frame. frame ≡ self.now) }
+    {
+        Ok(Frame {
+            function: self.function,
+            pc: self.pc,
+            regs: self.regs.as_slice().to_vec(alloc)?,
+            result: self.result,
+        })
+    }
+
     /// The frame that this one begins by calling the function with its registers from `first` on.
     pub fn call(
         &self,
@@ -179,6 +191,17 @@ fn registers(alloc: Global, arguments: &[Value], count: u8) -> Result<Vec<Value>
     Ok(regs)
 }
 
+/// Equal frames.
+fn copies(alloc: Global, frames: &[Frame]) -> Result<Vec<Frame>, AllocError>
+    ensures { IfOk result (λ copies. copies.items ≡ frames.now) }
+{
+    let mut copies = Vec::new(alloc);
+    for frame in frames {
+        copies.push(frame.try_copy(alloc)?)?;
+    }
+    Ok(copies)
+}
+
 /// What a running thread is at: how many sections it is in, its top frame, and the frames below, the nearest last.
 #[derive(Debug, Drop)]
 pub struct Activity {
@@ -218,6 +241,17 @@ impl Activity {
             depth: 0,
             top: Frame::entry(alloc, program, t)?,
             below: Vec::new(alloc),
+        })
+    }
+
+    /// An equal one.
+    pub fn try_copy(&self, alloc: Global) -> Result<Activity, AllocError>
+        ensures { IfOk result (λ activity. activity ≡ self.now) }
+    {
+        Ok(Activity {
+            depth: self.depth,
+            top: self.top.try_copy(alloc)?,
+            below: copies(alloc, self.below.as_slice())?,
         })
     }
 

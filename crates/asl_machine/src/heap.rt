@@ -47,6 +47,16 @@ impl Object {
         })
     }
 
+    /// An equal object.
+    fn try_copy(&self, alloc: Global) -> Result<Object, AllocError>
+        ensures { IfOk result (λ object. object ≡ self.now) }
+    {
+        Ok(Object {
+            class: self.class,
+            cells: self.cells.as_slice().to_vec(alloc)?,
+        })
+    }
+
     fn class(&self) -> u16
         ensures { result ≡ self.now.class }
     {
@@ -110,6 +120,17 @@ impl Heap {
         let mut objects = Vec::new(alloc);
         for class in classes {
             objects.push(Object::of_global(alloc, *class)?)?;
+        }
+        Ok(Heap { objects })
+    }
+
+    /// A heap of equal objects.
+    pub fn try_copy(&self, alloc: Global) -> Result<Heap, AllocError>
+        ensures { IfOk result (λ heap. heap ≡ self.now) }
+    {
+        let mut objects = Vec::new(alloc);
+        for object in &self.objects {
+            objects.push(object.try_copy(alloc)?)?;
         }
         Ok(Heap { objects })
     }

@@ -85,6 +85,25 @@ impl<'p> Machine<'p> {
         Ok(thread.step(alloc, self.program, &mut self.heap, &mut self.forest, t)?)
     }
 
+    /// A machine of the same program in an equal state. The two go on apart.
+    pub fn try_copy(&self, alloc: Global) -> Result<Machine<'p>, MachineFault>
+        ensures equal { IfOk result (λ machine. machine ≡ self.now) }
+        ensures other { IfErr result (λ fault. fault ≡ MachineFault.OutOfMemory) }
+    {
+        Ok(self.copied(alloc)?)
+    }
+
+    fn copied(&self, alloc: Global) -> Result<Machine<'p>, AllocError>
+        ensures { IfOk result (λ machine. machine ≡ self.now) }
+    {
+        Ok(Machine {
+            program: self.program,
+            heap: self.heap.try_copy(alloc)?,
+            forest: self.forest.try_copy(alloc)?,
+            threads: copies(alloc, self.threads.as_slice())?,
+        })
+    }
+
     /// How many threads there are.
     pub fn threads(&self) -> u32
         ensures { result ≡ length self.now.state.threads }
@@ -206,6 +225,17 @@ fn start<'p>(alloc: Global, program: &'p Program, n: u32) -> Result<Machine<'p>,
         forest,
         threads,
     })
+}
+
+/// Equal threads.
+fn copies(alloc: Global, threads: &[Thread]) -> Result<Vec<Thread>, AllocError>
+    ensures { IfOk result (λ copies. copies.items ≡ threads.now) }
+{
+    let mut copies = Vec::new(alloc);
+    for thread in threads {
+        copies.push(thread.try_copy(alloc)?)?;
+    }
+    Ok(copies)
 }
 
 /// The first n threads at their start.

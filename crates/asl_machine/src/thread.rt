@@ -51,6 +51,16 @@ impl Thread {
         })
     }
 
+    /// An equal thread.
+    pub fn try_copy(&self, alloc: Global) -> Result<Thread, AllocError>
+        ensures { IfOk result (λ thread. thread ≡ self.now) }
+    {
+        Ok(Thread {
+            status: self.status,
+            activity: self.activity.try_copy(alloc)?,
+        })
+    }
+
     /// What the thread is at, if it runs.
     pub fn activity(&self) -> Option<&Activity>
         ensures { option_copied result ≡ activity_of self.now }
