@@ -20,3 +20,6 @@ pub use laws::{
 };
 pub use machine::Machine;
 pub use reply::{Reply, Status};
+
+#[cfg(test)]
+mod tests;

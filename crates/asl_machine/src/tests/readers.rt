@@ -1,0 +1,85 @@
+//! What the readers of a machine tell, gathered.
+use crate::{Machine, Status};
+use asl_code::{Cell, Value};
+use asl_lock_forest::Node;
+use asl_mode_lanes::Mode;
+use std::test::Fail;
+
+/// The one cell of the one global.
+pub const CELL: Cell = Cell {
+    object: 0,
+    offset: 0,
+};
+
+/// What a thread holds at the root, at the global's class and at the global's cell.
+#[derive(Clone, Copy, Debug, PartialEq, Eq)]
+pub struct Locks {
+    pub root: Mode,
+    pub class: Mode,
+    pub leaf: Mode,
+}
+
+/// What is told of a thread: of its registers the first two.
+#[derive(Clone, Copy, Debug, PartialEq, Eq)]
+pub struct ThreadSeen {
+    pub status: Status,
+    pub pc: Option<u32>,
+    pub regs: (Option<Value>, Option<Value>),
+    pub depth: u32,
+    pub locks: Locks,
+}
+
+/// What is told of an object and its first cell.
+#[derive(Clone, Copy, Debug, PartialEq, Eq)]
+pub struct ObjectSeen {
+    pub class: Option<u32>,
+    pub size: Option<u32>,
+    pub value: Option<Value>,
+}
+
+/// What is told of thread t.
+pub fn see_thread(machine: &Machine<'_>, t: u32) -> Result<ThreadSeen, Fail> {
+    if t >= machine.threads() {
+        return Err(Fail::new("there is no such thread"));
+    }
+    Ok(ThreadSeen {
+        status: machine.status(t),
+        pc: machine.pc(t),
+        regs: (machine.reg(t, 0), machine.reg(t, 1)),
+        depth: machine.depth(t),
+        locks: Locks {
+            root: machine.held(t, Node::Root),
+            class: machine.held(t, Node::Class(0)),
+            leaf: machine.held(t, Node::Leaf(CELL, 0)),
+        },
+    })
+}
+
+/// The value of a register of thread t.
+pub fn see_register(machine: &Machine<'_>, t: u32, register: u32) -> Result<Option<Value>, Fail> {
+    if t >= machine.threads() {
+        return Err(Fail::new("there is no such thread"));
+    }
+    Ok(machine.reg(t, register))
+}
+
+/// The mode in which thread t holds the node.
+pub fn see_held(machine: &Machine<'_>, t: u32, node: Node) -> Result<Mode, Fail> {
+    if t >= machine.threads() {
+        return Err(Fail::new("there is no such thread"));
+    }
+    Ok(machine.held(t, node))
+}
+
+/// What is told of an object and its first cell.
+pub fn see_object(machine: &Machine<'_>, number: u16) -> ObjectSeen {
+    let cell = Cell {
+        object: number,
+        offset: 0,
+    };
+    ObjectSeen {
+        class: machine.class(u32::from(number)),
+        size: machine.size(u32::from(number)),
+        value: machine.cell(cell),
+    }
+}
