@@ -23,3 +23,6 @@ pub use laws::{
 };
 pub use lowering::Lowering;
 pub use section::Section;
+
+#[cfg(test)]
+mod tests;
