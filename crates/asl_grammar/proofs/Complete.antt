@@ -1,14 +1,12 @@
 -- The automaton reads what a written program spells.
-use Rattle.std.proofs.Common.{◌≡◌, ℕ, List, [], ◌∷◌, ◌++◌, Bool, true, false, Option, Some, None, refl, sym, ap, ◌∙◌, append_assoc}
+use Rattle.std.proofs.Common.{◌≡◌, ℕ, List, [], ◌∷◌, ◌++◌, true, false, Some, None, refl, sym, ap, ◌∙◌, append_assoc}
 use Rattle.std.proofs.lemmas.List.{append-nil}
-use Rattle.asl_grammar.specs.declared.token.Mark.{Mark}
 use Rattle.asl_grammar.specs.declared.token.Mark.TheVariants as mark
-use Rattle.asl_grammar.specs.declared.control.Operator.{Operator}
 use Rattle.asl_grammar.specs.declared.control.Operator.TheVariants.{Add, Subtract, IsLess, IsEqual}
-use Rattle.asl_grammar.specs.Token.{Token, Fixed, Name, Number}
-use Rattle.asl_grammar.specs.Written.{Right, Literal, NullValue, Copied, Binary, GlobalAddress, FieldAddress, Loaded, Created, Line, Assigns, Calls, Stores, Shows, Stmt, Simple, IfStmt, WhileStmt, AtomicStmt, Block, End, More, Else, NoElse, Otherwise, Function, Item, GlobalItem, FunctionItem}
-use Rattle.asl_grammar.specs.Spelling.{symbol_of, later_names_on, names_on, right_on, line_on, stmt_on, block_on, else_on, function_on, item_on, program_on}
-use Rattle.asl_grammar.specs.Automaton.{Control, ItemStart, FirstParameter, AfterParameter, BodyStart, StatementStart, AfterThen, FirstArgument, AfterArgument, CallEnd, Header, ThenBlock, ElseBlock, WhileBlock, AtomicBlock, Part, Frame, Stack, State, stack_of, state_of, to_block, settle, run, whole}
+use Rattle.asl_grammar.specs.Token.{Token, Fixed, Name}
+use Rattle.asl_grammar.specs.Written.{Literal, NullValue, Copied, Binary, GlobalAddress, FieldAddress, Loaded, Created, Line, Assigns, Calls, Stores, Shows, Stmt, Simple, IfStmt, WhileStmt, AtomicStmt, Block, End, More, Else, NoElse, Otherwise, Function, Item, GlobalItem, FunctionItem}
+use Rattle.asl_grammar.specs.Spelling.{later_names_on, names_on, line_on, stmt_on, block_on, else_on, function_on, item_on, program_on}
+use Rattle.asl_grammar.specs.Automaton.{Control, FirstParameter, AfterParameter, BodyStart, StatementStart, AfterThen, FirstArgument, AfterArgument, CallEnd, Header, ThenBlock, ElseBlock, WhileBlock, AtomicBlock, Frame, Stack, State, state_of, to_block, settle, run}
 
 -- inside a function: no call is open and no `if` waits
 abbrev pub stack_in : List Item → List ℕ → List (List ℕ) → List Stmt → List Frame → Stack

@@ -1,18 +1,17 @@
 -- The automaton stops at the first token with which no program goes on, and nowhere else.
 use Rattle.std.proofs.Common.{◌≡◌, ℕ, List, [], ◌∷◌, ◌++◌, Option, Some, None, refl, sym, ap, ◌∙◌, subst, append_assoc, map}
 use Rattle.std.proofs.lemmas.List.{append-nil, map-append}
-use Rattle.asl_grammar.specs.declared.token.Mark.{Mark}
 use Rattle.asl_grammar.specs.declared.token.Mark.TheVariants as mark
 use Rattle.asl_grammar.specs.declared.control.Kind.{Kind}
-use Rattle.asl_grammar.specs.declared.control.Kind.TheVariants.{Body, Then, Inner}
-use Rattle.asl_grammar.specs.Token.{Token, Fixed, Name, Number, Spot}
-use Rattle.asl_grammar.specs.Written.{Block, Stmt, Item}
+use Rattle.asl_grammar.specs.declared.control.Kind.TheVariants.{Inner}
+use Rattle.asl_grammar.specs.Token.{Token, Fixed, Spot}
+use Rattle.asl_grammar.specs.Written.{Block, Item}
 use Rattle.asl_grammar.specs.Spelling.{program_on}
-use Rattle.asl_grammar.specs.Automaton.{Opening, OfIf, OfElse, OfWhile, OfAtomic, Control, ItemStart, StatementStart, AfterThen, Act, Keep, Declare, Start, Parameter, Argument, Emit, EmitCall, Begin, Close, Finish, step, Header, ThenBlock, ElseBlock, Frame, Stack, State, state_of, apply, close_frames, else_header, kind_of, header_kind, ready, ready_then, moved, next_ready, next, run, run_with, whole, whole_at}
-use Rattle.asl_grammar.specs.Grammar.{IsProgram, IsViable, StopsAt, IsGrammarFault, bare, Judges}
+use Rattle.asl_grammar.specs.Automaton.{Opening, OfIf, OfElse, OfWhile, OfAtomic, Control, ItemStart, AfterThen, Act, Keep, Declare, Start, Parameter, Argument, Emit, EmitCall, Begin, Close, Finish, step, Frame, Stack, State, state_of, apply, close_frames, else_header, kind_of, header_kind, ready, ready_then, moved, next_ready, next, run, run_with, whole, whole_at}
+use Rattle.asl_grammar.specs.Grammar.{IsProgram, IsViable, IsGrammarFault, bare, Judges}
 use Rattle.asl_grammar.specs.Seen.{Place, start_place, innermost, settled, settled_by, opening_kind, outer_kinds, kinds_after, placed, next_place, fault_at_end, fault_with, fault_from}
 use Rattle.asl_grammar.proofs.Complete.{run_program}
-use Rattle.asl_grammar.proofs.Sound.{Fits, IsOutside, Kept, run_keeps}
+use Rattle.asl_grammar.proofs.Sound.{Fits, Kept, run_keeps}
 use Rattle.asl_grammar.proofs.Viable.{CanEnd, can_end, run-append}
 
 -- the kinds of open blocks

@@ -1,5 +1,5 @@
 -- What the answers of a reader of tokens tell.
-use Rattle.std.proofs.Common.{◌≡◌, List, [], refl}
+use Rattle.std.proofs.Common.{◌≡◌, [], refl}
 use Rattle.asl_grammar.specs.declared.lexer.Tokens as reader
 use Rattle.asl_grammar.specs.declared.lexer.Found as answer
 use Rattle.asl_grammar.specs.declared.lexer.Found.TheVariants as found

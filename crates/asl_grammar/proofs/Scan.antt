@@ -1,11 +1,11 @@
 -- Steps of a reader of tokens.
-use Rattle.std.proofs.Common.{◌≡◌, ℕ, zero, suc, ◌+◌, ◌-◌, ◌<◌, ◌≤◌, List, [], ◌∷◌, Bool, true, false, cond, ◌==◌, Option, Some, None, refl, sym, ap, ◌∙◌, arith, length, take, drop}
+use Rattle.std.proofs.Common.{◌≡◌, ℕ, zero, suc, ◌+◌, ◌-◌, ◌<◌, ◌≤◌, List, [], ◌∷◌, Bool, true, false, ◌==◌, Option, Some, None, refl, sym, ap, ◌∙◌, arith, length, drop}
 use Rattle.std.proofs.lemmas.Bool.{cond_both}
 use Rattle.std.proofs.lemmas.List.{length-drop}
 use Rattle.asl_grammar.specs.declared.token.Mark.{Mark}
 use Rattle.asl_grammar.specs.declared.token.Mark.TheVariants as mark
-use Rattle.asl_grammar.specs.Token.{Token, Fixed, Name, Number, Spot}
-use Rattle.asl_grammar.specs.Lex.{is_blank, is_digit, is_letter, is_name_byte, leading, word_of, word_or_name, equals_token, symbol_of_byte, symbol_token, letters_token, digits_token, front, spots, spot_then, bad_from, bad_then}
+use Rattle.asl_grammar.specs.Token.{Token, Fixed, Spot}
+use Rattle.asl_grammar.specs.Lex.{is_blank, is_digit, is_letter, is_name_byte, leading, equals_token, symbol_of_byte, symbol_token, front, spots, spot_then, bad_from, bad_then}
 use Rattle.asl_grammar.specs.Reader.{IsAtToken}
 
 -- bytes that are passed

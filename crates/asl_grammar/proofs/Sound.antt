@@ -1,16 +1,12 @@
 -- What the automaton has read is what its state spells, so the program that it ends with spells all tokens.
-use Rattle.std.proofs.Common.{◌≡◌, ℕ, List, [], ◌∷◌, ◌++◌, Bool, true, false, Option, Some, None, refl, sym, ap, ◌∙◌, subst, append_assoc}
-use Rattle.std.proofs.lemmas.List.{append-nil}
-use Rattle.asl_grammar.specs.declared.token.Mark.{Mark}
+use Rattle.std.proofs.Common.{◌≡◌, ℕ, List, [], ◌∷◌, ◌++◌, Option, Some, None, refl, ap, ◌∙◌}
 use Rattle.asl_grammar.specs.declared.token.Mark.TheVariants as mark
-use Rattle.asl_grammar.specs.declared.control.Operator.{Operator}
-use Rattle.asl_grammar.specs.declared.control.Operator.TheVariants.{Add, Subtract, IsLess, IsEqual}
 use Rattle.asl_grammar.specs.declared.control.Kind.{Kind}
 use Rattle.asl_grammar.specs.declared.control.Kind.TheVariants.{Body, Then, Inner}
 use Rattle.asl_grammar.specs.Token.{Token, Fixed, Name, Number}
-use Rattle.asl_grammar.specs.Written.{Right, Literal, NullValue, Copied, Binary, GlobalAddress, FieldAddress, Loaded, Created, Line, Assigns, Calls, Stores, Shows, Stmt, Simple, IfStmt, WhileStmt, AtomicStmt, Block, End, More, Else, NoElse, Otherwise, Function, Item, GlobalItem, FunctionItem}
-use Rattle.asl_grammar.specs.Spelling.{symbol_of, later_names_on, names_on, right_on, line_on, stmt_on, block_on, else_on, function_on, item_on, program_on}
-use Rattle.asl_grammar.specs.Automaton.{Opening, OfIf, OfElse, OfWhile, OfAtomic, Control, ItemStart, AfterGlobal, GlobalNamed, AfterFn, FunctionNamed, FirstParameter, AfterParameter, NextParameter, BodyStart, StatementStart, AfterThen, Target, AfterBecomes, AfterMinus, AfterValue, AfterOperator, AfterAmpersand, AfterAddress, AfterBracket, AfterIndex, AfterStar, AfterNew, FirstArgument, AfterArgument, NextArgument, CallEnd, LineEnd, StoreStart, StoreTarget, StoreValue, AfterOut, AfterIf, AfterWhile, AfterHeader, AfterReturn, Returned, BodyEnd, Act, Keep, Declare, Start, Parameter, Argument, Emit, EmitCall, Begin, Close, Finish, step, Header, ThenBlock, ElseBlock, WhileBlock, AtomicBlock, Part, Frame, Stack, State, no_part, stack_of, state_of, to_block, settle, put, push, else_header, close_frames, closed, function_of, apply, kind_of, header_kind, ready, ready_then, moved, next_ready, next, run, run_with, whole, whole_at}
+use Rattle.asl_grammar.specs.Written.{Copied, GlobalAddress, Assigns, Calls, Stmt, Simple, IfStmt, Block, NoElse, Item, GlobalItem}
+use Rattle.asl_grammar.specs.Spelling.{symbol_of, later_names_on, names_on, line_on, stmt_on, block_on, item_on, program_on}
+use Rattle.asl_grammar.specs.Automaton.{Opening, OfIf, OfElse, OfWhile, OfAtomic, Control, ItemStart, AfterGlobal, GlobalNamed, AfterFn, FunctionNamed, FirstParameter, AfterParameter, NextParameter, BodyStart, StatementStart, AfterThen, Target, AfterBecomes, AfterMinus, AfterValue, AfterOperator, AfterAmpersand, AfterAddress, AfterBracket, AfterIndex, AfterStar, AfterNew, FirstArgument, AfterArgument, NextArgument, CallEnd, LineEnd, StoreStart, StoreTarget, StoreValue, AfterOut, AfterIf, AfterWhile, AfterHeader, AfterReturn, Returned, BodyEnd, Act, Begin, Close, step, Header, ThenBlock, ElseBlock, WhileBlock, AtomicBlock, Part, Frame, Stack, State, no_part, to_block, settle, put, push, else_header, close_frames, closed, function_of, apply, kind_of, header_kind, ready, ready_then, moved, next_ready, next, run, run_with}
 
 -- the tokens of a list of statements
 abbrev pub stmts_on : List Stmt → List Token → List Token

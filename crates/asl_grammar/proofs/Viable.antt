@@ -1,14 +1,11 @@
 -- Every state that the automaton reaches can be completed to a program.
-use Rattle.std.proofs.Common.{◌≡◌, ℕ, List, [], ◌∷◌, ◌++◌, Bool, true, false, Option, Some, None, IsTrue, refl, sym, ap, ◌∙◌, append_assoc}
+use Rattle.std.proofs.Common.{◌≡◌, ℕ, List, [], ◌∷◌, ◌++◌, Option, Some, None, IsTrue, refl, ap, ◌∙◌}
 use Rattle.std.proofs.lemmas.Bool.{and_from, and_parts}
-use Rattle.asl_grammar.specs.declared.token.Mark.{Mark}
 use Rattle.asl_grammar.specs.declared.token.Mark.TheVariants as mark
-use Rattle.asl_grammar.specs.declared.control.Operator.{Operator}
-use Rattle.asl_grammar.specs.declared.control.Kind.{Kind}
 use Rattle.asl_grammar.specs.Token.{Token, Fixed, Name, Number}
-use Rattle.asl_grammar.specs.Written.{Line, Stmt, Block, Item}
+use Rattle.asl_grammar.specs.Written.{Line, Stmt, Item}
 use Rattle.asl_grammar.specs.Lex.{are_tokens}
-use Rattle.asl_grammar.specs.Automaton.{Opening, OfIf, OfElse, OfWhile, OfAtomic, Control, ItemStart, AfterGlobal, GlobalNamed, AfterFn, FunctionNamed, FirstParameter, AfterParameter, NextParameter, BodyStart, StatementStart, AfterThen, Target, AfterBecomes, AfterMinus, AfterValue, AfterOperator, AfterAmpersand, AfterAddress, AfterBracket, AfterIndex, AfterStar, AfterNew, FirstArgument, AfterArgument, NextArgument, CallEnd, LineEnd, StoreStart, StoreTarget, StoreValue, AfterOut, AfterIf, AfterWhile, AfterHeader, AfterReturn, Returned, BodyEnd, Header, ThenBlock, ElseBlock, WhileBlock, AtomicBlock, Part, Frame, Stack, State, to_block, closed, settle, run, run_with, next, whole}
+use Rattle.asl_grammar.specs.Automaton.{Opening, Control, ItemStart, AfterGlobal, GlobalNamed, AfterFn, FunctionNamed, FirstParameter, AfterParameter, NextParameter, BodyStart, StatementStart, AfterThen, Target, AfterBecomes, AfterMinus, AfterValue, AfterOperator, AfterAmpersand, AfterAddress, AfterBracket, AfterIndex, AfterStar, AfterNew, FirstArgument, AfterArgument, NextArgument, CallEnd, LineEnd, StoreStart, StoreTarget, StoreValue, AfterOut, AfterIf, AfterWhile, AfterHeader, AfterReturn, Returned, BodyEnd, Header, ThenBlock, ElseBlock, WhileBlock, AtomicBlock, Frame, Stack, State, to_block, closed, settle, run, run_with, next, whole}
 use Rattle.asl_grammar.proofs.Complete.{at, GoesOn, settles}
 
 -- some tokens lead from a state to the end of a program

@@ -1,5 +1,5 @@
 -- Reading bytes as tokens: the longest token first, blanks between.
-use Rattle.std.specs.Prelude.{ℕ, zero, suc, ◌+◌, ◌-◌, ◌*◌, List, [], ◌∷◌, Bool, true, false, Option, Some, None, if◌then◌else◌, ◌==◌, nat_le, ◌&&◌, ◌||◌, not, codes, bytes_eq, take, length, is_none}
+use Rattle.std.specs.Prelude.{ℕ, zero, suc, ◌+◌, ◌-◌, ◌*◌, List, [], ◌∷◌, Bool, true, false, Option, Some, None, if◌then◌else◌, ◌==◌, nat_le, ◌&&◌, ◌||◌, codes, bytes_eq, take, is_none}
 use Rattle.asl_grammar.specs.declared.token.Mark.{Mark}
 use Rattle.asl_grammar.specs.declared.token.Mark.TheVariants as mark
 use Rattle.asl_grammar.specs.Token.{Token, Fixed, Name, Number, Spot}

@@ -1,5 +1,5 @@
 -- What a reader of tokens has left, and what one call of it does.
-use Rattle.std.specs.Prelude.{◌≡◌, ℕ, ◌<◌, List, [], ◌∷◌, Bool, false, Option, Some, None, length}
+use Rattle.std.specs.Prelude.{◌≡◌, ℕ, ◌<◌, List, [], ◌∷◌, false, Option, Some, None, length}
 use Rattle.asl_grammar.specs.declared.lexer.Tokens as reader
 use Rattle.asl_grammar.specs.declared.lexer.Found as answer
 use Rattle.asl_grammar.specs.declared.lexer.Found.TheVariants as found

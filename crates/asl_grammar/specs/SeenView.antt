@@ -1,5 +1,5 @@
 -- The code's control and stack of kinds as a place of the automaton.
-use Rattle.std.specs.Prelude.{ℕ, List, reverse}
+use Rattle.std.specs.Prelude.{List, reverse}
 use Rattle.asl_grammar.specs.declared.control.Control as control
 use Rattle.asl_grammar.specs.declared.control.Kind.{Kind}
 use Rattle.asl_grammar.specs.Seen.{Place}

@@ -1,5 +1,5 @@
 -- The code's tokens as the values that definitions speak of.
-use Rattle.std.specs.Prelude.{ℕ, List}
+use Rattle.std.specs.Prelude.{ℕ}
 use Rattle.asl_grammar.specs.Lex.{number_value}
 use Rattle.asl_grammar.specs.declared.token.Token as code
 use Rattle.asl_grammar.specs.declared.token.Token.TheVariants as tokens

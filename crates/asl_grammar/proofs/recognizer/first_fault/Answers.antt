@@ -1,5 +1,4 @@
-use Rattle.std.proofs.Common.{◌≡◌, subst, sym, length, Option, ℕ, List, []}
-use Rattle.asl_grammar.specs.Token.{Spot}
+use Rattle.std.proofs.Common.{◌≡◌, subst, sym, length, Option, ℕ, []}
 use Rattle.asl_grammar.specs.Lex.{tokens_of}
 use Rattle.asl_grammar.specs.Grammar.{Judges}
 use Rattle.asl_grammar.specs.Reader.{spots_left}
