@@ -8,10 +8,10 @@ mod fault;
 mod functions;
 mod laws;
 mod locals;
-mod lower;
 mod lowering;
 mod names;
 mod output;
+mod program;
 mod scope;
 mod section;
 mod statements;
@@ -22,6 +22,7 @@ pub use laws::{
     numbers_follow_the_code, one_lowering, returns_stand_last, sections_are_listed, sections_nest,
 };
 pub use lowering::Lowering;
+pub use program::lower;
 pub use section::Section;
 
 #[cfg(test)]

@@ -5,7 +5,7 @@ use Rattle.asl_lower.specs.Lowered.{Lowered}
 use Rattle.asl_lower.specs.Region.{IsBareAccess}
 use Rattle.asl_lower.specs.Kept.{lowered_of}
 use Rattle.asl_lower.proofs.Emitted.{emitted_lowering, emitted_kept, emitted_room, emitted_parted, emitted_functions}
-use Rattle.asl_lower.proofs.lower.lower_items.Goals as goal
+use Rattle.asl_lower.proofs.program.lower_items.Goals as goal
 
 pub first_bare_access-requires-clause-numbers : goal.first_bare_access-requires-clause-numbers
 first_bare_access-requires-clause-numbers c =
