@@ -1,13 +1,15 @@
 -- What each command makes of an input, and why it may refuse to (docs/LIMITS.md, "Refusals of the program asl").
-use Rattle.std.specs.Prelude.{ℕ, List}
+use Rattle.std.specs.Prelude.{◌≡◌, ℕ, List}
 use Rattle.asl_code.specs.declared.image.Image.{Image}
+use Rattle.asl_assembler.specs.Canonical.{canonical_text}
 use Rattle.asl_loader.specs.Bytes.{SpellsImage}
+use Rattle.asl_loader.specs.Faults as bytes
 use Rattle.asl_tool.specs.declared.program.ProgramFault.TheVariants as program
 use Rattle.asl_tool.specs.declared.command.Command.{Command}
 use Rattle.asl_tool.specs.declared.command.Command.TheVariants as command
 use Rattle.asl_tool.specs.declared.command.CommandFault.{CommandFault}
 use Rattle.asl_tool.specs.declared.command.CommandFault.TheVariants as fault
-use Rattle.asl_tool.specs.Program.{IsProgramText, IsBadText, IsNoProgram}
+use Rattle.asl_tool.specs.Program.{IsProgramText, IsProgramImage, IsBadText, IsNoProgram}
 use Rattle.asl_tool.specs.Step.{IsStepped, HasRefusedRun}
 
 -- the text is a program, and the bytes are its image
@@ -16,10 +18,17 @@ pub record IsAssembled (text bytes : List ℕ) : Type 0 where
   pub program : IsProgramText text image
   pub spelled : SpellsImage image bytes
 
+-- the bytes are a program's image, and the text is its canonical one
+pub record IsDisassembled (bytes text : List ℕ) : Type 0 where
+  pub image : Image
+  pub program : IsProgramImage bytes image
+  pub canonical : text ≡ canonical_text image
+
 -- the output of each command for an input
 abbrev pub IsOutput : Command → List ℕ → List ℕ → Type 0
 IsOutput (command.Step threads schedule) input text = IsStepped input threads schedule.items text
 IsOutput command.Assemble input image = IsAssembled input image
+IsOutput command.Disassemble input text = IsDisassembled input text
 
 -- what each refusal of a command says of the input; of want of memory nothing is said
 abbrev pub IsRefusedStep : List ℕ → ℕ → List ℕ → CommandFault → Type 0
@@ -32,6 +41,12 @@ IsRefusedText text (fault.Program (program.Text cause)) = IsBadText text cause
 IsRefusedText text fault.OutOfMemory = Unit {0}
 IsRefusedText text f = ⊥
 
+abbrev pub IsRefusedImage : List ℕ → CommandFault → Type 0
+IsRefusedImage image (fault.Program (program.Image cause)) = bytes.IsFault image cause
+IsRefusedImage image fault.OutOfMemory = Unit {0}
+IsRefusedImage image f = ⊥
+
 abbrev pub IsRefused : Command → List ℕ → CommandFault → Type 0
 IsRefused (command.Step threads schedule) input f = IsRefusedStep input threads schedule.items f
 IsRefused command.Assemble input f = IsRefusedText input f
+IsRefused command.Disassemble input f = IsRefusedImage input f

@@ -1,12 +1,12 @@
 //! The commands: from the bytes of an input to those of the output.
 ghost use Rattle.std.specs.Prelude.{IfOk, IfErr};
 ghost use Rattle.asl_tool.specs.Step.{IsStepped};
-ghost use Rattle.asl_tool.specs.Command.{IsAssembled, IsOutput, IsRefused, IsRefusedStep, IsRefusedText};
+ghost use Rattle.asl_tool.specs.Command.{IsAssembled, IsDisassembled, IsOutput, IsRefused, IsRefusedStep, IsRefusedText, IsRefusedImage};
 
 use crate::program::{ProgramFault, read_program};
 use crate::step::program_text;
-use asl_assembler::assemble;
-use asl_loader::store;
+use asl_assembler::{assemble, disassemble};
+use asl_loader::{load, store};
 use asl_machine::MachineFault;
 use std::alloc::Global;
 use thiserror::Error;
@@ -23,6 +23,8 @@ pub enum Command {
     },
     /// `asm`: the image of the input, which is assembly text.
     Assemble,
+    /// `dis`: the canonical text of the input, which is an image.
+    Disassemble,
 }
 
 /// Why a command gives no output. Where several apply, the first is answered.
@@ -49,6 +51,7 @@ pub fn output_of(alloc: Global, command: &Command, input: &[u8]) -> Result<Vec<u
             stepped(alloc, *threads, schedule.as_slice(), input)
         }
         Command::Assemble => assembled(alloc, input),
+        Command::Disassemble => disassembled(alloc, input),
     }
 }
 
@@ -83,6 +86,21 @@ fn assembled(alloc: Global, text: &[u8]) -> Result<Vec<u8>, CommandFault>
     };
     match store(alloc, &program) {
         Ok(bytes) => Ok(bytes),
+        Err(_) => Err(CommandFault::OutOfMemory),
+    }
+}
+
+/// The canonical text of the image.
+fn disassembled(alloc: Global, image: &[u8]) -> Result<Vec<u8>, CommandFault>
+    ensures ok { IfOk result (λ text. IsDisassembled image.now text.items) }
+    ensures err { IfErr result (λ fault. IsRefusedImage image.now fault) }
+{
+    let program = match load(alloc, image) {
+        Ok(program) => program,
+        Err(fault) => return Err(CommandFault::Program(ProgramFault::Image(fault))),
+    };
+    match disassemble(alloc, &program) {
+        Ok(text) => Ok(text),
         Err(_) => Err(CommandFault::OutOfMemory),
     }
 }

@@ -23,6 +23,9 @@ const STEP_HELP: &str =
 
 const ASM_HELP: &str = "Reads a program in assembly text from standard input, and writes its image";
 
+const DIS_HELP: &str =
+    "Reads a program's image from standard input, and writes its canonical assembly text";
+
 /// Judges the words, which are those after the program's name. Only memory can fail.
 pub fn read_words(alloc: Global, words: &[String]) -> Result<Invocation, AllocError> {
     let parsed = command(alloc)?.try_get_matches_from(words);
@@ -30,6 +33,7 @@ pub fn read_words(alloc: Global, words: &[String]) -> Result<Invocation, AllocEr
         Ok(matches) => match matches.subcommand() {
             Some(("step", step)) => read_step(alloc, step),
             Some(("asm", _)) => Ok(Invocation::Run(Command::Assemble)),
+            Some(("dis", _)) => Ok(Invocation::Run(Command::Disassemble)),
             _ => wrong_usage(alloc, "a command is missing"),
         },
         Err(error) => refused(alloc, &error),
@@ -44,6 +48,7 @@ fn command<'a>(alloc: Global) -> Result<clap::Command<'a>, AllocError> {
         .subcommand_required(true)
         .disable_help_subcommand(true)
         .subcommand(bare_command(alloc, "asm", "asl asm", ASM_HELP)?)?
+        .subcommand(bare_command(alloc, "dis", "asl dis", DIS_HELP)?)?
         .subcommand(step_command(alloc)?)?;
     Ok(command)
 }

@@ -251,6 +251,14 @@ fn a_text_becomes_an_image(rt: HostRuntime) -> Result<(), Fail> {
 }
 
 #[test]
+fn an_image_becomes_its_text(rt: HostRuntime) -> Result<(), Fail> {
+    expect_bytes(&rt, "dis", IMAGE, 0, COUNTER.as_bytes(), "")?;
+    expect_bytes(&rt, "dis", b"", 1, b"", "asl: Truncated(0)\n")?;
+    expect_bytes(&rt, "dis", COUNTER.as_bytes(), 1, b"", "asl: Magic\n")?;
+    expect_bytes(&rt, "dis", &IMAGE[..93], 1, b"", "asl: Truncated(93)\n")
+}
+
+#[test]
 fn an_image_steps_as_its_text(rt: HostRuntime) -> Result<(), Fail> {
     let words = "step --threads 2 0 0 1 1";
     let output = b"0 0 ran\n1 0 ran\n2 1 ran\n3 1 blocked\n";

@@ -9,6 +9,7 @@ use std::test::Fail;
 enum Wanted {
     Step(u32, &'static [u32]),
     Assemble,
+    Disassemble,
     Help,
     WrongUsage,
 }
@@ -30,6 +31,7 @@ fn is_as_wanted(got: &Invocation, wanted: &Wanted) -> bool {
             threads == count && schedule.as_slice() == *order
         }
         (Invocation::Run(Command::Assemble), Wanted::Assemble) => true,
+        (Invocation::Run(Command::Disassemble), Wanted::Disassemble) => true,
         (Invocation::Help(text), Wanted::Help) => !text.is_empty(),
         (Invocation::WrongUsage(text), Wanted::WrongUsage) => !text.is_empty(),
         _ => false,
@@ -72,7 +74,10 @@ fn steps(rt: HostRuntime) -> Result<(), Fail> {
 
 #[test]
 fn texts_and_images(rt: HostRuntime) -> Result<(), Fail> {
-    check(&rt, &[("asm", Wanted::Assemble)])
+    check(
+        &rt,
+        &[("asm", Wanted::Assemble), ("dis", Wanted::Disassemble)],
+    )
 }
 
 #[test]
@@ -85,6 +90,7 @@ fn help(rt: HostRuntime) -> Result<(), Fail> {
             ("step --help", Wanted::Help),
             ("step -h", Wanted::Help),
             ("asm --help", Wanted::Help),
+            ("dis -h", Wanted::Help),
             ("step --threads 2 --help", Wanted::Help),
         ],
     )
