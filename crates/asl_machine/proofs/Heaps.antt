@@ -1,11 +1,11 @@
 -- What a store and a new object leave of the heap: its objects, their classes and their sizes.
-use Rattle.std.proofs.Common.{◌≡◌, ◌≢◌, ℕ, ◌+◌, ◌<◌, ◌⊎◌, ◌++◌, Bool, true, false, cond, ltb, replicate, pos, zero, suc, List, [], ◌∷◌, Option, Some, None, Result, Ok, Err, IfOk, length, set, slice_get, refl, ap, sym, ◌∙◌, subst, inl, inr, arith, length-set}
+use Rattle.std.proofs.Common.{◌≡◌, ◌≢◌, ℕ, ◌+◌, ◌<◌, ◌≤◌, ◌⊎◌, ◌++◌, Bool, true, false, cond, ltb, replicate, pos, zero, suc, List, [], ◌∷◌, Option, Some, None, Result, Ok, Err, IfOk, length, set, slice_get, refl, ap, sym, ◌∙◌, subst, inl, inr, arith, length-set}
 use Rattle.std.specs.Prelude.{IsSome, option_map, option_and_then}
 use Rattle.std.specs.Option.{option_map_or}
 use Rattle.std.proofs.lemmas.Bool.Decides.{eqb_tells}
 use Rattle.std.proofs.lemmas.Bool.{ltb-true}
 use Rattle.std.proofs.lemmas.List.{length_push, length-replicate}
-use Rattle.std.proofs.lemmas.Option.{slice_get_within}
+use Rattle.std.proofs.lemmas.Option.{slice_get_within, slice_get_cases}
 use Rattle.asl_code.specs.declared.image.Image.{Image}
 use Rattle.asl_code.specs.declared.value.Value.{Value}
 use Rattle.asl_code.specs.declared.value.Value.TheVariants.{Int, Null, Addr}
@@ -114,7 +114,7 @@ sound_written image objects c v sound p = record {
   ];
   sizes = λ n size e. sound.sizes n size (sym (size_of-written objects c v n) ∙ e);
   few = let l = length-written objects c v in let k = sound.few in omega arith;
-  globals = λ g lt. cell_kept objects c v (cell_of g 0) (sound.globals g lt);
+  globals = λ g class e. let h = sound.globals g class e in (class_of-written objects c v g ∙ h.0, size_of-written objects c v g ∙ h.1);
 }
 
 -- ---- one object more
@@ -138,6 +138,31 @@ cell_before objects more x h =
       | None ↦ λ e k. let f = k in cc
       | Some p ↦ λ e k. some_is _ _ (sym (ap (option_and_then (λ (q : Object). slice_get q.cells x.offset)) (get_before objects more x.object p e))) k
     ] refl h
+
+-- what is told of an object that is there is told of it when more are made
+read_before : {B : Type 0} (f : Object → B) (objects more : List Object) (n : ℕ) (b : B) → option_map f (slice_get objects n) ≡ Some b → option_map f (slice_get (objects ++ more) n) ≡ Some b
+read_before f objects more n b h =
+    elim (slice_get objects n) as (λ o. slice_get objects n ≡ o → option_map f o ≡ Some b → option_map f (slice_get (objects ++ more) n) ≡ Some b) [
+      | None ↦ λ e k. cc
+      | Some p ↦ λ e k. ap (option_map f) (get_before objects more n p e) ∙ k
+    ] refl h
+
+-- an object that has a cell has a first one
+first_there : (objects : List Object) (n size : ℕ) → size_of objects n ≡ Some size → 0 < size → IsSome (cell_at objects (cell_of n 0))
+first_there objects n size h some =
+    elim (slice_get objects n) as (λ o. slice_get objects n ≡ o → option_map (λ (p : Object). length p.cells) o ≡ Some size → IsSome (cell_at objects (cell_of n 0))) [
+      | None ↦ λ e k. cc
+      | Some p ↦ λ e k.
+          let same : length p.cells ≡ size = cc in some_is _ _ (sym (cell_from _ 0 p e)) (is_there p.cells 0 (omega arith))
+    ] refl h
+
+-- the address of a global is that of a cell that is there
+pub global_points : (image : Image) (objects : List Object) (g : ℕ) → AreSound image objects → g < length image.globals → Points objects (Addr g 0)
+global_points image objects g sound lt =
+    elim (slice_get_cases image.globals g).1 [
+      | inl found ↦ first_there objects g 1 (sound.globals g found.0 found.2).1 (omega arith)
+      | inr past ↦ let le : length image.globals ≤ g = past.0 in absurd (omega arith)
+    ]
 
 -- what pointed to a cell still does
 pub points_before : (objects more : List Object) (w : Value) → Points objects w → Points (objects ++ more) w
@@ -167,7 +192,11 @@ sound_made image objects class cells sound lt some room =
         | inr is ↦ let same : length (replicate {A = Value} cells (Int (pos 0))) ≡ size = cc in let l = length-replicate cells (Int (pos 0)) in omega arith
       ];
       few = let l = length_push objects (fresh_object class cells) in omega arith;
-      globals = λ g k. cell_before objects (fresh_object class cells ∷ []) (cell_of g 0) (sound.globals g k);
+      globals = λ g c e.
+          let h = sound.globals g c e in (
+            read_before (λ (o : Object). o.class) objects (fresh_object class cells ∷ []) g c h.0,
+            read_before (λ (o : Object). length o.cells) objects (fresh_object class cells ∷ []) g 1 h.1,
+          );
     }
 
 -- the first cell of the object that was made is there

@@ -42,7 +42,7 @@ use Rattle.asl_machine.specs.Sound.{IsPlaced, IsSuspended, AreSuspended, AreSoun
 use Rattle.asl_machine.specs.Calls.{function_of, first_registers, first_frame, values_from, frame_count, with_result, IsAwaited}
 use Rattle.asl_machine.specs.Run.{global_object, first_thread, first_threads, start_of}
 use Rattle.asl_machine.proofs.Lists.{get_same, get_other, get_either, set_same, one_more, replicated}
-use Rattle.asl_machine.proofs.Heaps.{sound_written, points_kept, sound_made, points_before, made_points, moved_points}
+use Rattle.asl_machine.proofs.Heaps.{sound_written, points_kept, sound_made, points_before, made_points, moved_points, global_points}
 use Rattle.asl_machine.proofs.Grants.{grant_when_free}
 use Rattle.asl_machine.proofs.RequestLaws.{request_is_rooted, request_asks_modes, request_is_of_classes}
 
@@ -503,7 +503,7 @@ follows_instr image s t a h (instr.Equals to left right) at fits =
     let same = same_value (register_of a.top left) (register_of a.top right) in
     follows_set image s t a h (next_place image s.objects a h.placed _ h.sound.fits at refl) to (Ok (truth same)) (truth_points s.objects same)
 follows_instr image s t a h (instr.GlobalAddress to global) at fits =
-    follows_set image s t a h (next_place image s.objects a h.placed _ h.sound.fits at refl) to (Ok (Addr global 0)) (h.sound.objects.globals global fits.1)
+    follows_set image s t a h (next_place image s.objects a h.placed _ h.sound.fits at refl) to (Ok (Addr global 0)) (global_points image s.objects global h.sound.objects fits.1)
 follows_instr image s t a h (instr.FieldAddress to from places) at fits =
     follows_set image s t a h (next_place image s.objects a h.placed _ h.sound.fits at refl) to (address_moved s.objects places (register_of a.top from))
     (moved_points s.objects places (register_of a.top from))
@@ -681,10 +681,15 @@ start_placed image objects n u a fits e =
           subst (IsPlaced image objects) (same_Some _ _ is) (first_placed image objects first.0 fits)
     ] refl e
 
-global_there : (classes : List ℕ) (g : ℕ) → g < length classes → IsSome (cell_at (map global_object classes) (cell_of g 0))
-global_there [] g lt = absurd (omega arith)
-global_there (c ∷ cs) zero lt = refl
-global_there (c ∷ cs) (suc g) lt = global_there cs g (omega arith)
+global_classed : (classes : List ℕ) (n class : ℕ) → slice_get classes n ≡ Some class → class_of (map global_object classes) n ≡ Some class
+global_classed [] n class e = cc
+global_classed (c ∷ cs) zero class e = e
+global_classed (c ∷ cs) (suc n) class e = global_classed cs n class e
+
+global_sized : (classes : List ℕ) (n class : ℕ) → slice_get classes n ≡ Some class → size_of (map global_object classes) n ≡ Some 1
+global_sized [] n class e = cc
+global_sized (c ∷ cs) zero class e = refl
+global_sized (c ∷ cs) (suc n) class e = global_sized cs n class e
 
 global_class : (classes : List ℕ) (n class : ℕ) → class_of (map global_object classes) n ≡ Some class → slice_get classes n ≡ Some class
 global_class [] n class e = e
@@ -711,7 +716,7 @@ start_sound image n fits =
       objects = record {
         classes = λ k class e. fits.global_fits k class (global_class image.globals k class e);
         points = λ c v e. global_value objects image.globals c.object c.offset v e;
-        globals = λ g lt. global_there image.globals g lt;
+        globals = λ g class e. (global_classed image.globals g class e, global_sized image.globals g class e);
         sizes = λ n size e. global_size image.globals n size e;
         few = let l = length-map image.globals global_object in let k = fits.few_globals in omega arith;
       };

@@ -47,13 +47,19 @@ pub record IsPlaced (image : Image) (objects : List Object) (activity : Activity
   pub below : AreSuspended image objects activity.top.function activity.top.result activity.below
   pub few : length activity.below < 256
 
--- the objects are those that addresses and classes speak of
+-- the objects are of classes that are there, at most 65,536 and each of at least one cell; every address in a cell is
+-- that of a cell that is there; the globals come first, of one cell each and of their classes
 pub record AreSound (image : Image) (objects : List Object) : Type 0 where
   pub classes : AreOfClasses image.classes objects
   pub points : (cell : Cell) (value : Value) → cell_at objects cell ≡ Some value → Points objects value
   pub sizes : (number size : ℕ) → size_of objects number ≡ Some size → 0 < size
   pub few : length objects ≤ 65536
-  pub globals : (global : ℕ) → global < length image.globals → IsSome (cell_at objects (cell_of global 0))
+  pub globals : (global class : ℕ) → slice_get image.globals global ≡ Some class → (class_of objects global ≡ Some class) × (size_of objects global ≡ Some 1)
+
+-- the objects are as they must be, and so is each running thread
+pub record IsWellFormed (image : Image) (s : State) : Type 0 where
+  pub objects : AreSound image s.objects
+  pub placed : (t : ℕ) (activity : Activity) → activity_at s.threads t ≡ Some activity → IsPlaced image s.objects activity
 
 -- what holds of every state that a verified program reaches
 pub record IsSound (image : Image) (s : State) : Type 0 where

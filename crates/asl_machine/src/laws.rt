@@ -9,6 +9,7 @@ ghost use Rattle.asl_machine.specs.declared.reply.Reply.{Reply};
 ghost use Rattle.asl_machine.specs.State.{Object, State, depth_at};
 ghost use Rattle.asl_machine.specs.Request.{IsLeast, all_asks, request_of};
 ghost use Rattle.asl_machine.specs.Run.{IsReached};
+ghost use Rattle.asl_machine.specs.Sound.{IsWellFormed};
 ghost use Rattle.asl_machine.specs.Step.{Step};
 ghost use Rattle.asl_machine.specs.Twin.{step_of};
 ghost use Rattle.asl_machine.specs.World.{SomeoneGoesOn};
@@ -28,6 +29,12 @@ pub fn steps_have_one_line()
     ensures one { (image : Image) (count : ℕ) (s : State) (t : ℕ) (reply : Reply) (new : State)
         → IsVerified image → IsReached image count s → Step image s t reply new
         → (reply ≡ (step_of image s t).reply) × (new ≡ (step_of image s t).state) }
+{}
+
+/// Each reached state is well formed: every address is that of a cell that is there, every frame is in its function's
+/// body with its function's registers, and each frame but the top one waits behind the `call` that made the one above.
+pub fn reached_states_are_well_formed()
+    ensures { (image : Image) (count : ℕ) (s : State) → IsVerified image → IsReached image count s → IsWellFormed image s }
 {}
 
 /// In each reached state a thread that is in no section, as one that has ended, holds nothing, and the holding is lawful.
