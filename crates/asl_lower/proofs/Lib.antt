@@ -17,3 +17,6 @@ pub mod Outside
 pub mod Lowest
 pub mod Listed
 pub mod Emitted
+pub mod Named
+pub mod Mentioned
+pub mod Ruled

@@ -10,3 +10,4 @@ pub mod Layout
 pub mod Reach
 pub mod Refused
 pub mod Kept
+pub mod Operands

@@ -2,9 +2,11 @@
 ghost use Rattle.std.specs.Prelude.{◌≡◌, ◌≢◌, ℕ, List, [], IsTrue, slice_get};
 ghost use Rattle.asl_code.specs.declared.instr.Instr.{Instr};
 ghost use Rattle.asl_syntax.specs.Tree.{Item};
+ghost use Rattle.asl_syntax.specs.Parsed.{IsParsed};
 ghost use Rattle.asl_lower.specs.Lowered.{Lowered, IsLowering};
 ghost use Rattle.asl_lower.specs.Layout.{lowering_of};
 ghost use Rattle.asl_lower.specs.Region.{open_at, InBody, CallsAt, IsBare, IsInner, is_access, IsBareAccess};
+ghost use Rattle.asl_lower.specs.Operands.{AreOperandsThere};
 ghost use Rattle.asl_lower.specs.Facts.{IsParted, IsNested, HasSections, ReturnsLast, StaysInside, IsNumbered};
 
 /// Each program has one lowering.
@@ -53,4 +55,9 @@ pub fn calls_pass_on()
 /// Where no bare function has an access outside its sections, each access in the body of a bare function is in a section.
 pub fn bare_accesses_are_in_sections()
     ensures { (l : Lowered) → ((g q : ℕ) → ¬ IsBareAccess l g q) → (f pc : ℕ) (i : Instr) → IsBare l f → InBody l f pc → slice_get l.code pc ≡ Some i → IsTrue (is_access i) → open_at l.code pc ≢ [] }
+{}
+
+/// What the instructions of a program that breaks no rule name is there.
+pub fn operands_are_there()
+    ensures { (is : List Item) (l : Lowered) → IsParsed is → IsLowering is l → AreOperandsThere l }
 {}
