@@ -18,3 +18,5 @@ pub mod Mentioned
 pub mod ReadBack
 pub mod Outcomes
 pub mod Few
+pub mod AnyOutcome
+pub mod Answered

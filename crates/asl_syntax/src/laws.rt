@@ -1,6 +1,6 @@
 //! Laws of texts and trees, as functions that do nothing: what each ensures is the law.
 
-ghost use Rattle.std.specs.Prelude.{◌≡◌, ℕ, ◌<◌, ◌≤◌, ◌⊎◌, List, [], IsTrue, length, map};
+ghost use Rattle.std.specs.Prelude.{◌≡◌, ℕ, ◌<◌, ◌≤◌, ◌⊎◌, List, [], IsTrue, Result, IfOk, IfErr, length, map};
 ghost use Rattle.asl_grammar.specs.Token.{Token, Spot};
 ghost use Rattle.asl_grammar.specs.Lex.{are_tokens, tokens_of};
 ghost use Rattle.asl_grammar.specs.Grammar.{bare};
@@ -11,7 +11,10 @@ ghost use Rattle.asl_syntax.specs.Parsed.{IsLexed, Parses};
 ghost use Rattle.asl_syntax.specs.Fault.{IsFault};
 ghost use Rattle.asl_syntax.specs.declared.fault.SyntaxFault.TheVariants.{Limit, OutOfMemory};
 ghost use Rattle.asl_syntax.specs.declared.fault.SyntaxFault.{SyntaxFault};
+ghost use Rattle.asl_syntax.specs.declared.ast.Ast.{Ast};
 ghost use Rattle.asl_syntax.specs.AstView.{tree_of};
+ghost use Rattle.asl_syntax.specs.Outcome.{HasTree, HasFault};
+ghost use Rattle.asl_syntax.specs.Reread.{IsReadBack};
 ghost use Rattle.asl_syntax.specs.Mentions.{mentions};
 ghost use Rattle.asl_syntax.specs.TokenNames.{token_names, mention_name};
 ghost use Rattle.asl_syntax.specs.Writing.{writing};
@@ -51,14 +54,17 @@ pub fn a_printed_tree_is_read_back()
     ensures long { (t : List Item) (text : List ℕ) → Parses text t → 1048576 < length (printed t) → IsFault (printed t) (Limit 1048576) }
 {}
 
-/// So is each `Ast`.
+/// So is each `Ast`: what answers as `parse` does for the text that `print` writes answers the same tree, or that the
+/// text is too long, or that memory ran out.
 pub fn a_printed_ast_is_read_back(ast: &Ast)
     ensures kept { length (printed (tree_of ast.now)) ≤ 1048576 → Parses (printed (tree_of ast.now)) (tree_of ast.now) }
     ensures long { 1048576 < length (printed (tree_of ast.now)) → IsFault (printed (tree_of ast.now)) (Limit 1048576) }
+    ensures answer { (r : Result Ast SyntaxFault) → IfOk r (λ a. Parses (printed (tree_of ast.now)) (tree_of a)) → IfErr r (IsFault (printed (tree_of ast.now))) → IsReadBack (tree_of ast.now) (printed (tree_of ast.now)) r }
 {}
 
-/// A text has one outcome at most: a tree, or one fault. Want of memory says nothing of a text.
+/// A text has one outcome: a tree, or one fault. Want of memory says nothing of a text.
 pub fn a_text_has_one_outcome()
+    ensures some { (text : List ℕ) → HasTree text ⊎ HasFault text }
     ensures tree { (text : List ℕ) (t : List Item) (e : SyntaxFault) → Parses text t → IsFault text e → e ≡ OutOfMemory }
     ensures fault { (text : List ℕ) (e f : SyntaxFault) → IsFault text e → IsFault text f → (e ≡ f) ⊎ ((e ≡ OutOfMemory) ⊎ (f ≡ OutOfMemory)) }
 {}
