@@ -1,6 +1,6 @@
 //! Laws of texts and trees, as functions that do nothing: what each ensures is the law.
 
-ghost use Rattle.std.specs.Prelude.{◌≡◌, ℕ, ◌<◌, ◌≤◌, ◌⊎◌, List, [], IsTrue, Result, IfOk, IfErr, length, map};
+ghost use Rattle.std.specs.Prelude.{◌≡◌, ℕ, ◌<◌, ◌≤◌, ◌⊎◌, List, [], ◌∷◌, ◌++◌, drop, IsTrue, Result, IfOk, IfErr, length, map};
 ghost use Rattle.asl_grammar.specs.Token.{Token, Spot};
 ghost use Rattle.asl_grammar.specs.Lex.{are_tokens, tokens_of};
 ghost use Rattle.asl_grammar.specs.Grammar.{bare};
@@ -34,9 +34,11 @@ pub fn a_printed_tree_is_spelled()
     ensures bytes { (t : List Item) → items_bytes t ≡ spaced (program_on (writing t) []) }
 {}
 
-/// The text that a tree with real names is printed as is ASCII and all blanks and tokens, and its tokens are the tree's
-/// own spelling. A tree that some text spells has real names.
+/// Tokens with one space between and a newline behind are read back. So the text that a tree with real names is printed
+/// as is ASCII and all blanks and tokens, and its tokens are the tree's own spelling; a tree that some text spells has
+/// real names.
 pub fn a_printed_tree_is_lexed()
+    ensures spaced { (ts : List Token) → IsTrue (are_tokens ts) → bare (tokens_of (drop 1 (spaced ts) ++ 10 ∷ [])) ≡ ts }
     ensures lexed { (t : List Item) → IsTrue (are_tokens (program_on (writing t) [])) → IsLexed (printed t) }
     ensures tokens { (t : List Item) → IsTrue (are_tokens (program_on (writing t) [])) → bare (tokens_of (printed t)) ≡ program_on (writing t) [] }
     ensures names { (t : List Item) (text : List ℕ) → Spells t (bare (tokens_of text)) → IsTrue (are_tokens (program_on (writing t) [])) }
