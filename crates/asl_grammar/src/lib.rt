@@ -5,4 +5,6 @@ pub mod control;
 pub mod laws;
 pub mod lexer;
 pub mod recognizer;
+#[cfg(test)]
+mod tests;
 pub mod token;
