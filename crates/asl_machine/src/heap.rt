@@ -32,9 +32,7 @@ impl Object {
     fn of_global(alloc: Global, class: u16) -> Result<Object, AllocError>
         ensures { IfOk result (λ object. object ≡ global_object class) }
     {
-        let mut cells = Vec::new(alloc);
-        cells.push(Value::Int(0))?;
-        Ok(Object { class, cells })
+        Object::fresh(alloc, 1, class)
     }
 
     /// A new object of the class, with so many cells.

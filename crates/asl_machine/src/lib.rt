@@ -24,3 +24,5 @@ pub use reply::{Reply, Status};
 
 #[cfg(test)]
 mod tests;
+#[cfg(test)]
+mod tests_table;
