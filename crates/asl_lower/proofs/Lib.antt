@@ -20,3 +20,5 @@ pub mod Emitted
 pub mod Named
 pub mod Mentioned
 pub mod Ruled
+pub mod Passed
+pub mod Limited

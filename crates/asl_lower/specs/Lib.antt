@@ -11,3 +11,4 @@ pub mod Reach
 pub mod Refused
 pub mod Kept
 pub mod Operands
+pub mod Limits

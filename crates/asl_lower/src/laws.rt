@@ -6,6 +6,7 @@ ghost use Rattle.asl_syntax.specs.Parsed.{IsParsed};
 ghost use Rattle.asl_lower.specs.Lowered.{Lowered, IsLowering};
 ghost use Rattle.asl_lower.specs.Layout.{lowering_of};
 ghost use Rattle.asl_lower.specs.Region.{open_at, InBody, CallsAt, IsBare, IsInner, is_access, IsBareAccess};
+ghost use Rattle.asl_lower.specs.Limits.{HasMain, KeepsLimits};
 ghost use Rattle.asl_lower.specs.Operands.{AreOperandsThere};
 ghost use Rattle.asl_lower.specs.Facts.{IsParted, IsNested, HasSections, ReturnsLast, StaysInside, IsNumbered};
 
@@ -60,4 +61,10 @@ pub fn bare_accesses_are_in_sections()
 /// What the instructions of a program that breaks no rule name is there.
 pub fn operands_are_there()
     ensures { (is : List Item) (l : Lowered) → IsParsed is → IsLowering is l → AreOperandsThere l }
+{}
+
+/// A program that breaks no rule has few globals, functions, sections and parameters, and the table has its `main`.
+pub fn limits_are_kept()
+    ensures limits { (is : List Item) (l : Lowered) → IsParsed is → IsLowering is l → KeepsLimits l }
+    ensures main { (is : List Item) (l : Lowered) → IsParsed is → IsLowering is l → HasMain l }
 {}

@@ -19,7 +19,7 @@ mod statements;
 pub use fault::LowerFault;
 pub use laws::{
     bare_accesses_are_in_sections, bodies_part_the_code, calls_pass_on, control_stays_inside,
-    numbers_follow_the_code, one_lowering, operands_are_there, returns_stand_last,
+    limits_are_kept, numbers_follow_the_code, one_lowering, operands_are_there, returns_stand_last,
     sections_are_listed, sections_nest,
 };
 pub use lowering::Lowering;
