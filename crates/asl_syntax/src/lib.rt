@@ -20,4 +20,8 @@ pub use parser::parse;
 pub use printer::print;
 
 #[cfg(test)]
+mod fault_tests;
+#[cfg(test)]
+mod memory_tests;
+#[cfg(test)]
 mod tests;

@@ -274,8 +274,8 @@ static PRINTED: [Case; 7] = [
         expected: "global gi0 ; global gn0 ; fn main ( t ) { d = 0 ; one = 1 ; i0 = 1 ; i1 = 1 ; i2 = 0 ; i3 = 1 ; n0 = new 2 ; n1 = null ; n2 = new 2 ; n3 = new 2 ; q0 = & gi0 ; q1 = & gi0 ; q2 = & gi0 ; q3 = & gi0 ; p0 = & gn0 ; p1 = & gn0 ; p2 = & gn0 ; p3 = & gn0 ; i0 = t ; while one { p1 = & gn0 ; p0 = & gn0 ; atomic { out i2 ; atomic { * q2 = i0 ; p1 = p1 ; } } } return i1 ; }\n",
     },
     Case {
-        source: "global gi0;\nglobal gi1;\nglobal gn0;\nglobal gn1;\nglobal gn2;\nfn main(t) {\n  d = 3;\n  one = 1;\n  i0 = 1;\n  i1 = 0;\n  n0 = null;\n  n1 = new 4;\n  q0 = &gi0;\n  q1 = &gi0;\n  p0 = &gn1;\n  p1 = &gn2;\n  i0 = t;\n  while one {\n    i0 = i1 < i0;\n    p1 = &gn1;\n    n1 = null;\n    n0 = n1;\n    atomic {\n      *p1 = n1;\n      i0 = - 3;\n      i0 = *q1;\n      if n1 { p1 = &n1[2]; }\n    }\n  }\n  return i1;\n}\n",
-        expected: "global gi0 ; global gi1 ; global gn0 ; global gn1 ; global gn2 ; fn main ( t ) { d = 3 ; one = 1 ; i0 = 1 ; i1 = 0 ; n0 = null ; n1 = new 4 ; q0 = & gi0 ; q1 = & gi0 ; p0 = & gn1 ; p1 = & gn2 ; i0 = t ; while one { i0 = i1 < i0 ; p1 = & gn1 ; n1 = null ; n0 = n1 ; atomic { * p1 = n1 ; i0 = - 3 ; i0 = * q1 ; if n1 { p1 = & n1 [ 2 ] ; } } } return i1 ; }\n",
+        source: "global gi0;\nglobal gn0;\nglobal gn1;\nglobal gn2;\nfn main(t) {\n  d = 1;\n  one = 1;\n  i0 = 2;\n  i1 = 2;\n  n0 = null;\n  n1 = new 3;\n  q0 = &gi0;\n  q1 = &gi0;\n  p0 = &gn1;\n  p1 = &gn0;\n  i0 = t;\n  while one {\n    if n0 { p0 = &n0[2]; }\n    atomic {\n      if d { e = d - one; n0 = f0(e); }\n      out i0;\n    }\n    if n1 { p1 = &n1[1]; }\n    atomic {\n      n1 = new 3;\n    }\n  }\n  return i1;\n}\nfn f0(d) {\n  one = 1;\n  i0 = 2;\n  i1 = 1;\n  n0 = new 3;\n  n1 = new 3;\n  q0 = &gi0;\n  q1 = &gi0;\n  p0 = &gn0;\n  p1 = &gn1;\n  i1 = 007;\n  atomic {\n    *p0 = n1;\n  }\n  if i0 {\n    if d { e = d - one; n0 = f0(e); }\n    i0 = i0 - i0;\n  } else {\n    i0 = - 3;\n    i1 = 007;\n    i0 = - 3;\n  }\n  i1 = -2147483648;\n  atomic {\n    if n0 { p1 = &n0[2]; n1 = *p1; }\n    if n1 { p0 = &n1[1]; n0 = *p0; }\n    if n1 { p0 = &n1[2]; n0 = *p0; }\n    p0 = p0;\n  }\n  return n0;\n}\n",
+        expected: "global gi0 ; global gn0 ; global gn1 ; global gn2 ; fn main ( t ) { d = 1 ; one = 1 ; i0 = 2 ; i1 = 2 ; n0 = null ; n1 = new 3 ; q0 = & gi0 ; q1 = & gi0 ; p0 = & gn1 ; p1 = & gn0 ; i0 = t ; while one { if n0 { p0 = & n0 [ 2 ] ; } atomic { if d { e = d - one ; n0 = f0 ( e ) ; } out i0 ; } if n1 { p1 = & n1 [ 1 ] ; } atomic { n1 = new 3 ; } } return i1 ; } fn f0 ( d ) { one = 1 ; i0 = 2 ; i1 = 1 ; n0 = new 3 ; n1 = new 3 ; q0 = & gi0 ; q1 = & gi0 ; p0 = & gn0 ; p1 = & gn1 ; i1 = 7 ; atomic { * p0 = n1 ; } if i0 { if d { e = d - one ; n0 = f0 ( e ) ; } i0 = i0 - i0 ; } else { i0 = - 3 ; i1 = 7 ; i0 = - 3 ; } i1 = - 2147483648 ; atomic { if n0 { p1 = & n0 [ 2 ] ; n1 = * p1 ; } if n1 { p0 = & n1 [ 1 ] ; n0 = * p0 ; } if n1 { p0 = & n1 [ 2 ] ; n0 = * p0 ; } p0 = p0 ; } return n0 ; }\n",
     },
 ];
 
@@ -340,7 +340,7 @@ fn long_text(alloc: Global, long: &Long) -> Result<Vec<u8>, AllocError> {
     Ok(text)
 }
 
-static LONG: [Long; 8] = [
+static LONG: [Long; 4] = [
     Long {
         before: "fn main(t){",
         part: "if t{",
@@ -360,46 +360,6 @@ static LONG: [Long; 8] = [
         end_count: 64,
         after: "return t;}",
         expected: "Limit(330)",
-    },
-    Long {
-        before: "",
-        part: "fn f(){return x;}",
-        count: 256,
-        between: "",
-        end_part: "",
-        end_count: 0,
-        after: "",
-        expected: "Twice(f)",
-    },
-    Long {
-        before: "",
-        part: "fn f(){return x;}",
-        count: 257,
-        between: "",
-        end_part: "",
-        end_count: 0,
-        after: "",
-        expected: "Limit(4352)",
-    },
-    Long {
-        before: "",
-        part: "global g;",
-        count: 1024,
-        between: "",
-        end_part: "",
-        end_count: 0,
-        after: "fn main(t){return t;}",
-        expected: "Twice(g)",
-    },
-    Long {
-        before: "",
-        part: "global g;",
-        count: 1025,
-        between: "",
-        end_part: "",
-        end_count: 0,
-        after: "fn main(t){return t;}",
-        expected: "Limit(9216)",
     },
     Long {
         before: "fn main(t){",
