@@ -1,9 +1,8 @@
 use asl_code::{Cell, Effect};
 use std::alloc::AllocError;
 use std::convert::From;
-use std::fmt;
 
-/// Why a thread failed. `Display` writes the fault's name, and of an access the cell and the effect.
+/// Why a thread failed.
 #[derive(Clone, Copy, Debug, PartialEq, Eq)]
 pub enum Fault {
     /// An operand is of another kind than the instruction takes.
@@ -24,30 +23,6 @@ pub enum Fault {
     Deep,
     /// The thread left a section where it was in none.
     NoSection,
-}
-
-impl fmt::Display for Fault {
-    fn fmt<W: fmt::Write>(&self, f: &mut fmt::Formatter<W>) -> fmt::Result {
-        match self {
-            Fault::BadType => f.write_str("Type"),
-            Fault::Null => f.write_str("Null"),
-            Fault::Bounds => f.write_str("Bounds"),
-            Fault::Unprotected(cell, effect) => {
-                let object = cell.object;
-                let offset = cell.offset;
-                let word = match effect {
-                    Effect::Read => "read",
-                    Effect::Write => "write",
-                };
-                write!(f, "Unprotected {object}.{offset} {word}")
-            }
-            Fault::Full => f.write_str("Full"),
-            Fault::Stack => f.write_str("Stack"),
-            Fault::Open => f.write_str("Open"),
-            Fault::Deep => f.write_str("Deep"),
-            Fault::NoSection => f.write_str("NoSection"),
-        }
-    }
 }
 
 /// Why a machine refused a call. Where several apply, the first is answered.

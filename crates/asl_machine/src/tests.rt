@@ -345,47 +345,11 @@ fn want_of_memory_changes_nothing(rt: HostRuntime) -> Result<(), Fail> {
     Ok(())
 }
 
-/// A fault and its name.
-fn named(number: u8) -> Option<(Fault, &'static str)> {
-    let cell = Cell {
-        object: 3,
-        offset: 12,
-    };
-    match number {
-        0 => Some((Fault::BadType, "Type")),
-        1 => Some((Fault::Null, "Null")),
-        2 => Some((Fault::Bounds, "Bounds")),
-        3 => Some((
-            Fault::Unprotected(CELL, Effect::Read),
-            "Unprotected 0.0 read",
-        )),
-        4 => Some((
-            Fault::Unprotected(cell, Effect::Write),
-            "Unprotected 3.12 write",
-        )),
-        5 => Some((Fault::Full, "Full")),
-        6 => Some((Fault::Stack, "Stack")),
-        7 => Some((Fault::Open, "Open")),
-        8 => Some((Fault::Deep, "Deep")),
-        9 => Some((Fault::NoSection, "NoSection")),
-        _ => None,
-    }
-}
-
-#[test]
-fn faults_are_printed_by_their_names(rt: HostRuntime) -> Result<(), Fail> {
-    for number in 0..10 {
-        let (fault, name) = named(number).ok_or("no such fault")?;
-        let shown = fault.to_string(rt.alloc())?;
-        assert_eq!(rt; shown.as_str(), name);
-    }
-    Ok(())
-}
-
 #[test]
 fn laws_are_there() {
     crate::requests_are_least();
     crate::steps_have_one_line();
+    crate::reached_states_are_well_formed();
     crate::reached_holdings_are_lawful();
     crate::no_world_is_blocked();
 }
