@@ -28,7 +28,7 @@ use Rattle.asl_lower.specs.Limits.{HasMain, FitsTable, KeepsLimits}
 use Rattle.asl_lower.proofs.Grows.{by_block}
 use Rattle.asl_lower.proofs.Numbering.{block_locals_grow}
 use Rattle.asl_lower.proofs.Laid.{lowering_is_computed}
-use Rattle.asl_lower.proofs.Passed.{HaveFewParameters, few_parameters}
+use Rattle.asl_lower.proofs.Passed.{AreWithin, functions_within}
 use Rattle.asl_lower.proofs.Mentioned.{or_cases, or_first, or_second}
 
 -- what tokens weigh together, and what limits count of a section
@@ -135,11 +135,11 @@ few_sections is p =
     omega (arith, few_atomic (tokens_of p.text) [] k (omega arith), items_count s.spelled.written origin, ap (weigh is_atomic) s.spelled.spelled, ap (λ (t : List Item). (past_functions (functions_of t) origin).section) s.spelled.meaning)
 
 -- the table of functions within the limits
-fits_table : (fs : List Function) (p : Place) → HaveFewParameters fs → All FitsTable (functions_table fs p)
+fits_table : (fs : List Function) (p : Place) → AreWithin fs → All FitsTable (functions_table fs p)
 fits_table [] p h = All-nil FitsTable
 fits_table (f ∷ fs) p h =
     All-cons FitsTable (entry_of f p) (functions_table fs (past_function f p))
-    (record { some_code = omega (arith, (by_block f.body p).pc); parameters = omega (arith, block_locals_grow f.parameters f.body); few_parameters = h.0 })
+    (record { some_code = omega (arith, (by_block f.body p).pc); parameters = omega (arith, block_locals_grow f.parameters f.body); few_parameters = h.0.few_parameters })
     (fits_table fs (past_function f p) h.1)
 
 pub lowering_limits : (is : List Item) (l : Lowered) → IsParsed is → IsLowering is l → KeepsLimits l
@@ -150,7 +150,7 @@ lowering_limits is l p h =
       few_sections = omega (arith, h.sections, few_sections is p);
       functions =
           let P : List entry.Function → Type 0 = All FitsTable in
-          subst P (sym (ap (λ (m : Lowered). m.functions) (lowering_is_computed is l h))) (fits_table (functions_of is) origin (few_parameters is p));
+          subst P (sym (ap (λ (m : Lowered). m.functions) (lowering_is_computed is l h))) (fits_table (functions_of is) origin (functions_within is p));
     }
 
 -- a function's name is not declared again

@@ -36,14 +36,33 @@ pub each_second : (P : Mention → Type 0) (ms ns : List Mention) → Each P (ms
 each_second P [] ns h = h
 each_second P (m ∷ ms) ns h = each_second P ms ns h.1
 
+-- each `new` of a statement makes a cell
+abbrev pub ValueCells : Value → Type 0
+ValueCells (NewValue n) = 0 < n
+ValueCells v = Unit {0}
+
+abbrev mutual
+  pub StmtCells : Statement → Type 0
+  StmtCells (AssignStatement x v) = ValueCells v
+  StmtCells (StoreStatement x y) = Unit {0}
+  StmtCells (OutStatement x) = Unit {0}
+  StmtCells (IfStatement x a b) = BlockCells a × BlockCells b
+  StmtCells (WhileStatement x a) = BlockCells a
+  StmtCells (AtomicStatement a) = BlockCells a
+
+  pub BlockCells : Block → Type 0
+  BlockCells NoMore = Unit {0}
+  BlockCells (Then s b) = StmtCells s × BlockCells b
+
 -- the operands of an instruction but for its site and its section
 abbrev pub Named : Lowered → ℕ → Instr → Type 0
-Named l r (instr.New to cells site) = to < r
+Named l r (instr.New to cells site) = (to < r) × (0 < cells)
 Named l r (instr.Acquire section) = Unit {0}
 Named l r i = HasOperands l r i
 
 pub named_operands : (l : Lowered) (r pc : ℕ) (i : Instr) → IsNumbered l → HasSections l → slice_get l.code pc ≡ Some i → Named l r i → HasOperands l r i
-named_operands l r pc (instr.New to cells site) n s e h = (h, n.known_sites pc to cells site e)
+named_operands l r pc (instr.New to cells site) n s e h =
+    (h.0, h.1, n.known_sites pc to cells site e)
 named_operands l r pc (instr.Acquire section) n s e h =
     let w = s.entered pc section e in slice_get_within l.sections section w.0 w.1
 named_operands l r pc i n s e h = h
@@ -78,22 +97,22 @@ call_fits : (sc : Scope) (r n : ℕ) (args : List (List ℕ)) → length sc.loca
 call_fits sc r n [] h e = omega arith
 call_fits sc r n (x ∷ rest) h e = omega arith
 
-value_named : (sc : Scope) (l : Lowered) (r to : ℕ) (v : Value) (p : Place) → IsLoweredValue sc l to v p → to < r → length sc.locals + value_arguments v ≤ r → Each (Known sc l) (value_mentions v) → (pc : ℕ) → p.pc ≤ pc → pc < (past_value v p).pc → NamedAt l r pc
-value_named sc l r to (IntegerValue z) p h t a k pc low high = one_named l r p pc low high _ h t
-value_named sc l r to NullValue p h t a k pc low high = one_named l r p pc low high _ h t
-value_named sc l r to (LocalValue y) p h t a k pc low high =
+value_named : (sc : Scope) (l : Lowered) (r to : ℕ) (v : Value) (p : Place) → IsLoweredValue sc l to v p → to < r → length sc.locals + value_arguments v ≤ r → Each (Known sc l) (value_mentions v) → ValueCells v → (pc : ℕ) → p.pc ≤ pc → pc < (past_value v p).pc → NamedAt l r pc
+value_named sc l r to (IntegerValue z) p h t a k c pc low high = one_named l r p pc low high _ h t
+value_named sc l r to NullValue p h t a k c pc low high = one_named l r p pc low high _ h t
+value_named sc l r to (LocalValue y) p h t a k c pc low high =
     (let first = k.0 in one_named l r p pc low high _ h (t, omega (arith, first)))
-value_named sc l r to (BinaryValue y o z) p h t a k pc low high =
+value_named sc l r to (BinaryValue y o z) p h t a k c pc low high =
     (let first = k.0 in
     let second = k.1.0 in
     one_named l r p pc low high _ h (operator_named l r o to (register sc y) (register sc z) t (omega (arith, first)) (omega (arith, second))))
-value_named sc l r to (GlobalValue g) p h t a k pc low high = one_named l r p pc low high _ h (t, k.0)
-value_named sc l r to (FieldValue y n) p h t a k pc low high =
+value_named sc l r to (GlobalValue g) p h t a k c pc low high = one_named l r p pc low high _ h (t, k.0)
+value_named sc l r to (FieldValue y n) p h t a k c pc low high =
     (let first = k.0 in one_named l r p pc low high _ h (t, omega (arith, first)))
-value_named sc l r to (LoadValue y) p h t a k pc low high =
+value_named sc l r to (LoadValue y) p h t a k c pc low high =
     (let first = k.0 in one_named l r p pc low high _ h (t, omega (arith, first)))
-value_named sc l r to (NewValue n) p h t a k pc low high = one_named l r p pc low high _ h t
-value_named sc l r to (CallValue f args) p h t a k pc low high =
+value_named sc l r to (NewValue n) p h t a k c pc low high = one_named l r p pc low high _ h (t, c)
+value_named sc l r to (CallValue f args) p h t a k c pc low high =
     elim (cases_lt pc (past_moves args p).pc) [
       | inl more ↦ moves_named sc l r args p (length sc.locals) h.0 (omega arith) (omega arith) k.1 pc low more
       | inr less ↦ (let callee = k.0 in
@@ -101,62 +120,62 @@ value_named sc l r to (CallValue f args) p h t a k pc low high =
     ]
 
 mutual
-  pub stmt_named : (sc : Scope) (l : Lowered) (r : ℕ) (s : Statement) (p : Place) → IsLoweredStmt sc l s p → length sc.locals + stmt_arguments s ≤ r → Each (Known sc l) (statement_mentions s) → (pc : ℕ) → p.pc ≤ pc → pc < (past_stmt s p).pc → NamedAt l r pc
-  stmt_named sc l r (AssignStatement x v) p h a k pc low high =
-      (let first = k.0 in value_named sc l r (register sc x) v p h (omega (arith, first)) a k.1 pc low high)
-  stmt_named sc l r (StoreStatement x y) p h a k pc low high =
+  pub stmt_named : (sc : Scope) (l : Lowered) (r : ℕ) (s : Statement) (p : Place) → IsLoweredStmt sc l s p → length sc.locals + stmt_arguments s ≤ r → Each (Known sc l) (statement_mentions s) → StmtCells s → (pc : ℕ) → p.pc ≤ pc → pc < (past_stmt s p).pc → NamedAt l r pc
+  stmt_named sc l r (AssignStatement x v) p h a k c pc low high =
+      (let first = k.0 in value_named sc l r (register sc x) v p h (omega (arith, first)) a k.1 c pc low high)
+  stmt_named sc l r (StoreStatement x y) p h a k c pc low high =
       (let first = k.0 in
       let second = k.1.0 in
       one_named l r p pc low high _ h (omega (arith, first), omega (arith, second)))
-  stmt_named sc l r (OutStatement x) p h a k pc low high =
+  stmt_named sc l r (OutStatement x) p h a k c pc low high =
       (let first = k.0 in one_named l r p pc low high _ h (omega (arith, first)))
-  stmt_named sc l r (IfStatement x b e) p h a k pc low high =
+  stmt_named sc l r (IfStatement x b e) p h a k c pc low high =
       let first = k.0 in
       let mid : Place = past_block b (next p) in
       elim (cases_lt p.pc pc) [
         | inr less ↦ one_named l r p pc low (omega arith) _ h.0 (omega (arith, first))
         | inl more ↦ elim (cases_lt pc mid.pc) [
-          | inl inside ↦ block_named sc l r b (next p) h.1 (omega arith) (each_first (Known sc l) (block_mentions b) (block_mentions e) k.1) pc more inside
-          | inr past ↦ else_named sc l r e mid h.2 (omega arith) (each_second (Known sc l) (block_mentions b) (block_mentions e) k.1) pc past high
+          | inl inside ↦ block_named sc l r b (next p) h.1 (omega arith) (each_first (Known sc l) (block_mentions b) (block_mentions e) k.1) c.0 pc more inside
+          | inr past ↦ else_named sc l r e mid h.2 (omega arith) (each_second (Known sc l) (block_mentions b) (block_mentions e) k.1) c.1 pc past high
         ]
       ]
-  stmt_named sc l r (WhileStatement x b) p h a k pc low high =
+  stmt_named sc l r (WhileStatement x b) p h a k c pc low high =
       let first = k.0 in
       let mid : Place = past_block b (next p) in
       elim (cases_lt p.pc pc) [
         | inr less ↦ one_named l r p pc low (omega arith) _ h.0 (omega (arith, first))
         | inl more ↦ elim (cases_lt pc mid.pc) [
-          | inl inside ↦ block_named sc l r b (next p) h.1 a k.1 pc more inside
+          | inl inside ↦ block_named sc l r b (next p) h.1 a k.1 c pc more inside
           | inr past ↦ one_named l r mid pc past high _ h.2 tt
         ]
       ]
-  stmt_named sc l r (AtomicStatement b) p h a k pc low high =
+  stmt_named sc l r (AtomicStatement b) p h a k c pc low high =
       let mid : Place = past_block b (entered p) in
       elim (cases_lt p.pc pc) [
         | inr less ↦ one_named l r p pc low (omega arith) _ h.0 tt
         | inl more ↦ elim (cases_lt pc mid.pc) [
-          | inl inside ↦ block_named sc l r b (entered p) h.1 a k pc more inside
+          | inl inside ↦ block_named sc l r b (entered p) h.1 a k c pc more inside
           | inr past ↦ one_named l r mid pc past high _ h.2 tt
         ]
       ]
 
-  pub block_named : (sc : Scope) (l : Lowered) (r : ℕ) (b : Block) (p : Place) → IsLoweredBlock sc l b p → length sc.locals + block_arguments b ≤ r → Each (Known sc l) (block_mentions b) → (pc : ℕ) → p.pc ≤ pc → pc < (past_block b p).pc → NamedAt l r pc
-  block_named sc l r NoMore p h a k pc low high = absurd (omega arith)
-  block_named sc l r (Then s b) p h a k pc low high =
+  pub block_named : (sc : Scope) (l : Lowered) (r : ℕ) (b : Block) (p : Place) → IsLoweredBlock sc l b p → length sc.locals + block_arguments b ≤ r → Each (Known sc l) (block_mentions b) → BlockCells b → (pc : ℕ) → p.pc ≤ pc → pc < (past_block b p).pc → NamedAt l r pc
+  block_named sc l r NoMore p h a k c pc low high = absurd (omega arith)
+  block_named sc l r (Then s b) p h a k c pc low high =
       let mid : Place = past_stmt s p in
       elim (cases_lt pc mid.pc) [
-        | inl inside ↦ stmt_named sc l r s p h.0 (omega arith) (each_first (Known sc l) (statement_mentions s) (block_mentions b) k) pc low inside
-        | inr past ↦ block_named sc l r b mid h.1 (omega arith) (each_second (Known sc l) (statement_mentions s) (block_mentions b) k) pc past high
+        | inl inside ↦ stmt_named sc l r s p h.0 (omega arith) (each_first (Known sc l) (statement_mentions s) (block_mentions b) k) c.0 pc low inside
+        | inr past ↦ block_named sc l r b mid h.1 (omega arith) (each_second (Known sc l) (statement_mentions s) (block_mentions b) k) c.1 pc past high
       ]
 
-  else_named : (sc : Scope) (l : Lowered) (r : ℕ) (e : Block) (p : Place) → IsLoweredElse sc l e p → length sc.locals + block_arguments e ≤ r → Each (Known sc l) (block_mentions e) → (pc : ℕ) → p.pc ≤ pc → pc < (past_else e p).pc → NamedAt l r pc
-  else_named sc l r NoMore p h a k pc low high = absurd (omega arith)
-  else_named sc l r (Then s b) p h a k pc low high =
+  else_named : (sc : Scope) (l : Lowered) (r : ℕ) (e : Block) (p : Place) → IsLoweredElse sc l e p → length sc.locals + block_arguments e ≤ r → Each (Known sc l) (block_mentions e) → BlockCells e → (pc : ℕ) → p.pc ≤ pc → pc < (past_else e p).pc → NamedAt l r pc
+  else_named sc l r NoMore p h a k c pc low high = absurd (omega arith)
+  else_named sc l r (Then s b) p h a k c pc low high =
       let mid : Place = past_stmt s (next p) in
       elim (cases_lt p.pc pc) [
         | inr less ↦ one_named l r p pc low (omega arith) _ h.0 tt
         | inl more ↦ elim (cases_lt pc mid.pc) [
-          | inl inside ↦ stmt_named sc l r s (next p) h.1 (omega arith) (each_first (Known sc l) (statement_mentions s) (block_mentions b) k) pc more inside
-          | inr past ↦ block_named sc l r b mid h.2 (omega arith) (each_second (Known sc l) (statement_mentions s) (block_mentions b) k) pc past high
+          | inl inside ↦ stmt_named sc l r s (next p) h.1 (omega arith) (each_first (Known sc l) (statement_mentions s) (block_mentions b) k) c.0 pc more inside
+          | inr past ↦ block_named sc l r b mid h.2 (omega arith) (each_second (Known sc l) (statement_mentions s) (block_mentions b) k) c.1 pc past high
         ]
       ]

@@ -1,6 +1,6 @@
--- The functions of a program within the limits have few parameters.
-use Rattle.std.proofs.Common.{◌≡◌, ℕ, suc, ◌+◌, ◌<◌, ◌≤◌, Bool, true, false, ◌||◌, if◌then◌else◌, Option, Some, None, nat_lt, List, [], ◌∷◌, length, map, refl, sym, ap, ◌∙◌, subst, arith}
-use Rattle.std.proofs.lemmas.Bool.{false≢true, leb-false}
+-- The functions of a program within the limits have few parameters, and each `new` makes a cell.
+use Rattle.std.proofs.Common.{◌≡◌, ℕ, suc, ◌+◌, ◌<◌, ◌≤◌, Bool, true, false, ◌||◌, ◌==◌, if◌then◌else◌, Option, Some, None, nat_lt, List, [], ◌∷◌, length, map, refl, sym, ap, ◌∙◌, subst, arith}
+use Rattle.std.proofs.lemmas.Bool.{false≢true, leb-false, eqb-false}
 use Rattle.asl_grammar.specs.declared.token.Mark.TheVariants as mark
 use Rattle.asl_grammar.specs.Token.{Token, Fixed, Name, Number, Spot}
 use Rattle.asl_grammar.specs.Written as w
@@ -9,8 +9,9 @@ use Rattle.asl_grammar.specs.Lex.{tokens_of}
 use Rattle.asl_grammar.specs.Grammar.{bare}
 use Rattle.asl_syntax.specs.Tree.{Function, Item, functions_of}
 use Rattle.asl_syntax.specs.Limit.{tally_of, is_over, is_fifth, one_more, names_in_head, limit_from, first_place, byte_over}
-use Rattle.asl_syntax.specs.Spelled.{item_meaning}
+use Rattle.asl_syntax.specs.Spelled.{right_meaning, line_meaning, stmt_meaning, block_meaning, else_meaning, item_meaning}
 use Rattle.asl_syntax.specs.Parsed.{IsParsed}
+use Rattle.asl_lower.proofs.Named.{ValueCells, StmtCells, BlockCells}
 
 -- no token goes past a limit
 abbrev NoneOver : List Token → List Token → Type 0
@@ -109,24 +110,77 @@ parameters_few [] rest before e h = omega arith
 parameters_few (x ∷ xs) rest before e h =
     let m = later_parameters xs rest (Name x ∷ before) 2 (one_name_more before x 1 e) (omega arith) h.1 in omega arith
 
--- so it is of each function
-abbrev pub HaveFewParameters : List Function → Type 0
-HaveFewParameters [] = Unit {0}
-HaveFewParameters (f ∷ fs) = (length f.parameters ≤ 4) × HaveFewParameters fs
+-- each `new` makes a cell
+no_first : (a b : Bool) → (a || b) ≡ false → a ≡ false
+no_first true b e = e
+no_first false b e = refl
 
-items_parameters : (is : List w.Item) (before : List Token) → NoneOver before (program_on is []) → HaveFewParameters (functions_of (map item_meaning is))
-items_parameters [] before h = tt
-items_parameters (w.GlobalItem x ∷ is) before h =
-    items_parameters is (Fixed mark.Semicolon ∷ Name x ∷ Fixed mark.Global ∷ before) h.1.1.1
-items_parameters (w.FunctionItem f ∷ is) before h =
+some_cells : (before : List Token) (n : ℕ) → is_over (tally_of (Fixed mark.New ∷ before)) (Number n) ≡ false → 0 < n
+some_cells before n h = (let k = eqb-false n 0 (no_first (n == 0) (nat_lt 255 n) h) in omega arith)
+
+right_cells : (r : w.Right) (rest before : List Token) → NoneOver before (right_on r rest) → ValueCells (right_meaning r)
+right_cells (w.Created n) rest before h = some_cells before n h.1.0
+right_cells (w.Literal b n) rest before h = tt
+right_cells w.NullValue rest before h = tt
+right_cells (w.Copied y) rest before h = tt
+right_cells (w.Binary y o z) rest before h = tt
+right_cells (w.GlobalAddress y) rest before h = tt
+right_cells (w.FieldAddress y n) rest before h = tt
+right_cells (w.Loaded y) rest before h = tt
+
+line_cells : (l : w.Line) (rest before : List Token) → NoneOver before (line_on l rest) → StmtCells (line_meaning l)
+line_cells (w.Assigns x r) rest before h = right_cells r rest (Fixed mark.Becomes ∷ Name x ∷ before) h.1.1
+line_cells (w.Calls x f args) rest before h = tt
+line_cells (w.Stores x y) rest before h = tt
+line_cells (w.Shows x) rest before h = tt
+
+mutual
+  stmt_cells : (s : w.Stmt) (rest before : List Token) → NoneOver before (stmt_on s rest) → StmtCells (stmt_meaning s)
+  stmt_cells (w.Simple l) rest before h = line_cells l (Fixed mark.Semicolon ∷ rest) before h
+  stmt_cells (w.IfStmt x a e) rest before h =
+      let behind : List Token = Fixed mark.CloseBrace ∷ else_on e rest in
+      let head : List Token = Fixed mark.OpenBrace ∷ Name x ∷ Fixed mark.If ∷ before in
+      let b = block_passed a behind head h.1.1.1 in
+      (block_cells a behind head h.1.1.1, else_cells e rest (Fixed mark.CloseBrace ∷ b.0) b.1.1)
+  stmt_cells (w.WhileStmt x a) rest before h =
+      block_cells a (Fixed mark.CloseBrace ∷ rest) (Fixed mark.OpenBrace ∷ Name x ∷ Fixed mark.While ∷ before) h.1.1.1
+  stmt_cells (w.AtomicStmt a) rest before h =
+      block_cells a (Fixed mark.CloseBrace ∷ rest) (Fixed mark.OpenBrace ∷ Fixed mark.Atomic ∷ before) h.1.1
+
+  block_cells : (b : w.Block) (rest before : List Token) → NoneOver before (block_on b rest) → BlockCells (block_meaning b)
+  block_cells w.End rest before h = tt
+  block_cells (w.More s b) rest before h =
+      let a = stmt_passed s (block_on b rest) before h in
+      (stmt_cells s (block_on b rest) before h, block_cells b rest a.0 a.1)
+
+  else_cells : (e : w.Else) (rest before : List Token) → NoneOver before (else_on e rest) → BlockCells (else_meaning e)
+  else_cells w.NoElse rest before h = tt
+  else_cells (w.Otherwise b) rest before h =
+      block_cells b (Fixed mark.CloseBrace ∷ rest) (Fixed mark.OpenBrace ∷ Fixed mark.Else ∷ before) h.1.1
+
+-- so it is of each function
+pub record IsWithin (f : Function) : Type 0 where
+  pub few_parameters : length f.parameters ≤ 4
+  pub cells : BlockCells f.body
+
+abbrev pub AreWithin : List Function → Type 0
+AreWithin [] = Unit {0}
+AreWithin (f ∷ fs) = IsWithin f × AreWithin fs
+
+items_within : (is : List w.Item) (before : List Token) → NoneOver before (program_on is []) → AreWithin (functions_of (map item_meaning is))
+items_within [] before h = tt
+items_within (w.GlobalItem x ∷ is) before h =
+    items_within is (Fixed mark.Semicolon ∷ Name x ∷ Fixed mark.Global ∷ before) h.1.1.1
+items_within (w.FunctionItem f ∷ is) before h =
     let rest : List Token = program_on is [] in
     let behind : List Token = Fixed mark.Return ∷ Name f.returned ∷ Fixed mark.Semicolon ∷ Fixed mark.CloseBrace ∷ rest in
     let head : List Token = Fixed mark.CloseParen ∷ Fixed mark.OpenBrace ∷ block_on f.body behind in
     let opening : List Token = Fixed mark.OpenParen ∷ Name f.name ∷ Fixed mark.Fn ∷ before in
     let a = names_passed f.parameters head opening h.1.1.1 in
-    let b = block_passed f.body behind (Fixed mark.OpenBrace ∷ Fixed mark.CloseParen ∷ a.0) a.1.1.1 in (
-      parameters_few f.parameters head opening refl h.1.1.1,
-      items_parameters is (Fixed mark.CloseBrace ∷ Fixed mark.Semicolon ∷ Name f.returned ∷ Fixed mark.Return ∷ b.0) b.1.1.1.1.1,
+    let body : List Token = Fixed mark.OpenBrace ∷ Fixed mark.CloseParen ∷ a.0 in
+    let b = block_passed f.body behind body a.1.1.1 in (
+      record { few_parameters = parameters_few f.parameters head opening refl h.1.1.1; cells = block_cells f.body behind body a.1.1.1 },
+      items_within is (Fixed mark.CloseBrace ∷ Fixed mark.Semicolon ∷ Name f.returned ∷ Fixed mark.Return ∷ b.0) b.1.1.1.1.1,
     )
 
 none_first : (a b : Option ℕ) → first_place a b ≡ None → a ≡ None
@@ -134,10 +188,10 @@ none_first None b e = refl
 none_first (Some a) None e = cc
 none_first (Some a) (Some b) e = cc
 
-pub few_parameters : (tree : List Item) → IsParsed tree → HaveFewParameters (functions_of tree)
-few_parameters tree p =
+pub functions_within : (tree : List Item) → IsParsed tree → AreWithin (functions_of tree)
+functions_within tree p =
     let s = p.parses.spelled in
     let k : limit_from [] (tokens_of p.text) ≡ None = none_first _ (byte_over (length p.text)) s.limits in
     let P : List Token → Type 0 = NoneOver [] in
-    let Q : List Item → Type 0 = λ t. HaveFewParameters (functions_of t) in
-    subst Q s.spelled.meaning (items_parameters s.spelled.written [] (subst P (sym s.spelled.spelled) (none_over [] (tokens_of p.text) k)))
+    let Q : List Item → Type 0 = λ t. AreWithin (functions_of t) in
+    subst Q s.spelled.meaning (items_within s.spelled.written [] (subst P (sym s.spelled.spelled) (none_over [] (tokens_of p.text) k)))

@@ -29,6 +29,7 @@ use Rattle.asl_lower.proofs.Bodies.{Begins, next_begins, begins}
 use Rattle.asl_lower.proofs.Points.{last_of}
 use Rattle.asl_lower.proofs.Holds.{lowering_parted, lowering_numbered, lowering_sections}
 use Rattle.asl_lower.proofs.Named.{Known, Each, each_first, each_second, NamedAt, block_named, named_operands}
+use Rattle.asl_lower.proofs.Passed.{IsWithin, AreWithin, functions_within}
 use Rattle.asl_lower.proofs.Mentioned.{or_first, or_second, name_there, globals_declared, functions_declared, locals_declared}
 
 -- how many names stand among tokens
@@ -223,13 +224,14 @@ record Housed (is : List Item) (l : Lowered) (pc : ℕ) : Type 0 where
   low : place.pc ≤ pc
   high : pc < (past_function function place).pc
   known : Each (Known (scope_of is number function) l) (function_mentions function)
+  within : IsWithin function
 
-housed : (is : List Item) (l : Lowered) (n : ℕ) (fs : List Function) (p : Place) → AreLoweredFunctions is l n fs p → Begins l n p → AllKnown is l fs → (pc : ℕ) → p.pc ≤ pc → pc < (past_functions fs p).pc → Housed is l pc
-housed is l n [] p h b k pc low high = absurd (omega arith)
-housed is l n (f ∷ fs) p h b k pc low high =
+housed : (is : List Item) (l : Lowered) (n : ℕ) (fs : List Function) (p : Place) → AreLoweredFunctions is l n fs p → Begins l n p → AllKnown is l fs → AreWithin fs → (pc : ℕ) → p.pc ≤ pc → pc < (past_functions fs p).pc → Housed is l pc
+housed is l n [] p h b k c pc low high = absurd (omega arith)
+housed is l n (f ∷ fs) p h b k c pc low high =
     elim (cases_lt pc (past_function f p).pc) [
-      | inl inside ↦ record { number = n; function = f; place = p; lowered = h.0; start = b.start; low = low; high = inside; known = k.0 n }
-      | inr past ↦ housed is l (suc n) fs (past_function f p) h.1 (next_begins is l n f p h.0 b) k.1 pc past high
+      | inl inside ↦ record { number = n; function = f; place = p; lowered = h.0; start = b.start; low = low; high = inside; known = k.0 n; within = c.0 }
+      | inr past ↦ housed is l (suc n) fs (past_function f p) h.1 (next_begins is l n f p h.0 b) k.1 c.1 pc past high
     ]
 
 -- what stands at a pc of its body
@@ -240,7 +242,7 @@ housed_named is l pc b =
     let last : List Mention = UsesLocal f.returned ∷ [] in
     let own = each_second (Known sc l) (map DeclaresParameter f.parameters) (block_mentions f.body ++ last) b.known.1 in
     elim (cases_lt pc (last_of f b.place).pc) [
-      | inl inside ↦ block_named sc l (registers_of f) f.body b.place b.lowered.body (omega arith) (each_first (Known sc l) (block_mentions f.body) last own) pc b.low inside
+      | inl inside ↦ block_named sc l (registers_of f) f.body b.place b.lowered.body (omega arith) (each_first (Known sc l) (block_mentions f.body) last own) b.within.cells pc b.low inside
       | inr past ↦ (let e : pc ≡ (last_of f b.place).pc = omega (arith, b.high) in
           let returned = (each_second (Known sc l) (block_mentions f.body) last own).0 in
           record { instruction = instr.Return (register sc f.returned); stands = ap (slice_get l.code) e ∙ b.lowered.returns; named = omega (arith, returned) })
@@ -254,7 +256,7 @@ housed_body is l pc b =
 pub lowering_operands : (is : List Item) (l : Lowered) → IsParsed is → IsLowering is l → AreOperandsThere l
 lowering_operands is l p h pc number f i inside there stands =
     let known : AllKnown is l (functions_of is) = known_functions is l h is p.parses.unknown (right_calls is p) in
-    let b : Housed is l pc = housed is l 0 (functions_of is) origin h.bodies (begins l) known pc (omega arith) (omega (arith, h.code, slice_get_within l.code pc i stands)) in
+    let b : Housed is l pc = housed is l 0 (functions_of is) origin h.bodies (begins l) known (functions_within is p) pc (omega arith) (omega (arith, h.code, slice_get_within l.code pc i stands)) in
     let n : NamedAt l (registers_of b.function) pc = housed_named is l pc b in
     let same : b.number ≡ number = (lowering_parted is l h).one_body pc b.number number (housed_body is l pc b) inside in
     let e : Some (entry_of b.function b.place) ≡ Some f = sym b.lowered.in_table ∙ ap (slice_get l.functions) same ∙ there in

@@ -13,7 +13,7 @@ pub record HasCallee (l : Lowered) (registers first callee : ℕ) : Type 0 where
   pub arguments : first + function.params ≤ registers
 
 -- the registers, the global, the callee, the site and the section of an instruction are there, in a function with so
--- many registers (docs/SOURCE.md, "Templates")
+-- many registers, and a `new` makes a cell (docs/SOURCE.md, "Templates")
 abbrev pub HasOperands : Lowered → ℕ → Instr → Type 0
 HasOperands l registers (instr.SetInt to value) = to < registers
 HasOperands l registers (instr.SetNull to) = to < registers
@@ -26,7 +26,7 @@ HasOperands l registers (instr.GlobalAddress to global) = (to < registers) × (g
 HasOperands l registers (instr.FieldAddress to from offset) = (to < registers) × (from < registers)
 HasOperands l registers (instr.Load to address) = (to < registers) × (address < registers)
 HasOperands l registers (instr.Store address from) = (address < registers) × (from < registers)
-HasOperands l registers (instr.New to cells site) = (to < registers) × (site < l.sites)
+HasOperands l registers (instr.New to cells site) = (to < registers) × (0 < cells) × (site < l.sites)
 HasOperands l registers (instr.Jump target) = Unit {0}
 HasOperands l registers (instr.JumpIfZero test target) = test < registers
 HasOperands l registers (instr.Call to first callee) = (to < registers) × HasCallee l registers first callee
