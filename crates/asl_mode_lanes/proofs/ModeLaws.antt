@@ -1,6 +1,6 @@
 -- Laws of the six modes. Each is a test that computes over all modes.
 use Rattle.std.proofs.Common.{◌≡◌, ◌≢◌, refl, subst, Bool, true, false, ◌&&◌, ◌||◌, not, ◌==◌, ap, sym, ◌∙◌, ◌⊎◌, inl, inr, bit_or, ◌↔◌}
-use Rattle.std.proofs.lemmas.Bool.{eqb-true}
+use Rattle.std.proofs.lemmas.Bool.{eqb-true, not-true}
 use Rattle.asl_mode_lanes.specs.declared.mode.Mode.{Mode}
 use Rattle.asl_mode_lanes.specs.declared.mode.Mode.TheVariants.{NL, IS, IX, S, SIX, X}
 use Rattle.asl_mode_lanes.specs.Mode.{is_at_most, AtMost, is_compatible, AreCompatible, IsJoin, join_of, code_of, codes_clash}
@@ -57,10 +57,6 @@ same_test true true h = refl
 same_test true false h = cc
 same_test false true h = cc
 same_test false false h = refl
-
-is_false : (b : Bool) → not b ≡ true → b ≡ false
-is_false true h = cc
-is_false false h = refl
 
 -- each mode is the mode of its code
 pub mode_of-code_of : (m : Mode) → mode_of (code_of m) ≡ m
@@ -153,12 +149,12 @@ compatible-NL = each-holds (λ a. is_compatible a NL) refl
 -- who reads all below a node never goes with who means to write there
 pub reader_clashes : (a b : Mode) → AtMost S a → AtMost IX b → is_compatible a b ≡ false
 reader_clashes a b h k =
-    is_false _ (implied _ _ (implied _ _ (each_pair (λ x y. implies (is_at_most S x) (implies (is_at_most IX y) (not (is_compatible x y)))) refl a b) h) k)
+    not-true _ (implied _ _ (implied _ _ (each_pair (λ x y. implies (is_at_most S x) (implies (is_at_most IX y) (not (is_compatible x y)))) refl a b) h) k)
 
 -- who writes all below a node never goes with who means to read there
 pub writer_clashes : (a b : Mode) → AtMost IS a → AtMost X b → is_compatible a b ≡ false
 writer_clashes a b h k =
-    is_false _ (implied _ _ (implied _ _ (each_pair (λ x y. implies (is_at_most IS x) (implies (is_at_most X y) (not (is_compatible x y)))) refl a b) h) k)
+    not-true _ (implied _ _ (implied _ _ (each_pair (λ x y. implies (is_at_most IS x) (implies (is_at_most X y) (not (is_compatible x y)))) refl a b) h) k)
 
 -- The modes at or above one: what is enough for it.
 

@@ -1,6 +1,7 @@
 -- The six lock modes of multiple-granularity locking: their order, their joins, and which go together.
 -- The order and the table of pairs are those of J. Gray, R. Lorie, G. Putzolu, I. Traiger,
--- "Granularity of Locks and Degrees of Consistency in a Shared Data Base" (1976). The codes are this project's.
+-- "Granularity of Locks and Degrees of Consistency in a Shared Data Base" (1976). The codes are this project's
+-- (docs/LOCKS.md, "Modes").
 use Rattle.std.specs.Prelude.{ℕ, Bool, true, false, not, ◌&&◌, ◌||◌, ◌==◌, bit_and, IsTrue, if◌then◌else◌}
 use Rattle.asl_mode_lanes.specs.declared.mode.Mode.{Mode}
 use Rattle.asl_mode_lanes.specs.declared.mode.Mode.TheVariants.{NL, IS, IX, S, SIX, X}

@@ -1,4 +1,4 @@
--- Rows of codes: what each thread holds at one node.
+-- Rows of codes: what each thread holds at one node (docs/LOCKS.md, "Modes").
 use Rattle.std.specs.Prelude.{ℕ, ◌<◌, ◌≡◌, ◌≢◌, ◌==◌, List, length, slice_index, All, false, if◌then◌else◌}
 use Rattle.asl_mode_lanes.specs.declared.mode.Mode.{Mode}
 use Rattle.asl_mode_lanes.specs.declared.mode.Mode.TheVariants.{NL, IS, IX, S, SIX, X}
