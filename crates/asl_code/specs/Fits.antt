@@ -1,4 +1,5 @@
--- What a verified image is, read as facts: what it has, and what holds of the instruction at each place of its code.
+-- What a verified image is, read as facts: what it has, and what holds of the instruction at each place of its code
+-- (docs/LIMITS.md, "Rules of an image"). The law verified_images_fit says that these images are the verified ones.
 use Rattle.std.specs.Prelude.{◌≡◌, ℕ, ◌+◌, ◌<◌, ◌≤◌, false, List, length, Some, slice_get, All}
 use Rattle.asl_code.specs.Bodies.{first_of, total_len}
 use Rattle.asl_code.specs.Verified.{is_end}
@@ -69,7 +70,9 @@ FitsInstr i n f (Output from) = from < f.regs
 FitsInstr i n f (Acquire list) = (locks : List Lock) × (slice_get i.lists list ≡ Some locks) × All (FitsLock i f) locks
 FitsInstr i n f Release = Unit {0}
 
--- the facts of a verified image (docs/LIMITS.md, "Rules of an image")
+-- the facts of a verified image (docs/LIMITS.md, "Rules of an image"): the counts are within their limits, what the
+-- tables name is there, the bodies are the code, each instruction fits its body, and after an instruction that is no end
+-- of a body the body goes on
 pub record FitsImage (i : Image) : Type 0 where
   pub version : i.version ≡ 1
   pub few_classes : i.classes ≤ 1024

@@ -1,5 +1,5 @@
--- How the front of some bytes is read as a value: what the readers of src/ compute. The laws of proofs/Values lead from
--- here to the relations of specs/Spelling.
+-- How the front of some bytes is read as a value: what the reader computes (docs/BYTES.md, "Values"). Private functions
+-- cite this, and the lemmas of proofs/Values lead from here to the relations of specs/Spelling, which public calls cite.
 use Rattle.std.specs.Prelude.{ℕ, zero, suc, nat_lt, if◌then◌else◌, List, [], ◌∷◌, length, take, slice_index, Result, Ok, Err}
 use Rattle.std.specs.Int.{w16, w32, from_be_bytes, cast_signed}
 use Rattle.asl_code.specs.declared.value.Value.{Value}
