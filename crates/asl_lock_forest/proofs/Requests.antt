@@ -1,5 +1,6 @@
 -- Laws of requests.
 use Rattle.std.proofs.Common.{◌≡◌, ◌≢◌, Bool, true, false, not, ◌&&◌, ◌||◌, IsTrue, [], ◌∷◌, Option, None, Some, if◌then◌else◌, refl, ap, sym, subst, ◌∙◌, inl, inr}
+use Rattle.std.proofs.lemmas.Bool.{not-true}
 use Rattle.std.specs.List.{list_all}
 use Rattle.asl_mode_lanes.specs.declared.mode.Mode.{Mode}
 use Rattle.asl_mode_lanes.specs.declared.mode.Mode.TheVariants.{NL, IS, IX, S, SIX, X}
@@ -17,10 +18,6 @@ and_left false b h = cc
 pub and_right : (a b : Bool) → (a && b) ≡ true → b ≡ true
 and_right true b h = h
 and_right false b h = cc
-
-not_true : (b : Bool) → not b ≡ true → b ≡ false
-not_true true h = cc
-not_true false h = refl
 
 same_itself : (n : Node) → same_node n n ≡ true
 same_itself n = elim (tell_nodes n n) [ inl same ↦ same.0 | inr other ↦ absurd (other.1 refl) ]
@@ -74,7 +71,7 @@ pub of_each_named : (test : Node → Mode → Bool) (request : Request) → name
     → ((n : Node) → names request n ≡ true → test n (asked request n) ≡ true) → list_all (λ ask. test ask.0 ask.1) request ≡ true
 of_each_named test [] once all = refl
 of_each_named test (ask ∷ others) once all =
-    let unnamed : names others ask.0 ≡ false = not_true (names others ask.0) (and_left (not (names others ask.0)) _ once) in
+    let unnamed : names others ask.0 ≡ false = not-true (names others ask.0) (and_left (not (names others ask.0)) _ once) in
     let first : test ask.0 ask.1 ≡ true =
     sym (ap (λ b. test ask.0 (if b then ask.1 else asked others ask.0)) (same_itself ask.0))
     ∙ all ask.0 (ap (λ b. b || names others ask.0) (same_itself ask.0)) in

@@ -1,4 +1,5 @@
--- The plain list behind a forest: its entries, the first of a key counting.
+-- The plain list behind a forest: its entries, the first of a key counting. Private functions cite this; what is held
+-- is the map of specs/Holding (docs/LOCKS.md, "Lawful holdings").
 use Rattle.std.specs.Prelude.{ℕ, Bool, ◌||◌, ◌==◌, List, [], ◌∷◌}
 use Rattle.std.specs.FinMap as map
 use Rattle.asl_mode_lanes.specs.declared.mode.Mode.{Mode}

@@ -1,6 +1,7 @@
 -- What the threads hold: a finite map from a thread and a node to a mode other than NL, and the rules that it keeps.
 -- The rules for parents and for modes of different threads are Gray's (see specs/Node.antt); what covers a cell is
--- the rule of S. Cherem, T. Chilimbi, S. Gulwani, "Inferring Locks for Atomic Sections" (2008) for protected accesses.
+-- the rule of S. Cherem, T. Chilimbi, S. Gulwani, "Inferring Locks for Atomic Sections" (2008) for protected accesses
+-- (docs/LOCKS.md, "Lawful holdings" and "Covered cells").
 use Rattle.std.specs.Prelude.{◌≡◌, ◌≢◌, ℕ, ◌<◌, ◌||◌, ◌==◌, not, Bool, IsTrue, List, [], ◌∷◌, None, Some, unwrap_or, if◌then◌else◌}
 use Rattle.std.specs.FinMap as map
 use Rattle.std.specs.FinMap.{FinMap}
@@ -64,7 +65,7 @@ pub record IsWithin (classes threads : ℕ) (h : Holding) : Type 0 where
   pub threads_there : (k : Key) → map.get h k ≢ None → k.thread < threads
   pub classes_there : (k : Key) → map.get h k ≢ None → IsThere classes k.node
 
--- the least mode that covers an access
+-- the least mode that covers an access, and what a lock with this effect asks at its own node
 abbrev pub covering_mode : Effect → Mode
 covering_mode Read = S
 covering_mode Write = X

@@ -1,4 +1,4 @@
--- The keys of a holding: a thread and a node, in the order of their numbers.
+-- The keys of a holding: a thread and a node, in the order of their numbers (docs/LOCKS.md, "Lawful holdings").
 use Rattle.std.specs.Prelude.{◌≡◌, ℕ, List, ◌∷◌}
 use Rattle.std.proofs.Common.{refl}
 use Rattle.std.specs.declared.cmp.Ordering.{Ordering}
@@ -17,6 +17,7 @@ pub record Key : Type 0 where
   pub thread : ℕ
   pub node : Node
 
+-- the key of this thread and this node
 abbrev pub key : ℕ → Node → Key
 key thread node = record { thread = thread; node = node }
 
@@ -51,11 +52,14 @@ key_same a b e =
     let node : a.node ≡ b.node = node_same a.node b.node (cc) in
     λ i. record { thread = thread i; node = node i }
 
+-- the order is total
 pub key_total : IsTotalOrder key_cmp
 key_total = on_total key_code nat_list_cmp_total
 
+-- keys that the order does not tell apart are the same
 pub key_exact : IsAntisymmetric key_cmp
 key_exact a b e = key_same a b (slice_cmp-IsAntisymmetric nat_cmp-IsAntisymmetric _ _ e)
 
+-- a key as its numbers
 abbrev pub coded_key : Coded Key
 coded_key = coded_via (coded_list coded_ℕ) key_code key_same

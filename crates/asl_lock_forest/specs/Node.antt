@@ -1,6 +1,6 @@
 -- The lock tree: the root, below it a node for each class, below a class a leaf for each cell of its objects.
 -- The tree and the rule for parents are those of J. Gray, R. Lorie, G. Putzolu, I. Traiger,
--- "Granularity of Locks and Degrees of Consistency in a Shared Data Base" (1976).
+-- "Granularity of Locks and Degrees of Consistency in a Shared Data Base" (1976); see docs/LOCKS.md, "Nodes".
 use Rattle.std.specs.Prelude.{ℕ, ◌<◌, ◌≡◌, Bool, nat_eq, List, [], ◌∷◌, Option, None, Some}
 use Rattle.std.specs.Cmp.Lexicographic.{pointwise}
 use Rattle.asl_mode_lanes.specs.declared.mode.Mode.{Mode}

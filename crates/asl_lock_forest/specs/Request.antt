@@ -1,4 +1,5 @@
--- What a request of modes must be: each node once, each mode another than NL, each node's parent asked too.
+-- What a request of modes must be: each node once, each mode another than NL, each node's parent asked too. And who is
+-- in the way of one (docs/LOCKS.md, "Requests").
 use Rattle.std.specs.Prelude.{ℕ, Bool, true, false, not, ◌&&◌, ◌||◌, [], ◌∷◌, All, Option, None, Some, ◌≡◌, ◌≢◌}
 use Rattle.std.specs.List.{list_all}
 use Rattle.asl_mode_lanes.specs.declared.mode.Mode.{Mode}
