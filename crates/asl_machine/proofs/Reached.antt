@@ -2,6 +2,7 @@
 use Rattle.std.proofs.Common.{◌≡◌, ◌≢◌, ℕ, zero, suc, ◌<◌, ◌≤◌, ◌⊎◌, ◌==◌, ◌&&◌, ◌||◌, Bool, true, false, cond, List, [], ◌∷◌, Option, Some, None, IsTrue, length, slice_get, refl, ap, sym, ◌∙◌, subst, inl, inr, arith, length-set, eqb-true, eq-eqb}
 use Rattle.std.specs.Prelude.{IsSome, option_and_then, unwrap_or}
 use Rattle.std.specs.List.{list_all}
+use Rattle.std.proofs.lemmas.Bool.{false_from_ne_true}
 use Rattle.std.proofs.lemmas.Option.{slice_get_within}
 use Rattle.std.specs.Option.{option_map_or}
 use Rattle.asl_code.specs.declared.image.Image.{Image}
@@ -109,10 +110,6 @@ some_node h count t request [] e = let f : true ≡ false = e in cc
 some_node h count t request (ask ∷ rest) e =
     elim (and_false _ _ e) [ inl here ↦ (ask.0, here) | inr later ↦ some_node h count t request rest later ]
 
-not_yes : (b : Bool) → (b ≡ true → ⊥) → b ≡ false
-not_yes true h = absurd (h refl)
-not_yes false h = refl
-
 is_running : (o : Option Activity) → option_map_or (λ (a : Activity). a.depth) o 0 ≢ 0 → IsSome o
 is_running None h = absurd (h refl)
 is_running (Some a) h = refl
@@ -124,7 +121,7 @@ someone_goes_on image s t sound e =
     let request = b.1.0 in
     let count = length s.threads in
     let refused : can_grant s.holding count t request ≡ false =
-    not_yes _ (λ yes. b.1.1 (grant_when_free image.classes count s.holding t request sound.within yes)) in
+    false_from_ne_true _ (λ yes. b.1.1 (grant_when_free image.classes count s.holding t request sound.within yes)) in
     let at = some_node s.holding count t request request refused in
     let way = someone s.holding t request at.0 count at.1 in
     let clash = way.2 in

@@ -1,6 +1,7 @@
 -- Laws of requests: that a request is the least map that is at least every ask, and what the forest wants of one.
 use Rattle.std.proofs.Common.{◌≡◌, ◌≢◌, ℕ, ◌<◌, ◌⊎◌, Bool, true, false, cond, not, ◌&&◌, ◌||◌, List, [], ◌∷◌, ◌++◌, Option, None, Some, refl, sym, ap, ◌∙◌, subst, inl, inr, IsTrue}
 use Rattle.std.specs.Prelude.{All}
+use Rattle.std.proofs.lemmas.Bool.{not-true}
 use Rattle.std.specs.Option.{option_map_or}
 use Rattle.std.specs.List.{list_all}
 use Rattle.std.proofs.lemmas.List.Elements.{All-nil, All-cons, All-from_recursion, recursion_from_All}
@@ -18,13 +19,13 @@ use Rattle.asl_mode_lanes.proofs.ModeLaws.{at_most_refl, at_most_trans, at_most-
 use Rattle.asl_lock_forest.specs.declared.node.Node.{Node}
 use Rattle.asl_lock_forest.specs.declared.node.Node.TheVariants.{Root, Class, Leaf}
 use Rattle.asl_lock_forest.specs.Node.{same_node, node_code, parent_of, parent_mode, IsRooted, IsThere}
-use Rattle.asl_lock_forest.specs.Holding.{Request, asked}
+use Rattle.asl_lock_forest.specs.Holding.{Request, asked, covering_mode}
 use Rattle.asl_lock_forest.specs.Request.{names, names_once, asks_modes, asks_parent_of, asks_parents, IsOfClasses}
 use Rattle.asl_lock_forest.proofs.Laws.{tell_nodes}
 use Rattle.asl_machine.specs.State.{Object, class_of}
 use Rattle.asl_machine.specs.Access.{AreOfClasses}
 use Rattle.asl_machine.specs.Expression.{cell_denoted}
-use Rattle.asl_machine.specs.Request.{LockOfClass, IsAsk, IsLeast, asks_of, cell_asks, leaf_asks, all_asks, own_mode, upper_mode, joined_with, joined_all, request_of, heap_of}
+use Rattle.asl_machine.specs.Request.{LockOfClass, IsAsk, IsLeast, asks_of, cell_asks, leaf_asks, all_asks, upper_mode, joined_with, joined_all, request_of, heap_of}
 
 -- ---- one ask more
 
@@ -203,7 +204,7 @@ upper_self : (e : Effect) → AtMost (parent_mode (upper_mode e)) (upper_mode e)
 upper_self Read = refl
 upper_self Write = refl
 
-upper_own : (e : Effect) → AtMost (parent_mode (own_mode e)) (upper_mode e)
+upper_own : (e : Effect) → AtMost (parent_mode (covering_mode e)) (upper_mode e)
 upper_own Read = refl
 upper_own Write = refl
 
@@ -230,7 +231,7 @@ parents_leaf cell effect class n p m s h =
       ]
     ]
 
-parents_class : (effect : Effect) (class : ℕ) → AsksParents ((Root, upper_mode effect) ∷ (Class class, own_mode effect) ∷ [])
+parents_class : (effect : Effect) (class : ℕ) → AsksParents ((Root, upper_mode effect) ∷ (Class class, covering_mode effect) ∷ [])
 unfolding AsksParents
 parents_class effect class n p m s h =
     elim h [
@@ -241,7 +242,7 @@ parents_class effect class n p m s h =
       ]
     ]
 
-parents_root : (effect : Effect) → AsksParents ((Root, own_mode effect) ∷ [])
+parents_root : (effect : Effect) → AsksParents ((Root, covering_mode effect) ∷ [])
 unfolding AsksParents
 parents_root effect n p m s h = elim h [ inl e ↦ absurd (no_parent n p e.0 s) | inr k ↦ absurd k ]
 
@@ -393,10 +394,6 @@ or_false_right : (x y : Bool) → (x || y) ≡ false → y ≡ false
 or_false_right true y e = cc
 or_false_right false y e = e
 
-not_true : (x : Bool) → IsTrue (not x) → x ≡ false
-not_true true h = let e = h in cc
-not_true false h = refl
-
 entries_later : (a : Node × Mode) (whole rest : Request) → names rest a.0 ≡ false → EntriesOf whole rest → EntriesOf (a ∷ whole) rest
 unfolding EntriesOf
 entries_later a whole [] e h = tt
@@ -410,7 +407,7 @@ unfolding EntriesOf
 entries_own [] h = tt
 entries_own (a ∷ rest) h = (
   ap (λ b. cond b a.1 (asked rest a.0)) (same_self a.0),
-  entries_later a rest rest (not_true (names rest a.0) (and_first _ _ h)) (entries_own rest (and_second _ _ h)),
+  entries_later a rest rest (not-true (names rest a.0) (and_first _ _ h)) (entries_own rest (and_second _ _ h)),
 )
 
 parent_of_entry : (whole : Request) (n : Node) (m : Mode) (p : Option Node) → IsRooted (asked whole) → parent_of n ≡ p → asked whole n ≡ m → IsTrue (asks_parent_of whole p m)

@@ -2,7 +2,7 @@
 use Rattle.std.proofs.Common.{◌≡◌, ◌≢◌, ℕ, ℤ, pos, ◌+◌, ◌-◌, ◌<◌, ◌≤◌, ◌⊎◌, ◌==◌, ◌++◌, ◌∷◌, ltb, Bool, true, false, cond, List, [], Option, Some, None, Result, Ok, Err, IsTrue, length, slice_get, refl, ap, sym, ◌∙◌, subst, inl, inr, arith, eq-eqb, ne_eqb}
 use Rattle.std.specs.Prelude.{unwrap_or}
 use Rattle.std.specs.Prelude.{int_lt, ◌<ℤ◌, ◌≤ℤ◌, option_and_then}
-use Rattle.std.proofs.lemmas.Bool.{lt-ltb, le-ltb}
+use Rattle.std.proofs.lemmas.Bool.{lt-ltb, le-ltb, false_from_ne_true}
 use Rattle.std.proofs.lemmas.Int.{ints}
 use Rattle.asl_code.specs.declared.image.Image.{Image}
 use Rattle.asl_code.specs.declared.instr.Instr.{Instr}
@@ -38,10 +38,6 @@ IsLeft at l r n = let turn = turn_by at.thread l in (r ≡ turn.reply) × (n ≡
 
 reads_is : (at : At) (r : ℕ) (v : Value) → Reads at r v → register_of at.activity.top r ≡ v
 reads_is at r v e = ap (λ o. unwrap_or o Null) e
-
-not_yes : (b : Bool) → (b ≡ true → ⊥) → b ≡ false
-not_yes true h = absurd (h refl)
-not_yes false h = refl
 
 only_set : (at : At) (to : ℕ) (value : Result Value Fault) (v : Value) (n : State) → value ≡ Ok v → Sets at to v n → IsLeft at (set_left (here_place at.state at.thread at.activity) to value) reply.Ran n
 only_set at to value v n e h = subst (λ x. IsLeft at (set_left (here_place at.state at.thread at.activity) to x) reply.Ran n) (sym e) (refl, h)
@@ -240,7 +236,7 @@ only_line image s t a sound here (instr.Equals to left right) reply.Ran n h =
     elim h [
       | inl same ↦ only_equal at to left right same.value same.value true n same.reads_left same.reads_right (same_self same.value) same.sets
       | inr other ↦
-          only_equal at to left right other.x other.y false n other.reads_left other.reads_right (not_yes _ (λ e. other.other (same_is other.x other.y e))) other.sets
+          only_equal at to left right other.x other.y false n other.reads_left other.reads_right (false_from_ne_true _ (λ e. other.other (same_is other.x other.y e))) other.sets
     ]
 only_line image s t a sound here (instr.GlobalAddress to global) reply.Ran n h = (refl, h)
 only_line image s t a sound here (instr.FieldAddress to from places) reply.Ran n h =
@@ -328,7 +324,7 @@ only_line image s t a sound here (instr.Acquire list) reply.Blocked n h =
     let request = request_of s.objects a.top.regs (locks_of image list) in
     let is = request_same at list h.request h.asks in
     let taken : can_grant s.holding (length s.threads) t request ≡ false =
-    not_yes _ (λ e. h.taken (subst (CanGrant s.holding t) is (grant_when_free image.classes (length s.threads) s.holding t request sound.within e))) in
+    false_from_ne_true _ (λ e. h.taken (subst (CanGrant s.holding t) is (grant_when_free image.classes (length s.threads) s.holding t request sound.within e))) in
     only_acquire at _ true (a.depth == 255) false _ reply.Blocked n (zero_test _ h.asks.outside) refl taken (refl, h.same ∙ sym (after_same s t (Running a) here))
 only_line image s t a sound here (instr.Acquire list) (reply.Fault fault.Deep) n h =
     let at = at_of image s t a in

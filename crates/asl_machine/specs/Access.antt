@@ -1,5 +1,6 @@
 -- Which accesses a thread's locks allow. The rule is that of S. Cherem, T. Chilimbi, S. Gulwani,
--- "Inferring Locks for Atomic Sections" (2008): an access that no held lock protects does not happen.
+-- "Inferring Locks for Atomic Sections" (2008): an access that no held lock protects does not happen
+-- (docs/LOCKS.md, "Covered cells"). And what private functions want of a state, so that an instruction can be done in it.
 use Rattle.std.specs.Prelude.{◌≡◌, ◌<◌, ◌≤◌, ◌+◌, ◌^◌, ℕ, length, All, Bool, false, ◌&&◌, nat_lt, List, Option, Some, slice_get, IsSome}
 use Rattle.std.specs.Option.{option_map_or}
 use Rattle.asl_code.specs.declared.value.Value.{Value}

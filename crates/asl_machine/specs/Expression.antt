@@ -1,5 +1,6 @@
--- The cell that a lock expression denotes in given registers and a given heap, evaluated once, at the section's entry.
--- The rule is that of S. Cherem, T. Chilimbi, S. Gulwani, "Inferring Locks for Atomic Sections" (2008).
+-- The cell that a lock expression denotes in given registers and a given heap. Expressions that are evaluated at a
+-- section's entry are those of S. Cherem, T. Chilimbi, S. Gulwani, "Inferring Locks for Atomic Sections" (2008); here
+-- each try of the entry evaluates them anew (docs/LOCKS.md, "Expressions").
 use Rattle.std.specs.Prelude.{ℕ, ◌+◌, List, [], ◌∷◌, Option, None, Some, slice_get, option_and_then, nat_lt, if◌then◌else◌}
 use Rattle.asl_code.specs.declared.value.Value.{Value}
 use Rattle.asl_code.specs.declared.value.Value.TheVariants.{Int, Null, Addr}

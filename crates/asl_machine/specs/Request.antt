@@ -1,6 +1,6 @@
 -- What a section asks for at its entry: of each lock its node and the nodes above, and of a list of locks at each
 -- node the join of what its locks ask there. The modes for the nodes above are those of J. Gray, R. Lorie, G. Putzolu,
--- I. Traiger, "Granularity of Locks and Degrees of Consistency in a Shared Data Base" (1976).
+-- I. Traiger, "Granularity of Locks and Degrees of Consistency in a Shared Data Base" (1976); see docs/LOCKS.md, "Requests".
 use Rattle.std.specs.Prelude.{◌≡◌, ◌<◌, ◌≢◌, ◌⊎◌, ℕ, List, [], ◌∷◌, ◌++◌, Option, None, Some, option_map, option_and_then, slice_get, unwrap_or, if◌then◌else◌}
 use Rattle.std.specs.Option.{option_map_or}
 use Rattle.asl_code.specs.declared.value.Value.{Value}
@@ -11,12 +11,12 @@ use Rattle.asl_code.specs.declared.image.Image.{Image}
 use Rattle.asl_code.specs.declared.lock.Lock.{Lock}
 use Rattle.asl_code.specs.declared.lock.Lock.TheVariants as lock
 use Rattle.asl_mode_lanes.specs.declared.mode.Mode.{Mode}
-use Rattle.asl_mode_lanes.specs.declared.mode.Mode.TheVariants.{NL, IS, IX, S, X}
+use Rattle.asl_mode_lanes.specs.declared.mode.Mode.TheVariants.{IS, IX}
 use Rattle.asl_mode_lanes.specs.Mode.{AtMost, join_of}
 use Rattle.asl_lock_forest.specs.declared.node.Node.{Node}
 use Rattle.asl_lock_forest.specs.declared.node.Node.TheVariants.{Root, Class, Leaf}
 use Rattle.asl_lock_forest.specs.Node.{same_node}
-use Rattle.asl_lock_forest.specs.Holding.{Request, asked}
+use Rattle.asl_lock_forest.specs.Holding.{Request, asked, covering_mode}
 use Rattle.asl_machine.specs.Expression.{HeapView, cell_denoted}
 use Rattle.asl_machine.specs.State.{Object, cell_at, size_of, class_of}
 
@@ -24,20 +24,15 @@ use Rattle.asl_machine.specs.State.{Object, cell_at, size_of, class_of}
 abbrev pub heap_of : List Object → HeapView
 heap_of objects = record { cell = cell_at objects; size = size_of objects }
 
--- the mode that a lock asks at its own node
-abbrev pub own_mode : Effect → Mode
-own_mode Read = S
-own_mode Write = X
-
 -- the mode that a lock asks at each node above its own
 abbrev pub upper_mode : Effect → Mode
 upper_mode Read = IS
 upper_mode Write = IX
 
--- the asks of a lock on a cell of an object of the class
+-- the asks of a lock on a cell of an object of the class: at its own node the mode that covers the cell
 abbrev pub leaf_asks : Cell → Effect → ℕ → Request
 leaf_asks cell effect class =
-    (Root, upper_mode effect) ∷ (Class class, upper_mode effect) ∷ (Leaf cell class, own_mode effect) ∷ []
+    (Root, upper_mode effect) ∷ (Class class, upper_mode effect) ∷ (Leaf cell class, covering_mode effect) ∷ []
 
 -- the asks of a lock on the cell that an expression denotes: none where it denotes none
 abbrev pub cell_asks : List Object → Effect → Option Cell → Request
@@ -46,8 +41,8 @@ cell_asks objects effect (Some cell) = option_map_or (leaf_asks cell effect) (cl
 
 -- the asks of a lock
 abbrev pub asks_of : List Object → List Value → Lock → Request
-asks_of objects regs (lock.Root effect) = (Root, own_mode effect) ∷ []
-asks_of objects regs (lock.Class class effect) = (Root, upper_mode effect) ∷ (Class class, own_mode effect) ∷ []
+asks_of objects regs (lock.Root effect) = (Root, covering_mode effect) ∷ []
+asks_of objects regs (lock.Class class effect) = (Root, upper_mode effect) ∷ (Class class, covering_mode effect) ∷ []
 asks_of objects regs (lock.Expr expr effect) = cell_asks objects effect (cell_denoted (heap_of objects) regs expr)
 
 -- the asks of all locks of a list
@@ -66,7 +61,7 @@ abbrev pub joined_all : Request → Request → Request
 joined_all request [] = request
 joined_all request (ask ∷ asks) = joined_all (joined_with request ask.0 ask.1) asks
 
--- the request of a lock list in these objects and registers
+-- the request of a lock list in these objects and registers; the law requests_are_least says which map it is
 abbrev pub request_of : List Object → List Value → List Lock → Request
 request_of objects regs locks = joined_all [] (all_asks objects regs locks)
 

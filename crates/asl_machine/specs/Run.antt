@@ -1,4 +1,6 @@
--- Runs of a program: the state in which its threads start, and the replies and states of a schedule.
+-- Runs of a program: the state in which its threads start, and the replies and states of a schedule, by the computed
+-- step (docs/INSTRUCTIONS.md, "State" and "A step"). In each state of a run that step is the one that the instruction
+-- table allows: the law steps_have_one_line.
 use Rattle.std.specs.Prelude.{◌≡◌, ◌<◌, ℕ, zero, suc, List, [], ◌∷◌, ◌++◌, map, All, None, pos}
 use Rattle.asl_code.specs.declared.image.Image.{Image}
 use Rattle.asl_code.specs.declared.value.Value.{Value}

@@ -1,5 +1,6 @@
 -- What holds of every state that a verified program reaches: each frame is in a body, with the registers of its
--- function; every address is that of a cell that is there; who is in no section holds nothing.
+-- function; every address is that of a cell that is there; who is in no section holds nothing (docs/INSTRUCTIONS.md,
+-- "What always holds").
 use Rattle.std.specs.Prelude.{◌≡◌, ◌<◌, ◌≤◌, ◌+◌, ℕ, List, [], ◌∷◌, length, Option, None, Some, slice_get, IsSome, IsSomeAnd}
 use Rattle.asl_code.specs.declared.image.Function.{Function}
 use Rattle.asl_code.specs.declared.image.Image.{Image}

@@ -1,4 +1,4 @@
--- The state of a machine: its objects, what its threads hold, and its threads (docs/INSTRUCTIONS.md).
+-- The state of a machine: its objects, what its threads hold, and its threads (docs/INSTRUCTIONS.md, "State").
 -- Objects and threads are numbered from 0 without gaps, so lists serve as the maps from their numbers.
 use Rattle.std.specs.Prelude.{◌≡◌, ℕ, ◌+◌, ◌-◌, List, [], ◌∷◌, ◌++◌, map, length, replicate, Option, None, Some, slice_get, slice_set, option_map, option_and_then, unwrap_or, zero, suc, pos}
 use Rattle.std.specs.Option.{option_map_or}

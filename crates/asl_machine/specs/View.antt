@@ -1,4 +1,4 @@
--- What the parts of the code are to contracts.
+-- What the parts of the code are to contracts: threads, the readers' answers and the machine (docs/INSTRUCTIONS.md, "State").
 use Rattle.std.specs.Prelude.{Option}
 use Rattle.asl_code.specs.declared.image.Image.{Image}
 use Rattle.asl_machine.specs.declared.reply.Status.{Status}

@@ -1,4 +1,5 @@
--- That threads never block one another all together.
+-- That threads never block one another all together: since a section takes all its locks at once, who holds some has a
+-- step (docs/TOUR.md, "How it goes on").
 use Rattle.std.specs.Prelude.{◌≢◌, ℕ, IsSome}
 use Rattle.asl_code.specs.declared.image.Image.{Image}
 use Rattle.asl_mode_lanes.specs.declared.mode.Mode.TheVariants.{NL}

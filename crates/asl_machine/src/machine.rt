@@ -76,6 +76,7 @@ impl<'p> Machine<'p> {
         ensures thread { IsErrOf result MachineFault.BadThread ↔ (length self.old.state.threads ≤ t) }
         ensures blocked { IfOk result (λ reply. reply ≡ Reply.Blocked → SomeoneGoesOn self.old.image self.old.state) }
         ensures memory { IsErrOf result MachineFault.OutOfMemory → MayWantMemory self.old.image self.old.state t }
+        ensures other { IfErr result (λ fault. (fault ≡ MachineFault.BadThread) ⊎ (fault ≡ MachineFault.OutOfMemory)) }
         ensures err { OnErr result (self.new ≡ self.old) }
     {
         if t as usize >= self.threads.len() {

@@ -1,7 +1,8 @@
 //! What a section asks for at its entry.
 ghost use Rattle.std.specs.Prelude.{◌≡◌, IsTrue, ◌↔◌, IfOk, OnOk, position};
 ghost use Rattle.asl_lock_forest.specs.Node.{same_node};
-ghost use Rattle.asl_machine.specs.Request.{own_mode, upper_mode, asks_of, cell_asks, leaf_asks, joined_with, joined_all, request_of};
+ghost use Rattle.asl_lock_forest.specs.Holding.{covering_mode};
+ghost use Rattle.asl_machine.specs.Request.{upper_mode, asks_of, cell_asks, leaf_asks, joined_with, joined_all, request_of};
 
 use crate::eval::eval;
 use crate::heap::Heap;
@@ -110,7 +111,7 @@ fn same(a: Node, b: Node) -> bool
 
 /// The mode that a lock asks at its own node.
 fn own(effect: Effect) -> Mode
-    ensures { result ≡ own_mode effect }
+    ensures { result ≡ covering_mode effect }
 {
     match effect {
         Effect::Read => Mode::S,
