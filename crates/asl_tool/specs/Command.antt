@@ -30,22 +30,25 @@ IsOutput (command.Step threads schedule) input text = IsStepped input threads sc
 IsOutput command.Assemble input image = IsAssembled input image
 IsOutput command.Disassemble input text = IsDisassembled input text
 
--- what each refusal of a command says of the input; of want of memory nothing is said
+-- what each refusal of `step` says of the input; of want of memory nothing is said
 abbrev pub IsRefusedStep : List ℕ → ℕ → List ℕ → CommandFault → Type 0
 IsRefusedStep input threads schedule (fault.Program cause) = IsNoProgram input cause
 IsRefusedStep input threads schedule (fault.Machine cause) = HasRefusedRun input threads schedule cause
 IsRefusedStep input threads schedule fault.OutOfMemory = Unit {0}
 
+-- what each refusal of `asm` says of the text: a machine has no part in it
 abbrev pub IsRefusedText : List ℕ → CommandFault → Type 0
 IsRefusedText text (fault.Program (program.Text cause)) = IsBadText text cause
 IsRefusedText text fault.OutOfMemory = Unit {0}
 IsRefusedText text f = ⊥
 
+-- what each refusal of `dis` says of the image
 abbrev pub IsRefusedImage : List ℕ → CommandFault → Type 0
 IsRefusedImage image (fault.Program (program.Image cause)) = bytes.IsFault image cause
 IsRefusedImage image fault.OutOfMemory = Unit {0}
 IsRefusedImage image f = ⊥
 
+-- what each refusal of a command says of the input
 abbrev pub IsRefused : Command → List ℕ → CommandFault → Type 0
 IsRefused (command.Step threads schedule) input f = IsRefusedStep input threads schedule.items f
 IsRefused command.Assemble input f = IsRefusedText input f

@@ -1,16 +1,17 @@
 -- What a run of the program leaves in the writer, by what the reader had (docs/LIMITS.md, "Refusals of the program asl").
-use Rattle.std.specs.Prelude.{◌≡◌, ◌⊎◌, ℕ, List, [], Option, IfSome}
+use Rattle.std.specs.Prelude.{◌≡◌, ◌≤◌, ◌⊎◌, ℕ, List, [], Option, IfSome, length}
 use Rattle.std.specs.Io.KnownBytes.{Appends}
 use Rattle.asl_tool.specs.declared.command.Command.{Command}
 use Rattle.asl_tool.specs.declared.command.CommandFault.{CommandFault}
+use Rattle.asl_tool.specs.declared.streams.TheConstants.{MOST_INPUT}
 use Rattle.asl_tool.specs.declared.tool.ToolFault.{ToolFault}
 use Rattle.asl_tool.specs.declared.tool.ToolFault.TheVariants as fault
 use Rattle.asl_tool.specs.Streams.{AppendsPart, IsReadFault}
 use Rattle.asl_tool.specs.Command.{IsOutput, IsRefused}
 
--- the input is all that the reader had, where that is known
+-- the input is all that the reader had, where that is known, and no longer than an input may be
 abbrev pub IsWhole : Option (List ℕ) → List ℕ → Type 0
-IsWhole known input = IfSome known (λ bytes. input ≡ bytes)
+IsWhole known input = IfSome known (λ bytes. input ≡ bytes) × (length input ≤ MOST_INPUT)
 
 -- the writer got the command's output for the input
 pub record WritesOutput (known old new : Option (List ℕ)) (command : Command) : Type 0 where

@@ -1,5 +1,6 @@
 //! A run of the program: words, a reader and two writers in, the exit status out.
-ghost use Rattle.std.specs.Prelude.{◌≡◌, Some, IsSome, IfSome, OnOk, IfErr, MatchResult};
+ghost use Rattle.std.specs.Prelude.{◌≡◌, ◌≤◌, length, Some, IsSome, IfSome, OnOk, IfErr, MatchResult};
+ghost use Rattle.asl_tool.specs.declared.streams.TheConstants.{MOST_INPUT};
 ghost use Rattle.asl_tool.specs.Tool.{WritesOutput, Refuses, IsCommandStatus, IsTextStatus, EndsWith};
 
 use crate::command::{Command, CommandFault, output_of};
@@ -106,13 +107,14 @@ pub fn perform<R: Read, W: Write>(
     }
 }
 
-/// Writes the command's output for the input.
+/// Writes the command's output for the input, which is not too long.
 fn answer<W: Write>(
     alloc: Global,
     command: &Command,
     input: &[u8],
     writer: &mut W,
 ) -> Result<(), ToolFault>
+    requires { length input.now ≤ MOST_INPUT }
     ensures ok { OnOk result
         (WritesOutput (Some input.now) (W.contents writer.old) (W.contents writer.new) command.now) }
     ensures err { IfErr result
