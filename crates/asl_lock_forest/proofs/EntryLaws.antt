@@ -16,7 +16,7 @@ use Rattle.asl_lock_forest.specs.Holding.{Holding, held, no_holding, Request, as
 use Rattle.asl_lock_forest.specs.Request.{IsRefused, names}
 use Rattle.asl_lock_forest.specs.Entries.{key_of, holding_of, entry_of, goes_with}
 use Rattle.asl_lock_forest.proofs.Laws.{tell_keys, tell_nodes, get_insert_same, get_insert_other, get_release_own, get_release_other, get_grant_own, get_grant_other}
-use Rattle.asl_lock_forest.proofs.Requests.{and_left, and_right}
+use Rattle.std.proofs.lemmas.Bool.{and_parts}
 
 -- the first entry tells what is held at its key
 pub held_here : (e : Entry) (es : List Entry) (t : ℕ) (n : Node) → e.thread ≡ t → e.node ≡ n → held (holding_of (e ∷ es)) t n ≡ e.mode
@@ -183,7 +183,7 @@ found_goes_with : (h : Holding) (t : ℕ) (request : Request) (es : List Entry) 
 found_goes_with h t request [] all u n apart = inl (map.get-empty key_cmp (key u n))
 found_goes_with h t request (e ∷ es) all u n apart = elim (tell_keys (key u n) (key_of e)) [
   | inl here ↦
-      let first : goes_with h t request e ≡ true = and_left (goes_with h t request e) _ all in
+      let first : goes_with h t request e ≡ true = (and_parts (goes_with h t request e) _ all).0 in
       let thread : u ≡ e.thread = ap (λ k. k.thread) here.1 in
       let node : n ≡ e.node = ap (λ k. k.node) here.1 in
       elim (eqb_tells e.thread t) [
@@ -193,7 +193,7 @@ found_goes_with h t request (e ∷ es) all u n apart = elim (tell_keys (key u n)
             sym (ap (λ b. b || is_compatible (asked request e.node) (held h e.thread e.node)) other.0) ∙ first in
             inr (subst (λ k. AreCompatible (asked request k.node) (held h k.thread k.node)) (sym here.1) goes)
       ]
-  | inr there ↦ elim (found_goes_with h t request es (and_right (goes_with h t request e) _ all) u n apart) [
+  | inr there ↦ elim (found_goes_with h t request es (and_parts (goes_with h t request e) _ all).1 u n apart) [
     | inl none ↦ inl (get_insert_other (holding_of es) (key_of e) e.mode (key u n) there.1 ∙ none)
     | inr goes ↦ inr goes
   ]

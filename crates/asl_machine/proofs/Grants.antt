@@ -4,7 +4,7 @@ use Rattle.std.specs.Prelude.{unwrap_or, Result, Ok, Err, IfOk}
 use Rattle.asl_lock_forest.specs.Held.{Held, IsForest}
 use Rattle.std.specs.List.{list_all}
 use Rattle.std.specs.FinMap as map
-use Rattle.std.proofs.lemmas.Bool.{cases_lt}
+use Rattle.std.proofs.lemmas.Bool.{cases_lt, and_from, and_parts}
 use Rattle.asl_mode_lanes.specs.declared.mode.Mode.{Mode}
 use Rattle.asl_mode_lanes.specs.declared.mode.Mode.TheVariants.{NL}
 use Rattle.asl_mode_lanes.specs.Mode.{is_compatible, AreCompatible}
@@ -29,12 +29,9 @@ free_when_granted h t request node zero g = refl
 free_when_granted h t request node (suc other) g =
     or_and (other == t) (is_compatible (asked request node) (held h other node)) _ (λ e. g other node (eqb_false-ne other t e)) (free_when_granted h t request node other g)
 
-both : (x y : Bool) → x ≡ true → y ≡ true → (x && y) ≡ true
-both x y e f = cc
-
 all_when_granted : (h : Holding) (count t : ℕ) (request part : Request) → CanGrant h t request → list_all (λ ask. is_free h t request ask.0 count) part ≡ true
 all_when_granted h count t request [] g = refl
-all_when_granted h count t request (a ∷ rest) g = both _ _ (free_when_granted h t request a.0 count g) (all_when_granted h count t request rest g)
+all_when_granted h count t request (a ∷ rest) g = and_from _ _ (free_when_granted h t request a.0 count g) (all_when_granted h count t request rest g)
 
 or_and_false : (x y z : Bool) → x ≡ false → y ≡ false → ((x || y) && z) ≡ false
 or_and_false x y z e f = cc
@@ -114,14 +111,6 @@ answers_are h threads t request granted new (Err x) forest e g w is = tt
 
 -- ---- the other way round
 
-and_left : (x y : Bool) → (x && y) ≡ true → x ≡ true
-and_left true y e = refl
-and_left false y e = e
-
-and_right : (x y : Bool) → (x && y) ≡ true → y ≡ true
-and_right true y e = e
-and_right false y e = cc
-
 or_right : (x y : Bool) → (x || y) ≡ true → x ≡ false → y ≡ true
 or_right true y e f = cc
 or_right false y e f = e
@@ -131,11 +120,11 @@ goes_when_free : (h : Holding) (t : ℕ) (request : Request) (node : Node) (coun
 goes_when_free h t request node zero other f lt ne = absurd (omega arith)
 goes_when_free h t request node (suc last) other f lt ne =
     elim (cases_lt other last) [
-      | inl below ↦ goes_when_free h t request node last other (and_right _ _ f) below ne
+      | inl below ↦ goes_when_free h t request node last other (and_parts _ _ f).1 below ne
       | inr above ↦
           let is : last ≡ other = omega arith in
           subst (λ o. is_compatible (asked request node) (held h o node) ≡ true) is
-          (or_right (last == t) _ (and_left _ _ f) (ne_eqb last t (λ e. ne (sym is ∙ e))))
+          (or_right (last == t) _ (and_parts _ _ f).0 (ne_eqb last t (λ e. ne (sym is ∙ e))))
     ]
 
 free_or_unasked : (h : Holding) (count t : ℕ) (request part : Request) (node : Node) → list_all (λ ask. is_free h t request ask.0 count) part ≡ true →
@@ -143,8 +132,8 @@ free_or_unasked : (h : Holding) (count t : ℕ) (request part : Request) (node :
 free_or_unasked h count t request [] node e = inl refl
 free_or_unasked h count t request (a ∷ rest) node e =
     elim (tell_nodes a.0 node) [
-      | inl same ↦ inr (subst (λ n. is_free h t request n count ≡ true) same.1 (and_left _ _ e))
-      | inr other ↦ elim (free_or_unasked h count t request rest node (and_right _ _ e)) [
+      | inl same ↦ inr (subst (λ n. is_free h t request n count ≡ true) same.1 (and_parts _ _ e).0)
+      | inr other ↦ elim (free_or_unasked h count t request rest node (and_parts _ _ e).1) [
         | inl none ↦ inl (ap (λ b. cond b a.1 (asked rest node)) other.0 ∙ none)
         | inr free ↦ inr free
       ]

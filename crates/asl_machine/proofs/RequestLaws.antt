@@ -1,7 +1,7 @@
 -- Laws of requests: that a request is the least map that is at least every ask, and what the forest wants of one.
 use Rattle.std.proofs.Common.{◌≡◌, ◌≢◌, ℕ, ◌<◌, ◌⊎◌, Bool, true, false, cond, not, ◌&&◌, ◌||◌, List, [], ◌∷◌, ◌++◌, Option, None, Some, refl, sym, ap, ◌∙◌, subst, inl, inr, IsTrue}
 use Rattle.std.specs.Prelude.{All}
-use Rattle.std.proofs.lemmas.Bool.{not-true}
+use Rattle.std.proofs.lemmas.Bool.{not-true, and_parts, or_parts}
 use Rattle.std.specs.Option.{option_map_or}
 use Rattle.std.specs.List.{list_all}
 use Rattle.std.proofs.lemmas.List.Elements.{All-nil, All-cons, All-from_recursion, recursion_from_All}
@@ -295,18 +295,10 @@ once_step false a rest joined w h k j = subst (λ b. IsTrue (not b && names_once
     both true y z h j = j
     both false y z h j = h
 
-and_second : (x y : Bool) → IsTrue (x && y) → IsTrue y
-and_second true y h = h
-and_second false y h = let e = h in cc
-
-and_first : (x y : Bool) → IsTrue (x && y) → IsTrue x
-and_first true y h = refl
-and_first false y h = h
-
 once_with : (r : Request) (n : Node) (m : Mode) → IsTrue (names_once r) → IsTrue (names_once (joined_with r n m))
 once_with [] n m h = refl
 once_with (a ∷ rest) n m h =
-    once_step (same_node a.0 n) a rest (joined_with rest n m) (join_of a.1 m) h (λ e. names_kept rest n m a.0 (same_sym n a.0 ∙ e)) (once_with rest n m (and_second _ _ h))
+    once_step (same_node a.0 n) a rest (joined_with rest n m) (join_of a.1 m) h (λ e. names_kept rest n m a.0 (same_sym n a.0 ∙ e)) (once_with rest n m (and_parts _ _ h).1)
 
 once_all : (asks r : Request) → IsTrue (names_once r) → IsTrue (names_once (joined_all r asks))
 once_all [] r h = h
@@ -325,12 +317,12 @@ join_some a b h = off (is_at_most (join_of a b) NL) (is_at_most a NL) h (λ e. a
 
 modes_step : (p : Bool) (a : Node × Mode) (rest joined : Request) (m : Mode) → IsTrue (not (is_at_most a.1 NL) && asks_modes rest) → IsTrue (asks_modes joined) →
     IsTrue (asks_modes (cond p ((a.0, join_of a.1 m) ∷ rest) (a ∷ joined)))
-modes_step true a rest joined m h j = both _ _ (join_some a.1 m (and_first _ _ h)) (and_second _ _ h)
+modes_step true a rest joined m h j = both _ _ (join_some a.1 m (and_parts _ _ h).0) (and_parts _ _ h).1
   where
     both : (x y : Bool) → IsTrue x → IsTrue y → IsTrue (x && y)
     both true y h k = k
     both false y h k = h
-modes_step false a rest joined m h j = both _ _ (and_first _ _ h) j
+modes_step false a rest joined m h j = both _ _ (and_parts _ _ h).0 j
   where
     both : (x y : Bool) → IsTrue x → IsTrue y → IsTrue (x && y)
     both true y h k = k
@@ -342,15 +334,15 @@ modes_with [] n m k h = both (not (is_at_most m NL)) k
     both : (x : Bool) → IsTrue x → IsTrue (x && true)
     both true h = refl
     both false h = h
-modes_with (a ∷ rest) n m k h = modes_step (same_node a.0 n) a rest (joined_with rest n m) m h (modes_with rest n m k (and_second _ _ h))
+modes_with (a ∷ rest) n m k h = modes_step (same_node a.0 n) a rest (joined_with rest n m) m h (modes_with rest n m k (and_parts _ _ h).1)
 
 modes_all : (asks r : Request) → IsTrue (asks_modes asks) → IsTrue (asks_modes r) → IsTrue (asks_modes (joined_all r asks))
 modes_all [] r k h = h
-modes_all (ask ∷ asks) r k h = modes_all asks (joined_with r ask.0 ask.1) (and_second _ _ k) (modes_with r ask.0 ask.1 (and_first _ _ k) h)
+modes_all (ask ∷ asks) r k h = modes_all asks (joined_with r ask.0 ask.1) (and_parts _ _ k).1 (modes_with r ask.0 ask.1 (and_parts _ _ k).0 h)
 
 modes-append : (xs ys : Request) → IsTrue (asks_modes xs) → IsTrue (asks_modes ys) → IsTrue (asks_modes (xs ++ ys))
 modes-append [] ys h k = k
-modes-append (x ∷ xs) ys h k = both _ _ _ h (modes-append xs ys (and_second _ _ h) k)
+modes-append (x ∷ xs) ys h k = both _ _ _ h (modes-append xs ys (and_parts _ _ h).1 k)
   where
     both : (x y z : Bool) → IsTrue (x && y) → IsTrue z → IsTrue (x && z)
     both true y z h j = j
@@ -386,20 +378,12 @@ EntriesOf : Request → Request → Type 0
 EntriesOf whole [] = Unit {0}
 EntriesOf whole (ask ∷ rest) = (asked whole ask.0 ≡ ask.1) × EntriesOf whole rest
 
-or_false_left : (x y : Bool) → (x || y) ≡ false → x ≡ false
-or_false_left true y e = e
-or_false_left false y e = refl
-
-or_false_right : (x y : Bool) → (x || y) ≡ false → y ≡ false
-or_false_right true y e = cc
-or_false_right false y e = e
-
 entries_later : (a : Node × Mode) (whole rest : Request) → names rest a.0 ≡ false → EntriesOf whole rest → EntriesOf (a ∷ whole) rest
 unfolding EntriesOf
 entries_later a whole [] e h = tt
 entries_later a whole (x ∷ rest) e h = (
-  ap (λ b. cond b a.1 (asked whole x.0)) (same_sym a.0 x.0 ∙ or_false_left (same_node x.0 a.0) (names rest a.0) e) ∙ h.0,
-  entries_later a whole rest (or_false_right (same_node x.0 a.0) (names rest a.0) e) h.1,
+  ap (λ b. cond b a.1 (asked whole x.0)) (same_sym a.0 x.0 ∙ (or_parts (same_node x.0 a.0) (names rest a.0) e).0) ∙ h.0,
+  entries_later a whole rest (or_parts (same_node x.0 a.0) (names rest a.0) e).1 h.1,
 )
 
 entries_own : (r : Request) → IsTrue (names_once r) → EntriesOf r r
@@ -407,7 +391,7 @@ unfolding EntriesOf
 entries_own [] h = tt
 entries_own (a ∷ rest) h = (
   ap (λ b. cond b a.1 (asked rest a.0)) (same_self a.0),
-  entries_later a rest rest (not-true (names rest a.0) (and_first _ _ h)) (entries_own rest (and_second _ _ h)),
+  entries_later a rest rest (not-true (names rest a.0) (and_parts _ _ h).0) (entries_own rest (and_parts _ _ h).1),
 )
 
 parent_of_entry : (whole : Request) (n : Node) (m : Mode) (p : Option Node) → IsRooted (asked whole) → parent_of n ≡ p → asked whole n ≡ m → IsTrue (asks_parent_of whole p m)

@@ -1,19 +1,10 @@
 -- Laws of the six modes. Each is a test that computes over all modes.
 use Rattle.std.proofs.Common.{◌≡◌, ◌≢◌, refl, subst, Bool, true, false, ◌&&◌, ◌||◌, not, ◌==◌, ap, sym, ◌∙◌, ◌⊎◌, inl, inr, bit_or, ◌↔◌}
-use Rattle.std.proofs.lemmas.Bool.{eqb-true, not-true}
+use Rattle.std.proofs.lemmas.Bool.{eqb-true, not-true, and_parts}
 use Rattle.asl_mode_lanes.specs.declared.mode.Mode.{Mode}
 use Rattle.asl_mode_lanes.specs.declared.mode.Mode.TheVariants.{NL, IS, IX, S, SIX, X}
 use Rattle.asl_mode_lanes.specs.Mode.{is_at_most, AtMost, is_compatible, AreCompatible, IsJoin, join_of, code_of, codes_clash}
 use Rattle.asl_mode_lanes.specs.Row.{mode_of}
-
--- the parts of a test that holds
-and_left : (a b : Bool) → (a && b) ≡ true → a ≡ true
-and_left true b h = refl
-and_left false b h = cc
-
-and_right : (a b : Bool) → (a && b) ≡ true → b ≡ true
-and_right true b h = h
-and_right false b h = cc
 
 -- a test holds of each mode
 abbrev each : (Mode → Bool) → Bool
@@ -21,17 +12,17 @@ each p = p NL && (p IS && (p IX && (p S && (p SIX && p X))))
 
 each-holds : (p : Mode → Bool) → each p ≡ true → (m : Mode) → p m ≡ true
 each-holds p h =
-    let h1 = and_right (p NL) _ h in
-    let h2 = and_right (p IS) _ h1 in
-    let h3 = and_right (p IX) _ h2 in
-    let h4 = and_right (p S) _ h3 in
+    let h1 = (and_parts (p NL) _ h).1 in
+    let h2 = (and_parts (p IS) _ h1).1 in
+    let h3 = (and_parts (p IX) _ h2).1 in
+    let h4 = (and_parts (p S) _ h3).1 in
     λ m. elim m as (λ v. p v ≡ true) [
-      | NL ↦ and_left (p NL) _ h
-      | IS ↦ and_left (p IS) _ h1
-      | IX ↦ and_left (p IX) _ h2
-      | S ↦ and_left (p S) _ h3
-      | SIX ↦ and_left (p SIX) _ h4
-      | X ↦ and_right (p SIX) _ h4
+      | NL ↦ (and_parts (p NL) _ h).0
+      | IS ↦ (and_parts (p IS) _ h1).0
+      | IX ↦ (and_parts (p IX) _ h2).0
+      | S ↦ (and_parts (p S) _ h3).0
+      | SIX ↦ (and_parts (p SIX) _ h4).0
+      | X ↦ (and_parts (p SIX) _ h4).1
     ]
 
 each_pair : (p : Mode → Mode → Bool) → each (λ a. each (p a)) ≡ true → (a b : Mode) → p a b ≡ true
