@@ -16,6 +16,7 @@ use Rattle.asl_code.specs.ReadingValue.{value_at, int_at, address_at}
 abbrev Answer : Type 0
 Answer = Result (Value × ℕ) ValueFault
 
+-- each number of the list is a byte
 abbrev pub AreBytes : List ℕ → Type 0
 AreBytes bytes = (i : ℕ) → get_or bytes i 0 < 256
 

@@ -7,21 +7,19 @@ use Rattle.asl_code.specs.declared.instr.Instr.{Instr}
 use Rattle.asl_code.specs.Reading.{instr_of}
 use Rattle.asl_code.specs.Spelling.{SpellsInstr, IsFirstBadField}
 use Rattle.asl_code.proofs.Instrs.{AreEight, answer_is}
+use Rattle.asl_code.proofs.Values.{AreBytes}
 use Rattle.asl_loader.specs.declared.fault.Stop.TheVariants.{Short, Bad}
 use Rattle.asl_loader.specs.Reading.{instr_at, judged}
 
-abbrev pub IsBytes : List ℕ → Type 0
-IsBytes bytes = (i : ℕ) → get_or bytes i 0 < 256
-
-pub IsBytes-take : (n : ℕ) (bytes : List ℕ) → IsBytes bytes → IsBytes (take n bytes)
-IsBytes-take n bytes h i =
+pub AreBytes-take : (n : ℕ) (bytes : List ℕ) → AreBytes bytes → AreBytes (take n bytes)
+AreBytes-take n bytes h i =
     elim (cases_lt i n) [
       | inl lt ↦ rw (get_or-take n bytes i 0 lt) (h i)
       | inr le ↦ rw (get_or_past (take n bytes) i 0 (omega (arith, length-take n bytes))) (lit< tt)
     ]
 
-pub eight_are : (bytes : List ℕ) → 8 ≤ length bytes → IsBytes bytes → AreEight (take 8 bytes)
-eight_are bytes long fit = record { len = omega (arith, length-take 8 bytes); fit = IsBytes-take 8 bytes fit }
+pub eight_are : (bytes : List ℕ) → 8 ≤ length bytes → AreBytes bytes → AreEight (take 8 bytes)
+eight_are bytes long fit = record { len = omega (arith, length-take 8 bytes); fit = AreBytes-take 8 bytes fit }
 
 pub eight_taken : (bytes : List ℕ) → 8 ≤ length bytes → get_or bytes 0 0 ∷ get_or bytes 1 0 ∷ get_or bytes 2 0 ∷ get_or bytes 3 0 ∷ get_or bytes 4 0 ∷ get_or bytes 5 0 ∷ get_or bytes 6 0 ∷ get_or bytes 7 0 ∷ [] ≡ take 8 bytes
 eight_taken (a ∷ b ∷ c ∷ d ∷ e ∷ f ∷ g ∷ h ∷ rest) long = refl
@@ -43,7 +41,7 @@ pub instr_at-short : (bytes : List ℕ) → length bytes < 8 → instr_at bytes 
 unfolding instr_at
 instr_at-short bytes low = let early : ltb (length bytes) 8 ≡ true = lt-ltb _ _ low in rw early refl
 
-module _ (bytes front : List ℕ) (long : 8 ≤ length bytes) (fit : IsBytes bytes) (taken : front ≡ take 8 bytes) (r : Result Instr ℕ) (found : IfOk r (λ i. SpellsInstr i front)) (refused : IfErr r (λ place. IsFirstBadField front place)) where
+module _ (bytes front : List ℕ) (long : 8 ≤ length bytes) (fit : AreBytes bytes) (taken : front ≡ take 8 bytes) (r : Result Instr ℕ) (found : IfOk r (λ i. SpellsInstr i front)) (refused : IfErr r (λ place. IsFirstBadField front place)) where
   computed : r ≡ instr_of (take 8 bytes)
   computed = rw (← taken) (answer_is front r (rw taken (eight_are bytes long fit)) found refused)
 

@@ -13,7 +13,8 @@ use Rattle.asl_loader.specs.Bytes.{Field, Plain, Eight, text_of, one, two, instr
 use Rattle.asl_loader.specs.declared.fault.Stop.{Stop}
 use Rattle.asl_loader.specs.declared.fault.Stop.TheVariants.{Short, Bad}
 use Rattle.asl_loader.specs.Reading.{◌>>=◌, passed, byte_at, number_at, below_at, magic_at, version_at, instr_at, judged}
-use Rattle.asl_loader.proofs.Eight.{IsBytes, IsBytes-take, eight_are, instr_at-long, instr_at-short}
+use Rattle.asl_code.proofs.Values.{AreBytes}
+use Rattle.asl_loader.proofs.Eight.{AreBytes-take, eight_are, instr_at-long, instr_at-short}
 use Rattle.asl_loader.proofs.Reader.{Reads, IsBadFrom, bind_ok, bind_err, done, ok_is}
 
 -- the same things, said otherwise
@@ -31,12 +32,12 @@ reads_as X Is Are fields_of reader r to from = record {
 -- a field of a fixed width that any bytes are
 pub record IsNumber (Is : ℕ → Type 0) (text : ℕ → List ℕ) (width : ℕ) (reader : List ℕ → Result (ℕ × List ℕ) Stop) : Type 0 where
   pub wide : (n : ℕ) → length (text n) ≡ width
-  pub takes : (bytes : List ℕ) (n : ℕ) (rest : List ℕ) → IsBytes bytes → reader bytes ≡ Ok (n, rest) → Is n × (bytes ≡ text n ++ rest)
+  pub takes : (bytes : List ℕ) (n : ℕ) (rest : List ℕ) → AreBytes bytes → reader bytes ≡ Ok (n, rest) → Is n × (bytes ≡ text n ++ rest)
   pub again : (n : ℕ) (rest : List ℕ) → Is n → reader (text n ++ rest) ≡ Ok (n, rest)
   pub short : (bytes : List ℕ) → reader bytes ≡ Err Short → length bytes < width
   pub never : (bytes : List ℕ) (left : ℕ) → reader bytes ≢ Err (Bad left)
 
-byte_takes : (bytes : List ℕ) (n : ℕ) (rest : List ℕ) → IsBytes bytes → byte_at bytes ≡ Ok (n, rest) → (n < 256) × (bytes ≡ (n ∷ []) ++ rest)
+byte_takes : (bytes : List ℕ) (n : ℕ) (rest : List ℕ) → AreBytes bytes → byte_at bytes ≡ Ok (n, rest) → (n < 256) × (bytes ≡ (n ∷ []) ++ rest)
 unfolding byte_at
 byte_takes [] n rest fit e = absurd cc
 byte_takes (b ∷ bytes) n rest fit e =
@@ -78,15 +79,15 @@ byte_number = record {
   never = byte_never;
 }
 
-number_takes : (w : Width) (limit : ℕ) → ((bytes : List ℕ) → length bytes ≡ byte_len w → IsBytes bytes → to_be_bytes w (from_be_bytes w bytes) ≡ bytes) → ((bytes : List ℕ) → IsBytes bytes → from_be_bytes w bytes < limit)
-    → (bytes : List ℕ) (n : ℕ) (rest : List ℕ) → IsBytes bytes → number_at w bytes ≡ Ok (n, rest) → (n < limit) × (bytes ≡ to_be_bytes w n ++ rest)
+number_takes : (w : Width) (limit : ℕ) → ((bytes : List ℕ) → length bytes ≡ byte_len w → AreBytes bytes → to_be_bytes w (from_be_bytes w bytes) ≡ bytes) → ((bytes : List ℕ) → AreBytes bytes → from_be_bytes w bytes < limit)
+    → (bytes : List ℕ) (n : ℕ) (rest : List ℕ) → AreBytes bytes → number_at w bytes ≡ Ok (n, rest) → (n < limit) × (bytes ≡ to_be_bytes w n ++ rest)
 number_takes w limit back below bytes n rest fit e =
     let g = guard_ok (ltb (length bytes) (byte_len w)) (from_be_bytes w (take (byte_len w) bytes), drop (byte_len w) bytes) (n, rest) e in
     let long : byte_len w ≤ length bytes = ltb-false _ _ g.0 in
     let n-is : from_be_bytes w (take (byte_len w) bytes) ≡ n = ap (λ (p : ℕ × List ℕ). p.0) g.1 in
     let rest-is : drop (byte_len w) bytes ≡ rest = ap (λ (p : ℕ × List ℕ). p.1) g.1 in
-    let front : to_be_bytes w n ≡ take (byte_len w) bytes = rw (← n-is) (back (take (byte_len w) bytes) (omega (arith, length-take (byte_len w) bytes)) (IsBytes-take (byte_len w) bytes fit)) in
-    (rw (← n-is) (below (take (byte_len w) bytes) (IsBytes-take (byte_len w) bytes fit)), rw (front, ← rest-is) (sym (take-append-drop (byte_len w) bytes)))
+    let front : to_be_bytes w n ≡ take (byte_len w) bytes = rw (← n-is) (back (take (byte_len w) bytes) (omega (arith, length-take (byte_len w) bytes)) (AreBytes-take (byte_len w) bytes fit)) in
+    (rw (← n-is) (below (take (byte_len w) bytes) (AreBytes-take (byte_len w) bytes fit)), rw (front, ← rest-is) (sym (take-append-drop (byte_len w) bytes)))
 
 number_again : (w : Width) (n : ℕ) (rest : List ℕ) → length (to_be_bytes w n) ≡ byte_len w → from_be_bytes w (to_be_bytes w n) ≡ n → number_at w (to_be_bytes w n ++ rest) ≡ Ok (n, rest)
 number_again w n rest len again =
@@ -168,7 +169,7 @@ module _ (Is : ℕ → Type 0) (text : ℕ → List ℕ) (width : ℕ) (reader :
     tested : List ℕ → Result (ℕ × List ℕ) Stop
     tested bytes = reader bytes >>= λ x. passed (test x.0) x bytes
 
-    tested_found : (bytes : List ℕ) (x : ℕ) (rest : List ℕ) → IsBytes bytes → tested bytes ≡ Ok (x, rest) → (Is x × (test x ≡ true)) × (bytes ≡ text_of (Plain (text x) ∷ []) ++ rest)
+    tested_found : (bytes : List ℕ) (x : ℕ) (rest : List ℕ) → AreBytes bytes → tested bytes ≡ Ok (x, rest) → (Is x × (test x ≡ true)) × (bytes ≡ text_of (Plain (text x) ∷ []) ++ rest)
     unfolding tested
     tested_found bytes x rest fit e =
         let b = bind_ok (reader bytes) (λ x. passed (test x.0) x bytes) (x, rest) e in
@@ -185,7 +186,7 @@ module _ (Is : ℕ → Type 0) (text : ℕ → List ℕ) (width : ℕ) (reader :
         let t : test x ≡ true = is_x.1 in
         rw (r, t) refl
 
-    tested_cut : (bytes : List ℕ) → IsBytes bytes → tested bytes ≡ Err Short → EndsWithin ℕ (λ x. Is x × (test x ≡ true)) (λ n. Plain (text n) ∷ []) bytes
+    tested_cut : (bytes : List ℕ) → AreBytes bytes → tested bytes ≡ Err Short → EndsWithin ℕ (λ x. Is x × (test x ≡ true)) (λ n. Plain (text n) ∷ []) bytes
     unfolding tested
     tested_cut bytes fit e =
         elim (bind_err (reader bytes) (λ x. passed (test x.0) x bytes) Short e) [
@@ -193,7 +194,7 @@ module _ (Is : ℕ → Type 0) (text : ℕ → List ℕ) (width : ℕ) (reader :
           | inr b ↦ absurd (passed_short (test b.0.0) b.0 bytes b.2)
         ]
 
-    tested_bad : (bytes : List ℕ) (left : ℕ) → IsBytes bytes → tested bytes ≡ Err (Bad left) → IsBadFrom ℕ (λ x. Is x × (test x ≡ true)) (λ n. Plain (text n) ∷ []) bytes left
+    tested_bad : (bytes : List ℕ) (left : ℕ) → AreBytes bytes → tested bytes ≡ Err (Bad left) → IsBadFrom ℕ (λ x. Is x × (test x ≡ true)) (λ n. Plain (text n) ∷ []) bytes left
     unfolding tested
     tested_bad bytes left fit e =
         elim (bind_err (reader bytes) (λ x. passed (test x.0) x bytes) (Bad left) e) [
@@ -292,7 +293,7 @@ instr_long bytes h =
       | inr long ↦ long
     ]
 
-instr_found : (bytes : List ℕ) (x : Instr) (rest : List ℕ) → IsBytes bytes → instr_at bytes ≡ Ok (x, rest) → IsInstr x × (bytes ≡ text_of (instr_fields x) ++ rest)
+instr_found : (bytes : List ℕ) (x : Instr) (rest : List ℕ) → AreBytes bytes → instr_at bytes ≡ Ok (x, rest) → IsInstr x × (bytes ≡ text_of (instr_fields x) ++ rest)
 instr_found bytes x rest fit e =
     let long = instr_long bytes (λ s. let both : done (x, rest) ≡ Err Short = sym e ∙ s in absurd cc) in
     let j = judged_ok (length bytes) (drop 8 bytes) (instr_of (take 8 bytes)) (x, rest) (sym (instr_at-long bytes long) ∙ e) in
@@ -311,7 +312,7 @@ instr_again x rest is =
     let reads : instr_of (instr_bytes x) ≡ Ok x = instr_of-again (instr_bytes x) x eight (record { fits = is; spelled = refl }) in
     ap instr_at text ∙ instr_at-long (instr_bytes x ++ rest) long ∙ ap₂ (λ (a : Result Instr ℕ) (b : List ℕ). judged (length (instr_bytes x ++ rest)) b a) (ap instr_of front ∙ reads) back
 
-instr_cut : (bytes : List ℕ) → IsBytes bytes → instr_at bytes ≡ Err Short → EndsWithin Instr IsInstr instr_fields bytes
+instr_cut : (bytes : List ℕ) → AreBytes bytes → instr_at bytes ≡ Err Short → EndsWithin Instr IsInstr instr_fields bytes
 instr_cut bytes fit e = record {
   thing = Release;
   is = tt;
@@ -324,7 +325,7 @@ instr_cut bytes fit e = record {
   cut = instr_short bytes e;
 }
 
-instr_bad : (bytes : List ℕ) (left : ℕ) → IsBytes bytes → instr_at bytes ≡ Err (Bad left) → IsBadFrom Instr IsInstr instr_fields bytes left
+instr_bad : (bytes : List ℕ) (left : ℕ) → AreBytes bytes → instr_at bytes ≡ Err (Bad left) → IsBadFrom Instr IsInstr instr_fields bytes left
 instr_bad bytes left fit e =
     let long = instr_long bytes (λ s. let both : failed (Bad left) ≡ failed Short = sym e ∙ s in let same : Bad left ≡ Short = cc in absurd cc) in
     let j = judged_bad (length bytes) (drop 8 bytes) (instr_of (take 8 bytes)) left (sym (instr_at-long bytes long) ∙ e) in

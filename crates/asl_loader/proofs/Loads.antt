@@ -12,15 +12,15 @@ use Rattle.asl_loader.specs.declared.fault.LoadFault.{LoadFault}
 use Rattle.asl_loader.specs.declared.fault.LoadFault.TheVariants.{Truncated, Trailing, OutOfMemory}
 use Rattle.asl_loader.specs.declared.fault.Stop.{Stop}
 use Rattle.asl_loader.specs.declared.fault.Stop.TheVariants.{Short, Bad}
-use Rattle.asl_loader.proofs.Eight.{IsBytes}
+use Rattle.asl_code.proofs.Values.{AreBytes}
 use Rattle.asl_loader.proofs.Images.{image_reads}
 
-pub rest_within : (bytes : List ℕ) (i : Image) (rest : List ℕ) → IsBytes bytes → image_at bytes ≡ Ok (i, rest) → length rest ≤ length bytes
+pub rest_within : (bytes : List ℕ) (i : Image) (rest : List ℕ) → AreBytes bytes → image_at bytes ≡ Ok (i, rest) → length rest ≤ length bytes
 rest_within bytes i rest fit e =
     let f = image_reads.found bytes i rest fit e in
     omega (arith, ap length f.1, length-append (text_of (image_fields i)) rest)
 
-pub left_within : (bytes : List ℕ) (left : ℕ) → IsBytes bytes → image_at bytes ≡ Err (Bad left) → left ≤ length bytes
+pub left_within : (bytes : List ℕ) (left : ℕ) → AreBytes bytes → image_at bytes ≡ Err (Bad left) → left ≤ length bytes
 left_within bytes left fit e = let b = image_reads.bad bytes left fit e in omega (arith, b.1)
 
 abbrev answered : Image → Result Image LoadFault
@@ -37,7 +37,7 @@ ended_err : (i : Image) (left len : ℕ) (b : Bool) → eqb left 0 ≡ b → (f 
 ended_err i left len true t f e = let both : answered i ≡ refused f = rw t at e in absurd cc
 ended_err i left len false t f e = let both : refused (Trailing (len - left)) ≡ refused f = rw t at e in (λ z. let y : eqb left 0 ≡ true = rw z refl in absurd cc, cc)
 
-whole_found_from : (bytes : List ℕ) (r : Result (Image × List ℕ) Stop) (i : Image) → IsBytes bytes → image_at bytes ≡ r → whole_from (length bytes) r ≡ Ok i → SpellsImage i bytes
+whole_found_from : (bytes : List ℕ) (r : Result (Image × List ℕ) Stop) (i : Image) → AreBytes bytes → image_at bytes ≡ r → whole_from (length bytes) r ≡ Ok i → SpellsImage i bytes
 whole_found_from bytes (Ok x) i fit r e =
     let w = ended_ok x.0 (length x.1) (length bytes) (eqb (length x.1) 0) refl i e in
     let f = image_reads.found bytes x.0 x.1 fit r in
@@ -46,7 +46,7 @@ whole_found_from bytes (Ok x) i fit r e =
     subst (λ (j : Image). SpellsImage j bytes) w.1 (record { fits = f.0; spelled = spelled })
 whole_found_from bytes (Err stop) i fit r e = absurd cc
 
-pub whole_found : (bytes : List ℕ) (i : Image) → IsBytes bytes → whole_of bytes ≡ Ok i → SpellsImage i bytes
+pub whole_found : (bytes : List ℕ) (i : Image) → AreBytes bytes → whole_of bytes ≡ Ok i → SpellsImage i bytes
 unfolding whole_of
 whole_found bytes i fit e = whole_found_from bytes (image_at bytes) i fit refl e
 
@@ -65,7 +65,7 @@ bad_is bytes at false false e f bad =
     let nor : at ≢ 4 = λ z. let y : eqb at 4 ≡ true = rw z refl in absurd cc in
     rw (e, f) ((no, nor, bad), λ z. absurd cc)
 
-whole_refused_from : (bytes : List ℕ) (r : Result (Image × List ℕ) Stop) (f : LoadFault) → IsBytes bytes → image_at bytes ≡ r → whole_from (length bytes) r ≡ Err f → IsFault bytes f × (f ≢ OutOfMemory)
+whole_refused_from : (bytes : List ℕ) (r : Result (Image × List ℕ) Stop) (f : LoadFault) → AreBytes bytes → image_at bytes ≡ r → whole_from (length bytes) r ≡ Err f → IsFault bytes f × (f ≢ OutOfMemory)
 whole_refused_from bytes (Ok x) f fit r e =
     let w = ended_err x.0 (length x.1) (length bytes) (eqb (length x.1) 0) refl f e in
     let g = image_reads.found bytes x.0 x.1 fit r in
@@ -86,7 +86,7 @@ whole_refused_from bytes (Err (Bad left)) f fit r e =
     let w = bad_is bytes (length bytes - left) (eqb (length bytes - left) 0) (eqb (length bytes - left) 4) refl refl (subst (IsBadImageByte bytes) at b.2) in
     (subst (IsFault bytes) same w.0, λ z. w.1 (same ∙ z))
 
-pub whole_refused : (bytes : List ℕ) (f : LoadFault) → IsBytes bytes → whole_of bytes ≡ Err f → IsFault bytes f × (f ≢ OutOfMemory)
+pub whole_refused : (bytes : List ℕ) (f : LoadFault) → AreBytes bytes → whole_of bytes ≡ Err f → IsFault bytes f × (f ≢ OutOfMemory)
 unfolding whole_of
 whole_refused bytes f fit e = whole_refused_from bytes (image_at bytes) f fit refl e
 
@@ -96,10 +96,10 @@ whole_refused bytes f fit e = whole_refused_from bytes (image_at bytes) f fit re
 abbrev pub IsWhole : List ℕ → Result Image LoadFault → Type 0
 IsWhole bytes r = (r ≡ Err OutOfMemory) ⊎ (r ≡ whole_of bytes)
 
-pub found_is : (bytes : List ℕ) (i : Image) → IsBytes bytes → IsWhole bytes (Ok i) → SpellsImage i bytes
+pub found_is : (bytes : List ℕ) (i : Image) → AreBytes bytes → IsWhole bytes (Ok i) → SpellsImage i bytes
 found_is bytes i fit w = elim w [ inl out ↦ let both : answered i ≡ refused OutOfMemory = out in absurd cc | inr e ↦ whole_found bytes i fit (sym e) ]
 
-pub refused_is : (bytes : List ℕ) (f : LoadFault) → IsBytes bytes → IsWhole bytes (Err f) → IsFault bytes f
+pub refused_is : (bytes : List ℕ) (f : LoadFault) → AreBytes bytes → IsWhole bytes (Err f) → IsFault bytes f
 refused_is bytes f fit w =
     elim w [
       | inl out ↦ let both : refused f ≡ refused OutOfMemory = out in let same : OutOfMemory ≡ f = cc in subst (IsFault bytes) same tt

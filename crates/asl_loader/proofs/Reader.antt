@@ -6,7 +6,7 @@ use Rattle.asl_loader.specs.Bytes.{Field, bytes_of, text_of, EndsWithin, HasBadB
 use Rattle.asl_loader.specs.declared.fault.Stop.{Stop}
 use Rattle.asl_loader.specs.declared.fault.Stop.TheVariants.{Short, Bad}
 use Rattle.asl_loader.specs.Reading.{◌>>=◌}
-use Rattle.asl_loader.proofs.Eight.{IsBytes}
+use Rattle.asl_code.proofs.Values.{AreBytes}
 
 -- the bad byte is so many bytes from the end
 abbrev pub IsBadFrom : (X : Type 0) (Is : X → Type 0) (fields_of : X → List Field) (bytes : List ℕ) (left : ℕ) → Type 0
@@ -15,13 +15,13 @@ IsBadFrom X Is fields_of bytes left = (at : ℕ) × (at + left ≡ length bytes)
 -- The reader reads the fields of the things that are so: what it takes is spelled so, what is spelled so it takes, and
 -- what stops it is the first thing that is wrong.
 pub record Reads (X : Type 0) (Is : X → Type 0) (fields_of : X → List Field) (reader : List ℕ → Result (X × List ℕ) Stop) : Type 0 where
-  pub found : (bytes : List ℕ) (x : X) (rest : List ℕ) → IsBytes bytes → reader bytes ≡ Ok (x, rest) → Is x × (bytes ≡ text_of (fields_of x) ++ rest)
+  pub found : (bytes : List ℕ) (x : X) (rest : List ℕ) → AreBytes bytes → reader bytes ≡ Ok (x, rest) → Is x × (bytes ≡ text_of (fields_of x) ++ rest)
   pub again : (x : X) (rest : List ℕ) → Is x → reader (text_of (fields_of x) ++ rest) ≡ Ok (x, rest)
-  pub cut : (bytes : List ℕ) → IsBytes bytes → reader bytes ≡ Err Short → EndsWithin X Is fields_of bytes
-  pub bad : (bytes : List ℕ) (left : ℕ) → IsBytes bytes → reader bytes ≡ Err (Bad left) → IsBadFrom X Is fields_of bytes left
+  pub cut : (bytes : List ℕ) → AreBytes bytes → reader bytes ≡ Err Short → EndsWithin X Is fields_of bytes
+  pub bad : (bytes : List ℕ) (left : ℕ) → AreBytes bytes → reader bytes ≡ Err (Bad left) → IsBadFrom X Is fields_of bytes left
 
-pub IsBytes-rest : (front rest : List ℕ) → IsBytes (front ++ rest) → IsBytes rest
-IsBytes-rest front rest h i = rw (← get_or-append-add front rest i 0) (h (length front + i))
+pub AreBytes-rest : (front rest : List ℕ) → AreBytes (front ++ rest) → AreBytes rest
+AreBytes-rest front rest h i = rw (← get_or-append-add front rest i 0) (h (length front + i))
 
 pub bind_ok : {A B : Type 0} (r : Result A Stop) (f : A → Result B Stop) (y : B) → (r >>= f) ≡ Ok y → (x : A) × (r ≡ Ok x) × (f x ≡ Ok y)
 bind_ok (Ok x) f y e = (x, refl, e)
@@ -78,12 +78,12 @@ module _ (X Y : Type 0) (IsX : X → Type 0) (IsY : Y → Type 0) (fields_x : X 
       let s : done (x, text_of a) ≡ done (w, text_of b) = sym (first.again x (text_of a) p) ∙ r in
       ap (λ (u : X × List ℕ). u.0) (ok_is (x, text_of a) (w, text_of b) s)
 
-  both_found : (bytes : List ℕ) (y : Y) (rest : List ℕ) → IsBytes bytes → both bytes ≡ Ok (y, rest) → IsY y × (bytes ≡ text_of (fields_y y) ++ rest)
+  both_found : (bytes : List ℕ) (y : Y) (rest : List ℕ) → AreBytes bytes → both bytes ≡ Ok (y, rest) → IsY y × (bytes ≡ text_of (fields_y y) ++ rest)
   unfolding both
   both_found bytes y rest fit e =
       let b = bind_ok (read_x bytes) (λ x. read_y x.0 x.1) (y, rest) e in
       let f = first.found bytes b.0.0 b.0.1 fit b.1 in
-      let g = (second b.0.0 f.0).found b.0.1 y rest (IsBytes-rest (text_of (fields_x b.0.0)) b.0.1 (rw (← f.1) fit)) b.2 in
+      let g = (second b.0.0 f.0).found b.0.1 y rest (AreBytes-rest (text_of (fields_x b.0.0)) b.0.1 (rw (← f.1) fit)) b.2 in
       let j = joins b.0.0 y f.0 g.0.0 g.0.1 in
       (g.0.0, rw (j, text_of-append (fields_x b.0.0) (after y), append_assoc) (f.1 ∙ ap (λ (t : List ℕ). text_of (fields_x b.0.0) ++ t) g.1))
 
@@ -198,24 +198,24 @@ module _ (X Y : Type 0) (IsX : X → Type 0) (IsY : Y → Type 0) (fields_x : X 
         },
       )
 
-  both_cut : (bytes : List ℕ) → IsBytes bytes → both bytes ≡ Err Short → EndsWithin Y IsY fields_y bytes
+  both_cut : (bytes : List ℕ) → AreBytes bytes → both bytes ≡ Err Short → EndsWithin Y IsY fields_y bytes
   unfolding both
   both_cut bytes fit e =
       elim (bind_err (read_x bytes) (λ x. read_y x.0 x.1) Short e) [
         | inl f ↦ first_cut bytes (first.cut bytes fit f)
         | inr b ↦
             let f = first.found bytes b.0.0 b.0.1 fit b.1 in
-            then_cut bytes b.0.0 b.0.1 f.0 f.1 ((second b.0.0 f.0).cut b.0.1 (IsBytes-rest (text_of (fields_x b.0.0)) b.0.1 (rw (← f.1) fit)) b.2)
+            then_cut bytes b.0.0 b.0.1 f.0 f.1 ((second b.0.0 f.0).cut b.0.1 (AreBytes-rest (text_of (fields_x b.0.0)) b.0.1 (rw (← f.1) fit)) b.2)
       ]
 
-  both_bad : (bytes : List ℕ) (left : ℕ) → IsBytes bytes → both bytes ≡ Err (Bad left) → IsBadFrom Y IsY fields_y bytes left
+  both_bad : (bytes : List ℕ) (left : ℕ) → AreBytes bytes → both bytes ≡ Err (Bad left) → IsBadFrom Y IsY fields_y bytes left
   unfolding both
   both_bad bytes left fit e =
       elim (bind_err (read_x bytes) (λ x. read_y x.0 x.1) (Bad left) e) [
         | inl f ↦ first_bad bytes left (first.bad bytes left fit f)
         | inr b ↦
             let f = first.found bytes b.0.0 b.0.1 fit b.1 in
-            then_bad bytes left b.0.0 b.0.1 f.0 f.1 ((second b.0.0 f.0).bad b.0.1 left (IsBytes-rest (text_of (fields_x b.0.0)) b.0.1 (rw (← f.1) fit)) b.2)
+            then_bad bytes left b.0.0 b.0.1 f.0 f.1 ((second b.0.0 f.0).bad b.0.1 left (AreBytes-rest (text_of (fields_x b.0.0)) b.0.1 (rw (← f.1) fit)) b.2)
       ]
 
   pub reads_both : Reads Y IsY fields_y (λ bytes. read_x bytes >>= λ x. read_y x.0 x.1)
