@@ -7,7 +7,7 @@ use Rattle.asl_code.specs.declared.instr.Instr.{Instr}
 use Rattle.asl_code.specs.Bodies.{total_len}
 use Rattle.asl_assembler.specs.Text.{Body}
 use Rattle.asl_assembler.specs.Canonical.{bodies}
-use Rattle.asl_assembler.specs.Writing.{Writes, WritesEach, FitsBody, body_text}
+use Rattle.asl_assembler.specs.Writing.{Writes, WritesEach, FitsBodyLines, body_text}
 use Rattle.asl_assembler.proofs.Writes.{one_written}
 
 -- the function with the body that these instructions begin with
@@ -34,13 +34,13 @@ rest_more fs i d code lt = rw (take_more fs i d lt) (len_append (take i fs) (get
 -- The step of a loop that writes a function, and of the rest of the code takes its body off.
 pub functions_more : (old mid new : List ℕ) (fs : List Function) (i : ℕ) (d : Function) (code rest body : List Instr) → i < length fs
     → rest ≡ drop (total_len (take i fs)) code → body ≡ take (min (get_or fs i d).len (length rest)) rest
-    → WritesEach Body FitsBody body_text old mid (bodies (take i fs) code)
-    → Writes Body FitsBody body_text mid new (record { params = (get_or fs i d).params; regs = (get_or fs i d).regs; code = body })
-    → WritesEach Body FitsBody body_text old new (bodies (take (i + 1) fs) code)
+    → WritesEach Body FitsBodyLines body_text old mid (bodies (take i fs) code)
+    → Writes Body FitsBodyLines body_text mid new (record { params = (get_or fs i d).params; regs = (get_or fs i d).regs; code = body })
+    → WritesEach Body FitsBodyLines body_text old new (bodies (take (i + 1) fs) code)
 functions_more old mid new fs i d code rest body lt left cut w v =
     let f = get_or fs i d in
     let whole : body ≡ take f.len (drop (total_len (take i fs)) code) = cut ∙ take_min f.len rest ∙ ap (λ (r : List Instr). take f.len r) left in
-    rw (bodies_more fs i d code lt) (one_written Body FitsBody body_text old mid new (bodies (take i fs) code) (body_at f (drop (total_len (take i fs)) code)) w (rw whole at v))
+    rw (bodies_more fs i d code lt) (one_written Body FitsBodyLines body_text old mid new (bodies (take i fs) code) (body_at f (drop (total_len (take i fs)) code)) w (rw whole at v))
 
 pub rest_left : (fs : List Function) (i : ℕ) (d : Function) (code rest behind : List Instr) → i < length fs
     → rest ≡ drop (total_len (take i fs)) code → behind ≡ drop (min (get_or fs i d).len (length rest)) rest

@@ -17,7 +17,7 @@ use Rattle.asl_assembler.specs.declared.line.Line.{Line}
 use Rattle.asl_assembler.specs.declared.line.Line.TheVariants as line
 use Rattle.asl_assembler.specs.Text.{Body, op_token, effect_token, function_lines, list_lines}
 use Rattle.asl_assembler.specs.Canonical.{FitsField, FitsLine, FitsText, word_of, later_words, line_text, bodies, canonical_text}
-use Rattle.asl_assembler.specs.Writing.{Writes, WritesEach, WritesLine, FitsBase, base_text, FitsOp, op_text, FitsGlobal, global_text, FitsBody, body_text, FitsList, list_text}
+use Rattle.asl_assembler.specs.Writing.{Writes, WritesEach, WritesLine, FitsBaseWord, base_text, FitsOpWord, op_text, FitsGlobalLine, global_text, FitsBodyLines, body_text, FitsListLines, list_text}
 use Rattle.asl_assembler.proofs.Writes.{all_append}
 
 -- A lock on an expression.
@@ -27,7 +27,7 @@ later_ops (o ∷ ops) e =
     ap (λ (t : List ℕ). 32 ∷ (word_of (op_token o) ++ t)) (later_ops ops e)
     ∙ ap (λ (t : List ℕ). 32 ∷ t) (sym (append_assoc (word_of (op_token o)) (flat_map op_text ops) (codes " " ++ (word_of (effect_token e) ++ codes "\n"))))
 
-ops_fit : (ops : List Op) (e : Effect) → AllByRecursion FitsOp ops → AllByRecursion FitsField (map op_token ops ++ effect_token e ∷ [])
+ops_fit : (ops : List Op) (e : Effect) → AllByRecursion FitsOpWord ops → AllByRecursion FitsField (map op_token ops ++ effect_token e ∷ [])
 ops_fit [] e h = (tt, tt)
 ops_fit (o ∷ ops) e h = (h.0, ops_fit ops e h.1)
 
@@ -35,7 +35,7 @@ regrouped : (a b c d e : List ℕ) → (((a ++ b) ++ c) ++ d) ++ e ≡ a ++ (b +
 regrouped a b c d e = simp append_assoc
 
 pub expr_written : (old b1 b2 b3 new : List ℕ) (e : Expr) (effect : Effect) → b1 ≡ old ++ codes "expr "
-    → Writes Base FitsBase base_text b1 b2 e.base → WritesEach Op FitsOp op_text b2 b3 e.path → length e.path ≤ 8
+    → Writes Base FitsBaseWord base_text b1 b2 e.base → WritesEach Op FitsOpWord op_text b2 b3 e.path → length e.path ≤ 8
     → new ≡ b3 ++ (codes " " ++ (word_of (effect_token effect) ++ codes "\n")) → WritesLine old new (line.Lock (lock.Expr e effect))
 expr_written old b1 b2 b3 new e effect e1 w2 w3 short e4 = record {
   fits = record { fields = (tt, (w2.fits, ops_fit e.path effect w3.each)); path = short };
@@ -107,10 +107,10 @@ head_written old new n fits e = record {
 -- The lines of an image.
 pub image_written : (i : Image) (b0 b1 b2 b3 b4 b5 : List ℕ)
     → WritesLines b0 b1 (line.Version ∷ line.Classes i.classes ∷ [])
-    → WritesEach ℕ FitsGlobal global_text b1 b2 i.globals
+    → WritesEach ℕ FitsGlobalLine global_text b1 b2 i.globals
     → WritesLine b2 b3 (line.Entry i.start)
-    → WritesEach Body FitsBody body_text b3 b4 (bodies i.functions i.code)
-    → WritesEach (List Lock) FitsList list_text b4 b5 i.lists
+    → WritesEach Body FitsBodyLines body_text b3 b4 (bodies i.functions i.code)
+    → WritesEach (List Lock) FitsListLines list_text b4 b5 i.lists
     → Writes Image FitsText canonical_text b0 b5 i
 image_written i b0 b1 b2 b3 b4 b5 head globals entry functions lists =
     let fs = lines_flat Body function_lines b3 b4 (bodies i.functions i.code) functions in

@@ -1,4 +1,5 @@
--- What the reader answers, as functions on lists that compute. The laws tie them to the definitions of `Text`.
+-- What the readers of src/ compute, as functions on lists; no public contract cites them. The lemmas of proofs/ tie them to
+-- the definitions of specs/Words and specs/Text, which contracts cite.
 use Rattle.std.specs.Prelude.{◌≡◌, ℕ, ℤ, pos, neg_ℤ, ◌+◌, ◌-◌, ◌*◌, ◌^◌, Bool, true, false, not, ◌&&◌, ◌==◌, nat_lt, nat_le, List, [], ◌∷◌, ◌++◌, length, Option, Some, None, Result, Ok, Err, if◌then◌else◌, codes}
 use Rattle.std.specs.Option.{option_map}
 use Rattle.std.specs.Char.{is_ascii_digit}
@@ -26,19 +27,23 @@ use Rattle.asl_assembler.specs.declared.read.ReadFault.TheVariants as fault
 use Rattle.asl_assembler.specs.Words.{name_of, words_of, is_separator}
 use Rattle.asl_assembler.specs.Text.{shortened}
 
+-- one step after another, where both answer
 infixl 10 ◌>>=◌
 abbrev pub ◌>>=◌ : {A B : Type 0} → Option A → (A → Option B) → Option B
 None >>= f = None
 (Some x) >>= f = f x
 
+-- the first of these keywords that the word is
 abbrev pub first_named : List Keyword → List ℕ → Option Keyword
 first_named [] word = None
 first_named (k ∷ ks) word = if bytes_eq word (name_of k) then Some k else first_named ks word
 
+-- the first of two answers, if there is one
 abbrev pub or_else : {A : Type 0} → Option A → Option A → Option A
 or_else None other = other
 or_else (Some x) other = Some x
 
+-- the keywords, in three parts
 abbrev pub directives : List Keyword
 directives = keyword.Version ∷ keyword.Classes ∷ keyword.Global ∷ keyword.Entry ∷ keyword.Function ∷ keyword.List ∷ keyword.Root ∷ keyword.Class ∷ keyword.Expr ∷ keyword.Read ∷ keyword.Write ∷ []
 
@@ -213,6 +218,7 @@ with_list i locks = record i { lists = i.lists ++ locks ∷ [] }
 abbrev pub longer : Function → Function
 longer f = record f { len = shortened (f.len + 1) }
 
+-- a place, and the image so far
 abbrev pub State : Type 0
 State = Place × Image
 
@@ -220,14 +226,17 @@ abbrev pub paired : Option Place → Image → Option State
 paired None i = None
 paired (Some p) i = Some (p, i)
 
+-- the place in a function that has no instruction yet
 abbrev pub opened : ℕ → ℕ → Place
 opened params regs = place.Body (record { params = params; regs = regs; len = 0 })
 
+-- the place behind a line that opens a function or a list
 abbrev pub open_of : Line → Option Place
 open_of (line.Function params regs) = Some (opened params regs)
 open_of line.List = Some (place.Locks [])
 open_of _ = None
 
+-- the line at this place: the place behind it, and the image so far
 unfoldable pub next : Place → Line → Image → Option State
 next place.Version line.Version i = Some (place.Classes, i)
 next place.Classes (line.Classes n) i = Some (place.Globals, record i { classes = n })
@@ -242,10 +251,12 @@ next (place.Locks locks) (line.Lock l) i = Some (place.Locks (locks ++ l ∷ [])
 next (place.Locks locks) line.List i = Some (place.Locks [], with_list i locks)
 next _ _ i = None
 
+-- the image, if a test is passed
 abbrev pub kept : Bool → Image → Option Image
 kept true i = Some i
 kept false i = None
 
+-- the image, where a text may end at this place
 unfoldable pub finished : Place → Image → Option Image
 finished place.Functions i = Some i
 finished (place.Body f) i = Some (with_function i f)

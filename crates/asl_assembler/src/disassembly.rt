@@ -6,8 +6,8 @@ ghost use Rattle.asl_assembler.specs.declared.line.Line.{Line};
 ghost use Rattle.asl_assembler.specs.declared.line.Line.TheVariants as line;
 ghost use Rattle.asl_assembler.specs.Text.{Body, Spells};
 ghost use Rattle.asl_assembler.specs.Canonical.{bodies, canonical_text, line_text, FitsLine, FitsText};
-ghost use Rattle.asl_assembler.specs.Writing.{Writes, WritesEach, WritesLine, FitsGlobal, global_text, FitsInstr, instr_text};
-ghost use Rattle.asl_assembler.specs.Writing.{FitsLock, lock_text, FitsBody, body_text, FitsList, list_text};
+ghost use Rattle.asl_assembler.specs.Writing.{Writes, WritesEach, WritesLine, FitsGlobalLine, global_text, FitsInstrLine, instr_text};
+ghost use Rattle.asl_assembler.specs.Writing.{FitsLockLine, lock_text, FitsBodyLines, body_text, FitsListLines, list_text};
 
 use crate::print::{put_instr, put_lock};
 use asl_code::{Function, Image, Instr, Items, Lock, Program};
@@ -44,13 +44,13 @@ fn put_head(text: &mut String, classes: u32) -> Result<(), AllocError>
 }
 
 fn put_global(text: &mut String, class: u16) -> Result<(), AllocError>
-    ensures { OnOk result (Writes ℕ FitsGlobal global_text (string_bytes text.old) (string_bytes text.new) class) }
+    ensures { OnOk result (Writes ℕ FitsGlobalLine global_text (string_bytes text.old) (string_bytes text.new) class) }
 {
     write!(text, "global {class}\n")
 }
 
 fn put_globals(text: &mut String, classes: &[u16]) -> Result<(), AllocError>
-    ensures { OnOk result (WritesEach ℕ FitsGlobal global_text (string_bytes text.old) (string_bytes text.new) classes.now) }
+    ensures { OnOk result (WritesEach ℕ FitsGlobalLine global_text (string_bytes text.old) (string_bytes text.new) classes.now) }
 {
     for class in classes {
         put_global(text, *class)?;
@@ -70,7 +70,7 @@ fn put_functions(
     functions: &[Function],
     code: &[Instr],
 ) -> Result<(), AllocError>
-    ensures { OnOk result (WritesEach Body FitsBody body_text (string_bytes text.old) (string_bytes text.new)
+    ensures { OnOk result (WritesEach Body FitsBodyLines body_text (string_bytes text.old) (string_bytes text.new)
         (bodies functions.now code.now)) }
 {
     let mut rest = code;
@@ -84,7 +84,7 @@ fn put_functions(
 }
 
 fn put_function(text: &mut String, function: &Function, code: &[Instr]) -> Result<(), AllocError>
-    ensures { OnOk result (Writes Body FitsBody body_text (string_bytes text.old) (string_bytes text.new)
+    ensures { OnOk result (Writes Body FitsBodyLines body_text (string_bytes text.old) (string_bytes text.new)
         (record { params = function.now.params; regs = function.now.regs; code = code.now })) }
 {
     put_signature(text, function.params, function.regs)?;
@@ -98,7 +98,7 @@ fn put_signature(text: &mut String, params: u8, regs: u8) -> Result<(), AllocErr
 }
 
 fn put_code(text: &mut String, code: &[Instr]) -> Result<(), AllocError>
-    ensures { OnOk result (WritesEach Instr FitsInstr instr_text (string_bytes text.old) (string_bytes text.new) code.now) }
+    ensures { OnOk result (WritesEach Instr FitsInstrLine instr_text (string_bytes text.old) (string_bytes text.new) code.now) }
 {
     for instr in code {
         put_instr(text, instr)?;
@@ -107,7 +107,7 @@ fn put_code(text: &mut String, code: &[Instr]) -> Result<(), AllocError>
 }
 
 fn put_lists(text: &mut String, lists: &[Items<Lock>]) -> Result<(), AllocError>
-    ensures { OnOk result (WritesEach (List Lock) FitsList list_text (string_bytes text.old) (string_bytes text.new) lists.now) }
+    ensures { OnOk result (WritesEach (List Lock) FitsListLines list_text (string_bytes text.old) (string_bytes text.new) lists.now) }
 {
     for list in lists {
         put_list(text, list.as_slice())?;
@@ -116,14 +116,14 @@ fn put_lists(text: &mut String, lists: &[Items<Lock>]) -> Result<(), AllocError>
 }
 
 fn put_list(text: &mut String, locks: &[Lock]) -> Result<(), AllocError>
-    ensures { OnOk result (Writes (List Lock) FitsList list_text (string_bytes text.old) (string_bytes text.new) locks.now) }
+    ensures { OnOk result (Writes (List Lock) FitsListLines list_text (string_bytes text.old) (string_bytes text.new) locks.now) }
 {
     text.push_str("list\n")?;
     put_locks(text, locks)
 }
 
 fn put_locks(text: &mut String, locks: &[Lock]) -> Result<(), AllocError>
-    ensures { OnOk result (WritesEach Lock FitsLock lock_text (string_bytes text.old) (string_bytes text.new) locks.now) }
+    ensures { OnOk result (WritesEach Lock FitsLockLine lock_text (string_bytes text.old) (string_bytes text.new) locks.now) }
 {
     for lock in locks {
         put_lock(text, lock)?;

@@ -6,7 +6,7 @@ ghost use Rattle.asl_code.specs.declared.path.Op.{Op};
 ghost use Rattle.asl_assembler.specs.declared.line.Line.TheVariants as line;
 ghost use Rattle.asl_assembler.specs.Text.{effect_token};
 ghost use Rattle.asl_assembler.specs.Canonical.{word_of};
-ghost use Rattle.asl_assembler.specs.Writing.{Writes, WritesEach, WritesLine, FitsBase, base_text, FitsOp, op_text};
+ghost use Rattle.asl_assembler.specs.Writing.{Writes, WritesEach, WritesLine, FitsBaseWord, base_text, FitsOpWord, op_text};
 
 use asl_code::{Base, Effect, Expr, Instr, Lock, Op};
 use std::alloc::AllocError;
@@ -55,7 +55,7 @@ fn effect_name(effect: Effect) -> &'static str
 }
 
 fn put_base(text: &mut String, base: Base) -> Result<(), AllocError>
-    ensures { OnOk result (Writes Base FitsBase base_text (string_bytes text.old) (string_bytes text.new) base) }
+    ensures { OnOk result (Writes Base FitsBaseWord base_text (string_bytes text.old) (string_bytes text.new) base) }
 {
     match base {
         Base::Reg(register) => write!(text, "r{register}"),
@@ -64,7 +64,7 @@ fn put_base(text: &mut String, base: Base) -> Result<(), AllocError>
 }
 
 fn put_op(text: &mut String, op: Op) -> Result<(), AllocError>
-    ensures { OnOk result (Writes Op FitsOp op_text (string_bytes text.old) (string_bytes text.new) op) }
+    ensures { OnOk result (Writes Op FitsOpWord op_text (string_bytes text.old) (string_bytes text.new) op) }
 {
     match op {
         Op::Deref => text.push_str(" *"),
@@ -73,7 +73,7 @@ fn put_op(text: &mut String, op: Op) -> Result<(), AllocError>
 }
 
 fn put_ops(text: &mut String, ops: &[Op]) -> Result<(), AllocError>
-    ensures { OnOk result (WritesEach Op FitsOp op_text (string_bytes text.old) (string_bytes text.new) ops.now) }
+    ensures { OnOk result (WritesEach Op FitsOpWord op_text (string_bytes text.old) (string_bytes text.new) ops.now) }
 {
     for op in ops {
         put_op(text, *op)?;

@@ -3,13 +3,13 @@ use Rattle.std.proofs.lemmas.List.{take_all}
 use Rattle.asl_code.specs.declared.image.Function.{Function}
 use Rattle.asl_assembler.specs.Text.{Body}
 use Rattle.asl_assembler.specs.Canonical.{bodies}
-use Rattle.asl_assembler.specs.Writing.{WritesEach, FitsBody, body_text}
+use Rattle.asl_assembler.specs.Writing.{WritesEach, FitsBodyLines, body_text}
 use Rattle.asl_assembler.proofs.Writes.{none_written}
 use Rattle.asl_assembler.proofs.Bodies.{functions_more, rest_left}
 use Rattle.asl_assembler.proofs.disassembly.put_functions.Goals as goal
 
 pub loop-function-init : goal.loop-function-init
-loop-function-init c = record { rest = refl; written = none_written Body FitsBody body_text (string_bytes c.args.text.now) }
+loop-function-init c = record { rest = refl; written = none_written Body FitsBodyLines body_text (string_bytes c.args.text.now) }
 
 pub loop-function-preserved : goal.loop-function-preserved
 loop-function-preserved c =
@@ -25,5 +25,5 @@ loop-function-preserved c =
 
 pub returns : goal.returns
 returns c =
-    subst (λ (fs : List Function). WritesEach Body FitsBody body_text (string_bytes c.args.text.now) (string_bytes c.loop-function.text) (bodies fs c.args.code.now))
+    subst (λ (fs : List Function). WritesEach Body FitsBodyLines body_text (string_bytes c.args.text.now) (string_bytes c.loop-function.text) (bodies fs c.args.code.now))
     (take_all c.loop-function.function-index c.args.functions.now c.loop-function-test.false) c.loop-function.invariant.written

@@ -2,12 +2,12 @@ use Rattle.std.proofs.Common.{◌≡◌, take, drop, string_bytes}
 use Rattle.asl_code.specs.Bodies.{total_len}
 use Rattle.asl_assembler.specs.Text.{Body}
 use Rattle.asl_assembler.specs.Canonical.{bodies}
-use Rattle.asl_assembler.specs.Writing.{WritesEach, FitsBody, body_text}
+use Rattle.asl_assembler.specs.Writing.{WritesEach, FitsBodyLines, body_text}
 use Rattle.asl_assembler.proofs.disassembly.put_functions.Given as goal
 
 -- the functions so far are written, and the code behind their bodies is left
 abbrev pub invariant-loop-function : goal.invariant-loop-function
 invariant-loop-function l = record {
   rest : l.rest ≡ drop (total_len (take l.function-index l.functions)) l.code;
-  written : WritesEach Body FitsBody body_text (string_bytes l.initial.text) (string_bytes l.text) (bodies (take l.function-index l.functions) l.code);
+  written : WritesEach Body FitsBodyLines body_text (string_bytes l.initial.text) (string_bytes l.text) (bodies (take l.function-index l.functions) l.code);
 }
