@@ -1,4 +1,5 @@
--- The grammar as an automaton with a stack of open blocks: one step for each token, without looking ahead or back.
+-- The grammar as an automaton with a stack of open blocks: one step for each token, without looking ahead or back. It is
+-- private to the code and the proofs: contracts about texts cite specs/Grammar, which knows no automaton.
 use Rattle.std.specs.Prelude.{ℕ, List, [], ◌∷◌, ◌++◌, true, false, Option, Some, None}
 use Rattle.asl_grammar.specs.declared.token.Mark.TheVariants as mark
 use Rattle.asl_grammar.specs.declared.control.Operator.{Operator}
@@ -207,6 +208,7 @@ settle_pending ss (Some (x, a)) = ss ++ IfStmt x a NoElse ∷ []
 abbrev pub settle_part : Part → Part
 settle_part p = record { done = settle_pending p.done p.pending; pending = None }
 
+-- the same of all that has been read
 abbrev pub settle : Stack → Stack
 settle s = record s { top = settle_part s.top }
 
@@ -214,6 +216,7 @@ settle s = record s { top = settle_part s.top }
 abbrev pub put_part : Stmt → Part → Part
 put_part x p = record { done = p.done ++ x ∷ []; pending = p.pending }
 
+-- one more statement in the innermost block
 abbrev pub put : Stmt → Stack → Stack
 put x s = record s { top = put_part x s.top }
 
@@ -226,6 +229,7 @@ abbrev pub else_header : Option (List ℕ × Block) → Header
 else_header None = ElseBlock [] End
 else_header (Some (x, a)) = ElseBlock x a
 
+-- the block of an opening
 abbrev pub open_block : Opening → Stack → Stack
 open_block (OfIf x) s = push (ThenBlock x) s
 open_block OfElse s = push (else_header s.top.pending) s
@@ -239,6 +243,7 @@ closed (ElseBlock x a) b outer = record { done = outer ++ IfStmt x a (Otherwise 
 closed (WhileBlock x) b outer = record { done = outer ++ WhileStmt x b ∷ []; pending = None }
 closed AtomicBlock b outer = record { done = outer ++ AtomicStmt b ∷ []; pending = None }
 
+-- without the innermost block, which its header puts into the one around it
 abbrev pub close_frames : List Frame → Stack → Stack
 close_frames [] s = s
 close_frames (f ∷ fs) s = record s { top = closed f.header (to_block s.top.done) f.outer; frames = fs }
@@ -279,14 +284,17 @@ abbrev pub ready_then : Token → Stack → State
 ready_then (Fixed mark.Else) s = record { control = AfterThen; stack = s }
 ready_then _ s = record { control = StatementStart; stack = settle s }
 
+-- what stands behind the last block, once the next token is known
 abbrev pub ready : Control → Token → Stack → State
 ready AfterThen t s = ready_then t s
 ready c t s = record { control = c; stack = s }
 
+-- a step, if there is one
 abbrev pub moved : Option (Control × Act) → Stack → Option State
 moved None s = None
 moved (Some (c, a)) s = Some (record { control = c; stack = apply a s })
 
+-- one token, where no `if` waits for it
 abbrev pub next_ready : State → Token → Option State
 next_ready w t = moved (step w.control (kind_of w.stack.frames) t) w.stack
 

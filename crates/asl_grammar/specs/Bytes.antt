@@ -1,4 +1,4 @@
--- Which bytes spell a token, apart from how a text is read.
+-- Which bytes spell a token, apart from how a text is read (docs/SOURCE.md).
 use Rattle.std.specs.Prelude.{◌≡◌, ℕ, ◌<◌, ◌≤◌, List, IsTrue, Option, Some, None, codes, length, take}
 use Rattle.asl_grammar.specs.declared.token.Mark.{Mark}
 use Rattle.asl_grammar.specs.declared.token.Mark.TheVariants as mark

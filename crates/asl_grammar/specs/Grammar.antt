@@ -1,4 +1,5 @@
--- Which token lists are programs, and where one stops being the beginning of a program.
+-- Which token lists are programs, and where one stops being the beginning of a program (docs/SOURCE.md, "Grammar" and
+-- "Refusals").
 use Rattle.std.specs.Prelude.{◌≡◌, ℕ, List, [], ◌∷◌, ◌++◌, IsTrue, map, Option, MatchOption}
 use Rattle.asl_grammar.specs.Token.{Token, Spot}
 use Rattle.asl_grammar.specs.Written.{Item}

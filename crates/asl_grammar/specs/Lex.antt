@@ -1,4 +1,6 @@
--- Reading bytes as tokens: the longest token first, blanks between.
+-- Reading bytes as tokens: the longest token first, blanks between (docs/SOURCE.md). The definitions compute; specs/Bytes
+-- and specs/Readings say without reading what a token and the tokens of a text are, and the laws of src/ that it is the same.
+-- Public contracts cite `tokens_of` and `bad_place`, and of bytes `is_blank`, `is_digit`, `is_name`, `number_value`.
 use Rattle.std.specs.Prelude.{ℕ, zero, suc, ◌+◌, ◌-◌, ◌*◌, List, [], ◌∷◌, Bool, true, false, Option, Some, None, if◌then◌else◌, ◌==◌, nat_le, ◌&&◌, ◌||◌, codes, bytes_eq, take, is_none}
 use Rattle.asl_grammar.specs.declared.token.Mark.{Mark}
 use Rattle.asl_grammar.specs.declared.token.Mark.TheVariants as mark
@@ -45,6 +47,7 @@ abbrev pub symbol_of_byte : ℕ → Option Mark
 symbol_of_byte b =
     if b == 40 then Some mark.OpenParen else if b == 41 then Some mark.CloseParen else if b == 123 then Some mark.OpenBrace else if b == 125 then Some mark.CloseBrace else if b == 91 then Some mark.OpenBracket else if b == 93 then Some mark.CloseBracket else if b == 44 then Some mark.Comma else if b == 59 then Some mark.Semicolon else if b == 43 then Some mark.Plus else if b == 45 then Some mark.Minus else if b == 60 then Some mark.Less else if b == 38 then Some mark.Ampersand else if b == 42 then Some mark.Star else None
 
+-- the token of a symbol, if there is one
 abbrev pub symbol_token : Option Mark → Option (Token × ℕ)
 symbol_token None = None
 symbol_token (Some m) = Some (Fixed m, 1)
@@ -83,6 +86,7 @@ spots (b ∷ bs) (suc skip) at = spots bs skip (suc at)
 spots (b ∷ bs) zero at =
     if is_blank b then spots bs 0 (suc at) else spot_then (front (b ∷ bs)) at (λ k. spots bs k (suc at))
 
+-- the place itself, or what stands behind a token
 abbrev pub bad_then : Option (Token × ℕ) → ℕ → (ℕ → Option ℕ) → Option ℕ
 bad_then None at go = Some at
 bad_then (Some (t, n)) at go = go (n - 1)
@@ -121,6 +125,7 @@ is_token (Fixed m) = true
 is_token (Name x) = is_name x
 is_token (Number n) = true
 
+-- each of them is such a token
 abbrev pub are_tokens : List Token → Bool
 are_tokens [] = true
 are_tokens (t ∷ ts) = is_token t && are_tokens ts

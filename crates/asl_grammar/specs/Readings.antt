@@ -1,4 +1,5 @@
--- What the tokens of a text are, apart from how it is read: blanks, the longest token behind them, and so on to the end.
+-- What the tokens of a text are, apart from how it is read: blanks, the longest token behind them, and so on to the end
+-- (docs/SOURCE.md). The law `a_text_has_one_reading` says that `tokens_of` and `bad_place` of specs/Lex are this.
 use Rattle.std.specs.Prelude.{◌≡◌, ℕ, ◌+◌, ◌<◌, ◌≤◌, List, [], ◌∷◌, IsTrue, Option, Some, None, length, take, drop}
 use Rattle.asl_grammar.specs.Token.{Spot}
 use Rattle.asl_grammar.specs.Lex.{is_blank, all_bytes}

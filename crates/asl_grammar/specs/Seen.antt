@@ -1,4 +1,5 @@
--- The automaton without the trees: the control and the kinds of the open blocks, and where it stops.
+-- The automaton without the trees: the control and the kinds of the open blocks, and where it stops. It is private to the
+-- code and the proofs; what contracts about texts say of the place is `IsGrammarFault` of specs/Grammar.
 use Rattle.std.specs.Prelude.{ℕ, List, [], ◌∷◌, Option, Some, None}
 use Rattle.asl_grammar.specs.declared.token.Mark.TheVariants as mark
 use Rattle.asl_grammar.specs.declared.control.Kind.{Kind}
@@ -25,6 +26,7 @@ abbrev pub settled_by : Token → Control
 settled_by (Fixed mark.Else) = AfterThen
 settled_by _ = StatementStart
 
+-- the control, once the next token is known
 abbrev pub settled : Control → Token → Control
 settled AfterThen t = settled_by t
 settled c t = c
@@ -47,6 +49,7 @@ kinds_after (Begin o) ks = opening_kind o ∷ ks
 kinds_after Close ks = outer_kinds ks
 kinds_after _ ks = ks
 
+-- a step, if there is one
 abbrev pub placed : Option (Control × Act) → List Kind → Option Place
 placed None ks = None
 placed (Some (c, a)) ks = Some (record { control = c; kinds = kinds_after a ks })
@@ -60,6 +63,7 @@ abbrev pub fault_at_end : Control → ℕ → Option ℕ
 fault_at_end ItemStart end = None
 fault_at_end _ end = Some end
 
+-- the place itself, or what is answered behind a token
 abbrev pub fault_with : Option Place → ℕ → (Place → Option ℕ) → Option ℕ
 fault_with None at go = Some at
 fault_with (Some p) at go = go p

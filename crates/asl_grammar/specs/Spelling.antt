@@ -1,4 +1,5 @@
--- The grammar: which tokens a written program is. Each definition puts its tokens in front of `rest`.
+-- The grammar: which tokens a written program is (docs/SOURCE.md, "Grammar"). Each definition puts its tokens in front
+-- of `rest`.
 use Rattle.std.specs.Prelude.{ℕ, List, [], ◌∷◌, true, false}
 use Rattle.asl_grammar.specs.declared.token.Mark.{Mark}
 use Rattle.asl_grammar.specs.declared.token.Mark.TheVariants as mark

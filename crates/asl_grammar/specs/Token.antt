@@ -1,4 +1,4 @@
--- The tokens of the source language, as values.
+-- The tokens of the source language, as values (docs/SOURCE.md).
 use Rattle.std.specs.Prelude.{ℕ, List}
 use Rattle.asl_grammar.specs.declared.token.Mark.{Mark}
 

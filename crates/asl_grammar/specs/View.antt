@@ -1,4 +1,4 @@
--- The code's tokens as the values that definitions speak of.
+-- The code's tokens (src/token.rt) as the values that definitions speak of.
 use Rattle.std.specs.Prelude.{ℕ}
 use Rattle.asl_grammar.specs.Lex.{number_value}
 use Rattle.asl_grammar.specs.declared.token.Token as code
@@ -13,6 +13,7 @@ token_of (tokens.Fixed m) = Fixed m
 token_of (tokens.Name s) = Name s.now
 token_of (tokens.Number s) = Number (number_value s.now)
 
+-- a token with its place
 abbrev pub spot_of : spot.Spot → Spot
 spot_of s = record { token = token_of s.token; at = s.at }
 

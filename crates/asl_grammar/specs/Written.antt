@@ -1,4 +1,5 @@
--- A program as it is written: which rules of the grammar were taken, and with which names and numbers.
+-- A program as it is written: which rules of the grammar were taken, and with which names and numbers (docs/SOURCE.md,
+-- "Grammar").
 use Rattle.std.specs.Prelude.{ℕ, List, Bool}
 use Rattle.asl_grammar.specs.declared.control.Operator.{Operator}
 

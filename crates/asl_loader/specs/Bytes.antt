@@ -22,6 +22,7 @@ pub data Field : Type 0 where
   Plain : List ℕ → Field
   Eight : List ℕ → Field
 
+-- the bytes of a field
 abbrev pub bytes_of : Field → List ℕ
 bytes_of (Plain bytes) = bytes
 bytes_of (Eight bytes) = bytes
@@ -41,23 +42,29 @@ two n = Plain (to_be_bytes w16 n)
 abbrev pub counted : {X : Type 0} → (X → List Field) → List X → List Field
 counted fields_of xs = two (length xs) ∷ flat_map fields_of xs
 
+-- the class of a global
 abbrev pub class_fields : ℕ → List Field
 class_fields class = two class ∷ []
 
+-- a function: its parameters, its registers, the length of its body
 abbrev pub function_fields : Function → List Field
 function_fields f = one f.params ∷ one f.regs ∷ two f.len ∷ []
 
+-- an instruction
 abbrev pub instr_fields : Instr → List Field
 instr_fields instr = Eight (instr_bytes instr) ∷ []
 
+-- an effect
 abbrev pub effect_field : Effect → Field
 effect_field Read = one 0
 effect_field Write = one 1
 
+-- an operation: 0 for `*`, or 1 and the offset
 abbrev pub op_fields : Op → List Field
 op_fields Deref = one 0 ∷ []
 op_fields (Off offset) = one 1 ∷ one offset ∷ []
 
+-- a path: how many operations, and each
 abbrev pub path_fields : List Op → List Field
 path_fields path = one (length path) ∷ flat_map op_fields path
 
@@ -66,11 +73,13 @@ abbrev pub expr_fields : Base → Effect → List Op → List Field
 expr_fields (Reg r) effect path = one 2 ∷ effect_field effect ∷ one r ∷ path_fields path
 expr_fields (Global g) effect path = one 3 ∷ effect_field effect ∷ two g ∷ path_fields path
 
+-- a lock
 abbrev pub lock_fields : Lock → List Field
 lock_fields (lock.Root effect) = one 0 ∷ effect_field effect ∷ []
 lock_fields (lock.Class class effect) = one 1 ∷ effect_field effect ∷ two class ∷ []
 lock_fields (lock.Expr expr effect) = expr_fields expr.base effect expr.path
 
+-- a list: how many locks, and each
 abbrev pub list_fields : List Lock → List Field
 list_fields locks = counted lock_fields locks
 
@@ -94,10 +103,12 @@ pub record IsFunction (f : Function) : Type 0 where
   pub regs_fits : f.regs < 256
   pub len_fits : f.len < 2 ^ 16
 
+-- an operation whose offset is one byte
 abbrev pub IsOp : Op → Type 0
 IsOp Deref = Unit {0}
 IsOp (Off offset) = offset < 256
 
+-- a base whose number its field can hold
 abbrev pub IsBase : Base → Type 0
 IsBase (Reg r) = r < 256
 IsBase (Global g) = g < 2 ^ 16
@@ -107,6 +118,7 @@ pub record IsPath (path : List Op) : Type 0 where
   pub few : length path ≤ 8
   pub each : AllByRecursion IsOp path
 
+-- a lock whose numbers their fields can hold
 abbrev pub IsLock : Lock → Type 0
 IsLock (lock.Root effect) = Unit {0}
 IsLock (lock.Class class effect) = class < 2 ^ 16
@@ -117,6 +129,7 @@ pub record AreItems (X : Type 0) (IsItem : X → Type 0) (xs : List X) : Type 0 
   pub counted : length xs < 2 ^ 16
   pub each : AllByRecursion IsItem xs
 
+-- a list of such locks
 abbrev pub IsList : List Lock → Type 0
 IsList locks = AreItems Lock IsLock locks
 

@@ -55,6 +55,7 @@ stop_fault (Bad left) len = bad_fault (len - left)
 abbrev pub ended : Image → ℕ → ℕ → Result Image LoadFault
 ended image left len = if left == 0 then Ok image else Err (Trailing (len - left))
 
+-- the image that was read, or the fault
 abbrev pub whole_from : ℕ → Result (Image × List ℕ) Stop → Result Image LoadFault
 whole_from len (Ok x) = ended x.0 (length x.1) len
 whole_from len (Err stop) = Err (stop_fault stop len)

@@ -30,6 +30,7 @@ abbrev pub Fails : {Y : Type 0} → ReadError → Result Y Stop → Type 0
 Fails errors.Memory read = Unit {0}
 Fails (errors.Stop stop) read = read ≡ Err stop
 
+-- the same of what was read
 abbrev pub Gives : {X Y : Type 0} → (X → Y) → Result X ReadError → Result Y Stop → Type 0
 Gives view (Ok x) read = read ≡ Ok (view x)
 Gives view (Err e) read = Fails e read
@@ -46,16 +47,19 @@ number_at w bytes = if nat_lt (length bytes) (byte_len w) then Err Short else Ok
 abbrev pub passed : {X : Type 0} → Bool → X → List ℕ → Result X Stop
 passed ok x bytes = if ok then Ok x else Err (Bad (length bytes))
 
+-- a byte below a limit
 unfoldable pub below_at : ℕ → List ℕ → Result (ℕ × List ℕ) Stop
 below_at limit bytes = do
   n ← byte_at bytes
   passed (nat_lt n.0 limit) n bytes
 
+-- the four letters
 unfoldable pub magic_at : List ℕ → Result (ℕ × List ℕ) Stop
 magic_at bytes = do
   n ← number_at w32 bytes
   passed (n.0 == 1095978061) n bytes
 
+-- the version
 unfoldable pub version_at : List ℕ → Result (ℕ × List ℕ) Stop
 version_at bytes = do
   n ← number_at w16 bytes
@@ -66,9 +70,11 @@ abbrev pub judged : {X : Type 0} → ℕ → List ℕ → Result X ℕ → Resul
 judged len rest (Ok x) = Ok (x, rest)
 judged len rest (Err place) = Err (Bad (len - place))
 
+-- an instruction
 unfoldable pub instr_at : List ℕ → Result (Instr × List ℕ) Stop
 instr_at bytes = if nat_lt (length bytes) 8 then Err Short else judged (length bytes) (drop 8 bytes) (instr_of (take 8 bytes))
 
+-- a function
 unfoldable pub function_at : List ℕ → Result (Function × List ℕ) Stop
 function_at bytes = do
   params ← byte_at bytes
@@ -76,10 +82,12 @@ function_at bytes = do
   len ← number_at w16 regs.1
   Ok (record { params = params.0; regs = regs.0; len = len.0 }, len.1)
 
+-- the effect of a byte
 abbrev pub effect_of : ℕ → Effect
 effect_of zero = Read
 effect_of (suc n) = Write
 
+-- an effect
 unfoldable pub effect_at : List ℕ → Result (Effect × List ℕ) Stop
 effect_at bytes = do
   n ← below_at 2 bytes
@@ -92,6 +100,7 @@ op_of (suc kind) bytes = do
   offset ← byte_at bytes
   Ok (Off offset.0, offset.1)
 
+-- an operation of a path
 unfoldable pub op_at : List ℕ → Result (Op × List ℕ) Stop
 op_at bytes = do
   kind ← below_at 2 bytes
@@ -111,11 +120,13 @@ counted_at item bytes = do
   count ← number_at w16 bytes
   items_at item count.0 count.1
 
+-- a path
 unfoldable pub path_at : List ℕ → Result (List Op × List ℕ) Stop
 path_at bytes = do
   count ← below_at 9 bytes
   items_at op_at count.0 count.1
 
+-- the path of an expression, whose base was read
 unfoldable pub expr_at : Base → Effect → List ℕ → Result (Lock × List ℕ) Stop
 expr_at base effect bytes = do
   path ← path_at bytes
@@ -134,15 +145,18 @@ lock_of (suc (suc (suc kind))) effect bytes = do
   global ← number_at w16 bytes
   expr_at (Global global.0) effect global.1
 
+-- a lock
 unfoldable pub lock_at : List ℕ → Result (Lock × List ℕ) Stop
 lock_at bytes = do
   kind ← below_at 4 bytes
   effect ← effect_at kind.1
   lock_of kind.0 effect.0 effect.1
 
+-- a list
 unfoldable pub list_at : List ℕ → Result (List Lock × List ℕ) Stop
 list_at bytes = counted_at lock_at bytes
 
+-- an image
 unfoldable pub image_at : List ℕ → Result (Image × List ℕ) Stop
 image_at bytes = do
   front ← magic_at bytes
