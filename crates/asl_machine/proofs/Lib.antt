@@ -10,3 +10,4 @@ pub mod Table
 pub mod Unique
 pub mod Reached
 pub mod Machines
+pub mod Nodes

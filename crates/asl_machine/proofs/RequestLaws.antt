@@ -184,7 +184,7 @@ ask_right : (xs ys : Request) (n : Node) (m : Mode) → IsAsk ys n m → IsAsk (
 ask_right [] ys n m h = h
 ask_right (x ∷ xs) ys n m h = inr (ask_right xs ys n m h)
 
-ask_either : (xs ys : Request) (n : Node) (m : Mode) → IsAsk (xs ++ ys) n m → IsAsk xs n m ⊎ IsAsk ys n m
+pub ask_either : (xs ys : Request) (n : Node) (m : Mode) → IsAsk (xs ++ ys) n m → IsAsk xs n m ⊎ IsAsk ys n m
 ask_either [] ys n m h = inr h
 ask_either (x ∷ xs) ys n m h =
     elim h [

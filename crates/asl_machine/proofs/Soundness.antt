@@ -122,7 +122,7 @@ pub record Here (image : Image) (s : State) (t : ℕ) (a : Activity) : Type 0 wh
 depth_here : (image : Image) (s : State) (t : ℕ) (a : Activity) → Here image s t a → depth_at s.threads t ≡ a.depth
 depth_here image s t a h = ap (λ o. option_map_or (λ (b : Activity). b.depth) o 0) h.is
 
-outside_here : (image : Image) (s : State) (t : ℕ) (a : Activity) → Here image s t a → a.depth ≡ 0 → HoldsNothing s.holding t
+pub outside_here : (image : Image) (s : State) (t : ℕ) (a : Activity) → Here image s t a → a.depth ≡ 0 → HoldsNothing s.holding t
 outside_here image s t a h e = h.sound.outside t (depth_here image s t a h ∙ e)
 
 -- a thread that fails

@@ -9,3 +9,4 @@ pub mod Run
 pub mod Sound
 pub mod View
 pub mod World
+pub mod Nodes

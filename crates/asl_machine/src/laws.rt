@@ -1,14 +1,17 @@
 //! Laws of the machine, as functions that do nothing: what each ensures is the law.
-ghost use Rattle.std.specs.Prelude.{◌≡◌, ◌<◌, ℕ, List};
+ghost use Rattle.std.specs.Prelude.{◌≡◌, ◌≢◌, ◌<◌, ℕ, List};
 ghost use Rattle.asl_code.specs.declared.image.Image.{Image};
 ghost use Rattle.asl_code.specs.declared.lock.Lock.{Lock};
 ghost use Rattle.asl_code.specs.declared.value.Value.{Value};
 ghost use Rattle.asl_code.specs.Verified.{IsVerified};
-ghost use Rattle.asl_lock_forest.specs.Holding.{HoldsNothing, IsLawful, IsWithin};
+ghost use Rattle.asl_mode_lanes.specs.declared.mode.Mode.TheVariants.{NL};
+ghost use Rattle.asl_lock_forest.specs.declared.node.Node.{Node};
+ghost use Rattle.asl_lock_forest.specs.Holding.{HoldsNothing, IsLawful, IsWithin, held};
 ghost use Rattle.asl_machine.specs.declared.reply.Reply.{Reply};
 ghost use Rattle.asl_machine.specs.State.{Object, State, depth_at};
 ghost use Rattle.asl_machine.specs.Request.{IsLeast, all_asks, request_of};
 ghost use Rattle.asl_machine.specs.Run.{IsReached};
+ghost use Rattle.asl_machine.specs.Nodes.{IsNode};
 ghost use Rattle.asl_machine.specs.Sound.{IsWellFormed};
 ghost use Rattle.asl_machine.specs.Step.{Step};
 ghost use Rattle.asl_machine.specs.Twin.{step_of};
@@ -45,6 +48,13 @@ pub fn reached_holdings_are_lawful()
         → IsLawful s.holding }
     ensures within { (image : Image) (count : ℕ) (s : State) → IsVerified image → IsReached image count s
         → IsWithin image.classes count s.holding }
+{}
+
+/// In each reached state the nodes that a thread holds are there: of classes that are there, and leaves of cells that are
+/// there under their objects' classes. So a node that is not there is held in `NL`.
+pub fn held_nodes_are_there()
+    ensures { (image : Image) (count : ℕ) (s : State) (t : ℕ) (node : Node) → IsVerified image → IsReached image count s
+        → held s.holding t node ≢ NL → IsNode image.classes s.objects node }
 {}
 
 /// Where a step is blocked, some running thread holds a node, and its next step is not blocked.

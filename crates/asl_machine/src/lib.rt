@@ -16,8 +16,8 @@ mod values;
 
 pub use fault::{Fault, MachineFault};
 pub use laws::{
-    no_world_is_blocked, reached_holdings_are_lawful, reached_states_are_well_formed,
-    requests_are_least, steps_have_one_line,
+    held_nodes_are_there, no_world_is_blocked, reached_holdings_are_lawful,
+    reached_states_are_well_formed, requests_are_least, steps_have_one_line,
 };
 pub use machine::Machine;
 pub use reply::{Reply, Status};
