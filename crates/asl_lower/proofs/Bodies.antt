@@ -3,8 +3,7 @@ use Rattle.std.proofs.Common.{◌≡◌, ℕ, suc, ◌+◌, ◌-◌, ◌<◌, �
 use Rattle.std.proofs.lemmas.Bool.{cases_lt}
 use Rattle.std.proofs.lemmas.Option.{slice_get_within}
 use Rattle.asl_code.specs.declared.image.Function as entry
-use Rattle.asl_syntax.specs.Tree.{Function, Item}
-use Rattle.asl_lower.specs.Names.{functions_of}
+use Rattle.asl_syntax.specs.Tree.{Function, Item, functions_of}
 use Rattle.asl_lower.specs.Place.{Place, origin, past_function, past_functions}
 use Rattle.asl_lower.specs.Lowered.{Lowered, IsLoweredFunction, AreLoweredFunctions, IsLowering, entry_of, end_of}
 use Rattle.asl_lower.specs.Region.{start_of, InBody}

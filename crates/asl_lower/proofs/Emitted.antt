@@ -5,23 +5,23 @@ use Rattle.std.proofs.Math.Logic.{∥∥₁_map}
 use Rattle.std.proofs.lemmas.List.Elements.{All-nil, All-cons}
 use Rattle.asl_code.specs.declared.image.Function as entry
 use Rattle.asl_code.specs.declared.instr.Instr.{Instr}
-use Rattle.asl_syntax.specs.Tree.{Function, Item}
+use Rattle.asl_syntax.specs.Tree.{Function, Item, globals_of, functions_of}
 use Rattle.asl_syntax.specs.Parsed.{IsParsed}
 use Rattle.asl_lower.specs.declared.section.Section.{Section}
 use Rattle.asl_lower.specs.declared.output.Output.{Output}
 use Rattle.asl_lower.specs.declared.draft.Draft.{Draft}
-use Rattle.asl_lower.specs.Names.{globals_of, functions_of, function_names, number_of}
+use Rattle.asl_lower.specs.Names.{function_names, number_of}
 use Rattle.asl_lower.specs.Place.{Place, origin, past_function, past_functions}
 use Rattle.asl_lower.specs.Lowered.{Lowered, IsLowering, entry_of}
 use Rattle.asl_lower.specs.Region.{IsBareAccess}
 use Rattle.asl_lower.specs.Layout.{functions_code, functions_sections, functions_table, lowering_of}
 use Rattle.asl_lower.specs.OutputView.{Adds, place_of}
-use Rattle.asl_lower.specs.Refused.{first_wide, HasRoom}
+use Rattle.asl_lower.specs.Refused.{first_crowded, HasRoom}
 use Rattle.asl_lower.specs.Kept.{IsKept, lowered_of}
 use Rattle.asl_lower.proofs.Laid.{lowering_of_is_lowering}
 use Rattle.asl_lower.proofs.Holds.{lowering_parted}
 use Rattle.asl_lower.proofs.Emits.{place_same}
-use Rattle.asl_lower.proofs.Listed.{none_wide}
+use Rattle.asl_lower.proofs.Listed.{none_crowded}
 
 -- nothing has been emitted
 pub record IsEmpty (o : Output) : Type 0 where
@@ -34,10 +34,10 @@ at_origin o h =
     place_same (place_of o) origin (ap length h.code) h.sites (ap length h.sections)
 
 -- few registers, as the table has them
-few_table : (number : ℕ) (fs : List Function) (p : Place) → first_wide number fs ≡ None → All (λ (f : entry.Function). f.regs ≤ 64) (functions_table fs p)
+few_table : (number : ℕ) (fs : List Function) (p : Place) → first_crowded number fs ≡ None → All (λ (f : entry.Function). f.regs ≤ 64) (functions_table fs p)
 few_table number [] p e = All-nil (λ (f : entry.Function). f.regs ≤ 64)
 few_table number (f ∷ fs) p e =
-    let k = none_wide number f fs e in
+    let k = none_crowded number f fs e in
     All-cons (λ (g : entry.Function). g.regs ≤ 64) (entry_of f p) (functions_table fs (past_function f p)) k.0 (few_table (suc number) fs (past_function f p) k.1)
 
 -- the parts of the lowering
@@ -59,7 +59,7 @@ pub emitted_lowering : (is : List Item) (l : Lowered) → l ≡ lowering_of is �
 emitted_lowering is l e =
     let P : Lowered → Type 0 = IsLowering is in subst P (sym e) (lowering_of_is_lowering is)
 
-pub emitted_kept : (is : List Item) (l : Lowered) → l ≡ lowering_of is → ∥ IsParsed is ∥₁ → first_wide 0 (functions_of is) ≡ None → length l.code ≤ 65535 → ((function pc : ℕ) → ¬ IsBareAccess l function pc) → IsKept l
+pub emitted_kept : (is : List Item) (l : Lowered) → l ≡ lowering_of is → ∥ IsParsed is ∥₁ → first_crowded 0 (functions_of is) ≡ None → length l.code ≤ 65535 → ((function pc : ℕ) → ¬ IsBareAccess l function pc) → IsKept l
 emitted_kept is l e parsed few size inside =
     let P : List entry.Function → Type 0 = All (λ (f : entry.Function). f.regs ≤ 64) in
     record {
@@ -70,7 +70,7 @@ emitted_kept is l e parsed few size inside =
     }
 
 -- the program has room
-pub emitted_room : (is : List Item) (l : Lowered) → l ≡ lowering_of is → first_wide 0 (functions_of is) ≡ None → length l.code ≤ 65535 → HasRoom is
+pub emitted_room : (is : List Item) (l : Lowered) → l ≡ lowering_of is → first_crowded 0 (functions_of is) ≡ None → length l.code ≤ 65535 → HasRoom is
 emitted_room is l e few size =
     record { few_registers = few; few_instructions = omega (arith, (emitted_lowering is l e).code) }
 

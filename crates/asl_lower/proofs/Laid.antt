@@ -2,8 +2,8 @@
 use Rattle.std.proofs.Common.{◌≡◌, ℕ, suc, ◌+◌, List, [], ◌∷◌, length, refl, sym, ap, ◌∙◌, arith, length-append}
 use Rattle.asl_code.specs.declared.instr.Instr.{Instr}
 use Rattle.asl_code.specs.declared.instr.Instr.TheVariants as instr
-use Rattle.asl_syntax.specs.Tree.{Value, IntegerValue, NullValue, LocalValue, BinaryValue, GlobalValue, FieldValue, LoadValue, NewValue, CallValue, Statement, AssignStatement, StoreStatement, OutStatement, IfStatement, WhileStatement, AtomicStatement, Block, NoMore, Then, Function, Item}
-use Rattle.asl_lower.specs.Names.{Scope, register, functions_of, scope_of}
+use Rattle.asl_syntax.specs.Tree.{Value, IntegerValue, NullValue, LocalValue, BinaryValue, GlobalValue, FieldValue, LoadValue, NewValue, CallValue, Statement, AssignStatement, StoreStatement, OutStatement, IfStatement, WhileStatement, AtomicStatement, Block, NoMore, Then, Function, Item, functions_of}
+use Rattle.asl_lower.specs.Names.{Scope, register, scope_of}
 use Rattle.asl_lower.specs.Place.{Place, origin, next, entered, past_moves, past_value, past_stmt, past_block, past_else, past_function, past_functions}
 use Rattle.asl_lower.specs.Lowered.{Lowered, AreMoved, IsLoweredValue, IsLoweredStmt, IsLoweredBlock, IsLoweredElse, IsLoweredFunction, AreLoweredFunctions, IsLowering}
 use Rattle.asl_lower.specs.Layout.{moves, value_code, stmt_code, block_code, else_code, stmt_sections, block_sections, else_sections, function_code, functions_code, functions_sections, functions_table, lowering_of}

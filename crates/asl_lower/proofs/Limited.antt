@@ -13,14 +13,14 @@ use Rattle.asl_grammar.specs.Spelling.{later_names_on, names_on, right_on, line_
 use Rattle.asl_grammar.specs.Lex.{tokens_of}
 use Rattle.asl_grammar.specs.Grammar.{bare}
 use Rattle.asl_syntax.specs.declared.names.Space.TheVariants.{Functions}
-use Rattle.asl_syntax.specs.Tree.{Function, Item, GlobalItem, FunctionItem}
+use Rattle.asl_syntax.specs.Tree.{Function, Item, GlobalItem, FunctionItem, functions_of}
 use Rattle.asl_syntax.specs.Limit.{atomics_in, tally_of, is_over, limit_from, first_place, byte_over}
 use Rattle.asl_syntax.specs.Spelled.{right_meaning, line_meaning, stmt_meaning, block_meaning, else_meaning, function_meaning, item_meaning}
 use Rattle.asl_syntax.specs.Parsed.{IsParsed}
 use Rattle.asl_syntax.specs.Mentions.{Mention, DeclaresGlobal, DeclaresFunction, DeclaresParameter, AssignsLocal, UsesLocal, UsesGlobal, CallsFunction, block_mentions, mentions}
 use Rattle.asl_syntax.specs.Rules.{Names, with_name, with_declared, declared_in, names_in, first_twice, has_main}
 use Rattle.asl_syntax.proofs.Few.{few_functions, few_globals}
-use Rattle.asl_lower.specs.Names.{functions_of, function_names, number_of}
+use Rattle.asl_lower.specs.Names.{function_names, number_of}
 use Rattle.asl_lower.specs.Place.{Place, next, entered, origin, past_moves, past_value, past_stmt, past_block, past_else, past_function, past_functions}
 use Rattle.asl_lower.specs.Lowered.{Lowered, AreLoweredFunctions, IsLowering, entry_of}
 use Rattle.asl_lower.specs.Layout.{functions_table}

@@ -3,7 +3,7 @@ use Rattle.std.proofs.Common.{◌≡◌, ℕ, suc, ◌+◌, ◌<◌, ◌≤◌, 
 use Rattle.std.proofs.lemmas.Bool.{leb-false}
 use Rattle.asl_code.specs.declared.image.Function as entry
 use Rattle.asl_code.specs.declared.instr.Instr.{Instr}
-use Rattle.asl_syntax.specs.Tree.{Function, Item}
+use Rattle.asl_syntax.specs.Tree.{Function, Item, functions_of}
 use Rattle.asl_syntax.specs.declared.tree.Function as code
 use Rattle.asl_syntax.specs.declared.tree.Item as items
 use Rattle.asl_syntax.specs.declared.tree.Item.TheVariants as item
@@ -11,12 +11,12 @@ use Rattle.asl_syntax.specs.declared.name.Name.{Name}
 use Rattle.asl_syntax.specs.View.{function_of, item_of}
 use Rattle.asl_lower.specs.declared.section.Section.{Section}
 use Rattle.asl_lower.specs.declared.output.Output.{Output}
-use Rattle.asl_lower.specs.Names.{registers_of, functions_of, scope_of}
+use Rattle.asl_lower.specs.Names.{registers_of, scope_of}
 use Rattle.asl_lower.specs.Place.{Place, past_function, past_functions}
 use Rattle.asl_lower.specs.Lowered.{entry_of}
 use Rattle.asl_lower.specs.Layout.{block_sections, function_code, functions_code, functions_sections, functions_table}
 use Rattle.asl_lower.specs.OutputView.{Adds, place_of}
-use Rattle.asl_lower.specs.Refused.{first_wide}
+use Rattle.asl_lower.specs.Refused.{first_crowded}
 use Rattle.asl_lower.proofs.Grows.{by_functions}
 use Rattle.asl_lower.proofs.Numbering.{block_locals_grow}
 
@@ -24,14 +24,14 @@ use Rattle.asl_lower.proofs.Numbering.{block_locals_grow}
 pub few_parameters : (f : Function) → registers_of f ≤ 64 → length f.parameters ≤ 64
 few_parameters f h = omega (arith, block_locals_grow f.parameters f.body)
 
--- where no function from a number on is wide, the first is not, and none behind it
-wide_step : (b : Bool) (number : ℕ) (o : Option ℕ) → (if b then Some number else o) ≡ None → (b ≡ false) × (o ≡ None)
-wide_step true number o e = absurd cc
-wide_step false number o e = (refl, e)
+-- where no function from a number on is crowded, the first is not, and none behind it
+crowded_step : (b : Bool) (number : ℕ) (o : Option ℕ) → (if b then Some number else o) ≡ None → (b ≡ false) × (o ≡ None)
+crowded_step true number o e = absurd cc
+crowded_step false number o e = (refl, e)
 
-pub none_wide : (number : ℕ) (f : Function) (fs : List Function) → first_wide number (f ∷ fs) ≡ None → (registers_of f ≤ 64) × (first_wide (suc number) fs ≡ None)
-none_wide number f fs e =
-    let k = wide_step (nat_lt 64 (registers_of f)) number (first_wide (suc number) fs) e in
+pub none_crowded : (number : ℕ) (f : Function) (fs : List Function) → first_crowded number (f ∷ fs) ≡ None → (registers_of f ≤ 64) × (first_crowded (suc number) fs ≡ None)
+none_crowded number f fs e =
+    let k = crowded_step (nat_lt 64 (registers_of f)) number (first_crowded (suc number) fs) e in
     (omega (arith, leb-false 65 (registers_of f) k.0), k.1)
 
 -- the functions of the items that are left, at a function and at a global

@@ -7,8 +7,8 @@ use Rattle.asl_code.specs.declared.image.Function as entry
 use Rattle.asl_code.specs.declared.instr.Instr.{Instr}
 use Rattle.asl_lower.specs.declared.bare.OutsideCall.{OutsideCall}
 use Rattle.asl_lower.specs.Lowered.{Lowered}
-use Rattle.asl_lower.specs.Region.{InBody, IsBare, Main, CalledOutside, IsBareAccess}
-use Rattle.asl_lower.specs.Reach.{HasCode, IsFirstBareAccess, owners_of, IsOutsideCall, AreOutsideCalls, Reached, Start, Follow, IsMarked, OnlyReached, IsFollowed, IsMarkedAccess, IsFirstMarkedAccess}
+use Rattle.asl_lower.specs.Region.{IsFirstBareAccess, InBody, IsBare, Main, CalledOutside, IsBareAccess}
+use Rattle.asl_lower.specs.Reach.{HasCode, owners_of, IsOutsideCall, AreOutsideCalls, Reached, Start, Follow, IsMarked, OnlyReached, IsFollowed, IsMarkedAccess, IsFirstMarkedAccess}
 use Rattle.asl_lower.proofs.Owned.{IsOwned, owned, owner_of}
 
 -- what was computed of the functions, the main and the code

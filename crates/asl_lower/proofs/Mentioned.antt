@@ -5,10 +5,10 @@ use Rattle.std.proofs.lemmas.Bool.{false≢true}
 use Rattle.std.proofs.lemmas.Slice.Eq.{bytes_eq-Decides}
 use Rattle.asl_syntax.specs.declared.names.Space.{Space}
 use Rattle.asl_syntax.specs.declared.names.Space.TheVariants.{Globals, Functions, Locals}
-use Rattle.asl_syntax.specs.Tree.{Value, IntegerValue, NullValue, LocalValue, BinaryValue, GlobalValue, FieldValue, LoadValue, NewValue, CallValue, Statement, AssignStatement, StoreStatement, OutStatement, IfStatement, WhileStatement, AtomicStatement, Block, NoMore, Then, Function, Item, GlobalItem, FunctionItem}
+use Rattle.asl_syntax.specs.Tree.{Value, IntegerValue, NullValue, LocalValue, BinaryValue, GlobalValue, FieldValue, LoadValue, NewValue, CallValue, Statement, AssignStatement, StoreStatement, OutStatement, IfStatement, WhileStatement, AtomicStatement, Block, NoMore, Then, Function, Item, GlobalItem, FunctionItem, globals_of, functions_of}
 use Rattle.asl_syntax.specs.Mentions.{Mention, DeclaresParameter, AssignsLocal, UsesLocal, UsesGlobal, CallsFunction, value_mentions, statement_mentions, block_mentions, function_mentions, mentions}
 use Rattle.asl_syntax.specs.Rules.{Names, declared_in, with_declared, names_in}
-use Rattle.asl_lower.specs.Names.{has_name, number_of, with_name, stmt_locals, block_locals, locals_of, globals_of, functions_of, function_names}
+use Rattle.asl_lower.specs.Names.{has_name, number_of, with_name, stmt_locals, block_locals, locals_of, function_names}
 use Rattle.asl_lower.proofs.Named.{Each}
 
 -- either of two tests

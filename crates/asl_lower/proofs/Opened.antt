@@ -5,9 +5,9 @@ use Rattle.std.proofs.lemmas.Bool.{cases_lt, false≢true}
 use Rattle.std.proofs.lemmas.Option.{slice_get_within}
 use Rattle.asl_code.specs.declared.instr.Instr.{Instr}
 use Rattle.asl_code.specs.declared.instr.Instr.TheVariants as instr
-use Rattle.asl_syntax.specs.Tree.{Function, Item}
+use Rattle.asl_syntax.specs.Tree.{Function, Item, functions_of}
 use Rattle.asl_lower.specs.declared.section.Section.{Section}
-use Rattle.asl_lower.specs.Names.{functions_of, scope_of, register}
+use Rattle.asl_lower.specs.Names.{scope_of, register}
 use Rattle.asl_lower.specs.Place.{Place, origin, past_function}
 use Rattle.asl_lower.specs.Lowered.{Lowered, IsLowering, end_of}
 use Rattle.asl_lower.specs.Region.{open_at, open_behind, without_innermost, InBody, InSection, IsSection}

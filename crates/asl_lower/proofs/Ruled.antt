@@ -14,12 +14,12 @@ use Rattle.asl_grammar.specs.Spelling.{later_names_on, names_on, right_on, line_
 use Rattle.asl_grammar.specs.Lex.{tokens_of}
 use Rattle.asl_grammar.specs.Grammar.{bare}
 use Rattle.asl_syntax.specs.declared.names.Space.TheVariants.{Globals, Functions, Locals}
-use Rattle.asl_syntax.specs.Tree.{Function, Item, GlobalItem, FunctionItem}
+use Rattle.asl_syntax.specs.Tree.{Function, Item, GlobalItem, FunctionItem, globals_of, functions_of}
 use Rattle.asl_syntax.specs.Spelled.{right_meaning, line_meaning, stmt_meaning, block_meaning, else_meaning, function_meaning, item_meaning}
 use Rattle.asl_syntax.specs.Parsed.{IsParsed}
 use Rattle.asl_syntax.specs.Mentions.{Mention, DeclaresGlobal, DeclaresFunction, DeclaresParameter, AssignsLocal, UsesLocal, UsesGlobal, CallsFunction, value_mentions, statement_mentions, block_mentions, function_mentions, mentions}
 use Rattle.asl_syntax.specs.Rules.{Names, Counts, with_declared, declared_in, names_in, unknown_use, or_name, first_unknown_use, first_unknown, unknown_in_function, parameter_counts, differs, is_wrong_call, wrong_call_from, name_place, name_places}
-use Rattle.asl_lower.specs.Names.{Scope, register, global_number, has_name, number_of, globals_of, functions_of, function_names, registers_of, locals_of, scope_of}
+use Rattle.asl_lower.specs.Names.{Scope, register, global_number, has_name, number_of, function_names, registers_of, locals_of, scope_of}
 use Rattle.asl_lower.specs.Place.{Place, origin, past_function, past_functions}
 use Rattle.asl_lower.specs.Lowered.{Lowered, IsLoweredFunction, AreLoweredFunctions, IsLowering, entry_of}
 use Rattle.asl_lower.specs.Region.{start_of, InBody}

@@ -1,4 +1,4 @@
--- What each `Lowering` keeps.
+-- What each `Lowering` keeps (docs/SOURCE.md, "Templates").
 use Rattle.std.specs.Prelude.{ℕ, ◌≤◌, List, length}
 use Rattle.std.specs.List.{All}
 use Rattle.asl_code.specs.declared.image.Function as entry
@@ -16,7 +16,7 @@ pub record IsKept (l : Lowered) : Type 0 where
   pub size : length l.code ≤ 65535
   pub inside : (function pc : ℕ) → ¬ IsBareAccess l function pc
 
--- what has been emitted, as a lowering
+-- what has been emitted (src/draft.rt), as a lowering; private
 abbrev pub lowered_of : Draft → Lowered
 lowered_of d =
     record { globals = d.globals; functions = d.functions.items; main = d.main; code = d.out.code.items; sites = d.out.sites; sections = d.out.sections.items }

@@ -1,11 +1,12 @@
--- The code of a program as one list, computed: what the templates of `Lowered` put at each place.
+-- The code of a program as one list, computed: what the templates of specs/Lowered put at each place; private. What
+-- contracts cite is `IsLowering` of specs/Lowered.
 use Rattle.std.specs.Prelude.{ℕ, suc, List, [], ◌∷◌, ◌++◌, length, codes}
 use Rattle.asl_code.specs.declared.image.Function as entry
 use Rattle.asl_code.specs.declared.instr.Instr.{Instr}
 use Rattle.asl_code.specs.declared.instr.Instr.TheVariants as instr
-use Rattle.asl_syntax.specs.Tree.{Value, CallValue, Statement, AssignStatement, StoreStatement, OutStatement, IfStatement, WhileStatement, AtomicStatement, Block, NoMore, Then, Function, Item}
+use Rattle.asl_syntax.specs.Tree.{Value, CallValue, Statement, AssignStatement, StoreStatement, OutStatement, IfStatement, WhileStatement, AtomicStatement, Block, NoMore, Then, Function, Item, globals_of, functions_of}
 use Rattle.asl_lower.specs.declared.section.Section.{Section}
-use Rattle.asl_lower.specs.Names.{Scope, register, number_of, globals_of, functions_of, function_names, scope_of}
+use Rattle.asl_lower.specs.Names.{Scope, register, number_of, function_names, scope_of}
 use Rattle.asl_lower.specs.Place.{Place, origin, next, entered, past_block, past_stmt, past_else, past_function}
 use Rattle.asl_lower.specs.Lowered.{value_instr, else_target, section_of, entry_of, Lowered, end_of}
 
@@ -61,11 +62,12 @@ abbrev mutual
   else_sections sc (Then s b) p =
       stmt_sections sc s (next p) ++ block_sections sc b (past_stmt s (next p))
 
--- the code of a function, and of functions from a number on
+-- the code of a function
 abbrev pub function_code : List Item → ℕ → Function → Place → List Instr
 function_code is number f p =
     block_code (scope_of is number f) f.body p ++ instr.Return (register (scope_of is number f) f.returned) ∷ []
 
+-- the code of functions from a number on
 abbrev pub functions_code : List Item → ℕ → List Function → Place → List Instr
 functions_code is number [] p = []
 functions_code is number (f ∷ fs) p =

@@ -5,9 +5,9 @@ use Rattle.asl_code.specs.declared.instr.Instr.{Instr}
 use Rattle.asl_code.specs.declared.instr.Instr.TheVariants as instr
 use Rattle.asl_grammar.specs.declared.control.Operator.{Operator}
 use Rattle.asl_grammar.specs.declared.control.Operator.TheVariants.{Add, Subtract, IsLess, IsEqual}
-use Rattle.asl_syntax.specs.Tree.{Value, IntegerValue, NullValue, LocalValue, BinaryValue, GlobalValue, FieldValue, LoadValue, NewValue, CallValue, Statement, AssignStatement, StoreStatement, OutStatement, IfStatement, WhileStatement, AtomicStatement, Block, NoMore, Then, Function, Item}
+use Rattle.asl_syntax.specs.Tree.{Value, IntegerValue, NullValue, LocalValue, BinaryValue, GlobalValue, FieldValue, LoadValue, NewValue, CallValue, Statement, AssignStatement, StoreStatement, OutStatement, IfStatement, WhileStatement, AtomicStatement, Block, NoMore, Then, Function, Item, globals_of, functions_of}
 use Rattle.asl_lower.specs.declared.section.Section.{Section}
-use Rattle.asl_lower.specs.Names.{Scope, register, global_number, function_number, globals_of, functions_of, function_names, number_of, registers_of, scope_of}
+use Rattle.asl_lower.specs.Names.{Scope, register, global_number, function_number, function_names, number_of, registers_of, scope_of}
 use Rattle.asl_lower.specs.Place.{Place, origin, next, entered, past_moves, past_block, past_stmt, past_else, past_function, past_functions}
 
 -- what a lowering is: how many globals there are, the functions, which of them is `main`, the code with site numbers

@@ -1,6 +1,6 @@
 -- How the names of a program become numbers (docs/SOURCE.md, "Templates").
 use Rattle.std.specs.Prelude.{ℕ, suc, ◌+◌, max, Bool, false, ◌||◌, if◌then◌else◌, bytes_eq, List, [], ◌∷◌, ◌++◌, length, map}
-use Rattle.asl_syntax.specs.Tree.{Value, CallValue, Statement, AssignStatement, StoreStatement, OutStatement, IfStatement, WhileStatement, AtomicStatement, Block, NoMore, Then, Function, Item, GlobalItem, FunctionItem}
+use Rattle.asl_syntax.specs.Tree.{Value, CallValue, Statement, AssignStatement, StoreStatement, OutStatement, IfStatement, WhileStatement, AtomicStatement, Block, NoMore, Then, Function, Item, globals_of, functions_of}
 
 -- whether the name is among these (docs/SOURCE.md, "Templates")
 abbrev pub has_name : List (List ℕ) → List ℕ → Bool
@@ -57,18 +57,6 @@ locals_of f = block_locals f.parameters f.body
 abbrev pub registers_of : Function → ℕ
 registers_of f = length (locals_of f) + block_arguments f.body
 
--- the globals in the order of the text (docs/SOURCE.md, "Templates")
-abbrev pub globals_of : List Item → List (List ℕ)
-globals_of [] = []
-globals_of (GlobalItem x ∷ is) = x ∷ globals_of is
-globals_of (FunctionItem f ∷ is) = globals_of is
-
--- the functions in the order of the text (docs/SOURCE.md, "Templates")
-abbrev pub functions_of : List Item → List Function
-functions_of [] = []
-functions_of (GlobalItem x ∷ is) = functions_of is
-functions_of (FunctionItem f ∷ is) = f ∷ functions_of is
-
 -- what the names of a function's body mean: its locals, the globals and the functions, each numbered from 0 (docs/SOURCE.md, "Templates")
 pub record Scope : Type 0 where
   pub function : ℕ
@@ -85,12 +73,14 @@ abbrev pub scope_of : List Item → ℕ → Function → Scope
 scope_of is number f =
     record { function = number; locals = locals_of f; globals = globals_of is; functions = function_names (functions_of is) }
 
--- the register of a local, the number of a global, the number of a function (docs/SOURCE.md, "Templates")
+-- the register of a local (docs/SOURCE.md, "Templates")
 abbrev pub register : Scope → List ℕ → ℕ
 register sc x = number_of sc.locals x
 
+-- the number of a global (docs/SOURCE.md, "Templates")
 abbrev pub global_number : Scope → List ℕ → ℕ
 global_number sc x = number_of sc.globals x
 
+-- the number of a function (docs/SOURCE.md, "Templates")
 abbrev pub function_number : Scope → List ℕ → ℕ
 function_number sc x = number_of sc.functions x

@@ -1,4 +1,4 @@
--- Names behind references, as the names that definitions speak of.
+-- Names behind references, as the names that definitions speak of; private.
 use Rattle.std.specs.Prelude.{ℕ, List, map}
 use Rattle.std.specs.Borrow.{Bor}
 use Rattle.asl_syntax.specs.declared.name.Name.{Name}

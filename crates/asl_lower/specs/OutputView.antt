@@ -1,4 +1,4 @@
--- What has been emitted, as the values that definitions speak of.
+-- What has been emitted (src/output.rt), as the values that definitions speak of; private.
 use Rattle.std.specs.Prelude.{◌≡◌, List, ◌++◌, length}
 use Rattle.asl_code.specs.declared.instr.Instr.{Instr}
 use Rattle.asl_lower.specs.declared.section.Section.{Section}

@@ -12,13 +12,15 @@ pub record Place : Type 0 where
 abbrev pub origin : Place
 origin = record { pc = 0; site = 0; section = 0 }
 
--- behind one instruction, one `new`, one `acq` (docs/SOURCE.md, "Templates")
+-- behind one instruction that is no `new` and no `acq` (docs/SOURCE.md, "Templates")
 abbrev pub next : Place → Place
 next p = record { pc = suc p.pc; site = p.site; section = p.section }
 
+-- behind one `new` (docs/SOURCE.md, "Templates")
 abbrev pub created : Place → Place
 created p = record { pc = suc p.pc; site = suc p.site; section = p.section }
 
+-- behind one `acq` (docs/SOURCE.md, "Templates")
 abbrev pub entered : Place → Place
 entered p = record { pc = suc p.pc; site = p.site; section = suc p.section }
 

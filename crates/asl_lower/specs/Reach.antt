@@ -1,4 +1,5 @@
--- The calls and the accesses outside all sections, and what the calls lead to.
+-- The calls and the accesses outside all sections, and what the calls lead to, as src/bare.rt finds them; private. What
+-- contracts cite are `IsBareAccess` and `IsFirstBareAccess` of specs/Region.
 use Rattle.std.specs.Prelude.{◌≡◌, ℕ, suc, ◌-◌, ◌<◌, ◌≤◌, Bool, true, false, IsTrue, List, [], ◌∷◌, ◌++◌, length, replicate, Some, slice_get, slice_set}
 use Rattle.std.specs.List.{All, Contains}
 use Rattle.asl_code.specs.declared.image.Function as entry
@@ -6,18 +7,13 @@ use Rattle.asl_code.specs.declared.instr.Instr.{Instr}
 use Rattle.asl_code.specs.declared.instr.Instr.TheVariants as instr
 use Rattle.asl_lower.specs.declared.bare.OutsideCall.{OutsideCall}
 use Rattle.asl_lower.specs.Lowered.{Lowered}
-use Rattle.asl_lower.specs.Region.{open_at, is_access, IsBareAccess}
+use Rattle.asl_lower.specs.Region.{open_at, is_access}
 
 -- the lowering has these functions, this main and this code
 pub record HasCode (l : Lowered) (fs : List entry.Function) (start : ℕ) (is : List Instr) : Type 0 where
   pub functions : l.functions ≡ fs
   pub main : l.main ≡ start
   pub code : l.code ≡ is
-
--- the access of a bare function outside its sections that stands lowest
-pub record IsFirstBareAccess (l : Lowered) (function pc : ℕ) : Type 0 where
-  pub access : IsBareAccess l function pc
-  pub first : (other at : ℕ) → IsBareAccess l other at → pc ≤ at
 
 -- the number of the function of each instruction, where the bodies of the functions from a number on lie one after the other
 abbrev pub owners_of : ℕ → List entry.Function → List ℕ

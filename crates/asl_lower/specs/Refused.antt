@@ -1,26 +1,26 @@
 -- Which programs are not lowered, and why (docs/SOURCE.md, "Templates").
 use Rattle.std.specs.Prelude.{◌≡◌, ℕ, suc, ◌<◌, ◌≤◌, List, [], ◌∷◌, Option, Some, None, if◌then◌else◌, nat_lt}
-use Rattle.asl_syntax.specs.Tree.{Function, Item}
+use Rattle.asl_syntax.specs.Tree.{Function, Item, functions_of}
 use Rattle.asl_lower.specs.declared.fault.LowerFault.{LowerFault}
 use Rattle.asl_lower.specs.declared.fault.LowerFault.TheVariants.{Registers, CodeSize, AccessOutsideSection, OutOfMemory}
-use Rattle.asl_lower.specs.Names.{functions_of, registers_of}
+use Rattle.asl_lower.specs.Names.{registers_of}
 use Rattle.asl_lower.specs.Lowered.{Lowered, IsLowering, end_of}
-use Rattle.asl_lower.specs.Reach.{IsFirstBareAccess}
+use Rattle.asl_lower.specs.Region.{IsFirstBareAccess}
 
 -- the first function with more than 64 registers, where functions are numbered from this number on (docs/SOURCE.md, "Templates")
-abbrev pub first_wide : ℕ → List Function → Option ℕ
-first_wide number [] = None
-first_wide number (f ∷ fs) = if nat_lt 64 (registers_of f) then Some number else first_wide (suc number) fs
+abbrev pub first_crowded : ℕ → List Function → Option ℕ
+first_crowded number [] = None
+first_crowded number (f ∷ fs) = if nat_lt 64 (registers_of f) then Some number else first_crowded (suc number) fs
 
 -- no function has more than 64 registers, and the code has at most 65,535 instructions (docs/SOURCE.md, "Templates")
 pub record HasRoom (is : List Item) : Type 0 where
-  pub few_registers : first_wide 0 (functions_of is) ≡ None
+  pub few_registers : first_crowded 0 (functions_of is) ≡ None
   pub few_instructions : (end_of is).pc ≤ 65535
 
 -- the program has this fault, and none that is listed before it (docs/SOURCE.md, "Templates")
 abbrev pub IsRefused : List Item → LowerFault → Type 0
-IsRefused is (Registers number) = first_wide 0 (functions_of is) ≡ Some number
-IsRefused is CodeSize = (first_wide 0 (functions_of is) ≡ None) × (65535 < (end_of is).pc)
+IsRefused is (Registers number) = first_crowded 0 (functions_of is) ≡ Some number
+IsRefused is CodeSize = (first_crowded 0 (functions_of is) ≡ None) × (65535 < (end_of is).pc)
 IsRefused is (AccessOutsideSection function pc) =
     HasRoom is × ((l : Lowered) × IsLowering is l × IsFirstBareAccess l function pc)
 IsRefused is OutOfMemory = Unit {0}

@@ -22,19 +22,21 @@ abbrev pub open_at : List Instr → ℕ → List ℕ
 open_at code zero = []
 open_at code (suc pc) = open_behind (slice_get code pc) (open_at code pc)
 
--- the instruction makes an object; it enters a section (docs/SOURCE.md, "Templates")
+-- the instruction makes an object (docs/SOURCE.md, "Templates")
 abbrev pub is_new : Instr → Bool
 is_new (instr.New to cells site) = true
 is_new i = false
 
+-- the instruction enters a section (docs/SOURCE.md, "Templates")
 abbrev pub is_acquire : Instr → Bool
 is_acquire (instr.Acquire s) = true
 is_acquire i = false
 
--- how many `new`, and how many `acq`, stand before the pc (docs/SOURCE.md, "Templates")
+-- how many `new` stand before the pc (docs/SOURCE.md, "Templates")
 abbrev pub sites_before : List Instr → ℕ → ℕ
 sites_before code pc = count_by is_new (take pc code)
 
+-- how many `acq` stand before the pc (docs/SOURCE.md, "Templates")
 abbrev pub sections_before : List Instr → ℕ → ℕ
 sections_before code pc = count_by is_acquire (take pc code)
 
@@ -77,10 +79,6 @@ GoesOn (instr.JumpIfZero test target) pc to = (to ≡ target) ⊎ (to ≡ suc pc
 GoesOn (instr.Return from) pc to = ⊥
 GoesOn i pc to = to ≡ suc pc
 
--- `to` is a successor of the instruction at `pc` (docs/SOURCE.md, "Templates")
-abbrev pub IsSuccessor : Lowered → ℕ → ℕ → Type 0
-IsSuccessor l pc to = (i : Instr) × (slice_get l.code pc ≡ Some i) × GoesOn i pc to
-
 -- the instruction at the pc calls the function (docs/SOURCE.md, "Templates")
 abbrev pub CallsAt : Lowered → ℕ → ℕ → Type 0
 CallsAt l pc callee = (to : ℕ) × (first : ℕ) × (slice_get l.code pc ≡ Some (instr.Call to first callee))
@@ -109,3 +107,8 @@ pub record IsBareAccess (l : Lowered) (function pc : ℕ) : Type 0 where
   pub stands : slice_get l.code pc ≡ Some instruction
   pub access : IsTrue (is_access instruction)
   pub outside : open_at l.code pc ≡ []
+
+-- the access of a bare function outside its sections that stands lowest (docs/SOURCE.md, "Templates")
+pub record IsFirstBareAccess (l : Lowered) (function pc : ℕ) : Type 0 where
+  pub access : IsBareAccess l function pc
+  pub first : (other at : ℕ) → IsBareAccess l other at → pc ≤ at

@@ -4,8 +4,8 @@ ghost use Rattle.std.specs.Prelude.{◌≡◌, ℕ, ◌+◌, ◌<◌, ◌≤◌,
 ghost use Rattle.std.specs.List.{All};
 ghost use Rattle.asl_code.specs.declared.image.Function as entry;
 ghost use Rattle.asl_lower.specs.Lowered.{Lowered};
-ghost use Rattle.asl_lower.specs.Region.{is_access, IsBareAccess};
-ghost use Rattle.asl_lower.specs.Reach.{HasCode, IsFirstBareAccess, owners_of, depth_behind, AreOutsideCalls, IsMarked, OnlyReached, KeepsMarks, IsFollowed, unmarked, IsNewMark, IsMarkedAccess, IsFirstMarkedAccess};
+ghost use Rattle.asl_lower.specs.Region.{IsFirstBareAccess, is_access, IsBareAccess};
+ghost use Rattle.asl_lower.specs.Reach.{HasCode, owners_of, depth_behind, AreOutsideCalls, IsMarked, OnlyReached, KeepsMarks, IsFollowed, unmarked, IsNewMark, IsMarkedAccess, IsFirstMarkedAccess};
 
 use asl_code::{Function, Instr};
 use std::alloc::{AllocError, Global};

@@ -2,13 +2,14 @@
 
 ghost use Rattle.std.specs.Prelude.{◌≡◌, ◌≤◌, None, length, map, codes, IfOk, IfErr};
 ghost use Rattle.asl_syntax.specs.View.{item_of};
-ghost use Rattle.asl_lower.specs.Names.{globals_of, functions_of, function_names, number_of};
+ghost use Rattle.asl_syntax.specs.Tree.{globals_of, functions_of};
+ghost use Rattle.asl_lower.specs.Names.{function_names, number_of};
 ghost use Rattle.asl_lower.specs.Layout.{lowering_of};
-ghost use Rattle.asl_lower.specs.Refused.{first_wide, IsRefused};
+ghost use Rattle.asl_lower.specs.Refused.{first_crowded, IsRefused};
 ghost use Rattle.asl_lower.specs.Kept.{lowered_of};
 
 use crate::fault::LowerFault;
-use crate::functions::{emit_functions, first_wide};
+use crate::functions::{emit_functions, first_crowded};
 use crate::names::function_number;
 use crate::output::{Full, Output};
 use asl_code::Function;
@@ -51,10 +52,10 @@ pub fn make_draft(alloc: Global, items: &[Item]) -> Result<Draft, LowerFault>
     requires few_globals { length (globals_of (map item_of items.now)) ≤ 1024 }
     requires few_functions { length (functions_of (map item_of items.now)) ≤ 256 }
     ensures lowered { IfOk result (λ d. lowered_of d ≡ lowering_of (map item_of items.now)) }
-    ensures few_registers { IfOk result (λ _. first_wide 0 (functions_of (map item_of items.now)) ≡ None) }
+    ensures few_registers { IfOk result (λ _. first_crowded 0 (functions_of (map item_of items.now)) ≡ None) }
     ensures refused { IfErr result (IsRefused (map item_of items.now)) }
 {
-    if let Some(number) = first_wide(alloc, items)? {
+    if let Some(number) = first_crowded(alloc, items)? {
         return Err(LowerFault::Registers(number));
     }
     let mut out = Output::new(alloc);

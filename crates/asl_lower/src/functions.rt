@@ -2,13 +2,14 @@
 
 ghost use Rattle.std.specs.Prelude.{◌≡◌, ◌<◌, ◌≤◌, nat_lt, length, map, IfOk};
 ghost use Rattle.asl_syntax.specs.View.{item_of, function_of};
-ghost use Rattle.asl_lower.specs.Names.{locals_of, registers_of, globals_of, functions_of, scope_of};
+ghost use Rattle.asl_syntax.specs.Tree.{globals_of, functions_of};
+ghost use Rattle.asl_lower.specs.Names.{locals_of, registers_of, scope_of};
 ghost use Rattle.asl_lower.specs.NamesView.{names_of};
 ghost use Rattle.asl_lower.specs.Place.{past_function, past_functions};
 ghost use Rattle.asl_lower.specs.Lowered.{entry_of};
 ghost use Rattle.asl_lower.specs.Layout.{block_sections, function_code, functions_code, functions_sections, functions_table};
 ghost use Rattle.asl_lower.specs.OutputView.{Adds, place_of};
-ghost use Rattle.asl_lower.specs.Refused.{first_wide};
+ghost use Rattle.asl_lower.specs.Refused.{first_crowded};
 
 use crate::locals::{LocalsFault, MOST, add_block, block_arguments};
 use crate::output::{Full, Output};
@@ -38,8 +39,8 @@ fn locals_of(alloc: Global, function: &Function) -> Result<Vec<&Name>, LocalsFau
 }
 
 /// Whether a function has more than 64 registers.
-fn is_wide(alloc: Global, function: &Function) -> Result<bool, AllocError>
-    ensures { IfOk result (λ wide. wide ≡ nat_lt 64 (registers_of (function_of function.now))) }
+fn is_crowded(alloc: Global, function: &Function) -> Result<bool, AllocError>
+    ensures { IfOk result (λ found. found ≡ nat_lt 64 (registers_of (function_of function.now))) }
 {
     match locals_of(alloc, function) {
         Ok(_locals) => Ok(false),
@@ -49,14 +50,14 @@ fn is_wide(alloc: Global, function: &Function) -> Result<bool, AllocError>
 }
 
 /// The number of the first function with more than 64 registers.
-pub fn first_wide(alloc: Global, items: &[Item]) -> Result<Option<u16>, AllocError>
+pub fn first_crowded(alloc: Global, items: &[Item]) -> Result<Option<u16>, AllocError>
     requires { length (functions_of (map item_of items.now)) ≤ 256 }
-    ensures { IfOk result (λ wide. wide ≡ first_wide 0 (functions_of (map item_of items.now))) }
+    ensures { IfOk result (λ found. found ≡ first_crowded 0 (functions_of (map item_of items.now))) }
 {
     let mut number = 0;
     for item in items {
         if let Item::Function(function) = item {
-            if is_wide(alloc, function)? {
+            if is_crowded(alloc, function)? {
                 return Ok(Some(number));
             }
             number += 1;
@@ -104,7 +105,7 @@ fn emit_function(
 pub fn emit_functions(alloc: Global, out: &mut Output, items: &[Item]) -> Result<Vec<Entry>, Full>
     requires few_globals { length (globals_of (map item_of items.now)) ≤ 1024 }
     requires few_functions { length (functions_of (map item_of items.now)) ≤ 256 }
-    requires few_registers { first_wide 0 (functions_of (map item_of items.now)) ≡ None }
+    requires few_registers { first_crowded 0 (functions_of (map item_of items.now)) ≡ None }
     ensures adds { IfOk result (λ _. Adds out.old out.new (functions_code (map item_of items.now) 0 (functions_of (map item_of items.now)) (place_of out.old)) (functions_sections (map item_of items.now) 0 (functions_of (map item_of items.now)) (place_of out.old)) (past_functions (functions_of (map item_of items.now)) (place_of out.old))) }
     ensures table { IfOk result (λ table. table.items ≡ functions_table (functions_of (map item_of items.now)) (place_of out.old)) }
     ensures full { result ≡ Err Full.CodeSize → 65535 < (past_functions (functions_of (map item_of items.now)) (place_of out.old)).pc }

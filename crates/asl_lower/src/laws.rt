@@ -4,7 +4,6 @@ ghost use Rattle.asl_code.specs.declared.instr.Instr.{Instr};
 ghost use Rattle.asl_syntax.specs.Tree.{Item};
 ghost use Rattle.asl_syntax.specs.Parsed.{IsParsed};
 ghost use Rattle.asl_lower.specs.Lowered.{Lowered, IsLowering};
-ghost use Rattle.asl_lower.specs.Layout.{lowering_of};
 ghost use Rattle.asl_lower.specs.Region.{open_at, InBody, CallsAt, IsBare, IsInner, is_access, IsBareAccess};
 ghost use Rattle.asl_lower.specs.Limits.{HasMain, KeepsLimits};
 ghost use Rattle.asl_lower.specs.Operands.{AreOperandsThere};
@@ -12,7 +11,7 @@ ghost use Rattle.asl_lower.specs.Facts.{IsParted, IsNested, HasSections, Returns
 
 /// Each program has one lowering.
 pub fn one_lowering()
-    ensures there { (is : List Item) → IsLowering is (lowering_of is) }
+    ensures there { (is : List Item) → (l : Lowered) × IsLowering is l }
     ensures one { (is : List Item) (l m : Lowered) → IsLowering is l → IsLowering is m → l ≡ m }
 {}
 

@@ -1,7 +1,8 @@
 //! The numbers of names.
 
 ghost use Rattle.std.specs.Prelude.{◌≡◌, ◌≤◌, length, map, bytes_eq};
-ghost use Rattle.asl_lower.specs.Names.{has_name, number_of, globals_of, functions_of, function_names};
+ghost use Rattle.asl_syntax.specs.Tree.{globals_of, functions_of};
+ghost use Rattle.asl_lower.specs.Names.{has_name, number_of, function_names};
 ghost use Rattle.asl_lower.specs.NamesView.{names_of};
 ghost use Rattle.asl_syntax.specs.View.{item_of};
 

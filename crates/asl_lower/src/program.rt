@@ -4,7 +4,7 @@ ghost use Rattle.std.specs.Prelude.{◌≤◌, ℕ, length, map, IfOk, IfErr};
 ghost use Rattle.asl_syntax.specs.View.{item_of};
 ghost use Rattle.asl_syntax.specs.AstView.{tree_of};
 ghost use Rattle.asl_syntax.specs.Parsed.{IsParsed};
-ghost use Rattle.asl_lower.specs.Names.{globals_of, functions_of};
+ghost use Rattle.asl_syntax.specs.Tree.{globals_of, functions_of};
 ghost use Rattle.asl_lower.specs.Lowered.{IsLowering};
 ghost use Rattle.asl_lower.specs.Region.{IsBareAccess};
 ghost use Rattle.asl_lower.specs.Refused.{HasRoom, IsRefused};

@@ -1,7 +1,7 @@
 //! What the names of a function's body mean.
 
 ghost use Rattle.std.specs.Prelude.{◌≡◌, ◌<◌, ◌≤◌, length, map};
-ghost use Rattle.asl_lower.specs.Names.{globals_of, functions_of};
+ghost use Rattle.asl_syntax.specs.Tree.{globals_of, functions_of};
 ghost use Rattle.asl_syntax.specs.View.{item_of};
 
 use crate::names::{function_number, global_number, number_of};

@@ -1,7 +1,7 @@
 -- the globals so far and those left are all
 use Rattle.std.proofs.Common.{◌≡◌, ◌+◌, ◌≤◌, length, map, drop}
 use Rattle.asl_syntax.specs.View.{item_of}
-use Rattle.asl_lower.specs.Names.{globals_of}
+use Rattle.asl_syntax.specs.Tree.{globals_of}
 use Rattle.asl_lower.proofs.draft.count_globals.Given as goal
 
 abbrev pub invariant-loop-item : goal.invariant-loop-item

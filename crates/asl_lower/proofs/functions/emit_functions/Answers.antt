@@ -1,14 +1,14 @@
 use Rattle.std.proofs.Common.{◌≡◌, ◌+◌, suc, ◌∷◌, ◌++◌, List, drop, map, length, sym, ap, ◌∙◌, subst, arith, rules, Vec, Global}
 use Rattle.asl_code.specs.declared.image.Function as entry
-use Rattle.asl_syntax.specs.Tree.{Function}
+use Rattle.asl_syntax.specs.Tree.{Function, functions_of}
 use Rattle.asl_syntax.specs.View.{function_of, item_of}
 use Rattle.asl_lower.specs.declared.output.Output.{Output}
-use Rattle.asl_lower.specs.Names.{functions_of, scope_of}
+use Rattle.asl_lower.specs.Names.{scope_of}
 use Rattle.asl_lower.specs.Place.{past_function, past_functions}
 use Rattle.asl_lower.specs.Layout.{block_sections, function_code, functions_code, functions_sections, functions_table}
 use Rattle.asl_lower.specs.OutputView.{Adds, place_of}
-use Rattle.asl_lower.specs.Refused.{first_wide}
-use Rattle.asl_lower.proofs.Listed.{none_wide, at_function, at_global, functions_full, code_step, sections_step, table_step}
+use Rattle.asl_lower.specs.Refused.{first_crowded}
+use Rattle.asl_lower.proofs.Listed.{none_crowded, at_function, at_global, functions_full, code_step, sections_step, table_step}
 use Rattle.asl_lower.proofs.functions.emit_functions.Goals as goal
 use Rattle.asl_lower.proofs.functions.emit_functions.Goals.{in-Function+in_ok-entry+in_ok-push, in_default}
 
@@ -31,7 +31,7 @@ loop-item-preserved c =
           let P : Output → Type 0 = λ o. Adds old o (function_code is number f (place_of old)) (block_sections (scope_of is number f) f.body (place_of old)) (past_function f (place_of old)) in
           let h : P c.match-item.out = subst P (sym w.out-is) w.in_ok-entry.ensures.adds in
           let n : c.match-item.number ≡ suc number = omega arith in (
-            ap (λ m. first_wide m rest) n ∙ (none_wide number f rest (ap (first_wide number) (sym e) ∙ c.loop-item.invariant.0)).1,
+            ap (λ m. first_crowded m rest) n ∙ (none_crowded number f rest (ap (first_crowded number) (sym e) ∙ c.loop-item.invariant.0)).1,
             omega (arith, ap length e),
             code_step is number c.match-item.number f left rest old c.match-item.out _ e n h c.loop-item.invariant.2,
             sections_step is number c.match-item.number f left rest old c.match-item.out _ e n h c.loop-item.invariant.3,
@@ -42,7 +42,7 @@ loop-item-preserved c =
           let e : rest ≡ left = sym (at_global c.args.items.now c.loop-item.item-index c.item-item.result w.in_default.field-0 (omega arith) c.item-item.is w.in_default.is) in
           let n : c.match-item.number ≡ number = w.number-is in
           let o : c.match-item.out ≡ old = w.out-is in (
-            ap (λ m. first_wide m rest) n ∙ ap (first_wide number) e ∙ c.loop-item.invariant.0,
+            ap (λ m. first_crowded m rest) n ∙ ap (first_crowded number) e ∙ c.loop-item.invariant.0,
             omega (arith, ap length e),
             ap (λ m. c.match-item.out.code.items ++ functions_code is m rest (place_of c.match-item.out)) n ∙ ap (λ (v : Output). v.code.items ++ functions_code is number rest (place_of v)) o ∙ ap (λ (fs : List Function). old.code.items ++ functions_code is number fs (place_of old)) e ∙ c.loop-item.invariant.2,
             ap (λ m. c.match-item.out.sections.items ++ functions_sections is m rest (place_of c.match-item.out)) n ∙ ap (λ (v : Output). v.sections.items ++ functions_sections is number rest (place_of v)) o ∙ ap (λ (fs : List Function). old.sections.items ++ functions_sections is number fs (place_of old)) e ∙ c.loop-item.invariant.3,

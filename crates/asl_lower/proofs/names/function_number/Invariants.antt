@@ -1,6 +1,7 @@
 -- the number so far and the number in what is left are the number in all
 use Rattle.std.proofs.Common.{◌≡◌, ◌≤◌, ◌+◌, length, map, drop}
-use Rattle.asl_lower.specs.Names.{number_of, functions_of, function_names}
+use Rattle.asl_syntax.specs.Tree.{functions_of}
+use Rattle.asl_lower.specs.Names.{number_of, function_names}
 use Rattle.asl_syntax.specs.View.{item_of}
 use Rattle.asl_lower.proofs.names.function_number.Given as goal
 

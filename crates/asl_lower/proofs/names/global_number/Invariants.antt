@@ -1,6 +1,7 @@
 -- the number so far and the number in what is left are the number in all
 use Rattle.std.proofs.Common.{◌≡◌, ◌≤◌, ◌+◌, length, map, drop}
-use Rattle.asl_lower.specs.Names.{number_of, globals_of}
+use Rattle.asl_syntax.specs.Tree.{globals_of}
+use Rattle.asl_lower.specs.Names.{number_of}
 use Rattle.asl_syntax.specs.View.{item_of}
 use Rattle.asl_lower.proofs.names.global_number.Given as goal
 
