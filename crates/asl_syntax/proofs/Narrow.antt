@@ -7,7 +7,8 @@ use Rattle.asl_grammar.specs.declared.token.Mark.TheVariants as mark
 use Rattle.asl_grammar.specs.Token.{Token, Fixed, Name, Number}
 use Rattle.asl_grammar.specs.Lex.{is_digit, is_letter, is_name_byte, all_bytes, has_name_bytes, is_token, are_tokens}
 use Rattle.asl_syntax.specs.Parsed.{first_wide}
-use Rattle.asl_syntax.specs.Printed.{mark_bytes, decimal, token_bytes, spaced}
+use Rattle.asl_grammar.specs.Bytes.{mark_bytes}
+use Rattle.asl_syntax.specs.Printed.{decimal, token_bytes, spaced}
 use Rattle.asl_syntax.proofs.Decimals.{decimal_is}
 
 abbrev is_narrow : ℕ → Bool

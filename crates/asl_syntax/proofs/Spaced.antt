@@ -6,7 +6,8 @@ use Rattle.asl_grammar.specs.Spelling.{later_names_on, names_on, line_on, stmt_o
 use Rattle.asl_syntax.specs.Tree.{Value, IntegerValue, NullValue, LocalValue, BinaryValue, GlobalValue, FieldValue, LoadValue, NewValue, CallValue, Statement, AssignStatement, StoreStatement, OutStatement, IfStatement, WhileStatement, AtomicStatement, Block, NoMore, Then, Function, Item, GlobalItem, FunctionItem}
 use Rattle.asl_syntax.specs.Spelled.{stmt_meaning, block_meaning, else_meaning, item_meaning, line_meaning, Spells}
 use Rattle.asl_syntax.specs.Writing.{assign_writing, statement_writing, block_writing, else_writing, item_writing, writing}
-use Rattle.asl_syntax.specs.Printed.{spaced, piece, mark_piece, later_names_bytes, names_bytes, value_bytes, statement_bytes, block_bytes, if_head, while_head, else_open, else_close, head_bytes, last_line_bytes, item_bytes, items_bytes}
+use Rattle.asl_syntax.specs.Printed.{spaced, piece}
+use Rattle.asl_syntax.specs.Pieces.{mark_piece, later_names_bytes, names_bytes, value_bytes, statement_bytes, block_bytes, if_head, while_head, else_open, else_close, head_bytes, last_line_bytes, item_bytes, items_bytes}
 
 -- writing a tree and taking its meaning gives the tree
 assign_back : (x : List ℕ) (v : Value) → line_meaning (assign_writing x v) ≡ AssignStatement x v

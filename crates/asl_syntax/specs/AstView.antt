@@ -1,4 +1,4 @@
--- The tree of an `Ast`.
+-- The tree of an `Ast` (src/ast.rt).
 use Rattle.std.specs.Prelude.{List}
 use Rattle.asl_syntax.specs.declared.ast.Ast as code
 use Rattle.asl_syntax.specs.Tree.{Item}

@@ -1,4 +1,4 @@
--- What the code has built, as the value that the builder's definition speaks of.
+-- What the code has built (src/build.rt), as the value that the builder's definition speaks of; private.
 use Rattle.std.specs.Prelude.{ℕ, List, Option, Some, None, map, Vec}
 use Rattle.std.specs.declared.alloc.Global.{Global}
 use Rattle.asl_syntax.specs.declared.tree.Statement as tree
@@ -15,14 +15,17 @@ abbrev pub pending_of : Option (List ℕ × Vec tree.Statement Global) → Optio
 pending_of None = None
 pending_of (Some p) = Some (p.0, block_of p.1.items)
 
+-- the statements of a block so far
 abbrev pub part_of : part.Part → Part
 part_of p = record { done = map statement_of p.done.items; pending = pending_of p.pending }
 
+-- whose block an open block is
 abbrev pub header_in : header.Header → Header
 header_in (headers.Then x) = ThenBlock x
 header_in (headers.Else x a) = ElseBlock x (block_of a.items)
 header_in (headers.While x) = WhileBlock x
 header_in headers.Atomic = AtomicBlock
 
+-- an open block
 abbrev pub frame_of : frame.Frame → Frame
 frame_of f = record { header = header_in f.header; outer = map statement_of f.outer.items }

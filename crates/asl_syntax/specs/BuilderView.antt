@@ -1,4 +1,4 @@
--- The code's builder as the value that the builder's definition speaks of.
+-- The code's builder (src/build.rt) as the value that the builder's definition speaks of; private.
 use Rattle.std.specs.Prelude.{map, reverse}
 use Rattle.asl_syntax.specs.declared.build.Builder as code
 use Rattle.asl_grammar.specs.declared.control.Control as control

@@ -1,4 +1,4 @@
--- The automaton with the trees that the code builds.
+-- The automaton with the trees that the code builds; private. What contracts cite is `Spells` of specs/Spelled.
 use Rattle.std.specs.Prelude.{ℕ, List, [], ◌∷◌, ◌++◌, Option, Some, None}
 use Rattle.asl_grammar.specs.declared.token.Mark.TheVariants as mark
 use Rattle.asl_grammar.specs.declared.control.Kind.{Kind}
@@ -36,12 +36,15 @@ pub record Stack : Type 0 where
   pub top : Part
   pub frames : List Frame
 
+-- a block with no statement yet
 abbrev pub no_part : Part
 no_part = record { done = []; pending = None }
 
+-- nothing has been built
 abbrev pub no_stack : Stack
 no_stack = record { items = []; name = []; parameters = []; arguments = []; top = no_part; frames = [] }
 
+-- the `if` that waits, if any, as a statement without `else`
 abbrev pub settle_pending : List Statement → Option (List ℕ × Block) → List Statement
 settle_pending ss None = ss
 settle_pending ss (Some (x, a)) = ss ++ IfStatement x a NoMore ∷ []
@@ -50,12 +53,15 @@ settle_pending ss (Some (x, a)) = ss ++ IfStatement x a NoMore ∷ []
 abbrev pub settle_part : Part → Part
 settle_part p = record { done = settle_pending p.done p.pending; pending = None }
 
+-- one more statement in a block
 abbrev pub put_part : Statement → Part → Part
 put_part x p = record { done = p.done ++ x ∷ []; pending = p.pending }
 
+-- one more statement in the innermost block
 abbrev pub put : Statement → Stack → Stack
 put x s = record s { top = put_part x s.top }
 
+-- the header of an `else`, of the `if` that waits
 abbrev pub else_header : Option (List ℕ × Block) → Header
 else_header None = ElseBlock [] NoMore
 else_header (Some (x, a)) = ElseBlock x a
@@ -67,16 +73,19 @@ header_of OfElse p = else_header p
 header_of (OfWhile x) p = WhileBlock x
 header_of OfAtomic p = AtomicBlock
 
+-- the statements around a block, with the block
 abbrev pub closed : Header → Block → List Statement → Part
 closed (ThenBlock x) b outer = record { done = outer; pending = Some (x, b) }
 closed (ElseBlock x a) b outer = record { done = outer ++ IfStatement x a b ∷ []; pending = None }
 closed (WhileBlock x) b outer = record { done = outer ++ WhileStatement x b ∷ []; pending = None }
 closed AtomicBlock b outer = record { done = outer ++ AtomicStatement b ∷ []; pending = None }
 
+-- without the innermost block, which its header puts into the one around it
 abbrev pub close_frames : List Frame → Stack → Stack
 close_frames [] s = s
 close_frames (f ∷ fs) s = record s { top = closed f.header (block s.top.done) f.outer; frames = fs }
 
+-- the present function, which returns x
 abbrev pub built_function : List ℕ → Stack → Function
 built_function x s = record { name = s.name; parameters = s.parameters; body = block s.top.done; returned = x }
 
@@ -96,12 +105,14 @@ apply Close s = close_frames s.frames s
 apply (Finish x) s =
     record s { items = s.items ++ FunctionItem (built_function x s) ∷ []; name = []; parameters = []; top = no_part }
 
+-- the kind of a block
 abbrev pub header_kind : Header → Kind
 header_kind (ThenBlock x) = kind.Then
 header_kind (ElseBlock x a) = kind.Inner
 header_kind (WhileBlock x) = kind.Inner
 header_kind AtomicBlock = kind.Inner
 
+-- the kind of the innermost open block
 abbrev pub kind_of : List Frame → Kind
 kind_of [] = kind.Body
 kind_of (f ∷ fs) = header_kind f.header
@@ -111,6 +122,7 @@ abbrev pub ready_then : Token → Stack → Stack
 ready_then (Fixed mark.Else) s = s
 ready_then _ s = record s { top = settle_part s.top }
 
+-- what has been built, once the next token is known
 abbrev pub ready : Control → Token → Stack → Stack
 ready AfterThen t s = ready_then t s
 ready c t s = s
@@ -120,6 +132,7 @@ pub record State : Type 0 where
   pub control : Control
   pub stack : Stack
 
+-- a step, if there is one
 abbrev pub moved : Option (Control × Act) → Stack → Option State
 moved None s = None
 moved (Some (c, a)) s = Some (record { control = c; stack = apply a s })
@@ -128,6 +141,7 @@ moved (Some (c, a)) s = Some (record { control = c; stack = apply a s })
 abbrev pub next_ready : Control → Stack → Token → Option State
 next_ready c s t = moved (step c (kind_of s.frames) t) s
 
+-- one token behind any control
 abbrev pub next : Control → Stack → Token → Option State
 next c s t = next_ready (settled c t) (ready c t s) t
 
@@ -136,6 +150,7 @@ abbrev pub whole_at : Control → Stack → Option (List Item)
 whole_at ItemStart s = Some s.items
 whole_at _ s = None
 
+-- goes on from a state, if there is one
 abbrev pub built_with : Option State → (Control → Stack → Option (List Item)) → Option (List Item)
 built_with None go = None
 built_with (Some w) go = go w.control w.stack

@@ -1,4 +1,4 @@
--- What `parse` knows of a text before it builds the tree.
+-- What `parse` knows of a text before it builds the tree; private.
 use Rattle.std.specs.Prelude.{◌≡◌, ℕ, List, None}
 use Rattle.asl_grammar.specs.Lex.{tokens_of}
 use Rattle.asl_grammar.specs.Grammar.{IsProgram, bare}

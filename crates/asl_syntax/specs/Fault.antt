@@ -1,4 +1,5 @@
--- What each fault says of a text: no fault before it in the list applies, and it names the first place.
+-- What each fault says of a text: no fault before it in the list applies, and it names the first place (docs/SOURCE.md,
+-- "Refusals").
 use Rattle.std.specs.Prelude.{◌≡◌, ℕ, List, Some, None, length, false}
 use Rattle.asl_grammar.specs.Lex.{tokens_of, bad_place}
 use Rattle.asl_grammar.specs.Grammar.{IsProgram, IsGrammarFault, bare}

@@ -1,4 +1,4 @@
--- Which names and numbers the code's tree has room for.
+-- Which names and numbers the code's tree has room for; private. Texts within the limits of specs/Limit have no others.
 use Rattle.std.specs.Prelude.{ℕ, ◌≤◌, List, [], ◌∷◌, true, false, Option, Some, None, length}
 use Rattle.asl_grammar.specs.Token.{Token, Spot}
 use Rattle.asl_grammar.specs.Written.{Right, Line, Literal, NullValue, Copied, Binary, GlobalAddress, FieldAddress, Loaded, Created, Assigns, Calls, Stores, Shows}
@@ -63,6 +63,7 @@ abbrev pub ActsFit-with : Option (Control × Act) → Stack → (Control → Sta
 ActsFit-with None s go = Unit {0}
 ActsFit-with (Some (c, a)) s go = ActFits a × go c (apply a s)
 
+-- the same from a state on
 abbrev pub ActsFit : Control → Stack → List Spot → Type 0
 ActsFit c s [] = Unit {0}
 ActsFit c s (x ∷ xs) =

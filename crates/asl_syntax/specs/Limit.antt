@@ -1,4 +1,5 @@
--- The limits of a source text, each at the token that goes past it.
+-- The limits of a source text, each at the token that goes past it (docs/SOURCE.md, "Refusals"). Contracts cite
+-- `first_limit`.
 use Rattle.std.specs.Prelude.{ℕ, suc, ◌-◌, List, [], ◌∷◌, Bool, false, Option, Some, None, if◌then◌else◌, ◌==◌, nat_lt, nat_le, ◌||◌, length, min}
 use Rattle.asl_grammar.specs.declared.token.Mark.TheVariants as mark
 use Rattle.asl_grammar.specs.Token.{Token, Fixed, Name, Number, Spot}
@@ -69,6 +70,7 @@ pub record Tally : Type 0 where
   pub braces : ℕ
   pub head : Option ℕ
 
+-- what they count, of these tokens
 abbrev pub tally_of : List Token → Tally
 tally_of before = record {
   last = last_of before;

@@ -1,9 +1,10 @@
--- The code's mentions as values.
+-- The code's mentions (src/mentions.rt) as values; private.
 use Rattle.std.specs.Prelude.{List, map}
 use Rattle.asl_syntax.specs.declared.mentions.Mention as code
 use Rattle.asl_syntax.specs.declared.mentions.Mention.TheVariants as codes
 use Rattle.asl_syntax.specs.Mentions.{Mention, DeclaresGlobal, DeclaresFunction, DeclaresParameter, AssignsLocal, UsesLocal, UsesGlobal, CallsFunction}
 
+-- a mention, with the names that its references point to
 abbrev pub mention_of : code.Mention → Mention
 mention_of (codes.Global x) = DeclaresGlobal x.now
 mention_of (codes.Function x) = DeclaresFunction x.now

@@ -1,4 +1,4 @@
--- The names of a program in the order of the text, each with what it does where it stands.
+-- The names of a program in the order of the text, each with what it does where it stands (docs/SOURCE.md, "Grammar").
 use Rattle.std.specs.Prelude.{ℕ, List, [], ◌∷◌, ◌++◌, map, length}
 use Rattle.asl_syntax.specs.Tree.{Value, IntegerValue, NullValue, LocalValue, BinaryValue, GlobalValue, FieldValue, LoadValue, NewValue, CallValue, Statement, AssignStatement, StoreStatement, OutStatement, IfStatement, WhileStatement, AtomicStatement, Block, NoMore, Then, Function, Item, GlobalItem, FunctionItem}
 
@@ -44,6 +44,7 @@ abbrev pub function_mentions : Function → List Mention
 function_mentions f =
     DeclaresFunction f.name ∷ (map DeclaresParameter f.parameters ++ (block_mentions f.body ++ UsesLocal f.returned ∷ []))
 
+-- the names of a global or a function
 abbrev pub item_mentions : Item → List Mention
 item_mentions (GlobalItem x) = DeclaresGlobal x ∷ []
 item_mentions (FunctionItem f) = function_mentions f

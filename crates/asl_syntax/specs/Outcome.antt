@@ -1,4 +1,4 @@
--- What a text comes to: a tree, or a fault of the text.
+-- What a text comes to: a tree, or a fault of the text (docs/SOURCE.md, "Refusals").
 use Rattle.std.specs.Prelude.{◌≢◌, ℕ, List}
 use Rattle.asl_syntax.specs.declared.fault.SyntaxFault as code
 use Rattle.asl_syntax.specs.declared.fault.SyntaxFault.TheVariants as fault

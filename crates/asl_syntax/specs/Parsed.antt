@@ -1,4 +1,4 @@
--- Which tree a text spells, and that it breaks no rule.
+-- Which tree a text spells, and that it breaks no rule: what `parse` answers (docs/SOURCE.md).
 use Rattle.std.specs.Prelude.{◌≡◌, ℕ, List, Option, None, IsTrue, nat_le, position}
 use Rattle.asl_grammar.specs.Lex.{tokens_of, bad_place}
 use Rattle.asl_grammar.specs.Grammar.{bare}

@@ -1,4 +1,4 @@
--- What a call that reads a printed tree answers.
+-- What a call that reads a printed tree answers (docs/SOURCE.md, "Printing").
 use Rattle.std.specs.Prelude.{◌≡◌, ℕ, ◌<◌, ◌≤◌, ◌⊎◌, List, length, Result, Ok, Err}
 use Rattle.asl_syntax.specs.declared.ast.Ast as ast
 use Rattle.asl_syntax.specs.declared.fault.SyntaxFault as code

@@ -1,5 +1,5 @@
 -- The rules of names: what is declared twice, what is nowhere declared, and which calls have too many or too few
--- arguments.
+-- arguments (docs/SOURCE.md, "Grammar" and "Refusals"). Contracts cite `twice`, `unknown`, `wrong_call` and `has_main`.
 use Rattle.std.specs.Prelude.{ℕ, List, [], ◌∷◌, Bool, false, Option, Some, None, if◌then◌else◌, ◌==◌, ◌||◌, ◌&&◌, not, bytes_eq, codes, length}
 use Rattle.asl_grammar.specs.Token.{Token, Name, Spot}
 use Rattle.asl_syntax.specs.declared.names.Space.{Space}
@@ -28,6 +28,7 @@ first_twice globals functions parameters (DeclaresParameter x ∷ ms) =
     if parameters x then Some x else first_twice globals functions (with_name x parameters) ms
 first_twice globals functions parameters (m ∷ ms) = first_twice globals functions parameters ms
 
+-- the first name of a program that is declared a second time
 abbrev pub twice : List Item → Option (List ℕ)
 twice tree = first_twice no_name no_name no_name (mentions tree)
 
@@ -39,6 +40,7 @@ declared_in Locals (DeclaresParameter x) = Some x
 declared_in Locals (AssignsLocal x) = Some x
 declared_in _ _ = None
 
+-- the known names, and one more if it is declared
 abbrev pub with_declared : Option (List ℕ) → Names → Names
 with_declared None known = known
 with_declared (Some x) known = with_name x known
@@ -60,6 +62,7 @@ abbrev pub or_name : Option (List ℕ) → Option (List ℕ) → Option (List �
 or_name None other = other
 or_name (Some x) other = Some x
 
+-- the first of such names among mentions
 abbrev pub first_unknown_use : Names → Names → Names → List Mention → Option (List ℕ)
 first_unknown_use globals functions locals [] = None
 first_unknown_use globals functions locals (m ∷ ms) =
@@ -69,10 +72,12 @@ first_unknown_use globals functions locals (m ∷ ms) =
 abbrev pub unknown_in_function : Names → Names → List Mention → Option (List ℕ)
 unknown_in_function globals functions ms = first_unknown_use globals functions (names_in Locals ms) ms
 
+-- the first in a global, which uses none, or in a function
 abbrev pub unknown_in_item : Names → Names → Item → Option (List ℕ)
 unknown_in_item globals functions (GlobalItem x) = None
 unknown_in_item globals functions (FunctionItem f) = unknown_in_function globals functions (function_mentions f)
 
+-- the first among items
 abbrev pub first_unknown : Names → Names → List Item → Option (List ℕ)
 first_unknown globals functions [] = None
 first_unknown globals functions (i ∷ is) =
@@ -92,14 +97,17 @@ no_count q = None
 abbrev pub with_count : List ℕ → ℕ → Counts → Counts
 with_count x n counts q = if bytes_eq x q then Some n else counts q
 
+-- the counts, and that of one more function
 abbrev pub with_item : Item → Counts → Counts
 with_item (GlobalItem x) counts = counts
 with_item (FunctionItem f) counts = with_count f.name (length f.parameters) counts
 
+-- those of a program; of two functions of one name the first counts
 abbrev pub parameter_counts : List Item → Counts
 parameter_counts [] = no_count
 parameter_counts (i ∷ is) = with_item i (parameter_counts is)
 
+-- there is another number
 abbrev pub differs : Option ℕ → ℕ → Bool
 differs None n = false
 differs (Some k) n = not (k == n)
@@ -131,6 +139,7 @@ wrong_call_from counts (m ∷ ms) [] = None
 wrong_call_from counts (m ∷ ms) (at ∷ places) =
     if is_wrong_call counts m then Some at else wrong_call_from counts ms places
 
+-- the place of the first wrong call of a program, at the name of the function that is called
 abbrev pub wrong_call : List Item → List Spot → Option ℕ
 wrong_call tree ss = wrong_call_from (parameter_counts tree) (mentions tree) (name_places ss)
 
@@ -139,6 +148,7 @@ abbrev pub is_main : Item → Bool
 is_main (GlobalItem x) = false
 is_main (FunctionItem f) = bytes_eq f.name (codes "main") && length f.parameters == 1
 
+-- one of the items is
 abbrev pub has_main : List Item → Bool
 has_main [] = false
 has_main (i ∷ is) = is_main i || has_main is

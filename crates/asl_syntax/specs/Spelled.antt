@@ -1,4 +1,4 @@
--- The tree that a written program means, and which tokens spell a tree.
+-- The tree that a written program means, and which tokens spell a tree (docs/SOURCE.md, "Grammar").
 use Rattle.std.specs.Prelude.{◌≡◌, ℕ, zero, suc, ℤ, pos, negsuc, List, [], Bool, true, false, map}
 use Rattle.asl_grammar.specs.Token.{Token}
 use Rattle.asl_grammar.specs.Written as w
@@ -15,6 +15,7 @@ abbrev pub literal : Bool → ℕ → ℤ
 literal true n = negative n
 literal false n = pos n
 
+-- what stands at the right of `=`
 abbrev pub right_meaning : w.Right → Value
 right_meaning (w.Literal minus n) = IntegerValue (literal minus n)
 right_meaning w.NullValue = NullValue
@@ -25,6 +26,7 @@ right_meaning (w.FieldAddress x n) = FieldValue x n
 right_meaning (w.Loaded x) = LoadValue x
 right_meaning (w.Created n) = NewValue n
 
+-- a statement without blocks
 abbrev pub line_meaning : w.Line → Statement
 line_meaning (w.Assigns x r) = AssignStatement x (right_meaning r)
 line_meaning (w.Calls x f args) = AssignStatement x (CallValue f args)
@@ -47,10 +49,12 @@ abbrev mutual
   else_meaning w.NoElse = NoMore
   else_meaning (w.Otherwise b) = block_meaning b
 
+-- a function
 abbrev pub function_meaning : w.Function → Function
 function_meaning f =
     record { name = f.name; parameters = f.parameters; body = block_meaning f.body; returned = f.returned }
 
+-- a global or a function
 abbrev pub item_meaning : w.Item → Item
 item_meaning (w.GlobalItem x) = GlobalItem x
 item_meaning (w.FunctionItem f) = FunctionItem (function_meaning f)

@@ -1,4 +1,5 @@
--- The tree of a program as a value that contracts speak of: what the text means, without its redundant forms.
+-- The tree of a program as a value that contracts speak of: what the text means, without its redundant forms
+-- (docs/SOURCE.md, "Grammar").
 use Rattle.std.specs.Prelude.{ℕ, ℤ, List, [], ◌∷◌}
 use Rattle.asl_grammar.specs.declared.control.Operator.{Operator}
 

@@ -1,4 +1,4 @@
--- The code's tree as the value that contracts speak of.
+-- The code's tree (src/tree.rt) as the value that contracts speak of.
 use Rattle.std.specs.Prelude.{List, [], ◌∷◌, map, Vec}
 use Rattle.std.specs.declared.alloc.Global.{Global}
 use Rattle.asl_syntax.specs.declared.tree.Value as value
@@ -10,6 +10,7 @@ use Rattle.asl_syntax.specs.declared.tree.Item as item
 use Rattle.asl_syntax.specs.declared.tree.Item.TheVariants as items
 use Rattle.asl_syntax.specs.Tree.{Value, IntegerValue, NullValue, LocalValue, BinaryValue, GlobalValue, FieldValue, LoadValue, NewValue, CallValue, Statement, AssignStatement, StoreStatement, OutStatement, IfStatement, WhileStatement, AtomicStatement, Block, NoMore, Then, Function, Item, GlobalItem, FunctionItem}
 
+-- what stands at the right of `=`
 abbrev pub value_of : value.Value → Value
 value_of (values.Number z) = IntegerValue z
 value_of values.Null = NullValue
@@ -35,6 +36,7 @@ layer_of (layer.If x a b) = IfStatement x (block a.items) (block b.items)
 layer_of (layer.While x a) = WhileStatement x (block a.items)
 layer_of (layer.Atomic a) = AtomicStatement (block a.items)
 
+-- a statement
 abbrev pub statement_of : code.Statement → Statement
 statement_of = code.fold-Statement Statement layer_of
 
@@ -42,10 +44,12 @@ statement_of = code.fold-Statement Statement layer_of
 abbrev pub block_of : List code.Statement → Block
 block_of ss = block (map statement_of ss)
 
+-- a function
 abbrev pub function_of : function.Function → Function
 function_of f =
     record { name = f.name; parameters = f.parameters.items; body = block_of f.body.items; returned = f.returned }
 
+-- a global or a function
 abbrev pub item_of : item.Item → Item
 item_of (items.Global x) = GlobalItem x
 item_of (items.Function f) = FunctionItem (function_of f)

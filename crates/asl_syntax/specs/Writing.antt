@@ -1,4 +1,4 @@
--- How a tree is written: without redundant signs and empty `else`s.
+-- How a tree is written: without redundant signs and empty `else`s (docs/SOURCE.md, "Printing").
 use Rattle.std.specs.Prelude.{ℕ, suc, ℤ, pos, negsuc, List, true, false, map}
 use Rattle.asl_grammar.specs.Written as w
 use Rattle.asl_syntax.specs.Tree.{Value, IntegerValue, NullValue, LocalValue, BinaryValue, GlobalValue, FieldValue, LoadValue, NewValue, CallValue, Statement, AssignStatement, StoreStatement, OutStatement, IfStatement, WhileStatement, AtomicStatement, Block, NoMore, Then, Function, Item, GlobalItem, FunctionItem}
@@ -8,6 +8,7 @@ abbrev pub integer_writing : ℤ → w.Right
 integer_writing (pos n) = w.Literal false n
 integer_writing (negsuc n) = w.Literal true (suc n)
 
+-- an assignment
 abbrev pub assign_writing : List ℕ → Value → w.Line
 assign_writing x (IntegerValue z) = w.Assigns x (integer_writing z)
 assign_writing x NullValue = w.Assigns x w.NullValue
@@ -36,10 +37,12 @@ abbrev mutual
   else_writing NoMore = w.NoElse
   else_writing (Then s b) = w.Otherwise (w.More (statement_writing s) (block_writing b))
 
+-- a function
 abbrev pub function_writing : Function → w.Function
 function_writing f =
     record { name = f.name; parameters = f.parameters; body = block_writing f.body; returned = f.returned }
 
+-- a global or a function
 abbrev pub item_writing : Item → w.Item
 item_writing (GlobalItem x) = w.GlobalItem x
 item_writing (FunctionItem f) = w.FunctionItem (function_writing f)

@@ -18,7 +18,7 @@ ghost use Rattle.asl_syntax.specs.Reread.{IsReadBack};
 ghost use Rattle.asl_syntax.specs.Mentions.{mentions};
 ghost use Rattle.asl_syntax.specs.TokenNames.{token_names, mention_name};
 ghost use Rattle.asl_syntax.specs.Writing.{writing};
-ghost use Rattle.asl_syntax.specs.Printed.{items_bytes, spaced, printed};
+ghost use Rattle.asl_syntax.specs.Printed.{spaced, printed};
 
 use crate::ast::Ast;
 
@@ -28,10 +28,9 @@ pub fn a_text_has_one_tree()
     ensures text { (t u : List Item) (text : List ℕ) → Parses text t → Parses text u → t ≡ u }
 {}
 
-/// A tree is printed as tokens that spell it, each behind a space.
+/// A tree is printed as tokens that spell it.
 pub fn a_printed_tree_is_spelled()
-    ensures spells { (t : List Item) → Spells t (program_on (writing t) []) }
-    ensures bytes { (t : List Item) → items_bytes t ≡ spaced (program_on (writing t) []) }
+    ensures { (t : List Item) → Spells t (program_on (writing t) []) }
 {}
 
 /// Tokens with one space between and a newline behind are read back. So the text that a tree with real names is printed

@@ -1,9 +1,12 @@
-ghost use Rattle.std.specs.Prelude.{◌≡◌, ◌++◌, ◌+◌, map, drop, IfOk};
+ghost use Rattle.std.specs.Prelude.{◌≡◌, ◌++◌, ◌+◌, [], map, drop, IfOk};
 ghost use Rattle.asl_syntax.specs.View.{value_of, statement_of, block_of, function_of, item_of};
 ghost use Rattle.asl_syntax.specs.AstView.{tree_of};
-ghost use Rattle.asl_syntax.specs.Printed.{mark_bytes, digit_bytes, piece, mark_piece, number_piece, later_names_bytes, names_bytes, integer_bytes, value_bytes, statement_bytes, block_bytes, assign_bytes, store_bytes, out_bytes, if_head, while_head, else_open, else_close, head_bytes, last_line_bytes, item_bytes, items_bytes, printed};
+ghost use Rattle.asl_grammar.specs.Bytes.{mark_bytes};
+ghost use Rattle.asl_syntax.specs.Printed.{digit_bytes, piece, spaced, printed};
+ghost use Rattle.asl_syntax.specs.Writing.{writing};
+ghost use Rattle.asl_syntax.specs.Pieces.{mark_piece, number_piece, later_names_bytes, names_bytes, integer_bytes, value_bytes, statement_bytes, block_bytes, assign_bytes, store_bytes, out_bytes, if_head, while_head, else_open, else_close, head_bytes, last_line_bytes, item_bytes, items_bytes};
 ghost use Rattle.asl_grammar.specs.declared.token.Mark.TheVariants as mark;
-ghost use Rattle.asl_grammar.specs.Spelling.{symbol_of};
+ghost use Rattle.asl_grammar.specs.Spelling.{symbol_of, program_on};
 ghost use Rattle.asl_syntax.specs.Tree.{CallValue};
 
 use crate::ast::Ast;
@@ -354,12 +357,20 @@ fn push_items(out: &mut Vec<u8>, items: &[Item]) -> Result<(), AllocError>
     Ok(())
 }
 
+/// The tokens of a program, each behind a space.
+fn print_items(alloc: Global, items: &[Item]) -> Result<Vec<u8>, AllocError>
+    ensures { IfOk result (λ v. v.items ≡ spaced (program_on (writing (map item_of items.now)) [])) }
+{
+    let mut out = Vec::new(alloc);
+    push_items(&mut out, items)?;
+    Ok(out)
+}
+
 /// The text of a tree: its tokens, numbers without needless zeros, with one space between and a newline at the end.
 pub fn print(alloc: Global, ast: &Ast) -> Result<Vec<u8>, AllocError>
     ensures { IfOk result (λ v. v.items ≡ printed (tree_of ast.now)) }
 {
-    let mut spaced = Vec::new(alloc);
-    push_items(&mut spaced, ast.items())?;
+    let spaced = print_items(alloc, ast.items())?;
     let mut text = Vec::new(alloc);
     if !spaced.is_empty() {
         text.extend_from_slice(&spaced[1..])?;

@@ -1,7 +1,7 @@
 -- what is written and what is left are the statements
 use Rattle.std.proofs.Common.{◌≡◌, ◌++◌, drop}
 use Rattle.asl_syntax.specs.View.{block_of}
-use Rattle.asl_syntax.specs.Printed.{block_bytes}
+use Rattle.asl_syntax.specs.Pieces.{block_bytes}
 use Rattle.asl_syntax.proofs.printer.+print.Given as goal
 
 abbrev pub invariant-push_block-loop-statement : goal.invariant-push_block-loop-statement

@@ -1,6 +1,6 @@
 -- what is written and what is left are the names
 use Rattle.std.proofs.Common.{◌≡◌, ◌++◌, drop}
-use Rattle.asl_syntax.specs.Printed.{later_names_bytes}
+use Rattle.asl_syntax.specs.Pieces.{later_names_bytes}
 use Rattle.asl_syntax.proofs.printer.push_later_names.Given as goal
 
 abbrev pub invariant-loop-name : goal.invariant-loop-name
