@@ -5,6 +5,7 @@ pub mod Grants
 pub mod Lists
 pub mod Heaps
 pub mod Frames
+pub mod Codes
 pub mod Soundness
 pub mod Table
 pub mod Unique

@@ -1,10 +1,10 @@
 //! Where a running thread is: its frames, and how many sections it is in.
 ghost use Rattle.std.specs.Prelude.{◌≡◌, ◌≢◌, ◌↔◌, IsTrue, ◌<◌, ◌≤◌, ◌+◌, ◌-◌, ◌^◌, ℕ, IfOk, IfSome, OnOk, OnErr, Some, length, slice_get, pos, ◌∷◌, []};
 ghost use Rattle.asl_code.specs.Fits.{FitsImage};
-ghost use Rattle.asl_code.specs.Bodies.{first_of, total_len};
 ghost use Rattle.asl_machine.specs.Calls.{function_of, first_registers};
 
-use asl_code::{Function, Program, Value};
+use crate::code::Code;
+use asl_code::Value;
 use std::alloc::{AllocError, Global};
 use std::marker::Model;
 use std::mem;
@@ -35,17 +35,17 @@ impl Frame {
     ghost use Rattle.asl_machine.specs.Step.{placed_at, advanced, advanced_with};
 
     /// The frame in which thread t starts: the entry function's, with the thread's number as the parameter.
-    pub fn entry(alloc: Global, program: &Program, t: u32) -> Result<Frame, AllocError>
-        requires fits { FitsImage program.now }
+    pub fn entry(alloc: Global, code: &Code<'_>, t: u32) -> Result<Frame, AllocError>
+        requires fits { FitsImage code.now }
         requires small { t < 64 }
-        ensures { IfOk result (λ frame. frame ≡ first_frame program.now program.now.start (Int (pos t) ∷ []) None) }
+        ensures { IfOk result (λ frame. frame ≡ first_frame code.now code.now.start (Int (pos t) ∷ []) None) }
     {
-        let function = program.start();
+        let function = code.program().start();
         let parameter = [Value::Int(t as i32)];
         Ok(Frame {
             function,
-            pc: first_place(program, function),
-            regs: registers(alloc, &parameter, register_count(program, function))?,
+            pc: code.first(function),
+            regs: registers(alloc, &parameter, code.function(function).regs)?,
             result: None,
         })
     }
@@ -66,24 +66,24 @@ impl Frame {
     pub fn call(
         &self,
         alloc: Global,
-        program: &Program,
+        code: &Code<'_>,
         to: u8,
         first: u8,
         function: u16,
     ) -> Result<Frame, AllocError>
-        requires fits { FitsImage program.now }
-        requires there { function < length program.now.functions }
-        requires arguments { first + (function_of program.now function).params ≤ length self.now.regs }
-        ensures { IfOk result (λ frame. frame ≡ first_frame program.now function
-            (values_from self.now.regs first (function_of program.now function).params) (Some to)) }
+        requires fits { FitsImage code.now }
+        requires there { function < length code.now.functions }
+        requires arguments { first + (function_of code.now function).params ≤ length self.now.regs }
+        ensures { IfOk result (λ frame. frame ≡ first_frame code.now function
+            (values_from self.now.regs first (function_of code.now function).params) (Some to)) }
     {
-        let count = usize::from(parameter_count(program, function));
+        let callee = code.function(function);
         let first = usize::from(first);
-        let arguments = &self.regs[first..first + count];
+        let arguments = &self.regs[first..first + usize::from(callee.params)];
         Ok(Frame {
             function,
-            pc: first_place(program, function),
-            regs: registers(alloc, arguments, register_count(program, function))?,
+            pc: code.first(function),
+            regs: registers(alloc, arguments, callee.regs)?,
             result: Some(to),
         })
     }
@@ -146,39 +146,6 @@ impl Frame {
     }
 }
 
-/// How many registers the function has.
-fn register_count(program: &Program, function: u16) -> u8
-    requires { function < length program.now.functions }
-    ensures { result ≡ (function_of program.now function).regs }
-{
-    program.functions()[usize::from(function)].regs
-}
-
-/// How many parameters the function has.
-fn parameter_count(program: &Program, function: u16) -> u8
-    requires { function < length program.now.functions }
-    ensures { result ≡ (function_of program.now function).params }
-{
-    program.functions()[usize::from(function)].params
-}
-
-/// Where the function begins.
-fn first_place(program: &Program, function: u16) -> u16
-    requires fits { FitsImage program.now }
-    requires there { function < length program.now.functions }
-    ensures { result ≡ first_of program.now.functions function }
-{
-    total_of(&program.functions()[..usize::from(function)]) as u16
-}
-
-/// How many instructions the functions have together.
-fn total_of(functions: &[Function]) -> u32
-    requires { total_len functions.now < 2 ^ 32 }
-    ensures { result ≡ total_len functions.now }
-{
-    functions.iter().map(|f| f.len).sum()
-}
-
 /// So many registers, of which the first are the parameters.
 fn registers(alloc: Global, arguments: &[Value], count: u8) -> Result<Vec<Value>, AllocError>
     requires { length arguments.now ≤ count }
@@ -228,18 +195,18 @@ impl Activity {
     ghost use Rattle.asl_machine.specs.Twin.{register_of, called, activity_returned};
 
     /// What thread t is at when it starts.
-    pub fn first(alloc: Global, program: &Program, t: u32) -> Result<Activity, AllocError>
-        requires fits { FitsImage program.now }
+    pub fn first(alloc: Global, code: &Code<'_>, t: u32) -> Result<Activity, AllocError>
+        requires fits { FitsImage code.now }
         requires small { t < 64 }
         ensures { IfOk result (λ activity. activity ≡ record {
           depth = 0;
-          top = first_frame program.now program.now.start (Int (pos t) ∷ []) None;
+          top = first_frame code.now code.now.start (Int (pos t) ∷ []) None;
           below = [];
         }) }
     {
         Ok(Activity {
             depth: 0,
-            top: Frame::entry(alloc, program, t)?,
+            top: Frame::entry(alloc, code, t)?,
             below: Vec::new(alloc),
         })
     }
@@ -340,19 +307,19 @@ impl Activity {
     pub fn call(
         &mut self,
         alloc: Global,
-        program: &Program,
+        code: &Code<'_>,
         to: u8,
         first: u8,
         function: u16,
     ) -> Result<(), AllocError>
-        requires fits { FitsImage program.now }
-        requires there { function < length program.now.functions }
-        requires arguments { first + (function_of program.now function).params ≤ length self.old.top.regs }
+        requires fits { FitsImage code.now }
+        requires there { function < length code.now.functions }
+        requires arguments { first + (function_of code.now function).params ≤ length self.old.top.regs }
         requires room { self.old.top.pc + 1 < 2 ^ 16 }
-        ensures called { OnOk result (self.new ≡ called program.now self.old to first function) }
+        ensures called { OnOk result (self.new ≡ called code.now self.old to first function) }
         ensures err { OnErr result (self.new ≡ self.old) }
     {
-        let frame = self.top.call(alloc, program, to, first, function)?;
+        let frame = self.top.call(alloc, code, to, first, function)?;
         self.below.push(frame)?;
         self.top.advance();
         let last = self.below.len() - 1;

@@ -1,6 +1,7 @@
 //! The machine: threads that step through a verified program over one heap, under the locks of their sections.
 #![tactic(auto)]
 
+mod code;
 mod eval;
 mod fate;
 mod fault;

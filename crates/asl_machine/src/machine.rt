@@ -5,6 +5,7 @@ ghost use Rattle.asl_lock_forest.specs.declared.node.Node.{Node};
 ghost use Rattle.asl_machine.specs.Run.{start_of, first_threads};
 ghost use Rattle.asl_machine.specs.State.{cell_at, size_of, class_of, activity_at, depth_at};
 
+use crate::code::Code;
 use crate::fault::MachineFault;
 use crate::heap::Heap;
 use crate::reply::{Reply, Status};
@@ -18,7 +19,7 @@ use std::marker::Model;
 /// A verified program, and the state that its threads have stepped to.
 #[derive(Drop)]
 pub struct Machine<'p> {
-    program: &'p Program,
+    code: Code<'p>,
     heap: Heap,
     forest: Forest,
     threads: Vec<Thread>,
@@ -36,11 +37,11 @@ impl<'p> Model for Machine<'p> {
     ghost use Rattle.asl_machine.specs.Sound.{IsMachine};
 
     ghost view = { λ m. record {
-      image = m.program.now;
+      image = m.code;
       state = record { objects = m.heap; holding = m.forest.holding; threads = m.threads.items };
     } };
 
-    ghost invariant = { λ m. IsMachine m.program.now m.heap m.forest m.threads.items };
+    ghost invariant = { λ m. IsMachine m.code m.heap m.forest m.threads.items };
 }
 
 impl<'p> Machine<'p> {
@@ -83,7 +84,7 @@ impl<'p> Machine<'p> {
             return Err(MachineFault::BadThread);
         }
         let thread = &mut self.threads[t as usize];
-        Ok(thread.step(alloc, self.program, &mut self.heap, &mut self.forest, t)?)
+        Ok(thread.step(alloc, &self.code, &mut self.heap, &mut self.forest, t)?)
     }
 
     /// A machine of the same program in an equal state. The two go on apart.
@@ -98,7 +99,7 @@ impl<'p> Machine<'p> {
         ensures { IfOk result (λ machine. machine ≡ self.now) }
     {
         Ok(Machine {
-            program: self.program,
+            code: self.code.try_copy(alloc)?,
             heap: self.heap.try_copy(alloc)?,
             forest: self.forest.try_copy(alloc)?,
             threads: copies(alloc, self.threads.as_slice())?,
@@ -205,7 +206,8 @@ impl<'p> Machine<'p> {
     {
         match node {
             Node::Root => true,
-            Node::Class(class) | Node::Leaf(_, class) => u32::from(class) < self.program.classes(),
+            Node::Class(class) | Node::Leaf(_, class) => u32::from(class)
+                < self.code.program().classes(),
         }
     }
 }
@@ -217,11 +219,12 @@ fn start<'p>(alloc: Global, program: &'p Program, n: u32) -> Result<Machine<'p>,
     ensures image { IfOk result (λ machine. machine.image ≡ program.now) }
     ensures start { IfOk result (λ machine. machine.state ≡ start_of program.now n) }
 {
+    let code = Code::of(alloc, program)?;
     let heap = Heap::of_globals(alloc, program.globals())?;
     let forest = Forest::new(alloc, program.classes(), n)?;
-    let threads = start_threads(alloc, program, n)?;
+    let threads = start_threads(alloc, &code, n)?;
     Ok(Machine {
-        program,
+        code,
         heap,
         forest,
         threads,
@@ -240,14 +243,14 @@ fn copies(alloc: Global, threads: &[Thread]) -> Result<Vec<Thread>, AllocError>
 }
 
 /// The first n threads at their start.
-fn start_threads(alloc: Global, program: &Program, n: u32) -> Result<Vec<Thread>, AllocError>
-    requires fits { FitsImage program.now }
+fn start_threads(alloc: Global, code: &Code<'_>, n: u32) -> Result<Vec<Thread>, AllocError>
+    requires fits { FitsImage code.now }
     requires few { n ≤ 64 }
-    ensures { IfOk result (λ threads. threads.items ≡ first_threads program.now n) }
+    ensures { IfOk result (λ threads. threads.items ≡ first_threads code.now n) }
 {
     let mut threads = Vec::new(alloc);
     for t in 0..n {
-        threads.push(Thread::first(alloc, program, t)?)?;
+        threads.push(Thread::first(alloc, code, t)?)?;
     }
     Ok(threads)
 }

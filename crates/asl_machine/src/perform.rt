@@ -10,13 +10,14 @@ ghost use Rattle.asl_machine.specs.Calls.{function_of, IsAwaited};
 ghost use Rattle.asl_machine.specs.Step.{placed_at, advanced, going_on};
 ghost use Rattle.asl_machine.specs.Twin.{place, left_by, accessed_by, WantsMemory, made_address, made_objects, can_grant, fate_of, activity_set, activity_stored, objects_stored, call_fate, activity_called, fate_returned, activity_returned, release_fate, activity_moved, holding_released, acquire_fate, holding_acquired};
 
+use crate::code::Code;
 use crate::fate::Fate;
 use crate::fault::Fault;
 use crate::frame::Activity;
 use crate::heap::Heap;
 use crate::request::request;
 use crate::values::{access, comparison, difference, equality, is_zero, load, move_on, sum};
-use asl_code::{Cell, Effect, Instr, Lock, Program, Value};
+use asl_code::{Cell, Effect, Instr, Lock, Value};
 use asl_lock_forest::{Forest, Node};
 use asl_mode_lanes::Mode;
 use std::alloc::{AllocError, Global};
@@ -24,19 +25,19 @@ use std::alloc::{AllocError, Global};
 /// Does the instruction, at which the thread is.
 pub fn perform(
     alloc: Global,
-    program: &Program,
+    code: &Code<'_>,
     heap: &mut Heap,
     forest: &mut Forest,
     t: u32,
     activity: &mut Activity,
     instr: Instr,
 ) -> Result<Fate, AllocError>
-    requires ready { IsReady program.now forest.old heap.old t activity.old }
-    requires fits { CanDo program.now activity.old.top instr }
-    ensures fate { IfOk result (λ fate. fate ≡ (left_by program.now forest.old.threads (place t activity.old heap.old forest.old) instr).fate) }
-    ensures activity { OnOk result (activity.new ≡ (left_by program.now forest.old.threads (place t activity.old heap.old forest.old) instr).activity) }
-    ensures objects { OnOk result (heap.new ≡ (left_by program.now forest.old.threads (place t activity.old heap.old forest.old) instr).objects) }
-    ensures holding { OnOk result (forest.new.holding ≡ (left_by program.now forest.old.threads (place t activity.old heap.old forest.old) instr).holding) }
+    requires ready { IsReady code.now forest.old heap.old t activity.old }
+    requires fits { CanDo code.now activity.old.top instr }
+    ensures fate { IfOk result (λ fate. fate ≡ (left_by code.now forest.old.threads (place t activity.old heap.old forest.old) instr).fate) }
+    ensures activity { OnOk result (activity.new ≡ (left_by code.now forest.old.threads (place t activity.old heap.old forest.old) instr).activity) }
+    ensures objects { OnOk result (heap.new ≡ (left_by code.now forest.old.threads (place t activity.old heap.old forest.old) instr).objects) }
+    ensures holding { OnOk result (forest.new.holding ≡ (left_by code.now forest.old.threads (place t activity.old heap.old forest.old) instr).holding) }
     ensures classes { forest.new.classes ≡ forest.old.classes }
     ensures threads { forest.new.threads ≡ forest.old.threads }
     ensures memory { OnErr result (WantsMemory activity.old instr) }
@@ -95,23 +96,23 @@ pub fn perform(
             to,
             first,
             function,
-        } => call(alloc, program, activity, to, first, function),
+        } => call(alloc, code, activity, to, first, function),
         Instr::Return { from } => {
             let value = activity.read(from);
             Ok(give(activity, value))
         }
         Instr::Output { from } => Ok(show(activity, activity.read(from))),
-        Instr::Acquire { list } => acquire(alloc, heap, forest, t, activity, locks(program, list)),
+        Instr::Acquire { list } => acquire(alloc, heap, forest, t, activity, locks(code, list)),
         Instr::Release => Ok(leave(forest, t, activity)),
     }
 }
 
 /// The locks of the list.
-fn locks(program: &Program, list: u16) -> &[Lock]
-    requires { list < length program.now.lists }
-    ensures { result.now ≡ locks_of program.now list }
+fn locks<'a>(code: &'a Code<'_>, list: u16) -> &'a [Lock]
+    requires { list < length code.now.lists }
+    ensures { result.now ≡ locks_of code.now list }
 {
-    program.lists()[usize::from(list)].as_slice()
+    code.program().lists()[usize::from(list)].as_slice()
 }
 
 /// The cell that the register holds the address of, where the thread may access it so.
@@ -220,24 +221,24 @@ fn show(activity: &mut Activity, value: Value) -> Fate
 /// Calls the function, unless there are as many frames as there may be.
 fn call(
     alloc: Global,
-    program: &Program,
+    code: &Code<'_>,
     activity: &mut Activity,
     to: u8,
     first: u8,
     function: u16,
 ) -> Result<Fate, AllocError>
-    requires fits { FitsImage program.now }
-    requires there { function < length program.now.functions }
-    requires arguments { first + (function_of program.now function).params ≤ length activity.old.top.regs }
+    requires fits { FitsImage code.now }
+    requires there { function < length code.now.functions }
+    requires arguments { first + (function_of code.now function).params ≤ length activity.old.top.regs }
     requires room { activity.old.top.pc + 1 < 2 ^ 16 }
     ensures fate { IfOk result (λ fate. fate ≡ call_fate activity.old) }
-    ensures activity { OnOk result (activity.new ≡ activity_called program.now activity.old to first function) }
+    ensures activity { OnOk result (activity.new ≡ activity_called code.now activity.old to first function) }
     ensures err { OnErr result (activity.new ≡ activity.old) }
 {
     if activity.frames() == 256 {
         return Ok(Fate::Fails(Fault::Stack));
     }
-    activity.call(alloc, program, to, first, function)?;
+    activity.call(alloc, code, to, first, function)?;
     Ok(Fate::GoesOn)
 }
 

@@ -5,12 +5,12 @@ ghost use Rattle.asl_machine.specs.Sound.{ThreadReady, ThreadWantsMemory};
 ghost use Rattle.asl_machine.specs.View.{status_by};
 ghost use Rattle.asl_machine.specs.Twin.{place, left_at, turn_of, reply_of, thread_after, holding_after, WantsMemory};
 
+use crate::code::Code;
 use crate::fate::Fate;
 use crate::frame::Activity;
 use crate::heap::Heap;
 use crate::perform::perform;
 use crate::reply::{Reply, Status};
-use asl_code::{Instr, Program};
 use asl_lock_forest::Forest;
 use std::alloc::{AllocError, Global};
 use std::marker::Model;
@@ -40,14 +40,14 @@ impl Thread {
     ghost use Rattle.asl_machine.specs.View.{status_of};
 
     /// Thread t at its start.
-    pub fn first(alloc: Global, program: &Program, t: u32) -> Result<Thread, AllocError>
-        requires fits { FitsImage program.now }
+    pub fn first(alloc: Global, code: &Code<'_>, t: u32) -> Result<Thread, AllocError>
+        requires fits { FitsImage code.now }
         requires small { t < 64 }
-        ensures { IfOk result (λ thread. thread ≡ first_thread program.now t) }
+        ensures { IfOk result (λ thread. thread ≡ first_thread code.now t) }
     {
         Ok(Thread {
             status: Status::Running,
-            activity: Activity::first(alloc, program, t)?,
+            activity: Activity::first(alloc, code, t)?,
         })
     }
 
@@ -82,27 +82,27 @@ impl Thread {
     pub fn step(
         &mut self,
         alloc: Global,
-        program: &Program,
+        code: &Code<'_>,
         heap: &mut Heap,
         forest: &mut Forest,
         t: u32,
     ) -> Result<Reply, AllocError>
         requires there { t < forest.old.threads }
-        requires ready { ThreadReady program.now forest.old heap.old t self.old }
-        ensures reply { IfOk result (λ reply. reply ≡ (turn_of program.now forest.old.threads t self.old heap.old forest.old.holding).reply) }
-        ensures thread { OnOk result (self.new ≡ (turn_of program.now forest.old.threads t self.old heap.old forest.old.holding).thread) }
-        ensures objects { OnOk result (heap.new ≡ (turn_of program.now forest.old.threads t self.old heap.old forest.old.holding).objects) }
-        ensures holding { OnOk result (forest.new.holding ≡ (turn_of program.now forest.old.threads t self.old heap.old forest.old.holding).holding) }
+        requires ready { ThreadReady code.now forest.old heap.old t self.old }
+        ensures reply { IfOk result (λ reply. reply ≡ (turn_of code.now forest.old.threads t self.old heap.old forest.old.holding).reply) }
+        ensures thread { OnOk result (self.new ≡ (turn_of code.now forest.old.threads t self.old heap.old forest.old.holding).thread) }
+        ensures objects { OnOk result (heap.new ≡ (turn_of code.now forest.old.threads t self.old heap.old forest.old.holding).objects) }
+        ensures holding { OnOk result (forest.new.holding ≡ (turn_of code.now forest.old.threads t self.old heap.old forest.old.holding).holding) }
         ensures classes { forest.new.classes ≡ forest.old.classes }
         ensures threads { forest.new.threads ≡ forest.old.threads }
-        ensures memory { OnErr result (ThreadWantsMemory program.now self.old) }
+        ensures memory { OnErr result (ThreadWantsMemory code.now self.old) }
         ensures err { OnErr result (self.new ≡ self.old) }
         ensures err_heap { OnErr result (heap.new ≡ heap.old) }
         ensures err_forest { OnErr result (forest.new ≡ forest.old) }
     {
         match self.status {
             Status::Running => {
-                let fate = advance(alloc, program, heap, forest, t, &mut self.activity)?;
+                let fate = advance(alloc, code, heap, forest, t, &mut self.activity)?;
                 self.status = status_after(fate);
                 give_back(forest, t, fate);
                 Ok(reply(fate))
@@ -115,35 +115,27 @@ impl Thread {
 /// Does the instruction that a running thread is at.
 fn advance(
     alloc: Global,
-    program: &Program,
+    code: &Code<'_>,
     heap: &mut Heap,
     forest: &mut Forest,
     t: u32,
     activity: &mut Activity,
 ) -> Result<Fate, AllocError>
-    requires ready { IsReady program.now forest.old heap.old t activity.old }
-    requires fits { IsSomeAnd (slice_get program.now.code activity.old.top.pc) (CanDo program.now activity.old.top) }
-    ensures fate { IfOk result (λ fate. fate ≡ (left_at program.now forest.old.threads (place t activity.old heap.old forest.old) (slice_get program.now.code activity.old.top.pc)).fate) }
-    ensures activity { OnOk result (activity.new ≡ (left_at program.now forest.old.threads (place t activity.old heap.old forest.old) (slice_get program.now.code activity.old.top.pc)).activity) }
-    ensures objects { OnOk result (heap.new ≡ (left_at program.now forest.old.threads (place t activity.old heap.old forest.old) (slice_get program.now.code activity.old.top.pc)).objects) }
-    ensures holding { OnOk result (forest.new.holding ≡ (left_at program.now forest.old.threads (place t activity.old heap.old forest.old) (slice_get program.now.code activity.old.top.pc)).holding) }
+    requires ready { IsReady code.now forest.old heap.old t activity.old }
+    requires fits { IsSomeAnd (slice_get code.now.code activity.old.top.pc) (CanDo code.now activity.old.top) }
+    ensures fate { IfOk result (λ fate. fate ≡ (left_at code.now forest.old.threads (place t activity.old heap.old forest.old) (slice_get code.now.code activity.old.top.pc)).fate) }
+    ensures activity { OnOk result (activity.new ≡ (left_at code.now forest.old.threads (place t activity.old heap.old forest.old) (slice_get code.now.code activity.old.top.pc)).activity) }
+    ensures objects { OnOk result (heap.new ≡ (left_at code.now forest.old.threads (place t activity.old heap.old forest.old) (slice_get code.now.code activity.old.top.pc)).objects) }
+    ensures holding { OnOk result (forest.new.holding ≡ (left_at code.now forest.old.threads (place t activity.old heap.old forest.old) (slice_get code.now.code activity.old.top.pc)).holding) }
     ensures classes { forest.new.classes ≡ forest.old.classes }
     ensures threads { forest.new.threads ≡ forest.old.threads }
-    ensures memory { OnErr result (IsSomeAnd (slice_get program.now.code activity.old.top.pc) (WantsMemory activity.old)) }
+    ensures memory { OnErr result (IsSomeAnd (slice_get code.now.code activity.old.top.pc) (WantsMemory activity.old)) }
     ensures err { OnErr result (activity.new ≡ activity.old) }
     ensures err_heap { OnErr result (heap.new ≡ heap.old) }
     ensures err_forest { OnErr result (forest.new ≡ forest.old) }
 {
-    let instr = fetch(program, activity.pc());
-    perform(alloc, program, heap, forest, t, activity, instr)
-}
-
-/// The instruction at the place.
-fn fetch(program: &Program, pc: u16) -> Instr
-    requires { IsSome (slice_get program.now.code pc) }
-    ensures { slice_get program.now.code pc ≡ Some result }
-{
-    program.code()[usize::from(pc)]
+    let instr = code.fetch(activity.pc());
+    perform(alloc, code, heap, forest, t, activity, instr)
 }
 
 /// The status after this.

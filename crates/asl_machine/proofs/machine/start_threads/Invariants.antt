@@ -3,4 +3,4 @@ use Rattle.asl_machine.specs.Run.{first_threads}
 use Rattle.asl_machine.proofs.machine.start_threads.Given as goal
 
 abbrev pub invariant-loop-t : goal.invariant-loop-t
-invariant-loop-t l = l.threads.items ≡ first_threads l.program l.t
+invariant-loop-t l = l.threads.items ≡ first_threads l.code l.t

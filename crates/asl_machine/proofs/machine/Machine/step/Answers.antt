@@ -10,20 +10,20 @@ pub step-requires-clause-ready : goal.step-requires-clause-ready
 step-requires-clause-ready c =
     let lt : c.args.t < length c.self.inside.threads.items = omega arith in
     let at = slice_get_read c.self.inside.threads.items _ c.args.t c.index_mut-thread.result.now refl lt c.index_mut-thread.ensures.value in
-    thread_ready c.self.inside.program.now c.self.inside.heap c.self.inside.forest c.self.inside.threads.items c.args.t c.index_mut-thread.result.now c.self.invariant at
+    thread_ready c.self.inside.code c.self.inside.heap c.self.inside.forest c.self.inside.threads.items c.args.t c.index_mut-thread.result.now c.self.invariant at
 
 pub returns-in_err-step-clause-memory : goal.returns-in_err-step-clause-memory
 returns-in_err-step-clause-memory c =
     let lt : c.args.t < length c.self.inside.threads.items = omega arith in
     let at = slice_get_read c.self.inside.threads.items _ c.args.t c.index_mut-thread.result.now refl lt c.index_mut-thread.ensures.value in
-    λ _. rw (← c.self.view_is) (subst (λ o. IsSomeAnd o (ThreadWantsMemory c.self.inside.program.now)) (sym at) c.in_err-step.ensures.memory)
+    λ _. rw (← c.self.view_is) (subst (λ o. IsSomeAnd o (ThreadWantsMemory c.self.inside.code)) (sym at) c.in_err-step.ensures.memory)
 
 pub invariant_of-self-2 : goal.invariant_of-self-2
 invariant_of-self-2 c =
     let lt : c.args.t < length c.self.inside.threads.items = omega arith in
     let at = slice_get_read c.self.inside.threads.items _ c.args.t c.index_mut-thread.result.now refl lt c.index_mut-thread.ensures.value in
     let told = c.in_ok-step.ensures in
-    step_machine c.self.inside.program.now c.self.inside.heap c.step.new.heap c.self.inside.forest c.step.new.forest c.self.inside.threads.items c.args.t
+    step_machine c.self.inside.code c.self.inside.heap c.step.new.heap c.self.inside.forest c.step.new.forest c.self.inside.threads.items c.args.t
     c.index_mut-thread.result.now c.step.new.self c.self.invariant at told.thread told.objects told.holding told.classes told.threads
 
 pub returns-clause-reply : goal.returns-clause-reply
@@ -31,14 +31,14 @@ returns-clause-reply c =
     let lt : c.args.t < length c.self.inside.threads.items = omega arith in
     let at = slice_get_read c.self.inside.threads.items _ c.args.t c.index_mut-thread.result.now refl lt c.index_mut-thread.ensures.value in
     rw (← c.self.view_is) (c.in_ok-step.ensures.reply
-    ∙ step_reply c.self.inside.program.now c.self.inside.heap c.self.inside.forest c.self.inside.threads.items c.args.t c.index_mut-thread.result.now c.self.invariant at)
+    ∙ step_reply c.self.inside.code c.self.inside.heap c.self.inside.forest c.self.inside.threads.items c.args.t c.index_mut-thread.result.now c.self.invariant at)
 
 pub returns-clause-state : goal.returns-clause-state
 returns-clause-state c =
     let lt : c.args.t < length c.self.inside.threads.items = omega arith in
     let at = slice_get_read c.self.inside.threads.items _ c.args.t c.index_mut-thread.result.now refl lt c.index_mut-thread.ensures.value in
     let told = c.in_ok-step.ensures in
-    rw (← c.self.view_is) (step_state c.self.inside.program.now c.self.inside.heap c.step.new.heap c.self.inside.forest c.step.new.forest c.self.inside.threads.items c.args.t
+    rw (← c.self.view_is) (step_state c.self.inside.code c.self.inside.heap c.step.new.heap c.self.inside.forest c.step.new.forest c.self.inside.threads.items c.args.t
     c.index_mut-thread.result.now c.step.new.self c.self.invariant at told.thread told.objects told.holding)
 
 pub returns-clause-step : goal.returns-clause-step
@@ -46,14 +46,14 @@ returns-clause-step c =
     let lt : c.args.t < length c.self.inside.threads.items = omega arith in
     let at = slice_get_read c.self.inside.threads.items _ c.args.t c.index_mut-thread.result.now refl lt c.index_mut-thread.ensures.value in
     let told = c.in_ok-step.ensures in
-    rw (← c.self.view_is) (step_table c.self.inside.program.now c.self.inside.heap c.self.inside.forest c.self.inside.threads.items c.args.t c.in_ok-step.field-0 _ c.self.invariant lt
-    (told.reply ∙ step_reply c.self.inside.program.now c.self.inside.heap c.self.inside.forest c.self.inside.threads.items c.args.t c.index_mut-thread.result.now c.self.invariant at)
-    (step_state c.self.inside.program.now c.self.inside.heap c.step.new.heap c.self.inside.forest c.step.new.forest c.self.inside.threads.items c.args.t
+    rw (← c.self.view_is) (step_table c.self.inside.code c.self.inside.heap c.self.inside.forest c.self.inside.threads.items c.args.t c.in_ok-step.field-0 _ c.self.invariant lt
+    (told.reply ∙ step_reply c.self.inside.code c.self.inside.heap c.self.inside.forest c.self.inside.threads.items c.args.t c.index_mut-thread.result.now c.self.invariant at)
+    (step_state c.self.inside.code c.self.inside.heap c.step.new.heap c.self.inside.forest c.step.new.forest c.self.inside.threads.items c.args.t
     c.index_mut-thread.result.now c.step.new.self c.self.invariant at told.thread told.objects told.holding))
 
 pub returns-clause-blocked : goal.returns-clause-blocked
 returns-clause-blocked c =
     let lt : c.args.t < length c.self.inside.threads.items = omega arith in
     let at = slice_get_read c.self.inside.threads.items _ c.args.t c.index_mut-thread.result.now refl lt c.index_mut-thread.ensures.value in
-    λ b. rw (← c.self.view_is) (step_blocked c.self.inside.program.now c.self.inside.heap c.self.inside.forest c.self.inside.threads.items c.args.t c.in_ok-step.field-0 c.self.invariant
-    (c.in_ok-step.ensures.reply ∙ step_reply c.self.inside.program.now c.self.inside.heap c.self.inside.forest c.self.inside.threads.items c.args.t c.index_mut-thread.result.now c.self.invariant at) b)
+    λ b. rw (← c.self.view_is) (step_blocked c.self.inside.code c.self.inside.heap c.self.inside.forest c.self.inside.threads.items c.args.t c.in_ok-step.field-0 c.self.invariant
+    (c.in_ok-step.ensures.reply ∙ step_reply c.self.inside.code c.self.inside.heap c.self.inside.forest c.self.inside.threads.items c.args.t c.index_mut-thread.result.now c.self.invariant at) b)
