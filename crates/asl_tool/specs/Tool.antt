@@ -53,7 +53,7 @@ IsCommandStatus known old new command status =
 abbrev pub IsTextStatus : Option (List ℕ) → Option (List ℕ) → List ℕ → ℕ → Type 0
 IsTextStatus old new text status = ((status ≡ 0) × Appends old new text) ⊎ ((status ≡ 1) × AppendsPart old new text)
 
--- what the words can ask for: a command, to show help, nothing that is legal, or more memory to be read than there is
+-- what the words can ask for: a command, to show help, or nothing that is legal; or there is no memory to judge them
 pub data Asked : Type 0 where
   Runs : (command : Command) → Asked
   Help : (text : List ℕ) → Asked
