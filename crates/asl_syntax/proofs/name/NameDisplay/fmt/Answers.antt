@@ -1,4 +1,4 @@
-use Rattle.std.proofs.Common.{◌≡◌, ◌++◌, ◌+◌, ℕ, drop, encode_utf8, encode_utf8_all, sym, ap, ◌∙◌, append_assoc, rules}
+use Rattle.std.proofs.Common.{◌++◌, ◌+◌, drop, encode_utf8, encode_utf8_all, sym, ap, ◌∙◌, append_assoc, rules}
 use Rattle.std.proofs.Output.{has_written_append}
 use Rattle.std.proofs.lemmas.List.{at_drop_more}
 use Rattle.asl_syntax.proofs.name.NameDisplay.fmt.Goals as goal
