@@ -1,7 +1,7 @@
 -- A printed tree is read back.
 use Rattle.std.proofs.Common.{◌≡◌, ℕ, List, [], IsTrue}
 use Rattle.asl_grammar.specs.Token.{Token}
-use Rattle.asl_grammar.specs.Lex.{tokens_of, bad_place, are_tokens}
+use Rattle.asl_grammar.specs.Lex.{tokens_of, are_tokens}
 use Rattle.asl_grammar.specs.Grammar.{bare}
 use Rattle.asl_grammar.specs.Spelling.{program_on}
 use Rattle.asl_grammar.proofs.Real.{tokens_real}
@@ -9,7 +9,7 @@ use Rattle.asl_syntax.specs.Tree.{Item}
 use Rattle.asl_syntax.specs.Spelled.{Spells}
 use Rattle.asl_syntax.specs.Writing.{writing}
 use Rattle.asl_syntax.specs.Printed.{printed}
-use Rattle.asl_syntax.specs.Parsed.{first_wide, IsLexed}
+use Rattle.asl_syntax.specs.Parsed.{IsLexed}
 use Rattle.asl_syntax.proofs.Leaner.{leaner}
 use Rattle.asl_syntax.proofs.Named.{keeps_real}
 use Rattle.asl_syntax.proofs.Narrow.{ascii_spaced}
