@@ -1,3 +1,7 @@
+use crate::laws::{
+    a_front_is_the_longest_token, a_text_has_one_grammar_fault, a_text_has_one_reading,
+    a_text_has_real_tokens, a_token_is_read_whole,
+};
 use crate::lexer::{Found, Tokens, first_bad};
 use crate::recognizer::first_fault;
 use crate::token::{Mark, Token};
@@ -137,4 +141,13 @@ fn want_of_memory_is_answered(rt: HostRuntime) -> Result<(), Fail> {
     };
     assert_eq!(rt; place, Some(62));
     Ok(())
+}
+
+#[test]
+fn laws_are_there() {
+    a_text_has_real_tokens();
+    a_token_is_read_whole();
+    a_front_is_the_longest_token();
+    a_text_has_one_grammar_fault();
+    a_text_has_one_reading();
 }
