@@ -1,4 +1,9 @@
 use super::*;
+use crate::laws::{
+    a_printed_ast_is_read_back, a_printed_tree_is_lexed, a_printed_tree_is_read_back,
+    a_printed_tree_is_spelled, a_text_has_one_outcome, a_text_has_one_tree,
+    a_tree_mentions_its_names,
+};
 use std::alloc::{AllocError, Global};
 use std::test::Fail;
 
@@ -491,5 +496,18 @@ fn readers(rt: HostRuntime) -> Result<(), Fail> {
     assert_eq!(rt; functions.len(), 2);
     assert_eq!(rt; globals[1].as_slice(), b"b".as_slice());
     assert_eq!(rt; functions[0].name.as_slice(), b"f".as_slice());
+    Ok(())
+}
+
+#[test]
+fn laws_are_there(rt: HostRuntime) -> Result<(), Fail> {
+    let ast = parse(rt.alloc(), b"fn main(t){return t;}")?;
+    a_text_has_one_tree();
+    a_printed_tree_is_spelled();
+    a_printed_tree_is_lexed();
+    a_tree_mentions_its_names();
+    a_printed_tree_is_read_back();
+    a_printed_ast_is_read_back(&ast);
+    a_text_has_one_outcome();
     Ok(())
 }
