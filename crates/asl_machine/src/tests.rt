@@ -288,11 +288,11 @@ fn expect_answers(
     machine: &Machine<'_>,
     first: ThreadSeen,
     second: ThreadSeen,
-    global: ObjectSeen,
+    objects: (u32, ObjectSeen),
 ) -> Result<(), Fail> {
     assert_eq!(rt; machine.threads(), 2);
-    assert_eq!(rt; machine.objects(), 1);
-    assert_eq!(rt; see_object(machine, 0), global);
+    assert_eq!(rt; machine.objects(), objects.0);
+    assert_eq!(rt; see_object(machine, 0), objects.1);
     expect_threads(rt, machine, first, second)
 }
 
@@ -303,12 +303,12 @@ fn expect_step_in_the_end(
 ) -> Result<(), Fail> {
     let first = see_thread(machine, 0)?;
     let second = see_thread(machine, 1)?;
-    let global = see_object(machine, 0);
+    let objects = (machine.objects(), see_object(machine, 0));
     match machine.step(rt.alloc(), 0) {
         Ok(reply) => assert_eq!(rt; reply, Reply::Ran),
         Err(fault) => {
             assert_eq!(rt; fault, MachineFault::OutOfMemory);
-            expect_answers(rt, machine, first, second, global)?;
+            expect_answers(rt, machine, first, second, objects)?;
             expect_steps(rt, machine, 0, 1, Reply::Ran)?;
         }
     }
@@ -345,11 +345,40 @@ fn want_of_memory_changes_nothing(rt: HostRuntime) -> Result<(), Fail> {
     Ok(())
 }
 
+/// The copy, at the second try where a growth is refused.
+fn copy_in_the_end<'p>(
+    rt: &(impl Abort + AllocGlobal),
+    machine: &Machine<'p>,
+) -> Result<Machine<'p>, Fail> {
+    match machine.try_copy(rt.alloc()) {
+        Ok(copy) => Ok(copy),
+        Err(fault) => {
+            assert_eq!(rt; fault, MachineFault::OutOfMemory);
+            Ok(machine.try_copy(rt.alloc())?)
+        }
+    }
+}
+
+/// Passes with memory, and as well whichever one growth of an object, a frame or a copy is refused.
+#[test]
+fn want_of_memory_for_objects_and_frames_changes_nothing(rt: HostRuntime) -> Result<(), Fail> {
+    let program = program_in_the_end(rt.alloc(), Sample::Growing)?;
+    let mut machine = machine_in_the_end(&rt, &program)?;
+    for _ in 0..6 {
+        expect_step_in_the_end(&rt, &mut machine)?;
+    }
+    let copy = copy_in_the_end(&rt, &machine)?;
+    assert_eq!(rt; copy.objects(), 4);
+    assert_eq!(rt; see_thread(&copy, 0)?, see_thread(&machine, 0)?);
+    Ok(())
+}
+
 #[test]
 fn laws_are_there() {
     crate::requests_are_least();
     crate::steps_have_one_line();
     crate::reached_states_are_well_formed();
     crate::reached_holdings_are_lawful();
+    crate::held_nodes_are_there();
     crate::no_world_is_blocked();
 }

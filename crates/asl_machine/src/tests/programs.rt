@@ -20,6 +20,8 @@ pub enum Sample {
     Unclosed,
     /// Leaves a section outside all sections.
     Unopened,
+    /// Makes an object of two cells and calls itself, again and again.
+    Growing,
 }
 
 /// The program, which is verified.
@@ -94,6 +96,7 @@ fn instr(sample: Sample, place: u8) -> Option<Instr> {
         Sample::Nested => nested(place),
         Sample::Unclosed => unclosed(place),
         Sample::Unopened => unopened(place),
+        Sample::Growing => growing(place),
     }
 }
 
@@ -187,6 +190,23 @@ fn unopened(place: u8) -> Option<Instr> {
     match place {
         0 => Some(Instr::Release),
         1 => Some(END),
+        _ => None,
+    }
+}
+
+fn growing(place: u8) -> Option<Instr> {
+    match place {
+        0 => Some(Instr::New {
+            to: 1,
+            cells: 2,
+            class: 0,
+        }),
+        1 => Some(Instr::Call {
+            to: 2,
+            first: 0,
+            function: 0,
+        }),
+        2 => Some(END),
         _ => None,
     }
 }
