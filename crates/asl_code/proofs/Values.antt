@@ -1,16 +1,16 @@
 -- What value_at answers is the value whose bytes begin the given ones, or why there is none.
-use Rattle.std.proofs.Common.{◌≡◌, ◌↔◌, ℕ, zero, suc, ◌+◌, ◌*◌, ◌<◌, ◌≤◌, ◌^◌, true, false, cond, ltb, List, [], ◌∷◌, ◌++◌, length, take, get_or, Result, Ok, Err, refl, sym, ap, subst, ◌∙◌, arith, length-append, rules, Fits, w16, w32, lit<, lit≤}
+use Rattle.std.proofs.Common.{◌≡◌, ℕ, zero, suc, ◌<◌, ◌^◌, false, ltb, List, [], ◌∷◌, ◌++◌, length, get_or, Result, Ok, Err, refl, sym, ap, ◌∙◌, arith, length-append, w16, w32, lit<}
 use Rattle.std.specs.Prelude.{IfOk}
 use Rattle.std.specs.Int.{to_be_bytes, from_be_bytes, cast_unsigned, cast_signed}
 use Rattle.std.proofs.lemmas.Bool.{le-ltb}
-use Rattle.std.proofs.lemmas.Int.{of_z-to_z, to_z-of_z}
-use Rattle.std.proofs.lemmas.Nat.{be_bytes_2, be_bytes_4, from_be_bytes-to_be_bytes_2, from_be_bytes-to_be_bytes_4}
-use Rattle.std.proofs.Math.Facts.{sfits_to_z, Fits-of_z}
+use Rattle.std.proofs.lemmas.Int.{of_z-to_z}
+use Rattle.std.proofs.lemmas.Nat.{be_bytes_2, be_bytes_4}
+use Rattle.std.proofs.Math.Facts.{sfits_to_z}
 use Rattle.asl_code.specs.declared.value.Value.{Value}
 use Rattle.asl_code.specs.declared.value.Value.TheVariants.{Int, Null, Addr}
 use Rattle.asl_code.specs.declared.value_bytes.ValueFault.{ValueFault}
-use Rattle.asl_code.specs.declared.value_bytes.ValueFault.TheVariants.{Short, Bad}
-use Rattle.asl_code.specs.Spelling.{value_bytes, IsValue, SpellsValue, TakesValue, BeginsValue}
+use Rattle.asl_code.specs.declared.value_bytes.ValueFault.TheVariants.{Short}
+use Rattle.asl_code.specs.Spelling.{value_bytes, SpellsValue, TakesValue, BeginsValue}
 use Rattle.asl_code.specs.ReadingValue.{value_at, int_at, address_at}
 
 abbrev Answer : Type 0

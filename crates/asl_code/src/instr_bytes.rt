@@ -102,6 +102,20 @@ fn made_of(op: u8, a: u8, b: u8, c: u8, d: u32) -> Instr
     ensures { made_by (row_of op) a b c d ≡ Some result }
 {
     match op {
+        1..=7 => value_instr(op, a, b, c, d),
+        8..=12 => cell_instr(op, a, b, d),
+        13..=17 => control_instr(op, a, b, d),
+        _ => section_instr(op, d),
+    }
+}
+
+/// The same of the instructions that set a register to a value of registers, or to one of their own.
+fn value_instr(op: u8, a: u8, b: u8, c: u8, d: u32) -> Instr
+    requires from { 1 ≤ op }
+    requires to { op ≤ 7 }
+    ensures { made_by (row_of op) a b c d ≡ Some result }
+{
+    match op {
         1 => Instr::SetInt {
             to: a,
             value: d.cast_signed(),
@@ -128,6 +142,18 @@ fn made_of(op: u8, a: u8, b: u8, c: u8, d: u32) -> Instr
             left: b,
             right: c,
         },
+        _ => unreachable!(),
+    }
+}
+
+/// The same of the instructions that take or make addresses.
+fn cell_instr(op: u8, a: u8, b: u8, d: u32) -> Instr
+    requires from { 8 ≤ op }
+    requires to { op ≤ 12 }
+    requires limit { IsSomeAnd (row_of op) (λ r. d ≤ r.greatest) }
+    ensures { made_by (row_of op) a b 0 d ≡ Some result }
+{
+    match op {
         8 => Instr::GlobalAddress {
             to: a,
             global: d as u16,
@@ -147,6 +173,18 @@ fn made_of(op: u8, a: u8, b: u8, c: u8, d: u32) -> Instr
             cells: b,
             class: d as u16,
         },
+        _ => unreachable!(),
+    }
+}
+
+/// The same of the instructions that go elsewhere, and of the one that shows a value.
+fn control_instr(op: u8, a: u8, b: u8, d: u32) -> Instr
+    requires from { 13 ≤ op }
+    requires to { op ≤ 17 }
+    requires limit { IsSomeAnd (row_of op) (λ r. d ≤ r.greatest) }
+    ensures { made_by (row_of op) a b 0 d ≡ Some result }
+{
+    match op {
         13 => Instr::Jump { target: d as u16 },
         14 => Instr::JumpIfZero {
             test: a,
@@ -159,6 +197,17 @@ fn made_of(op: u8, a: u8, b: u8, c: u8, d: u32) -> Instr
         },
         16 => Instr::Return { from: a },
         17 => Instr::Output { from: a },
+        _ => unreachable!(),
+    }
+}
+
+/// The same of the instructions that enter and leave sections.
+fn section_instr(op: u8, d: u32) -> Instr
+    requires from { 18 ≤ op }
+    requires limit { IsSomeAnd (row_of op) (λ r. d ≤ r.greatest) }
+    ensures { made_by (row_of op) 0 0 0 d ≡ Some result }
+{
+    match op {
         18 => Instr::Acquire { list: d as u16 },
         19 => Instr::Release,
         _ => unreachable!(),

@@ -1,5 +1,5 @@
 //! Laws of verified images, as functions that do nothing: what each ensures is the law.
-ghost use Rattle.std.specs.Prelude.{◌≡◌, ◌<◌, ℕ, Some, length, slice_get};
+ghost use Rattle.std.specs.Prelude.{◌≡◌, ◌<◌, ◌⊎◌, ℕ, Some, length, slice_get};
 ghost use Rattle.asl_code.specs.Bodies.{body_of, first_of, total_len};
 ghost use Rattle.asl_code.specs.Fits.{LiesIn, FitsImage};
 ghost use Rattle.asl_code.specs.Verified.{IsVerified, IsAnswer};
@@ -31,8 +31,9 @@ pub fn verified_images_fit()
         → (instr : Instr) × (slice_get i.code pc ≡ Some instr) }
 {}
 
-/// The verifier has no choice: an image has one answer at the most, and a verified image has none.
+/// The verifier has no choice: an image that is not verified has exactly one answer, and a verified image has none.
 pub fn images_have_one_answer()
+    ensures some { (i : Image) → IsVerified i ⊎ ((f : VerifyFault) × IsAnswer i f) }
     ensures one { (i : Image) (f g : VerifyFault) → IsAnswer i f → IsAnswer i g → f ≡ g }
     ensures none { (i : Image) (f : VerifyFault) → IsVerified i → ¬ IsAnswer i f }
 {}

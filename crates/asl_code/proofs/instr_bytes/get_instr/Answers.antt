@@ -1,4 +1,3 @@
-use Rattle.std.proofs.Common.{get_or}
 use Rattle.asl_code.proofs.Instrs.{AreEight, eight_are, fields_are, is_found, is_read, is_refused}
 use Rattle.asl_code.proofs.instr_bytes.get_instr.Goals as goal
 
