@@ -1,15 +1,15 @@
 -- Single fields: bytes, numbers of two and four bytes, those of them that pass a test, and instructions.
 use Rattle.std.proofs.Common.{◌≡◌, ◌≢◌, ℕ, ◌-◌, ◌≤◌, ◌<◌, ◌^◌, Bool, true, false, cond, eqb, ltb, List, [], ◌∷◌, ◌++◌, length, take, drop, Result, Ok, Err, refl, sym, ap, ap₂, subst, ◌∙◌, arith, inl, inr, lit<, length-append}
 use Rattle.std.specs.Int.{Width, w16, w32, byte_len, from_be_bytes, to_be_bytes}
-use Rattle.std.proofs.lemmas.Bool.{cases_lt, ltb-false, le-ltb, ltb-true, lt-ltb, eqb-true, eq-eqb}
+use Rattle.std.proofs.lemmas.Bool.{cases_lt, cases_Bool, ltb-false, le-ltb, ltb-true, lt-ltb, eqb-true, eq-eqb}
 use Rattle.std.proofs.lemmas.List.{take_at, drop_at, take-append-drop, length-take, append-nil}
 use Rattle.std.proofs.lemmas.Nat.{be_bytes_2, be_bytes_4, from_be_bytes-to_be_bytes_2, from_be_bytes-to_be_bytes_4}
 use Rattle.asl_code.specs.declared.instr.Instr.{Instr}
 use Rattle.asl_code.specs.declared.instr.Instr.TheVariants.{Release}
 use Rattle.asl_code.specs.Reading.{instr_of}
-use Rattle.asl_code.specs.Spelling.{instr_bytes, IsInstr, SpellsInstr}
-use Rattle.asl_code.proofs.Instrs.{instr_of-found, instr_of-again, instr_of-refused, instr_bytes-eight}
-use Rattle.asl_loader.specs.Bytes.{Field, Plain, Eight, text_of, one, two, instr_fields, EndsWithin}
+use Rattle.asl_code.specs.Spelling.{instr_bytes, IsInstr, SpellsInstr, IsFirstBadField}
+use Rattle.asl_code.proofs.Instrs.{instr_of-found, instr_of-again, instr_of-refused, instr_bytes-eight, answer_is}
+use Rattle.asl_loader.specs.Bytes.{Field, Plain, Eight, bytes_of, text_of, one, two, instr_fields, EndsWithin, IsLike, IsBadByte}
 use Rattle.asl_loader.specs.declared.fault.Stop.{Stop}
 use Rattle.asl_loader.specs.declared.fault.Stop.TheVariants.{Short, Bad}
 use Rattle.asl_loader.specs.Reading.{◌>>=◌, passed, byte_at, number_at, below_at, magic_at, version_at, instr_at, judged}
@@ -27,7 +27,30 @@ reads_as X Is Are fields_of reader r to from = record {
       let v = r.bad bytes left fit e in
       let w = v.2 in
       (v.0, v.1, record { thing = w.thing; is = to w.thing w.is; front = w.front; next = w.next; more = w.more; opens = w.opens; wrong = w.wrong; rest = w.rest; parts = w.parts; like = w.like; place = w.place; bad = w.bad; at_is = w.at_is; none = λ other following is. w.none other following (from other is) });
+  cut_again = λ bytes w. r.cut_again bytes (record { thing = w.thing; is = from w.thing w.is; front = w.front; next = w.next; more = w.more; opens = w.opens; rest = w.rest; parts = w.parts; cut = w.cut });
+  bad_again = λ bytes left fit v.
+      let w = v.2 in
+      r.bad_again bytes left fit (v.0, v.1, record { thing = w.thing; is = from w.thing w.is; front = w.front; next = w.next; more = w.more; opens = w.opens; wrong = w.wrong; rest = w.rest; parts = w.parts; like = w.like; place = w.place; bad = w.bad; at_is = w.at_is; none = λ other following is. w.none other following (to other is) });
 }
+
+-- what has one field begins with no other
+one_field : (field : Field) (front : List Field) (next : Field) (more : List Field) → field ∷ [] ≡ front ++ next ∷ more → (front ≡ []) × (field ≡ next)
+one_field field [] next more e = (refl, cc)
+one_field field (f ∷ front) next more e =
+    let rest : [] ≡ front ++ next ∷ more = cc in
+    absurd (omega (arith, ap length rest, length-append front (next ∷ more)))
+
+-- a field that is like a plain one is plain, and one that is like an instruction's is one of so many bytes
+like_plain : (bytes : List ℕ) (wrong : Field) → IsLike (Plain bytes) wrong → (others : List ℕ) × (wrong ≡ Plain others) × (length bytes ≡ length others)
+like_plain bytes (Plain others) same = (others, refl, same)
+like_plain bytes (Eight others) same = absurd same
+
+like_eight : (bytes : List ℕ) (wrong : Field) → IsLike (Eight bytes) wrong → (others : List ℕ) × (wrong ≡ Eight others) × (length bytes ≡ length others)
+like_eight bytes (Plain others) same = absurd same
+like_eight bytes (Eight others) same = (others, refl, same)
+
+AreBytes-front : (front rest : List ℕ) → AreBytes (front ++ rest) → AreBytes front
+AreBytes-front front rest fit = subst AreBytes (take_at front rest (length front) refl) (AreBytes-take (length front) (front ++ rest) fit)
 
 -- a field of a fixed width that any bytes are
 pub record IsNumber (Is : ℕ → Type 0) (text : ℕ → List ℕ) (width : ℕ) (reader : List ℕ → Result (ℕ × List ℕ) Stop) : Type 0 where
@@ -36,6 +59,8 @@ pub record IsNumber (Is : ℕ → Type 0) (text : ℕ → List ℕ) (width : ℕ
   pub again : (n : ℕ) (rest : List ℕ) → Is n → reader (text n ++ rest) ≡ Ok (n, rest)
   pub short : (bytes : List ℕ) → reader bytes ≡ Err Short → length bytes < width
   pub never : (bytes : List ℕ) (left : ℕ) → reader bytes ≢ Err (Bad left)
+  pub stops : (bytes : List ℕ) → length bytes < width → reader bytes ≡ Err Short
+  pub all : (bytes : List ℕ) → length bytes ≡ width → AreBytes bytes → (n : ℕ) × Is n × (text n ≡ bytes)
 
 byte_takes : (bytes : List ℕ) (n : ℕ) (rest : List ℕ) → AreBytes bytes → byte_at bytes ≡ Ok (n, rest) → (n < 256) × (bytes ≡ (n ∷ []) ++ rest)
 unfolding byte_at
@@ -69,6 +94,16 @@ guard_never : {A : Type 0} (b : Bool) (x : A) (left : ℕ) → cond b (Err Short
 guard_never true x left e = absurd cc
 guard_never false x left e = absurd cc
 
+byte_stops : (bytes : List ℕ) → length bytes < 1 → byte_at bytes ≡ Err Short
+unfolding byte_at
+byte_stops [] low = refl
+byte_stops (b ∷ bytes) low = absurd (omega arith)
+
+byte_all : (bytes : List ℕ) → length bytes ≡ 1 → AreBytes bytes → (n : ℕ) × (n < 256) × (n ∷ [] ≡ bytes)
+byte_all [] len fit = absurd (omega arith)
+byte_all (b ∷ []) len fit = (b, fit 0, refl)
+byte_all (b ∷ c ∷ bytes) len fit = absurd (omega arith)
+
 byte_number : IsNumber (λ n. n < 256) (λ n. n ∷ []) 1 byte_at
 unfolding byte_at
 byte_number = record {
@@ -77,6 +112,8 @@ byte_number = record {
   again = λ n rest is. refl;
   short = byte_short;
   never = byte_never;
+  stops = byte_stops;
+  all = byte_all;
 }
 
 number_takes : (w : Width) (limit : ℕ) → ((bytes : List ℕ) → length bytes ≡ byte_len w → AreBytes bytes → to_be_bytes w (from_be_bytes w bytes) ≡ bytes) → ((bytes : List ℕ) → AreBytes bytes → from_be_bytes w bytes < limit)
@@ -100,6 +137,9 @@ number_short w bytes e = ltb-true _ _ (guard_short (ltb (length bytes) (byte_len
 number_never : (w : Width) (bytes : List ℕ) (left : ℕ) → number_at w bytes ≢ Err (Bad left)
 number_never w bytes left e = guard_never (ltb (length bytes) (byte_len w)) (from_be_bytes w (take (byte_len w) bytes), drop (byte_len w) bytes) left e
 
+number_stops : (w : Width) (bytes : List ℕ) → length bytes < byte_len w → number_at w bytes ≡ Err Short
+number_stops w bytes low = let early : ltb (length bytes) (byte_len w) ≡ true = lt-ltb _ _ low in rw early refl
+
 two_number : IsNumber (λ n. n < 2 ^ 16) (λ n. to_be_bytes w16 n) 2 (number_at w16)
 two_number = record {
   wide = λ n. refl;
@@ -107,6 +147,8 @@ two_number = record {
   again = λ n rest is. number_again w16 n rest refl (from_be_bytes-to_be_bytes_2 n is);
   short = λ bytes e. number_short w16 bytes e;
   never = λ bytes left e. number_never w16 bytes left e;
+  stops = λ bytes low. number_stops w16 bytes low;
+  all = λ bytes len f. (from_be_bytes w16 bytes, omega (arith, f 0, f 1), be_bytes_2 bytes _ len f refl);
 }
 
 four_number : IsNumber (λ n. n < 2 ^ 32) (λ n. to_be_bytes w32 n) 4 (number_at w32)
@@ -116,6 +158,8 @@ four_number = record {
   again = λ n rest is. number_again w32 n rest refl (from_be_bytes-to_be_bytes_4 n is);
   short = λ bytes e. number_short w32 bytes e;
   never = λ bytes left e. number_never w32 bytes left e;
+  stops = λ bytes low. number_stops w32 bytes low;
+  all = λ bytes len f. (from_be_bytes w32 bytes, omega (arith, f 0, f 1, f 2, f 3), be_bytes_4 bytes _ len f refl);
 }
 
 -- ---- readers of one such field
@@ -144,6 +188,41 @@ module _ (Is : ℕ → Type 0) (text : ℕ → List ℕ) (width : ℕ) (reader :
       let both : done (n, []) ≡ done (m, []) = sym (number.again n [] p) ∙ ap (λ (t : List ℕ). reader (t ++ [])) e ∙ number.again m [] q in
       ap (λ (u : ℕ × List ℕ). u.0) (ok_is (n, []) (m, []) both)
 
+  number_cut_again : (Are : ℕ → Type 0) (bytes : List ℕ) → EndsWithin ℕ Are (λ n. Plain (text n) ∷ []) bytes → reader bytes ≡ Err Short
+  number_cut_again Are bytes w =
+      let o = one_field (Plain (text w.thing)) w.front w.next w.more w.opens in
+      let all_left : bytes ≡ w.rest = w.parts ∙ ap (λ (t : List Field). text_of t ++ w.rest) o.0 in
+      let len : length (text w.thing) ≡ length (bytes_of w.next) = ap (λ (f : Field). length (bytes_of f)) o.1 in
+      number.stops bytes (omega (arith, w.cut, len, number.wide w.thing, ap length all_left))
+
+  -- what stands in place of a number that may not stand there: another number
+  record Instead (Are : ℕ → Type 0) (bytes : List ℕ) (left : ℕ) : Type 0 where
+    other : ℕ
+    is : Is other
+    rest : List ℕ
+    parts : bytes ≡ text other ++ rest
+    none : Are other → ⊥
+    all_left : left ≡ length bytes
+
+  instead : (Are : ℕ → Type 0) (bytes : List ℕ) (left : ℕ) → AreBytes bytes → IsBadFrom ℕ Are (λ n. Plain (text n) ∷ []) bytes left → Instead Are bytes left
+  instead Are bytes left fit v =
+      let w = v.2 in
+      let o = one_field (Plain (text w.thing)) w.front w.next w.more w.opens in
+      let like : IsLike (Plain (text w.thing)) w.wrong = subst (λ (f : Field). IsLike f w.wrong) (sym o.1) w.like in
+      let p = like_plain (text w.thing) w.wrong like in
+      let parts : bytes ≡ p.0 ++ w.rest = w.parts ∙ ap₂ (λ (t : List Field) (f : Field). text_of t ++ (bytes_of f ++ w.rest)) o.0 p.1 in
+      let n = number.all p.0 (sym p.2 ∙ number.wide w.thing) (AreBytes-front p.0 w.rest (subst AreBytes parts fit)) in
+      let at_front : w.place ≡ 0 = subst (λ (f : Field). IsBadByte f w.place) p.1 w.bad in
+      let nothing : length (text_of w.front) ≡ 0 = ap (λ (t : List Field). length (text_of t)) o.0 in
+      record {
+        other = n.0;
+        is = n.1;
+        rest = w.rest;
+        parts = parts ∙ ap (λ (t : List ℕ). t ++ w.rest) (sym n.2);
+        none = λ are. w.none n.0 [] are (ap₂ (λ (t : List Field) (f : Field). t ++ f ∷ []) (sym o.0) (ap Plain n.2 ∙ sym p.1));
+        all_left = omega (arith, v.1, w.at_is, at_front, nothing);
+      }
+
   -- any number is read
   pub reads_number : (n : ℕ) → Is n → Reads ℕ Is (λ n. Plain (text n) ∷ []) reader
   reads_number n is = record {
@@ -151,6 +230,8 @@ module _ (Is : ℕ → Type 0) (text : ℕ → List ℕ) (width : ℕ) (reader :
     again = λ x rest is_x. ap (λ (t : List ℕ). reader (t ++ rest)) (append-nil (text x)) ∙ number.again x rest is_x;
     cut = λ bytes fit e. number_cut Is n is bytes e;
     bad = λ bytes left fit e. absurd (number.never bytes left e);
+    cut_again = λ bytes w. number_cut_again Is bytes w;
+    bad_again = λ bytes left fit w. let i = instead Is bytes left fit w in absurd (i.none i.is);
   }
 
   passed_ok : (ok : Bool) (x y : ℕ × List ℕ) (bytes : List ℕ) → passed ok x bytes ≡ Ok y → (ok ≡ true) × (x ≡ y)
@@ -228,9 +309,25 @@ module _ (Is : ℕ → Type 0) (text : ℕ → List ℕ) (width : ℕ) (reader :
               )
         ]
 
+    tested_cut_again : (bytes : List ℕ) → EndsWithin ℕ (λ x. Is x × (test x ≡ true)) (λ n. Plain (text n) ∷ []) bytes → tested bytes ≡ Err Short
+    unfolding tested
+    tested_cut_again bytes w =
+        let e : reader bytes ≡ Err Short = number_cut_again (λ x. Is x × (test x ≡ true)) bytes w in
+        rw e refl
+
+    tested_bad_again : (bytes : List ℕ) (left : ℕ) → AreBytes bytes → IsBadFrom ℕ (λ x. Is x × (test x ≡ true)) (λ n. Plain (text n) ∷ []) bytes left → tested bytes ≡ Err (Bad left)
+    unfolding tested
+    tested_bad_again bytes left fit w =
+        let i = instead (λ x. Is x × (test x ≡ true)) bytes left fit w in
+        let e : reader bytes ≡ Ok (i.other, i.rest) = ap reader i.parts ∙ number.again i.other i.rest i.is in
+        elim (cases_Bool (test i.other)) [
+          | inl taken ↦ absurd (i.none (i.is, taken))
+          | inr refused ↦ rw (e, refused) (ap (λ (n : ℕ). Err (Bad n)) (sym i.all_left))
+        ]
+
     pub reads_tested : Reads ℕ (λ x. Is x × (test x ≡ true)) (λ n. Plain (text n) ∷ []) (λ bytes. reader bytes >>= λ x. passed (test x.0) x bytes)
     unfolding tested
-    reads_tested = record { found = tested_found; again = tested_again; cut = tested_cut; bad = tested_bad }
+    reads_tested = record { found = tested_found; again = tested_again; cut = tested_cut; bad = tested_bad; cut_again = tested_cut_again; bad_again = tested_bad_again }
 
 pub byte_reads : Reads ℕ (λ n. n < 256) (λ n. one n ∷ []) byte_at
 byte_reads = reads_number (λ n. n < 256) (λ n. n ∷ []) 1 byte_at byte_number 0 (lit< tt)
@@ -354,5 +451,30 @@ instr_bad bytes left fit e =
       },
     )
 
+instr_cut_again : (bytes : List ℕ) → EndsWithin Instr IsInstr instr_fields bytes → instr_at bytes ≡ Err Short
+instr_cut_again bytes w =
+    let o = one_field (Eight (instr_bytes w.thing)) w.front w.next w.more w.opens in
+    let all_left : bytes ≡ w.rest = w.parts ∙ ap (λ (t : List Field). text_of t ++ w.rest) o.0 in
+    let len : length (instr_bytes w.thing) ≡ length (bytes_of w.next) = ap (λ (f : Field). length (bytes_of f)) o.1 in
+    let eight = instr_bytes-eight w.thing w.is in
+    instr_at-short bytes (omega (arith, w.cut, len, eight.len, ap length all_left))
+
+instr_bad_again : (bytes : List ℕ) (left : ℕ) → AreBytes bytes → IsBadFrom Instr IsInstr instr_fields bytes left → instr_at bytes ≡ Err (Bad left)
+instr_bad_again bytes left fit v =
+    let w = v.2 in
+    let o = one_field (Eight (instr_bytes w.thing)) w.front w.next w.more w.opens in
+    let like : IsLike (Eight (instr_bytes w.thing)) w.wrong = subst (λ (f : Field). IsLike f w.wrong) (sym o.1) w.like in
+    let p = like_eight (instr_bytes w.thing) w.wrong like in
+    let parts : bytes ≡ p.0 ++ w.rest = w.parts ∙ ap₂ (λ (t : List Field) (f : Field). text_of t ++ (bytes_of f ++ w.rest)) o.0 p.1 in
+    let eight = instr_bytes-eight w.thing w.is in
+    let wide : length p.0 ≡ 8 = sym p.2 ∙ eight.len in
+    let long : 8 ≤ length bytes = omega (arith, wide, ap length parts, length-append p.0 w.rest) in
+    let front : take 8 bytes ≡ p.0 = ap (take 8) parts ∙ take_at p.0 w.rest 8 wide in
+    let bad : IsFirstBadField (take 8 bytes) w.place = subst (λ (t : List ℕ). IsFirstBadField t w.place) (sym front) (subst (λ (f : Field). IsBadByte f w.place) p.1 w.bad) in
+    let nothing : length (text_of w.front) ≡ 0 = ap (λ (t : List Field). length (text_of t)) o.0 in
+    let answer : Err w.place ≡ instr_of (take 8 bytes) = answer_is (take 8 bytes) (Err w.place) (eight_are bytes long fit) tt bad in
+    let at : length bytes - w.place ≡ left = omega (arith, v.1, w.at_is, nothing) in
+    instr_at-long bytes long ∙ ap (judged (length bytes) (drop 8 bytes)) (sym answer) ∙ ap (λ (n : ℕ). Err (Bad n)) at
+
 pub instr_reads : Reads Instr IsInstr instr_fields instr_at
-instr_reads = record { found = instr_found; again = instr_again; cut = instr_cut; bad = instr_bad }
+instr_reads = record { found = instr_found; again = instr_again; cut = instr_cut; bad = instr_bad; cut_again = instr_cut_again; bad_again = instr_bad_again }

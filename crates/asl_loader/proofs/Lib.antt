@@ -4,6 +4,7 @@ pub mod Images
 pub mod Items
 pub mod Loads
 pub mod Loop
+pub mod Outcomes
 pub mod Reader
 pub mod Stores
 pub mod Writes

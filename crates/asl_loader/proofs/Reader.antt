@@ -12,13 +12,15 @@ use Rattle.asl_code.proofs.Values.{AreBytes}
 abbrev pub IsBadFrom : (X : Type 0) (Is : X → Type 0) (fields_of : X → List Field) (bytes : List ℕ) (left : ℕ) → Type 0
 IsBadFrom X Is fields_of bytes left = (at : ℕ) × (at + left ≡ length bytes) × HasBadByte X Is fields_of bytes at
 
--- The reader reads the fields of the things that are so: what it takes is spelled so, what is spelled so it takes, and
--- what stops it is the first thing that is wrong.
+-- The reader reads the fields of the things that are so: what it takes is spelled so, what is spelled so it takes, what
+-- stops it is the first thing that is wrong, and the first thing that is wrong stops it.
 pub record Reads (X : Type 0) (Is : X → Type 0) (fields_of : X → List Field) (reader : List ℕ → Result (X × List ℕ) Stop) : Type 0 where
   pub found : (bytes : List ℕ) (x : X) (rest : List ℕ) → AreBytes bytes → reader bytes ≡ Ok (x, rest) → Is x × (bytes ≡ text_of (fields_of x) ++ rest)
   pub again : (x : X) (rest : List ℕ) → Is x → reader (text_of (fields_of x) ++ rest) ≡ Ok (x, rest)
   pub cut : (bytes : List ℕ) → AreBytes bytes → reader bytes ≡ Err Short → EndsWithin X Is fields_of bytes
   pub bad : (bytes : List ℕ) (left : ℕ) → AreBytes bytes → reader bytes ≡ Err (Bad left) → IsBadFrom X Is fields_of bytes left
+  pub cut_again : (bytes : List ℕ) → EndsWithin X Is fields_of bytes → reader bytes ≡ Err Short
+  pub bad_again : (bytes : List ℕ) (left : ℕ) → AreBytes bytes → IsBadFrom X Is fields_of bytes left → reader bytes ≡ Err (Bad left)
 
 pub AreBytes-rest : (front rest : List ℕ) → AreBytes (front ++ rest) → AreBytes rest
 AreBytes-rest front rest h i = rw (← get_or-append-add front rest i 0) (h (length front + i))
@@ -218,9 +220,125 @@ module _ (X Y : Type 0) (IsX : X → Type 0) (IsY : Y → Type 0) (fields_x : X 
             then_bad bytes left b.0.0 b.0.1 f.0 f.1 ((second b.0.0 f.0).bad b.0.1 left (AreBytes-rest (text_of (fields_x b.0.0)) b.0.1 (rw (← f.1) fit)) b.2)
       ]
 
+  -- where the fields of the whole begin with these, they are in the first part, or the first part is before them
+  in_parts : (y : Y) → IsY y → (front : List Field) (next : Field) (more : List Field) → fields_y y ≡ front ++ next ∷ more → (x : X) × IsX x × Has y x × (fields_x x ++ after y ≡ front ++ next ∷ more) × Overlap Field (fields_x x) front next
+  in_parts y is front next more opens =
+      let p = part y is in
+      let j : fields_x p.0 ++ after y ≡ front ++ next ∷ more = sym (joins p.0 y p.1 is p.2) ∙ opens in
+      (p.0, p.1, p.2, j, overlap Field (fields_x p.0) (after y) front next more j)
+
+  behind_first : (x : X) (y : Y) (front middle : List Field) (next : Field) (more : List Field) → fields_x x ++ after y ≡ front ++ next ∷ more → front ≡ fields_x x ++ middle → after y ≡ middle ++ next ∷ more
+  behind_first x y front middle next more j f =
+      append_cancel_left (fields_x x) (after y) (middle ++ next ∷ more) (j ∙ ap (λ (t : List Field). t ++ next ∷ more) f ∙ append_assoc (fields_x x) middle (next ∷ more))
+
+  split_text : (x : X) (bytes : List ℕ) (front middle : List Field) (rest : List ℕ) → front ≡ fields_x x ++ middle → bytes ≡ text_of front ++ rest → bytes ≡ text_of (fields_x x) ++ (text_of middle ++ rest)
+  split_text x bytes front middle rest f parts =
+      parts
+      ∙ ap (λ (t : List Field). text_of t ++ rest) f
+      ∙ ap (λ (t : List ℕ). t ++ rest) (text_of-append (fields_x x) middle)
+      ∙ append_assoc (text_of (fields_x x)) (text_of middle) rest
+
+  both_stops : (bytes : List ℕ) (x : X) (rest : List ℕ) (s : Stop) → read_x bytes ≡ Ok (x, rest) → read_y x rest ≡ Err s → both bytes ≡ Err s
+  unfolding both
+  both_stops bytes x rest s e f = rw e f
+
+  first_stops : (bytes : List ℕ) (s : Stop) → read_x bytes ≡ Err s → both bytes ≡ Err s
+  unfolding both
+  first_stops bytes s e = rw e refl
+
+  both_cut_again : (bytes : List ℕ) → EndsWithin Y IsY fields_y bytes → both bytes ≡ Err Short
+  both_cut_again bytes w =
+      let p = in_parts w.thing w.is w.front w.next w.more w.opens in
+      elim p.4 [
+        | within tail f ↦
+            first_stops bytes Short (first.cut_again bytes (record { thing = p.0; is = p.1; front = w.front; next = w.next; more = tail; opens = f; rest = w.rest; parts = w.parts; cut = w.cut }))
+        | beyond middle f ↦
+            let opens = behind_first p.0 w.thing w.front middle w.next w.more p.3 f in
+            let split = split_text p.0 bytes w.front middle w.rest f w.parts in
+            both_stops bytes p.0 (text_of middle ++ w.rest) Short
+            (ap read_x split ∙ first.again p.0 (text_of middle ++ w.rest) p.1)
+            ((second p.0 p.1).cut_again (text_of middle ++ w.rest) (record { thing = w.thing; is = (w.is, p.2); front = middle; next = w.next; more = w.more; opens = opens; rest = w.rest; parts = refl; cut = w.cut }))
+      ]
+
+  none_first : (front : List Field) (wrong : Field) → ((other : Y) (following : List Field) → IsY other → fields_y other ≢ front ++ wrong ∷ following)
+      → (other : X) (following : List Field) → IsX other → fields_x other ≢ front ++ wrong ∷ following
+  none_first front wrong none other following is e =
+      let y = fills other is in
+      none y.0 (following ++ after y.0) y.1 (joins other y.0 is y.1 y.2 ∙ ap (λ (t : List Field). t ++ after y.0) e ∙ append_assoc front (wrong ∷ following) (after y.0))
+
+  none_second : (x : X) (front middle : List Field) (wrong : Field) → IsX x → front ≡ fields_x x ++ middle → ((other : Y) (following : List Field) → IsY other → fields_y other ≢ front ++ wrong ∷ following)
+      → (other : Y) (following : List Field) → IsY other × Has other x → after other ≢ middle ++ wrong ∷ following
+  none_second x front middle wrong is f none other following is_y e =
+      none other following is_y.0
+      (joins x other is is_y.0 is_y.1 ∙ ap (λ (t : List Field). fields_x x ++ t) e ∙ sym (append_assoc (fields_x x) middle (wrong ∷ following)) ∙ ap (λ (t : List Field). t ++ wrong ∷ following) (sym f))
+
+  both_bad_again : (bytes : List ℕ) (left : ℕ) → AreBytes bytes → IsBadFrom Y IsY fields_y bytes left → both bytes ≡ Err (Bad left)
+  both_bad_again bytes left fit w =
+      let b = w.2 in
+      let p = in_parts b.thing b.is b.front b.next b.more b.opens in
+      elim p.4 [
+        | within tail f ↦
+            first_stops bytes (Bad left)
+            (first.bad_again bytes left fit (
+              w.0,
+              w.1,
+              record {
+                thing = p.0;
+                is = p.1;
+                front = b.front;
+                next = b.next;
+                more = tail;
+                opens = f;
+                wrong = b.wrong;
+                rest = b.rest;
+                parts = b.parts;
+                like = b.like;
+                place = b.place;
+                bad = b.bad;
+                at_is = b.at_is;
+                none = none_first b.front b.wrong b.none;
+              },
+            ))
+        | beyond middle f ↦
+            let later = text_of middle ++ (bytes_of b.wrong ++ b.rest) in
+            let opens = behind_first p.0 b.thing b.front middle b.next b.more p.3 f in
+            let split = split_text p.0 bytes b.front middle (bytes_of b.wrong ++ b.rest) f b.parts in
+            let front_len : length (text_of b.front) ≡ length (text_of (fields_x p.0)) + length (text_of middle) =
+            ap (λ (t : List Field). length (text_of t)) f ∙ ap length (text_of-append (fields_x p.0) middle) ∙ length-append (text_of (fields_x p.0)) (text_of middle) in
+            let len : length bytes ≡ length (text_of (fields_x p.0)) + length later = ap length split ∙ length-append (text_of (fields_x p.0)) later in
+            both_stops bytes p.0 later (Bad left)
+            (ap read_x split ∙ first.again p.0 later p.1)
+            ((second p.0 p.1).bad_again later left (AreBytes-rest (text_of (fields_x p.0)) later (subst AreBytes split fit)) (
+              length (text_of middle) + b.place,
+              omega (arith, w.1, b.at_is, front_len, len),
+              record {
+                thing = b.thing;
+                is = (b.is, p.2);
+                front = middle;
+                next = b.next;
+                more = b.more;
+                opens = opens;
+                wrong = b.wrong;
+                rest = b.rest;
+                parts = refl;
+                like = b.like;
+                place = b.place;
+                bad = b.bad;
+                at_is = refl;
+                none = none_second p.0 b.front middle b.wrong p.1 f b.none;
+              },
+            ))
+      ]
+
   pub reads_both : Reads Y IsY fields_y (λ bytes. read_x bytes >>= λ x. read_y x.0 x.1)
   unfolding both
-  reads_both = record { found = both_found; again = both_again; cut = both_cut; bad = both_bad }
+  reads_both = record { found = both_found; again = both_again; cut = both_cut; bad = both_bad; cut_again = both_cut_again; bad_again = both_bad_again }
+
+-- the one thing that has no field does not begin with one
+no_field : (X : Type 0) (Is : X → Type 0) (fields_of : X → List Field) (x : X) → ((other : X) → Is other → other ≡ x) → fields_of x ≡ [] → (thing : X) → Is thing → (front : List Field) (next : Field) (more : List Field) → fields_of thing ≡ front ++ next ∷ more → ⊥
+no_field X Is fields_of x only none thing is front next more opens =
+    let e : [] ≡ front ++ next ∷ more = sym none ∙ ap fields_of (sym (only thing is)) ∙ opens in
+    omega (arith, ap length e, length-append front (next ∷ more))
 
 -- a reader that takes nothing, of the one thing that has no field
 pub reads_nothing : (X : Type 0) (Is : X → Type 0) (fields_of : X → List Field) (x : X) → Is x → ((other : X) → Is other → other ≡ x) → fields_of x ≡ [] → Reads X Is fields_of (λ bytes. Ok (x, bytes))
@@ -236,6 +354,8 @@ reads_nothing X Is fields_of x is only none = record {
       ap done (ap₂ (λ (w : X) (t : List ℕ). (w, t)) (sym same) (ap (λ (t : List Field). text_of t ++ rest) empty));
   cut = λ bytes fit e. absurd cc;
   bad = λ bytes left fit e. absurd cc;
+  cut_again = λ bytes w. absurd (no_field X Is fields_of x only none w.thing w.is w.front w.next w.more w.opens);
+  bad_again = λ bytes left fit w. absurd (no_field X Is fields_of x only none w.2.thing w.2.is w.2.front w.2.next w.2.more w.2.opens);
 }
 
 -- the same, where the first part is a function of the whole

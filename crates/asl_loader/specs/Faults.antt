@@ -1,5 +1,5 @@
 -- What is wrong with bytes that are those of no program (docs/BYTES.md, "Images").
-use Rattle.std.specs.Prelude.{◌≡◌, ◌≢◌, ℕ, ◌-◌, ◌<◌, ◌==◌, if◌then◌else◌, List, length, take, Result, Ok, Err}
+use Rattle.std.specs.Prelude.{◌≡◌, ◌≢◌, ℕ, ◌-◌, ◌<◌, ◌==◌, if◌then◌else◌, List, length, take, All, Result, Ok, Err}
 use Rattle.asl_code.specs.declared.image.Image.{Image}
 use Rattle.asl_code.specs.Verified.{IsAnswer, IsVerified}
 use Rattle.asl_loader.specs.declared.fault.LoadFault.{LoadFault}
@@ -31,6 +31,22 @@ IsStored image bytes = IsVerified image × SpellsImage image bytes
 -- the bytes are loaded as a program of this image
 abbrev pub IsLoaded : List ℕ → Image → Type 0
 IsLoaded bytes image = SpellsImage image bytes × IsVerified image
+
+-- The outcome of the bytes, where memory is there: the program that they are loaded as, or the refusal that they meet
+-- (docs/BYTES.md, "Images").
+abbrev pub IsOutcome : List ℕ → Result Image LoadFault → Type 0
+IsOutcome bytes (Ok image) = IsLoaded bytes image
+IsOutcome bytes (Err fault) = IsFault bytes fault × (fault ≢ OutOfMemory)
+
+-- bytes have an outcome
+abbrev pub BytesHaveAnOutcome : Type 0
+BytesHaveAnOutcome = (bytes : List ℕ) → All (λ b. b < 256) bytes → (outcome : Result Image LoadFault) × IsOutcome bytes outcome
+
+-- and no other one
+abbrev pub OutcomeIsOne : Type 0
+OutcomeIsOne =
+    (bytes : List ℕ) (outcome other : Result Image LoadFault) → All (λ b. b < 256) bytes → IsOutcome bytes outcome → IsOutcome bytes other
+    → outcome ≡ other
 
 -- to load what was stored gives the program back
 abbrev pub LoadUndoesStore : Type 0

@@ -1,7 +1,7 @@
 //! Laws of the definitions that the contracts of this crate cite.
 
 ghost use Rattle.asl_loader.specs.Bytes.{ImageOfSpellingIsOne, SpellingOfImageIsOne};
-ghost use Rattle.asl_loader.specs.Faults.{LoadUndoesStore, StoreUndoesLoad};
+ghost use Rattle.asl_loader.specs.Faults.{BytesHaveAnOutcome, OutcomeIsOne, LoadUndoesStore, StoreUndoesLoad};
 
 /// An image and its bytes belong to no other.
 pub fn image_and_bytes_are_one()
@@ -13,4 +13,10 @@ pub fn image_and_bytes_are_one()
 pub fn load_and_store_undo_each_other()
     ensures load { LoadUndoesStore }
     ensures store { StoreUndoesLoad }
+{}
+
+/// Bytes have exactly one outcome: a program, or one refusal. Want of memory says nothing of them.
+pub fn bytes_have_one_outcome()
+    ensures some { BytesHaveAnOutcome }
+    ensures one { OutcomeIsOne }
 {}

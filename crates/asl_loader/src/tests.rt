@@ -1,4 +1,6 @@
-use crate::laws::{image_and_bytes_are_one, load_and_store_undo_each_other};
+use crate::laws::{
+    bytes_have_one_outcome, image_and_bytes_are_one, load_and_store_undo_each_other,
+};
 use crate::{LoadFault, load, store};
 use asl_code::VerifyFault;
 use std::test::*;
@@ -39,6 +41,7 @@ fn fault(rt: &HostRuntime, bytes: &[u8]) -> Option<LoadFault> {
 fn counter_is_loaded_and_stored(rt: HostRuntime) -> Result<(), Fail> {
     image_and_bytes_are_one();
     load_and_store_undo_each_other();
+    bytes_have_one_outcome();
     let program = load(rt.alloc(), &COUNTER)
         .ok()
         .ok_or("the bytes are a program")?;
