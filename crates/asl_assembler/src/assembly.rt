@@ -1,9 +1,8 @@
-ghost use Rattle.std.specs.Prelude.{◌≡◌, ◌⊎◌, ℕ, Err, IfOk, Ok};
-ghost use Rattle.asl_code.specs.Verified.{IsVerified, IsAnswer};
-ghost use Rattle.asl_code.specs.declared.fault.VerifyFault.{VerifyFault};
+ghost use Rattle.std.specs.Prelude.{◌≡◌, ◌⊎◌, Err, IfOk, IfErr, Ok};
+ghost use Rattle.asl_code.specs.Verified.{IsVerified};
 ghost use Rattle.asl_code.specs.declared.image.Image.{Image};
-ghost use Rattle.asl_assembler.specs.Words.{lines_of};
-ghost use Rattle.asl_assembler.specs.Text.{Spells, IsBadLine};
+ghost use Rattle.asl_assembler.specs.Faults.{IsFault};
+ghost use Rattle.asl_assembler.specs.Text.{Spells};
 
 use crate::read::{ReadFault, read};
 use asl_code::{Program, VerifyFault};
@@ -29,13 +28,11 @@ pub enum AsmFault {
 pub fn assemble(alloc: Global, text: &[u8]) -> Result<Program, AsmFault>
     ensures spelled { IfOk result (λ program. Spells text.now program) }
     ensures verified { IfOk result (λ program. IsVerified program) }
-    // Nothing else is refused, unless memory runs out.
+
+    // What is spelled and verified is answered, unless memory runs out.
     ensures only { (image : Image) → Spells text.now image → IsVerified image
         → (result ≡ Ok image) ⊎ (result ≡ Err AsmFault.OutOfMemory) }
-
-    ensures line { (number : ℕ) → result ≡ Err (AsmFault.Line number) → IsBadLine (lines_of text.now) number }
-    ensures cause { (cause : VerifyFault) → result ≡ Err (AsmFault.Verify cause)
-        → (image : Image) × Spells text.now image × IsAnswer image cause }
+    ensures refused { IfErr result (λ fault. IsFault text.now fault) }
 {
     let image = match read(alloc, text) {
         Ok(image) => image,

@@ -1,8 +1,10 @@
 //! Laws of assembly text, as functions that do nothing: what each ensures is the law.
-ghost use Rattle.std.specs.Prelude.{◌≡◌, List, ℕ};
+ghost use Rattle.std.specs.Prelude.{◌≡◌, List, ℕ, Result};
 ghost use Rattle.asl_code.specs.declared.image.Image.{Image};
 ghost use Rattle.asl_assembler.specs.Words.{lines_of};
 ghost use Rattle.asl_assembler.specs.Text.{Spells, IsBadLine};
+ghost use Rattle.asl_assembler.specs.Faults.{IsOutcome};
+ghost use Rattle.asl_assembler.specs.declared.assembly.AsmFault.{AsmFault};
 ghost use Rattle.asl_assembler.specs.Canonical.{canonical_text, FitsText};
 ghost use Rattle.asl_code.specs.Verified.{IsVerified};
 
@@ -12,6 +14,12 @@ pub fn texts_spell_one_image()
     ensures image { (text : List ℕ) (image other : Image) → Spells text image → Spells text other → image ≡ other }
     ensures line { (text : List ℕ) (number other : ℕ) → IsBadLine (lines_of text) number → IsBadLine (lines_of text) other → number ≡ other }
     ensures either { (text : List ℕ) (image : Image) (number : ℕ) → Spells text image → IsBadLine (lines_of text) number → ⊥ }
+{}
+
+/// A text has exactly one outcome: a program, or one refusal. Want of memory says nothing of it.
+pub fn texts_have_one_outcome()
+    ensures some { (text : List ℕ) → (outcome : Result Image AsmFault) × IsOutcome text outcome }
+    ensures one { (text : List ℕ) (outcome other : Result Image AsmFault) → IsOutcome text outcome → IsOutcome text other → outcome ≡ other }
 {}
 
 /// The canonical text of a verified image that some text spells, or whose numbers fit their fields, spells this image and

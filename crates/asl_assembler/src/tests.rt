@@ -1,5 +1,5 @@
 use crate::assembly::{AsmFault, assemble};
-use crate::laws::texts_spell_one_image;
+use crate::laws::{texts_have_one_outcome, texts_spell_one_image};
 use crate::read::{ReadFault, read};
 use asl_code::{Base, Effect, Expr, Instr, Lock, Op, Path, VerifyFault};
 use std::alloc::{AllocError, Global};
@@ -50,6 +50,7 @@ fn assembles_the_counter(rt: HostRuntime) -> Result<(), Fail> {
     assert_eq!(rt; program.code(), code.as_slice());
     assert_eq!(rt; program.lists().len(), 1);
     texts_spell_one_image();
+    texts_have_one_outcome();
     Ok(())
 }
 

@@ -11,12 +11,8 @@ returns-in-Err-Line-clause-only c =
     let number = c.in-Err-Line.number in
     λ image spelled verified. absurd (not_both (lines_of text) image number spelled (bad_line (lines_of text) number (rw c.in-Err-Line.field-0-is at c.in-Err-Line.ensures)))
 
-pub returns-in-Err-Line-clause-line : goal.returns-in-Err-Line-clause-line
-returns-in-Err-Line-clause-line c = λ number e.
-    let text = c.args.text.now in
-    let bad : IsBadLine (lines_of text) c.in-Err-Line.number = bad_line (lines_of text) c.in-Err-Line.number (rw c.in-Err-Line.field-0-is at c.in-Err-Line.ensures) in
-    let same : c.in-Err-Line.number ≡ number = cc in
-    rw (← same) bad
+pub returns-in-Err-Line-clause-refused : goal.returns-in-Err-Line-clause-refused
+returns-in-Err-Line-clause-refused c = bad_line (lines_of c.args.text.now) c.in-Err-Line.number (rw c.in-Err-Line.field-0-is at c.in-Err-Line.ensures)
 
 pub returns-in-Ok-verify-clause-spelled : goal.returns-in-Ok-verify-clause-spelled
 returns-in-Ok-verify-clause-spelled c =
@@ -41,8 +37,5 @@ returns-clause-only c = λ image spelled verified.
     let not : applies image c.in-Err.cause ≡ false = verified c.in-Err.cause in
     absurd (cc)
 
-pub returns-clause-cause : goal.returns-clause-cause
-returns-clause-cause c = λ cause e.
-    let answer : IsAnswer c.in-Ok.image c.in-Err.cause = c.in-Err.ensures.fault in
-    let same : c.in-Err.cause ≡ cause = cc in
-    (c.in-Ok.image, image_spelled c.args.text.now c.in-Ok.image c.in-Ok.ensures, rw (← same) answer)
+pub returns-clause-refused : goal.returns-clause-refused
+returns-clause-refused c = (c.in-Ok.image, image_spelled c.args.text.now c.in-Ok.image c.in-Ok.ensures, c.in-Err.ensures.fault)
