@@ -3,7 +3,7 @@ use Rattle.std.specs.Prelude.{ℕ, ◌+◌, Bool, ◌&&◌, nat_lt, nat_le, List
 use Rattle.asl_code.specs.declared.image.Function.{Function}
 use Rattle.asl_code.specs.declared.image.Image.{Image}
 
--- a function, and the place of its first instruction
+-- a function, and the place of its first instruction (docs/INSTRUCTIONS.md)
 pub record Body : Type 0 where
   pub first : ℕ
   pub function : Function

@@ -59,7 +59,7 @@ pub record SpellsInstr (instr : Instr) (bytes : List ℕ) : Type 0 where
   pub fits : IsInstr instr
   pub spelled : bytes ≡ instr_bytes instr
 
--- how many of the eight bytes there are up to the end of the field at this place: of op, a, b, c and d
+-- how many of the eight bytes there are up to the end of the field at this place: of op, a, b, c and d (docs/BYTES.md, "Instructions")
 abbrev pub field_end : ℕ → ℕ
 field_end place = if nat_lt place 4 then place + 1 else 8
 
@@ -76,7 +76,7 @@ value_bytes (Int n) = 0 ∷ to_be_bytes w32 (cast_unsigned w32 n)
 value_bytes Null = 1 ∷ []
 value_bytes (Addr object offset) = 2 ∷ to_be_bytes w16 object ++ offset ∷ []
 
--- each number is one of its type
+-- each number is one of its type (docs/BYTES.md, "Values")
 abbrev pub IsValue : Value → Type 0
 IsValue (Int n) = FitsSigned w32 n
 IsValue Null = Unit {0}
@@ -87,33 +87,33 @@ pub record SpellsValue (value : Value) (bytes : List ℕ) : Type 0 where
   pub fits : IsValue value
   pub spelled : bytes ≡ value_bytes value
 
--- the first so many of the bytes spell the value
+-- the first so many of the bytes spell the value (docs/BYTES.md, "Values")
 pub record TakesValue (bytes : List ℕ) (value : Value) (count : ℕ) : Type 0 where
   pub within : count ≤ length bytes
   pub front : SpellsValue value (take count bytes)
 
--- the bytes are a proper prefix of a value's bytes
+-- the bytes are a proper prefix of a value's bytes (docs/BYTES.md, "Values")
 abbrev pub BeginsValue : List ℕ → Type 0
 BeginsValue bytes = (value : Value) × (next : ℕ) × (more : List ℕ) × SpellsValue value (bytes ++ next ∷ more)
 
--- a spelling is of one instruction
+-- a spelling is of one instruction (docs/BYTES.md, "Instructions")
 abbrev pub InstrOfSpellingIsOne : Type 0
 InstrOfSpellingIsOne = (i j : Instr) (bytes : List ℕ) → SpellsInstr i bytes → SpellsInstr j bytes → i ≡ j
 
--- an instruction has one spelling
+-- an instruction has one spelling (docs/BYTES.md, "Instructions")
 abbrev pub SpellingOfInstrIsOne : Type 0
 SpellingOfInstrIsOne = (i : Instr) (bytes others : List ℕ) → SpellsInstr i bytes → SpellsInstr i others → bytes ≡ others
 
--- the first bad field is at one place
+-- the first bad field is at one place (docs/BYTES.md, "Instructions")
 abbrev pub FirstBadFieldIsOne : Type 0
 FirstBadFieldIsOne = (bytes : List ℕ) (place other : ℕ) → IsFirstBadField bytes place → IsFirstBadField bytes other → place ≡ other
 
--- a spelling is of one value, whatever follows it: no value's spelling begins another's
+-- a spelling is of one value, whatever follows it: no value's spelling begins another's (docs/BYTES.md, "Values")
 abbrev pub ValueOfSpellingIsOne : Type 0
 ValueOfSpellingIsOne =
     (v w : Value) (bytes others more rest : List ℕ) → SpellsValue v bytes → SpellsValue w others → bytes ++ more ≡ others ++ rest
     → (v ≡ w) × (bytes ≡ others)
 
--- a value has one spelling
+-- a value has one spelling (docs/BYTES.md, "Values")
 abbrev pub SpellingOfValueIsOne : Type 0
 SpellingOfValueIsOne = (v : Value) (bytes others : List ℕ) → SpellsValue v bytes → SpellsValue v others → bytes ≡ others

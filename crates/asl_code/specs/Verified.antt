@@ -137,12 +137,12 @@ abbrev pub has_list_bases : Image → Function → Instr → Bool
 has_list_bases i f (Acquire list) = option_map_or (list_all (has_lock_base f)) (slice_get i.lists list) true
 has_list_bases i f instr = true
 
--- whether both are there, and the instruction does not pass the test in the body
+-- whether both are there, and the instruction does not pass the test in the body (docs/LIMITS.md, "Rules of an image")
 abbrev pub is_failure : (Body → Instr → Bool) → Option Body → Option Instr → Bool
 is_failure passes (Some b) (Some instr) = not (passes b instr)
 is_failure passes b instr = false
 
--- whether an instruction stands at the place and does not pass the test in its body
+-- whether an instruction stands at the place and does not pass the test in its body (docs/LIMITS.md, "Rules of an image")
 abbrev pub fails_at : (Body → Instr → Bool) → Image → ℕ → Bool
 fails_at passes i pc = is_failure passes (body_of i pc) (slice_get i.code pc)
 
