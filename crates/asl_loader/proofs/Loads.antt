@@ -6,8 +6,8 @@ use Rattle.asl_code.specs.declared.fault.VerifyFault.{VerifyFault}
 use Rattle.asl_code.specs.declared.image.Image.{Image}
 use Rattle.asl_code.specs.Verified.{applies, IsAnswer, IsVerified}
 use Rattle.asl_loader.specs.Bytes.{text_of, image_fields, SpellsImage}
-use Rattle.asl_loader.specs.Faults.{IsBadImageByte, IsFault, bad_fault, ended, whole_from, whole_of}
-use Rattle.asl_loader.specs.Reading.{image_at}
+use Rattle.asl_loader.specs.Faults.{IsBadImageByte, IsFault}
+use Rattle.asl_loader.specs.Reading.{image_at, bad_fault, ended, whole_from, whole_of}
 use Rattle.asl_loader.specs.declared.fault.LoadFault.{LoadFault}
 use Rattle.asl_loader.specs.declared.fault.LoadFault.TheVariants.{Truncated, Trailing, OutOfMemory}
 use Rattle.asl_loader.specs.declared.fault.Stop.{Stop}

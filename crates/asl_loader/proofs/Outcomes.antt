@@ -12,8 +12,8 @@ use Rattle.asl_code.proofs.Instrs.{instr_bytes-eight}
 use Rattle.asl_code.proofs.OneAnswer.{one_answer, some_answer}
 use Rattle.asl_code.proofs.Values.{AreBytes}
 use Rattle.asl_loader.specs.Bytes.{Field, Plain, Eight, bytes_of, text_of, image_fields, IsImage, SpellsImage, EndsWithin, IsBadByte}
-use Rattle.asl_loader.specs.Faults.{IsBadImageByte, IsFault, IsOutcome, BytesHaveAnOutcome, OutcomeIsOne, bad_fault, ended, whole_from, whole_of}
-use Rattle.asl_loader.specs.Reading.{image_at}
+use Rattle.asl_loader.specs.Faults.{IsBadImageByte, IsFault, IsOutcome, BytesHaveAnOutcome, OutcomeIsOne}
+use Rattle.asl_loader.specs.Reading.{image_at, bad_fault, ended, whole_from, whole_of}
 use Rattle.asl_loader.specs.declared.fault.LoadFault.{LoadFault}
 use Rattle.asl_loader.specs.declared.fault.LoadFault.TheVariants.{Magic, Version, Truncated, BadField, Trailing, Verify, OutOfMemory}
 use Rattle.asl_loader.proofs.Images.{image_reads}

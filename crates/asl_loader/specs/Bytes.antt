@@ -22,68 +22,69 @@ pub data Field : Type 0 where
   Plain : List ℕ → Field
   Eight : List ℕ → Field
 
--- the bytes of a field
+-- the bytes of a field (docs/BYTES.md, "Images")
 abbrev pub bytes_of : Field → List ℕ
 bytes_of (Plain bytes) = bytes
 bytes_of (Eight bytes) = bytes
 
--- the bytes of fields, one after the other
+-- the bytes of fields, one after the other (docs/BYTES.md, "Images")
 abbrev pub text_of : List Field → List ℕ
 text_of fields = flat_map bytes_of fields
 
--- a field of one byte, and one of two
+-- a field of one byte (docs/BYTES.md, "Images")
 abbrev pub one : ℕ → Field
 one n = Plain (n ∷ [])
 
+-- a field of two bytes (docs/BYTES.md, "Images")
 abbrev pub two : ℕ → Field
 two n = Plain (to_be_bytes w16 n)
 
--- a count, and then the fields of each item
+-- a count, and then the fields of each item (docs/BYTES.md, "Images")
 abbrev pub counted : {X : Type 0} → (X → List Field) → List X → List Field
 counted fields_of xs = two (length xs) ∷ flat_map fields_of xs
 
--- the class of a global
+-- the class of a global (docs/BYTES.md, "Images")
 abbrev pub class_fields : ℕ → List Field
 class_fields class = two class ∷ []
 
--- a function: its parameters, its registers, the length of its body
+-- a function: its parameters, its registers, the length of its body (docs/BYTES.md, "Images")
 abbrev pub function_fields : Function → List Field
 function_fields f = one f.params ∷ one f.regs ∷ two f.len ∷ []
 
--- an instruction
+-- an instruction (docs/BYTES.md, "Images")
 abbrev pub instr_fields : Instr → List Field
 instr_fields instr = Eight (instr_bytes instr) ∷ []
 
--- an effect
+-- an effect (docs/BYTES.md, "Images")
 abbrev pub effect_field : Effect → Field
 effect_field Read = one 0
 effect_field Write = one 1
 
--- an operation: 0 for `*`, or 1 and the offset
+-- an operation: 0 for `*`, or 1 and the offset (docs/BYTES.md, "Images")
 abbrev pub op_fields : Op → List Field
 op_fields Deref = one 0 ∷ []
 op_fields (Off offset) = one 1 ∷ one offset ∷ []
 
--- a path: how many operations, and each
+-- a path: how many operations, and each (docs/BYTES.md, "Images")
 abbrev pub path_fields : List Op → List Field
 path_fields path = one (length path) ∷ flat_map op_fields path
 
--- a kind, an effect, and what the lock is on
+-- a kind, an effect, and what the lock is on (docs/BYTES.md, "Images")
 abbrev pub expr_fields : Base → Effect → List Op → List Field
 expr_fields (Reg r) effect path = one 2 ∷ effect_field effect ∷ one r ∷ path_fields path
 expr_fields (Global g) effect path = one 3 ∷ effect_field effect ∷ two g ∷ path_fields path
 
--- a lock
+-- a lock (docs/BYTES.md, "Images")
 abbrev pub lock_fields : Lock → List Field
 lock_fields (lock.Root effect) = one 0 ∷ effect_field effect ∷ []
 lock_fields (lock.Class class effect) = one 1 ∷ effect_field effect ∷ two class ∷ []
 lock_fields (lock.Expr expr effect) = expr_fields expr.base effect expr.path
 
--- a list: how many locks, and each
+-- a list: how many locks, and each (docs/BYTES.md, "Images")
 abbrev pub list_fields : List Lock → List Field
 list_fields locks = counted lock_fields locks
 
--- the four bytes of the letters ASLM
+-- the four bytes of the letters ASLM (docs/BYTES.md, "Images")
 abbrev pub magic : Field
 magic = Plain (65 ∷ 83 ∷ 76 ∷ 77 ∷ [])
 
@@ -97,43 +98,43 @@ image_fields i =
     ∷ counted instr_fields i.code
     ++ counted list_fields i.lists))
 
--- each number is one that its field can hold
+-- each number is one that its field can hold (docs/BYTES.md, "Images")
 pub record IsFunction (f : Function) : Type 0 where
   pub params_fits : f.params < 256
   pub regs_fits : f.regs < 256
   pub len_fits : f.len < 2 ^ 16
 
--- an operation whose offset is one byte
+-- an operation whose offset is one byte (docs/BYTES.md, "Images")
 abbrev pub IsOp : Op → Type 0
 IsOp Deref = Unit {0}
 IsOp (Off offset) = offset < 256
 
--- a base whose number its field can hold
+-- a base whose number its field can hold (docs/BYTES.md, "Images")
 abbrev pub IsBase : Base → Type 0
 IsBase (Reg r) = r < 256
 IsBase (Global g) = g < 2 ^ 16
 
--- a path has eight operations at most
+-- a path has eight operations at most (docs/BYTES.md, "Images")
 pub record IsPath (path : List Op) : Type 0 where
   pub few : length path ≤ 8
   pub each : AllByRecursion IsOp path
 
--- a lock whose numbers their fields can hold
+-- a lock whose numbers their fields can hold (docs/BYTES.md, "Images")
 abbrev pub IsLock : Lock → Type 0
 IsLock (lock.Root effect) = Unit {0}
 IsLock (lock.Class class effect) = class < 2 ^ 16
 IsLock (lock.Expr expr effect) = IsBase expr.base × IsPath expr.path
 
--- items that a count of two bytes can count
+-- items that a count of two bytes can count (docs/BYTES.md, "Images")
 pub record AreItems (X : Type 0) (IsItem : X → Type 0) (xs : List X) : Type 0 where
   pub counted : length xs < 2 ^ 16
   pub each : AllByRecursion IsItem xs
 
--- a list of such locks
+-- a list of such locks (docs/BYTES.md, "Images")
 abbrev pub IsList : List Lock → Type 0
 IsList locks = AreItems Lock IsLock locks
 
--- an image of version 1, whose numbers fit their fields
+-- an image of version 1, whose numbers fit their fields (docs/BYTES.md, "Images")
 pub record IsImage (i : Image) : Type 0 where
   pub version_is : i.version ≡ 1
   pub classes_fits : i.classes < 2 ^ 16
@@ -149,7 +150,7 @@ pub record SpellsImage (i : Image) (bytes : List ℕ) : Type 0 where
   pub spelled : bytes ≡ text_of (image_fields i)
 
 -- The bytes begin with whole fields of something that has fields, and end within the next field: fewer are left than it
--- has.
+-- has (docs/BYTES.md, "Images")
 pub record EndsWithin (X : Type 0) (Is : X → Type 0) (fields_of : X → List Field) (bytes : List ℕ) : Type 0 where
   pub thing : X
   pub is : Is thing
@@ -161,19 +162,19 @@ pub record EndsWithin (X : Type 0) (Is : X → Type 0) (fields_of : X → List F
   pub parts : bytes ≡ text_of front ++ rest
   pub cut : length rest < length (bytes_of next)
 
--- a field of the same kind and of as many bytes
+-- a field of the same kind and of as many bytes (docs/BYTES.md, "Images")
 abbrev pub IsLike : Field → Field → Type 0
 IsLike (Plain bytes) (Plain others) = length bytes ≡ length others
 IsLike (Eight bytes) (Eight others) = length bytes ≡ length others
 IsLike field other = ⊥
 
--- where in a field that is not there its first bad byte stands: a plain field is judged as one
+-- where in a field that is not there its first bad byte stands: a plain field is judged as one (docs/BYTES.md, "Images")
 abbrev pub IsBadByte : Field → ℕ → Type 0
 IsBadByte (Plain bytes) place = place ≡ 0
 IsBadByte (Eight bytes) place = IsFirstBadField bytes place
 
 -- The bytes begin with whole fields of something that has fields; where its next field is to stand, they have another, and
--- nothing has these fields and this one. The first bad byte is this one.
+-- nothing has these fields and this one. The first bad byte is this one (docs/BYTES.md, "Images")
 pub record HasBadByte (X : Type 0) (Is : X → Type 0) (fields_of : X → List Field) (bytes : List ℕ) (at : ℕ) : Type 0 where
   pub thing : X
   pub is : Is thing
@@ -190,10 +191,10 @@ pub record HasBadByte (X : Type 0) (Is : X → Type 0) (fields_of : X → List F
   pub at_is : at ≡ length (text_of front) + place
   pub none : (other : X) (following : List Field) → Is other → fields_of other ≢ front ++ wrong ∷ following
 
--- a spelling is of one image
+-- a spelling is of one image (docs/BYTES.md, "Images")
 abbrev pub ImageOfSpellingIsOne : Type 0
 ImageOfSpellingIsOne = (i j : Image) (bytes : List ℕ) → SpellsImage i bytes → SpellsImage j bytes → i ≡ j
 
--- an image has one spelling
+-- an image has one spelling (docs/BYTES.md, "Images")
 abbrev pub SpellingOfImageIsOne : Type 0
 SpellingOfImageIsOne = (i : Image) (bytes others : List ℕ) → SpellsImage i bytes → SpellsImage i others → bytes ≡ others

@@ -1,5 +1,6 @@
--- Reading an image from front to back, to the first field that is cut or bad: what the readers of src/ compute. The laws
--- of proofs/ lead from here to the relations of specs/Bytes.
+-- Reading an image from front to back, to the first field that is cut or bad: what the readers of src/ compute
+-- (docs/BYTES.md, "Images"). No public contract cites it; the lemmas of proofs/ lead from here to the relations of
+-- specs/Bytes and specs/Faults, which contracts cite.
 use Rattle.std.specs.Prelude.{◌≡◌, ℕ, zero, suc, ◌-◌, Bool, nat_lt, ◌==◌, if◌then◌else◌, List, [], ◌∷◌, length, take, drop, Result, Ok, Err}
 use Rattle.std.specs.Int.{Width, w16, w32, byte_len, from_be_bytes}
 use Rattle.asl_code.specs.declared.image.Function.{Function}
@@ -14,6 +15,8 @@ use Rattle.asl_code.specs.declared.path.Op.TheVariants.{Deref, Off}
 use Rattle.asl_code.specs.declared.value.Effect.{Effect}
 use Rattle.asl_code.specs.declared.value.Effect.TheVariants.{Read, Write}
 use Rattle.asl_code.specs.Reading.{instr_of}
+use Rattle.asl_loader.specs.declared.fault.LoadFault.{LoadFault}
+use Rattle.asl_loader.specs.declared.fault.LoadFault.TheVariants.{Magic, Version, Truncated, BadField, Trailing}
 use Rattle.asl_loader.specs.declared.fault.Stop.{Stop}
 use Rattle.asl_loader.specs.declared.fault.Stop.TheVariants.{Short, Bad}
 use Rattle.asl_loader.specs.declared.fault.ReadError.{ReadError}
@@ -35,11 +38,12 @@ abbrev pub Gives : {X Y : Type 0} → (X → Y) → Result X ReadError → Resul
 Gives view (Ok x) read = read ≡ Ok (view x)
 Gives view (Err e) read = Fails e read
 
--- a byte, and a number of so many bytes
+-- a byte
 unfoldable pub byte_at : List ℕ → Result (ℕ × List ℕ) Stop
 byte_at [] = Err Short
 byte_at (b ∷ rest) = Ok (b, rest)
 
+-- a number of so many bytes
 abbrev pub number_at : Width → List ℕ → Result (ℕ × List ℕ) Stop
 number_at w bytes = if nat_lt (length bytes) (byte_len w) then Err Short else Ok (from_be_bytes w (take (byte_len w) bytes), drop (byte_len w) bytes)
 
@@ -168,3 +172,25 @@ image_at bytes = do
   code ← counted_at instr_at start.1
   lists ← counted_at list_at code.1
   Ok (record { version = version.0; classes = classes.0; globals = globals.0; functions = functions.0; start = start.0; code = code.0; lists = lists.0 }, lists.1)
+
+-- the fault of a bad byte
+abbrev pub bad_fault : ℕ → LoadFault
+bad_fault at = if at == 0 then Magic else if at == 4 then Version else BadField at
+
+-- the fault of what stopped the reading of so many bytes
+abbrev pub stop_fault : Stop → ℕ → LoadFault
+stop_fault Short len = Truncated len
+stop_fault (Bad left) len = bad_fault (len - left)
+
+-- an image, if no bytes are left
+abbrev pub ended : Image → ℕ → ℕ → Result Image LoadFault
+ended image left len = if left == 0 then Ok image else Err (Trailing (len - left))
+
+-- the image that was read, or the fault
+abbrev pub whole_from : ℕ → Result (Image × List ℕ) Stop → Result Image LoadFault
+whole_from len (Ok x) = ended x.0 (length x.1) len
+whole_from len (Err stop) = Err (stop_fault stop len)
+
+-- the image of all the bytes
+unfoldable pub whole_of : List ℕ → Result Image LoadFault
+whole_of bytes = whole_from (length bytes) (image_at bytes)

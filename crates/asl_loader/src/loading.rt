@@ -2,7 +2,8 @@ ghost use Rattle.std.specs.Prelude.{◌≡◌, ◌≤◌, ◌⊎◌, length, IfO
 ghost use Rattle.asl_code.specs.declared.image.Image.{Image};
 ghost use Rattle.asl_code.specs.Verified.{IsVerified};
 ghost use Rattle.asl_loader.specs.Bytes.{SpellsImage};
-ghost use Rattle.asl_loader.specs.Faults.{IsFault, bad_fault, whole_of};
+ghost use Rattle.asl_loader.specs.Faults.{IsFault};
+ghost use Rattle.asl_loader.specs.Reading.{bad_fault, whole_of};
 
 use crate::fault::{LoadFault, ReadError, Stop};
 use crate::reading::image_at;
@@ -27,7 +28,7 @@ pub fn load(alloc: Global, bytes: &[u8]) -> Result<Program, LoadFault>
 }
 
 /// The image of all the bytes, before it is judged.
-#[tactic(auto, unfolding(crate::specs::Faults::whole_of))]
+#[tactic(auto, unfolding(crate::specs::Reading::whole_of))]
 fn whole_of(alloc: Global, bytes: &[u8]) -> Result<Image, LoadFault>
     ensures { (result ≡ Err LoadFault.OutOfMemory) ⊎ (result ≡ whole_of bytes.now) }
 {
