@@ -1,4 +1,5 @@
--- What the writers of src/ add to the text before: private names for the parts of the canonical text of specs/Canonical.
+-- What the writers of src/ add to the text before (docs/ASSEMBLY.md, "Canonical text"): private names for the parts of the
+-- canonical text of specs/Canonical.
 -- No public contract cites them.
 use Rattle.std.specs.Prelude.{◌≡◌, ℕ, List, ◌++◌, codes}
 use Rattle.std.specs.List.{flat_map, AllByRecursion}
@@ -25,48 +26,58 @@ pub record WritesEach (X : Type 0) (Fits : X → Type 0) (text_of : X → List �
 abbrev pub WritesLine : List ℕ → List ℕ → Line → Type 0
 WritesLine old new l = Writes Line FitsLine line_text old new l
 
--- the word of the base of an expression
+-- the number of the base of an expression fits
 abbrev pub FitsBaseWord : Base → Type 0
 FitsBaseWord b = FitsField (base_token b)
 
+-- how the base of an expression is written
 abbrev pub base_text : Base → List ℕ
 base_text b = word_of (base_token b)
 
--- the word of an operation of a path, behind a space
+-- the number of an operation of a path fits
 abbrev pub FitsOpWord : Op → Type 0
 FitsOpWord o = FitsField (op_token o)
 
+-- how an operation of a path is written, behind a space
 abbrev pub op_text : Op → List ℕ
 op_text o = codes " " ++ word_of (op_token o)
 
--- the line of a global with its class, of an instruction, of a lock
+-- the number of the line of a global, its class, fits
 abbrev pub FitsGlobalLine : ℕ → Type 0
 FitsGlobalLine class = FitsLine (line.Global class)
 
+-- how the line of a global is written
 abbrev pub global_text : ℕ → List ℕ
 global_text class = line_text (line.Global class)
 
+-- the numbers of the line of an instruction fit
 abbrev pub FitsInstrLine : Instr → Type 0
 FitsInstrLine i = FitsLine (line.Instruction i)
 
+-- how the line of an instruction is written
 abbrev pub instr_text : Instr → List ℕ
 instr_text i = line_text (line.Instruction i)
 
+-- the numbers of the line of a lock, and its path, fit
 abbrev pub FitsLockLine : Lock → Type 0
 FitsLockLine l = FitsLine (line.Lock l)
 
+-- how the line of a lock is written
 abbrev pub lock_text : Lock → List ℕ
 lock_text l = line_text (line.Lock l)
 
--- the lines of a function, and of a lock list
+-- the lines of a function fit
 abbrev pub FitsBodyLines : Body → Type 0
 FitsBodyLines b = AllByRecursion FitsLine (function_lines b)
 
+-- how the lines of a function are written
 abbrev pub body_text : Body → List ℕ
 body_text b = flat_map line_text (function_lines b)
 
+-- the lines of a lock list fit
 abbrev pub FitsListLines : List Lock → Type 0
 FitsListLines locks = AllByRecursion FitsLine (list_lines locks)
 
+-- how the lines of a lock list are written
 abbrev pub list_text : List Lock → List ℕ
 list_text locks = flat_map line_text (list_lines locks)
