@@ -1,5 +1,5 @@
 -- A text has one outcome: what the reader answers for it, judged where it is an image.
-use Rattle.std.proofs.Common.{◌≡◌, ℕ, List, Result, Ok, Err, refl, sym, ap, subst, ◌∙◌, inl, inr}
+use Rattle.std.proofs.Common.{◌≡◌, ℕ, List, Result, Ok, Err, refl, ap, subst, inl, inr}
 use Rattle.asl_code.specs.declared.fault.VerifyFault.{VerifyFault}
 use Rattle.asl_code.specs.declared.image.Image.{Image}
 use Rattle.asl_code.specs.Verified.{IsAnswer, IsVerified}
@@ -8,8 +8,8 @@ use Rattle.asl_assembler.specs.declared.assembly.AsmFault.{AsmFault}
 use Rattle.asl_assembler.specs.declared.assembly.AsmFault.TheVariants.{Line, Verify, OutOfMemory}
 use Rattle.asl_assembler.specs.declared.draft.Place.TheVariants.{Version}
 use Rattle.asl_assembler.specs.Words.{lines_of}
-use Rattle.asl_assembler.specs.Text.{Spells, IsBadLine}
-use Rattle.asl_assembler.specs.Faults.{IsFault, IsOutcome}
+use Rattle.asl_assembler.specs.Text.{Spells}
+use Rattle.asl_assembler.specs.Faults.{IsOutcome}
 use Rattle.asl_assembler.specs.Reading.{image_from, blank_image}
 use Rattle.asl_assembler.proofs.Texts.{image_spelled, one_image, one_line, bad_line, not_both}
 

@@ -1,5 +1,5 @@
 -- Why a text is no program, and what a text's one outcome is (docs/ASSEMBLY.md, docs/LIMITS.md).
-use Rattle.std.specs.Prelude.{◌≡◌, ◌≢◌, ℕ, List, Result, Ok, Err}
+use Rattle.std.specs.Prelude.{◌≢◌, ℕ, List, Result, Ok, Err}
 use Rattle.asl_code.specs.declared.image.Image.{Image}
 use Rattle.asl_code.specs.Verified.{IsVerified, IsAnswer}
 use Rattle.asl_assembler.specs.Words.{lines_of}

@@ -126,7 +126,7 @@ list_lines locks = line.List ∷ map line.Lock locks
 abbrev pub lines_in : Listing → List Line
 lines_in l = line.Version ∷ line.Classes l.classes ∷ (map line.Global l.globals ++ line.Entry l.start ∷ (flat_map function_lines l.functions ++ flat_map list_lines l.lists))
 
--- A function's length is a number of 32 bits: a longer one, which is past every limit, is given the greatest (docs/LIMITS.md)
+-- A function's length is a number of 32 bits: a longer one, which is past every limit, is given the greatest (docs/DECISIONS.md)
 abbrev pub shortened : ℕ → ℕ
 shortened n = min n (2 ^ 32 - 1)
 

@@ -1,7 +1,7 @@
 use Rattle.std.proofs.Common.{◌≡◌, true, false, inl}
 use Rattle.asl_code.specs.Verified.{IsAnswer, applies}
 use Rattle.asl_assembler.specs.Words.{lines_of}
-use Rattle.asl_assembler.specs.Text.{Spells, IsBadLine}
+use Rattle.asl_assembler.specs.Text.{Spells}
 use Rattle.asl_assembler.proofs.Texts.{image_spelled, one_image, bad_line, not_both}
 use Rattle.asl_assembler.proofs.assembly.assemble.Goals as goal
 
