@@ -1,4 +1,4 @@
--- What is wrong with bytes that are those of no program (docs/BYTES.md, "Images").
+-- What is wrong with bytes that are those of no program, and what the one outcome of bytes is (docs/BYTES.md, "Images").
 use Rattle.std.specs.Prelude.{◌≡◌, ◌≢◌, ℕ, ◌<◌, List, length, take, All, Result, Ok, Err}
 use Rattle.asl_code.specs.declared.image.Image.{Image}
 use Rattle.asl_code.specs.Verified.{IsAnswer, IsVerified}
@@ -35,11 +35,11 @@ abbrev pub IsOutcome : List ℕ → Result Image LoadFault → Type 0
 IsOutcome bytes (Ok image) = IsLoaded bytes image
 IsOutcome bytes (Err fault) = IsFault bytes fault × (fault ≢ OutOfMemory)
 
--- bytes have an outcome (docs/BYTES.md, "Images")
+-- any bytes have an outcome (docs/BYTES.md, "Images")
 abbrev pub BytesHaveAnOutcome : Type 0
 BytesHaveAnOutcome = (bytes : List ℕ) → All (λ b. b < 256) bytes → (outcome : Result Image LoadFault) × IsOutcome bytes outcome
 
--- and no other one (docs/BYTES.md, "Images")
+-- and they have no other (docs/BYTES.md, "Images")
 abbrev pub OutcomeIsOne : Type 0
 OutcomeIsOne =
     (bytes : List ℕ) (outcome other : Result Image LoadFault) → All (λ b. b < 256) bytes → IsOutcome bytes outcome → IsOutcome bytes other
