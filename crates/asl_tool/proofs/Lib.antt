@@ -2,3 +2,4 @@ mod Writing
 mod Texts
 mod Lines
 mod Runs
+mod Outcomes

@@ -2,6 +2,7 @@
 use Rattle.std.specs.Prelude.{◌≡◌, ℕ, List}
 use Rattle.asl_code.specs.declared.image.Image.{Image}
 use Rattle.asl_assembler.specs.Canonical.{canonical_text}
+use Rattle.asl_assembler.specs.Faults as text
 use Rattle.asl_loader.specs.Bytes.{SpellsImage}
 use Rattle.asl_loader.specs.Faults as bytes
 use Rattle.asl_tool.specs.declared.program.ProgramFault.TheVariants as program
@@ -9,7 +10,7 @@ use Rattle.asl_tool.specs.declared.command.Command.{Command}
 use Rattle.asl_tool.specs.declared.command.Command.TheVariants as command
 use Rattle.asl_tool.specs.declared.command.CommandFault.{CommandFault}
 use Rattle.asl_tool.specs.declared.command.CommandFault.TheVariants as fault
-use Rattle.asl_tool.specs.Program.{IsProgramText, IsProgramImage, IsBadText, IsNoProgram}
+use Rattle.asl_tool.specs.Program.{IsProgramText, IsProgramImage, IsNoProgram}
 use Rattle.asl_tool.specs.Step.{IsStepped, HasRefusedRun}
 
 -- the text is a program, and the bytes are its image
@@ -38,9 +39,9 @@ IsRefusedStep input threads schedule fault.OutOfMemory = Unit {0}
 
 -- what each refusal of `asm` says of the text: a machine has no part in it
 abbrev pub IsRefusedText : List ℕ → CommandFault → Type 0
-IsRefusedText text (fault.Program (program.Text cause)) = IsBadText text cause
-IsRefusedText text fault.OutOfMemory = Unit {0}
-IsRefusedText text f = ⊥
+IsRefusedText input (fault.Program (program.Text cause)) = text.IsFault input cause
+IsRefusedText input fault.OutOfMemory = Unit {0}
+IsRefusedText input f = ⊥
 
 -- what each refusal of `dis` says of the image
 abbrev pub IsRefusedImage : List ℕ → CommandFault → Type 0

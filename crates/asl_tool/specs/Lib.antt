@@ -3,4 +3,5 @@ pub mod Output
 pub mod Program
 pub mod Step
 pub mod Command
+pub mod Outcome
 pub mod Tool

@@ -4,6 +4,7 @@
 mod command;
 #[cfg(test)]
 mod fakes;
+pub mod laws;
 mod program;
 mod replies;
 mod step;

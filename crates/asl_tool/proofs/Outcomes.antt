@@ -1,0 +1,209 @@
+-- A command has one outcome at the most: its program is one, and what is made of it is one.
+use Rattle.std.proofs.Common.{◌≡◌, ◌≢◌, ℕ, ◌<◌, ◌⊎◌, inl, inr, List, take, codes, All, Result, Ok, Err, MatchResult, refl, sym, ap, ◌∙◌, subst}
+use Rattle.std.proofs.lemmas.Bool.{both_ways, cases_Bool}
+use Rattle.std.proofs.lemmas.Slice.Eq.{bytes_eq-Decides}
+use Rattle.std.specs.Str.{bytes_eq}
+use Rattle.asl_code.specs.declared.image.Image.{Image}
+use Rattle.asl_assembler.specs.declared.assembly.AsmFault.{AsmFault}
+use Rattle.asl_assembler.specs.declared.assembly.AsmFault.TheVariants as asm
+use Rattle.asl_assembler.specs.Faults as text
+use Rattle.asl_assembler.specs.Canonical.{canonical_text}
+use Rattle.asl_loader.specs.declared.fault.LoadFault.{LoadFault}
+use Rattle.asl_loader.specs.declared.fault.LoadFault.TheVariants as load
+use Rattle.asl_loader.specs.Faults as bytes
+use Rattle.asl_loader.specs.Bytes.{SpellsImage}
+use Rattle.asl_machine.specs.declared.fault.MachineFault.{MachineFault}
+use Rattle.asl_machine.specs.declared.fault.MachineFault.TheVariants as machine
+use Rattle.asl_tool.specs.declared.program.ProgramFault.{ProgramFault}
+use Rattle.asl_tool.specs.declared.program.ProgramFault.TheVariants as program
+use Rattle.asl_tool.specs.declared.command.Command.{Command}
+use Rattle.asl_tool.specs.declared.command.Command.TheVariants as command
+use Rattle.asl_tool.specs.declared.command.CommandFault.{CommandFault}
+use Rattle.asl_tool.specs.declared.command.CommandFault.TheVariants as fault
+use Rattle.asl_tool.specs.Program.{BeginsAsImage, IsProgram, IsNoProgram}
+use Rattle.asl_tool.specs.Step.{IsRun, IsStepped, IsRefusedRun}
+use Rattle.asl_tool.specs.Command.{IsAssembled, IsDisassembled, IsOutput, IsRefused, IsRefusedStep, IsRefusedText, IsRefusedImage}
+use Rattle.asl_tool.specs.Outcome.{IsWantOfMemory, IsOutcome}
+
+-- what the laws of texts and of bytes say
+abbrev pub TextsAreOne : Type 0
+TextsAreOne = (t : List ℕ) (outcome other : Result Image AsmFault) → text.IsOutcome t outcome → text.IsOutcome t other → outcome ≡ other
+
+abbrev pub BytesAreOne : Type 0
+BytesAreOne = (bs : List ℕ) (outcome other : Result Image LoadFault) → All (λ b. b < 256) bs → bytes.IsOutcome bs outcome → bytes.IsOutcome bs other → outcome ≡ other
+
+-- ---- the program of an input
+
+begins : (input : List ℕ) → BeginsAsImage input ⊎ (BeginsAsImage input → ⊥)
+begins input =
+    let d = bytes_eq-Decides (take 4 input) (codes "ASLM") in
+    elim (cases_Bool (bytes_eq (take 4 input) (codes "ASLM"))) [
+      | inl so ↦ inl (d.0 so)
+      | inr not_so ↦ inr (λ is. both_ways _ not_so (d.1 is))
+    ]
+
+-- the program that an input is, or why it is none
+abbrev ProgramOutcome : List ℕ → Result Image ProgramFault → Type 0
+ProgramOutcome input (Ok image) = IsProgram input image
+ProgramOutcome input (Err f) = IsNoProgram input f × (IsWantOfMemory (fault.Program f) → ⊥)
+
+abbrev from_bytes : Result Image LoadFault → Result Image ProgramFault
+from_bytes (Ok image) = Ok image
+from_bytes (Err f) = Err (program.Image f)
+
+abbrev from_text : Result Image AsmFault → Result Image ProgramFault
+from_text (Ok image) = Ok image
+from_text (Err f) = Err (program.Text f)
+
+no_memory_image : (f : LoadFault) → (IsWantOfMemory (fault.Program (program.Image f)) → ⊥) → f ≢ load.OutOfMemory
+no_memory_image f tells e = tells (subst (λ (g : LoadFault). IsWantOfMemory (fault.Program (program.Image g))) (sym e) tt)
+
+no_memory_text : (f : AsmFault) → (IsWantOfMemory (fault.Program (program.Text f)) → ⊥) → f ≢ asm.OutOfMemory
+no_memory_text f tells e = tells (subst (λ (g : AsmFault). IsWantOfMemory (fault.Program (program.Text g))) (sym e) tt)
+
+as_bytes : (input : List ℕ) (o : Result Image ProgramFault) → BeginsAsImage input → ProgramOutcome input o → (r : Result Image LoadFault) × (o ≡ from_bytes r) × bytes.IsOutcome input r
+as_bytes input (Ok image) y p = let k = p.as_image y in (Ok image, refl, (k.spelled, k.verified))
+as_bytes input (Err (program.Image f)) y p = (Err f, refl, (p.0.1, no_memory_image f p.1))
+as_bytes input (Err (program.Text f)) y p = absurd (p.0.0 y)
+
+as_text : (input : List ℕ) (o : Result Image ProgramFault) → (BeginsAsImage input → ⊥) → ProgramOutcome input o → (r : Result Image AsmFault) × (o ≡ from_text r) × text.IsOutcome input r
+as_text input (Ok image) n p = let k = p.as_text n in (Ok image, refl, (k.spelled, k.verified))
+as_text input (Err (program.Image f)) n p = absurd (n p.0.0)
+as_text input (Err (program.Text f)) n p = (Err f, refl, (p.0.1, no_memory_text f p.1))
+
+program_one : TextsAreOne → BytesAreOne → (input : List ℕ) (o p : Result Image ProgramFault) → All (λ b. b < 256) input → ProgramOutcome input o → ProgramOutcome input p → o ≡ p
+program_one texts bytes input o p all x z =
+    elim (begins input) [
+      | inl y ↦ (let a = as_bytes input o y x in let b = as_bytes input p y z in
+          a.1 ∙ ap from_bytes (bytes input a.0 b.0 all a.2 b.2) ∙ sym b.1)
+      | inr n ↦ (let a = as_text input o n x in let b = as_text input p n z in
+          a.1 ∙ ap from_text (texts input a.0 b.0 a.2 b.2) ∙ sym b.1)
+    ]
+
+-- ---- a run
+
+-- the output of a run, or why the program is not run
+abbrev RunOutcome : Image → ℕ → List ℕ → Result (List ℕ) MachineFault → Type 0
+RunOutcome image n schedule (Ok output) = IsRun image n schedule output
+RunOutcome image n schedule (Err f) = IsRefusedRun n schedule f × (f ≢ machine.OutOfMemory)
+
+run_one : (image : Image) (n : ℕ) (schedule : List ℕ) (o p : Result (List ℕ) MachineFault) → RunOutcome image n schedule o → RunOutcome image n schedule p → o ≡ p
+run_one image n schedule (Ok a) (Ok b) x y = ap Ok (x.output ∙ sym y.output)
+run_one image n schedule (Ok a) (Err machine.BadCount) x y = absurd (y.0 x.count)
+run_one image n schedule (Ok a) (Err machine.BadThread) x y = absurd (y.0.1 x.there)
+run_one image n schedule (Ok a) (Err machine.OutOfMemory) x y = absurd (y.1 refl)
+run_one image n schedule (Err machine.BadCount) (Ok b) x y = absurd (x.0 y.count)
+run_one image n schedule (Err machine.BadCount) (Err machine.BadCount) x y = refl
+run_one image n schedule (Err machine.BadCount) (Err machine.BadThread) x y = absurd (x.0 y.0.0)
+run_one image n schedule (Err machine.BadCount) (Err machine.OutOfMemory) x y = absurd (y.1 refl)
+run_one image n schedule (Err machine.BadThread) (Ok b) x y = absurd (x.0.1 y.there)
+run_one image n schedule (Err machine.BadThread) (Err machine.BadCount) x y = absurd (y.0 x.0.0)
+run_one image n schedule (Err machine.BadThread) (Err machine.BadThread) x y = refl
+run_one image n schedule (Err machine.BadThread) (Err machine.OutOfMemory) x y = absurd (y.1 refl)
+run_one image n schedule (Err machine.OutOfMemory) p x y = absurd (x.1 refl)
+
+abbrev from_run : Result (List ℕ) MachineFault → Result (List ℕ) CommandFault
+from_run (Ok output) = Ok output
+from_run (Err f) = Err (fault.Machine f)
+
+no_memory_run : (f : MachineFault) → (IsWantOfMemory (fault.Machine f) → ⊥) → f ≢ machine.OutOfMemory
+no_memory_run f tells e = tells (subst (λ (g : MachineFault). IsWantOfMemory (fault.Machine g)) (sym e) tt)
+
+-- ---- `step`
+
+-- what a program, or none, makes of a run
+abbrev StepForm : ℕ → List ℕ → Result Image ProgramFault → Result (List ℕ) CommandFault → Type 0
+StepForm n schedule (Ok image) o = (r : Result (List ℕ) MachineFault) × (o ≡ from_run r) × RunOutcome image n schedule r
+StepForm n schedule (Err f) o = o ≡ Err (fault.Program f)
+
+abbrev IsStepOutcome : ℕ → List ℕ → List ℕ → Result (List ℕ) CommandFault → Type 0
+IsStepOutcome n schedule input o = (q : Result Image ProgramFault) × ProgramOutcome input q × StepForm n schedule q o
+
+step_form_one : (n : ℕ) (schedule : List ℕ) (q : Result Image ProgramFault) (o p : Result (List ℕ) CommandFault) → StepForm n schedule q o → StepForm n schedule q p → o ≡ p
+step_form_one n schedule (Ok image) o p x y = x.1 ∙ ap from_run (run_one image n schedule x.0 y.0 x.2 y.2) ∙ sym y.1
+step_form_one n schedule (Err f) o p x y = x ∙ sym y
+
+step_one : TextsAreOne → BytesAreOne → (n : ℕ) (schedule input : List ℕ) (o p : Result (List ℕ) CommandFault) → All (λ b. b < 256) input → IsStepOutcome n schedule input o → IsStepOutcome n schedule input p → o ≡ p
+step_one texts bytes n schedule input o p all x y =
+    let same : y.0 ≡ x.0 = program_one texts bytes input y.0 x.0 all y.1 x.1 in
+    step_form_one n schedule x.0 o p x.2 (subst (λ (q : Result Image ProgramFault). StepForm n schedule q p) same y.2)
+
+step_ok : (n : ℕ) (schedule input output : List ℕ) → IsStepped input n schedule output → IsStepOutcome n schedule input (Ok output)
+step_ok n schedule input output x = (Ok x.image, x.program, (Ok output, refl, x.run))
+
+step_err : (n : ℕ) (schedule input : List ℕ) (f : CommandFault) → IsRefusedStep input n schedule f → (IsWantOfMemory f → ⊥) → IsStepOutcome n schedule input (Err f)
+step_err n schedule input (fault.Program cause) x tells = (Err cause, (x, tells), refl)
+step_err n schedule input (fault.Machine cause) x tells = (Ok x.image, x.program, (Err cause, refl, (x.refused, no_memory_run cause tells)))
+step_err n schedule input fault.OutOfMemory x tells = absurd (tells tt)
+
+step_is : (n : ℕ) (schedule input : List ℕ) (o : Result (List ℕ) CommandFault) → MatchResult o (λ output. IsStepped input n schedule output) (λ f. IsRefusedStep input n schedule f × (IsWantOfMemory f → ⊥)) → IsStepOutcome n schedule input o
+step_is n schedule input (Ok output) x = step_ok n schedule input output x
+step_is n schedule input (Err f) x = step_err n schedule input f x.0 x.1
+
+-- ---- `asm`
+
+abbrev TextForm : Result Image AsmFault → Result (List ℕ) CommandFault → Type 0
+TextForm (Ok image) o = (output : List ℕ) × (o ≡ Ok output) × SpellsImage image output
+TextForm (Err f) o = o ≡ Err (fault.Program (program.Text f))
+
+abbrev IsTextOutcome : List ℕ → Result (List ℕ) CommandFault → Type 0
+IsTextOutcome input o = (r : Result Image AsmFault) × text.IsOutcome input r × TextForm r o
+
+text_form_one : (r : Result Image AsmFault) (o p : Result (List ℕ) CommandFault) → TextForm r o → TextForm r p → o ≡ p
+text_form_one (Ok image) o p x y = x.1 ∙ ap Ok (x.2.spelled ∙ sym y.2.spelled) ∙ sym y.1
+text_form_one (Err f) o p x y = x ∙ sym y
+
+text_is : (input : List ℕ) (o : Result (List ℕ) CommandFault) → MatchResult o (λ output. IsAssembled input output) (λ f. IsRefusedText input f × (IsWantOfMemory f → ⊥)) → IsTextOutcome input o
+text_is input (Ok output) x = (Ok x.image, (x.program.spelled, x.program.verified), (output, refl, x.spelled))
+text_is input (Err (fault.Program (program.Text cause))) x = (Err cause, (x.0, no_memory_text cause x.1), refl)
+text_is input (Err (fault.Program (program.Image cause))) x = absurd x.0
+text_is input (Err (fault.Machine cause)) x = absurd x.0
+text_is input (Err fault.OutOfMemory) x = absurd (x.1 tt)
+
+text_one : TextsAreOne → (input : List ℕ) (o p : Result (List ℕ) CommandFault) → IsTextOutcome input o → IsTextOutcome input p → o ≡ p
+text_one texts input o p x y =
+    let same : y.0 ≡ x.0 = texts input y.0 x.0 y.1 x.1 in
+    text_form_one x.0 o p x.2 (subst (λ (r : Result Image AsmFault). TextForm r p) same y.2)
+
+-- ---- `dis`
+
+abbrev ImageForm : Result Image LoadFault → Result (List ℕ) CommandFault → Type 0
+ImageForm (Ok image) o = o ≡ Ok (canonical_text image)
+ImageForm (Err f) o = o ≡ Err (fault.Program (program.Image f))
+
+abbrev IsImageOutcome : List ℕ → Result (List ℕ) CommandFault → Type 0
+IsImageOutcome input o = (r : Result Image LoadFault) × bytes.IsOutcome input r × ImageForm r o
+
+image_form_one : (r : Result Image LoadFault) (o p : Result (List ℕ) CommandFault) → ImageForm r o → ImageForm r p → o ≡ p
+image_form_one (Ok image) o p x y = x ∙ sym y
+image_form_one (Err f) o p x y = x ∙ sym y
+
+image_is : (input : List ℕ) (o : Result (List ℕ) CommandFault) → MatchResult o (λ output. IsDisassembled input output) (λ f. IsRefusedImage input f × (IsWantOfMemory f → ⊥)) → IsImageOutcome input o
+image_is input (Ok output) x = (Ok x.image, (x.program.spelled, x.program.verified), ap Ok x.canonical)
+image_is input (Err (fault.Program (program.Image cause))) x = (Err cause, (x.0, no_memory_image cause x.1), refl)
+image_is input (Err (fault.Program (program.Text cause))) x = absurd x.0
+image_is input (Err (fault.Machine cause)) x = absurd x.0
+image_is input (Err fault.OutOfMemory) x = absurd (x.1 tt)
+
+image_one : BytesAreOne → (input : List ℕ) (o p : Result (List ℕ) CommandFault) → All (λ b. b < 256) input → IsImageOutcome input o → IsImageOutcome input p → o ≡ p
+image_one bytes input o p all x y =
+    let same : y.0 ≡ x.0 = bytes input y.0 x.0 all y.1 x.1 in
+    image_form_one x.0 o p x.2 (subst (λ (r : Result Image LoadFault). ImageForm r p) same y.2)
+
+-- ---- each command
+
+-- an outcome, by its two cases
+abbrev Cases : Command → List ℕ → Result (List ℕ) CommandFault → Type 0
+Cases c input o = MatchResult o (λ output. IsOutput c input output) (λ f. IsRefused c input f × (IsWantOfMemory f → ⊥))
+
+cases : (c : Command) (input : List ℕ) (o : Result (List ℕ) CommandFault) → IsOutcome c input o → Cases c input o
+cases c input (Ok output) x = x
+cases c input (Err f) x = x
+
+pub one_outcome : TextsAreOne → BytesAreOne → (c : Command) (input : List ℕ) (o p : Result (List ℕ) CommandFault) → All (λ b. b < 256) input → IsOutcome c input o → IsOutcome c input p → o ≡ p
+one_outcome texts bytes (command.Step n schedule) input o p all x y =
+    step_one texts bytes n schedule.items input o p all (step_is n schedule.items input o (cases (command.Step n schedule) input o x)) (step_is n schedule.items input p (cases (command.Step n schedule) input p y))
+one_outcome texts bytes command.Assemble input o p all x y =
+    text_one texts input o p (text_is input o (cases command.Assemble input o x)) (text_is input p (cases command.Assemble input p y))
+one_outcome texts bytes command.Disassemble input o p all x y =
+    image_one bytes input o p all (image_is input o (cases command.Disassemble input o x)) (image_is input p (cases command.Disassemble input p y))

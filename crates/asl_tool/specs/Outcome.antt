@@ -1,0 +1,23 @@
+-- The one outcome of a command for an input, where memory is there (docs/LIMITS.md, "Refusals of the program asl").
+use Rattle.std.specs.Prelude.{ℕ, List, Result, Ok, Err}
+use Rattle.asl_assembler.specs.declared.assembly.AsmFault.TheVariants as asm
+use Rattle.asl_loader.specs.declared.fault.LoadFault.TheVariants as load
+use Rattle.asl_machine.specs.declared.fault.MachineFault.TheVariants as machine
+use Rattle.asl_tool.specs.declared.program.ProgramFault.TheVariants as program
+use Rattle.asl_tool.specs.declared.command.Command.{Command}
+use Rattle.asl_tool.specs.declared.command.CommandFault.{CommandFault}
+use Rattle.asl_tool.specs.declared.command.CommandFault.TheVariants as fault
+use Rattle.asl_tool.specs.Command.{IsOutput, IsRefused}
+
+-- memory ran out, wherever: that says nothing of the input
+abbrev pub IsWantOfMemory : CommandFault → Type 0
+IsWantOfMemory (fault.Program (program.Text asm.OutOfMemory)) = Unit {0}
+IsWantOfMemory (fault.Program (program.Image load.OutOfMemory)) = Unit {0}
+IsWantOfMemory (fault.Machine machine.OutOfMemory) = Unit {0}
+IsWantOfMemory fault.OutOfMemory = Unit {0}
+IsWantOfMemory f = ⊥
+
+-- the command's output for the input, or the refusal that the input meets
+abbrev pub IsOutcome : Command → List ℕ → Result (List ℕ) CommandFault → Type 0
+IsOutcome command input (Ok output) = IsOutput command input output
+IsOutcome command input (Err f) = IsRefused command input f × (IsWantOfMemory f → ⊥)
