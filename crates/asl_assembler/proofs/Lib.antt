@@ -14,3 +14,4 @@ pub mod Bodies
 pub mod Decimals
 pub mod Lines
 pub mod Canonicals
+pub mod Spelled

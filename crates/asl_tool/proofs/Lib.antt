@@ -2,4 +2,5 @@ mod Writing
 mod Texts
 mod Lines
 mod Runs
+mod Stored
 mod Outcomes

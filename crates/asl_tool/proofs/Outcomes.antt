@@ -1,6 +1,8 @@
--- A command has one outcome at the most: its program is one, and what is made of it is one.
-use Rattle.std.proofs.Common.{◌≡◌, ◌≢◌, ℕ, ◌<◌, ◌⊎◌, inl, inr, List, take, codes, All, Result, Ok, Err, MatchResult, refl, sym, ap, ◌∙◌, subst}
-use Rattle.std.proofs.lemmas.Bool.{both_ways, cases_Bool}
+-- A command has one outcome: its program is one, and what is made of it is one.
+use Rattle.std.proofs.Common.{◌≡◌, ◌≢◌, ℕ, ◌<◌, ◌⊎◌, inl, inr, List, [], ◌∷◌, take, arith, codes, All, Result, Ok, Err, MatchResult, refl, sym, ap, ◌∙◌, subst}
+use Rattle.std.proofs.lemmas.Bool.{both_ways, cases_Bool, cases_lt}
+use Rattle.std.specs.List.{AllByRecursion}
+use Rattle.std.proofs.lemmas.List.Elements.{All-from_recursion, recursion_from_All}
 use Rattle.std.proofs.lemmas.Slice.Eq.{bytes_eq-Decides}
 use Rattle.std.specs.Str.{bytes_eq}
 use Rattle.asl_code.specs.declared.image.Image.{Image}
@@ -21,13 +23,21 @@ use Rattle.asl_tool.specs.declared.command.Command.TheVariants as command
 use Rattle.asl_tool.specs.declared.command.CommandFault.{CommandFault}
 use Rattle.asl_tool.specs.declared.command.CommandFault.TheVariants as fault
 use Rattle.asl_tool.specs.Program.{BeginsAsImage, IsProgram, IsNoProgram}
-use Rattle.asl_tool.specs.Step.{IsRun, IsStepped, IsRefusedRun}
+use Rattle.asl_tool.specs.Step.{IsCount, IsRun, IsStepped, IsRefusedRun}
 use Rattle.asl_tool.specs.Command.{IsAssembled, IsDisassembled, IsOutput, IsRefused, IsRefusedStep, IsRefusedText, IsRefusedImage}
+use Rattle.asl_tool.proofs.Stored.{stored}
+use Rattle.asl_tool.specs.Output.{step_output}
 use Rattle.asl_tool.specs.Outcome.{IsWantOfMemory, IsOutcome}
 
 -- what the laws of texts and of bytes say
 abbrev pub TextsAreOne : Type 0
 TextsAreOne = (t : List ℕ) (outcome other : Result Image AsmFault) → text.IsOutcome t outcome → text.IsOutcome t other → outcome ≡ other
+
+abbrev pub TextsHaveOne : Type 0
+TextsHaveOne = (t : List ℕ) → (outcome : Result Image AsmFault) × text.IsOutcome t outcome
+
+abbrev pub BytesHaveOne : Type 0
+BytesHaveOne = (bs : List ℕ) → All (λ b. b < 256) bs → (outcome : Result Image LoadFault) × bytes.IsOutcome bs outcome
 
 abbrev pub BytesAreOne : Type 0
 BytesAreOne = (bs : List ℕ) (outcome other : Result Image LoadFault) → All (λ b. b < 256) bs → bytes.IsOutcome bs outcome → bytes.IsOutcome bs other → outcome ≡ other
@@ -207,3 +217,108 @@ one_outcome texts bytes command.Assemble input o p all x y =
     text_one texts input o p (text_is input o (cases command.Assemble input o x)) (text_is input p (cases command.Assemble input p y))
 one_outcome texts bytes command.Disassemble input o p all x y =
     image_one bytes input o p all (image_is input o (cases command.Disassemble input o x)) (image_is input p (cases command.Disassemble input p y))
+
+-- ---- there is one
+
+want_image : (f : LoadFault) → IsWantOfMemory (fault.Program (program.Image f)) → f ≡ load.OutOfMemory
+want_image load.OutOfMemory w = refl
+want_image load.Magic w = absurd w
+want_image load.Version w = absurd w
+want_image (load.Truncated at) w = absurd w
+want_image (load.BadField at) w = absurd w
+want_image (load.Trailing at) w = absurd w
+want_image (load.Verify cause) w = absurd w
+
+want_text : (f : AsmFault) → IsWantOfMemory (fault.Program (program.Text f)) → f ≡ asm.OutOfMemory
+want_text asm.OutOfMemory w = refl
+want_text (asm.Line number) w = absurd w
+want_text (asm.Verify cause) w = absurd w
+
+by_bytes : (input : List ℕ) (r : Result Image LoadFault) → BeginsAsImage input → bytes.IsOutcome input r → ProgramOutcome input (from_bytes r)
+by_bytes input (Ok image) y x = record { as_image = λ _. record { spelled = x.0; verified = x.1 }; as_text = λ n. absurd (n y) }
+by_bytes input (Err f) y x = ((y, x.0), λ w. x.1 (want_image f w))
+
+by_text : (input : List ℕ) (r : Result Image AsmFault) → (BeginsAsImage input → ⊥) → text.IsOutcome input r → ProgramOutcome input (from_text r)
+by_text input (Ok image) n x = record { as_image = λ y. absurd (n y); as_text = λ _. record { spelled = x.0; verified = x.1 } }
+by_text input (Err f) n x = ((n, x.0), λ w. x.1 (want_text f w))
+
+some_program : TextsHaveOne → BytesHaveOne → (input : List ℕ) → All (λ b. b < 256) input → (q : Result Image ProgramFault) × ProgramOutcome input q
+some_program texts bytes input all =
+    elim (begins input) [
+      | inl y ↦ (let r = bytes input all in (from_bytes r.0, by_bytes input r.0 y r.1))
+      | inr n ↦ (let r = texts input in (from_text r.0, by_text input r.0 n r.1))
+    ]
+
+counted : (n : ℕ) → IsCount n ⊎ (IsCount n → ⊥)
+counted n =
+    elim (cases_lt 0 n) [
+      | inl some ↦ elim (cases_lt 64 n) [
+        | inl many ↦ inr (λ c. absurd (omega (arith, many, c.few)))
+        | inr few ↦ inl (record { some = omega (arith, some); few = few })
+      ]
+      | inr none ↦ inr (λ c. absurd (omega (arith, none, c.some)))
+    ]
+
+there : (n : ℕ) (schedule : List ℕ) → AllByRecursion (λ t. t < n) schedule ⊎ (AllByRecursion (λ t. t < n) schedule → ⊥)
+there n [] = inl tt
+there n (t ∷ schedule) =
+    elim (cases_lt t n) [
+      | inl low ↦ elim (there n schedule) [
+        | inl rest ↦ inl (low, rest)
+        | inr missing ↦ inr (λ h. missing h.1)
+      ]
+      | inr high ↦ inr (λ h. absurd (omega (arith, high, h.0)))
+    ]
+
+some_run : (image : Image) (n : ℕ) (schedule : List ℕ) → (r : Result (List ℕ) MachineFault) × RunOutcome image n schedule r
+some_run image n schedule =
+    elim (counted n) [
+      | inl count ↦ elim (there n schedule) [
+        | inl each ↦ (Ok (step_output image n schedule), record { count = count; there = All-from_recursion (λ t. t < n) schedule each; output = refl })
+        | inr missing ↦ (Err machine.BadThread, ((count, λ each. missing (recursion_from_All (λ t. t < n) schedule each)), λ e. absurd cc))
+      ]
+      | inr none ↦ (Err machine.BadCount, (none, λ e. absurd cc))
+    ]
+
+-- what a run's outcome is to the command
+step_run : (n : ℕ) (schedule input : List ℕ) (image : Image) (r : Result (List ℕ) MachineFault) → IsProgram input image → RunOutcome image n schedule r
+    → MatchResult (from_run r) (λ output. IsStepped input n schedule output) (λ f. IsRefusedStep input n schedule f × (IsWantOfMemory f → ⊥))
+step_run n schedule input image (Ok output) p x = record { image = image; program = p; run = x }
+step_run n schedule input image (Err machine.BadCount) p x = (record { image = image; program = p; refused = x.0 }, λ w. absurd w)
+step_run n schedule input image (Err machine.BadThread) p x = (record { image = image; program = p; refused = x.0 }, λ w. absurd w)
+step_run n schedule input image (Err machine.OutOfMemory) p x = absurd (x.1 refl)
+
+some_step : (n : ℕ) (schedule input : List ℕ) (q : Result Image ProgramFault) → ProgramOutcome input q
+    → (o : Result (List ℕ) CommandFault) × MatchResult o (λ output. IsStepped input n schedule output) (λ f. IsRefusedStep input n schedule f × (IsWantOfMemory f → ⊥))
+some_step n schedule input (Ok image) p = let r = some_run image n schedule in (from_run r.0, step_run n schedule input image r.0 p r.1)
+some_step n schedule input (Err f) p = (Err (fault.Program f), (p.0, p.1))
+
+some_image : (input : List ℕ) (r : Result Image AsmFault) → text.IsOutcome input r
+    → (o : Result (List ℕ) CommandFault) × MatchResult o (λ output. IsAssembled input output) (λ f. IsRefusedText input f × (IsWantOfMemory f → ⊥))
+some_image input (Ok image) x =
+    let b = stored input image x.0 x.1 in
+    (Ok b.0, record { image = image; program = record { spelled = x.0; verified = x.1 }; spelled = b.1 })
+some_image input (Err f) x = (Err (fault.Program (program.Text f)), (x.0, λ w. x.1 (want_text f w)))
+
+some_text : (input : List ℕ) (r : Result Image LoadFault) → bytes.IsOutcome input r
+    → (o : Result (List ℕ) CommandFault) × MatchResult o (λ output. IsDisassembled input output) (λ f. IsRefusedImage input f × (IsWantOfMemory f → ⊥))
+some_text input (Ok image) x = (Ok (canonical_text image), record { image = image; program = record { spelled = x.0; verified = x.1 }; canonical = refl })
+some_text input (Err f) x = (Err (fault.Program (program.Image f)), (x.0, λ w. x.1 (want_image f w)))
+
+uncased : (c : Command) (input : List ℕ) (o : Result (List ℕ) CommandFault) → Cases c input o → IsOutcome c input o
+uncased c input (Ok output) x = x
+uncased c input (Err f) x = x
+
+pub some_outcome : TextsHaveOne → BytesHaveOne → (c : Command) (input : List ℕ) → All (λ b. b < 256) input → (o : Result (List ℕ) CommandFault) × IsOutcome c input o
+some_outcome texts bytes (command.Step n schedule) input all =
+    let q = some_program texts bytes input all in
+    let o = some_step n schedule.items input q.0 q.1 in
+    (o.0, uncased (command.Step n schedule) input o.0 o.1)
+some_outcome texts bytes command.Assemble input all =
+    let r = texts input in
+    let o = some_image input r.0 r.1 in
+    (o.0, uncased command.Assemble input o.0 o.1)
+some_outcome texts bytes command.Disassemble input all =
+    let r = bytes input all in
+    let o = some_text input r.0 r.1 in
+    (o.0, uncased command.Disassemble input o.0 o.1)
