@@ -1,9 +1,8 @@
 -- Locals are only added.
-use Rattle.std.proofs.Common.{◌≡◌, ℕ, suc, ◌+◌, ◌<◌, ◌≤◌, Bool, true, false, ◌||◌, cond, List, [], ◌∷◌, ◌++◌, length, drop, get_or, refl, sym, ap, ◌∙◌, arith, length-append, drop-cons}
+use Rattle.std.proofs.Common.{◌≡◌, ℕ, suc, ◌+◌, ◌<◌, ◌≤◌, Bool, true, false, ◌||◌, cond, List, [], ◌∷◌, ◌++◌, length, take, drop, get_or, refl, sym, ap, ◌∙◌, arith, length-append, drop-cons}
 use Rattle.std.specs.Prelude.{bytes_eq}
 use Rattle.std.specs.Borrow.{Bor}
-use Rattle.std.proofs.lemmas.List.{map-append}
-use Rattle.asl_syntax.specs.declared.name.Name.{Name}
+use Rattle.std.proofs.lemmas.List.{map-append, length-take-le}
 use Rattle.asl_syntax.specs.declared.tree.Statement as tree
 use Rattle.asl_syntax.specs.Tree.{Statement, AssignStatement, StoreStatement, OutStatement, IfStatement, WhileStatement, AtomicStatement, Block, NoMore, Then}
 use Rattle.asl_syntax.specs.View.{statement_of, block_of}
@@ -38,7 +37,7 @@ pub if_many : (x : List ℕ) (xs : List (List ℕ)) (a b : Block) → 64 < lengt
 if_many x xs a b h = omega (arith, block_locals_grow (block_locals xs a) b)
 
 -- as many names as references
-pub names_length : (ns : List (Bor Name)) → length (names_of ns) ≡ length ns
+pub names_length : (ns : List (Bor (List ℕ))) → length (names_of ns) ≡ length ns
 names_length [] = refl
 names_length (n ∷ ns) = ap suc (names_length ns)
 
@@ -59,20 +58,26 @@ pub number_new : (xs : List (List ℕ)) (x : List ℕ) → length xs ≤ number_
 number_new [] x l = refl
 number_new (y ∷ ys) x l = new_step (bytes_eq y x) (number_of ys x) (length ys) (has_name ys x) (number_new ys x) l
 
-pub kept_name : (ns ms : List (Bor Name)) (x : List ℕ) (r n : ℕ) → ms ≡ ns → r ≡ number_of (names_of ms) x → n ≡ length ns → r < n → names_of ns ≡ with_name (names_of ns) x
+pub kept_name : (ns ms : List (Bor (List ℕ))) (x : List ℕ) (r n : ℕ) → ms ≡ ns → r ≡ number_of (names_of ms) x → n ≡ length ns → r < n → names_of ns ≡ with_name (names_of ns) x
 kept_name ns ms x r n e f g l =
-    let low : number_of (names_of ns) x < length (names_of ns) = omega (arith, f, ap (λ (k : List (Bor Name)). number_of (names_of k) x) e, names_length ns) in
+    let low : number_of (names_of ns) x < length (names_of ns) = omega (arith, f, ap (λ (k : List (Bor (List ℕ))). number_of (names_of k) x) e, names_length ns) in
     sym (ap (λ (b : Bool). cond b (names_of ns) (names_of ns ++ x ∷ [])) (number_there (names_of ns) x low))
 
-pub new_name : (ns ms : List (Bor Name)) (x : List ℕ) (r n : ℕ) → ms ≡ ns → r ≡ number_of (names_of ms) x → n ≡ length ns → n ≤ r → with_name (names_of ns) x ≡ names_of ns ++ x ∷ []
+pub new_name : (ns ms : List (Bor (List ℕ))) (x : List ℕ) (r n : ℕ) → ms ≡ ns → r ≡ number_of (names_of ms) x → n ≡ length ns → n ≤ r → with_name (names_of ns) x ≡ names_of ns ++ x ∷ []
 new_name ns ms x r n e f g l =
-    let low : length (names_of ns) ≤ number_of (names_of ns) x = omega (arith, f, ap (λ (k : List (Bor Name)). number_of (names_of k) x) e, names_length ns) in
+    let low : length (names_of ns) ≤ number_of (names_of ns) x = omega (arith, f, ap (λ (k : List (Bor (List ℕ))). number_of (names_of k) x) e, names_length ns) in
     ap (λ (b : Bool). cond b (names_of ns) (names_of ns ++ x ∷ [])) (number_new (names_of ns) x low)
 
 -- one name more makes one local more
-pub new_length : (ns : List (Bor Name)) (x : List ℕ) → with_name (names_of ns) x ≡ names_of ns ++ x ∷ [] → length (with_name (names_of ns) x) ≡ suc (length ns)
+pub new_length : (ns : List (Bor (List ℕ))) (x : List ℕ) → with_name (names_of ns) x ≡ names_of ns ++ x ∷ [] → length (with_name (names_of ns) x) ≡ suc (length ns)
 new_length ns x e =
     ap length e ∙ length-append (names_of ns) (x ∷ []) ∙ (let k : length (names_of ns) + 1 ≡ suc (length ns) = omega (arith, names_length ns) in k)
 
-pub pushed_names : (ns ks : List (Bor Name)) (b : Bor Name) → ks ≡ ns ++ b ∷ [] → names_of ks ≡ names_of ns ++ b.now ∷ []
-pushed_names ns ks b e = ap names_of e ∙ map-append (λ (n : Bor Name). n.now) ns (b ∷ [])
+pub pushed_names : (ns ks : List (Bor (List ℕ))) (b : Bor (List ℕ)) → ks ≡ ns ++ b ∷ [] → names_of ks ≡ names_of ns ++ b.now ∷ []
+pushed_names ns ks b e = ap names_of e ∙ map-append (λ (n : Bor (List ℕ)). n.now) ns (b ∷ [])
+
+-- where 64 parameters are not all, there are too many locals
+pub crowded_parameters : (ns : List (Bor (List ℕ))) (ps : List (List ℕ)) (i : ℕ) (b : Block) → names_of ns ≡ take i ps → length ns ≡ 64 → i < length ps → 64 < length (block_locals ps b)
+crowded_parameters ns ps i b e full l =
+    let k : i ≤ length ps = omega arith in
+    omega (arith, names_length ns, ap length e, length-take-le i ps k, block_locals_grow ps b)

@@ -55,7 +55,7 @@ pub fn make_draft(alloc: Global, items: &[Item]) -> Result<Draft, LowerFault>
     ensures few_registers { IfOk result (λ _. first_crowded 0 (functions_of (map item_of items.now)) ≡ None) }
     ensures refused { IfErr result (IsRefused (map item_of items.now)) }
 {
-    if let Some(number) = first_crowded(alloc, items)? {
+    if let Some(number) = first_crowded(items) {
         return Err(LowerFault::Registers(number));
     }
     let mut out = Output::new(alloc);

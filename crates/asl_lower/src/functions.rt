@@ -1,6 +1,6 @@
 //! Lowering functions, one after the other.
 
-ghost use Rattle.std.specs.Prelude.{◌≡◌, ◌<◌, ◌≤◌, nat_lt, length, map, IfOk};
+ghost use Rattle.std.specs.Prelude.{◌≡◌, ◌<◌, ◌≤◌, nat_lt, length, map, IfOk, OnOk, OnErr};
 ghost use Rattle.asl_syntax.specs.View.{item_of, function_of};
 ghost use Rattle.asl_syntax.specs.Tree.{globals_of, functions_of};
 ghost use Rattle.asl_lower.specs.Names.{locals_of, registers_of, scope_of};
@@ -11,64 +11,61 @@ ghost use Rattle.asl_lower.specs.Layout.{block_sections, function_code, function
 ghost use Rattle.asl_lower.specs.OutputView.{Adds, place_of};
 ghost use Rattle.asl_lower.specs.Refused.{first_crowded};
 
-use crate::locals::{LocalsFault, MOST, add_block, block_arguments};
+use crate::locals::{Locals, MOST, TooMany, add_block, block_arguments};
 use crate::output::{Full, Output};
 use crate::scope::Scope;
 use crate::statements::emit_block;
+use arrayvec::ArrayVec;
 use asl_code::{Function as Entry, Instr};
-use asl_syntax::Name;
 use asl_syntax::tree::{Function, Item};
-use std::alloc::{AllocError, Global};
+use std::alloc::Global;
 
 /// The locals of a function in the order of their registers, where it has at most 64 registers.
-fn locals_of(alloc: Global, function: &Function) -> Result<Vec<&Name>, LocalsFault>
+fn locals_of(function: &Function) -> Result<Locals<'_>, TooMany>
     ensures locals { IfOk result (λ v. names_of v.items ≡ locals_of (function_of function.now)) }
-    ensures few { IfOk result (λ v. registers_of (function_of function.now) ≤ 64) }
-    ensures many { result ≡ Err LocalsFault.TooMany → 64 < registers_of (function_of function.now) }
+    ensures few { OnOk result (registers_of (function_of function.now) ≤ 64) }
+    ensures many { OnErr result (64 < registers_of (function_of function.now)) }
 {
-    let mut locals = Vec::new(alloc);
+    let mut locals = ArrayVec::new();
     for parameter in &function.parameters {
-        locals.push(parameter)?;
+        if locals.is_full() {
+            return Err(TooMany);
+        }
+        locals.push(parameter.as_slice());
     }
     add_block(&mut locals, &function.body)?;
-    let arguments = block_arguments(&function.body);
-    if locals.len() > MOST || arguments > MOST - locals.len() {
-        return Err(LocalsFault::TooMany);
+    if block_arguments(&function.body) > MOST - locals.len() {
+        return Err(TooMany);
     }
     Ok(locals)
 }
 
 /// Whether a function has more than 64 registers.
-fn is_crowded(alloc: Global, function: &Function) -> Result<bool, AllocError>
-    ensures { IfOk result (λ found. found ≡ nat_lt 64 (registers_of (function_of function.now))) }
+fn is_crowded(function: &Function) -> bool
+    ensures { result ≡ nat_lt 64 (registers_of (function_of function.now)) }
 {
-    match locals_of(alloc, function) {
-        Ok(_locals) => Ok(false),
-        Err(LocalsFault::TooMany) => Ok(true),
-        Err(LocalsFault::OutOfMemory) => Err(AllocError),
-    }
+    locals_of(function).is_err()
 }
 
 /// The number of the first function with more than 64 registers.
-pub fn first_crowded(alloc: Global, items: &[Item]) -> Result<Option<u16>, AllocError>
+pub fn first_crowded(items: &[Item]) -> Option<u16>
     requires { length (functions_of (map item_of items.now)) ≤ 256 }
-    ensures { IfOk result (λ found. found ≡ first_crowded 0 (functions_of (map item_of items.now))) }
+    ensures { result ≡ first_crowded 0 (functions_of (map item_of items.now)) }
 {
     let mut number = 0;
     for item in items {
         if let Item::Function(function) = item {
-            if is_crowded(alloc, function)? {
-                return Ok(Some(number));
+            if is_crowded(function) {
+                return Some(number);
             }
             number += 1;
         }
     }
-    Ok(None)
+    None
 }
 
 /// Emits a function, and tells its entry of the table.
 fn emit_function(
-    alloc: Global,
     out: &mut Output,
     items: &[Item],
     number: u16,
@@ -81,15 +78,13 @@ fn emit_function(
     ensures entry { IfOk result (λ entry. entry ≡ entry_of (function_of function.now) (place_of out.old)) }
     ensures full { result ≡ Err Full.CodeSize → 65535 < (past_function (function_of function.now) (place_of out.old)).pc }
 {
-    let locals = match locals_of(alloc, function) {
-        Ok(locals) => locals,
-        Err(LocalsFault::TooMany) => unreachable!(),
-        Err(LocalsFault::OutOfMemory) => return Err(Full::OutOfMemory),
+    let Ok(locals) = locals_of(function) else {
+        unreachable!()
     };
     let start = out.code.len();
     let scope = Scope {
         function: number,
-        locals: &locals,
+        locals: locals.as_slice(),
         items,
     };
     emit_block(out, &scope, &function.body)?;
@@ -114,7 +109,7 @@ pub fn emit_functions(alloc: Global, out: &mut Output, items: &[Item]) -> Result
     let mut number = 0;
     for item in items {
         if let Item::Function(function) = item {
-            let entry = emit_function(alloc, out, items, number, function)?;
+            let entry = emit_function(out, items, number, function)?;
             table.push(entry)?;
             number += 1;
         }

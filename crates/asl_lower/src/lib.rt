@@ -27,4 +27,6 @@ pub use program::lower;
 pub use section::Section;
 
 #[cfg(test)]
+mod memory_tests;
+#[cfg(test)]
 mod tests;

@@ -1,58 +1,45 @@
 //! The registers of a function: its locals, and its longest call.
 
-ghost use Rattle.std.specs.Prelude.{◌≡◌, ◌<◌, ◌≤◌, length, IfOk};
+ghost use Rattle.std.specs.Prelude.{◌≡◌, ◌<◌, ◌≤◌, length, IfOk, OnErr};
 ghost use Rattle.asl_syntax.specs.View.{value_of, statement_of, block_of};
 ghost use Rattle.asl_lower.specs.Names.{has_name, with_name, stmt_locals, block_locals, value_arguments, stmt_arguments, block_arguments};
 ghost use Rattle.asl_lower.specs.NamesView.{names_of};
 
 use crate::names::number_of;
+use arrayvec::ArrayVec;
 use asl_syntax::Name;
 use asl_syntax::tree::{Statement, Value};
-use std::alloc::AllocFailed;
 
-/// Why no more locals are taken.
+/// There are 64 locals already.
 #[derive(Clone, Copy)]
-pub enum LocalsFault {
-    /// There are 64 already.
-    TooMany,
-    /// The memory ran out.
-    OutOfMemory,
-}
-
-impl<T: Drop> From<AllocFailed<T>> for LocalsFault {
-    ghost use Rattle.std.specs.Prelude.{◌≡◌};
-    ghost use Rattle.asl_lower.specs.declared.locals.LocalsFault.TheVariants.{OutOfMemory};
-
-    ghost from_gives = { λ _ e. e ≡ OutOfMemory };
-
-    fn from(_failed: AllocFailed<T>) -> LocalsFault {
-        LocalsFault::OutOfMemory
-    }
-}
+pub struct TooMany;
 
 /// The most registers that a function has.
 pub const MOST: usize = 64;
 
+/// The bytes of names, in the order of their registers.
+pub type Locals<'a> = ArrayVec<&'a [u8], MOST>;
+
 /// Adds a local, unless it is there.
-fn add_local<'a>(locals: &mut Vec<&'a Name>, name: &'a Name) -> Result<(), LocalsFault>
+fn add_local<'a>(locals: &mut Locals<'a>, name: &'a Name) -> Result<(), TooMany>
     ensures ok { IfOk result (λ _. names_of locals.new.items ≡ with_name (names_of locals.old.items) name.now) }
-    ensures many { result ≡ Err LocalsFault.TooMany → 64 < length (with_name (names_of locals.old.items) name.now) }
+    ensures many { OnErr result (64 < length (with_name (names_of locals.old.items) name.now)) }
 {
-    if number_of(locals, name) < locals.len() {
+    if number_of(locals.as_slice(), name) < locals.len() {
         return Ok(());
     }
-    if locals.len() >= MOST {
-        return Err(LocalsFault::TooMany);
+    if locals.is_full() {
+        return Err(TooMany);
     }
-    locals.push(name)?;
+    locals.push(name.as_slice());
     Ok(())
 }
 
 /// Adds the locals that statements assign.
 #[cycle(locals)]
-pub fn add_block<'a>(locals: &mut Vec<&'a Name>, block: &'a [Statement]) -> Result<(), LocalsFault>
+pub fn add_block<'a>(locals: &mut Locals<'a>, block: &'a [Statement]) -> Result<(), TooMany>
     ensures ok { IfOk result (λ _. names_of locals.new.items ≡ block_locals (names_of locals.old.items) (block_of block.now)) }
-    ensures many { result ≡ Err LocalsFault.TooMany → 64 < length (block_locals (names_of locals.old.items) (block_of block.now)) }
+    ensures many { OnErr result (64 < length (block_locals (names_of locals.old.items) (block_of block.now))) }
 {
     for statement in block {
         add_statement(locals, statement)?;
@@ -62,12 +49,9 @@ pub fn add_block<'a>(locals: &mut Vec<&'a Name>, block: &'a [Statement]) -> Resu
 
 /// Adds the locals that a statement assigns.
 #[cycle(locals)]
-fn add_statement<'a>(
-    locals: &mut Vec<&'a Name>,
-    statement: &'a Statement,
-) -> Result<(), LocalsFault>
+fn add_statement<'a>(locals: &mut Locals<'a>, statement: &'a Statement) -> Result<(), TooMany>
     ensures ok { IfOk result (λ _. names_of locals.new.items ≡ stmt_locals (names_of locals.old.items) (statement_of statement.now)) }
-    ensures many { result ≡ Err LocalsFault.TooMany → 64 < length (stmt_locals (names_of locals.old.items) (statement_of statement.now)) }
+    ensures many { OnErr result (64 < length (stmt_locals (names_of locals.old.items) (statement_of statement.now))) }
 {
     match statement {
         Statement::Assign(x, _) => add_local(locals, x),

@@ -9,21 +9,21 @@ ghost use Rattle.asl_syntax.specs.View.{item_of};
 use asl_syntax::Name;
 use asl_syntax::tree::Item;
 
-/// Whether two names are the same.
-fn is_same(a: &Name, b: &Name) -> bool
-    ensures { result ≡ bytes_eq a.now b.now }
+/// Whether bytes are those of a name.
+fn is_name(bytes: &[u8], name: &Name) -> bool
+    ensures { result ≡ bytes_eq bytes.now name.now }
 {
-    a.as_slice() == b.as_slice()
+    bytes == name.as_slice()
 }
 
 /// The place of a name among others, and their number where it is not among them.
-pub fn number_of(names: &[&Name], name: &Name) -> usize
+pub fn number_of(names: &[&[u8]], name: &Name) -> usize
     ensures number { result ≡ number_of (names_of names.now) name.now }
     ensures bound { result ≤ length names.now }
 {
     let mut number = 0;
     for other in names {
-        if is_same(other, name) {
+        if is_name(other, name) {
             return number;
         }
         number += 1;
@@ -39,7 +39,7 @@ pub fn global_number(items: &[Item], name: &Name) -> usize
     let mut number = 0;
     for item in items {
         if let Item::Global(global) = item {
-            if is_same(global, name) {
+            if is_name(global.as_slice(), name) {
                 return number;
             }
             number += 1;
@@ -56,7 +56,7 @@ pub fn function_number(items: &[Item], name: &Name) -> usize
     let mut number = 0;
     for item in items {
         if let Item::Function(function) = item {
-            if is_same(&function.name, name) {
+            if is_name(function.name.as_slice(), name) {
                 return number;
             }
             number += 1;

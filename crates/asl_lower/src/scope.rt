@@ -12,7 +12,7 @@ use asl_syntax::tree::Item;
 #[derive(Clone, Copy)]
 pub struct Scope<'a> {
     pub function: u16,
-    pub locals: &'a [&'a Name],
+    pub locals: &'a [&'a [u8]],
     pub items: &'a [Item],
     ghost few_locals: { length locals.now ≤ 64 },
     ghost few_globals: { length (globals_of (map item_of items.now)) ≤ 1024 },

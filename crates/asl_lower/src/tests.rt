@@ -36,7 +36,7 @@ fn spelled(alloc: Global, instr: &Instr) -> Result<String, AllocError> {
 }
 
 /// A lowering in words: its numbers, its functions, its code and its sections.
-fn listing(alloc: Global, lowering: &Lowering) -> Result<String, AllocError> {
+pub(crate) fn listing(alloc: Global, lowering: &Lowering) -> Result<String, AllocError> {
     let globals = lowering.globals();
     let sites = lowering.sites();
     let main = lowering.main();
@@ -103,6 +103,30 @@ fn nested(rt: HostRuntime) -> Result<(), Fail> {
     assert_eq!(rt;
         found.as_str(),
         "globals 0 sites 0 main 0; fn 1 2 10; jz r0, 9; jz r0, 8; jz r0, 8; jz r0, 6; out r0; jmp 7; mov r1, r0; jmp 2; jmp 0; ret r0"
+    );
+    Ok(())
+}
+
+#[test]
+fn empty_blocks(rt: HostRuntime) -> Result<(), Fail> {
+    let source =
+        b"fn main(t) { if t { } else { } if t { } else { out t; } if t { if t { } out t; } while t { } return t; }";
+    let found = outcome(rt.alloc(), source)?;
+    assert_eq!(rt;
+        found.as_str(),
+        "globals 0 sites 0 main 0; fn 1 1 10; jz r0, 1; jz r0, 3; jmp 4; out r0; jz r0, 7; jz r0, 6; out r0; jz r0, 9; jmp 7; ret r0"
+    );
+    Ok(())
+}
+
+#[test]
+fn section_in_section(rt: HostRuntime) -> Result<(), Fail> {
+    let source =
+        b"global g; fn main(t) { p = &g; atomic { atomic { *p = t; } *p = t; } return t; }";
+    let found = outcome(rt.alloc(), source)?;
+    assert_eq!(rt;
+        found.as_str(),
+        "globals 1 sites 0 main 0; fn 1 2 8; glob r1, g0; acq 0; acq 1; store r1, r0; rel; store r1, r0; rel; ret r0; section 0 1 6; section 0 2 4"
     );
     Ok(())
 }
@@ -177,7 +201,7 @@ fn access_outside(rt: HostRuntime) -> Result<(), Fail> {
 }
 
 /// A `main` with so many locals, behind its parameter.
-fn wide(alloc: Global, locals: usize) -> Result<Vec<u8>, AllocError> {
+pub(crate) fn wide(alloc: Global, locals: usize) -> Result<Vec<u8>, AllocError> {
     let mut text = Vec::new(alloc);
     text.extend_from_slice(b"global g; fn a(p) { return p; } fn main(t) {")?;
     for number in 0..locals {
@@ -193,6 +217,31 @@ fn registers(rt: HostRuntime) -> Result<(), Fail> {
     let most = outcome(rt.alloc(), &wide(rt.alloc(), 62)?)?;
     let more = outcome(rt.alloc(), &wide(rt.alloc(), 63)?)?;
     assert_eq!(rt; most.as_str(), "AccessOutsideSection(1, 64)");
+    assert_eq!(rt; more.as_str(), "Registers(1)");
+    Ok(())
+}
+
+/// A `main` with so many locals, its parameter included, and a call of four arguments.
+fn calling(alloc: Global, locals: usize) -> Result<Vec<u8>, AllocError> {
+    let mut text = Vec::new(alloc);
+    text.extend_from_slice(b"fn four(a,b,c,d) { return a; } fn main(t) { t = four(t,t,t,t);")?;
+    for number in 1..locals {
+        let line = format!(in alloc; "x{number} = t;")?;
+        text.extend_from_slice(line.as_bytes())?;
+    }
+    text.extend_from_slice(b"return t; }")?;
+    Ok(text)
+}
+
+#[test]
+fn arguments_have_registers(rt: HostRuntime) -> Result<(), Fail> {
+    let ast = parse(rt.alloc(), &calling(rt.alloc(), 60)?)?;
+    let lowering = lower(rt.alloc(), &ast)?;
+    match lowering.functions().last() {
+        Some(function) => assert_eq!(rt; function.regs, 64),
+        None => assert!(rt; false),
+    }
+    let more = outcome(rt.alloc(), &calling(rt.alloc(), 61)?)?;
     assert_eq!(rt; more.as_str(), "Registers(1)");
     Ok(())
 }
