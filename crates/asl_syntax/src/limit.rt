@@ -1,11 +1,11 @@
 //! The limits of a source text.
 
-ghost use Rattle.std.specs.Prelude.{◌≡◌, ◌≢◌, ℕ, ◌^◌, ◌<◌, ◌≤◌, length, min, IsTrue, false, [], Option, Some, None};
+ghost use Rattle.std.specs.Prelude.{◌≡◌, ◌≤◌, length, min, false, []};
 ghost use Rattle.std.specs.Option.{option_map, ForSome};
 ghost use Rattle.asl_grammar.specs.Lex.{number_value, tokens_of};
 ghost use Rattle.asl_grammar.specs.View.{token_of};
-ghost use Rattle.asl_syntax.specs.Limit.{number_over, one_more, tally_of, byte_over, first_place, first_limit};
-ghost use Rattle.asl_syntax.specs.Tallied.{over_from};
+ghost use Rattle.asl_syntax.specs.Limit.{number_over, tally_of, byte_over, first_place, first_limit};
+ghost use Rattle.asl_syntax.specs.Tallied.{functions_after, globals_after, atomics_after, braces_after, head_after, over_from};
 
 use asl_grammar::lexer::{Found, Tokens};
 use asl_grammar::token::{Mark, Token};
@@ -55,14 +55,61 @@ pub struct Counts<'t> {
     ghost few_names: { ForSome head (λ n. n ≤ 5) },
 }
 
-/// One more name in the head of a function.
-fn one_more(head: Option<u32>) -> Option<u32>
-    requires { ForSome head (λ n. n ≤ 5) }
-    ensures { result ≡ one_more head }
+/// How many functions there are up to and with `token`, where `functions` is their number before it.
+fn functions_after(functions: u32, token: Token<'_>) -> u32
+    requires { functions ≤ 256 }
+    ensures { result ≡ functions_after functions (token_of token.entry) }
 {
-    match head {
-        None => None,
-        Some(n) => Some(n + 1),
+    match token {
+        Token::Fixed(Mark::Fn) => functions + 1,
+        _ => functions,
+    }
+}
+
+/// The same of globals.
+fn globals_after(globals: u32, token: Token<'_>) -> u32
+    requires { globals ≤ 1024 }
+    ensures { result ≡ globals_after globals (token_of token.entry) }
+{
+    match token {
+        Token::Fixed(Mark::Global) => globals + 1,
+        _ => globals,
+    }
+}
+
+/// The same of `atomic`s.
+fn atomics_after(atomics: u32, token: Token<'_>) -> u32
+    requires { atomics ≤ 1024 }
+    ensures { result ≡ atomics_after atomics (token_of token.entry) }
+{
+    match token {
+        Token::Fixed(Mark::Atomic) => atomics + 1,
+        _ => atomics,
+    }
+}
+
+/// The same of open braces.
+fn braces_after(braces: u32, token: Token<'_>) -> u32
+    requires { braces ≤ 64 }
+    ensures { result ≡ braces_after braces (token_of token.entry) }
+{
+    match token {
+        Token::Fixed(Mark::OpenBrace) => braces + 1,
+        Token::Fixed(Mark::CloseBrace) => braces.saturating_sub(1),
+        _ => braces,
+    }
+}
+
+/// The same of the names in the head of a function, or nothing where `token` belongs to no head.
+fn head_after(head: Option<u32>, token: Token<'_>) -> Option<u32>
+    requires { ForSome head (λ n. n ≤ 5) }
+    ensures { result ≡ head_after head (token_of token.entry) }
+{
+    match token {
+        Token::Fixed(Mark::Fn) => Some(0),
+        Token::Fixed(Mark::OpenParen | Mark::Comma) => head,
+        Token::Name(_) => head.map(|n| n + 1),
+        _ => None,
     }
 }
 
@@ -115,91 +162,13 @@ impl<'t> Counts<'t> {
         requires { is_over (tally_in self) (token_of token) ≡ false }
         ensures { tally_in result ≡ noted (tally_in self.entry) (token_of token.entry) }
     {
-        let last = Some(token);
-        let Counts {
-            functions,
-            globals,
-            atomics,
-            braces,
-            head,
-            ..
-        } = self;
-        let next = Counts {
-            last,
-            functions,
-            globals,
-            atomics,
-            braces,
-            head: None,
-        };
-        match token {
-            Token::Fixed(Mark::Fn) => Counts {
-                last,
-                functions: functions + 1,
-                globals,
-                atomics,
-                braces,
-                head: Some(0),
-            },
-            Token::Fixed(Mark::Global) => Counts {
-                last,
-                functions,
-                globals: globals + 1,
-                atomics,
-                braces,
-                head: None,
-            },
-            Token::Fixed(Mark::Atomic) => Counts {
-                last,
-                functions,
-                globals,
-                atomics: atomics + 1,
-                braces,
-                head: None,
-            },
-            Token::Fixed(Mark::OpenBrace) => Counts {
-                last,
-                functions,
-                globals,
-                atomics,
-                braces: braces + 1,
-                head: None,
-            },
-            Token::Fixed(Mark::CloseBrace) => {
-                Counts {
-                    last,
-                    functions,
-                    globals,
-                    atomics,
-                    braces: braces.saturating_sub(1),
-                    head: None,
-                }
-            }
-            Token::Fixed(Mark::OpenParen) => Counts {
-                last,
-                functions,
-                globals,
-                atomics,
-                braces,
-                head,
-            },
-            Token::Fixed(Mark::Comma) => Counts {
-                last,
-                functions,
-                globals,
-                atomics,
-                braces,
-                head,
-            },
-            Token::Name(_) => Counts {
-                last,
-                functions,
-                globals,
-                atomics,
-                braces,
-                head: one_more(head),
-            },
-            _ => next,
+        Counts {
+            last: Some(token),
+            functions: functions_after(self.functions, token),
+            globals: globals_after(self.globals, token),
+            atomics: atomics_after(self.atomics, token),
+            braces: braces_after(self.braces, token),
+            head: head_after(self.head, token),
         }
     }
 }
