@@ -1,5 +1,6 @@
--- The grammar as an automaton with a stack of open blocks: one step for each token, without looking ahead or back. It is
--- private to the code and the proofs: contracts about texts cite specs/Grammar, which knows no automaton.
+-- The grammar of docs/SOURCE.md as an automaton with a stack of open blocks: one step for each token, without looking
+-- ahead or back. It is private to the code and the proofs: contracts about texts cite specs/Grammar, which knows no
+-- automaton.
 use Rattle.std.specs.Prelude.{ℕ, List, [], ◌∷◌, ◌++◌, true, false, Option, Some, None}
 use Rattle.asl_grammar.specs.declared.token.Mark.TheVariants as mark
 use Rattle.asl_grammar.specs.declared.control.Operator.{Operator}
@@ -69,10 +70,20 @@ pub data Act : Type 0 where
   Close : Act
   Finish : List ℕ → Act
 
--- The four tables give the control behind a token and what the token completes, or nothing where the token may
--- not stand; each goes on with the one above it.
+-- The six tables give the control behind a token and what the token completes, or nothing where the token may not
+-- stand; each goes on with the one above it.
 
--- inside a value, and the arguments of a call
+-- the arguments of a call
+abbrev pub argument_step : Control → Token → Option (Control × Act)
+argument_step (FirstArgument x f) (Name a) = Some (AfterArgument x f, Argument a)
+argument_step (FirstArgument x f) (Fixed mark.CloseParen) = Some (CallEnd x f, Keep)
+argument_step (AfterArgument x f) (Fixed mark.Comma) = Some (NextArgument x f, Keep)
+argument_step (AfterArgument x f) (Fixed mark.CloseParen) = Some (CallEnd x f, Keep)
+argument_step (NextArgument x f) (Name a) = Some (AfterArgument x f, Argument a)
+argument_step (CallEnd x f) (Fixed mark.Semicolon) = Some (StatementStart, EmitCall x f)
+argument_step _ _ = None
+
+-- inside a value
 abbrev pub operand_step : Control → Token → Option (Control × Act)
 operand_step (AfterMinus x) (Number n) = Some (LineEnd (Assigns x (Literal true n)), Keep)
 operand_step (AfterOperator x y o) (Name z) = Some (LineEnd (Assigns x (Binary y o z)), Keep)
@@ -83,15 +94,19 @@ operand_step (AfterBracket x y) (Number n) = Some (AfterIndex x y n, Keep)
 operand_step (AfterIndex x y n) (Fixed mark.CloseBracket) = Some (LineEnd (Assigns x (FieldAddress y n)), Keep)
 operand_step (AfterStar x) (Name y) = Some (LineEnd (Assigns x (Loaded y)), Keep)
 operand_step (AfterNew x) (Number n) = Some (LineEnd (Assigns x (Created n)), Keep)
-operand_step (FirstArgument x f) (Name a) = Some (AfterArgument x f, Argument a)
-operand_step (FirstArgument x f) (Fixed mark.CloseParen) = Some (CallEnd x f, Keep)
-operand_step (AfterArgument x f) (Fixed mark.Comma) = Some (NextArgument x f, Keep)
-operand_step (AfterArgument x f) (Fixed mark.CloseParen) = Some (CallEnd x f, Keep)
-operand_step (NextArgument x f) (Name a) = Some (AfterArgument x f, Argument a)
-operand_step (CallEnd x f) (Fixed mark.Semicolon) = Some (StatementStart, EmitCall x f)
-operand_step _ _ = None
+operand_step c t = argument_step c t
 
--- the beginning of a value, and what may follow a name there
+-- what may follow a name at the beginning of a value
+abbrev pub name_step : Control → Token → Option (Control × Act)
+name_step (AfterValue x y) (Fixed mark.Semicolon) = Some (StatementStart, Emit (Assigns x (Copied y)))
+name_step (AfterValue x y) (Fixed mark.Plus) = Some (AfterOperator x y Add, Keep)
+name_step (AfterValue x y) (Fixed mark.Minus) = Some (AfterOperator x y Subtract, Keep)
+name_step (AfterValue x y) (Fixed mark.Less) = Some (AfterOperator x y IsLess, Keep)
+name_step (AfterValue x y) (Fixed mark.Same) = Some (AfterOperator x y IsEqual, Keep)
+name_step (AfterValue x y) (Fixed mark.OpenParen) = Some (FirstArgument x y, Keep)
+name_step c t = operand_step c t
+
+-- the beginning of a value
 abbrev pub value_step : Control → Token → Option (Control × Act)
 value_step (AfterBecomes x) (Fixed mark.Minus) = Some (AfterMinus x, Keep)
 value_step (AfterBecomes x) (Fixed mark.Null) = Some (LineEnd (Assigns x NullValue), Keep)
@@ -100,13 +115,7 @@ value_step (AfterBecomes x) (Fixed mark.Star) = Some (AfterStar x, Keep)
 value_step (AfterBecomes x) (Fixed mark.New) = Some (AfterNew x, Keep)
 value_step (AfterBecomes x) (Name y) = Some (AfterValue x y, Keep)
 value_step (AfterBecomes x) (Number n) = Some (LineEnd (Assigns x (Literal false n)), Keep)
-value_step (AfterValue x y) (Fixed mark.Semicolon) = Some (StatementStart, Emit (Assigns x (Copied y)))
-value_step (AfterValue x y) (Fixed mark.Plus) = Some (AfterOperator x y Add, Keep)
-value_step (AfterValue x y) (Fixed mark.Minus) = Some (AfterOperator x y Subtract, Keep)
-value_step (AfterValue x y) (Fixed mark.Less) = Some (AfterOperator x y IsLess, Keep)
-value_step (AfterValue x y) (Fixed mark.Same) = Some (AfterOperator x y IsEqual, Keep)
-value_step (AfterValue x y) (Fixed mark.OpenParen) = Some (FirstArgument x y, Keep)
-value_step c t = operand_step c t
+value_step c t = name_step c t
 
 -- globals, the head of a function and its last line
 abbrev pub item_step : Control → Token → Option (Control × Act)

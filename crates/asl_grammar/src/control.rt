@@ -2,9 +2,10 @@
 
 ghost use Rattle.std.specs.Prelude.{◌≡◌};
 ghost use Rattle.std.specs.Option.{option_map};
-ghost use Rattle.asl_grammar.specs.Automaton.{Keep, step, item_step, value_step, operand_step};
+ghost use Rattle.asl_grammar.specs.Written.{Assigns};
+ghost use Rattle.asl_grammar.specs.Automaton.{Keep, LineEnd, step, item_step, value_step, name_step, operand_step, argument_step};
 ghost use Rattle.asl_grammar.specs.View.{token_of};
-ghost use Rattle.asl_grammar.specs.ControlView.{control_of, act_of, transition_of};
+ghost use Rattle.asl_grammar.specs.ControlView.{control_of, right_of, act_of, transition_of};
 
 use crate::token::{Mark, Token};
 
@@ -129,6 +130,13 @@ fn keep(control: Control<'_>) -> Option<Transition<'_>>
     })
 }
 
+/// A token with which all but the semicolon of an assignment is read.
+fn assigned<'t>(target: &'t [u8], right: Right<'t>) -> Option<Transition<'t>>
+    ensures { option_map transition_of result ≡ Some (LineEnd (Assigns target.now (right_of right.entry)), Keep) }
+{
+    keep(Control::LineEnd(Line::Assigns(target, right)))
+}
+
 /// A token that completes something.
 fn does<'t>(control: Control<'t>, act: Act<'t>) -> Option<Transition<'t>>
     ensures { option_map transition_of result ≡ Some (control_of control.entry, act_of act.entry) }
@@ -136,39 +144,11 @@ fn does<'t>(control: Control<'t>, act: Act<'t>) -> Option<Transition<'t>>
     Some(Transition { control, act })
 }
 
-/// Inside a value, and the arguments of a call.
-fn operand_step<'t>(control: Control<'t>, token: Token<'t>) -> Option<Transition<'t>>
-    ensures { option_map transition_of result ≡ operand_step (control_of control.entry) (token_of token.entry) }
+/// The arguments of a call.
+fn argument_step<'t>(control: Control<'t>, token: Token<'t>) -> Option<Transition<'t>>
+    ensures { option_map transition_of result ≡ argument_step (control_of control.entry) (token_of token.entry) }
 {
     match (control, token) {
-        (Control::AfterMinus(x), Token::Number(n)) => keep(Control::LineEnd(Line::Assigns(
-            x,
-            Right::Literal(true, n),
-        ))),
-        (Control::AfterOperator(x, y, o), Token::Name(z)) => keep(Control::LineEnd(Line::Assigns(
-            x,
-            Right::Binary(y, o, z),
-        ))),
-        (Control::AfterAmpersand(x), Token::Name(y)) => keep(Control::AfterAddress(x, y)),
-        (Control::AfterAddress(x, y), Token::Fixed(Mark::Semicolon)) => does(
-            Control::StatementStart,
-            Act::Emit(Line::Assigns(x, Right::GlobalAddress(y))),
-        ),
-        (Control::AfterAddress(x, y), Token::Fixed(Mark::OpenBracket)) => keep(
-            Control::AfterBracket(x, y),
-        ),
-        (Control::AfterBracket(x, y), Token::Number(n)) => keep(Control::AfterIndex(x, y, n)),
-        (Control::AfterIndex(x, y, n), Token::Fixed(Mark::CloseBracket)) => keep(Control::LineEnd(
-            Line::Assigns(x, Right::FieldAddress(y, n)),
-        )),
-        (Control::AfterStar(x), Token::Name(y)) => keep(Control::LineEnd(Line::Assigns(
-            x,
-            Right::Loaded(y),
-        ))),
-        (Control::AfterNew(x), Token::Number(n)) => keep(Control::LineEnd(Line::Assigns(
-            x,
-            Right::Created(n),
-        ))),
         (Control::FirstArgument(x, f), Token::Name(a)) => does(
             Control::AfterArgument(x, f),
             Act::Argument(a),
@@ -194,26 +174,37 @@ fn operand_step<'t>(control: Control<'t>, token: Token<'t>) -> Option<Transition
     }
 }
 
-/// The beginning of a value, and what may follow a name there.
-fn value_step<'t>(control: Control<'t>, token: Token<'t>) -> Option<Transition<'t>>
-    ensures { option_map transition_of result ≡ value_step (control_of control.entry) (token_of token.entry) }
+/// Inside a value.
+fn operand_step<'t>(control: Control<'t>, token: Token<'t>) -> Option<Transition<'t>>
+    ensures { option_map transition_of result ≡ operand_step (control_of control.entry) (token_of token.entry) }
 {
     match (control, token) {
-        (Control::AfterBecomes(x), Token::Fixed(Mark::Minus)) => keep(Control::AfterMinus(x)),
-        (Control::AfterBecomes(x), Token::Fixed(Mark::Null)) => keep(Control::LineEnd(Line::Assigns(
+        (Control::AfterMinus(x), Token::Number(n)) => assigned(x, Right::Literal(true, n)),
+        (Control::AfterOperator(x, y, o), Token::Name(z)) => assigned(x, Right::Binary(y, o, z)),
+        (Control::AfterAmpersand(x), Token::Name(y)) => keep(Control::AfterAddress(x, y)),
+        (Control::AfterAddress(x, y), Token::Fixed(Mark::Semicolon)) => does(
+            Control::StatementStart,
+            Act::Emit(Line::Assigns(x, Right::GlobalAddress(y))),
+        ),
+        (Control::AfterAddress(x, y), Token::Fixed(Mark::OpenBracket)) => keep(
+            Control::AfterBracket(x, y),
+        ),
+        (Control::AfterBracket(x, y), Token::Number(n)) => keep(Control::AfterIndex(x, y, n)),
+        (Control::AfterIndex(x, y, n), Token::Fixed(Mark::CloseBracket)) => assigned(
             x,
-            Right::NullValue,
-        ))),
-        (Control::AfterBecomes(x), Token::Fixed(Mark::Ampersand)) => keep(Control::AfterAmpersand(
-            x,
-        )),
-        (Control::AfterBecomes(x), Token::Fixed(Mark::Star)) => keep(Control::AfterStar(x)),
-        (Control::AfterBecomes(x), Token::Fixed(Mark::New)) => keep(Control::AfterNew(x)),
-        (Control::AfterBecomes(x), Token::Name(y)) => keep(Control::AfterValue(x, y)),
-        (Control::AfterBecomes(x), Token::Number(n)) => keep(Control::LineEnd(Line::Assigns(
-            x,
-            Right::Literal(false, n),
-        ))),
+            Right::FieldAddress(y, n),
+        ),
+        (Control::AfterStar(x), Token::Name(y)) => assigned(x, Right::Loaded(y)),
+        (Control::AfterNew(x), Token::Number(n)) => assigned(x, Right::Created(n)),
+        _ => argument_step(control, token),
+    }
+}
+
+/// What may follow a name at the beginning of a value.
+fn name_step<'t>(control: Control<'t>, token: Token<'t>) -> Option<Transition<'t>>
+    ensures { option_map transition_of result ≡ name_step (control_of control.entry) (token_of token.entry) }
+{
+    match (control, token) {
         (Control::AfterValue(x, y), Token::Fixed(Mark::Semicolon)) => does(
             Control::StatementStart,
             Act::Emit(Line::Assigns(x, Right::Copied(y))),
@@ -242,6 +233,24 @@ fn value_step<'t>(control: Control<'t>, token: Token<'t>) -> Option<Transition<'
             x, y,
         )),
         _ => operand_step(control, token),
+    }
+}
+
+/// The beginning of a value.
+fn value_step<'t>(control: Control<'t>, token: Token<'t>) -> Option<Transition<'t>>
+    ensures { option_map transition_of result ≡ value_step (control_of control.entry) (token_of token.entry) }
+{
+    match (control, token) {
+        (Control::AfterBecomes(x), Token::Fixed(Mark::Minus)) => keep(Control::AfterMinus(x)),
+        (Control::AfterBecomes(x), Token::Fixed(Mark::Null)) => assigned(x, Right::NullValue),
+        (Control::AfterBecomes(x), Token::Fixed(Mark::Ampersand)) => keep(Control::AfterAmpersand(
+            x,
+        )),
+        (Control::AfterBecomes(x), Token::Fixed(Mark::Star)) => keep(Control::AfterStar(x)),
+        (Control::AfterBecomes(x), Token::Fixed(Mark::New)) => keep(Control::AfterNew(x)),
+        (Control::AfterBecomes(x), Token::Name(y)) => keep(Control::AfterValue(x, y)),
+        (Control::AfterBecomes(x), Token::Number(n)) => assigned(x, Right::Literal(false, n)),
+        _ => name_step(control, token),
     }
 }
 
