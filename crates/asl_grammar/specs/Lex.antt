@@ -30,7 +30,17 @@ leading p (b ∷ bs) = if p b then suc (leading p bs) else 0
 -- the word of these bytes, if they are one
 abbrev pub word_of : List ℕ → Option Mark
 word_of w =
-    if bytes_eq w (codes "global") then Some mark.Global else if bytes_eq w (codes "fn") then Some mark.Fn else if bytes_eq w (codes "return") then Some mark.Return else if bytes_eq w (codes "null") then Some mark.Null else if bytes_eq w (codes "new") then Some mark.New else if bytes_eq w (codes "out") then Some mark.Out else if bytes_eq w (codes "if") then Some mark.If else if bytes_eq w (codes "else") then Some mark.Else else if bytes_eq w (codes "while") then Some mark.While else if bytes_eq w (codes "atomic") then Some mark.Atomic else None
+    if bytes_eq w (codes "global") then Some mark.Global
+    else if bytes_eq w (codes "fn") then Some mark.Fn
+    else if bytes_eq w (codes "return") then Some mark.Return
+    else if bytes_eq w (codes "null") then Some mark.Null
+    else if bytes_eq w (codes "new") then Some mark.New
+    else if bytes_eq w (codes "out") then Some mark.Out
+    else if bytes_eq w (codes "if") then Some mark.If
+    else if bytes_eq w (codes "else") then Some mark.Else
+    else if bytes_eq w (codes "while") then Some mark.While
+    else if bytes_eq w (codes "atomic") then Some mark.Atomic
+    else None
 
 -- the word, else the name, of these bytes
 abbrev pub word_or_name : Option Mark → List ℕ → Token
@@ -45,7 +55,20 @@ equals_token (b ∷ bs) = if b == 61 then (Fixed mark.Same, 2) else (Fixed mark.
 -- the symbol of one byte
 abbrev pub symbol_of_byte : ℕ → Option Mark
 symbol_of_byte b =
-    if b == 40 then Some mark.OpenParen else if b == 41 then Some mark.CloseParen else if b == 123 then Some mark.OpenBrace else if b == 125 then Some mark.CloseBrace else if b == 91 then Some mark.OpenBracket else if b == 93 then Some mark.CloseBracket else if b == 44 then Some mark.Comma else if b == 59 then Some mark.Semicolon else if b == 43 then Some mark.Plus else if b == 45 then Some mark.Minus else if b == 60 then Some mark.Less else if b == 38 then Some mark.Ampersand else if b == 42 then Some mark.Star else None
+    if b == 40 then Some mark.OpenParen
+    else if b == 41 then Some mark.CloseParen
+    else if b == 123 then Some mark.OpenBrace
+    else if b == 125 then Some mark.CloseBrace
+    else if b == 91 then Some mark.OpenBracket
+    else if b == 93 then Some mark.CloseBracket
+    else if b == 44 then Some mark.Comma
+    else if b == 59 then Some mark.Semicolon
+    else if b == 43 then Some mark.Plus
+    else if b == 45 then Some mark.Minus
+    else if b == 60 then Some mark.Less
+    else if b == 38 then Some mark.Ampersand
+    else if b == 42 then Some mark.Star
+    else None
 
 -- the token of a symbol, if there is one
 abbrev pub symbol_token : Option Mark → Option (Token × ℕ)
@@ -72,7 +95,10 @@ digits_token bs n = (Number (number_value (take n bs)), n)
 abbrev pub front : List ℕ → Option (Token × ℕ)
 front [] = None
 front (b ∷ bs) =
-    if is_letter b then Some (letters_token (b ∷ bs) (leading is_name_byte (b ∷ bs))) else if is_digit b then Some (digits_token (b ∷ bs) (leading is_digit (b ∷ bs))) else if b == 61 then Some (equals_token bs) else symbol_token (symbol_of_byte b)
+    if is_letter b then Some (letters_token (b ∷ bs) (leading is_name_byte (b ∷ bs)))
+    else if is_digit b then Some (digits_token (b ∷ bs) (leading is_digit (b ∷ bs)))
+    else if b == 61 then Some (equals_token bs)
+    else symbol_token (symbol_of_byte b)
 
 -- a token and the tokens behind it
 abbrev pub spot_then : Option (Token × ℕ) → ℕ → (ℕ → List Spot) → List Spot

@@ -4,7 +4,8 @@ use Rattle.std.specs.Int.Digits.{digits_of, number_from_digits_after, AllBelowBa
 use Rattle.std.proofs.lemmas.Bool.{cond_both, and_from, le-leb, eqb-true, eqb-false}
 use Rattle.std.proofs.lemmas.Int.Digits.{number_digits_of, all_below_base_digits_of}
 use Rattle.asl_grammar.specs.Lex.{is_digit, value_from, number_value, all_bytes}
-use Rattle.asl_syntax.specs.Printed.{digit_bytes, decimal}
+use Rattle.asl_syntax.specs.Printed.{decimal}
+use Rattle.asl_syntax.specs.Pieces.{digit_bytes}
 
 -- digits of a number
 pub record IsDecimal (n : ℕ) (ds : List ℕ) : Type 0 where

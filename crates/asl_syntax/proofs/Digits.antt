@@ -3,7 +3,7 @@ use Rattle.std.proofs.Common.{◌≡◌, ℕ, ◌+◌, ◌/◌, ◌%◌, ◌<◌
 use Rattle.std.proofs.lemmas.List.{map-append}
 use Rattle.std.specs.Int.Digits.{digits_of}
 use Rattle.std.proofs.lemmas.Int.Digits.{digits_of_step}
-use Rattle.asl_syntax.specs.Printed.{digit_bytes}
+use Rattle.asl_syntax.specs.Pieces.{digit_bytes}
 
 pub digits_more : (n : ℕ) → 0 < n → digit_bytes n ≡ digit_bytes (n / 10) ++ ((n % 10 + 48) ∷ [])
 digits_more n h =

@@ -1,5 +1,7 @@
--- The text of a tree part by part, as src/printer.rt writes it; private. What contracts cite is specs/Printed.
-use Rattle.std.specs.Prelude.{ℕ, suc, ℤ, pos, negsuc, List, [], ◌∷◌, ◌++◌}
+-- The text of a tree part by part (docs/SOURCE.md, "Printing"), as src/printer.rt writes it; private. What contracts cite
+-- is specs/Printed.
+use Rattle.std.specs.Prelude.{ℕ, suc, ℤ, pos, negsuc, ◌+◌, List, [], ◌∷◌, ◌++◌, map}
+use Rattle.std.specs.Int.Digits.{digits_of}
 use Rattle.asl_grammar.specs.declared.token.Mark.{Mark}
 use Rattle.asl_grammar.specs.declared.token.Mark.TheVariants as mark
 use Rattle.asl_grammar.specs.Bytes.{mark_bytes}
@@ -10,6 +12,10 @@ use Rattle.asl_syntax.specs.Printed.{decimal, piece}
 -- a word or symbol
 abbrev pub mark_piece : Mark → List ℕ
 mark_piece m = piece (mark_bytes m)
+
+-- decimal digits, none for 0
+abbrev pub digit_bytes : ℕ → List ℕ
+digit_bytes n = map (λ d. d + 48) (digits_of 10 n)
 
 -- a number
 abbrev pub number_piece : ℕ → List ℕ

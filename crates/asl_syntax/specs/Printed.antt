@@ -1,5 +1,5 @@
 -- The text that a tree is printed as: its tokens, one space between, and a newline at the end (docs/SOURCE.md, "Printing").
-use Rattle.std.specs.Prelude.{ℕ, ◌+◌, List, [], ◌∷◌, ◌++◌, if◌then◌else◌, ◌==◌, map, drop}
+use Rattle.std.specs.Prelude.{ℕ, ◌+◌, List, [], ◌∷◌, ◌++◌, if◌then◌else◌, ◌==◌, map, drop, codes}
 use Rattle.std.specs.Int.Digits.{digits_of}
 use Rattle.asl_grammar.specs.Token.{Token, Fixed, Name, Number}
 use Rattle.asl_grammar.specs.Bytes.{mark_bytes}
@@ -7,13 +7,10 @@ use Rattle.asl_grammar.specs.Spelling.{program_on}
 use Rattle.asl_syntax.specs.Tree.{Item}
 use Rattle.asl_syntax.specs.Writing.{writing}
 
--- decimal digits, none for 0
-abbrev pub digit_bytes : ℕ → List ℕ
-digit_bytes n = map (λ d. d + 48) (digits_of 10 n)
-
--- a number without needless zeros
+-- a number without needless zeros, however many digits it has; std's word of this name writes 64 digits at the most, and a
+-- token's number has no bound
 abbrev pub decimal : ℕ → List ℕ
-decimal n = if n == 0 then 48 ∷ [] else digit_bytes n
+decimal n = if n == 0 then codes "0" else map (λ d. d + 48) (digits_of 10 n)
 
 -- the bytes of a token with a space before them
 abbrev pub piece : List ℕ → List ℕ

@@ -2,9 +2,9 @@ ghost use Rattle.std.specs.Prelude.{◌≡◌, ◌++◌, ◌+◌, [], map, drop,
 ghost use Rattle.asl_syntax.specs.View.{value_of, statement_of, block_of, function_of, item_of};
 ghost use Rattle.asl_syntax.specs.AstView.{tree_of};
 ghost use Rattle.asl_grammar.specs.Bytes.{mark_bytes};
-ghost use Rattle.asl_syntax.specs.Printed.{digit_bytes, piece, spaced, printed};
+ghost use Rattle.asl_syntax.specs.Printed.{piece, spaced, printed};
 ghost use Rattle.asl_syntax.specs.Writing.{writing};
-ghost use Rattle.asl_syntax.specs.Pieces.{mark_piece, number_piece, later_names_bytes, names_bytes, integer_bytes, value_bytes, statement_bytes, block_bytes, assign_bytes, store_bytes, out_bytes, if_head, while_head, else_open, else_close, head_bytes, last_line_bytes, item_bytes, items_bytes};
+ghost use Rattle.asl_syntax.specs.Pieces.{mark_piece, digit_bytes, number_piece, later_names_bytes, names_bytes, integer_bytes, value_bytes, statement_bytes, block_bytes, assign_bytes, store_bytes, out_bytes, if_head, while_head, else_open, else_close, head_bytes, last_line_bytes, item_bytes, items_bytes};
 ghost use Rattle.asl_grammar.specs.declared.token.Mark.TheVariants as mark;
 ghost use Rattle.asl_grammar.specs.Spelling.{symbol_of, program_on};
 ghost use Rattle.asl_syntax.specs.Tree.{CallValue};

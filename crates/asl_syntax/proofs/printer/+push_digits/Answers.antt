@@ -1,5 +1,5 @@
 use Rattle.std.proofs.Common.{◌+◌, ◌/◌, ◌%◌, [], ◌∷◌, append_assoc, arith}
-use Rattle.asl_syntax.specs.Printed.{digit_bytes}
+use Rattle.asl_syntax.specs.Pieces.{digit_bytes}
 use Rattle.asl_syntax.proofs.Digits.{digits_more}
 use Rattle.asl_syntax.proofs.printer.+push_digits.Goals as goal
 
