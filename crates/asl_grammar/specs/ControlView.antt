@@ -1,4 +1,5 @@
--- The code's controls and acts (src/control.rt) as the values that the automaton's definition speaks of; private.
+-- The code's controls and acts (src/control.rt) as the values that the automaton of docs/SOURCE.md's grammar speaks of;
+-- private.
 use Rattle.asl_grammar.specs.Lex.{number_value}
 use Rattle.asl_grammar.specs.declared.control.Right as right
 use Rattle.asl_grammar.specs.declared.control.Right.TheVariants as rights

@@ -1,4 +1,5 @@
--- What a reader of tokens has left, and what one call of it does; private to this crate and asl_syntax.
+-- What a reader of a text's tokens (docs/SOURCE.md) has left, and what one call of it does; private to this crate and
+-- asl_syntax.
 use Rattle.std.specs.Prelude.{◌≡◌, ℕ, ◌<◌, List, [], ◌∷◌, false, Option, Some, None, length}
 use Rattle.asl_grammar.specs.declared.lexer.Tokens as reader
 use Rattle.asl_grammar.specs.declared.lexer.Found as answer

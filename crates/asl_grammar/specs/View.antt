@@ -1,4 +1,4 @@
--- The code's tokens (src/token.rt) as the values that definitions speak of.
+-- The code's tokens (src/token.rt) as the values that definitions speak of, the tokens of docs/SOURCE.md.
 use Rattle.std.specs.Prelude.{ℕ}
 use Rattle.asl_grammar.specs.Lex.{number_value}
 use Rattle.asl_grammar.specs.declared.token.Token as code

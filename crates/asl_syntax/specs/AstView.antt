@@ -1,4 +1,4 @@
--- The tree of an `Ast` (src/ast.rt).
+-- The tree of an `Ast` (src/ast.rt), which is that of a program of docs/SOURCE.md, "Grammar".
 use Rattle.std.specs.Prelude.{List}
 use Rattle.asl_syntax.specs.declared.ast.Ast as code
 use Rattle.asl_syntax.specs.Tree.{Item}

@@ -1,4 +1,4 @@
--- What `parse` knows of a text before it builds the tree; private.
+-- What `parse` knows of a text before it builds the tree: no refusal of docs/SOURCE.md up to `Limit` applies; private.
 use Rattle.std.specs.Prelude.{◌≡◌, ℕ, List, None}
 use Rattle.asl_grammar.specs.Lex.{tokens_of}
 use Rattle.asl_grammar.specs.Grammar.{IsProgram, bare}

@@ -1,4 +1,4 @@
--- Which names the code's maps know (src/names.rt); private.
+-- Which names of a name space of docs/SOURCE.md the code's maps know (src/names.rt); private.
 use Rattle.std.specs.Prelude.{ℕ, List, is_some}
 use Rattle.std.specs.Borrow.{Bor}
 use Rattle.std.specs.Ordering.{nat_cmp}

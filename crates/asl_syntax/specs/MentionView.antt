@@ -1,4 +1,4 @@
--- The code's mentions (src/mentions.rt) as values; private.
+-- The code's mentions (src/mentions.rt) of the names of docs/SOURCE.md as values; private.
 use Rattle.std.specs.Prelude.{List, map}
 use Rattle.asl_syntax.specs.declared.mentions.Mention as code
 use Rattle.asl_syntax.specs.declared.mentions.Mention.TheVariants as codes

@@ -1,4 +1,5 @@
--- The limits counted token by token, as src/limit.rt counts them; private. What contracts cite is specs/Limit.
+-- The limits of docs/SOURCE.md counted token by token, as src/limit.rt counts them; private. What contracts cite is
+-- specs/Limit.
 use Rattle.std.specs.Prelude.{ℕ, suc, ◌-◌, List, [], ◌∷◌, Option, Some, None, if◌then◌else◌}
 use Rattle.asl_grammar.specs.declared.token.Mark.TheVariants as mark
 use Rattle.asl_grammar.specs.Token.{Token, Fixed, Name, Spot}

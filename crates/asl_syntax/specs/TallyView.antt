@@ -1,4 +1,4 @@
--- The code's counts as a tally; private.
+-- The code's counts (src/limit.rt) as what the limits of docs/SOURCE.md count; private.
 use Rattle.std.specs.Option.{option_map}
 use Rattle.asl_grammar.specs.View.{token_of}
 use Rattle.asl_syntax.specs.declared.limit.Counts as code

@@ -1,4 +1,5 @@
--- The names of a list of tokens, and the name of a mention: what the law `a_tree_mentions_its_names` speaks of.
+-- The names of a list of tokens (docs/SOURCE.md), and the name of a mention: what the law `a_tree_mentions_its_names` speaks
+-- of.
 use Rattle.std.specs.Prelude.{ℕ, List, [], ◌∷◌}
 use Rattle.asl_grammar.specs.Token.{Token, Name}
 use Rattle.asl_syntax.specs.Mentions.{Mention, DeclaresGlobal, DeclaresFunction, DeclaresParameter, AssignsLocal, UsesLocal, UsesGlobal, CallsFunction}

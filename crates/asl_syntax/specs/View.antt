@@ -1,4 +1,4 @@
--- The code's tree (src/tree.rt) as the value that contracts speak of.
+-- The code's tree (src/tree.rt) as the value that contracts speak of (docs/SOURCE.md, "Grammar").
 use Rattle.std.specs.Prelude.{List, [], ◌∷◌, map, Vec}
 use Rattle.std.specs.declared.alloc.Global.{Global}
 use Rattle.asl_syntax.specs.declared.tree.Value as value
