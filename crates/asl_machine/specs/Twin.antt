@@ -49,6 +49,10 @@ pub record Place : Type 0 where
 abbrev pub place : ℕ → Activity → List Object → Held → Place
 place t activity objects forest = record { thread = t; activity = activity; objects = objects; holding = forest.holding }
 
+-- what is left where this becomes of a thread that is at this, over these objects and under this forest
+abbrev pub left_with : Fate → Activity → List Object → Held → Left
+left_with f activity objects forest = record { fate = f; activity = activity; objects = objects; holding = forest.holding }
+
 -- nothing has changed, and this becomes of the thread
 abbrev pub left_alone : Place → Fate → Left
 left_alone p f = record { fate = f; activity = p.activity; objects = p.objects; holding = p.holding }

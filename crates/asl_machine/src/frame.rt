@@ -302,6 +302,7 @@ impl Activity {
         self.depth -= 1;
         self.top.advance();
     }
+
     /// Calls the function with the registers from `first` on; its value will go to the register `to`. The caller goes to
     /// its next instruction.
     pub fn call(

@@ -2,6 +2,7 @@
 #![tactic(auto)]
 
 mod code;
+mod control;
 mod eval;
 mod fate;
 mod fault;
@@ -9,9 +10,11 @@ mod frame;
 mod heap;
 mod laws;
 mod machine;
+mod memory;
 mod perform;
 mod reply;
 mod request;
+mod sections;
 mod thread;
 mod values;
 

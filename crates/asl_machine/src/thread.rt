@@ -3,7 +3,7 @@ ghost use Rattle.std.specs.Prelude.{◌≡◌, ◌<◌, IfOk, OnOk, OnErr, IsSom
 ghost use Rattle.asl_machine.specs.Access.{IsReady, CanDo};
 ghost use Rattle.asl_machine.specs.Sound.{ThreadReady, ThreadWantsMemory};
 ghost use Rattle.asl_machine.specs.View.{status_by};
-ghost use Rattle.asl_machine.specs.Twin.{place, left_at, turn_of, reply_of, thread_after, holding_after, WantsMemory};
+ghost use Rattle.asl_machine.specs.Twin.{place, left_with, left_at, turn_of, reply_of, thread_after, holding_after, WantsMemory};
 
 use crate::code::Code;
 use crate::fate::Fate;
@@ -123,10 +123,8 @@ fn advance(
 ) -> Result<Fate, AllocError>
     requires ready { IsReady code.now forest.old heap.old t activity.old }
     requires fits { IsSomeAnd (slice_get code.now.code activity.old.top.pc) (CanDo code.now activity.old.top) }
-    ensures fate { IfOk result (λ fate. fate ≡ (left_at code.now forest.old.threads (place t activity.old heap.old forest.old) (slice_get code.now.code activity.old.top.pc)).fate) }
-    ensures activity { OnOk result (activity.new ≡ (left_at code.now forest.old.threads (place t activity.old heap.old forest.old) (slice_get code.now.code activity.old.top.pc)).activity) }
-    ensures objects { OnOk result (heap.new ≡ (left_at code.now forest.old.threads (place t activity.old heap.old forest.old) (slice_get code.now.code activity.old.top.pc)).objects) }
-    ensures holding { OnOk result (forest.new.holding ≡ (left_at code.now forest.old.threads (place t activity.old heap.old forest.old) (slice_get code.now.code activity.old.top.pc)).holding) }
+    ensures left { IfOk result (λ fate. left_with fate activity.new heap.new forest.new
+        ≡ left_at code.now forest.old.threads (place t activity.old heap.old forest.old) (slice_get code.now.code activity.old.top.pc)) }
     ensures classes { forest.new.classes ≡ forest.old.classes }
     ensures threads { forest.new.threads ≡ forest.old.threads }
     ensures memory { OnErr result (IsSomeAnd (slice_get code.now.code activity.old.top.pc) (WantsMemory activity.old)) }

@@ -1,51 +1,57 @@
-//! What instructions compute: values for registers, and the cells that they access.
-ghost use Rattle.std.specs.Prelude.{◌≡◌, ◌<◌, IfOk, IsSome};
+//! What instructions compute of the values in registers.
+ghost use Rattle.std.specs.Prelude.{◌≡◌, ◌<◌, length};
 ghost use Rattle.asl_machine.specs.Step.{is_zero};
-ghost use Rattle.asl_machine.specs.State.{cell_at};
-ghost use Rattle.asl_machine.specs.Access.{is_protected, Points, AreOfClasses};
-ghost use Rattle.asl_machine.specs.Twin.{address_moved, computed, added, subtracted, compared, truth, same_value, allowed_cell, accessed, loaded};
+ghost use Rattle.asl_machine.specs.Twin.{register_of, address_moved, computed, added, subtracted, compared, truth, same_value};
 
 use crate::eval::go_on;
 use crate::fault::Fault;
+use crate::frame::Activity;
 use crate::heap::Heap;
-use asl_code::{Cell, Effect, Value};
-use asl_lock_forest::Forest;
+use asl_code::{Cell, Value};
 
-/// The sum of two integers, which wraps at 32 bits.
-pub fn sum(left: Value, right: Value) -> Result<Value, Fault>
-    ensures { result ≡ computed added left right }
+/// The sum of the integers in two registers, which wraps at 32 bits.
+pub fn sum(activity: &Activity, left: u8, right: u8) -> Result<Value, Fault>
+    requires left_there { left < length activity.now.top.regs }
+    requires right_there { right < length activity.now.top.regs }
+    ensures { result ≡ computed added (register_of activity.now.top left) (register_of activity.now.top right) }
 {
-    match (left, right) {
+    match (activity.read(left), activity.read(right)) {
         (Value::Int(x), Value::Int(y)) => Ok(Value::Int(x.wrapping_add(y))),
         _ => Err(Fault::BadType),
     }
 }
 
-/// The difference of two integers, which wraps at 32 bits.
-pub fn difference(left: Value, right: Value) -> Result<Value, Fault>
-    ensures { result ≡ computed subtracted left right }
+/// The difference of the integers in two registers, which wraps at 32 bits.
+pub fn difference(activity: &Activity, left: u8, right: u8) -> Result<Value, Fault>
+    requires left_there { left < length activity.now.top.regs }
+    requires right_there { right < length activity.now.top.regs }
+    ensures { result ≡ computed subtracted (register_of activity.now.top left) (register_of activity.now.top right) }
 {
-    match (left, right) {
+    match (activity.read(left), activity.read(right)) {
         (Value::Int(x), Value::Int(y)) => Ok(Value::Int(x.wrapping_sub(y))),
         _ => Err(Fault::BadType),
     }
 }
 
-/// Whether an integer is below another.
-pub fn comparison(left: Value, right: Value) -> Result<Value, Fault>
-    ensures { result ≡ computed compared left right }
+/// Whether the integer in one register is below that in another: 1 or 0.
+pub fn comparison(activity: &Activity, left: u8, right: u8) -> Result<Value, Fault>
+    requires left_there { left < length activity.now.top.regs }
+    requires right_there { right < length activity.now.top.regs }
+    ensures { result ≡ computed compared (register_of activity.now.top left) (register_of activity.now.top right) }
 {
-    match (left, right) {
+    match (activity.read(left), activity.read(right)) {
         (Value::Int(x), Value::Int(y)) => Ok(integer_for(x < y)),
         _ => Err(Fault::BadType),
     }
 }
 
-/// Whether the values are the same.
-pub fn equality(left: Value, right: Value) -> Value
-    ensures { result ≡ truth (same_value left right) }
+/// Whether two registers have the same value: 1 or 0.
+pub fn equality(activity: &Activity, left: u8, right: u8) -> Value
+    requires left_there { left < length activity.now.top.regs }
+    requires right_there { right < length activity.now.top.regs }
+    ensures { result ≡ truth (same_value (register_of activity.now.top left) (register_of activity.now.top right)) }
 {
-    integer_for(is_same(left, right))
+    integer_for(is_same(activity.read(left), activity.read(right)))
 }
 
 fn is_same(left: Value, right: Value) -> bool
@@ -78,7 +84,7 @@ pub fn is_zero(value: Value) -> bool
 }
 
 /// The address so many cells on, in the same object.
-pub fn move_on(heap: &Heap, places: u8, value: Value) -> Result<Value, Fault>
+pub fn moved_on(heap: &Heap, places: u8, value: Value) -> Result<Value, Fault>
     ensures { result ≡ address_moved heap.now places value }
 {
     match value {
@@ -88,80 +94,5 @@ pub fn move_on(heap: &Heap, places: u8, value: Value) -> Result<Value, Fault>
         },
         Value::Null => Err(Fault::Null),
         Value::Int(_) => Err(Fault::BadType),
-    }
-}
-
-/// The cell that the value is the address of, where thread t, in so many sections, may access it so.
-pub fn access(
-    heap: &Heap,
-    forest: &Forest,
-    t: u32,
-    depth: u8,
-    effect: Effect,
-    value: Value,
-) -> Result<Cell, Fault>
-    requires thread { t < forest.now.threads }
-    requires classes { AreOfClasses forest.now.classes heap.now }
-    requires points { Points heap.now value }
-    ensures value { result ≡ accessed forest.now.holding heap.now t depth effect value }
-    ensures there { IfOk result (λ cell. IsSome (cell_at heap.now cell)) }
-{
-    match value {
-        Value::Addr(object, offset) => allow(
-            heap,
-            forest,
-            t,
-            depth,
-            effect,
-            Cell { object, offset },
-        ),
-        Value::Null => Err(Fault::Null),
-        Value::Int(_) => Err(Fault::BadType),
-    }
-}
-
-/// The cell, where the access is allowed.
-fn allow(
-    heap: &Heap,
-    forest: &Forest,
-    t: u32,
-    depth: u8,
-    effect: Effect,
-    cell: Cell,
-) -> Result<Cell, Fault>
-    requires thread { t < forest.now.threads }
-    requires classes { AreOfClasses forest.now.classes heap.now }
-    ensures { result ≡ allowed_cell (is_protected forest.now.holding heap.now t depth effect cell) effect cell }
-{
-    if is_allowed(heap, forest, t, depth, effect, cell) {
-        Ok(cell)
-    } else {
-        Err(Fault::Unprotected(cell, effect))
-    }
-}
-
-/// Whether the thread is in a section, and its locks cover the cell for the effect.
-fn is_allowed(heap: &Heap, forest: &Forest, t: u32, depth: u8, effect: Effect, cell: Cell) -> bool
-    requires thread { t < forest.now.threads }
-    requires classes { AreOfClasses forest.now.classes heap.now }
-    ensures { result ≡ is_protected forest.now.holding heap.now t depth effect cell }
-{
-    if depth == 0 {
-        return false;
-    }
-    match heap.class(usize::from(cell.object)) {
-        Some(class) => forest.covers(t, cell, class, effect),
-        None => false,
-    }
-}
-
-/// The value of the cell.
-pub fn load(heap: &Heap, target: Result<Cell, Fault>) -> Result<Value, Fault>
-    requires { IfOk target (λ cell. IsSome (cell_at heap.now cell)) }
-    ensures { result ≡ loaded heap.now target }
-{
-    match target {
-        Ok(cell) => Ok(heap.read(cell)),
-        Err(fault) => Err(fault),
     }
 }

@@ -1,6 +1,6 @@
 use Rattle.asl_lock_forest.specs.Holding.{grant}
 use Rattle.asl_machine.proofs.Grants.{answers_are}
-use Rattle.asl_machine.proofs.perform.ask.Goals as goal
+use Rattle.asl_machine.proofs.sections.ask.Goals as goal
 
 pub returns-clause-granted : goal.returns-clause-granted
 returns-clause-granted c =

@@ -1,6 +1,6 @@
 use Rattle.std.proofs.Common.{◌≡◌}
 use Rattle.asl_machine.proofs.RequestLaws.{request_names_once, request_asks_modes, request_asks_parents, request_is_of_classes}
-use Rattle.asl_machine.proofs.perform.enter.Goals as goal
+use Rattle.asl_machine.proofs.sections.enter.Goals as goal
 
 pub ask-requires-clause-distinct : goal.ask-requires-clause-distinct
 ask-requires-clause-distinct c = rw (c.as_slice.ensures.value, c.in_ok-request.ensures) (request_names_once c.args.heap.now c.regs.result.now c.args.locks.now)

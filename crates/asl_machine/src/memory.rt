@@ -1,0 +1,175 @@
+//! What instructions do to the cells of objects: they read and write those that the thread's locks cover, and make new ones.
+ghost use Rattle.std.specs.Prelude.{◌≡◌, ◌<◌, ◌≤◌, ◌+◌, ◌^◌, IfOk, OnOk, OnErr, IsSome, length};
+ghost use Rattle.asl_code.specs.declared.value.Effect.TheVariants.{Read, Write};
+ghost use Rattle.asl_machine.specs.Access.{is_protected, Points, AllPoint, AreOfClasses};
+ghost use Rattle.asl_machine.specs.State.{cell_at};
+ghost use Rattle.asl_machine.specs.Twin.{place, accessed_by, accessed, allowed_cell, register_of, fate_of, loaded, activity_stored, objects_stored, made_address, made_objects};
+
+use crate::fate::Fate;
+use crate::fault::Fault;
+use crate::frame::Activity;
+use crate::heap::Heap;
+use asl_code::{Cell, Effect, Value};
+use asl_lock_forest::Forest;
+use std::alloc::{AllocError, Global};
+
+/// The value of the cell that the register holds the address of, where the thread may read it.
+pub fn load(
+    heap: &Heap,
+    forest: &Forest,
+    t: u32,
+    activity: &Activity,
+    register: u8,
+) -> Result<Value, Fault>
+    requires there { register < length activity.now.top.regs }
+    requires thread { t < forest.now.threads }
+    requires classes { AreOfClasses forest.now.classes heap.now }
+    requires points { AllPoint heap.now activity.now.top.regs }
+    ensures { result ≡ loaded heap.now (accessed_by (place t activity.now heap.now forest.now) Read register) }
+{
+    match target(heap, forest, t, activity, Effect::Read, register) {
+        Ok(cell) => Ok(heap.read(cell)),
+        Err(fault) => Err(fault),
+    }
+}
+
+/// Puts the value of one register into the cell that another holds the address of, where the thread may write it, or
+/// fails.
+pub fn store(
+    heap: &mut Heap,
+    forest: &Forest,
+    t: u32,
+    activity: &mut Activity,
+    address: u8,
+    from: u8,
+) -> Fate
+    requires address_there { address < length activity.old.top.regs }
+    requires value_there { from < length activity.old.top.regs }
+    requires thread { t < forest.now.threads }
+    requires classes { AreOfClasses forest.now.classes heap.old }
+    requires points { AllPoint heap.old activity.old.top.regs }
+    requires room { activity.old.top.pc + 1 < 2 ^ 16 }
+    ensures fate { result ≡ fate_of (accessed_by (place t activity.old heap.old forest.now) Write address) }
+    ensures activity { activity.new ≡ activity_stored activity.old
+        (accessed_by (place t activity.old heap.old forest.now) Write address) }
+    ensures objects { heap.new ≡ objects_stored heap.old (register_of activity.old.top from)
+        (accessed_by (place t activity.old heap.old forest.now) Write address) }
+{
+    match target(heap, forest, t, activity, Effect::Write, address) {
+        Ok(cell) => {
+            heap.write(cell, activity.read(from));
+            activity.advance();
+            Fate::GoesOn
+        }
+        Err(fault) => Fate::Fails(fault),
+    }
+}
+
+/// Makes an object, and answers its address, unless there are as many objects as there may be.
+pub fn make(
+    alloc: Global,
+    heap: &mut Heap,
+    cells: u8,
+    class: u16,
+) -> Result<Result<Value, Fault>, AllocError>
+    requires { length heap.old ≤ 65536 }
+    ensures address { IfOk result (λ address. address ≡ made_address heap.old) }
+    ensures objects { OnOk result (heap.new ≡ made_objects heap.old cells class) }
+    ensures err { OnErr result (heap.new ≡ heap.old) }
+{
+    if heap.len() == 65_536 {
+        return Ok(Err(Fault::Full));
+    }
+    let number = heap.make(alloc, cells, class)?;
+    Ok(Ok(Value::Addr(number, 0)))
+}
+
+/// The cell that the register holds the address of, where the thread may access it so.
+fn target(
+    heap: &Heap,
+    forest: &Forest,
+    t: u32,
+    activity: &Activity,
+    effect: Effect,
+    register: u8,
+) -> Result<Cell, Fault>
+    requires there { register < length activity.now.top.regs }
+    requires thread { t < forest.now.threads }
+    requires classes { AreOfClasses forest.now.classes heap.now }
+    requires points { AllPoint heap.now activity.now.top.regs }
+    ensures value { result ≡ accessed_by (place t activity.now heap.now forest.now) effect register }
+    ensures there { IfOk result (λ cell. IsSome (cell_at heap.now cell)) }
+{
+    access(
+        heap,
+        forest,
+        t,
+        activity.depth(),
+        effect,
+        activity.read(register),
+    )
+}
+
+/// The cell that the value is the address of, where thread t, in so many sections, may access it so.
+fn access(
+    heap: &Heap,
+    forest: &Forest,
+    t: u32,
+    depth: u8,
+    effect: Effect,
+    value: Value,
+) -> Result<Cell, Fault>
+    requires thread { t < forest.now.threads }
+    requires classes { AreOfClasses forest.now.classes heap.now }
+    requires points { Points heap.now value }
+    ensures value { result ≡ accessed forest.now.holding heap.now t depth effect value }
+    ensures there { IfOk result (λ cell. IsSome (cell_at heap.now cell)) }
+{
+    match value {
+        Value::Addr(object, offset) => allow(
+            heap,
+            forest,
+            t,
+            depth,
+            effect,
+            Cell { object, offset },
+        ),
+        Value::Null => Err(Fault::Null),
+        Value::Int(_) => Err(Fault::BadType),
+    }
+}
+
+/// The cell, where the access is allowed.
+fn allow(
+    heap: &Heap,
+    forest: &Forest,
+    t: u32,
+    depth: u8,
+    effect: Effect,
+    cell: Cell,
+) -> Result<Cell, Fault>
+    requires thread { t < forest.now.threads }
+    requires classes { AreOfClasses forest.now.classes heap.now }
+    ensures { result ≡ allowed_cell (is_protected forest.now.holding heap.now t depth effect cell) effect cell }
+{
+    if is_allowed(heap, forest, t, depth, effect, cell) {
+        Ok(cell)
+    } else {
+        Err(Fault::Unprotected(cell, effect))
+    }
+}
+
+/// Whether the thread is in a section, and its locks cover the cell for the effect.
+fn is_allowed(heap: &Heap, forest: &Forest, t: u32, depth: u8, effect: Effect, cell: Cell) -> bool
+    requires thread { t < forest.now.threads }
+    requires classes { AreOfClasses forest.now.classes heap.now }
+    ensures { result ≡ is_protected forest.now.holding heap.now t depth effect cell }
+{
+    if depth == 0 {
+        return false;
+    }
+    match heap.class(usize::from(cell.object)) {
+        Some(class) => forest.covers(t, cell, class, effect),
+        None => false,
+    }
+}
