@@ -11,7 +11,8 @@ use Rattle.asl_mode_lanes.proofs.ModeLaws.{compatible-NL}
 use Rattle.asl_lock_forest.specs.declared.node.Node.{Node}
 use Rattle.asl_lock_forest.specs.declared.node.Node.TheVariants.{Root}
 use Rattle.asl_lock_forest.specs.declared.entries.Entry.{Entry}
-use Rattle.asl_lock_forest.specs.Keys.{Key, key, key_cmp, key_total, key_exact}
+use Rattle.asl_lock_forest.specs.Keys.{Key, key, key_cmp}
+use Rattle.asl_lock_forest.proofs.KeyLaws.{key_total, key_exact}
 use Rattle.asl_lock_forest.specs.Holding.{Holding, held, no_holding, Request, asked, grant, release, CanGrant, HoldsNothing}
 use Rattle.asl_lock_forest.specs.Request.{IsRefused, names}
 use Rattle.asl_lock_forest.specs.Entries.{key_of, holding_of, entry_of, goes_with}

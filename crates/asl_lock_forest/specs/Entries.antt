@@ -9,20 +9,20 @@ use Rattle.asl_lock_forest.specs.declared.entries.Entry.{Entry}
 use Rattle.asl_lock_forest.specs.Keys.{Key, key}
 use Rattle.asl_lock_forest.specs.Holding.{Holding, held, no_holding, Request, asked}
 
--- the key of an entry
+-- the key of an entry (docs/LOCKS.md, Lawful holdings)
 abbrev pub key_of : Entry → Key
 key_of entry = key entry.thread entry.node
 
--- what the entries of a list are: who holds what
+-- what the entries of a list are: who holds what (docs/LOCKS.md, Lawful holdings)
 abbrev pub holding_of : List Entry → Holding
 holding_of [] = no_holding
 holding_of (entry ∷ others) = map.insert (holding_of others) (key_of entry) entry.mode
 
--- the entry of an ask that a thread is granted
+-- the entry of an ask that a thread is granted (docs/LOCKS.md, Requests)
 abbrev pub entry_of : ℕ → Node × Mode → Entry
 entry_of thread ask = record { thread = thread; node = ask.0; mode = ask.1 }
 
--- whether what the entry's thread holds at its node goes with the request of a thread
+-- whether what the entry's thread holds at its node goes with the request of a thread (docs/LOCKS.md, Requests)
 abbrev pub goes_with : Holding → ℕ → Request → Entry → Bool
 goes_with h thread request entry =
     (entry.thread == thread) || is_compatible (asked request entry.node) (held h entry.thread entry.node)
