@@ -1,7 +1,7 @@
 -- Where functions begin.
-use Rattle.std.proofs.Common.{◌≡◌, ℕ, zero, suc, ◌+◌, ◌<◌, List, [], ◌∷◌, length, get_or, take, refl, ap, sym, ◌∙◌, arith}
+use Rattle.std.proofs.Common.{◌≡◌, ℕ, zero, suc, ◌+◌, ◌<◌, List, [], ◌∷◌, length, get_or, refl, sym, ◌∙◌, arith}
 use Rattle.asl_code.specs.declared.image.Function.{Function}
-use Rattle.asl_code.specs.Bodies.{first_of, total_len}
+use Rattle.asl_code.specs.Bodies.{first_of}
 use Rattle.asl_code.proofs.FitsLaws.{begin-suc}
 use Rattle.asl_machine.specs.Calls.{firsts_from}
 

@@ -1,16 +1,14 @@
 -- The test for a grant that looks at each thread below the count tells whether the request can be granted.
-use Rattle.std.proofs.Common.{◌≡◌, ◌≢◌, ℕ, zero, suc, ◌<◌, ◌≤◌, ◌⊎◌, ◌↔◌, Bool, true, false, cond, not, ◌&&◌, ◌||◌, ◌==◌, List, [], ◌∷◌, Option, None, Some, refl, sym, ap, ◌∙◌, subst, inl, inr, IsTrue, arith, eqb-true, ne_eqb, eq-eqb}
+use Rattle.std.proofs.Common.{◌≡◌, ◌≢◌, ℕ, zero, suc, ◌<◌, ◌≤◌, ◌⊎◌, ◌↔◌, Bool, true, false, cond, ◌&&◌, ◌||◌, ◌==◌, [], ◌∷◌, None, Some, refl, sym, ap, ◌∙◌, subst, inl, inr, IsTrue, arith, ne_eqb, eq-eqb}
 use Rattle.std.specs.Prelude.{unwrap_or, Result, Ok, Err, IfOk}
 use Rattle.asl_lock_forest.specs.Held.{Held, IsForest}
 use Rattle.std.specs.List.{list_all}
 use Rattle.std.specs.FinMap as map
 use Rattle.std.proofs.lemmas.Bool.{cases_lt, and_from, and_parts}
-use Rattle.asl_mode_lanes.specs.declared.mode.Mode.{Mode}
 use Rattle.asl_mode_lanes.specs.declared.mode.Mode.TheVariants.{NL}
 use Rattle.asl_mode_lanes.specs.Mode.{is_compatible, AreCompatible}
 use Rattle.asl_mode_lanes.proofs.ModeLaws.{compatible-NL}
 use Rattle.asl_lock_forest.specs.declared.node.Node.{Node}
-use Rattle.asl_lock_forest.specs.Node.{same_node}
 use Rattle.asl_lock_forest.specs.Keys.{key}
 use Rattle.asl_lock_forest.specs.Holding.{Holding, Request, asked, held, HoldsNothing, CanGrant, IsWithin}
 use Rattle.asl_lock_forest.specs.Request.{IsInTheWay, IsRefused}

@@ -1,5 +1,5 @@
 -- What a store and a new object leave of the heap: its objects, their classes and their sizes.
-use Rattle.std.proofs.Common.{◌≡◌, ◌≢◌, ℕ, ◌+◌, ◌<◌, ◌≤◌, ◌⊎◌, ◌++◌, Bool, true, false, cond, ltb, replicate, pos, zero, suc, List, [], ◌∷◌, Option, Some, None, Result, Ok, Err, IfOk, length, set, slice_get, refl, ap, sym, ◌∙◌, subst, inl, inr, arith, length-set}
+use Rattle.std.proofs.Common.{◌≡◌, ℕ, ◌+◌, ◌<◌, ◌≤◌, ◌⊎◌, ◌++◌, true, false, cond, ltb, replicate, pos, List, [], ◌∷◌, Option, Some, None, IfOk, length, set, slice_get, refl, ap, sym, ◌∙◌, subst, inl, inr, arith, length-set}
 use Rattle.std.specs.Prelude.{IsSome, option_map, option_and_then}
 use Rattle.std.specs.Option.{option_map_or}
 use Rattle.std.proofs.lemmas.Bool.Decides.{eqb_tells}
@@ -13,7 +13,7 @@ use Rattle.asl_code.specs.declared.value.Cell.{Cell}
 use Rattle.asl_machine.specs.State.{Object, cell_at, class_of, size_of, with_cell, written, fresh_object}
 use Rattle.asl_machine.specs.Expression.{cell_of}
 use Rattle.asl_machine.specs.Twin.{address_or_bounds, address_moved}
-use Rattle.asl_machine.specs.Access.{Points, AllPoint, AreOfClasses}
+use Rattle.asl_machine.specs.Access.{Points}
 use Rattle.asl_machine.specs.Sound.{AreSound}
 use Rattle.asl_machine.proofs.Lists.{get_same, get_other, get_kept, get_either, one_more, replicated, get_before, get_last, is_there}
 

@@ -1,7 +1,7 @@
 -- Laws of joining asks into a request.
-use Rattle.std.proofs.Common.{◌≡◌, ◌≢◌, ℕ, ◌+◌, ◌<◌, ◌≤◌, Bool, true, false, cond, not, List, [], ◌∷◌, ◌++◌, length, get_or, set, refl, sym, ap, ◌∙◌, subst, suc, arith, ltb-true, ltb-false, leb-true}
+use Rattle.std.proofs.Common.{◌≡◌, ℕ, ◌+◌, ◌<◌, ◌≤◌, Bool, true, false, cond, not, [], ◌∷◌, ◌++◌, length, get_or, set, refl, sym, ap, subst, suc, arith, ltb-true, ltb-false}
 use Rattle.std.proofs.lemmas.Option.{cond_some}
-use Rattle.std.specs.Prelude.{Option, None, Some, position, if◌then◌else◌}
+use Rattle.std.specs.Prelude.{Option, None, Some, position}
 use Rattle.std.specs.List.{position_or_len}
 use Rattle.asl_mode_lanes.specs.declared.mode.Mode.{Mode}
 use Rattle.asl_mode_lanes.specs.Mode.{join_of}

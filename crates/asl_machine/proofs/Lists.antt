@@ -1,5 +1,5 @@
 -- What a list gives after a write.
-use Rattle.std.proofs.Common.{◌≡◌, ◌≢◌, ℕ, zero, suc, ◌<◌, ◌⊎◌, List, [], ◌∷◌, ◌++◌, replicate, Option, Some, None, length, set, slice_get, refl, ap, sym, inl, inr, arith}
+use Rattle.std.proofs.Common.{◌≡◌, ◌≢◌, ℕ, zero, suc, ◌<◌, ◌⊎◌, List, [], ◌∷◌, ◌++◌, replicate, Some, length, set, slice_get, refl, ap, sym, inl, inr, arith}
 use Rattle.std.specs.Prelude.{IsSome}
 
 -- at the place of the write, what was written

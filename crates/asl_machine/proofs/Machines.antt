@@ -1,5 +1,5 @@
 -- What every machine keeps, at its start and over a step.
-use Rattle.std.proofs.Common.{◌≡◌, ℕ, ◌<◌, ◌≤◌, List, Option, Some, length, set, slice_get, map, refl, ap, sym, ◌∙◌, subst, arith, length-set}
+use Rattle.std.proofs.Common.{◌≡◌, ℕ, ◌<◌, ◌≤◌, List, Some, length, set, slice_get, map, ap, sym, ◌∙◌, subst, arith, length-set}
 use Rattle.asl_code.specs.declared.image.Image.{Image}
 use Rattle.asl_code.specs.Fits.{FitsImage}
 use Rattle.asl_lock_forest.specs.Holding.{Holding, no_holding}

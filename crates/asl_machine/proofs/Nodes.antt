@@ -1,5 +1,5 @@
 -- Each node that a thread holds in a reached state is there.
-use Rattle.std.proofs.Common.{◌≡◌, ◌≢◌, ℕ, ◌+◌, ◌<◌, ◌⊎◌, ◌==◌, ◌++◌, ◌∷◌, Bool, true, false, cond, List, [], Option, Some, None, Result, Ok, Err, IfOk, length, slice_get, refl, ap, sym, ◌∙◌, subst, inl, inr, eqb-true, eq-eqb}
+use Rattle.std.proofs.Common.{◌≡◌, ◌≢◌, ℕ, ◌<◌, ◌⊎◌, ◌==◌, ◌++◌, ◌∷◌, Bool, true, false, cond, List, [], Option, Some, None, Result, Ok, Err, IfOk, length, slice_get, refl, ap, sym, ◌∙◌, subst, inl, inr, eqb-true, eq-eqb}
 use Rattle.std.specs.Prelude.{All, IsSome, option_and_then, unwrap_or}
 use Rattle.std.specs.Option.{option_map_or}
 use Rattle.std.proofs.lemmas.List.Elements.{All-from_recursion, recursion_from_All}
@@ -16,11 +16,10 @@ use Rattle.asl_code.specs.declared.value.Value.{Value}
 use Rattle.asl_code.specs.declared.value.Value.TheVariants.{Int, Null, Addr}
 use Rattle.asl_code.specs.declared.value.Cell.{Cell}
 use Rattle.asl_code.specs.declared.value.Effect.{Effect}
-use Rattle.asl_code.specs.declared.value.Effect.TheVariants.{Read, Write}
+use Rattle.asl_code.specs.declared.value.Effect.TheVariants.{Write}
 use Rattle.asl_code.specs.Fits.{FitsImage, FitsInstr, HasBase, HasLock}
 use Rattle.asl_mode_lanes.specs.declared.mode.Mode.{Mode}
 use Rattle.asl_mode_lanes.specs.declared.mode.Mode.TheVariants.{NL}
-use Rattle.asl_mode_lanes.specs.Mode.{AtMost}
 use Rattle.asl_mode_lanes.proofs.ModeLaws.{at_most-NL}
 use Rattle.asl_lock_forest.specs.declared.node.Node.{Node}
 use Rattle.asl_lock_forest.specs.declared.node.Node.TheVariants.{Root, Class, Leaf}
@@ -33,7 +32,7 @@ use Rattle.asl_machine.specs.State.{Object, Activity, Thread, Running, Done, Fai
 use Rattle.asl_machine.specs.Access.{Points, AllPoint, AreOfClasses}
 use Rattle.asl_machine.specs.Expression.{pointed, base_cell, walked, path_cell, cell_denoted}
 use Rattle.asl_machine.specs.Request.{heap_of, leaf_asks, cell_asks, asks_of, all_asks, joined_all, request_of, IsAsk, locks_of}
-use Rattle.asl_machine.specs.Twin.{address_or_bounds, objects_stored, made_objects, accessed_by, register_of, request_at, can_grant, left_by, left_at, turn_by, turn_of, holding_after, step_at, step_of}
+use Rattle.asl_machine.specs.Twin.{address_or_bounds, objects_stored, accessed_by, register_of, can_grant, left_by, left_at, turn_by, turn_of, holding_after, step_at, step_of}
 use Rattle.asl_machine.specs.Run.{start_of, state_after, IsReached}
 use Rattle.asl_machine.specs.Sound.{AreSound, IsSound}
 use Rattle.asl_machine.specs.Nodes.{IsLeaf, IsNode}

@@ -1,6 +1,6 @@
 -- What holds of every state that a schedule reaches.
-use Rattle.std.proofs.Common.{◌≡◌, ◌≢◌, ℕ, zero, suc, ◌<◌, ◌≤◌, ◌⊎◌, ◌==◌, ◌&&◌, ◌||◌, Bool, true, false, cond, List, [], ◌∷◌, Option, Some, None, IsTrue, length, slice_get, refl, ap, sym, ◌∙◌, subst, inl, inr, arith, length-set, eqb-true, eq-eqb}
-use Rattle.std.specs.Prelude.{IsSome, option_and_then, unwrap_or}
+use Rattle.std.proofs.Common.{◌≡◌, ◌≢◌, ℕ, zero, suc, ◌⊎◌, ◌==◌, ◌&&◌, ◌||◌, Bool, true, false, List, [], ◌∷◌, Option, Some, None, length, slice_get, refl, ap, sym, ◌∙◌, subst, inl, inr, length-set, eq-eqb}
+use Rattle.std.specs.Prelude.{IsSome, option_and_then}
 use Rattle.std.specs.List.{list_all}
 use Rattle.std.proofs.lemmas.Bool.{false_from_ne_true}
 use Rattle.std.proofs.lemmas.Option.{slice_get_within}
@@ -9,17 +9,15 @@ use Rattle.asl_code.specs.declared.image.Image.{Image}
 use Rattle.asl_code.specs.declared.instr.Instr.{Instr}
 use Rattle.asl_code.specs.declared.instr.Instr.TheVariants as instr
 use Rattle.asl_code.specs.Fits.{FitsImage}
-use Rattle.asl_mode_lanes.specs.declared.mode.Mode.{Mode}
 use Rattle.asl_mode_lanes.specs.declared.mode.Mode.TheVariants.{NL}
 use Rattle.asl_mode_lanes.specs.Mode.{is_compatible, AreCompatible}
 use Rattle.asl_mode_lanes.proofs.ModeLaws.{compatible-NL}
 use Rattle.asl_lock_forest.specs.declared.node.Node.{Node}
-use Rattle.asl_lock_forest.specs.Holding.{Holding, Request, CanGrant, asked, held, HoldsNothing}
-use Rattle.asl_machine.specs.declared.reply.Reply.{Reply}
+use Rattle.asl_lock_forest.specs.Holding.{Holding, Request, CanGrant, asked, held}
 use Rattle.asl_machine.specs.declared.reply.Reply.TheVariants as reply
 use Rattle.asl_machine.specs.State.{Activity, Thread, Running, Done, Failed, State, activity_of, activity_at, depth_at}
-use Rattle.asl_machine.specs.Run.{start_of, first_threads, state_after, IsReached}
-use Rattle.asl_machine.specs.Step.{At, Line, StepOf, Step}
+use Rattle.asl_machine.specs.Run.{start_of, state_after, IsReached}
+use Rattle.asl_machine.specs.Step.{At, Line, StepOf}
 use Rattle.asl_machine.specs.Twin.{is_free, can_grant, step_at, step_of}
 use Rattle.asl_machine.specs.Sound.{IsSound}
 use Rattle.asl_machine.specs.World.{SomeoneGoesOn}

@@ -1,5 +1,5 @@
 -- Laws of requests: that a request is the least map that is at least every ask, and what the forest wants of one.
-use Rattle.std.proofs.Common.{◌≡◌, ◌≢◌, ℕ, ◌<◌, ◌⊎◌, Bool, true, false, cond, not, ◌&&◌, ◌||◌, List, [], ◌∷◌, ◌++◌, Option, None, Some, refl, sym, ap, ◌∙◌, subst, inl, inr, IsTrue}
+use Rattle.std.proofs.Common.{◌≡◌, ℕ, ◌<◌, ◌⊎◌, Bool, true, false, cond, not, ◌&&◌, ◌||◌, List, [], ◌∷◌, ◌++◌, Option, None, Some, refl, sym, ap, ◌∙◌, subst, inl, inr, IsTrue}
 use Rattle.std.specs.Prelude.{All}
 use Rattle.std.proofs.lemmas.Bool.{not-true, and_parts, or_parts}
 use Rattle.std.specs.Option.{option_map_or}
@@ -15,7 +15,7 @@ use Rattle.asl_code.specs.declared.lock.Lock.TheVariants as lock
 use Rattle.asl_mode_lanes.specs.declared.mode.Mode.{Mode}
 use Rattle.asl_mode_lanes.specs.declared.mode.Mode.TheVariants.{NL, IS, IX, S, SIX, X}
 use Rattle.asl_mode_lanes.specs.Mode.{AtMost, is_at_most, join_of}
-use Rattle.asl_mode_lanes.proofs.ModeLaws.{at_most_refl, at_most_trans, at_most-NL, join_left, join_right, join_least}
+use Rattle.asl_mode_lanes.proofs.ModeLaws.{at_most_refl, at_most_trans, join_left, join_right, join_least}
 use Rattle.asl_lock_forest.specs.declared.node.Node.{Node}
 use Rattle.asl_lock_forest.specs.declared.node.Node.TheVariants.{Root, Class, Leaf}
 use Rattle.asl_lock_forest.specs.Node.{same_node, node_code, parent_of, parent_mode, IsRooted, IsThere}

@@ -1,7 +1,7 @@
 -- Each step keeps what holds of every reached state: one lemma for the parts that a step may change, and one a group
 -- of instructions.
-use Rattle.std.proofs.Common.{◌≡◌, ◌≢◌, ℕ, ℤ, ◌+◌, ◌-◌, ◌<◌, ◌≤◌, ◌⊎◌, ◌==◌, ◌++◌, ◌^◌, zero, suc, pos, replicate, take, drop, map, length-append, Bool, true, false, cond, List, [], ◌∷◌, Option, Some, None, Result, Ok, Err, IfOk, IsTrue, length, set, slice_get, refl, ap, sym, ◌∙◌, subst, inl, inr, arith, length-set, eqb-true, eq-eqb, All}
-use Rattle.std.specs.Prelude.{int_lt, IsSome, IsSomeAnd, option_map, option_and_then, unwrap_or}
+use Rattle.std.proofs.Common.{◌≡◌, ◌≢◌, ℕ, ℤ, ◌+◌, ◌-◌, ◌<◌, ◌≤◌, ◌⊎◌, ◌==◌, ◌++◌, zero, suc, pos, replicate, take, drop, map, length-append, Bool, true, false, cond, List, [], ◌∷◌, Option, Some, None, Result, Ok, Err, IfOk, length, set, slice_get, refl, ap, sym, ◌∙◌, subst, inl, inr, arith, length-set, eqb-true, eq-eqb, All}
+use Rattle.std.specs.Prelude.{int_lt, IsSomeAnd, option_and_then, unwrap_or}
 use Rattle.std.specs.Option.{option_map_or}
 use Rattle.std.proofs.lemmas.Bool.Decides.{eqb_tells}
 use Rattle.std.proofs.lemmas.Option.{slice_get_cases, slice_get_within, same_Some}
@@ -16,7 +16,6 @@ use Rattle.asl_code.specs.declared.lock.Lock.TheVariants as lock
 use Rattle.asl_code.specs.declared.value.Value.{Value}
 use Rattle.asl_code.specs.declared.value.Value.TheVariants.{Int, Null, Addr}
 use Rattle.asl_code.specs.declared.value.Cell.{Cell}
-use Rattle.asl_code.specs.declared.value.Effect.{Effect}
 use Rattle.asl_code.specs.declared.value.Effect.TheVariants.{Read, Write}
 use Rattle.asl_code.specs.Fits.{FitsImage, FitsInstr, FitsLock, LiesIn}
 use Rattle.asl_code.specs.Verified.{is_end}
@@ -28,16 +27,15 @@ use Rattle.asl_lock_forest.specs.Held.{Held}
 use Rattle.asl_lock_forest.specs.Holding.{Holding, Request, HoldsNothing, grant, release, IsLawful, IsWithin}
 use Rattle.asl_lock_forest.proofs.Laws.{nothing_released, nothing_kept_release, nothing_kept_grant}
 use Rattle.asl_lock_forest.proofs.Lawful.{lawful_empty, within_empty, lawful_grant, lawful_release, within_grant, within_release}
-use Rattle.asl_machine.specs.declared.fate.Fate.{Fate}
 use Rattle.asl_machine.specs.declared.fate.Fate.TheVariants as fate
 use Rattle.asl_machine.specs.declared.fault.Fault.{Fault}
 use Rattle.asl_machine.specs.declared.fault.Fault.TheVariants as fault
 use Rattle.asl_machine.specs.State.{Object, Frame, Activity, Thread, Running, Done, Failed, State, cell_at, class_of, size_of, written, fresh_object, activity_of, activity_at, depth_at}
 use Rattle.asl_machine.specs.Expression.{cell_of}
-use Rattle.asl_machine.specs.Access.{Points, AllPoint, AreOfClasses, IsReady, CanDo, is_protected}
+use Rattle.asl_machine.specs.Access.{Points, AllPoint, AreOfClasses, CanDo}
 use Rattle.asl_machine.specs.Request.{LockOfClass, locks_of, request_of}
 use Rattle.asl_machine.specs.Step.{placed_at, advanced, advanced_with, going_on, after, is_zero}
-use Rattle.asl_machine.specs.Twin.{Left, Place, Turn, fate_of, set_left, computed, added, subtracted, compared, truth, same_value, jump_left, show_left, address_moved, activity_set, make_left, loaded, accessed, accessed_by, store_left, left_alone, called, call_left, return_left, acquire_fate, activity_moved, holding_acquired, acquire_left, release_fate, holding_released, release_left, request_at, left_by, left_at, turn_by, turn_of, step_at, step_of, register_of, can_grant}
+use Rattle.asl_machine.specs.Twin.{Left, Place, fate_of, set_left, computed, added, subtracted, compared, truth, same_value, jump_left, show_left, address_moved, activity_set, make_left, loaded, accessed_by, store_left, left_alone, called, call_left, return_left, activity_moved, acquire_left, release_left, left_by, left_at, turn_by, turn_of, step_at, step_of, register_of, can_grant}
 use Rattle.asl_machine.specs.Sound.{IsPlaced, IsSuspended, AreSuspended, AreSound, IsSound, IsMachine, ThreadReady}
 use Rattle.asl_machine.specs.Calls.{function_of, first_registers, first_frame, values_from, frame_count, with_result, IsAwaited}
 use Rattle.asl_machine.specs.Run.{global_object, first_thread, first_threads, start_of}

@@ -1,39 +1,32 @@
 -- The computed step is the one line of the table that applies, at each state that a verified program reaches.
-use Rattle.std.proofs.Common.{◌≡◌, ◌≢◌, ℕ, ℤ, pos, ◌+◌, ◌-◌, ◌<◌, ◌≤◌, ◌⊎◌, ◌==◌, ◌&&◌, zero, suc, ltb, ◌++◌, Bool, true, false, cond, List, [], ◌∷◌, Option, Some, None, Result, Ok, Err, IsTrue, length, set, slice_get, refl, ap, sym, ◌∙◌, subst, inl, inr, arith, eqb-true, eq-eqb, ne_eqb}
+use Rattle.std.proofs.Common.{◌≡◌, ◌≢◌, ℕ, ℤ, ◌+◌, ◌-◌, ◌<◌, ◌≤◌, ◌==◌, ◌&&◌, ltb, ◌++◌, Bool, true, false, cond, List, [], ◌∷◌, Option, Some, None, Result, Ok, Err, length, slice_get, refl, ap, sym, ◌∙◌, subst, inl, inr, arith, eqb-true, eq-eqb}
 use Rattle.std.specs.Prelude.{IsSome, IsSomeAnd, unwrap_or}
-use Rattle.std.specs.Int.{w32, int_wrapping_add, int_wrapping_sub}
-use Rattle.std.specs.Ordering.{int_eq}
-use Rattle.std.specs.Prelude.{int_lt, ◌<ℤ◌, ◌≤ℤ◌, option_map, option_and_then}
+use Rattle.std.specs.Prelude.{int_lt, option_map, option_and_then}
 use Rattle.std.proofs.lemmas.Bool.{ltb-true, ltb-false}
 use Rattle.std.proofs.lemmas.Bool.Decides.{Decides-int_eq}
 use Rattle.std.proofs.lemmas.Int.{ints}
-use Rattle.std.proofs.lemmas.Option.{slice_get_cases, slice_get_within}
+use Rattle.std.proofs.lemmas.Option.{slice_get_cases}
 use Rattle.asl_code.specs.declared.image.Image.{Image}
 use Rattle.asl_code.specs.declared.image.Function.{Function}
 use Rattle.asl_code.specs.declared.instr.Instr.{Instr}
 use Rattle.asl_code.specs.declared.instr.Instr.TheVariants as instr
-use Rattle.asl_code.specs.declared.lock.Lock.{Lock}
 use Rattle.asl_code.specs.declared.value.Value.{Value}
 use Rattle.asl_code.specs.declared.value.Value.TheVariants.{Int, Null, Addr}
-use Rattle.asl_code.specs.declared.value.Cell.{Cell}
-use Rattle.asl_code.specs.declared.value.Effect.{Effect}
 use Rattle.asl_code.specs.declared.value.Effect.TheVariants.{Read, Write}
 use Rattle.asl_code.specs.Fits.{FitsInstr}
 use Rattle.asl_lock_forest.specs.Holding.{Holding, Request, CanGrant, grant, release}
-use Rattle.asl_machine.specs.declared.fate.Fate.{Fate}
 use Rattle.asl_machine.specs.declared.fate.Fate.TheVariants as fate
 use Rattle.asl_machine.specs.declared.fault.Fault.{Fault}
 use Rattle.asl_machine.specs.declared.fault.Fault.TheVariants as fault
-use Rattle.asl_machine.specs.declared.reply.Reply.{Reply}
 use Rattle.asl_machine.specs.declared.reply.Reply.TheVariants as reply
-use Rattle.asl_machine.specs.State.{Object, Frame, Activity, Thread, Running, Done, Failed, State, cell_at, size_of, written, fresh_object}
+use Rattle.asl_machine.specs.State.{Object, Frame, Activity, Thread, Running, Done, Failed, State, cell_at, size_of, fresh_object}
 use Rattle.asl_machine.specs.Expression.{cell_of}
-use Rattle.asl_machine.specs.Access.{Points, AllPoint, is_protected}
+use Rattle.asl_machine.specs.Access.{Points}
 use Rattle.asl_machine.specs.Calls.{first_frame, values_from, frame_count, with_result, IsAwaited}
 use Rattle.asl_machine.specs.Request.{locks_of, request_of}
-use Rattle.asl_machine.specs.Step.{At, placed_at, advanced, advanced_with, going_on, after, Reads, ReadsAddress, is_allowed, Sets, GoesOn, Fails, are_integers, is_zero, Computes, FailsOperands, IsBelow, IsNotBelow, AreSame, AreOther, JumpsIfZero, PassesBy, MovesOn, FailsBounds, Makes, Loads, Stores, FailsNull, FailsType, FailsUnprotected, Returns, ReturnsTo, Calls, FailsOpen, Nests, Asks, Enters, Waits, Unnests, Leaves, Line, StepOf, Step}
-use Rattle.asl_machine.specs.Twin.{Left, Place, Turn, fate_of, set_left, computed, added, subtracted, compared, truth, same_value, jump_left, show_left, address_or_bounds, address_moved, activity_set, make_left, allowed_cell, loaded, accessed, accessed_by, store_left, left_alone, called, call_left, return_left, acquire_fate, activity_moved, acquire_left, release_left, request_at, left_by, left_at, turn_by, turn_of, step_at, step_of, register_of, can_grant}
-use Rattle.asl_machine.specs.Sound.{IsPlaced, IsSound}
+use Rattle.asl_machine.specs.Step.{At, advanced, advanced_with, going_on, after, Reads, is_allowed, GoesOn, is_zero, FailsOperands, Asks, Line, StepOf, Step}
+use Rattle.asl_machine.specs.Twin.{Left, fate_of, set_left, computed, added, subtracted, compared, truth, same_value, jump_left, address_or_bounds, address_moved, activity_set, make_left, allowed_cell, loaded, accessed, store_left, left_alone, called, call_left, return_left, activity_moved, release_left, left_by, left_at, turn_by, step_at, step_of, register_of, can_grant}
+use Rattle.asl_machine.specs.Sound.{IsSound}
 use Rattle.asl_machine.proofs.Grants.{grant_when_free, can_grant-true}
 use Rattle.asl_machine.proofs.Soundness.{Here, here_of, here_place, instr_here, after_same, function_is, awaited_below}
 

@@ -1,5 +1,5 @@
 -- A step that the table allows is the computed one.
-use Rattle.std.proofs.Common.{◌≡◌, ◌≢◌, ℕ, ℤ, pos, ◌+◌, ◌-◌, ◌<◌, ◌≤◌, ◌⊎◌, ◌==◌, ◌++◌, ◌∷◌, ltb, Bool, true, false, cond, List, [], Option, Some, None, Result, Ok, Err, IsTrue, length, slice_get, refl, ap, sym, ◌∙◌, subst, inl, inr, arith, eq-eqb, ne_eqb}
+use Rattle.std.proofs.Common.{◌≡◌, ℕ, ℤ, pos, ◌+◌, ◌-◌, ◌<◌, ◌==◌, ◌++◌, ◌∷◌, ltb, Bool, true, false, cond, List, [], Some, None, Result, Ok, Err, length, slice_get, refl, ap, sym, ◌∙◌, subst, inl, inr, arith, eq-eqb, ne_eqb}
 use Rattle.std.specs.Prelude.{unwrap_or}
 use Rattle.std.specs.Prelude.{int_lt, ◌<ℤ◌, ◌≤ℤ◌, option_and_then}
 use Rattle.std.proofs.lemmas.Bool.{lt-ltb, le-ltb, false_from_ne_true}
@@ -7,26 +7,23 @@ use Rattle.std.proofs.lemmas.Int.{ints}
 use Rattle.asl_code.specs.declared.image.Image.{Image}
 use Rattle.asl_code.specs.declared.instr.Instr.{Instr}
 use Rattle.asl_code.specs.declared.instr.Instr.TheVariants as instr
-use Rattle.asl_code.specs.declared.lock.Lock.{Lock}
 use Rattle.asl_code.specs.declared.value.Value.{Value}
 use Rattle.asl_code.specs.declared.value.Value.TheVariants.{Int, Null, Addr}
 use Rattle.asl_code.specs.declared.value.Cell.{Cell}
 use Rattle.asl_code.specs.declared.value.Effect.{Effect}
 use Rattle.asl_code.specs.declared.value.Effect.TheVariants.{Read, Write}
-use Rattle.asl_lock_forest.specs.Holding.{Holding, Request, CanGrant, grant, release, IsWithin}
-use Rattle.asl_machine.specs.declared.fate.Fate.{Fate}
+use Rattle.asl_lock_forest.specs.Holding.{Holding, Request, CanGrant, grant, release}
 use Rattle.asl_machine.specs.declared.fate.Fate.TheVariants as fate
 use Rattle.asl_machine.specs.declared.fault.Fault.{Fault}
 use Rattle.asl_machine.specs.declared.fault.Fault.TheVariants as fault
 use Rattle.asl_machine.specs.declared.reply.Reply.{Reply}
 use Rattle.asl_machine.specs.declared.reply.Reply.TheVariants as reply
 use Rattle.asl_machine.specs.State.{Object, Frame, Activity, Thread, Running, Done, Failed, State, cell_at, size_of, written, fresh_object}
-use Rattle.asl_machine.specs.Access.{is_protected}
 use Rattle.asl_machine.specs.Calls.{frame_count, with_register, with_result}
 use Rattle.asl_machine.specs.Expression.{cell_of}
 use Rattle.asl_machine.specs.Request.{locks_of, request_of}
-use Rattle.asl_machine.specs.Step.{At, placed_at, advanced, advanced_with, going_on, after, Reads, ReadsAddress, is_allowed, Sets, GoesOn, GoesTo, Fails, are_integers, FailsOperands, is_zero, ReturnsTo, Asks, Line, StepOf, Step}
-use Rattle.asl_machine.specs.Twin.{Left, fate_of, set_left, computed, added, subtracted, compared, truth, same_value, jump_left, show_left, address_or_bounds, address_moved, activity_set, make_left, allowed_cell, loaded, accessed, accessed_by, store_left, left_alone, return_fate, called, call_left, return_left, acquire_fate, activity_moved, holding_acquired, acquire_left, release_fate, holding_released, release_left, left_by, left_at, turn_by, turn_of, step_at, step_of, register_of, can_grant}
+use Rattle.asl_machine.specs.Step.{At, advanced, going_on, after, Reads, ReadsAddress, is_allowed, Sets, GoesOn, GoesTo, Fails, are_integers, FailsOperands, is_zero, ReturnsTo, Asks, Line, StepOf, Step}
+use Rattle.asl_machine.specs.Twin.{Left, fate_of, set_left, computed, added, subtracted, compared, truth, same_value, jump_left, address_or_bounds, address_moved, activity_set, make_left, allowed_cell, loaded, accessed, accessed_by, store_left, left_alone, return_fate, called, call_left, return_left, activity_moved, acquire_left, release_left, left_by, left_at, turn_by, step_at, step_of, register_of, can_grant}
 use Rattle.asl_machine.specs.Sound.{IsSound}
 use Rattle.asl_machine.proofs.Grants.{grant_when_free, can_grant-true}
 use Rattle.asl_machine.proofs.Soundness.{here_place, after_same}

@@ -1,7 +1,7 @@
 -- Which accesses a thread's locks allow. The rule is that of S. Cherem, T. Chilimbi, S. Gulwani,
 -- "Inferring Locks for Atomic Sections" (2008): an access that no held lock protects does not happen
 -- (docs/LOCKS.md, "Covered cells"). And what private functions want of a state, so that an instruction can be done in it.
-use Rattle.std.specs.Prelude.{◌≡◌, ◌<◌, ◌≤◌, ◌+◌, ◌^◌, ℕ, length, All, Bool, false, ◌&&◌, nat_lt, List, Option, Some, slice_get, IsSome}
+use Rattle.std.specs.Prelude.{◌≡◌, ◌<◌, ◌≤◌, ◌+◌, ◌^◌, ℕ, length, All, Bool, false, ◌&&◌, nat_lt, List, Some, slice_get, IsSome}
 use Rattle.std.specs.Option.{option_map_or}
 use Rattle.asl_code.specs.declared.value.Value.{Value}
 use Rattle.asl_code.specs.declared.value.Value.TheVariants.{Int, Null, Addr}
@@ -19,25 +19,27 @@ use Rattle.asl_machine.specs.State.{Object, Frame, Activity, class_of, cell_at}
 use Rattle.asl_machine.specs.Expression.{cell_of}
 
 -- whether a thread that is in so many sections may access the cell: it is in one, and its locks cover the cell
+-- (docs/LOCKS.md, Covered cells)
 abbrev pub is_protected : Holding → List Object → ℕ → ℕ → Effect → Cell → Bool
 is_protected holding objects thread depth effect cell =
     nat_lt 0 depth && option_map_or (λ class. is_covered holding thread cell class effect) (class_of objects cell.object) false
 
--- if the value is an address, it is that of a cell that is there
+-- if the value is an address, it is that of a cell that is there (docs/INSTRUCTIONS.md, What always holds)
 abbrev pub Points : List Object → Value → Type 0
 Points objects (Int number) = Unit {0}
 Points objects Null = Unit {0}
 Points objects (Addr object offset) = IsSome (cell_at objects (cell_of object offset))
 
--- every address in the registers is that of a cell that is there
+-- every address in the registers is that of a cell that is there (docs/INSTRUCTIONS.md, What always holds)
 abbrev pub AllPoint : List Object → List Value → Type 0
 AllPoint objects regs = (register : ℕ) (value : Value) → slice_get regs register ≡ Some value → Points objects value
 
--- the classes of all objects are below the count
+-- the classes of all objects are below the count (docs/INSTRUCTIONS.md, What always holds)
 abbrev pub AreOfClasses : ℕ → List Object → Type 0
 AreOfClasses classes objects = (number class : ℕ) → class_of objects number ≡ Some class → class < classes
 
 -- the registers, globals and lists that the instruction names are there, and the classes that its locks name
+-- (docs/INSTRUCTIONS.md, A step)
 abbrev pub CanDo : Image → Frame → Instr → Type 0
 CanDo image f (SetInt to number) = to < length f.regs
 CanDo image f (SetNull to) = to < length f.regs
@@ -62,6 +64,7 @@ CanDo image f Release = Unit {0}
 
 -- what an instruction of a thread stands on: the cells that its registers point to are there, outside all sections
 -- the thread holds nothing, and a frame below has the register that awaits the value of the one above
+-- (docs/INSTRUCTIONS.md, What always holds)
 pub record IsReady (image : Image) (forest : Held) (objects : List Object) (thread : ℕ) (activity : Activity) : Type 0 where
   pub fits : FitsImage image
   pub there : thread < forest.threads

@@ -12,41 +12,43 @@ use Rattle.asl_code.specs.declared.path.Op.{Op}
 use Rattle.asl_code.specs.declared.path.Op.TheVariants.{Deref, Off}
 
 -- what an evaluation asks of a heap: the value of a cell and the size of an object, where they are there
+-- (docs/LOCKS.md, Expressions)
 pub record HeapView : Type 0 where
   pub cell : Cell → Option Value
   pub size : ℕ → Option ℕ
 
--- the cell of this object at this offset
+-- the cell of this object at this offset (docs/LOCKS.md, Expressions)
 abbrev pub cell_of : ℕ → ℕ → Cell
 cell_of object offset = record { object = object; offset = offset }
 
--- the cell that a value is the address of
+-- the cell that a value is the address of (docs/LOCKS.md, Expressions)
 abbrev pub pointed : Value → Option Cell
 pointed (Int number) = None
 pointed Null = None
 pointed (Addr object offset) = Some (cell_of object offset)
 
--- where an evaluation begins: the address in a register, or the one cell of a global
+-- where an evaluation begins: the address in a register, or the one cell of a global (docs/LOCKS.md, Expressions)
 abbrev pub base_cell : List Value → Base → Option Cell
 base_cell regs (Reg register) = option_and_then pointed (slice_get regs register)
 base_cell regs (Global global) = Some (cell_of global 0)
 
--- the cell some places on, if its object has it
+-- the cell some places on, if its object has it (docs/LOCKS.md, Expressions)
 abbrev pub moved : HeapView → ℕ → Cell → Option Cell
 moved heap places cell =
     option_and_then (λ size. if nat_lt (cell.offset + places) size then Some (cell_of cell.object (cell.offset + places)) else None)
     (heap.size cell.object)
 
 -- one operation: `*` goes to the cell whose address the cell holds, `.i` goes on in the same object
+-- (docs/LOCKS.md, Expressions)
 abbrev pub walked : HeapView → Op → Cell → Option Cell
 walked heap Deref cell = option_and_then pointed (heap.cell cell)
 walked heap (Off places) cell = moved heap places cell
 
--- all operations in order
+-- all operations in order (docs/LOCKS.md, Expressions)
 abbrev pub path_cell : HeapView → List Op → Option Cell → Option Cell
 path_cell heap [] start = start
 path_cell heap (op ∷ ops) start = path_cell heap ops (option_and_then (walked heap op) start)
 
--- the cell that the expression denotes, if it denotes one
+-- the cell that the expression denotes, if it denotes one (docs/LOCKS.md, Expressions)
 abbrev pub cell_denoted : HeapView → List Value → Expr → Option Cell
 cell_denoted heap regs expr = path_cell heap expr.path (base_cell regs expr.base)

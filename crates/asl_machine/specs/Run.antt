@@ -3,7 +3,6 @@
 -- table allows: the law steps_have_one_line.
 use Rattle.std.specs.Prelude.{◌≡◌, ◌<◌, ℕ, zero, suc, List, [], ◌∷◌, ◌++◌, map, All, None, pos}
 use Rattle.asl_code.specs.declared.image.Image.{Image}
-use Rattle.asl_code.specs.declared.value.Value.{Value}
 use Rattle.asl_code.specs.declared.value.Value.TheVariants.{Int}
 use Rattle.asl_lock_forest.specs.Holding.{no_holding}
 use Rattle.asl_machine.specs.declared.reply.Reply.{Reply}
@@ -11,34 +10,36 @@ use Rattle.asl_machine.specs.State.{Object, Thread, Running, State}
 use Rattle.asl_machine.specs.Calls.{first_frame}
 use Rattle.asl_machine.specs.Twin.{step_of}
 
--- the object of a global: one cell, which holds Int 0
+-- the object of a global: one cell, which holds Int 0 (docs/INSTRUCTIONS.md, State)
 abbrev pub global_object : ℕ → Object
 global_object class = record { class = class; cells = Int (pos 0) ∷ [] }
 
 -- thread t at its start: in the entry function, with its own number as the parameter, in no section
+-- (docs/INSTRUCTIONS.md, State)
 abbrev pub first_thread : Image → ℕ → Thread
 first_thread image t = Running (record { depth = 0; top = first_frame image image.start (Int (pos t) ∷ []) None; below = [] })
 
--- the first threads, so many, in order
+-- the first threads, so many, in order (docs/INSTRUCTIONS.md, State)
 abbrev pub first_threads : Image → ℕ → List Thread
 first_threads image zero = []
 first_threads image (suc t) = first_threads image t ++ first_thread image t ∷ []
 
--- the state in which so many threads of the program start
+-- the state in which so many threads of the program start (docs/INSTRUCTIONS.md, State)
 abbrev pub start_of : Image → ℕ → State
 start_of image count = record { objects = map global_object image.globals; holding = no_holding; threads = first_threads image count }
 
--- the replies of a schedule from a state on
+-- the replies of a schedule from a state on (docs/INSTRUCTIONS.md, A step)
 abbrev pub replies_of : Image → State → List ℕ → List Reply
 replies_of image s [] = []
 replies_of image s (t ∷ ts) = (step_of image s t).reply ∷ replies_of image (step_of image s t).state ts
 
--- the state after a schedule from a state on
+-- the state after a schedule from a state on (docs/INSTRUCTIONS.md, A step)
 abbrev pub state_after : Image → State → List ℕ → State
 state_after image s [] = s
 state_after image s (t ∷ ts) = state_after image (step_of image s t).state ts
 
 -- some schedule of threads below the count leads so many threads of the program from their start to the state
+-- (docs/INSTRUCTIONS.md, What always holds)
 pub record IsReached (image : Image) (count : ℕ) (s : State) : Type 0 where
   pub schedule : List ℕ
   pub threads_there : All (λ t. t < count) schedule

@@ -1,7 +1,7 @@
 -- What holds of every state that a verified program reaches: each frame is in a body, with the registers of its
 -- function; every address is that of a cell that is there; who is in no section holds nothing (docs/INSTRUCTIONS.md,
 -- "What always holds").
-use Rattle.std.specs.Prelude.{◌≡◌, ◌<◌, ◌≤◌, ◌+◌, ℕ, List, [], ◌∷◌, length, Option, None, Some, slice_get, IsSome, IsSomeAnd}
+use Rattle.std.specs.Prelude.{◌≡◌, ◌<◌, ◌≤◌, ◌+◌, ℕ, List, [], ◌∷◌, length, Option, None, Some, slice_get, IsSomeAnd}
 use Rattle.asl_code.specs.declared.image.Function.{Function}
 use Rattle.asl_code.specs.declared.image.Image.{Image}
 use Rattle.asl_code.specs.Fits.{FitsImage, LiesIn}
@@ -11,12 +11,12 @@ use Rattle.asl_code.specs.declared.value.Cell.{Cell}
 use Rattle.asl_lock_forest.specs.Held.{Held}
 use Rattle.asl_lock_forest.specs.Holding.{HoldsNothing, IsLawful, IsWithin}
 use Rattle.asl_machine.specs.State.{Object, Frame, Activity, Thread, Running, Done, Failed, State, cell_at, size_of, class_of, activity_at, depth_at}
-use Rattle.asl_machine.specs.Expression.{cell_of}
 use Rattle.asl_machine.specs.Access.{Points, AllPoint, AreOfClasses, IsReady, CanDo}
 use Rattle.asl_machine.specs.Twin.{WantsMemory}
 
 -- a frame waits behind the `call` of its own function's body that made the frame above, which is of this function and
 -- whose value goes to this register; it has its function's registers, and every address in them is a cell's
+-- (docs/INSTRUCTIONS.md, What always holds)
 pub record IsSuspended (image : Image) (objects : List Object) (above : ℕ) (result : Option ℕ) (frame : Frame) : Type 0 where
   pub function : Function
   pub call : ℕ
@@ -31,14 +31,14 @@ pub record IsSuspended (image : Image) (objects : List Object) (above : ℕ) (re
   pub points : AllPoint objects frame.regs
 
 -- the frames below one of this function, whose value goes to this register: each waits for the one above it, and no
--- register awaits the value of the last
+-- register awaits the value of the last (docs/INSTRUCTIONS.md, What always holds)
 abbrev pub AreSuspended : Image → List Object → ℕ → Option ℕ → List Frame → Type 0
 AreSuspended image objects above result [] = result ≡ None
 AreSuspended image objects above result (frame ∷ frames) =
     IsSuspended image objects above result frame × AreSuspended image objects frame.function frame.result frames
 
 -- a running thread is in the body of its function, with that function's registers; every address in them is a cell's;
--- the frames below are suspended
+-- the frames below are suspended (docs/INSTRUCTIONS.md, What always holds)
 pub record IsPlaced (image : Image) (objects : List Object) (activity : Activity) : Type 0 where
   pub function : Function
   pub lies : LiesIn image activity.top.function activity.top.pc function
@@ -50,6 +50,7 @@ pub record IsPlaced (image : Image) (objects : List Object) (activity : Activity
 
 -- the objects are of classes that are there, at most 65,536 and each of at least one cell; every address in a cell is
 -- that of a cell that is there; the globals come first, of one cell each and of their classes
+-- (docs/INSTRUCTIONS.md, What always holds)
 pub record AreSound (image : Image) (objects : List Object) : Type 0 where
   pub classes : AreOfClasses image.classes objects
   pub points : (cell : Cell) (value : Value) → cell_at objects cell ≡ Some value → Points objects value
@@ -57,12 +58,12 @@ pub record AreSound (image : Image) (objects : List Object) : Type 0 where
   pub few : length objects ≤ 65536
   pub globals : (global class : ℕ) → slice_get image.globals global ≡ Some class → (class_of objects global ≡ Some class) × (size_of objects global ≡ Some 1)
 
--- the objects are as they must be, and so is each running thread
+-- the objects are as they must be, and so is each running thread (docs/INSTRUCTIONS.md, What always holds)
 pub record IsWellFormed (image : Image) (s : State) : Type 0 where
   pub objects : AreSound image s.objects
   pub placed : (t : ℕ) (activity : Activity) → activity_at s.threads t ≡ Some activity → IsPlaced image s.objects activity
 
--- what holds of every state that a verified program reaches
+-- what holds of every state that a verified program reaches (docs/INSTRUCTIONS.md, What always holds)
 pub record IsSound (image : Image) (s : State) : Type 0 where
   pub fits : FitsImage image
   pub objects : AreSound image s.objects
@@ -72,19 +73,21 @@ pub record IsSound (image : Image) (s : State) : Type 0 where
   pub within : IsWithin image.classes (length s.threads) s.holding
 
 -- a running thread is ready for the instruction that it is at, and that is one that it can do
+-- (docs/INSTRUCTIONS.md, What always holds)
 abbrev pub ThreadReady : Image → Held → List Object → ℕ → Thread → Type 0
 ThreadReady image forest objects t (Running activity) =
     IsReady image forest objects t activity × IsSomeAnd (slice_get image.code activity.top.pc) (CanDo image activity.top)
 ThreadReady image forest objects t (Done value) = Unit {0}
 ThreadReady image forest objects t (Failed f) = Unit {0}
 
--- the thread runs and is at an instruction that may want memory
+-- the thread runs and is at an instruction that may want memory (docs/INSTRUCTIONS.md, A step)
 abbrev pub ThreadWantsMemory : Image → Thread → Type 0
 ThreadWantsMemory image (Running activity) = IsSomeAnd (slice_get image.code activity.top.pc) (WantsMemory activity)
 ThreadWantsMemory image (Done value) = ⊥
 ThreadWantsMemory image (Failed f) = ⊥
 
 -- what every machine keeps: its state is sound, and its forest is over its program's classes and its own threads
+-- (docs/INSTRUCTIONS.md, What always holds)
 pub record IsMachine (image : Image) (objects : List Object) (forest : Held) (threads : List Thread) : Type 0 where
   pub sound : IsSound image (record { objects = objects; holding = forest.holding; threads = threads })
   pub classes : forest.classes ≡ image.classes
@@ -92,5 +95,6 @@ pub record IsMachine (image : Image) (objects : List Object) (forest : Held) (th
   pub few_threads : length threads ≤ 64
 
 -- the thread of this number is there, runs, and is at an instruction that may want memory
+-- (docs/INSTRUCTIONS.md, A step)
 abbrev pub MayWantMemory : Image → State → ℕ → Type 0
 MayWantMemory image s t = IsSomeAnd (slice_get s.threads t) (ThreadWantsMemory image)

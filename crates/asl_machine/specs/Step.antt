@@ -1,6 +1,6 @@
--- One step of a thread, as the instruction table says it (docs/INSTRUCTIONS.md): a line for each instruction and
--- each reply that it can give. A reply that an instruction never gives has no line.
-use Rattle.std.specs.Prelude.{◌≡◌, ◌≢◌, ℕ, ℤ, pos, ◌+◌, ◌-◌, ◌<◌, ◌≤◌, ◌<ℤ◌, ◌≤ℤ◌, ◌⊎◌, Bool, false, true, ◌&&◌, List, [], ◌∷◌, ◌++◌, length, Option, None, Some, slice_get, slice_set}
+-- One step of a thread, as the instruction table says it (docs/INSTRUCTIONS.md, "A step"): a line for each instruction
+-- and each reply that it can give, named here by the instruction. A reply that an instruction never gives has no line.
+use Rattle.std.specs.Prelude.{◌≡◌, ◌≢◌, ℕ, ℤ, pos, ◌+◌, ◌-◌, ◌<◌, ◌≤◌, ◌<ℤ◌, ◌≤ℤ◌, ◌⊎◌, Bool, false, true, List, [], ◌∷◌, ◌++◌, length, Option, None, Some, slice_get, slice_set}
 use Rattle.std.specs.Int.{w32, int_wrapping_add, int_wrapping_sub}
 use Rattle.std.specs.Ordering.{int_eq}
 use Rattle.asl_code.specs.declared.image.Function.{Function}

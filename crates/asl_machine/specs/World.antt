@@ -9,7 +9,7 @@ use Rattle.asl_machine.specs.declared.reply.Reply.TheVariants.{Blocked}
 use Rattle.asl_machine.specs.State.{State, activity_at}
 use Rattle.asl_machine.specs.Twin.{step_of}
 
--- some running thread holds a node, and its next step is not blocked
+-- some running thread holds a node, and its next step is not blocked (docs/TOUR.md, How it goes on)
 pub record SomeoneGoesOn (image : Image) (s : State) : Type 0 where
   pub thread : ℕ
   pub runs : IsSome (activity_at s.threads thread)

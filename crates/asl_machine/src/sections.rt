@@ -33,10 +33,12 @@ pub fn acquire(
     requires locks { All (LockOfClass forest.old.classes) (locks_of code.now list) }
     requires classes { AreOfClasses forest.old.classes heap.now }
     requires room { activity.old.top.pc + 1 < 2 ^ 16 }
-    ensures fate { IfOk result (λ fate. fate ≡ acquire_fate activity.old.depth
-        (can_grant forest.old.holding forest.old.threads t (request_of heap.now activity.old.top.regs (locks_of code.now list)))) }
+    ensures fate { IfOk result (λ fate.
+        let request = request_of heap.now activity.old.top.regs (locks_of code.now list) in
+        fate ≡ acquire_fate activity.old.depth (can_grant forest.old.holding forest.old.threads t request)) }
     ensures activity { IfOk result (λ fate. activity.new ≡ activity_moved fate (activity.old.depth + 1) activity.old) }
-    ensures holding { IfOk result (λ _. let request = request_of heap.now activity.old.top.regs (locks_of code.now list) in
+    ensures holding { IfOk result (λ _.
+        let request = request_of heap.now activity.old.top.regs (locks_of code.now list) in
         forest.new.holding ≡ holding_acquired activity.old.depth
         (can_grant forest.old.holding forest.old.threads t request) t request forest.old.holding) }
     ensures classes { forest.new.classes ≡ forest.old.classes }

@@ -124,7 +124,8 @@ fn advance(
     requires ready { IsReady code.now forest.old heap.old t activity.old }
     requires fits { IsSomeAnd (slice_get code.now.code activity.old.top.pc) (CanDo code.now activity.old.top) }
     ensures left { IfOk result (λ fate. left_with fate activity.new heap.new forest.new
-        ≡ left_at code.now forest.old.threads (place t activity.old heap.old forest.old) (slice_get code.now.code activity.old.top.pc)) }
+        ≡ left_at code.now forest.old.threads (place t activity.old heap.old forest.old)
+        (slice_get code.now.code activity.old.top.pc)) }
     ensures classes { forest.new.classes ≡ forest.old.classes }
     ensures threads { forest.new.threads ≡ forest.old.threads }
     ensures memory { OnErr result (IsSomeAnd (slice_get code.now.code activity.old.top.pc) (WantsMemory activity.old)) }

@@ -1,4 +1,4 @@
-use Rattle.std.proofs.Common.{◌≡◌, sym, ◌∙◌, ap}
+use Rattle.std.proofs.Common.{sym, ◌∙◌}
 use Rattle.asl_machine.proofs.Paths.{no_cell_from_step}
 use Rattle.asl_machine.proofs.eval.eval.Goals as goal
 

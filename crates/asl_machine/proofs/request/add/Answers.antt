@@ -1,4 +1,3 @@
-use Rattle.std.proofs.Common.{◌≡◌, sym, ◌∙◌, ap}
 use Rattle.asl_machine.proofs.Joins.{joined_found, joined_unfound}
 use Rattle.asl_machine.proofs.request.add.Goals as goal
 

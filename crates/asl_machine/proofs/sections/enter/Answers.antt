@@ -1,4 +1,3 @@
-use Rattle.std.proofs.Common.{◌≡◌}
 use Rattle.asl_machine.proofs.RequestLaws.{request_names_once, request_asks_modes, request_asks_parents, request_is_of_classes}
 use Rattle.asl_machine.proofs.sections.enter.Goals as goal
 

@@ -1,4 +1,4 @@
-use Rattle.std.proofs.Common.{◌≡◌, ◌-◌, ◌∷◌, [], ◌++◌, List, ℕ, sym, ◌∙◌, ap, length, set, get_or, reverse, arith}
+use Rattle.std.proofs.Common.{◌≡◌, ◌-◌, ◌∷◌, [], ◌++◌, List, ℕ, ◌∙◌, ap, length, set, get_or, reverse, arith}
 use Rattle.asl_machine.specs.State.{Frame}
 use Rattle.asl_machine.specs.Step.{advanced}
 use Rattle.asl_machine.proofs.Frames.{nearest_is, pushed_is, same_activity}

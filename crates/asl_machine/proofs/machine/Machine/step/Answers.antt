@@ -1,4 +1,4 @@
-use Rattle.std.proofs.Common.{◌≡◌, ◌<◌, ◌∙◌, sym, subst, refl, length, slice_get, Some, arith}
+use Rattle.std.proofs.Common.{◌<◌, ◌∙◌, sym, subst, refl, length, arith}
 use Rattle.std.specs.Prelude.{IsSomeAnd}
 use Rattle.std.proofs.lemmas.Option.{slice_get_read}
 use Rattle.asl_machine.specs.Sound.{ThreadWantsMemory}
