@@ -16,3 +16,6 @@ pub use command::{Command, CommandFault, output_of};
 pub use program::{ProgramFault, read_program};
 pub use streams::{ReadFault, WriteFault};
 pub use tool::{ToolFault, perform, tool_alone};
+
+#[cfg(test)]
+mod tests;

@@ -67,12 +67,6 @@ fn expect_bytes(
     Ok(())
 }
 
-/// Runs one thread twice on a program of one function, and compares the output.
-fn expect_twice(rt: &(impl Abort + AllocGlobal), body: &str, output: &str) -> Result<(), Fail> {
-    let text = format!(in rt.alloc(); "version 1\nclasses 0\nentry 0\nfn 1 1\n{body}")?;
-    expect_run(rt, "step --threads 1 0 0", text.as_str(), 0, output, "")
-}
-
 /// Expects a refusal, with nothing written.
 fn expect_refused(rt: &(impl Abort + AllocGlobal), input: &str, said: &str) -> Result<(), Fail> {
     expect_run(rt, "step --threads 1 0", input, 1, "", said)
@@ -97,46 +91,6 @@ fn a_thread_ends_once(rt: HostRuntime) -> Result<(), Fail> {
         "",
     )?;
     expect_run(&rt, "step --threads 64 63", COUNTER, 0, "0 63 ran\n", "")
-}
-
-#[test]
-fn accesses_want_locks(rt: HostRuntime) -> Result<(), Fail> {
-    let bare =
-        "version 1\nclasses 1\nglobal 0\nentry 0\nfn 1 3\nglob r1, g0\nload r2, r1\nret r0\n";
-    let output = "0 0 ran\n1 0 fault Unprotected 0.0 read\n2 0 ended\n";
-    expect_run(&rt, "step --threads 1 0 0 0", bare, 0, output, "")?;
-    let late =
-        "version 1\nclasses 1\nglobal 0\nentry 0\nfn 1 3\nacq 0\nglob r1, g0\nload r2, r1\nret r0\n\
-        list\nexpr r1 read\n";
-    let output = "0 0 ran\n1 0 ran\n2 0 fault Unprotected 0.0 read\n";
-    expect_run(&rt, "step --threads 1 0 0 0", late, 0, output, "")
-}
-
-#[test]
-fn a_fault_gives_the_locks_back(rt: HostRuntime) -> Result<(), Fail> {
-    let text = "version 1\nclasses 1\nglobal 0\nentry 0\nfn 1 3\nglob r1, g0\nacq 0\nstore r1, r0\n\
-        add r2, r0, r1\nrel\nret r0\nlist\nexpr r1 write\n";
-    let output = "0 0 ran\n1 0 ran\n2 1 ran\n3 1 blocked\n4 0 ran\n5 0 fault Type\n6 1 ran\n";
-    expect_run(&rt, "step --threads 2 0 0 1 1 0 0 1", text, 0, output, "")
-}
-
-#[test]
-fn sections_open_and_close(rt: HostRuntime) -> Result<(), Fail> {
-    expect_twice(&rt, "acq 0\nret r0\nlist\n", "0 0 ran\n1 0 fault Open\n")?;
-    expect_twice(&rt, "rel\nret r0\n", "0 0 fault NoSection\n1 0 ended\n")?;
-    let nested =
-        "version 1\nclasses 1\nglobal 0\nentry 0\nfn 1 2\nglob r1, g0\nacq 0\nacq 1\nstore r1, r0\n\
-        rel\nstore r1, r0\nrel\nret r0\nlist\nexpr r1 write\nlist\nexpr r1 write\n";
-    let output =
-        "0 0 ran\n1 0 ran\n2 0 ran\n3 0 ran\n4 0 ran\n5 0 ran\n6 1 ran\n7 1 blocked\n8 0 ran\n9 1 ran\n";
-    expect_run(
-        &rt,
-        "step --threads 2 0 0 0 0 0 0 1 1 0 1",
-        nested,
-        0,
-        output,
-        "",
-    )
 }
 
 #[test]
