@@ -28,5 +28,3 @@ pub use reply::{Reply, Status};
 
 #[cfg(test)]
 mod tests;
-#[cfg(test)]
-mod tests_table;

@@ -3,7 +3,6 @@ use crate::{Machine, Status};
 use asl_code::{Cell, Value};
 use asl_lock_forest::Node;
 use asl_mode_lanes::Mode;
-use std::test::Fail;
 
 /// The one cell of the one global.
 pub const CELL: Cell = Cell {
@@ -37,38 +36,38 @@ pub struct ObjectSeen {
     pub value: Option<Value>,
 }
 
-/// What is told of thread t.
-pub fn see_thread(machine: &Machine<'_>, t: u32) -> Result<ThreadSeen, Fail> {
+/// What is told of thread t, if it is there.
+pub fn see_thread(machine: &Machine<'_>, t: u32) -> Option<ThreadSeen> {
     if t >= machine.threads() {
-        return Err(Fail::new("there is no such thread"));
+        return None;
     }
-    Ok(ThreadSeen {
+    Some(ThreadSeen {
         status: machine.status(t),
         pc: machine.pc(t),
         regs: (machine.reg(t, 0), machine.reg(t, 1)),
         depth: machine.depth(t),
         locks: Locks {
-            root: machine.held(t, Node::Root),
-            class: machine.held(t, Node::Class(0)),
-            leaf: machine.held(t, Node::Leaf(CELL, 0)),
+            root: see_held(machine, t, Node::Root),
+            class: see_held(machine, t, Node::Class(0)),
+            leaf: see_held(machine, t, Node::Leaf(CELL, 0)),
         },
     })
 }
 
-/// The value of a register of thread t.
-pub fn see_register(machine: &Machine<'_>, t: u32, register: u32) -> Result<Option<Value>, Fail> {
-    if t >= machine.threads() {
-        return Err(Fail::new("there is no such thread"));
+/// The value of a register of thread 0.
+pub fn see_register(machine: &Machine<'_>, register: u32) -> Option<Value> {
+    if machine.threads() == 0 {
+        return None;
     }
-    Ok(machine.reg(t, register))
+    machine.reg(0, register)
 }
 
 /// The mode in which thread t holds the node.
-pub fn see_held(machine: &Machine<'_>, t: u32, node: Node) -> Result<Mode, Fail> {
+pub fn see_held(machine: &Machine<'_>, t: u32, node: Node) -> Mode {
     if t >= machine.threads() {
-        return Err(Fail::new("there is no such thread"));
+        return Mode::NL;
     }
-    Ok(machine.held(t, node))
+    machine.held(t, node)
 }
 
 /// What is told of an object and its first cell.
