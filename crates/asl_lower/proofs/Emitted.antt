@@ -1,5 +1,5 @@
 -- What has been emitted for all functions is the lowering of the program.
-use Rattle.std.proofs.Common.{◌≡◌, ℕ, suc, ◌≤◌, None, codes, List, [], ◌∷◌, ◌++◌, length, sym, ap, ◌∙◌, subst, sum_by, arith}
+use Rattle.std.proofs.Common.{◌≡◌, ℕ, suc, ◌≤◌, None, codes, List, [], ◌∷◌, ◌++◌, length, sym, ap, ◌∙◌, subst, sum_by}
 use Rattle.std.specs.List.{All}
 use Rattle.std.proofs.Math.Logic.{∥∥₁_map}
 use Rattle.std.proofs.lemmas.List.Elements.{All-nil, All-cons}
@@ -16,7 +16,7 @@ use Rattle.asl_lower.specs.Lowered.{Lowered, IsLowering, entry_of}
 use Rattle.asl_lower.specs.Region.{IsBareAccess}
 use Rattle.asl_lower.specs.Layout.{functions_code, functions_sections, functions_table, lowering_of}
 use Rattle.asl_lower.specs.OutputView.{Adds, place_of}
-use Rattle.asl_lower.specs.Refused.{first_crowded, HasRoom}
+use Rattle.asl_lower.specs.Refused.{first_crowded}
 use Rattle.asl_lower.specs.Kept.{IsKept, lowered_of}
 use Rattle.asl_lower.proofs.Laid.{lowering_of_is_lowering}
 use Rattle.asl_lower.proofs.Holds.{lowering_parted}
@@ -68,11 +68,6 @@ emitted_kept is l e parsed few size inside =
       size = size;
       inside = inside;
     }
-
--- the program has room
-pub emitted_room : (is : List Item) (l : Lowered) → l ≡ lowering_of is → first_crowded 0 (functions_of is) ≡ None → length l.code ≤ 65535 → HasRoom is
-emitted_room is l e few size =
-    record { few_registers = few; few_instructions = omega (arith, (emitted_lowering is l e).code) }
 
 -- what the search for accesses of bare functions needs
 pub emitted_parted : (is : List Item) (l : Lowered) → l ≡ lowering_of is → sum_by (λ (f : entry.Function). f.len) l.functions ≡ length l.code

@@ -22,3 +22,4 @@ pub mod Mentioned
 pub mod Ruled
 pub mod Passed
 pub mod Limited
+pub mod Sized

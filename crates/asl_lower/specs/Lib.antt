@@ -9,6 +9,7 @@ pub mod Facts
 pub mod Layout
 pub mod Reach
 pub mod Refused
+pub mod Size
 pub mod Kept
 pub mod Operands
 pub mod Limits

@@ -17,11 +17,11 @@ pub record HasRoom (is : List Item) : Type 0 where
   pub few_registers : first_crowded 0 (functions_of is) ≡ None
   pub few_instructions : (end_of is).pc ≤ 65535
 
--- the program has this fault, and none that is listed before it; the registers are judged without memory, so want of
--- memory hides no function of too many (docs/SOURCE.md, "Templates")
+-- the program has this fault, and none that is listed before it. Registers and instructions are counted without memory,
+-- so want of memory hides neither; it may hide an access, which is looked for in the code (docs/SOURCE.md, "Templates")
 abbrev pub IsRefused : List Item → LowerFault → Type 0
 IsRefused is (Registers number) = first_crowded 0 (functions_of is) ≡ Some number
 IsRefused is CodeSize = (first_crowded 0 (functions_of is) ≡ None) × (65535 < (end_of is).pc)
 IsRefused is (AccessOutsideSection function pc) =
     HasRoom is × ((l : Lowered) × IsLowering is l × IsFirstBareAccess l function pc)
-IsRefused is OutOfMemory = first_crowded 0 (functions_of is) ≡ None
+IsRefused is OutOfMemory = HasRoom is

@@ -1,17 +1,18 @@
 //! The code of a program, before its accesses are judged.
 
-ghost use Rattle.std.specs.Prelude.{◌≡◌, ◌≤◌, None, length, map, codes, IfOk, IfErr};
+ghost use Rattle.std.specs.Prelude.{◌≡◌, ◌≤◌, length, map, codes, IfOk, IfErr};
 ghost use Rattle.asl_syntax.specs.View.{item_of};
 ghost use Rattle.asl_syntax.specs.Tree.{globals_of, functions_of};
 ghost use Rattle.asl_lower.specs.Names.{function_names, number_of};
 ghost use Rattle.asl_lower.specs.Layout.{lowering_of};
-ghost use Rattle.asl_lower.specs.Refused.{first_crowded, IsRefused};
+ghost use Rattle.asl_lower.specs.Refused.{HasRoom, IsRefused};
 ghost use Rattle.asl_lower.specs.Kept.{lowered_of};
 
 use crate::fault::LowerFault;
 use crate::functions::{emit_functions, first_crowded};
 use crate::names::function_number;
 use crate::output::{Full, Output};
+use crate::size::has_few_instructions;
 use asl_code::Function;
 use asl_syntax::Name;
 use asl_syntax::tree::Item;
@@ -52,16 +53,19 @@ pub fn make_draft(alloc: Global, items: &[Item]) -> Result<Draft, LowerFault>
     requires few_globals { length (globals_of (map item_of items.now)) ≤ 1024 }
     requires few_functions { length (functions_of (map item_of items.now)) ≤ 256 }
     ensures lowered { IfOk result (λ d. lowered_of d ≡ lowering_of (map item_of items.now)) }
-    ensures few_registers { IfOk result (λ _. first_crowded 0 (functions_of (map item_of items.now)) ≡ None) }
+    ensures room { IfOk result (λ _. HasRoom (map item_of items.now)) }
     ensures refused { IfErr result (IsRefused (map item_of items.now)) }
 {
     if let Some(number) = first_crowded(items) {
         return Err(LowerFault::Registers(number));
     }
+    if !has_few_instructions(items) {
+        return Err(LowerFault::CodeSize);
+    }
     let mut out = Output::new(alloc);
     let functions = match emit_functions(alloc, &mut out, items) {
         Ok(functions) => functions,
-        Err(Full::CodeSize) => return Err(LowerFault::CodeSize),
+        Err(Full::CodeSize) => unreachable!(),
         Err(Full::OutOfMemory) => return Err(LowerFault::OutOfMemory),
     };
     let globals = count_globals(items) as u16;

@@ -14,6 +14,7 @@ mod output;
 mod program;
 mod scope;
 mod section;
+mod size;
 mod statements;
 
 pub use fault::LowerFault;

@@ -4,7 +4,7 @@ use Rattle.asl_syntax.specs.View.{item_of}
 use Rattle.asl_lower.specs.Lowered.{Lowered}
 use Rattle.asl_lower.specs.Region.{IsBareAccess}
 use Rattle.asl_lower.specs.Kept.{lowered_of}
-use Rattle.asl_lower.proofs.Emitted.{emitted_lowering, emitted_kept, emitted_room, emitted_parted, emitted_functions}
+use Rattle.asl_lower.proofs.Emitted.{emitted_lowering, emitted_kept, emitted_parted, emitted_functions}
 use Rattle.asl_lower.proofs.program.lower_items.Goals as goal
 
 pub first_bare_access-requires-clause-numbers : goal.first_bare_access-requires-clause-numbers
@@ -22,7 +22,7 @@ new-requires c =
     let d = c.in_ok-draft.draft in
     let has = c.in_ok-function.ensures (lowered_of d) (record { functions = sym c.deref.ensures.value; main = refl; code = sym c.deref-2.ensures.value }) in
     let inside = rw c.in-None.is at has in
-    emitted_kept (map item_of c.args.items.now) (lowered_of d) c.in_ok-draft.ensures.lowered c.requires.parsed c.in_ok-draft.ensures.few_registers (omega (arith, d.out.fits, d.out.code.ok.0)) inside
+    emitted_kept (map item_of c.args.items.now) (lowered_of d) c.in_ok-draft.ensures.lowered c.requires.parsed c.in_ok-draft.ensures.room.few_registers (omega (arith, d.out.fits, d.out.code.ok.0)) inside
 
 pub returns-in-Some-clause-refused : goal.returns-in-Some-clause-refused
 returns-in-Some-clause-refused c =
@@ -31,16 +31,11 @@ returns-in-Some-clause-refused c =
     let e = c.in_ok-draft.ensures.lowered in
     let has = c.in_ok-function.ensures (lowered_of d) (record { functions = sym c.deref.ensures.value; main = refl; code = sym c.deref-2.ensures.value }) in
     let first = rw c.in-Some.is at has in
-    (emitted_room is (lowered_of d) e c.in_ok-draft.ensures.few_registers (omega (arith, d.out.fits, d.out.code.ok.0)), (lowered_of d, emitted_lowering is (lowered_of d) e, first))
+    (c.in_ok-draft.ensures.room, (lowered_of d, emitted_lowering is (lowered_of d) e, first))
 
 pub returns-in-None-clause-lowering : goal.returns-in-None-clause-lowering
 returns-in-None-clause-lowering c =
     emitted_lowering (map item_of c.args.items.now) c.new.result (c.new.ensures ∙ c.in_ok-draft.ensures.lowered)
-
-pub returns-in-None-clause-room : goal.returns-in-None-clause-room
-returns-in-None-clause-room c =
-    let d = c.in_ok-draft.draft in
-    emitted_room (map item_of c.args.items.now) (lowered_of d) c.in_ok-draft.ensures.lowered c.in_ok-draft.ensures.few_registers (omega (arith, d.out.fits, d.out.code.ok.0))
 
 pub returns-in-None-clause-inside : goal.returns-in-None-clause-inside
 returns-in-None-clause-inside c =
