@@ -123,35 +123,85 @@ fn expect_threads(rt: &impl Abort, machine: &Machine<'_>, first: ThreadSeen, sec
     assert_eq!(rt; see_thread(machine, 1), Some(second));
 }
 
-/// Steps thread 0 of two, first so often as it runs and then once more, and compares what is told of the threads.
-fn expect_seen(
-    rt: &(impl Abort + AllocGlobal),
-    program: &Program,
-    count: u8,
+/// How often thread 0 runs, the reply to one step more, and what is told of the thread then.
+#[derive(Clone, Copy)]
+struct Place {
+    runs: u8,
     last: Reply,
     seen: ThreadSeen,
+}
+
+const COUNTER_PLACES: [Place; 4] = [
+    Place {
+        runs: 1,
+        last: Reply::Ran,
+        seen: INSIDE,
+    },
+    Place {
+        runs: 6,
+        last: Reply::Ran,
+        seen: BEHIND,
+    },
+    Place {
+        runs: 7,
+        last: Reply::Ran,
+        seen: DONE,
+    },
+    Place {
+        runs: 8,
+        last: Reply::Ended,
+        seen: DONE,
+    },
+];
+
+const FAILING_PLACES: [Place; 2] = [
+    Place {
+        runs: 2,
+        last: Reply::Ran,
+        seen: DEEPER,
+    },
+    Place {
+        runs: 3,
+        last: Reply::Fault(Fault::BadType),
+        seen: FAILED,
+    },
+];
+
+/// Steps thread 0 of two to the place, and compares what is told of the threads.
+fn expect_place(
+    rt: &(impl Abort + AllocGlobal),
+    program: &Program,
+    place: Place,
 ) -> Result<(), Fail> {
     let mut machine = Machine::new(rt.alloc(), program, 2)?;
-    expect_steps(rt, &mut machine, count, Reply::Ran);
-    expect_steps(rt, &mut machine, 1, last);
-    expect_threads(rt, &machine, seen, UNSTEPPED);
+    expect_steps(rt, &mut machine, place.runs, Reply::Ran);
+    expect_steps(rt, &mut machine, 1, place.last);
+    expect_threads(rt, &machine, place.seen, UNSTEPPED);
+    Ok(())
+}
+
+/// Goes to each place.
+fn expect_places(
+    rt: &(impl Abort + AllocGlobal),
+    program: &Program,
+    places: &[Place],
+) -> Result<(), Fail> {
+    for place in places {
+        expect_place(rt, program, *place)?;
+    }
     Ok(())
 }
 
 #[test]
 fn readers_follow_a_thread_to_its_end(rt: HostRuntime) -> Result<(), Fail> {
     let program = program(rt.alloc(), COUNTER.as_slice())?;
-    expect_seen(&rt, &program, 1, Reply::Ran, INSIDE)?;
-    expect_seen(&rt, &program, 6, Reply::Ran, BEHIND)?;
-    expect_seen(&rt, &program, 7, Reply::Ran, DONE)?;
-    expect_seen(&rt, &program, 8, Reply::Ended, DONE)
+    expect_places(&rt, &program, COUNTER_PLACES.as_slice())
 }
 
 #[test]
 fn readers_follow_a_thread_to_its_fault(rt: HostRuntime) -> Result<(), Fail> {
     let program = program(rt.alloc(), FAILING.as_slice())?;
-    expect_seen(&rt, &program, 2, Reply::Ran, DEEPER)?;
-    expect_seen(&rt, &program, 3, Reply::Fault(Fault::BadType), FAILED)
+    expect_places(&rt, &program, FAILING_PLACES.as_slice())
 }
 
 /// Expects that this is told of what thread 0 of the counter has and holds, and of what is not there.
@@ -280,28 +330,49 @@ fn copy_in_the_end<'p>(alloc: Global, machine: &Machine<'p>) -> Result<Machine<'
     }
 }
 
+/// Takes the counter to its end.
+fn expect_end_in_the_end(rt: &(impl Abort + AllocGlobal), program: &Program) -> Result<(), Fail> {
+    let mut machine = machine_in_the_end(rt.alloc(), program)?;
+    expect_steps_in_the_end(rt, &mut machine, 8);
+    expect_threads(rt, &machine, DONE, UNSTEPPED);
+    assert_eq!(rt; see_object(&machine, 0), GLOBAL);
+    Ok(())
+}
+
 /// Passes with memory, and as well whichever one growth is refused: it is to be run with each refused in turn.
 #[test]
 fn want_of_memory_changes_nothing(rt: HostRuntime) -> Result<(), Fail> {
     let program = program_in_the_end(rt.alloc(), COUNTER.as_slice())?;
-    let mut machine = machine_in_the_end(rt.alloc(), &program)?;
-    expect_steps_in_the_end(&rt, &mut machine, 8);
-    expect_threads(&rt, &machine, DONE, UNSTEPPED);
-    assert_eq!(rt; see_object(&machine, 0), GLOBAL);
+    expect_end_in_the_end(&rt, &program)
+}
+
+/// Expects that the machine has grown by three objects, and that a copy of it has too.
+fn expect_copy_in_the_end(
+    rt: &(impl Abort + AllocGlobal),
+    machine: &Machine<'_>,
+) -> Result<(), Fail> {
+    let copy = copy_in_the_end(rt.alloc(), machine)?;
+    assert_eq!(rt; copy.objects(), 4);
+    assert_eq!(rt; see_object(&copy, 3), MADE);
+    assert_eq!(rt; see(&copy), see(machine));
     Ok(())
+}
+
+/// Makes objects and frames, and copies them.
+fn expect_growths_in_the_end(
+    rt: &(impl Abort + AllocGlobal),
+    program: &Program,
+) -> Result<(), Fail> {
+    let mut machine = machine_in_the_end(rt.alloc(), program)?;
+    expect_steps_in_the_end(rt, &mut machine, 6);
+    expect_copy_in_the_end(rt, &machine)
 }
 
 /// Passes with memory, and as well whichever one growth of an object, a frame or a copy is refused.
 #[test]
 fn want_of_memory_for_objects_and_frames_changes_nothing(rt: HostRuntime) -> Result<(), Fail> {
     let program = program_in_the_end(rt.alloc(), GROWING.as_slice())?;
-    let mut machine = machine_in_the_end(rt.alloc(), &program)?;
-    expect_steps_in_the_end(&rt, &mut machine, 6);
-    let copy = copy_in_the_end(rt.alloc(), &machine)?;
-    assert_eq!(rt; copy.objects(), 4);
-    assert_eq!(rt; see_object(&copy, 3), MADE);
-    assert_eq!(rt; see(&copy), see(&machine));
-    Ok(())
+    expect_growths_in_the_end(&rt, &program)
 }
 
 #[test]

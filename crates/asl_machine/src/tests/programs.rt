@@ -96,11 +96,19 @@ fn image(alloc: Global, code: &[Instr]) -> Result<Image, AllocError> {
 }
 
 fn lists(alloc: Global) -> Result<Items<Items<Lock>>, AllocError> {
+    let mut lists = Items::new(alloc);
+    lists.push(list(alloc)?)?;
+    Ok(lists)
+}
+
+fn list(alloc: Global) -> Result<Items<Lock>, AllocError> {
+    let mut list = Items::new(alloc);
+    list.push(lock())?;
+    Ok(list)
+}
+
+fn lock() -> Lock {
     let base = Base::Reg(1);
     let path = Path::new();
-    let lock = Lock::Expr(Expr { base, path }, Effect::Write);
-    let list = Items::from_vec(vec![in alloc; lock]?);
-    let mut lists = Items::new(alloc);
-    lists.push(list)?;
-    Ok(lists)
+    Lock::Expr(Expr { base, path }, Effect::Write)
 }
