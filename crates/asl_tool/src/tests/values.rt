@@ -78,7 +78,7 @@ fn two_values_make_a_third(rt: HostRuntime) -> Result<(), Fail> {
 }
 
 /// What is shown, where a field is, and where a jump goes.
-const CASES: [Case; 24] = [
+const CASES: [Case; 25] = [
     Case {
         name: "values are shown",
         code: "out r0; null r1; out r1; glob r2, g1; out r2; mov r3, r2; out r3; out r4; ret r0",
@@ -194,6 +194,13 @@ const CASES: [Case; 24] = [
         code: "new r1, 2, 0; field r2, r1, 1; acq 0; load r3, r2; out r3; store r2, r1; load r3, r2; out r3; \
             load r3, r1; out r3; rel; ret r0; list; expr r1 write; expr r2 write",
         run: "0 ran; 0 ran; 0 ran; 0 ran; 0 out int 0; 0 ran; 0 ran; 0 out addr 2.0; 0 ran; 0 out int 0; 0 ran; 0 ran",
+    },
+    Case {
+        name: "two threads count to two",
+        code: "glob r1, g0; acq 0; load r2, r1; int r3, 1; add r2, r2, r3; store r1, r2; rel; out r2; ret r2; \
+            list; expr r1 write",
+        run: "0 ran; 0 ran; 0 ran; 0 ran; 0 ran; 0 ran; 0 ran; 0 out int 1; 0 ran; 0 ended; \
+            1 ran; 1 ran; 1 ran; 1 ran; 1 ran; 1 ran; 1 ran; 1 out int 2; 1 ran; 1 ended",
     },
     Case {
         name: "two threads have a cell in common",
