@@ -46,6 +46,7 @@ pub fn tool_alone<R: Read, W: Write, E: Write>(
     ensures alone { IsSome result }
     ensures status { IfSome result
         (EndsWith (R.remaining reader.old) (W.contents writer.old) (W.contents writer.new)) }
+    ensures quiet { IfSome result (λ status. status ≡ 0 → E.contents errors.new ≡ E.contents errors.old) }
 {
     let status = match read_words(alloc, words) {
         Ok(Invocation::Run(command)) => performed(alloc, &command, reader, writer, errors),
@@ -64,8 +65,9 @@ fn performed<R: Read, W: Write, E: Write>(
     writer: &mut W,
     errors: &mut E,
 ) -> u8
-    ensures { IsCommandStatus (R.remaining reader.old) (W.contents writer.old) (W.contents writer.new)
+    ensures status { IsCommandStatus (R.remaining reader.old) (W.contents writer.old) (W.contents writer.new)
         command.now result }
+    ensures quiet { result ≡ 0 → E.contents errors.new ≡ E.contents errors.old }
 {
     let done = perform(alloc, command, reader, writer);
     status_of(done, errors)
@@ -73,7 +75,8 @@ fn performed<R: Read, W: Write, E: Write>(
 
 /// Shows a text, and answers the status.
 fn shown<W: Write, E: Write>(text: &str, writer: &mut W, errors: &mut E) -> u8
-    ensures { IsTextStatus (W.contents writer.old) (W.contents writer.new) text.now result }
+    ensures status { IsTextStatus (W.contents writer.old) (W.contents writer.new) text.now result }
+    ensures quiet { result ≡ 0 → E.contents errors.new ≡ E.contents errors.old }
 {
     match write_whole(writer, text.as_bytes()) {
         Ok(()) => DONE,
@@ -131,7 +134,8 @@ fn answer<W: Write>(
 
 /// The exit status; a fault's line goes to `errors`.
 fn status_of<E: Write>(done: Result<(), ToolFault>, errors: &mut E) -> u8
-    ensures { MatchResult done (λ _. result ≡ 0) (λ _. result ≡ 1) }
+    ensures status { MatchResult done (λ _. result ≡ 0) (λ _. result ≡ 1) }
+    ensures quiet { result ≡ 0 → E.contents errors.new ≡ E.contents errors.old }
 {
     match done {
         Ok(()) => DONE,
