@@ -271,3 +271,19 @@ fn too_much_code(rt: HostRuntime) -> Result<(), Fail> {
     assert_eq!(rt; found.as_str(), "CodeSize");
     Ok(())
 }
+
+#[test]
+fn laws_are_there(_rt: HostRuntime) -> Result<(), Fail> {
+    one_lowering();
+    bodies_part_the_code();
+    sections_nest();
+    sections_are_listed();
+    returns_stand_last();
+    control_stays_inside();
+    numbers_follow_the_code();
+    calls_pass_on();
+    bare_accesses_are_in_sections();
+    operands_are_there();
+    limits_are_kept();
+    Ok(())
+}

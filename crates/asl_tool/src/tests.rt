@@ -4,6 +4,7 @@ mod outside;
 mod sections;
 mod values;
 
+use crate::laws::commands_have_one_outcome;
 use crate::words::number;
 use crate::{Command, output_of};
 use std::alloc::{AllocError, Global};
@@ -77,5 +78,11 @@ fn expect_cases(rt: &(impl Abort + AllocGlobal), cases: &[Case]) -> Result<(), F
         let program = format!(in rt.alloc(); "{HEAD}; {code}")?;
         expect_run(rt, case.name, program.as_str(), case.run)?;
     }
+    Ok(())
+}
+
+#[test]
+fn a_law_is_there(_rt: HostRuntime) -> Result<(), Fail> {
+    commands_have_one_outcome();
     Ok(())
 }
