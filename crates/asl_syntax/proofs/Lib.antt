@@ -20,3 +20,4 @@ pub mod Outcomes
 pub mod Few
 pub mod AnyOutcome
 pub mod Answered
+pub mod Declared

@@ -17,7 +17,8 @@ no_name q = false
 abbrev pub with_name : List ℕ → Names → Names
 with_name x known q = bytes_eq x q || known q
 
--- the first name that is declared a second time: of globals, of functions, or of the parameters of one function
+-- The first name that is declared a second time: of globals, of functions, or of the parameters of one function. That there
+-- is none says that each is declared once: the law names_are_declared_once (docs/SOURCE.md, "Refusals").
 abbrev pub first_twice : Names → Names → Names → List Mention → Option (List ℕ)
 first_twice globals functions parameters [] = None
 first_twice globals functions parameters (DeclaresGlobal x ∷ ms) =

@@ -1,6 +1,6 @@
 //! Laws of texts and trees, as functions that do nothing: what each ensures is the law.
 
-ghost use Rattle.std.specs.Prelude.{◌≡◌, ℕ, ◌<◌, ◌≤◌, ◌⊎◌, List, [], ◌∷◌, ◌++◌, drop, IsTrue, Result, IfOk, IfErr, length, map};
+ghost use Rattle.std.specs.Prelude.{◌≡◌, ℕ, ◌<◌, ◌≤◌, ◌⊎◌, ◌↔◌, None, List, [], ◌∷◌, ◌++◌, drop, IsTrue, Result, IfOk, IfErr, length, map};
 ghost use Rattle.asl_grammar.specs.Token.{Token, Spot};
 ghost use Rattle.asl_grammar.specs.Lex.{are_tokens, tokens_of};
 ghost use Rattle.asl_grammar.specs.Grammar.{bare};
@@ -16,6 +16,8 @@ ghost use Rattle.asl_syntax.specs.AstView.{tree_of};
 ghost use Rattle.asl_syntax.specs.Outcome.{HasTree, HasFault};
 ghost use Rattle.asl_syntax.specs.Reread.{IsReadBack};
 ghost use Rattle.asl_syntax.specs.Mentions.{mentions};
+ghost use Rattle.asl_syntax.specs.Rules.{twice};
+ghost use Rattle.asl_syntax.specs.DeclaredOnce.{AreDeclaredOnce};
 ghost use Rattle.asl_syntax.specs.TokenNames.{token_names, mention_name};
 ghost use Rattle.asl_syntax.specs.Writing.{writing};
 ghost use Rattle.asl_syntax.specs.Printed.{spaced, printed};
@@ -26,6 +28,12 @@ use crate::ast::Ast;
 pub fn a_text_has_one_tree()
     ensures tokens { (t u : List Item) (ss : List Spot) → Spells t (bare ss) → Spells u (bare ss) → t ≡ u }
     ensures text { (t u : List Item) (text : List ℕ) → Parses text t → Parses text u → t ≡ u }
+{}
+
+/// A program declares no name twice exactly where its globals have different names, and so have its functions, and so
+/// have the parameters of each function.
+pub fn names_are_declared_once()
+    ensures { (t : List Item) → (twice t ≡ None) ↔ AreDeclaredOnce t }
 {}
 
 /// A tree is printed as tokens that spell it.

@@ -2,7 +2,7 @@ use super::*;
 use crate::laws::{
     a_printed_ast_is_read_back, a_printed_tree_is_lexed, a_printed_tree_is_read_back,
     a_printed_tree_is_spelled, a_text_has_one_outcome, a_text_has_one_tree,
-    a_tree_mentions_its_names,
+    a_tree_mentions_its_names, names_are_declared_once,
 };
 use std::alloc::{AllocError, Global};
 use std::test::Fail;
@@ -506,6 +506,7 @@ fn laws_are_there(rt: HostRuntime) -> Result<(), Fail> {
     a_printed_tree_is_spelled();
     a_printed_tree_is_lexed();
     a_tree_mentions_its_names();
+    names_are_declared_once();
     a_printed_tree_is_read_back();
     a_printed_ast_is_read_back(&ast);
     a_text_has_one_outcome();
