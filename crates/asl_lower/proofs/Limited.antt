@@ -14,12 +14,13 @@ use Rattle.asl_grammar.specs.Lex.{tokens_of}
 use Rattle.asl_grammar.specs.Grammar.{bare}
 use Rattle.asl_syntax.specs.declared.names.Space.TheVariants.{Functions}
 use Rattle.asl_syntax.specs.Tree.{Function, Item, GlobalItem, FunctionItem, functions_of}
-use Rattle.asl_syntax.specs.Limit.{atomics_in, tally_of, is_over, limit_from, first_place, byte_over}
+use Rattle.asl_syntax.specs.Limit.{atomics_in, tally_of, is_over, limit_from, byte_over}
 use Rattle.asl_syntax.specs.Spelled.{right_meaning, line_meaning, stmt_meaning, block_meaning, else_meaning, function_meaning, item_meaning}
 use Rattle.asl_syntax.specs.Parsed.{IsParsed}
 use Rattle.asl_syntax.specs.Mentions.{Mention, DeclaresGlobal, DeclaresFunction, DeclaresParameter, AssignsLocal, UsesLocal, UsesGlobal, CallsFunction, block_mentions, mentions}
 use Rattle.asl_syntax.specs.Rules.{Names, with_name, with_declared, declared_in, names_in, first_twice, has_main}
-use Rattle.asl_syntax.proofs.Few.{few_functions, few_globals}
+use Rattle.asl_syntax.proofs.Few.{few_functions, few_globals, goes_on}
+use Rattle.asl_syntax.proofs.Made.{none_first}
 use Rattle.asl_lower.specs.Names.{function_names, number_of}
 use Rattle.asl_lower.specs.Place.{Place, next, entered, origin, past_moves, past_value, past_stmt, past_block, past_else, past_function, past_functions}
 use Rattle.asl_lower.specs.Lowered.{Lowered, AreLoweredFunctions, IsLowering, entry_of}
@@ -112,21 +113,12 @@ one_more_atomic : (t : Token) (before : List Token) → is_over (tally_of before
 one_more_atomic (Fixed mark.Atomic) before e h = (omega arith, omega (arith, leb-false 1024 (atomics_in before) e))
 one_more_atomic _ before e h = (omega arith, h)
 
-goes_on : {X : Type 0} (b : Bool) (x : X) (o : Option X) → (if b then Some x else o) ≡ None → (b ≡ false) × (o ≡ None)
-goes_on true x o e = absurd cc
-goes_on false x o e = (refl, e)
-
 few_atomic : (ss : List Spot) (before : List Token) → limit_from before ss ≡ None → atomics_in before ≤ 1024 → weigh is_atomic (bare ss) + atomics_in before ≤ 1024
 few_atomic [] before e h = omega arith
 few_atomic (s ∷ ss) before e h =
     let k = goes_on (is_over (tally_of before) s.token) s.at (limit_from (s.token ∷ before) ss) e in
     let m = one_more_atomic s.token before k.0 h in
     omega (arith, m.0, few_atomic ss (s.token ∷ before) k.1 m.1)
-
-none_first : (a b : Option ℕ) → first_place a b ≡ None → a ≡ None
-none_first None b e = refl
-none_first (Some a) None e = cc
-none_first (Some a) (Some b) e = cc
 
 few_sections : (is : List Item) → IsParsed is → (past_functions (functions_of is) origin).section ≤ 1024
 few_sections is p =

@@ -1,5 +1,5 @@
 -- The functions of a program within the limits have few parameters, and each `new` makes a cell.
-use Rattle.std.proofs.Common.{◌≡◌, ℕ, suc, ◌+◌, ◌<◌, ◌≤◌, Bool, true, false, ◌||◌, ◌==◌, if◌then◌else◌, Option, Some, None, nat_lt, List, [], ◌∷◌, length, map, refl, sym, ap, ◌∙◌, subst, arith}
+use Rattle.std.proofs.Common.{◌≡◌, ℕ, suc, ◌+◌, ◌<◌, ◌≤◌, Bool, true, false, ◌||◌, ◌==◌, Some, None, nat_lt, List, [], ◌∷◌, length, map, refl, sym, ap, ◌∙◌, subst, arith}
 use Rattle.std.proofs.lemmas.Bool.{false≢true, leb-false, eqb-false}
 use Rattle.asl_grammar.specs.declared.token.Mark.TheVariants as mark
 use Rattle.asl_grammar.specs.Token.{Token, Fixed, Name, Number, Spot}
@@ -8,19 +8,17 @@ use Rattle.asl_grammar.specs.Spelling.{symbol_of, later_names_on, names_on, righ
 use Rattle.asl_grammar.specs.Lex.{tokens_of}
 use Rattle.asl_grammar.specs.Grammar.{bare}
 use Rattle.asl_syntax.specs.Tree.{Function, Item, functions_of}
-use Rattle.asl_syntax.specs.Limit.{tally_of, is_over, is_fifth, one_more, names_in_head, limit_from, first_place, byte_over}
+use Rattle.asl_syntax.specs.Limit.{tally_of, is_over, is_fifth, one_more, names_in_head, limit_from, byte_over}
 use Rattle.asl_syntax.specs.Spelled.{right_meaning, line_meaning, stmt_meaning, block_meaning, else_meaning, item_meaning}
 use Rattle.asl_syntax.specs.Parsed.{IsParsed}
 use Rattle.asl_lower.proofs.Named.{ValueCells, StmtCells, BlockCells}
+use Rattle.asl_syntax.proofs.Few.{goes_on}
+use Rattle.asl_syntax.proofs.Made.{none_first}
 
 -- no token goes past a limit
 abbrev NoneOver : List Token → List Token → Type 0
 NoneOver before [] = Unit {0}
 NoneOver before (t ∷ ts) = (is_over (tally_of before) t ≡ false) × NoneOver (t ∷ before) ts
-
-goes_on : (b : Bool) (at : ℕ) (o : Option ℕ) → (if b then Some at else o) ≡ None → (b ≡ false) × (o ≡ None)
-goes_on true at o e = absurd cc
-goes_on false at o e = (refl, e)
 
 none_over : (before : List Token) (ss : List Spot) → limit_from before ss ≡ None → NoneOver before (bare ss)
 none_over before [] e = tt
@@ -182,11 +180,6 @@ items_within (w.FunctionItem f ∷ is) before h =
       record { few_parameters = parameters_few f.parameters head opening refl h.1.1.1; cells = block_cells f.body behind body a.1.1.1 },
       items_within is (Fixed mark.CloseBrace ∷ Fixed mark.Semicolon ∷ Name f.returned ∷ Fixed mark.Return ∷ b.0) b.1.1.1.1.1,
     )
-
-none_first : (a b : Option ℕ) → first_place a b ≡ None → a ≡ None
-none_first None b e = refl
-none_first (Some a) None e = cc
-none_first (Some a) (Some b) e = cc
 
 pub functions_within : (tree : List Item) → IsParsed tree → AreWithin (functions_of tree)
 functions_within tree p =

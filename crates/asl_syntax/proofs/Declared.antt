@@ -5,6 +5,7 @@ use Rattle.std.proofs.lemmas.List.Elements.{All-from_recursion, recursion_from_A
 use Rattle.asl_syntax.specs.Tree.{Value, IntegerValue, NullValue, LocalValue, BinaryValue, GlobalValue, FieldValue, LoadValue, NewValue, CallValue, Statement, AssignStatement, StoreStatement, OutStatement, IfStatement, WhileStatement, AtomicStatement, Block, NoMore, Then, Function, Item, GlobalItem, FunctionItem, globals_of, functions_of}
 use Rattle.asl_syntax.specs.Mentions.{Mention, DeclaresParameter, UsesLocal, value_mentions, statement_mentions, block_mentions, mentions}
 use Rattle.asl_syntax.specs.Rules.{Names, no_name, with_name, first_twice, twice}
+use Rattle.asl_syntax.proofs.Few.{goes_on}
 use Rattle.asl_syntax.specs.DeclaredOnce.{AreDeclaredOnce}
 
 -- ---- names that are new
@@ -58,10 +59,6 @@ unfolding IsDistinct
 rest_new known x xs h = (both (λ y. bytes_eq x y) known xs h.1.0 h.0.1, h.1.1)
 
 -- ---- mentions
-
-goes_on : (b : Bool) (x : List ℕ) (o : Option (List ℕ)) → (if b then Some x else o) ≡ None → (b ≡ false) × (o ≡ None)
-goes_on true x o e = absurd cc
-goes_on false x o e = (refl, e)
 
 passes : (b : Bool) (x : List ℕ) (o : Option (List ℕ)) → b ≡ false → o ≡ None → (if b then Some x else o) ≡ None
 passes true x o e f = absurd cc

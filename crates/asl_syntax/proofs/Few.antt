@@ -10,9 +10,10 @@ use Rattle.asl_grammar.specs.Spelling.{later_names_on, names_on, right_on, line_
 use Rattle.asl_grammar.specs.Lex.{tokens_of}
 use Rattle.asl_grammar.specs.Grammar.{bare}
 use Rattle.asl_syntax.specs.Tree.{Item, globals_of, functions_of}
-use Rattle.asl_syntax.specs.Limit.{functions_in, globals_in, tally_of, is_over, limit_from, first_place, byte_over}
+use Rattle.asl_syntax.specs.Limit.{functions_in, globals_in, tally_of, is_over, limit_from, byte_over}
 use Rattle.asl_syntax.specs.Spelled.{item_meaning}
 use Rattle.asl_syntax.specs.Parsed.{IsParsed}
+use Rattle.asl_syntax.proofs.Made.{none_first}
 
 -- what tokens weigh together
 abbrev weigh : (Token → ℕ) → List Token → ℕ
@@ -98,9 +99,10 @@ one_more_global : (t : Token) (before : List Token) → is_over (tally_of before
 one_more_global (Fixed mark.Global) before e h = (omega arith, omega (arith, leb-false 1024 (globals_in before) e))
 one_more_global _ before e h = (omega arith, h)
 
-goes_on : (b : Bool) (at : ℕ) (o : Option ℕ) → (if b then Some at else o) ≡ None → (b ≡ false) × (o ≡ None)
-goes_on true at o e = absurd cc
-goes_on false at o e = (refl, e)
+-- past a test that fails
+pub goes_on : {X : Type 0} (b : Bool) (x : X) (o : Option X) → (if b then Some x else o) ≡ None → (b ≡ false) × (o ≡ None)
+goes_on true x o e = absurd cc
+goes_on false x o e = (refl, e)
 
 few_fn : (ss : List Spot) (before : List Token) → limit_from before ss ≡ None → functions_in before ≤ 256 → weigh is_fn (bare ss) + functions_in before ≤ 256
 few_fn [] before e h = omega arith
@@ -115,11 +117,6 @@ few_global (s ∷ ss) before e h =
     let k = goes_on (is_over (tally_of before) s.token) s.at (limit_from (s.token ∷ before) ss) e in
     let m = one_more_global s.token before k.0 h in
     omega (arith, m.0, few_global ss (s.token ∷ before) k.1 m.1)
-
-none_first : (a b : Option ℕ) → first_place a b ≡ None → a ≡ None
-none_first None b e = refl
-none_first (Some a) None e = cc
-none_first (Some a) (Some b) e = cc
 
 parsed_functions : (tree : List Item) → IsParsed tree → length (functions_of tree) ≤ 256
 parsed_functions tree p =
