@@ -10,5 +10,6 @@ pub mod Soundness
 pub mod Table
 pub mod Unique
 pub mod Reached
+pub mod Runs
 pub mod Machines
 pub mod Nodes

@@ -14,6 +14,7 @@ mod memory;
 mod perform;
 mod reply;
 mod request;
+mod run_laws;
 mod sections;
 mod thread;
 mod values;
@@ -25,6 +26,7 @@ pub use laws::{
 };
 pub use machine::Machine;
 pub use reply::{Reply, Status};
+pub use run_laws::{runs_go_on, runs_reach};
 
 #[cfg(test)]
 mod tests;

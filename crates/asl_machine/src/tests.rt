@@ -383,4 +383,6 @@ fn laws_are_there() {
     crate::reached_holdings_are_lawful();
     crate::held_nodes_are_there();
     crate::no_world_is_blocked();
+    crate::runs_go_on();
+    crate::runs_reach();
 }
