@@ -1,5 +1,5 @@
 -- The facts hold of each lowering.
-use Rattle.std.proofs.Common.{◌≡◌, ◌≢◌, ℕ, suc, ◌+◌, ◌-◌, ◌<◌, ◌≤◌, inl, inr, IsTrue, List, [], ◌∷◌, length, take, Some, slice_get, sym, ap, ◌∙◌, subst, arith}
+use Rattle.std.proofs.Common.{◌≡◌, ◌≢◌, ℕ, suc, ◌+◌, ◌-◌, ◌<◌, ◌≤◌, inl, inr, IsTrue, List, [], ◌∷◌, length, take, Some, option_map, slice_get, sym, ap, ◌∙◌, subst, arith}
 use Rattle.std.specs.List.{Contains, sum_by}
 use Rattle.std.proofs.lemmas.Bool.{cases_order, false≢true}
 use Rattle.std.proofs.lemmas.Option.{slice_get_within}
@@ -13,7 +13,7 @@ use Rattle.std.proofs.lemmas.List.{take-take, take_all}
 use Rattle.std.proofs.lemmas.List.Sums.{sum_by-take-le}
 use Rattle.asl_lower.specs.Place.{Place, origin, past_function, past_functions}
 use Rattle.asl_lower.specs.Lowered.{Lowered, IsLowering, AreLoweredFunctions, end_of, entry_of}
-use Rattle.asl_lower.specs.Region.{open_at, open_behind, sites_before, sections_before, start_of, InBody, InSection, GoesOn}
+use Rattle.asl_lower.specs.Region.{open_at, open_behind, sites_before, sections_before, start_of, returned, returned_by, release_of, InBody, InSection, GoesOn}
 use Rattle.asl_lower.specs.Facts.{IsParted, IsNested, HasSections, ReturnsLast, StaysInside, IsNumbered}
 use Rattle.asl_lower.proofs.Grows.{Precedes, by_function}
 use Rattle.asl_lower.proofs.Counts.{sum_more}
@@ -21,7 +21,8 @@ use Rattle.asl_lower.proofs.Balance.{block_balance}
 use Rattle.asl_lower.proofs.Stands.{is_plain, Stands, Plainly, Makes, Invokes, Jumps, Tests, Enters, Leaves}
 use Rattle.asl_lower.proofs.Bodies.{Placed, Body, Begins, begins, next_begins, body_of, in_body, number_placed, pc_inhabited}
 use Rattle.asl_lower.proofs.Points.{last_of, body_stands, body_moves}
-use Rattle.asl_lower.proofs.Opened.{points, section_there, Kind, Keeps, Opens, Closes, kind_at}
+use Rattle.asl_lower.proofs.Opened.{points, section_there, Kind, Keeps, Opens, Closes, kind_at, among, contained}
+use Rattle.asl_lower.proofs.Owner.{owner_is}
 
 -- the body of a pc of the code
 body_at : (is : List Item) (l : Lowered) → IsLowering is l → (pc : ℕ) → pc < length l.code → (number : ℕ) × Body is l number pc
@@ -83,7 +84,7 @@ lowering_nested is l h =
           ap (open_at l.code) (return_place is l b.0 pc from b.1 e) ∙ end_opened is l b.0 b.1.placed;
       points = λ pc number low.
           let p = points is l h pc (omega arith) in
-          (p.inside number, p.opened number);
+          (λ e. p.inside number (contained (open_at l.code pc) number e), λ q. among (open_at l.code pc) number (p.opened number q));
     }
   where
     leaves_nothing : (pc : ℕ) → slice_get l.code pc ≡ Some instr.Release → open_at l.code pc ≡ [] → Kind l pc → ⊥
@@ -128,7 +129,11 @@ pub lowering_parted : (is : List Item) (l : Lowered) → IsLowering is l → IsP
 lowering_parted is l h =
     record {
       total = ap (sum_by (λ (f : entry.Function). f.len)) (sym (take_all (length l.functions) l.functions (omega arith))) ∙ (all_ended is l h).start ∙ sym h.code;
-      some_body = λ pc low. (let b = body_at is l h pc low in (b.0, in_body is l b.0 pc b.1));
+      owned = λ pc low.
+          let b = body_at is l h pc low in
+          let x : InBody l b.0 pc = in_body is l b.0 pc b.1 in
+          let P : ℕ → Type 0 = λ n. InBody l n pc in
+          subst P (sym (owner_is l.functions b.0 pc x.function x.in_table x.start x.before_end)) x;
       one_body = λ pc a b x y. elim (cases_order a b) [
         | inl same ↦ same
         | inr other ↦ elim other [ inl less ↦ absurd (apart l a b pc less x y) | inr more ↦ absurd (apart l b a pc more y x) ]
@@ -147,18 +152,24 @@ acquire_section l pc number e (Opens n w at) =
 acquire_section l pc number e (Closes n w at) =
     (let f : slice_get l.code pc ≡ Some instr.Release = ap (slice_get l.code) (sym at) ∙ w.leaves in cc)
 
-release_section : (l : Lowered) (pc : ℕ) → slice_get l.code pc ≡ Some instr.Release → Kind l pc → (number : ℕ) × (s : Section) × (slice_get l.sections number ≡ Some s) × (s.release ≡ pc)
-release_section l pc e (Keeps i f o a r) = absurd (r (let q : Some i ≡ Some instr.Release = sym f ∙ e in cc))
-release_section l pc e (Opens n w at) =
+release_section : (l : Lowered) (pc number : ℕ) (around : List ℕ) → slice_get l.code pc ≡ Some instr.Release → open_at l.code pc ≡ number ∷ around → Kind l pc → release_of l number ≡ Some pc
+release_section l pc number around e o (Keeps i f k a r) =
+    absurd (r (let q : Some i ≡ Some instr.Release = sym f ∙ e in cc))
+release_section l pc number around e o (Opens n w at) =
     (let f : slice_get l.code pc ≡ Some (instr.Acquire n) = ap (slice_get l.code) (sym at) ∙ w.enters in cc)
-release_section l pc e (Closes n w at) = (n, w.section, w.in_table, at)
+release_section l pc number around e o (Closes n w at) =
+    let here : open_at l.code pc ≡ n ∷ open_at l.code w.section.acquire = ap (open_at l.code) (sym at) ∙ w.around in
+    let same : n ≡ number = (let q : n ∷ open_at l.code w.section.acquire ≡ number ∷ around = sym here ∙ o in cc) in
+    ap (release_of l) (sym same) ∙ ap (option_map (λ (s : Section). s.release)) w.in_table ∙ ap Some at
 
 pub lowering_sections : (is : List Item) (l : Lowered) → IsLowering is l → HasSections l
 lowering_sections is l h =
     record {
       there = section_there is l h;
-      entered = λ pc number e. acquire_section l pc number e (kind_at is l h pc (slice_get_within l.code pc (instr.Acquire number) e));
-      left = λ pc e. release_section l pc e (kind_at is l h pc (slice_get_within l.code pc instr.Release e));
+      entered = λ pc number e.
+          let a = acquire_section l pc number e (kind_at is l h pc (slice_get_within l.code pc (instr.Acquire number) e)) in
+          ap (option_map (λ (s : Section). s.acquire)) a.1 ∙ ap Some a.2;
+      left = λ pc number around e o. release_section l pc number around e o (kind_at is l h pc (slice_get_within l.code pc instr.Release e));
     }
 
 -- the place and the length of a function of the table
@@ -174,9 +185,14 @@ entry_is is l h n f e =
 pub lowering_returns : (is : List Item) (l : Lowered) → IsLowering is l → ReturnsLast l
 lowering_returns is l h =
     record {
-      there = λ number f e.
+      there = λ number last f e end.
           let w = entry_is is l h number f e in
-          ((last_of w.0.function w.0.place).pc, register (scope_of is number w.0.function) w.0.function.returned, w.1, w.0.lowered.returns);
+          let at : last ≡ (last_of w.0.function w.0.place).pc = omega (arith, w.1, end) in
+          let here : slice_get l.code last ≡ Some (instr.Return (register (scope_of is number w.0.function) w.0.function.returned)) = ap (slice_get l.code) at ∙ w.0.lowered.returns in
+          let next : start_of l.functions (suc number) ≡ start_of l.functions number + f.len = sum_more (λ (x : entry.Function). x.len) l.functions number f e in
+          let back : start_of l.functions (suc number) - 1 ≡ last = omega (arith, next, end) in
+          let told : returned l number ≡ register (scope_of is number w.0.function) w.0.function.returned = ap (λ n. returned_by (slice_get l.code n)) back ∙ ap returned_by here in
+          here ∙ ap (λ r. Some (instr.Return r)) (sym told);
       only_there = λ pc number from f e x r.
           let b = body_of is l h number pc x in
           let w = entry_is is l h number f e in

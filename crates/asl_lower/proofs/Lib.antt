@@ -6,6 +6,7 @@ pub mod Sections
 pub mod Bodies
 pub mod Points
 pub mod Opened
+pub mod Owner
 pub mod Holds
 pub mod Slices
 pub mod Laid
@@ -23,3 +24,6 @@ pub mod Ruled
 pub mod Passed
 pub mod Limited
 pub mod Sized
+pub mod Props
+pub mod Layouts
+pub mod Inside

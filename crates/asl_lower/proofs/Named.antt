@@ -14,6 +14,8 @@ use Rattle.asl_lower.specs.Place.{Place, next, entered, past_moves, past_value, 
 use Rattle.asl_lower.specs.Lowered.{Lowered, Has, operator_instr, first_argument, AreMoved, IsLoweredValue, IsLoweredStmt, IsLoweredBlock, IsLoweredElse}
 use Rattle.asl_lower.specs.Facts.{IsNumbered, HasSections}
 use Rattle.asl_lower.specs.Operands.{HasOperands}
+use Rattle.asl_lower.specs.declared.section.Section.{Section}
+use Rattle.asl_lower.proofs.Owner.{from_mapped}
 
 -- what a mention names is there
 abbrev pub Known : Scope → Lowered → Mention → Type 0
@@ -64,7 +66,8 @@ pub named_operands : (l : Lowered) (r pc : ℕ) (i : Instr) → IsNumbered l →
 named_operands l r pc (instr.New to cells site) n s e h =
     (h.0, h.1, n.known_sites pc to cells site e)
 named_operands l r pc (instr.Acquire section) n s e h =
-    let w = s.entered pc section e in slice_get_within l.sections section w.0 w.1
+    let w = from_mapped (λ (x : Section). x.acquire) (slice_get l.sections section) pc (s.entered pc section e) in
+    slice_get_within l.sections section w.0 w.1
 named_operands l r pc i n s e h = h
 
 -- what stands at a pc, with its operands

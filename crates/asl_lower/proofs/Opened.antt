@@ -1,7 +1,7 @@
 -- The sections that are open at a pc are those of which it is a point.
-use Rattle.std.proofs.Common.{◌≡◌, ℕ, zero, suc, ◌<◌, ◌≤◌, ◌⊎◌, inl, inr, IsTrue, List, [], ◌∷◌, length, Some, slice_get, refl, sym, ap, ◌∙◌, subst, arith}
+use Rattle.std.proofs.Common.{◌≡◌, ℕ, zero, suc, ◌<◌, ◌≤◌, ◌⊎◌, inl, inr, true, false, ◌||◌, ◌==◌, IsTrue, List, [], ◌∷◌, length, Some, slice_get, refl, sym, ap, ◌∙◌, subst, arith}
 use Rattle.std.specs.List.{Contains}
-use Rattle.std.proofs.lemmas.Bool.{cases_lt, false≢true}
+use Rattle.std.proofs.lemmas.Bool.{cases_lt, false≢true, or_left, or_right, eq-eqb, eqb-true}
 use Rattle.std.proofs.lemmas.Option.{slice_get_within}
 use Rattle.asl_code.specs.declared.instr.Instr.{Instr}
 use Rattle.asl_code.specs.declared.instr.Instr.TheVariants as instr
@@ -10,7 +10,7 @@ use Rattle.asl_lower.specs.declared.section.Section.{Section}
 use Rattle.asl_lower.specs.Names.{scope_of, register}
 use Rattle.asl_lower.specs.Place.{Place, origin, past_function}
 use Rattle.asl_lower.specs.Lowered.{Lowered, IsLowering, end_of}
-use Rattle.asl_lower.specs.Region.{open_at, open_behind, without_innermost, InBody, InSection, IsSection}
+use Rattle.asl_lower.specs.Region.{open_at, open_behind, without_innermost, is_among, InBody, InSection, IsSection}
 use Rattle.asl_lower.proofs.Grows.{Precedes, joined}
 use Rattle.asl_lower.proofs.Stands.{is_plain, Sectioned, Stands, Plainly, Makes, Invokes, Jumps, Tests, Enters, Leaves}
 use Rattle.asl_lower.proofs.Sections.{block_sectioned}
@@ -33,6 +33,20 @@ member_cases x y xs (suc k, low, e) = inr (k, omega arith, e)
 
 pub no_member : (x : ℕ) → Contains [] x → ⊥
 no_member x c = omega (arith, c.1)
+
+-- the test says whether a number is a member
+pub among : (xs : List ℕ) (n : ℕ) → Contains xs n → IsTrue (is_among xs n)
+among [] n c = absurd (no_member n c)
+among (x ∷ xs) n c =
+    elim (member_cases n x xs c) [ inl e ↦ or_left (x == n) (is_among xs n) (eq-eqb x n e) | inr old ↦ or_right (x == n) (is_among xs n) (among xs n old) ]
+
+pub contained : (xs : List ℕ) (n : ℕ) → IsTrue (is_among xs n) → Contains xs n
+contained [] n e = cc
+contained (x ∷ xs) n e =
+    elim (x == n) as (λ b. (x == n) ≡ b → IsTrue (b || is_among xs n) → Contains (x ∷ xs) n) [
+      | true ↦ λ is t. (let same = eqb-true x n is in let P : ℕ → Type 0 = λ m. Contains (x ∷ xs) m in subst P same (here x xs))
+      | false ↦ λ is t. there n x xs (contained xs n t)
+    ] refl e
 
 -- the section of a statement of a function, as one of the program
 abbrev pub section_of_body : (is : List Item) (l : Lowered) (n s : ℕ) → (w : Placed is l origin (end_of is) n) → Sectioned (scope_of is n w.function) l w.place (last_of w.function w.place) s → IsSection l s

@@ -5,7 +5,6 @@ pub mod Lowered
 pub mod Region
 pub mod OutputView
 pub mod ScopeView
-pub mod Facts
 pub mod Layout
 pub mod Reach
 pub mod Refused
@@ -13,3 +12,5 @@ pub mod Size
 pub mod Kept
 pub mod Operands
 pub mod Limits
+pub mod Facts
+pub mod Regions

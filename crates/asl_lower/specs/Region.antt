@@ -1,5 +1,5 @@
 -- Sections that are open, bare and inner functions, and where an instruction goes on (docs/SOURCE.md, "Templates").
-use Rattle.std.specs.Prelude.{◌≡◌, ◌≢◌, ℕ, suc, zero, ◌+◌, ◌<◌, ◌≤◌, ◌⊎◌, Bool, true, false, IsTrue, List, [], ◌∷◌, Option, Some, take, slice_get, sum_by, count_by}
+use Rattle.std.specs.Prelude.{◌≡◌, ◌≢◌, ℕ, suc, zero, ◌+◌, ◌-◌, ◌<◌, ◌≤◌, ◌⊎◌, Bool, true, false, ◌||◌, ◌==◌, nat_lt, if◌then◌else◌, IsTrue, List, [], ◌∷◌, Option, Some, option_map, take, slice_get, sum_by, count_by}
 use Rattle.asl_code.specs.declared.image.Function as entry
 use Rattle.asl_code.specs.declared.instr.Instr.{Instr}
 use Rattle.asl_code.specs.declared.instr.Instr.TheVariants as instr
@@ -21,6 +21,11 @@ open_behind i opened = opened
 abbrev pub open_at : List Instr → ℕ → List ℕ
 open_at code zero = []
 open_at code (suc pc) = open_behind (slice_get code pc) (open_at code pc)
+
+-- the number is one of these (docs/SOURCE.md, "Templates")
+abbrev pub is_among : List ℕ → ℕ → Bool
+is_among [] n = false
+is_among (m ∷ ms) n = (m == n) || is_among ms n
 
 -- the instruction makes an object (docs/SOURCE.md, "Templates")
 abbrev pub is_new : Instr → Bool
@@ -53,6 +58,11 @@ InSection l number pc = (s : Section) × (slice_get l.sections number ≡ Some s
 abbrev pub start_of : List entry.Function → ℕ → ℕ
 start_of fs number = sum_by (λ (f : entry.Function). f.len) (take number fs)
 
+-- the number of the function in whose body the pc is, where the bodies lie one after the other (docs/SOURCE.md, "Templates")
+abbrev pub owner_of : List entry.Function → ℕ → ℕ
+owner_of [] pc = 0
+owner_of (f ∷ fs) pc = if nat_lt pc f.len then 0 else suc (owner_of fs (pc - f.len))
+
 -- the pc is in the body of the function of this number (docs/SOURCE.md, "Templates")
 pub record InBody (l : Lowered) (number pc : ℕ) : Type 0 where
   pub function : entry.Function
@@ -71,6 +81,22 @@ pub record IsSection (l : Lowered) (number : ℕ) : Type 0 where
   pub first_inside : InBody l section.function section.acquire
   pub last_inside : InBody l section.function section.release
   pub around : open_at l.code section.release ≡ number ∷ open_at l.code section.acquire
+
+-- where the `acq` of the section of this number stands, and where its `rel` (docs/SOURCE.md, "Templates")
+abbrev pub acquire_of : Lowered → ℕ → Option ℕ
+acquire_of l number = option_map (λ (s : Section). s.acquire) (slice_get l.sections number)
+
+abbrev pub release_of : Lowered → ℕ → Option ℕ
+release_of l number = option_map (λ (s : Section). s.release) (slice_get l.sections number)
+
+-- the register that an instruction returns, if it does
+abbrev pub returned_by : Option Instr → ℕ
+returned_by (Some (instr.Return from)) = from
+returned_by i = 0
+
+-- the register that the function returns: that of the last instruction of its body (docs/SOURCE.md, "Templates")
+abbrev pub returned : Lowered → ℕ → ℕ
+returned l number = returned_by (slice_get l.code (start_of l.functions (suc number) - 1))
 
 -- where control may go on in the same body, from an instruction at a pc (docs/SOURCE.md, "Templates")
 abbrev pub GoesOn : Instr → ℕ → ℕ → Type 0

@@ -1,4 +1,5 @@
 use Rattle.asl_lower.proofs.Limited.{lowering_limits, lowering_main}
+use Rattle.asl_lower.proofs.Layouts.{kept_layout}
 use Rattle.asl_lower.proofs.laws.limits_are_kept.Goals as goal
 
 pub returns-clause-limits : goal.returns-clause-limits
@@ -6,3 +7,9 @@ returns-clause-limits c = lowering_limits
 
 pub returns-clause-main : goal.returns-clause-main
 returns-clause-main c = lowering_main
+
+pub returns-clause-kept : goal.returns-clause-kept
+returns-clause-kept c l k = (kept_layout l k).limits
+
+pub returns-clause-kept_main : goal.returns-clause-kept_main
+returns-clause-kept_main c l k = (kept_layout l k).main

@@ -1,5 +1,9 @@
 use Rattle.asl_lower.proofs.Holds.{lowering_numbered}
+use Rattle.asl_lower.proofs.Layouts.{kept_layout}
 use Rattle.asl_lower.proofs.laws.numbers_follow_the_code.Goals as goal
 
-pub returns : goal.returns
-returns c = lowering_numbered
+pub returns-clause-lowering : goal.returns-clause-lowering
+returns-clause-lowering c = lowering_numbered
+
+pub returns-clause-kept : goal.returns-clause-kept
+returns-clause-kept c l k = (kept_layout l k).numbered

@@ -1,0 +1,29 @@
+-- All facts of a lowering together: of the lowering of a program, and of what a `Lowering` keeps.
+use Rattle.std.proofs.Math.Logic.{∥∥₁_elim}
+use Rattle.asl_syntax.specs.Tree.{Item}
+use Rattle.asl_syntax.specs.Parsed.{IsParsed}
+use Rattle.std.proofs.Common.{List}
+use Rattle.asl_lower.specs.Lowered.{Lowered, IsLowering}
+use Rattle.asl_lower.specs.Facts.{HasLayout}
+use Rattle.asl_lower.specs.Kept.{IsKept}
+use Rattle.asl_lower.proofs.Holds.{lowering_parted, lowering_nested, lowering_sections, lowering_returns, lowering_stays, lowering_numbered}
+use Rattle.asl_lower.proofs.Ruled.{lowering_operands}
+use Rattle.asl_lower.proofs.Limited.{lowering_limits, lowering_main}
+use Rattle.asl_lower.proofs.Props.{HasLayout-prop}
+
+pub lowering_layout : (is : List Item) (l : Lowered) → IsParsed is → IsLowering is l → HasLayout l
+lowering_layout is l parsed h =
+    record {
+      parted = lowering_parted is l h;
+      nested = lowering_nested is l h;
+      sections = lowering_sections is l h;
+      returns = lowering_returns is l h;
+      inside = lowering_stays is l h;
+      numbered = lowering_numbered is l h;
+      operands = lowering_operands is l parsed h;
+      limits = lowering_limits is l parsed h;
+      main = lowering_main is l parsed h;
+    }
+
+pub kept_layout : (l : Lowered) → IsKept l → HasLayout l
+kept_layout l k = ∥∥₁_elim k.program (HasLayout-prop l) (λ p. lowering_layout p.0 l p.1 p.2)
