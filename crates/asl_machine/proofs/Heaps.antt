@@ -11,7 +11,7 @@ use Rattle.asl_code.specs.declared.value.Value.{Value}
 use Rattle.asl_code.specs.declared.value.Value.TheVariants.{Int, Null, Addr}
 use Rattle.asl_code.specs.declared.value.Cell.{Cell}
 use Rattle.asl_machine.specs.State.{Object, cell_at, class_of, size_of, with_cell, written, fresh_object}
-use Rattle.asl_machine.specs.Expression.{cell_of}
+use Rattle.asl_lock_expr.specs.Expression.{cell_of}
 use Rattle.asl_machine.specs.Twin.{address_or_bounds, address_moved}
 use Rattle.asl_machine.specs.Access.{Points}
 use Rattle.asl_machine.specs.Sound.{AreSound}

@@ -1,4 +1,3 @@
-pub mod Paths
 pub mod Joins
 pub mod RequestLaws
 pub mod Grants

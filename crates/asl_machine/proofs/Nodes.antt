@@ -30,7 +30,7 @@ use Rattle.asl_machine.specs.declared.fate.Fate.TheVariants as fate
 use Rattle.asl_machine.specs.declared.fault.Fault.{Fault}
 use Rattle.asl_machine.specs.State.{Object, Activity, Thread, Running, Done, Failed, State, cell_at, class_of, written, fresh_object}
 use Rattle.asl_machine.specs.Access.{Points, AllPoint, AreOfClasses}
-use Rattle.asl_machine.specs.Expression.{pointed, base_cell, walked, path_cell, cell_denoted}
+use Rattle.asl_lock_expr.specs.Expression.{pointed, base_cell, walked, path_cell, cell_denoted}
 use Rattle.asl_machine.specs.Request.{heap_of, leaf_asks, cell_asks, asks_of, all_asks, joined_all, request_of, IsAsk, locks_of}
 use Rattle.asl_machine.specs.Twin.{address_or_bounds, objects_stored, accessed_by, register_of, can_grant, left_by, left_at, turn_by, turn_of, holding_after, step_at, step_of}
 use Rattle.asl_machine.specs.Run.{start_of, state_after, IsReached}

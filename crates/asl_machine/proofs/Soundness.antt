@@ -31,7 +31,7 @@ use Rattle.asl_machine.specs.declared.fate.Fate.TheVariants as fate
 use Rattle.asl_machine.specs.declared.fault.Fault.{Fault}
 use Rattle.asl_machine.specs.declared.fault.Fault.TheVariants as fault
 use Rattle.asl_machine.specs.State.{Object, Frame, Activity, Thread, Running, Done, Failed, State, cell_at, class_of, size_of, written, fresh_object, activity_of, activity_at, depth_at}
-use Rattle.asl_machine.specs.Expression.{cell_of}
+use Rattle.asl_lock_expr.specs.Expression.{cell_of}
 use Rattle.asl_machine.specs.Access.{Points, AllPoint, AreOfClasses, CanDo}
 use Rattle.asl_machine.specs.Request.{LockOfClass, locks_of, request_of}
 use Rattle.asl_machine.specs.Step.{placed_at, advanced, advanced_with, going_on, after, is_zero}

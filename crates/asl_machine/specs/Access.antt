@@ -16,7 +16,7 @@ use Rattle.asl_code.specs.Fits.{FitsImage}
 use Rattle.asl_machine.specs.Calls.{function_of, IsAwaited}
 use Rattle.asl_machine.specs.Request.{LockOfClass, locks_of}
 use Rattle.asl_machine.specs.State.{Object, Frame, Activity, class_of, cell_at}
-use Rattle.asl_machine.specs.Expression.{cell_of}
+use Rattle.asl_lock_expr.specs.Expression.{cell_of}
 
 -- whether a thread that is in so many sections may access the cell: it is in one, and its locks cover the cell
 -- (docs/LOCKS.md, Covered cells)

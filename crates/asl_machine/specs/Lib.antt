@@ -1,6 +1,5 @@
 pub mod State
 pub mod Calls
-pub mod Expression
 pub mod Request
 pub mod Access
 pub mod Step

@@ -17,11 +17,11 @@ use Rattle.asl_lock_forest.specs.declared.node.Node.{Node}
 use Rattle.asl_lock_forest.specs.declared.node.Node.TheVariants.{Root, Class, Leaf}
 use Rattle.asl_lock_forest.specs.Node.{same_node}
 use Rattle.asl_lock_forest.specs.Holding.{Request, asked, covering_mode}
-use Rattle.asl_machine.specs.Expression.{HeapView, cell_denoted}
+use Rattle.asl_lock_expr.specs.Expression.{Seen, cell_denoted}
 use Rattle.asl_machine.specs.State.{Object, cell_at, size_of, class_of}
 
 -- the heap that evaluations see (docs/LOCKS.md, Expressions)
-abbrev pub heap_of : List Object → HeapView
+abbrev pub heap_of : List Object → Seen
 heap_of objects = record { cell = cell_at objects; size = size_of objects }
 
 -- the mode that a lock asks at each node above its own (docs/LOCKS.md, Requests)

@@ -25,7 +25,7 @@ use Rattle.asl_machine.specs.declared.reply.Reply.TheVariants as reply
 use Rattle.asl_machine.specs.State.{Object, Frame, Activity, Thread, Running, Done, Failed, State, cell_at, written, fresh_object}
 use Rattle.asl_machine.specs.Calls.{function_of, first_frame, values_from, frame_count, with_result}
 use Rattle.asl_machine.specs.Access.{is_protected}
-use Rattle.asl_machine.specs.Expression.{cell_of, moved}
+use Rattle.asl_lock_expr.specs.Expression.{cell_of, moved}
 use Rattle.asl_machine.specs.Request.{heap_of, request_of, locks_of}
 use Rattle.asl_machine.specs.Step.{placed_at, advanced, advanced_with, going_on, after, is_zero}
 

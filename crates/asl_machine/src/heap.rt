@@ -2,6 +2,7 @@
 ghost use Rattle.std.specs.Prelude.{◌≡◌, ◌<◌, ◌++◌, ◌∷◌, [], ℕ, IfOk, OnOk, OnErr, Some, length, slice_get, map, option_map, replicate, pos, IsSome};
 
 use asl_code::{Cell, Value};
+use asl_lock_expr::HeapView;
 use std::alloc::{AllocError, Global};
 use std::marker::Model;
 
@@ -198,5 +199,19 @@ impl Heap {
     {
         let object = &mut self.objects[usize::from(cell.object)];
         object.write(usize::from(cell.offset), value);
+    }
+}
+
+impl HeapView for Heap {
+    ghost use Rattle.asl_machine.specs.Request.{heap_of};
+
+    ghost seen = { heap_of };
+
+    fn cell(&self, cell: Cell) -> Option<Value> {
+        self.cell(cell)
+    }
+
+    fn size(&self, object: u16) -> Option<u8> {
+        self.size(usize::from(object))
     }
 }

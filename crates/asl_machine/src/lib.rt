@@ -3,7 +3,6 @@
 
 mod code;
 mod control;
-mod eval;
 mod fate;
 mod fault;
 mod frame;

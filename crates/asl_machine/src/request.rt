@@ -4,9 +4,9 @@ ghost use Rattle.asl_lock_forest.specs.Node.{same_node};
 ghost use Rattle.asl_lock_forest.specs.Holding.{covering_mode};
 ghost use Rattle.asl_machine.specs.Request.{upper_mode, asks_of, cell_asks, leaf_asks, joined_with, joined_all, request_of};
 
-use crate::eval::eval;
 use crate::heap::Heap;
 use asl_code::{Cell, Effect, Lock, Value};
+use asl_lock_expr::eval;
 use asl_lock_forest::Node;
 use asl_mode_lanes::{Mode, join};
 use std::alloc::{AllocError, Global};

@@ -3,11 +3,11 @@ ghost use Rattle.std.specs.Prelude.{◌≡◌, ◌<◌, length};
 ghost use Rattle.asl_machine.specs.Step.{is_zero};
 ghost use Rattle.asl_machine.specs.Twin.{register_of, address_moved, computed, added, subtracted, compared, truth, same_value};
 
-use crate::eval::go_on;
 use crate::fault::Fault;
 use crate::frame::Activity;
 use crate::heap::Heap;
 use asl_code::{Cell, Value};
+use asl_lock_expr::go_on;
 
 /// The sum of the integers in two registers, which wraps at 32 bits.
 pub fn sum(activity: &Activity, left: u8, right: u8) -> Result<Value, Fault>
