@@ -1,0 +1,5 @@
+//! Tests of tickets and of running workers, over their public calls.
+#![tactic(auto)]
+
+#[cfg(test)]
+mod turns;
