@@ -104,7 +104,7 @@ byte_all [] len fit = absurd (omega arith)
 byte_all (b ∷ []) len fit = (b, fit 0, refl)
 byte_all (b ∷ c ∷ bytes) len fit = absurd (omega arith)
 
-byte_number : IsNumber (λ n. n < 256) (λ n. n ∷ []) 1 byte_at
+pub byte_number : IsNumber (λ n. n < 256) (λ n. n ∷ []) 1 byte_at
 unfolding byte_at
 byte_number = record {
   wide = λ n. refl;
@@ -140,7 +140,7 @@ number_never w bytes left e = guard_never (ltb (length bytes) (byte_len w)) (fro
 number_stops : (w : Width) (bytes : List ℕ) → length bytes < byte_len w → number_at w bytes ≡ Err Short
 number_stops w bytes low = let early : ltb (length bytes) (byte_len w) ≡ true = lt-ltb _ _ low in rw early refl
 
-two_number : IsNumber (λ n. n < 2 ^ 16) (λ n. to_be_bytes w16 n) 2 (number_at w16)
+pub two_number : IsNumber (λ n. n < 2 ^ 16) (λ n. to_be_bytes w16 n) 2 (number_at w16)
 two_number = record {
   wide = λ n. refl;
   takes = λ bytes n rest fit e. number_takes w16 (2 ^ 16) (λ b len f. be_bytes_2 b _ len f refl) (λ b f. omega (arith, f 0, f 1)) bytes n rest fit e;
@@ -151,7 +151,7 @@ two_number = record {
   all = λ bytes len f. (from_be_bytes w16 bytes, omega (arith, f 0, f 1), be_bytes_2 bytes _ len f refl);
 }
 
-four_number : IsNumber (λ n. n < 2 ^ 32) (λ n. to_be_bytes w32 n) 4 (number_at w32)
+pub four_number : IsNumber (λ n. n < 2 ^ 32) (λ n. to_be_bytes w32 n) 4 (number_at w32)
 four_number = record {
   wide = λ n. refl;
   takes = λ bytes n rest fit e. number_takes w32 (2 ^ 32) (λ b len f. be_bytes_4 b _ len f refl) (λ b f. omega (arith, f 0, f 1, f 2, f 3)) bytes n rest fit e;

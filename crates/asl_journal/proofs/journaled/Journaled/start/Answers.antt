@@ -1,0 +1,17 @@
+use Rattle.std.proofs.Common.{arith, ap, ◌∙◌, length, subst, sym, List}
+use Rattle.asl_machine.specs.State.{State}
+use Rattle.asl_machine.proofs.Soundness.{length-first_threads}
+use Rattle.asl_journal.specs.declared.event.Event.{Event}
+use Rattle.asl_journal.specs.Journal.{IsCount}
+use Rattle.asl_journal.specs.Recorded.{Fits}
+use Rattle.asl_journal.proofs.Recordings.{fits_start, machine_count, in_count}
+use Rattle.asl_journal.proofs.journaled.Journaled.start.Goals as goal
+
+pub invariant_of-result : goal.invariant_of-result
+invariant_of-result c =
+    let told = c.in_ok-machine.ensures in
+    subst (λ (es : List Event). Fits c.in_ok-machine.machine (length c.in_ok-machine.machine.state.threads) es) (sym c.new-2.ensures.items)
+    (fits_start c.in_ok-machine.machine c.args.program.now c.args.n (in_count c.args.n (λ taken. cc (told.count.1 taken))) told.image told.start)
+
+pub returns-clause-threads : goal.returns-clause-threads
+returns-clause-threads c = machine_count c.in_ok-machine.machine c.args.program.now c.args.n c.in_ok-machine.ensures.start

@@ -1,0 +1,87 @@
+ghost use Rattle.std.specs.Prelude.{◌≡◌};
+ghost use Rattle.asl_journal.specs.declared.fault.ReadError.TheVariants.{Memory};
+
+use asl_machine::MachineFault;
+use std::alloc::{AllocError, AllocFailed};
+use std::convert::From;
+use thiserror::Error;
+
+/// Why a call on journals was refused. Where several apply, the first is answered.
+#[derive(Clone, Copy, Debug, PartialEq, Eq, Error)]
+pub enum JournalFault {
+    /// A journal has at most 16,777,216 events.
+    #[error("JournalFull")]
+    JournalFull,
+    /// A journal has 1 to 64 threads.
+    #[error("BadCount")]
+    BadCount,
+    /// There is no such thread.
+    #[error("BadThread")]
+    BadThread,
+    /// The program's run replies something else at this event, counted from 0.
+    #[error("Differs({0})")]
+    Differs(u32),
+    /// The first field of the bytes is not `ASLJ`.
+    #[error("Magic")]
+    Magic,
+    /// The version is not 1.
+    #[error("Version")]
+    Version,
+    /// The bytes, so many, end within a field.
+    #[error("Truncated({0})")]
+    Truncated(usize),
+    /// No journal has the field whose first byte is here.
+    #[error("BadField({0})")]
+    BadField(usize),
+    /// A journal ends before this byte.
+    #[error("Trailing({0})")]
+    Trailing(usize),
+    /// A growth was refused.
+    #[error("OutOfMemory")]
+    OutOfMemory,
+}
+
+impl From<AllocError> for JournalFault {
+    ghost use Rattle.std.specs.Prelude.{◌≡◌};
+    ghost use Rattle.asl_journal.specs.declared.fault.JournalFault.TheVariants.{OutOfMemory};
+
+    ghost from_gives = { λ _ fault. fault ≡ OutOfMemory };
+
+    fn from(_: AllocError) -> Self {
+        JournalFault::OutOfMemory
+    }
+}
+
+impl From<MachineFault> for JournalFault {
+    ghost use Rattle.std.specs.Prelude.{◌≡◌};
+    ghost use Rattle.asl_journal.specs.Fault.{journal_fault};
+
+    ghost from_gives = { λ machine fault. fault ≡ journal_fault machine };
+
+    fn from(fault: MachineFault) -> Self {
+        match fault {
+            MachineFault::BadCount => JournalFault::BadCount,
+            MachineFault::BadThread => JournalFault::BadThread,
+            MachineFault::OutOfMemory => JournalFault::OutOfMemory,
+        }
+    }
+}
+
+/// Why a reader gave up.
+#[derive(Debug, Drop)]
+pub enum ReadError {
+    /// Memory was refused.
+    Memory,
+    /// The bytes end within a field.
+    Short,
+    /// A field is bad, with so many bytes left from its first byte on.
+    Bad(usize),
+}
+
+impl<T: Drop> From<AllocFailed<T>> for ReadError {
+    ghost from_gives = { λ _ e. e ≡ Memory };
+
+    fn from(_: AllocFailed<T>) -> ReadError {
+        ReadError::Memory
+    }
+}

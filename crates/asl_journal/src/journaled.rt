@@ -1,0 +1,147 @@
+//! A machine whose steps are written down.
+ghost use Rattle.std.specs.Prelude.{◌≡◌, ◌<◌, ◌≤◌, ◌+◌, ◌-◌, ◌↔◌, ◌⊎◌, [], ◌∷◌, ◌++◌, length, min, IfOk, IfErr, IsOk, OnOk, OnErr, IsErrOf};
+ghost use Rattle.asl_machine.specs.Sound.{MayWantMemory};
+ghost use Rattle.asl_machine.specs.Step.{Step};
+ghost use Rattle.asl_journal.specs.Journal.{IsCount, IsJournal, most_events, most_threads};
+
+use crate::event::{Event, Receipt};
+use crate::fault::JournalFault;
+use crate::journal::Journal;
+use crate::limits::MOST_EVENTS;
+use asl_code::Program;
+use asl_machine::Machine;
+use std::alloc::Global;
+use std::marker::Model;
+
+/// A machine and the journal of its run. The machine is always where the journal's schedule leads, and the journal's
+/// replies are those of that run (`docs/JOURNAL.md`, "A machine that writes it down").
+#[derive(Drop)]
+pub struct Journaled<'p> {
+    events: Vec<Event>,
+    machine: Machine<'p>,
+}
+
+impl<'p> Model for Journaled<'p> {
+    ghost use Rattle.std.specs.Prelude.{length, vec_capacity};
+    ghost use Rattle.asl_journal.specs.Recorded.{Recorded, Fits, spare_of};
+
+    ghost Value = { Recorded };
+
+    ghost view = { λ j. record {
+      image = j.machine.image;
+      count = length j.machine.state.threads;
+      events = j.events.items;
+      spare = spare_of (vec_capacity j.events) (length j.events.items);
+    } };
+
+    ghost invariant = { λ j. Fits j.machine (length j.machine.state.threads) j.events.items };
+}
+
+impl<'p> Journaled<'p> {
+    ghost use Rattle.asl_journal.specs.Recorded.{IsUnchanged, event_of, has_ended, last_state, log_of, machine_of};
+
+    /// The machine in which n threads of the program start, with an empty journal.
+    pub fn start(alloc: Global, program: &'p Program, n: u32) -> Result<Journaled<'p>, JournalFault>
+        ensures image { IfOk result (λ journaled. journaled.image ≡ program.now) }
+        ensures threads { IfOk result (λ journaled. journaled.count ≡ n) }
+        ensures empty { IfOk result (λ journaled. journaled.events ≡ []) }
+        ensures count { IsErrOf result JournalFault.BadCount ↔ ((n ≡ 0) ⊎ (most_threads < n)) }
+        ensures other { IfErr result (λ fault. (fault ≡ JournalFault.BadCount) ⊎ (fault ≡ JournalFault.OutOfMemory)) }
+    {
+        let machine = Machine::new(alloc, program, n)?;
+        Ok(Journaled {
+            events: Vec::new(alloc),
+            machine,
+        })
+    }
+
+    /// Steps thread t, and writes the step down, also where it is blocked or the thread has ended. Room for the event is
+    /// made before anything changes.
+    pub fn step(&mut self, alloc: Global, t: u32) -> Result<Receipt, JournalFault>
+        ensures event { IfOk result (λ receipt. self.new.events ≡ self.old.events ++ event_of receipt ∷ []) }
+        ensures step { IfOk result (λ receipt. Step self.old.image (last_state self.old) t receipt.reply (last_state self.new)) }
+        ensures index { IfOk result (λ receipt. receipt.index ≡ length self.old.events) }
+        ensures thread { IfOk result (λ receipt. receipt.thread ≡ t) }
+        ensures ended { IfOk result (λ receipt. receipt.ended ≡ has_ended (last_state self.new) t) }
+        ensures journal { IsJournal self.new.image self.new.count self.new.events }
+        ensures image { self.new.image ≡ self.old.image }
+        ensures count { self.new.count ≡ self.old.count }
+        ensures spare { self.old.spare ≤ self.new.spare + 1 }
+        ensures full { IsErrOf result JournalFault.JournalFull ↔ (length self.old.events ≡ most_events) }
+        ensures stranger { IsErrOf result JournalFault.BadThread
+            ↔ ((length self.old.events < most_events) × (self.old.count ≤ t)) }
+        ensures memory { IsErrOf result JournalFault.OutOfMemory
+            → (self.old.spare ≡ 0) ⊎ MayWantMemory self.old.image (last_state self.old) t }
+        ensures other { IfErr result (λ fault. (fault ≡ JournalFault.JournalFull) ⊎ (fault ≡ JournalFault.BadThread)
+            ⊎ (fault ≡ JournalFault.OutOfMemory)) }
+        ensures err { OnErr result (IsUnchanged self.old self.new) }
+    {
+        if self.events.len() >= MOST_EVENTS {
+            return Err(JournalFault::JournalFull);
+        }
+        if t >= self.machine.threads() {
+            return Err(JournalFault::BadThread);
+        }
+        self.events.reserve(1)?;
+        let reply = self.machine.step(alloc, t)?;
+        let index = self.events.len() as u32;
+        let thread = t as u8;
+        let ended = self.machine.pc(t).is_none();
+        self.events.push_reserved(Event { thread, reply });
+        Ok(Receipt {
+            index,
+            thread,
+            reply,
+            ended,
+        })
+    }
+
+    /// Makes room for m events, or for as many as the limit leaves where that is less.
+    pub fn reserve(&mut self, m: u32) -> Result<(), JournalFault>
+        ensures room { OnOk result (min m (most_events - length self.old.events) ≤ self.new.spare) }
+        ensures grows { self.old.spare ≤ self.new.spare }
+        ensures same { IsUnchanged self.old self.new }
+        ensures succeeds { m ≤ self.old.spare → IsOk result }
+        ensures memory { IfErr result (λ fault. fault ≡ JournalFault.OutOfMemory) }
+    {
+        let left = MOST_EVENTS - self.events.len();
+        self.events.reserve(left.min(m as usize))?;
+        Ok(())
+    }
+
+    /// For how many events there is room: so many steps are not refused for the journal's growth.
+    pub fn spare(&self) -> u32
+        ensures spare { result ≡ self.now.spare }
+        ensures limit { result + length self.now.events ≤ most_events }
+    {
+        let room = self.events.capacity().min(MOST_EVENTS) - self.events.len();
+        room as u32
+    }
+
+    /// The events so far, in order.
+    pub fn events(&self) -> &[Event]
+        ensures events { result.now ≡ self.now.events }
+        ensures journal { IsJournal self.now.image self.now.count self.now.events }
+        ensures count { IsCount self.now.count }
+    {
+        self.events.as_slice()
+    }
+
+    /// The machine, in the state to which the events led.
+    pub fn machine(&self) -> &Machine<'p>
+        ensures { result.now ≡ machine_of self.now }
+    {
+        &self.machine
+    }
+
+    /// The journal and the machine.
+    pub fn into_parts(self) -> (Journal, Machine<'p>)
+        ensures log { result.0 ≡ log_of self.entry }
+        ensures machine { result.1 ≡ machine_of self.entry }
+        ensures journal { IsJournal self.entry.image self.entry.count self.entry.events }
+    {
+        let threads = self.machine.threads();
+        let Journaled { events, machine } = self;
+        (Journal::from_parts(threads, events), machine)
+    }
+}

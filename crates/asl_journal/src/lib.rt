@@ -1,0 +1,13 @@
+//! Journals: the events of a run in order, a machine that writes them down as it steps, replay, and the bytes of a journal.
+#![tactic(auto)]
+
+mod event;
+mod fault;
+mod journal;
+mod journaled;
+mod limits;
+
+pub use event::{Event, Receipt};
+pub use fault::JournalFault;
+pub use journal::Journal;
+pub use journaled::Journaled;

@@ -1,0 +1,5 @@
+/// How many threads a journal has at most (`docs/LIMITS.md`).
+pub const MOST_THREADS: u32 = 64;
+
+/// How many events a journal has at most (`docs/LIMITS.md`).
+pub const MOST_EVENTS: usize = 16_777_216;

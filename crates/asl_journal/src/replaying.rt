@@ -1,0 +1,79 @@
+//! Replay: the steps of a journal, made again.
+ghost use Rattle.std.specs.Prelude.{◌≡◌, ◌≤◌, length, IfOk, IfErr, OnOk};
+ghost use Rattle.asl_machine.specs.Run.{state_after};
+ghost use Rattle.asl_journal.specs.Journal.{AreThere, GoesBy, IsJournal, most_events, schedule_of, state_at};
+ghost use Rattle.asl_journal.specs.Replay.{IsFollowFault, IsReplayFault};
+
+use crate::event::Event;
+use crate::fault::JournalFault;
+use crate::journal::Journal;
+use asl_code::Program;
+use asl_machine::Machine;
+use std::alloc::Global;
+
+/// The machine to which the journal leads, if it is one of this program; else the first event to which the program's
+/// run replies something else.
+pub fn replay<'p>(
+    alloc: Global,
+    program: &'p Program,
+    journal: &Journal,
+) -> Result<Machine<'p>, JournalFault>
+    ensures journal { OnOk result (IsJournal program.now journal.now.threads journal.now.events) }
+    ensures machine { IfOk result (λ machine. machine ≡ record {
+      image = program.now;
+      state = state_at program.now journal.now.threads journal.now.events;
+    }) }
+    ensures refused { IfErr result (λ fault. IsReplayFault program.now journal.now fault) }
+    // A journal of the program is refused for want of memory alone.
+    ensures only { IsJournal program.now journal.now.threads journal.now.events
+        → IfErr result (λ fault. fault ≡ JournalFault.OutOfMemory) }
+{
+    let machine = Machine::new(alloc, program, journal.threads())?;
+    run_on(alloc, machine, journal.events())
+}
+
+/// The machine to which the events lead from the state of this one, which stays as it is.
+pub fn follow<'p>(
+    alloc: Global,
+    from: &Machine<'p>,
+    events: &[Event],
+) -> Result<Machine<'p>, JournalFault>
+    requires there { AreThere (length from.now.state.threads) events.now }
+    requires short { length events.now ≤ most_events }
+    ensures goes { OnOk result (GoesBy from.now.image from.now.state events.now) }
+    ensures machine { IfOk result (λ machine. machine ≡ record {
+      image = from.now.image;
+      state = state_after from.now.image from.now.state (schedule_of events.now);
+    }) }
+    ensures refused { IfErr result (λ fault. IsFollowFault from.now.image from.now.state events.now fault) }
+    // Events of the machine's run are refused for want of memory alone.
+    ensures only { GoesBy from.now.image from.now.state events.now
+        → IfErr result (λ fault. fault ≡ JournalFault.OutOfMemory) }
+{
+    let machine = from.try_copy(alloc)?;
+    run_on(alloc, machine, events)
+}
+
+/// The machine behind the events, each of which replies as it says.
+fn run_on<'p>(
+    alloc: Global,
+    mut machine: Machine<'p>,
+    events: &[Event],
+) -> Result<Machine<'p>, JournalFault>
+    requires there { AreThere (length machine.entry.state.threads) events.now }
+    requires short { length events.now ≤ most_events }
+    ensures goes { OnOk result (GoesBy machine.entry.image machine.entry.state events.now) }
+    ensures machine { IfOk result (λ behind. behind ≡ record {
+      image = machine.entry.image;
+      state = state_after machine.entry.image machine.entry.state (schedule_of events.now);
+    }) }
+    ensures refused { IfErr result (λ fault. IsFollowFault machine.entry.image machine.entry.state events.now fault) }
+{
+    for (index, event) in events.iter().enumerate() {
+        let reply = machine.step(alloc, u32::from(event.thread))?;
+        if reply != event.reply {
+            return Err(JournalFault::Differs(index as u32));
+        }
+    }
+    Ok(machine)
+}
