@@ -1,5 +1,5 @@
 -- What a store and a new object leave of the heap: its objects, their classes and their sizes.
-use Rattle.std.proofs.Common.{◌≡◌, ℕ, ◌+◌, ◌<◌, ◌≤◌, ◌⊎◌, ◌++◌, true, false, cond, ltb, replicate, pos, List, [], ◌∷◌, Option, Some, None, IfOk, length, set, slice_get, refl, ap, sym, ◌∙◌, subst, inl, inr, arith, length-set}
+use Rattle.std.proofs.Common.{◌≡◌, ◌≢◌, ℕ, ◌+◌, ◌<◌, ◌≤◌, ◌⊎◌, ◌++◌, true, false, cond, ltb, replicate, pos, List, [], ◌∷◌, Option, Some, None, IfOk, length, set, slice_get, refl, ap, sym, ◌∙◌, subst, inl, inr, arith, length-set}
 use Rattle.std.specs.Prelude.{IsSome, option_map, option_and_then}
 use Rattle.std.specs.Option.{option_map_or}
 use Rattle.std.proofs.lemmas.Bool.Decides.{eqb_tells}
@@ -58,6 +58,7 @@ size_of-written objects c v n =
 some_is : (a b : Option Value) → a ≡ b → IsSome a → IsSome b
 some_is a b e h = subst (λ o. IsSome o) e h
 
+-- what an object's cell holds
 cell_from : (o : Option Object) (offset : ℕ) (object : Object) → o ≡ Some object → option_and_then (λ (p : Object). slice_get p.cells offset) o ≡ slice_get object.cells offset
 cell_from o offset object e = ap (option_and_then (λ (p : Object). slice_get p.cells offset)) e
 
@@ -89,6 +90,74 @@ cell_either objects c v x w e =
             | inr old ↦ inr (cell_from _ x.offset at.0 at.1 ∙ old)
           ]
     ]
+
+pub tell_cells : (x y : Cell) → (x ≡ y) ⊎ (x ≢ y)
+tell_cells x y =
+    elim (eqb_tells x.object y.object) [
+      | inl o ↦ elim (eqb_tells x.offset y.offset) [
+        | inl i ↦ inl (λ k. cell_of (o.1 k) (i.1 k))
+        | inr i ↦ inr (λ e. i.1 (ap (λ (c : Cell). c.offset) e))
+      ]
+      | inr o ↦ inr (λ e. o.1 (ap (λ (c : Cell). c.object) e))
+    ]
+
+-- a store to a cell that is there puts the value there
+pub written_same : (objects : List Object) (c : Cell) (v w : Value) → cell_at objects c ≡ Some w → cell_at (written objects c v) c ≡ Some v
+written_same objects c v w e =
+    elim (slice_get objects c.object) as (λ o. slice_get objects c.object ≡ o → option_and_then (λ (p : Object). slice_get p.cells c.offset) o ≡ Some w →
+    cell_at (option_map_or (λ (p : Object). set objects c.object (with_cell p c.offset v)) o objects) c ≡ Some v) [
+      | None ↦ λ is f. cc
+      | Some p ↦ λ is f.
+          cell_from _ c.offset (with_cell p c.offset v) (get_same objects c.object (with_cell p c.offset v) (slice_get_within objects c.object p is))
+          ∙ get_same p.cells c.offset v (slice_get_within p.cells c.offset w f)
+    ] refl e
+
+-- a store leaves every other cell
+pub written_other : (objects : List Object) (c : Cell) (v : Value) (x : Cell) → x ≢ c → cell_at (written objects c v) x ≡ cell_at objects x
+written_other objects c v x other =
+    elim (slice_get objects c.object) as (λ o. slice_get objects c.object ≡ o → cell_at (option_map_or (λ (p : Object). set objects c.object (with_cell p c.offset v)) o objects) x ≡ cell_at objects x) [
+      | None ↦ λ is. refl
+      | Some p ↦ λ is. elim (eqb_tells x.object c.object) [
+        | inl same ↦
+            let offset : x.offset ≢ c.offset = λ f. other (λ k. cell_of (same.1 k) (f k)) in
+            cell_from _ x.offset (with_cell p c.offset v)
+            (ap (slice_get (set objects c.object (with_cell p c.offset v))) same.1 ∙ get_same objects c.object (with_cell p c.offset v) (slice_get_within objects c.object p is))
+            ∙ get_other p.cells c.offset x.offset v offset
+            ∙ sym (cell_from _ x.offset p (ap (slice_get objects) same.1 ∙ is))
+        | inr apart ↦ ap (option_and_then (λ (q : Object). slice_get q.cells x.offset)) (get_other objects c.object x.object (with_cell p c.offset v) apart.1)
+      ]
+    ] refl
+
+-- after a store a cell is the one and holds what was stored, or it holds what it held
+pub stored_or_old : (objects : List Object) (c : Cell) (v : Value) (x : Cell) (w : Value) → cell_at (written objects c v) x ≡ Some w → ((x ≡ c) × (w ≡ v)) ⊎ (cell_at objects x ≡ Some w)
+stored_or_old objects c v x w e =
+    elim (tell_cells x c) [
+      | inl same ↦ elim (cell_either objects c v x w e) [ inl is ↦ inl (same, is) | inr old ↦ inr old ]
+      | inr other ↦ inr (sym (written_other objects c v x other) ∙ e)
+    ]
+
+-- a cell that is there is of an object that is there, which has a class
+pub object_there : (objects : List Object) (cell : Cell) (v : Value) → cell_at objects cell ≡ Some v → cell.object < length objects
+object_there objects cell v e =
+    elim (slice_get objects cell.object) as (λ o. slice_get objects cell.object ≡ o → option_and_then (λ (p : Object). slice_get p.cells cell.offset) o ≡ Some v → cell.object < length objects) [
+      | None ↦ λ is f. cc
+      | Some p ↦ λ is f. slice_get_within objects cell.object p is
+    ] refl e
+
+pub class_there : (objects : List Object) (cell : Cell) (v : Value) → cell_at objects cell ≡ Some v → (class : ℕ) × (class_of objects cell.object ≡ Some class)
+class_there objects cell v e =
+    elim (slice_get objects cell.object) as (λ o. slice_get objects cell.object ≡ o → option_and_then (λ (p : Object). slice_get p.cells cell.offset) o ≡ Some v → (class : ℕ) × (class_of objects cell.object ≡ Some class)) [
+      | None ↦ λ is f. cc
+      | Some p ↦ λ is f. (p.class, ap (option_map (λ (q : Object). q.class)) is)
+    ] refl e
+
+-- what points somewhere points to an object that is there
+pub points_within : (objects : List Object) (o i : ℕ) → Points objects (Addr o i) → o < length objects
+points_within objects o i p =
+    elim (cell_at objects (cell_of o i)) as (λ x. cell_at objects (cell_of o i) ≡ x → IsSome x → o < length objects) [
+      | None ↦ λ is f. let g = f in cc
+      | Some v ↦ λ is f. object_there objects (cell_of o i) v is
+    ] refl p
 
 -- what pointed to a cell still does
 pub points_kept : (objects : List Object) (c : Cell) (v w : Value) → Points objects w → Points (written objects c v) w
@@ -138,6 +207,14 @@ cell_before objects more x h =
       | None ↦ λ e k. let f = k in cc
       | Some p ↦ λ e k. some_is _ _ (sym (ap (option_and_then (λ (q : Object). slice_get q.cells x.offset)) (get_before objects more x.object p e))) k
     ] refl h
+
+-- a cell that is there holds what it held when more objects are made
+pub value_before : (objects more : List Object) (x : Cell) (v : Value) → cell_at objects x ≡ Some v → cell_at (objects ++ more) x ≡ Some v
+value_before objects more x v e =
+    elim (slice_get objects x.object) as (λ o. slice_get objects x.object ≡ o → option_and_then (λ (p : Object). slice_get p.cells x.offset) o ≡ Some v → cell_at (objects ++ more) x ≡ Some v) [
+      | None ↦ λ is f. cc
+      | Some p ↦ λ is f. cell_from _ x.offset p (get_before objects more x.object p is) ∙ f
+    ] refl e
 
 -- what is told of an object that is there is told of it when more are made
 pub read_before : {B : Type 0} (f : Object → B) (objects more : List Object) (n : ℕ) (b : B) → option_map f (slice_get objects n) ≡ Some b → option_map f (slice_get (objects ++ more) n) ≡ Some b

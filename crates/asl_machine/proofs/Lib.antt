@@ -1,14 +1,16 @@
 pub mod Joins
 pub mod RequestLaws
 pub mod Grants
+pub mod Asks
 pub mod Lists
 pub mod Heaps
 pub mod Frames
 pub mod Codes
+pub mod Nodes
 pub mod Soundness
 pub mod Table
 pub mod Unique
 pub mod Reached
 pub mod Runs
+pub mod Others
 pub mod Machines
-pub mod Nodes

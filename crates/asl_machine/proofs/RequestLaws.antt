@@ -176,11 +176,11 @@ parent_all (ask ∷ asks) request x q h k =
 AsksParents : Request → Type 0
 AsksParents asks = (n p : Node) (m : Mode) → parent_of n ≡ Some p → IsAsk asks n m → (up : Mode) × (IsAsk asks p up) × AtMost (parent_mode m) up
 
-ask_left : (xs ys : Request) (n : Node) (m : Mode) → IsAsk xs n m → IsAsk (xs ++ ys) n m
+pub ask_left : (xs ys : Request) (n : Node) (m : Mode) → IsAsk xs n m → IsAsk (xs ++ ys) n m
 ask_left [] ys n m h = absurd h
 ask_left (x ∷ xs) ys n m h = elim h [ inl e ↦ inl e | inr i ↦ inr (ask_left xs ys n m i) ]
 
-ask_right : (xs ys : Request) (n : Node) (m : Mode) → IsAsk ys n m → IsAsk (xs ++ ys) n m
+pub ask_right : (xs ys : Request) (n : Node) (m : Mode) → IsAsk ys n m → IsAsk (xs ++ ys) n m
 ask_right [] ys n m h = h
 ask_right (x ∷ xs) ys n m h = inr (ask_right xs ys n m h)
 

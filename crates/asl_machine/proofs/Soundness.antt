@@ -17,15 +17,17 @@ use Rattle.asl_code.specs.declared.value.Value.{Value}
 use Rattle.asl_code.specs.declared.value.Value.TheVariants.{Int, Null, Addr}
 use Rattle.asl_code.specs.declared.value.Cell.{Cell}
 use Rattle.asl_code.specs.declared.value.Effect.TheVariants.{Read, Write}
-use Rattle.asl_code.specs.Fits.{FitsImage, FitsInstr, FitsLock, LiesIn}
+use Rattle.asl_code.specs.Fits.{FitsImage, FitsInstr, FitsLock, HasLock, LiesIn}
 use Rattle.asl_code.specs.Verified.{is_end}
 use Rattle.asl_code.proofs.FitsLaws.{lies_within}
 use Rattle.std.specs.FinMap as finite
 use Rattle.asl_mode_lanes.specs.declared.mode.Mode.{Mode}
+use Rattle.asl_mode_lanes.specs.declared.mode.Mode.TheVariants.{NL}
+use Rattle.asl_lock_forest.specs.declared.node.Node.{Node}
 use Rattle.asl_lock_forest.specs.Keys.{key, key_cmp}
 use Rattle.asl_lock_forest.specs.Held.{Held}
-use Rattle.asl_lock_forest.specs.Holding.{Holding, Request, HoldsNothing, grant, release, IsLawful, IsWithin}
-use Rattle.asl_lock_forest.proofs.Laws.{nothing_released, nothing_kept_release, nothing_kept_grant}
+use Rattle.asl_lock_forest.specs.Holding.{Holding, Request, HoldsNothing, held, grant, release, IsLawful, IsWithin}
+use Rattle.asl_lock_forest.proofs.Laws.{held_empty, nothing_released, nothing_kept_release, nothing_kept_grant}
 use Rattle.asl_lock_forest.proofs.Lawful.{lawful_empty, within_empty, lawful_grant, lawful_release, within_grant, within_release}
 use Rattle.asl_machine.specs.declared.fate.Fate.TheVariants as fate
 use Rattle.asl_machine.specs.declared.fault.Fault.{Fault}
@@ -34,13 +36,15 @@ use Rattle.asl_machine.specs.State.{Object, Frame, Activity, Thread, Running, Do
 use Rattle.asl_lock_expr.specs.Expression.{cell_of}
 use Rattle.asl_machine.specs.Access.{Points, AllPoint, AreOfClasses, CanDo}
 use Rattle.asl_machine.specs.Request.{LockOfClass, locks_of, request_of}
-use Rattle.asl_machine.specs.Step.{placed_at, advanced, advanced_with, going_on, after, is_zero}
-use Rattle.asl_machine.specs.Twin.{Left, Place, fate_of, set_left, computed, added, subtracted, compared, truth, same_value, jump_left, show_left, address_moved, activity_set, make_left, loaded, accessed_by, store_left, left_alone, called, call_left, return_left, activity_moved, acquire_left, release_left, left_by, left_at, turn_by, turn_of, step_at, step_of, register_of, can_grant}
+use Rattle.asl_machine.specs.Step.{placed_at, advanced, advanced_with, going_on, called, returned, having_made, left_last, after, is_zero}
+use Rattle.asl_machine.specs.Twin.{Left, Place, set_left, computed, added, subtracted, compared, truth, same_value, jump_left, show_left, address_moved, make_left, loaded, accessed_by, store_left, left_alone, call_left, return_left, activity_moved, acquire_left, release_left, left_by, left_at, turn_by, turn_of, step_at, step_of, register_of, can_grant}
 use Rattle.asl_machine.specs.Sound.{IsPlaced, IsSuspended, AreSuspended, AreSound, IsSound, IsMachine, ThreadReady}
-use Rattle.asl_machine.specs.Calls.{function_of, first_registers, first_frame, values_from, frame_count, with_result, IsAwaited}
-use Rattle.asl_machine.specs.Run.{global_object, first_thread, first_threads, start_of}
+use Rattle.asl_machine.specs.Calls.{function_of, first_registers, values_from, frame_count, with_result, IsAwaited}
+use Rattle.asl_machine.specs.Run.{global_object, first_activity, first_thread, first_threads, start_of}
+use Rattle.asl_machine.specs.Nodes.{IsNode}
 use Rattle.asl_machine.proofs.Lists.{get_same, get_other, get_either, set_same, one_more, replicated}
-use Rattle.asl_machine.proofs.Heaps.{sound_written, points_kept, sound_made, points_before, made_points, moved_points, global_points}
+use Rattle.asl_machine.proofs.Heaps.{class_of-written, read_before, sound_written, points_kept, sound_made, points_before, made_points, moved_points, global_points}
+use Rattle.asl_machine.proofs.Nodes.{node_kept, granted_before, released_before, request_there}
 use Rattle.asl_machine.proofs.Grants.{grant_when_free}
 use Rattle.asl_machine.proofs.RequestLaws.{request_is_rooted, request_asks_modes, request_is_of_classes}
 
@@ -52,11 +56,13 @@ depth_in thread = option_map_or (λ (a : Activity). a.depth) (activity_of thread
 pub record MayFollow (image : Image) (s : State) (t : ℕ) (thread : Thread) (objects : List Object) (holding : Holding) : Type 0 where
   pub sound : AreSound image objects
   pub grows : (v : Value) → Points s.objects v → Points objects v
+  pub classes : (n class : ℕ) → class_of s.objects n ≡ Some class → class_of objects n ≡ Some class
   pub own : (a : Activity) → activity_of thread ≡ Some a → IsPlaced image objects a
   pub own_outside : depth_in thread ≡ 0 → HoldsNothing holding t
   pub others : (u : ℕ) → u ≢ t → HoldsNothing s.holding u → HoldsNothing holding u
   pub lawful : IsLawful holding
   pub within : IsWithin image.classes (length s.threads) holding
+  pub nodes : (u : ℕ) (n : Node) → held holding u n ≢ NL → (held s.holding u n ≢ NL) ⊎ IsNode image.classes s.objects n
 
 -- frames that wait do so over objects to which all that pointed still points
 below_grown : (image : Image) (objects more : List Object) → ((v : Value) → Points objects v → Points more v) → (above : ℕ) (result : Option ℕ) (frames : List Frame) →
@@ -88,15 +94,17 @@ pub sound_after : (image : Image) (s : State) (t : ℕ) (thread : Thread) (objec
     MayFollow image s t thread objects holding → IsSound image (after s t thread objects holding)
 sound_after image s t thread objects holding sound lt m = record {
   fits = sound.fits;
-  objects = m.sound;
-  placed = λ u a e. elim (eqb_tells u t) [
-    | inl same ↦
-        let here : slice_get (set s.threads t thread) u ≡ Some thread = ap (slice_get (set s.threads t thread)) same.1 ∙ get_same s.threads t thread lt in
-        m.own a (sym (ap (option_and_then activity_of) here) ∙ e)
-    | inr other ↦
-        grown image s.objects objects a m.grows
-        (sound.placed u a (sym (ap (option_and_then activity_of) (get_other s.threads t u thread other.1)) ∙ e))
-  ];
+  formed = record {
+    objects = m.sound;
+    placed = λ u a e. elim (eqb_tells u t) [
+      | inl same ↦
+          let here : slice_get (set s.threads t thread) u ≡ Some thread = ap (slice_get (set s.threads t thread)) same.1 ∙ get_same s.threads t thread lt in
+          m.own a (sym (ap (option_and_then activity_of) here) ∙ e)
+      | inr other ↦
+          grown image s.objects objects a m.grows
+          (sound.formed.placed u a (sym (ap (option_and_then activity_of) (get_other s.threads t u thread other.1)) ∙ e))
+    ];
+  };
   outside = λ u e. elim (eqb_tells u t) [
     | inl same ↦
         let here : slice_get (set s.threads t thread) u ≡ Some thread = ap (slice_get (set s.threads t thread)) same.1 ∙ get_same s.threads t thread lt in
@@ -108,6 +116,9 @@ sound_after image s t thread objects holding sound lt m = record {
   ];
   lawful = m.lawful;
   within = subst (λ n. IsWithin image.classes n holding) (sym (length-set s.threads t thread)) m.within;
+  there = λ u n ne.
+      let kept = node_kept image.classes s.objects objects m.classes m.grows n in
+      elim (m.nodes u n ne) [ inl before ↦ kept (sound.there u n before) | inr new ↦ kept new ];
 }
 
 -- what a running thread of a sound state is, where it is at an instruction that it goes on from
@@ -126,65 +137,85 @@ outside_here image s t a h e = h.sound.outside t (depth_here image s t a h ∙ e
 -- a thread that fails
 follows_fail : (image : Image) (s : State) (t : ℕ) (a : Activity) (f : Fault) → Here image s t a → MayFollow image s t (Failed f) s.objects (release s.holding t)
 follows_fail image s t a f h = record {
-  sound = h.sound.objects;
+  sound = h.sound.formed.objects;
   grows = λ v p. p;
+  classes = λ n class e. e;
   own = λ b e. cc;
   own_outside = λ e. nothing_released s.holding t;
   others = λ u ne p. nothing_kept_release s.holding t u p;
   lawful = lawful_release s.holding t h.sound.lawful;
   within = within_release image.classes (length s.threads) s.holding t h.sound.within;
+  nodes = λ u n ne. inl (released_before s.holding t u n ne);
 }
 
 -- a thread that ends outside all sections
 follows_end : (image : Image) (s : State) (t : ℕ) (a : Activity) (v : Value) → Here image s t a → a.depth ≡ 0 → MayFollow image s t (Done v) s.objects s.holding
 follows_end image s t a v h z = record {
-  sound = h.sound.objects;
+  sound = h.sound.formed.objects;
   grows = λ w p. p;
+  classes = λ n class e. e;
   own = λ b e. cc;
   own_outside = λ e. outside_here image s t a h z;
   others = λ u ne p. p;
   lawful = h.sound.lawful;
   within = h.sound.within;
+  nodes = λ u n ne. inl ne;
 }
 
 -- a thread that goes on in sound objects, with its holding as it was
-follows_goes : (image : Image) (s : State) (t : ℕ) (a b : Activity) (objects : List Object) → Here image s t a → AreSound image objects →
-    ((v : Value) → Points s.objects v → Points objects v) → IsPlaced image objects b → (b.depth ≡ 0 → a.depth ≡ 0) →
-    MayFollow image s t (Running b) objects s.holding
-follows_goes image s t a b objects h sound grows placed shallow = record {
+follows_changes : (image : Image) (s : State) (t : ℕ) (a b : Activity) (objects : List Object) → Here image s t a → AreSound image objects →
+    ((v : Value) → Points s.objects v → Points objects v) → ((n class : ℕ) → class_of s.objects n ≡ Some class → class_of objects n ≡ Some class) →
+    IsPlaced image objects b → (b.depth ≡ 0 → a.depth ≡ 0) → MayFollow image s t (Running b) objects s.holding
+follows_changes image s t a b objects h sound grows classes placed shallow = record {
   sound = sound;
   grows = grows;
+  classes = classes;
   own = λ c e. let is : b ≡ c = cc in subst (IsPlaced image objects) is placed;
   own_outside = λ e. outside_here image s t a h (shallow e);
   others = λ u ne p. p;
   lawful = h.sound.lawful;
   within = h.sound.within;
+  nodes = λ u n ne. inl ne;
 }
+
+-- a thread that goes on over the same objects, with its holding as it was
+follows_goes : (image : Image) (s : State) (t : ℕ) (a b : Activity) → Here image s t a → IsPlaced image s.objects b → (b.depth ≡ 0 → a.depth ≡ 0) →
+    MayFollow image s t (Running b) s.objects s.holding
+follows_goes image s t a b h placed shallow = follows_changes image s t a b s.objects h h.sound.formed.objects (λ v p. p) (λ n class e. e) placed shallow
+
+-- a holding after a request is granted to the thread
+record Granted (image : Image) (s : State) (t : ℕ) (request : Request) : Type 0 where
+  lawful : IsLawful (grant s.holding t request)
+  within : IsWithin image.classes (length s.threads) (grant s.holding t request)
+  nodes : (u : ℕ) (n : Node) → held (grant s.holding t request) u n ≢ NL → (held s.holding u n ≢ NL) ⊎ IsNode image.classes s.objects n
 
 -- a thread that has been granted a request, and is in a section
 follows_grant : (image : Image) (s : State) (t : ℕ) (a b : Activity) (request : Request) → Here image s t a → IsPlaced image s.objects b → b.depth ≢ 0 →
-    IsLawful (grant s.holding t request) → IsWithin image.classes (length s.threads) (grant s.holding t request) →
-    MayFollow image s t (Running b) s.objects (grant s.holding t request)
-follows_grant image s t a b request h placed inside lawful within = record {
-  sound = h.sound.objects;
+    Granted image s t request → MayFollow image s t (Running b) s.objects (grant s.holding t request)
+follows_grant image s t a b request h placed inside granted = record {
+  sound = h.sound.formed.objects;
   grows = λ v p. p;
+  classes = λ n class e. e;
   own = λ c e. let is : b ≡ c = cc in subst (IsPlaced image s.objects) is placed;
   own_outside = λ e. absurd (inside e);
   others = λ u ne p. nothing_kept_grant s.holding t request u ne p;
-  lawful = lawful;
-  within = within;
+  lawful = granted.lawful;
+  within = granted.within;
+  nodes = granted.nodes;
 }
 
 -- a thread that has given all back
 follows_release : (image : Image) (s : State) (t : ℕ) (a b : Activity) → Here image s t a → IsPlaced image s.objects b → MayFollow image s t (Running b) s.objects (release s.holding t)
 follows_release image s t a b h placed = record {
-  sound = h.sound.objects;
+  sound = h.sound.formed.objects;
   grows = λ v p. p;
+  classes = λ n class e. e;
   own = λ c e. let is : b ≡ c = cc in subst (IsPlaced image s.objects) is placed;
   own_outside = λ e. nothing_released s.holding t;
   others = λ u ne p. nothing_kept_release s.holding t u p;
   lawful = lawful_release s.holding t h.sound.lawful;
   within = within_release image.classes (length s.threads) s.holding t h.sound.within;
+  nodes = λ u n ne. inl (released_before s.holding t u n ne);
 }
 
 -- ---- where a thread is after an instruction from which it goes on
@@ -228,7 +259,7 @@ Follows image s t l = MayFollow image s t (turn_by t l).thread (turn_by t l).obj
 follows_set : (image : Image) (s : State) (t : ℕ) (a : Activity) (h : Here image s t a) → LiesIn image a.top.function (a.top.pc + 1) h.placed.function → (to : ℕ) (value : Result Value Fault) →
     IfOk value (Points s.objects) → Follows image s t (set_left (here_place s t a) to value)
 follows_set image s t a h lies to (Ok v) p =
-    follows_goes image s t a _ s.objects h h.sound.objects (λ w q. q) (placed_with image s.objects a to v h.placed lies p) (λ e. e)
+    follows_goes image s t a _ h (placed_with image s.objects a to v h.placed lies p) (λ e. e)
 follows_set image s t a h lies to (Err f) p = follows_fail image s t a f h
 
 computed_points : (objects : List Object) (operation : ℤ → ℤ → Value) → ((x y : ℤ) → Points objects (operation x y)) → (x y : Value) → IfOk (computed operation x y) (Points objects)
@@ -255,7 +286,7 @@ follows_store : (image : Image) (s : State) (t : ℕ) (a : Activity) (h : Here i
 follows_store image s t a h lies value (Ok cell) p =
     let more = written s.objects cell value in
     let grows : (v : Value) → Points s.objects v → Points more v = points_kept s.objects cell value in
-    follows_goes image s t a _ more h (sound_written image s.objects cell value h.sound.objects p) grows
+    follows_changes image s t a _ more h (sound_written image s.objects cell value h.sound.formed.objects p) grows (λ n class e. class_of-written s.objects cell value n ∙ e)
     (grown image s.objects more _ grows (placed_advanced image s.objects a a.depth h.placed lies h.placed.depth)) (λ e. e)
 follows_store image s t a h lies value (Err f) p = follows_fail image s t a f h
 
@@ -264,11 +295,11 @@ follows_make : (image : Image) (s : State) (t : ℕ) (a : Activity) (h : Here im
 unfolding grown
 follows_make image s t a h lies to cells class lt some =
     let more = s.objects ++ fresh_object class cells ∷ [] in
-    let few : length s.objects ≤ 65536 = h.sound.objects.few in
+    let few : length s.objects ≤ 65536 = h.sound.formed.objects.few in
     elim (length s.objects == 65536) as (λ b. (length s.objects == 65536) ≡ b →
     Follows image s t (record {
-      fate = fate_of (cond {A = Result Value Fault} b (Err fault.Full) (Ok (Addr (length s.objects) 0)));
-      activity = activity_set a to (cond b (Err fault.Full) (Ok (Addr (length s.objects) 0)));
+      fate = cond b (fate.Fails fault.Full) fate.GoesOn;
+      activity = cond b a (having_made a to (length s.objects));
       objects = cond b s.objects more;
       holding = s.holding;
     })) [
@@ -276,19 +307,20 @@ follows_make image s t a h lies to cells class lt some =
       | false ↦ λ e.
           let not_most : length s.objects ≢ 65536 = λ z. let f = eq-eqb (length s.objects) 65536 z in cc in
           let grows : (v : Value) → Points s.objects v → Points more v = points_before s.objects (fresh_object class cells ∷ []) in
-          follows_goes image s t a _ more h (sound_made image s.objects class cells h.sound.objects lt some (omega arith)) grows
+          follows_changes image s t a _ more h (sound_made image s.objects class cells h.sound.formed.objects lt some (omega arith)) grows
+          (λ n k f. read_before (λ (o : Object). o.class) s.objects (fresh_object class cells ∷ []) n k f)
           (placed_with image more a to (Addr (length s.objects) 0) (grown image s.objects more a grows h.placed) lies (made_points s.objects class cells some)) (λ e. e)
     ] refl
 
 follows_jump : (image : Image) (s : State) (t : ℕ) (a : Activity) (h : Here image s t a) (target : ℕ) → LiesIn image a.top.function target h.placed.function →
     Follows image s t (jump_left (here_place s t a) target)
 follows_jump image s t a h target lies =
-    follows_goes image s t a _ s.objects h h.sound.objects (λ v p. p) (placed_jumped image s.objects a a.depth target h.placed lies h.placed.depth) (λ e. e)
+    follows_goes image s t a _ h (placed_jumped image s.objects a a.depth target h.placed lies h.placed.depth) (λ e. e)
 
 follows_show : (image : Image) (s : State) (t : ℕ) (a : Activity) (h : Here image s t a) → LiesIn image a.top.function (a.top.pc + 1) h.placed.function → (value : Value) →
     Follows image s t (show_left (here_place s t a) value)
 follows_show image s t a h lies value =
-    follows_goes image s t a _ s.objects h h.sound.objects (λ v p. p) (placed_advanced image s.objects a a.depth h.placed lies h.placed.depth) (λ e. e)
+    follows_goes image s t a _ h (placed_advanced image s.objects a a.depth h.placed lies h.placed.depth) (λ e. e)
 
 either_lies : (image : Image) (n x y : ℕ) (f : Function) (b : Bool) → LiesIn image n x f → LiesIn image n y f → LiesIn image n (cond b x y) f
 either_lies image n x y f true p q = p
@@ -373,7 +405,7 @@ follows_call image s t a h to first n callee at there enough next =
       | true ↦ λ e. follows_fail image s t a fault.Stack h
       | false ↦ λ e.
           let not_most : frame_count a ≢ 256 = λ z. let f = eq-eqb (frame_count a) 256 z in cc in
-          follows_goes image s t a _ s.objects h h.sound.objects (λ v p. p) (placed_called image s.objects a to first n callee h.placed h.sound.fits at there enough next (omega arith)) (λ e. e)
+          follows_goes image s t a _ h (placed_called image s.objects a to first n callee h.placed h.sound.fits at there enough next (omega arith)) (λ e. e)
     ] refl
 
 -- the register that awaits a value is there
@@ -383,11 +415,11 @@ awaited_there image objects above result f fits u =
     let count = u.registers in
     omega (arith, fit.0)
 
-placed_returned : (image : Image) (objects : List Object) (depth : ℕ) (above : ℕ) (result : Option ℕ) (f : Frame) (fs : List Frame) (v : Value) → depth ≤ 255 → suc (length fs) < 256 → Points objects v →
-    AreSuspended image objects above result (f ∷ fs) → IsPlaced image objects (record { depth = depth; top = with_result result v f; below = fs })
-placed_returned image objects depth above result f fs v small room points h =
+placed_returned : (image : Image) (objects : List Object) (a : Activity) (above : ℕ) (result : Option ℕ) (f : Frame) (fs : List Frame) (v : Value) → a.depth ≤ 255 → suc (length fs) < 256 → Points objects v →
+    AreSuspended image objects above result (f ∷ fs) → IsPlaced image objects (returned a (with_result result v f) fs)
+placed_returned image objects a above result f fs v small room points h =
     let u = h.0 in
-    subst (λ r. IsPlaced image objects (record { depth = depth; top = with_result r v f; below = fs })) (sym u.awaits)
+    subst (λ r. IsPlaced image objects (returned a (with_result r v f) fs)) (sym u.awaits)
     (record {
       function = u.function;
       lies = u.lies;
@@ -409,61 +441,63 @@ follows_return image s t a h value points = by image s t a h value points a.belo
           | false ↦ λ e. follows_fail image s t a fault.Open h
         ] refl
     by image s t a h value points (f ∷ fs) below few =
-        follows_goes image s t a _ s.objects h h.sound.objects (λ v p. p)
-        (placed_returned image s.objects a.depth a.top.function a.top.result f fs value h.placed.depth few points below) (λ e. e)
+        follows_goes image s t a _ h
+        (placed_returned image s.objects a a.top.function a.top.result f fs value h.placed.depth few points below) (λ e. e)
 
 follows_leave : (image : Image) (s : State) (t : ℕ) (a : Activity) (h : Here image s t a) → LiesIn image a.top.function (a.top.pc + 1) h.placed.function → Follows image s t (release_left (here_place s t a))
 follows_leave image s t a h lies =
-    let inner : (z m : Bool) → ((a.depth == 0) ≡ z) → ((a.depth == 1) ≡ m) →
-    (let f = cond z (fate.Fails fault.NoSection) fate.GoesOn in
-    Follows image s t (record { fate = f; activity = activity_moved f (a.depth - 1) a; objects = s.objects; holding = cond m (release s.holding t) s.holding })) =
-    by image s t a h lies in
-    inner (a.depth == 0) (a.depth == 1) refl refl
+    by image s t a h lies (a.depth == 0) (a.depth == 1) refl refl
   where
     by : (image : Image) (s : State) (t : ℕ) (a : Activity) (h : Here image s t a) → LiesIn image a.top.function (a.top.pc + 1) h.placed.function →
         (z m : Bool) → ((a.depth == 0) ≡ z) → ((a.depth == 1) ≡ m) →
-        (let f = cond z (fate.Fails fault.NoSection) fate.GoesOn in
-        Follows image s t (record { fate = f; activity = activity_moved f (a.depth - 1) a; objects = s.objects; holding = cond m (release s.holding t) s.holding }))
+        Follows image s t (record {
+          fate = cond z (fate.Fails fault.NoSection) fate.GoesOn;
+          activity = cond z a (cond m (left_last a) (going_on a (a.depth - 1) (advanced a.top)));
+          objects = s.objects;
+          holding = cond m (release s.holding t) s.holding;
+        })
     by image s t a h lies true true e k =
         let none : a.depth ≡ 0 = eqb-true _ _ e in let one : a.depth ≡ 1 = eqb-true _ _ k in absurd (omega arith)
     by image s t a h lies true false e k = follows_fail image s t a fault.NoSection h
     by image s t a h lies false true e k =
-        let small : a.depth ≤ 255 = h.placed.depth in
-        follows_release image s t a _ h (placed_advanced image s.objects a (a.depth - 1) h.placed lies (omega arith))
+        follows_release image s t a _ h (placed_advanced image s.objects a 0 h.placed lies (omega arith))
     by image s t a h lies false false e k =
         let small : a.depth ≤ 255 = h.placed.depth in
         let not_zero : a.depth ≢ 0 = λ z. let f = eq-eqb a.depth 0 z in cc in
         let not_one : a.depth ≢ 1 = λ z. let f = eq-eqb a.depth 1 z in cc in
-        follows_goes image s t a _ s.objects h h.sound.objects (λ v p. p) (placed_advanced image s.objects a (a.depth - 1) h.placed lies (omega arith)) (λ z. absurd (omega arith))
+        follows_goes image s t a _ h (placed_advanced image s.objects a (a.depth - 1) h.placed lies (omega arith)) (λ z. absurd (omega arith))
 
-follows_enter : (image : Image) (s : State) (t : ℕ) (a : Activity) (h : Here image s t a) → LiesIn image a.top.function (a.top.pc + 1) h.placed.function → (locks : List Lock) → All (LockOfClass image.classes) locks →
+follows_enter : (image : Image) (s : State) (t : ℕ) (a : Activity) (h : Here image s t a) → LiesIn image a.top.function (a.top.pc + 1) h.placed.function → (locks : List Lock) → All (LockOfClass image.classes) locks → All (HasLock image) locks →
     let request = request_of s.objects a.top.regs locks in
     Follows image s t (acquire_left (here_place s t a) (can_grant s.holding (length s.threads) t request) request)
-follows_enter image s t a h lies locks fit =
+follows_enter image s t a h lies locks fit has =
     let request = request_of s.objects a.top.regs locks in
-    let laws : a.depth ≡ 0 → can_grant s.holding (length s.threads) t request ≡ true → IsLawful (grant s.holding t request) × IsWithin image.classes (length s.threads) (grant s.holding t request) =
-    λ none free. (
-      lawful_grant s.holding t request h.sound.lawful (outside_here image s t a h none) (request_asks_modes s.objects a.top.regs locks) (request_is_rooted s.objects a.top.regs locks)
-          (grant_when_free image.classes (length s.threads) s.holding t request h.sound.within free),
-      within_grant image.classes (length s.threads) s.holding t request h.sound.within h.there (request_is_of_classes image.classes s.objects a.top.regs locks fit h.sound.objects.classes),
-    ) in
+    let laws : a.depth ≡ 0 → can_grant s.holding (length s.threads) t request ≡ true → Granted image s t request =
+    λ none free. record {
+      lawful = lawful_grant s.holding t request h.sound.lawful (outside_here image s t a h none) (request_asks_modes s.objects a.top.regs locks) (request_is_rooted s.objects a.top.regs locks)
+          (grant_when_free image.classes (length s.threads) s.holding t request h.sound.within free);
+      within = within_grant image.classes (length s.threads) s.holding t request h.sound.within h.there (request_is_of_classes image.classes s.objects a.top.regs locks fit h.sound.formed.objects.classes);
+      nodes = λ u n ne. elim (granted_before s.holding t request (outside_here image s t a h none) u n ne) [
+        | inl before ↦ inl before
+        | inr new ↦ inr (request_there image s.objects a.top.regs locks h.sound.formed.objects h.placed.points has n new)
+      ];
+    } in
     by image s t a h lies request laws (a.depth == 0) (a.depth == 255) (can_grant s.holding (length s.threads) t request) refl refl refl
   where
     by : (image : Image) (s : State) (t : ℕ) (a : Activity) (h : Here image s t a) → LiesIn image a.top.function (a.top.pc + 1) h.placed.function → (request : Request) →
-        (a.depth ≡ 0 → can_grant s.holding (length s.threads) t request ≡ true → IsLawful (grant s.holding t request) × IsWithin image.classes (length s.threads) (grant s.holding t request)) →
+        (a.depth ≡ 0 → can_grant s.holding (length s.threads) t request ≡ true → Granted image s t request) →
         (z m free : Bool) → ((a.depth == 0) ≡ z) → ((a.depth == 255) ≡ m) → (can_grant s.holding (length s.threads) t request ≡ free) →
         (let f = cond z (cond free fate.GoesOn fate.Waits) (cond m (fate.Fails fault.Deep) fate.GoesOn) in
         Follows image s t (record { fate = f; activity = activity_moved f (a.depth + 1) a; objects = s.objects; holding = cond z (cond free (grant s.holding t request) s.holding) s.holding }))
     by image s t a h lies request laws true m true e k g =
         let none : a.depth ≡ 0 = eqb-true _ _ e in
-        let both = laws none g in
-        follows_grant image s t a _ request h (placed_advanced image s.objects a (a.depth + 1) h.placed lies (omega arith)) (λ z. absurd (omega arith)) both.0 both.1
-    by image s t a h lies request laws true m false e k g = follows_goes image s t a a s.objects h h.sound.objects (λ v p. p) h.placed (λ z. z)
+        follows_grant image s t a _ request h (placed_advanced image s.objects a (a.depth + 1) h.placed lies (omega arith)) (λ z. absurd (omega arith)) (laws none g)
+    by image s t a h lies request laws true m false e k g = follows_goes image s t a a h h.placed (λ z. z)
     by image s t a h lies request laws false true free e k g = follows_fail image s t a fault.Deep h
     by image s t a h lies request laws false false free e k g =
         let small : a.depth ≤ 255 = h.placed.depth in
         let not_most : a.depth ≢ 255 = λ z. let f = eq-eqb a.depth 255 z in cc in
-        follows_goes image s t a _ s.objects h h.sound.objects (λ v p. p) (placed_advanced image s.objects a (a.depth + 1) h.placed lies (omega arith)) (λ z. absurd (omega arith))
+        follows_goes image s t a _ h (placed_advanced image s.objects a (a.depth + 1) h.placed lies (omega arith)) (λ z. absurd (omega arith))
 
 -- ---- all instructions
 
@@ -501,7 +535,7 @@ follows_instr image s t a h (instr.Equals to left right) at fits =
     let same = same_value (register_of a.top left) (register_of a.top right) in
     follows_set image s t a h (next_place image s.objects a h.placed _ h.sound.fits at refl) to (Ok (truth same)) (truth_points s.objects same)
 follows_instr image s t a h (instr.GlobalAddress to global) at fits =
-    follows_set image s t a h (next_place image s.objects a h.placed _ h.sound.fits at refl) to (Ok (Addr global 0)) (global_points image s.objects global h.sound.objects fits.1)
+    follows_set image s t a h (next_place image s.objects a h.placed _ h.sound.fits at refl) to (Ok (Addr global 0)) (global_points image s.objects global h.sound.formed.objects fits.1)
 follows_instr image s t a h (instr.FieldAddress to from places) at fits =
     follows_set image s t a h (next_place image s.objects a h.placed _ h.sound.fits at refl) to (address_moved s.objects places (register_of a.top from))
     (moved_points s.objects places (register_of a.top from))
@@ -509,7 +543,7 @@ follows_instr image s t a h (instr.New to cells class) at fits =
     follows_make image s t a h (next_place image s.objects a h.placed _ h.sound.fits at refl) to cells class fits.2 fits.1
 follows_instr image s t a h (instr.Load to address) at fits =
     let target = accessed_by (here_place s t a) Read address in
-    follows_set image s t a h (next_place image s.objects a h.placed _ h.sound.fits at refl) to (loaded s.objects target) (loaded_points image s.objects target h.sound.objects)
+    follows_set image s t a h (next_place image s.objects a h.placed _ h.sound.fits at refl) to (loaded s.objects target) (loaded_points image s.objects target h.sound.formed.objects)
 follows_instr image s t a h (instr.Store address from) at fits =
     follows_store image s t a h (next_place image s.objects a h.placed _ h.sound.fits at refl) (register_of a.top from) (accessed_by (here_place s t a) Write address)
     (register_points s.objects a from h.placed.points)
@@ -526,6 +560,7 @@ follows_instr image s t a h (instr.Return from) at fits =
     follows_return image s t a h (register_of a.top from) (register_points s.objects a from h.placed.points)
 follows_instr image s t a h (instr.Acquire list) at fits =
     follows_enter image s t a h (next_place image s.objects a h.placed _ h.sound.fits at refl) (locks_of image list) (locks_fit image h.placed.function list fits.0 fits.1 fits.2)
+    (subst (All (HasLock image)) (sym (ap (λ o. unwrap_or o []) fits.1)) (h.sound.fits.list_fits list fits.0 fits.1))
 follows_instr image s t a h instr.Release at fits = follows_leave image s t a h (next_place image s.objects a h.placed _ h.sound.fits at refl)
 
 -- ---- the step
@@ -551,7 +586,7 @@ instr_here image objects a p fits =
 pub here_of : (image : Image) (s : State) (t : ℕ) (a : Activity) → IsSound image s → slice_get s.threads t ≡ Some (Running a) → Here image s t a
 here_of image s t a sound e =
     let at : activity_at s.threads t ≡ Some a = ap (option_and_then activity_of) e in
-    record { sound = sound; there = slice_get_within s.threads t (Running a) e; is = at; placed = sound.placed t a at }
+    record { sound = sound; there = slice_get_within s.threads t (Running a) e; is = at; placed = sound.formed.placed t a at }
 
 -- what a thread's step leaves may follow
 pub turn_follows : (image : Image) (s : State) (t : ℕ) (thread : Thread) → IsSound image s → slice_get s.threads t ≡ Some thread →
@@ -625,8 +660,9 @@ thread_ready image objects forest threads t (Running a) m e =
         classes = m.classes;
         room = omega arith;
         points = h.placed.points;
-        object_classes = subst (λ n. AreOfClasses n objects) (sym m.classes) m.sound.objects.classes;
-        few_objects = m.sound.objects.few;
+        object_classes = subst (λ n. AreOfClasses n objects) (sym m.classes) m.sound.formed.objects.classes;
+        few_objects = m.sound.formed.objects.few;
+        few_frames = let few = h.placed.few in omega arith;
         outside = outside_here image s t a h;
         awaited = awaited_below image objects a.top.function a.top.result a.below m.sound.fits h.placed.below;
       },
@@ -639,7 +675,7 @@ first_values : (t m r : ℕ) (v : Value) (objects : List Object) → slice_get (
 first_values t m zero v objects e = let is : Int (pos t) ≡ v = cc in subst (Points objects) is tt
 first_values t m (suc r) v objects e = subst (Points objects) (sym (replicated m r (Int (pos 0)) v e)) tt
 
-first_placed : (image : Image) (objects : List Object) (t : ℕ) → FitsImage image → IsPlaced image objects (record { depth = 0; top = first_frame image image.start (Int (pos t) ∷ []) None; below = [] })
+first_placed : (image : Image) (objects : List Object) (t : ℕ) → FitsImage image → IsPlaced image objects (first_activity image t)
 first_placed image objects t fits =
     let f = fits.entry.0 in
     let is : unwrap_or (slice_get image.functions image.start) (record { params = 0; regs = 0; len = 0 }) ≡ f = ap (λ o. unwrap_or o (record { params = 0; regs = 0; len = 0 })) fits.entry.1 in
@@ -654,7 +690,7 @@ first_placed image objects t fits =
       registers = count _ (ap (λ (g : Function). g.regs) is);
       points = λ r v e. first_values t _ r v objects e;
       depth = omega arith;
-      below = refl;
+      below = (refl, refl);
       few = omega arith;
     }
   where
@@ -711,15 +747,18 @@ start_sound image n fits =
     let objects = map global_object image.globals in
     record {
       fits = fits;
-      objects = record {
-        classes = λ k class e. fits.global_fits k class (global_class image.globals k class e);
-        points = λ c v e. global_value objects image.globals c.object c.offset v e;
-        globals = λ g class e. (global_classed image.globals g class e, global_sized image.globals g class e);
-        sizes = λ n size e. global_size image.globals n size e;
-        few = let l = length-map image.globals global_object in let k = fits.few_globals in omega arith;
+      formed = record {
+        objects = record {
+          classes = λ k class e. fits.global_fits k class (global_class image.globals k class e);
+          points = λ c v e. global_value objects image.globals c.object c.offset v e;
+          globals = λ g class e. (global_classed image.globals g class e, global_sized image.globals g class e);
+          sizes = λ n size e. global_size image.globals n size e;
+          few = let l = length-map image.globals global_object in let k = fits.few_globals in omega arith;
+        };
+        placed = λ u a e. start_placed image objects n u a fits e;
       };
-      placed = λ u a e. start_placed image objects n u a fits e;
       outside = λ u e node. finite.get-empty {X = Mode} key_cmp (key u node);
       lawful = lawful_empty;
       within = within_empty image.classes (length (first_threads image n));
+      there = λ u node ne. absurd (ne (held_empty u node));
     }

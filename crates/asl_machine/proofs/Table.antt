@@ -1,5 +1,5 @@
 -- The computed step is the one line of the table that applies, at each state that a verified program reaches.
-use Rattle.std.proofs.Common.{◌≡◌, ◌≢◌, ℕ, ℤ, ◌+◌, ◌-◌, ◌<◌, ◌≤◌, ◌==◌, ◌&&◌, ltb, ◌++◌, Bool, true, false, cond, List, [], ◌∷◌, Option, Some, None, Result, Ok, Err, length, slice_get, refl, ap, sym, ◌∙◌, subst, inl, inr, arith, eqb-true, eq-eqb}
+use Rattle.std.proofs.Common.{◌≡◌, ◌≢◌, ℕ, ℤ, ◌+◌, ◌-◌, ◌<◌, ◌≤◌, ◌==◌, ◌&&◌, ltb, ◌++◌, Bool, true, false, cond, List, [], ◌∷◌, Option, Some, None, Ok, length, slice_get, refl, ap, sym, ◌∙◌, subst, inl, inr, arith, eqb-true, eq-eqb}
 use Rattle.std.specs.Prelude.{IsSome, IsSomeAnd, unwrap_or}
 use Rattle.std.specs.Prelude.{int_lt, option_map, option_and_then}
 use Rattle.std.proofs.lemmas.Bool.{ltb-true, ltb-false}
@@ -16,19 +16,19 @@ use Rattle.asl_code.specs.declared.value.Effect.TheVariants.{Read, Write}
 use Rattle.asl_code.specs.Fits.{FitsInstr}
 use Rattle.asl_lock_forest.specs.Holding.{Holding, Request, CanGrant, grant, release}
 use Rattle.asl_machine.specs.declared.fate.Fate.TheVariants as fate
-use Rattle.asl_machine.specs.declared.fault.Fault.{Fault}
 use Rattle.asl_machine.specs.declared.fault.Fault.TheVariants as fault
 use Rattle.asl_machine.specs.declared.reply.Reply.TheVariants as reply
 use Rattle.asl_machine.specs.State.{Object, Frame, Activity, Thread, Running, Done, Failed, State, cell_at, size_of, fresh_object}
 use Rattle.asl_lock_expr.specs.Expression.{cell_of}
+use Rattle.asl_machine.specs.Cover.{cover}
 use Rattle.asl_machine.specs.Access.{Points}
-use Rattle.asl_machine.specs.Calls.{first_frame, values_from, frame_count, with_result, IsAwaited}
+use Rattle.asl_machine.specs.Calls.{frame_count, with_result, IsAwaited}
 use Rattle.asl_machine.specs.Request.{locks_of, request_of}
-use Rattle.asl_machine.specs.Step.{At, advanced, advanced_with, going_on, after, Reads, is_allowed, GoesOn, is_zero, FailsOperands, Asks, Line, StepOf, Step}
-use Rattle.asl_machine.specs.Twin.{Left, fate_of, set_left, computed, added, subtracted, compared, truth, same_value, jump_left, address_or_bounds, address_moved, activity_set, make_left, allowed_cell, loaded, accessed, store_left, left_alone, called, call_left, return_left, activity_moved, release_left, left_by, left_at, turn_by, step_at, step_of, register_of, can_grant}
+use Rattle.asl_machine.specs.Step.{At, advanced, advanced_with, going_on, called, returned, having_made, left_last, after, Reads, is_allowed, GoesOn, is_zero, FailsOperands, Asks, Line, StepOf, Step}
+use Rattle.asl_machine.specs.Twin.{Left, set_left, computed, added, subtracted, compared, truth, same_value, jump_left, address_or_bounds, address_moved, make_left, allowed_cell, loaded, accessed, store_left, left_alone, call_left, return_left, activity_moved, release_left, left_by, left_at, turn_by, step_at, step_of, register_of, can_grant}
 use Rattle.asl_machine.specs.Sound.{IsSound}
 use Rattle.asl_machine.proofs.Grants.{grant_when_free, can_grant-true}
-use Rattle.asl_machine.proofs.Soundness.{Here, here_of, here_place, instr_here, after_same, function_is, awaited_below}
+use Rattle.asl_machine.proofs.Soundness.{Here, here_of, here_place, instr_here, after_same, awaited_below}
 
 -- the line that a step by what an instruction leaves would be
 abbrev pub IsLine : At → Instr → Left → Type 0
@@ -123,7 +123,7 @@ found_is (Some v) h = refl
 
 load_line : (at : At) (to address : ℕ) (v : Value) → Reads at address v → Points at.state.objects v →
     IsLine at (instr.Load to address) (set_left (here_place at.state at.thread at.activity) to
-    (loaded at.state.objects (accessed at.state.holding at.state.objects at.thread at.activity.depth Read v)))
+    (loaded at.state.objects (accessed (cover at.state.holding) at.state.objects at.thread at.activity.depth Read v)))
 load_line at to address (Int x) p q = (x, p, refl)
 load_line at to address Null p q = (p, refl)
 load_line at to address (Addr o i) p q =
@@ -167,8 +167,8 @@ make_line at to cells class few =
     let objects = at.state.objects in
     elim (length objects == 65536) as (λ b. (length objects == 65536) ≡ b →
     IsLine at (instr.New to cells class) (record {
-      fate = fate_of (cond {A = Result Value Fault} b (Err fault.Full) (Ok (Addr (length objects) 0)));
-      activity = activity_set at.activity to (cond b (Err fault.Full) (Ok (Addr (length objects) 0)));
+      fate = cond b (fate.Fails fault.Full) fate.GoesOn;
+      activity = cond b at.activity (having_made at.activity to (length objects));
       objects = cond b objects (objects ++ fresh_object class cells ∷ []);
       holding = at.state.holding;
     })) [
@@ -177,7 +177,7 @@ make_line at to cells class few =
     ] refl
 
 store_line : (at : At) (address from : ℕ) (v w : Value) → Reads at address v → Reads at from w →
-    IsLine at (instr.Store address from) (store_left (here_place at.state at.thread at.activity) w (accessed at.state.holding at.state.objects at.thread at.activity.depth Write v))
+    IsLine at (instr.Store address from) (store_left (here_place at.state at.thread at.activity) w (accessed (cover at.state.holding) at.state.objects at.thread at.activity.depth Write v))
 store_line at address from (Int x) w p q = (x, p, refl)
 store_line at address from Null w p q = (p, refl)
 store_line at address from (Addr o i) w p q =
@@ -210,24 +210,9 @@ return_line at from v (f ∷ fs) waiting awaited p =
         waiting = waiting;
         awaits = e;
         reads_value = p;
-        returns = ap (λ r. after at.state at.thread (Running (record { depth = at.activity.depth; top = with_result r v f; below = fs })) at.state.objects at.state.holding) e;
+        returns = ap (λ r. after at.state at.thread (Running (returned at.activity (with_result r v f) fs)) at.state.objects at.state.holding) e;
       })
     ] refl awaited
-
--- a call copies as many registers as the function that is there takes
-pub called_same : (at : At) (to first n : ℕ) (callee : Function) → slice_get at.image.functions n ≡ Some callee →
-    after at.state at.thread (Running (called at.image at.activity to first n)) at.state.objects at.state.holding
-    ≡ after at.state at.thread (Running (record {
-      depth = at.activity.depth;
-      top = first_frame at.image n (values_from at.activity.top.regs first callee.params) (Some to);
-      below = advanced at.activity.top ∷ at.activity.below;
-    })) at.state.objects at.state.holding
-called_same at to first n callee there =
-    ap (λ count. after at.state at.thread (Running (record {
-      depth = at.activity.depth;
-      top = first_frame at.image n (values_from at.activity.top.regs first count) (Some to);
-      below = advanced at.activity.top ∷ at.activity.below;
-    })) at.state.objects at.state.holding) (ap (λ (f : Function). f.params) (function_is at.image n callee there))
 
 call_line : (at : At) (to first n : ℕ) (callee : Function) → slice_get at.image.functions n ≡ Some callee → length at.activity.below < 256 →
     IsLine at (instr.Call to first n) (call_left at.image (here_place at.state at.thread at.activity) to first n)
@@ -238,7 +223,7 @@ call_line at to first n callee there few =
       | true ↦ λ e. (eqb-true _ _ e, refl)
       | false ↦ λ e.
           let not_most : frame_count a ≢ 256 = λ z. let f = eq-eqb (frame_count a) 256 z in cc in
-          record { callee = callee; room = omega arith; is = there; calls = called_same at to first n callee there }
+          record { callee = callee; room = omega arith; is = there; calls = refl }
     ] refl
 
 -- going on in a number of sections is going on in an equal number
@@ -247,14 +232,16 @@ same_depth : (at : At) (d e : ℕ) (objects : List Object) (holding : Holding) �
 same_depth at d e objects holding is = ap (λ n. after at.state at.thread (Running (going_on at.activity n (advanced at.activity.top))) objects holding) is
 
 release_lines : (at : At) (z m : Bool) → ((at.activity.depth == 0) ≡ z) → ((at.activity.depth == 1) ≡ m) →
-    (let f = cond z (fate.Fails fault.NoSection) fate.GoesOn in
-    IsLine at instr.Release (record { fate = f; activity = activity_moved f (at.activity.depth - 1) at.activity; objects = at.state.objects; holding = cond m (release at.state.holding at.thread) at.state.holding }))
+    IsLine at instr.Release (record {
+      fate = cond z (fate.Fails fault.NoSection) fate.GoesOn;
+      activity = cond z at.activity (cond m (left_last at.activity) (going_on at.activity (at.activity.depth - 1) (advanced at.activity.top)));
+      objects = at.state.objects;
+      holding = cond m (release at.state.holding at.thread) at.state.holding;
+    })
 release_lines at true true e k =
     let none : at.activity.depth ≡ 0 = eqb-true _ _ e in let one : at.activity.depth ≡ 1 = eqb-true _ _ k in absurd (omega arith)
 release_lines at true false e k = (eqb-true _ _ e, refl)
-release_lines at false true e k =
-    let one : at.activity.depth ≡ 1 = eqb-true _ _ k in
-    inr (record { outer = one; goes_on = same_depth at (at.activity.depth - 1) 0 at.state.objects (release at.state.holding at.thread) (omega arith) })
+release_lines at false true e k = inr (record { outer = eqb-true _ _ k; leaves = refl })
 release_lines at false false e k =
     let some : 0 < at.activity.depth = not_zero _ e in
     let not_one : at.activity.depth ≢ 1 = λ z. let f = eq-eqb at.activity.depth 1 z in cc in
@@ -321,7 +308,7 @@ line_there image s t a h here (instr.FieldAddress to from places) fits =
     let count = h.placed.registers in
     let read = read_there a from (omega (arith, fits.1)) in
     field_line (at_of image s t a) to from places (register_of a.top from) read (h.placed.points from (register_of a.top from) read)
-line_there image s t a h here (instr.New to cells class) fits = make_line (at_of image s t a) to cells class h.sound.objects.few
+line_there image s t a h here (instr.New to cells class) fits = make_line (at_of image s t a) to cells class h.sound.formed.objects.few
 line_there image s t a h here (instr.Load to address) fits =
     let count = h.placed.registers in
     let read = read_there a address (omega (arith, fits.1)) in
@@ -353,7 +340,7 @@ line_there image s t a h here (instr.Acquire list) fits =
 line_there image s t a h here instr.Release fits = release_line (at_of image s t a)
 
 -- the computed step of what stands at the thread's number is a step
-step_there : (image : Image) (s : State) (t : ℕ) (thread : Thread) → IsSound image s → slice_get s.threads t ≡ Some thread →
+pub step_there : (image : Image) (s : State) (t : ℕ) (thread : Thread) → IsSound image s → slice_get s.threads t ≡ Some thread →
     StepOf image s t (Some thread) (step_at image s t (Some thread)).reply (step_at image s t (Some thread)).state
 step_there image s t (Running a) sound e =
     let h = here_of image s t a sound e in

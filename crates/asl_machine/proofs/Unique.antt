@@ -20,14 +20,15 @@ use Rattle.asl_machine.specs.declared.reply.Reply.{Reply}
 use Rattle.asl_machine.specs.declared.reply.Reply.TheVariants as reply
 use Rattle.asl_machine.specs.State.{Object, Frame, Activity, Thread, Running, Done, Failed, State, cell_at, size_of, written, fresh_object}
 use Rattle.asl_machine.specs.Calls.{frame_count, with_register, with_result}
+use Rattle.asl_machine.specs.Cover.{cover}
 use Rattle.asl_lock_expr.specs.Expression.{cell_of}
 use Rattle.asl_machine.specs.Request.{locks_of, request_of}
-use Rattle.asl_machine.specs.Step.{At, advanced, going_on, after, Reads, ReadsAddress, is_allowed, Sets, GoesOn, GoesTo, Fails, are_integers, FailsOperands, is_zero, ReturnsTo, Asks, Line, StepOf, Step}
-use Rattle.asl_machine.specs.Twin.{Left, fate_of, set_left, computed, added, subtracted, compared, truth, same_value, jump_left, address_or_bounds, address_moved, activity_set, make_left, allowed_cell, loaded, accessed, accessed_by, store_left, left_alone, return_fate, called, call_left, return_left, activity_moved, acquire_left, release_left, left_by, left_at, turn_by, step_at, step_of, register_of, can_grant}
+use Rattle.asl_machine.specs.Step.{At, advanced, going_on, called, returned, having_made, left_last, after, Reads, ReadsAddress, is_allowed, Sets, GoesOn, GoesTo, Fails, are_integers, FailsOperands, is_zero, ReturnsTo, Asks, Line, StepOf, Step}
+use Rattle.asl_machine.specs.Twin.{Left, set_left, computed, added, subtracted, compared, truth, same_value, jump_left, address_or_bounds, address_moved, make_left, allowed_cell, loaded, accessed, accessed_by, store_left, left_alone, return_fate, call_left, return_left, activity_moved, acquire_left, release_left, left_by, left_at, turn_by, step_at, step_of, register_of, can_grant}
 use Rattle.asl_machine.specs.Sound.{IsSound}
 use Rattle.asl_machine.proofs.Grants.{grant_when_free, can_grant-true}
 use Rattle.asl_machine.proofs.Soundness.{here_place, after_same}
-use Rattle.asl_machine.proofs.Table.{at_of, same_is, same_self, called_same}
+use Rattle.asl_machine.proofs.Table.{at_of, same_is, same_self}
 
 -- the reply and the state are those that an instruction leaves
 abbrev pub IsLeft : At → Left → Reply → State → Type 0
@@ -107,8 +108,8 @@ moved_tested at places from size c b e sized tested =
 abbrev made_by : At → ℕ → ℕ → ℕ → Bool → Left
 made_by at to cells class b =
     record {
-      fate = fate_of (cond {A = Result Value Fault} b (Err fault.Full) (Ok (Addr (length at.state.objects) 0)));
-      activity = activity_set at.activity to (cond b (Err fault.Full) (Ok (Addr (length at.state.objects) 0)));
+      fate = cond b (fate.Fails fault.Full) fate.GoesOn;
+      activity = cond b at.activity (having_made at.activity to (length at.state.objects));
       objects = cond b at.state.objects (at.state.objects ++ fresh_object class cells ∷ []);
       holding = at.state.holding;
     }
@@ -118,8 +119,8 @@ only_make : (at : At) (to cells class : ℕ) (b : Bool) (r : Reply) (n : State) 
 only_make at to cells class b r n e h = subst (λ x. IsLeft at (made_by at to cells class x) r n) (sym e) h
 
 target_is : (at : At) (effect : Effect) (r : ℕ) (v : Value) → Reads at r v →
-    accessed_by (here_place at.state at.thread at.activity) effect r ≡ accessed at.state.holding at.state.objects at.thread at.activity.depth effect v
-target_is at effect r v e = ap (accessed at.state.holding at.state.objects at.thread at.activity.depth effect) (reads_is at r v e)
+    accessed_by (here_place at.state at.thread at.activity) effect r ≡ accessed (cover at.state.holding) at.state.objects at.thread at.activity.depth effect v
+target_is at effect r v e = ap (accessed (cover at.state.holding) at.state.objects at.thread at.activity.depth effect) (reads_is at r v e)
 
 target_allowed : (at : At) (effect : Effect) (r : ℕ) (c : Cell) (b : Bool) → ReadsAddress at r c → is_allowed at effect c ≡ b →
     accessed_by (here_place at.state at.thread at.activity) effect r ≡ allowed_cell b effect c
@@ -157,7 +158,7 @@ only_returned at from n h =
     let same : with_result at.activity.top.result (register_of at.activity.top from) h.caller ≡ with_register h.to h.value h.caller =
     (λ i. with_result (h.awaits i) (reads_is at from h.value h.reads_value i) h.caller) in
     let is = h.returns
-    ∙ sym (ap (λ (f : Frame). after at.state at.thread (Running (record { depth = at.activity.depth; top = f; below = h.others })) at.state.objects at.state.holding) same) in
+    ∙ sym (ap (λ (f : Frame). after at.state at.thread (Running (returned at.activity f h.others)) at.state.objects at.state.holding) same) in
     subst (λ fs. IsLeft at (return_left (here_place at.state at.thread at.activity) (register_of at.activity.top from) fs) reply.Ran n) (sym h.waiting) (refl, is)
 
 -- what a `call` leaves, by the test of the frames
@@ -177,8 +178,12 @@ only_call at to first n b r new e h = subst (λ x. IsLeft at (called_by at to fi
 -- what a `rel` leaves, by the tests of the depth
 abbrev released_by : At → Bool → Bool → Left
 released_by at z m =
-    let f = cond z (fate.Fails fault.NoSection) fate.GoesOn in
-    record { fate = f; activity = activity_moved f (at.activity.depth - 1) at.activity; objects = at.state.objects; holding = cond m (release at.state.holding at.thread) at.state.holding }
+    record {
+      fate = cond z (fate.Fails fault.NoSection) fate.GoesOn;
+      activity = cond z at.activity (cond m (left_last at.activity) (going_on at.activity (at.activity.depth - 1) (advanced at.activity.top)));
+      objects = at.state.objects;
+      holding = cond m (release at.state.holding at.thread) at.state.holding;
+    }
 
 only_release : (at : At) (z m : Bool) (r : Reply) (n : State) → (at.activity.depth == 0) ≡ z → (at.activity.depth == 1) ≡ m → IsLeft at (released_by at z m) r n →
     IsLeft at (release_left (here_place at.state at.thread at.activity)) r n
@@ -291,7 +296,7 @@ only_line image s t a sound here (instr.Call to first function) reply.Ran n h =
     let at = at_of image s t a in
     let room = h.room in
     only_call at to first function false reply.Ran n (ne_eqb (frame_count a) 256 (λ e. absurd (omega arith)))
-    (refl, h.calls ∙ sym (called_same at to first function h.callee h.is))
+    (refl, h.calls)
 only_line image s t a sound here (instr.Call to first function) (reply.Fault fault.Stack) n h =
     only_call (at_of image s t a) to first function true (reply.Fault fault.Stack) n (eq-eqb (frame_count a) 256 h.0) (refl, h.1)
 only_line image s t a sound here (instr.Return from) reply.Ran n h =
@@ -335,7 +340,7 @@ only_line image s t a sound here instr.Release reply.Ran n h =
           only_release at false false reply.Ran n (some_test _ (omega arith)) (ne_eqb a.depth 1 (λ e. absurd (omega arith))) (refl, unnests.goes_on)
       | inr leaves ↦
           let outer = leaves.outer in
-          only_release at false true reply.Ran n (some_test _ (omega arith)) (eq-eqb a.depth 1 outer) (refl, goes_same at 0 (a.depth - 1) s.objects _ n (omega arith) leaves.goes_on)
+          only_release at false true reply.Ran n (some_test _ (omega arith)) (eq-eqb a.depth 1 outer) (refl, leaves.leaves)
     ]
 only_line image s t a sound here instr.Release (reply.Fault fault.NoSection) n h =
     let at = at_of image s t a in

@@ -7,22 +7,23 @@ use Rattle.asl_code.specs.declared.value.Value.{Value}
 use Rattle.asl_code.specs.declared.value.Value.TheVariants.{Int, Null, Addr}
 use Rattle.asl_code.specs.declared.value.Cell.{Cell}
 use Rattle.asl_code.specs.declared.value.Effect.{Effect}
-use Rattle.asl_lock_forest.specs.Holding.{Holding, HoldsNothing, is_covered}
+use Rattle.asl_lock_forest.specs.Holding.{HoldsNothing}
+use Rattle.asl_machine.specs.Cover.{Cover, allows}
 use Rattle.asl_lock_forest.specs.Held.{Held}
 use Rattle.asl_code.specs.declared.image.Image.{Image}
 use Rattle.asl_code.specs.declared.instr.Instr.{Instr}
 use Rattle.asl_code.specs.declared.instr.Instr.TheVariants.{SetInt, SetNull, Move, Add, Subtract, LessThan, Equals, GlobalAddress, FieldAddress, Load, Store, New, Jump, JumpIfZero, Call, Return, Output, Acquire, Release}
 use Rattle.asl_code.specs.Fits.{FitsImage}
-use Rattle.asl_machine.specs.Calls.{function_of, IsAwaited}
+use Rattle.asl_machine.specs.Calls.{function_of, frame_count, IsAwaited}
 use Rattle.asl_machine.specs.Request.{LockOfClass, locks_of}
 use Rattle.asl_machine.specs.State.{Object, Frame, Activity, class_of, cell_at}
 use Rattle.asl_lock_expr.specs.Expression.{cell_of}
 
 -- whether a thread that is in so many sections may access the cell: it is in one, and its locks cover the cell
 -- (docs/LOCKS.md, Covered cells)
-abbrev pub is_protected : Holding → List Object → ℕ → ℕ → Effect → Cell → Bool
-is_protected holding objects thread depth effect cell =
-    nat_lt 0 depth && option_map_or (λ class. is_covered holding thread cell class effect) (class_of objects cell.object) false
+abbrev pub is_protected : Cover → List Object → ℕ → ℕ → Effect → Cell → Bool
+is_protected c objects thread depth effect cell =
+    nat_lt 0 depth && option_map_or (λ class. allows c thread cell class effect) (class_of objects cell.object) false
 
 -- if the value is an address, it is that of a cell that is there (docs/INSTRUCTIONS.md, What always holds)
 abbrev pub Points : List Object → Value → Type 0
@@ -73,5 +74,6 @@ pub record IsReady (image : Image) (forest : Held) (objects : List Object) (thre
   pub points : AllPoint objects activity.top.regs
   pub object_classes : AreOfClasses forest.classes objects
   pub few_objects : length objects ≤ 65536
+  pub few_frames : frame_count activity ≤ 256
   pub outside : activity.depth ≡ 0 → HoldsNothing forest.holding thread
   pub awaited : IsAwaited activity.top.result activity.below

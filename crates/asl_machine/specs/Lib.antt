@@ -1,11 +1,12 @@
 pub mod State
 pub mod Calls
 pub mod Request
+pub mod Cover
 pub mod Access
 pub mod Step
 pub mod Twin
 pub mod Run
+pub mod Nodes
 pub mod Sound
 pub mod View
 pub mod World
-pub mod Nodes

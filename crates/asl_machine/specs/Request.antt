@@ -86,3 +86,17 @@ LockOfClass classes (lock.Expr expr effect) = Unit {0}
 -- the locks of the list of this number (docs/LOCKS.md, Requests)
 abbrev pub locks_of : Image → ℕ → List Lock
 locks_of image list = unwrap_or (slice_get image.lists list) []
+
+-- what a lock is for: reading or writing (docs/LOCKS.md, Requests)
+abbrev pub effect_of : Lock → Effect
+effect_of (lock.Root effect) = effect
+effect_of (lock.Class class effect) = effect
+effect_of (lock.Expr expr effect) = effect
+
+-- the cells of objects of the class that a lock is on: all of them, those of its own class, or the one that its
+-- expression denotes (docs/LOCKS.md, Requests)
+abbrev pub IsOn : List Object → List Value → Lock → Cell → ℕ → Type 0
+IsOn objects regs (lock.Root effect) cell class = Unit {0}
+IsOn objects regs (lock.Class own effect) cell class = own ≡ class
+IsOn objects regs (lock.Expr expr effect) cell class =
+    (cell_denoted (heap_of objects) regs expr ≡ Some cell) × (class_of objects cell.object ≡ Some class)

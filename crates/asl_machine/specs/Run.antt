@@ -6,7 +6,7 @@ use Rattle.asl_code.specs.declared.image.Image.{Image}
 use Rattle.asl_code.specs.declared.value.Value.TheVariants.{Int}
 use Rattle.asl_lock_forest.specs.Holding.{no_holding}
 use Rattle.asl_machine.specs.declared.reply.Reply.{Reply}
-use Rattle.asl_machine.specs.State.{Object, Thread, Running, State}
+use Rattle.asl_machine.specs.State.{Object, Activity, Thread, Running, State}
 use Rattle.asl_machine.specs.Calls.{first_frame}
 use Rattle.asl_machine.specs.Twin.{step_of}
 
@@ -14,10 +14,14 @@ use Rattle.asl_machine.specs.Twin.{step_of}
 abbrev pub global_object : ℕ → Object
 global_object class = record { class = class; cells = Int (pos 0) ∷ [] }
 
--- thread t at its start: in the entry function, with its own number as the parameter, in no section
+-- what thread t is at when it starts: in the entry function, with its own number as the parameter, in no section
 -- (docs/INSTRUCTIONS.md, State)
+abbrev pub first_activity : Image → ℕ → Activity
+first_activity image t = record { depth = 0; top = first_frame image image.start (Int (pos t) ∷ []) None; below = [] }
+
+-- thread t at its start (docs/INSTRUCTIONS.md, State)
 abbrev pub first_thread : Image → ℕ → Thread
-first_thread image t = Running (record { depth = 0; top = first_frame image image.start (Int (pos t) ∷ []) None; below = [] })
+first_thread image t = Running (first_activity image t)
 
 -- the first threads, so many, in order (docs/INSTRUCTIONS.md, State)
 abbrev pub first_threads : Image → ℕ → List Thread

@@ -1,7 +1,7 @@
 -- What holds of every state that a verified program reaches: each frame is in a body, with the registers of its
 -- function; every address is that of a cell that is there; who is in no section holds nothing (docs/INSTRUCTIONS.md,
 -- "What always holds").
-use Rattle.std.specs.Prelude.{◌≡◌, ◌<◌, ◌≤◌, ◌+◌, ℕ, List, [], ◌∷◌, length, Option, None, Some, slice_get, IsSomeAnd}
+use Rattle.std.specs.Prelude.{◌≡◌, ◌≢◌, ◌<◌, ◌≤◌, ◌+◌, ℕ, List, [], ◌∷◌, length, Option, None, Some, slice_get, IsSomeAnd}
 use Rattle.asl_code.specs.declared.image.Function.{Function}
 use Rattle.asl_code.specs.declared.image.Image.{Image}
 use Rattle.asl_code.specs.Fits.{FitsImage, LiesIn}
@@ -9,9 +9,12 @@ use Rattle.asl_code.specs.declared.instr.Instr.TheVariants.{Call}
 use Rattle.asl_code.specs.declared.value.Value.{Value}
 use Rattle.asl_code.specs.declared.value.Cell.{Cell}
 use Rattle.asl_lock_forest.specs.Held.{Held}
-use Rattle.asl_lock_forest.specs.Holding.{HoldsNothing, IsLawful, IsWithin}
+use Rattle.asl_mode_lanes.specs.declared.mode.Mode.TheVariants.{NL}
+use Rattle.asl_lock_forest.specs.declared.node.Node.{Node}
+use Rattle.asl_lock_forest.specs.Holding.{held, HoldsNothing, IsLawful, IsWithin}
 use Rattle.asl_machine.specs.State.{Object, Frame, Activity, Thread, Running, Done, Failed, State, cell_at, size_of, class_of, activity_at, depth_at}
 use Rattle.asl_machine.specs.Access.{Points, AllPoint, AreOfClasses, IsReady, CanDo}
+use Rattle.asl_machine.specs.Nodes.{IsNode}
 use Rattle.asl_machine.specs.Twin.{WantsMemory}
 
 -- a frame waits behind the `call` of its own function's body that made the frame above, which is of this function and
@@ -30,10 +33,10 @@ pub record IsSuspended (image : Image) (objects : List Object) (above : ℕ) (re
   pub registers : length frame.regs ≡ function.regs
   pub points : AllPoint objects frame.regs
 
--- the frames below one of this function, whose value goes to this register: each waits for the one above it, and no
--- register awaits the value of the last (docs/INSTRUCTIONS.md, What always holds)
+-- the frames below one of this function, whose value goes to this register: each waits for the one above it, and the
+-- last frame of all is the entry function's, whose value no register awaits (docs/INSTRUCTIONS.md, What always holds)
 abbrev pub AreSuspended : Image → List Object → ℕ → Option ℕ → List Frame → Type 0
-AreSuspended image objects above result [] = result ≡ None
+AreSuspended image objects above result [] = (above ≡ image.start) × (result ≡ None)
 AreSuspended image objects above result (frame ∷ frames) =
     IsSuspended image objects above result frame × AreSuspended image objects frame.function frame.result frames
 
@@ -63,14 +66,15 @@ pub record IsWellFormed (image : Image) (s : State) : Type 0 where
   pub objects : AreSound image s.objects
   pub placed : (t : ℕ) (activity : Activity) → activity_at s.threads t ≡ Some activity → IsPlaced image s.objects activity
 
--- what holds of every state that a verified program reaches (docs/INSTRUCTIONS.md, What always holds)
+-- what holds of every state that a verified program reaches: it is well formed, who is in no section holds nothing, what
+-- is held is lawful, and each node that is held is there (docs/INSTRUCTIONS.md, What always holds)
 pub record IsSound (image : Image) (s : State) : Type 0 where
   pub fits : FitsImage image
-  pub objects : AreSound image s.objects
-  pub placed : (t : ℕ) (activity : Activity) → activity_at s.threads t ≡ Some activity → IsPlaced image s.objects activity
+  pub formed : IsWellFormed image s
   pub outside : (t : ℕ) → depth_at s.threads t ≡ 0 → HoldsNothing s.holding t
   pub lawful : IsLawful s.holding
   pub within : IsWithin image.classes (length s.threads) s.holding
+  pub there : (t : ℕ) (node : Node) → held s.holding t node ≢ NL → IsNode image.classes s.objects node
 
 -- a running thread is ready for the instruction that it is at, and that is one that it can do
 -- (docs/INSTRUCTIONS.md, What always holds)
@@ -81,10 +85,10 @@ ThreadReady image forest objects t (Done value) = Unit {0}
 ThreadReady image forest objects t (Failed f) = Unit {0}
 
 -- the thread runs and is at an instruction that may want memory (docs/INSTRUCTIONS.md, A step)
-abbrev pub ThreadWantsMemory : Image → Thread → Type 0
-ThreadWantsMemory image (Running activity) = IsSomeAnd (slice_get image.code activity.top.pc) (WantsMemory activity)
-ThreadWantsMemory image (Done value) = ⊥
-ThreadWantsMemory image (Failed f) = ⊥
+abbrev pub ThreadWantsMemory : Image → List Object → Thread → Type 0
+ThreadWantsMemory image objects (Running activity) = IsSomeAnd (slice_get image.code activity.top.pc) (WantsMemory objects activity)
+ThreadWantsMemory image objects (Done value) = ⊥
+ThreadWantsMemory image objects (Failed f) = ⊥
 
 -- what every machine keeps: its state is sound, and its forest is over its program's classes and its own threads
 -- (docs/INSTRUCTIONS.md, What always holds)
@@ -97,4 +101,4 @@ pub record IsMachine (image : Image) (objects : List Object) (forest : Held) (th
 -- the thread of this number is there, runs, and is at an instruction that may want memory
 -- (docs/INSTRUCTIONS.md, A step)
 abbrev pub MayWantMemory : Image → State → ℕ → Type 0
-MayWantMemory image s t = IsSomeAnd (slice_get s.threads t) (ThreadWantsMemory image)
+MayWantMemory image s t = IsSomeAnd (slice_get s.threads t) (ThreadWantsMemory image s.objects)

@@ -19,7 +19,8 @@ use Rattle.asl_machine.specs.declared.fault.Fault.TheVariants as fault
 use Rattle.asl_machine.specs.declared.reply.Reply.{Reply}
 use Rattle.asl_machine.specs.declared.reply.Reply.TheVariants as reply
 use Rattle.asl_machine.specs.State.{Object, Frame, Activity, Thread, Running, Done, Failed, State, cell_at, size_of, written, fresh_object}
-use Rattle.asl_machine.specs.Calls.{first_frame, values_from, frame_count, with_register}
+use Rattle.asl_machine.specs.Calls.{function_of, first_frame, values_from, frame_count, with_register}
+use Rattle.asl_machine.specs.Cover.{cover}
 use Rattle.asl_machine.specs.Access.{is_protected}
 use Rattle.asl_machine.specs.Request.{request_of}
 
@@ -46,6 +47,28 @@ advanced_with register value f = record { function = f.function; pc = f.pc + 1; 
 abbrev pub going_on : Activity → ℕ → Frame → Activity
 going_on a depth top = record { depth = depth; top = top; below = a.below }
 
+-- what a thread is at that has called the function: its frame is at its next instruction, and a frame of the function
+-- begins above, its parameters copied from the registers from the first one on; its value will go to the register
+abbrev pub called : Image → Activity → ℕ → ℕ → ℕ → Activity
+called image a to first function =
+    record {
+      depth = a.depth;
+      top = first_frame image function (values_from a.top.regs first (function_of image function).params) (Some to);
+      below = advanced a.top ∷ a.below;
+    }
+
+-- what a thread is at whose top frame has ended: this frame is the top one, and these are below
+abbrev pub returned : Activity → Frame → List Frame → Activity
+returned a top below = record { depth = a.depth; top = top; below = below }
+
+-- what a thread is at that has made the object of this number: the register has the address of its first cell
+abbrev pub having_made : Activity → ℕ → ℕ → Activity
+having_made a to object = going_on a a.depth (advanced_with to (Addr object 0) a.top)
+
+-- what a thread is at that has left the last section that it was in
+abbrev pub left_last : Activity → Activity
+left_last a = going_on a 0 (advanced a.top)
+
 -- the state with this thread, these objects and this holding
 abbrev pub after : State → ℕ → Thread → List Object → Holding → State
 after s t thread objects holding = record { objects = objects; holding = holding; threads = slice_set s.threads t thread }
@@ -60,7 +83,7 @@ ReadsAddress at register cell = Reads at register (Addr cell.object cell.offset)
 
 -- whether the thread's locks allow the access
 abbrev pub is_allowed : At → Effect → Cell → Bool
-is_allowed at = is_protected at.state.holding at.state.objects at.thread at.activity.depth
+is_allowed at = is_protected (cover at.state.holding) at.state.objects at.thread at.activity.depth
 
 -- the thread goes on at its next instruction, with the value in the register
 abbrev pub Sets : At → ℕ → Value → State → Type 0
@@ -189,8 +212,7 @@ pub record FailsBounds (at : At) (from places : ℕ) (new : State) : Type 0 wher
 -- `new` where there is room: an object of so many cells and of this class comes last, and the register gets its address
 pub record Makes (at : At) (to cells class : ℕ) (new : State) : Type 0 where
   pub room : length at.state.objects < 65536
-  pub makes : new ≡ after at.state at.thread
-      (Running (going_on at.activity at.activity.depth (advanced_with to (Addr (length at.state.objects) 0) at.activity.top)))
+  pub makes : new ≡ after at.state at.thread (Running (having_made at.activity to (length at.state.objects)))
       (at.state.objects ++ fresh_object class cells ∷ []) at.state.holding
 
 -- `load` of a cell that the thread may read
@@ -232,11 +254,7 @@ pub record Calls (at : At) (to first function : ℕ) (new : State) : Type 0 wher
   pub callee : Function
   pub room : frame_count at.activity < 256
   pub is : slice_get at.image.functions function ≡ Some callee
-  pub calls : new ≡ after at.state at.thread (Running (record {
-    depth = at.activity.depth;
-    top = first_frame at.image function (values_from at.activity.top.regs first callee.params) (Some to);
-    below = advanced at.activity.top ∷ at.activity.below;
-  })) at.state.objects at.state.holding
+  pub calls : new ≡ after at.state at.thread (Running (called at.image at.activity to first function)) at.state.objects at.state.holding
 
 -- `ret` from a frame with one below: it ends, and its value goes to the register below that awaits it
 pub record ReturnsTo (at : At) (from : ℕ) (new : State) : Type 0 where
@@ -247,11 +265,7 @@ pub record ReturnsTo (at : At) (from : ℕ) (new : State) : Type 0 where
   pub waiting : at.activity.below ≡ caller ∷ others
   pub awaits : at.activity.top.result ≡ Some to
   pub reads_value : Reads at from value
-  pub returns : new ≡ after at.state at.thread (Running (record {
-    depth = at.activity.depth;
-    top = with_register to value caller;
-    below = others;
-  })) at.state.objects at.state.holding
+  pub returns : new ≡ after at.state at.thread (Running (returned at.activity (with_register to value caller) others)) at.state.objects at.state.holding
 
 -- `ret` from the last frame, outside all sections: the thread ends with the register's value
 pub record Returns (at : At) (from : ℕ) (new : State) : Type 0 where
@@ -302,7 +316,7 @@ pub record Unnests (at : At) (new : State) : Type 0 where
 -- `rel` of the outermost section gives all back
 pub record Leaves (at : At) (new : State) : Type 0 where
   pub outer : at.activity.depth ≡ 1
-  pub goes_on : GoesOn at 0 at.state.objects (release at.state.holding at.thread) new
+  pub leaves : new ≡ after at.state at.thread (Running (left_last at.activity)) at.state.objects (release at.state.holding at.thread)
 
 -- a running thread's instruction, its reply and the state after it: the lines of the table
 abbrev pub Line : At → Instr → Reply → State → Type 0

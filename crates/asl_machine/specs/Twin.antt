@@ -1,6 +1,6 @@
 -- The step, computed: for a verified program the reply and the state of the one line of the table that applies
 -- (specs/Step.antt; docs/INSTRUCTIONS.md, "A step"). It answers something also where no line applies; nobody asks there.
-use Rattle.std.specs.Prelude.{◌≡◌, ℕ, zero, suc, ◌+◌, ◌-◌, ℤ, pos, int_lt, Bool, true, false, ◌&&◌, ◌||◌, ◌==◌, List, [], ◌∷◌, ◌++◌, Option, None, Some, Result, Ok, Err, slice_get, unwrap_or, length, if◌then◌else◌}
+use Rattle.std.specs.Prelude.{◌≡◌, ◌<◌, ℕ, zero, suc, ◌+◌, ◌-◌, ℤ, pos, int_lt, Bool, true, false, ◌&&◌, ◌||◌, ◌==◌, List, [], ◌∷◌, ◌++◌, Option, None, Some, Result, Ok, Err, slice_get, unwrap_or, length, if◌then◌else◌}
 use Rattle.std.specs.List.{list_all}
 use Rattle.std.specs.Int.{w32, int_wrapping_add, int_wrapping_sub}
 use Rattle.std.specs.Ordering.{int_eq}
@@ -23,11 +23,12 @@ use Rattle.asl_machine.specs.declared.fault.Fault.TheVariants as fault
 use Rattle.asl_machine.specs.declared.reply.Reply.{Reply}
 use Rattle.asl_machine.specs.declared.reply.Reply.TheVariants as reply
 use Rattle.asl_machine.specs.State.{Object, Frame, Activity, Thread, Running, Done, Failed, State, cell_at, written, fresh_object}
-use Rattle.asl_machine.specs.Calls.{function_of, first_frame, values_from, frame_count, with_result}
+use Rattle.asl_machine.specs.Calls.{frame_count, with_result}
+use Rattle.asl_machine.specs.Cover.{Cover, cover}
 use Rattle.asl_machine.specs.Access.{is_protected}
 use Rattle.asl_lock_expr.specs.Expression.{cell_of, moved}
 use Rattle.asl_machine.specs.Request.{heap_of, request_of, locks_of}
-use Rattle.asl_machine.specs.Step.{placed_at, advanced, advanced_with, going_on, after, is_zero}
+use Rattle.asl_machine.specs.Step.{placed_at, advanced, advanced_with, going_on, called, returned, having_made, left_last, after, is_zero}
 
 -- what an instruction leaves: what becomes of its thread, and the parts of the state that it may have changed
 pub record Left : Type 0 where
@@ -113,9 +114,13 @@ address_moved objects places (Int number) = Err fault.BadType
 address_moved objects places Null = Err fault.Null
 address_moved objects places (Addr object offset) = address_or_bounds (moved (heap_of objects) places (cell_of object offset))
 
--- the address of an object that is made, where there is room for one
-abbrev pub made_address : List Object → Result Value Fault
-made_address objects = if length objects == 65536 then Err fault.Full else Ok (Addr (length objects) 0)
+-- what becomes of a thread that makes an object: there are at most 65,536
+abbrev pub make_fate : List Object → Fate
+make_fate objects = if length objects == 65536 then fate.Fails fault.Full else fate.GoesOn
+
+-- where a thread is that makes an object, whose address goes to the register, or has no room for one
+abbrev pub activity_made : List Object → Activity → ℕ → Activity
+activity_made objects a to = if length objects == 65536 then a else having_made a to (length objects)
 
 -- the objects after an object of the class with so many cells is made, where there is room for one
 abbrev pub made_objects : List Object → ℕ → ℕ → List Object
@@ -124,23 +129,27 @@ made_objects objects cells class = if length objects == 65536 then objects else 
 -- the register gets the address of a new object, or the thread fails
 abbrev pub make_left : Place → ℕ → ℕ → ℕ → Left
 make_left p to cells class =
-    let address = made_address p.objects in
-    record { fate = fate_of address; activity = activity_set p.activity to address; objects = made_objects p.objects cells class; holding = p.holding }
+    record {
+      fate = make_fate p.objects;
+      activity = activity_made p.objects p.activity to;
+      objects = made_objects p.objects cells class;
+      holding = p.holding;
+    }
 
 -- the cell, where the access is allowed
 abbrev pub allowed_cell : Bool → Effect → Cell → Result Cell Fault
 allowed_cell allowed effect cell = if allowed then Ok cell else Err (fault.Unprotected cell effect)
 
 -- the cell that the value is the address of, where thread t, in so many sections, may access it so
-abbrev pub accessed : Holding → List Object → ℕ → ℕ → Effect → Value → Result Cell Fault
-accessed holding objects t depth effect (Int number) = Err fault.BadType
-accessed holding objects t depth effect Null = Err fault.Null
-accessed holding objects t depth effect (Addr object offset) =
-    allowed_cell (is_protected holding objects t depth effect (cell_of object offset)) effect (cell_of object offset)
+abbrev pub accessed : Cover → List Object → ℕ → ℕ → Effect → Value → Result Cell Fault
+accessed c objects t depth effect (Int number) = Err fault.BadType
+accessed c objects t depth effect Null = Err fault.Null
+accessed c objects t depth effect (Addr object offset) =
+    allowed_cell (is_protected c objects t depth effect (cell_of object offset)) effect (cell_of object offset)
 
 -- the cell that the register holds the address of, where the thread may access it so
 abbrev pub accessed_by : Place → Effect → ℕ → Result Cell Fault
-accessed_by p effect register = accessed p.holding p.objects p.thread p.activity.depth effect (register_of p.activity.top register)
+accessed_by p effect register = accessed (cover p.holding) p.objects p.thread p.activity.depth effect (register_of p.activity.top register)
 
 -- the value of the cell
 abbrev pub loaded : List Object → Result Cell Fault → Result Value Fault
@@ -172,15 +181,6 @@ abbrev pub show_left : Place → Value → Left
 show_left p value =
     record { fate = fate.Shows value; activity = going_on p.activity p.activity.depth (advanced p.activity.top); objects = p.objects; holding = p.holding }
 
--- what a thread is at when it has called the function
-abbrev pub called : Image → Activity → ℕ → ℕ → ℕ → Activity
-called image a to first function =
-    record {
-      depth = a.depth;
-      top = first_frame image function (values_from a.top.regs first (function_of image function).params) (Some to);
-      below = advanced a.top ∷ a.below;
-    }
-
 -- what becomes of a thread that calls: there are at most 256 frames
 abbrev pub call_fate : Activity → Fate
 call_fate a = if frame_count a == 256 then fate.Fails fault.Stack else fate.GoesOn
@@ -211,7 +211,7 @@ fate_returned a value (caller ∷ others) = fate.GoesOn
 -- where a thread is whose top frame returns the value to the frames below
 abbrev pub activity_returned : Activity → Value → List Frame → Activity
 activity_returned a value [] = a
-activity_returned a value (caller ∷ others) = record { depth = a.depth; top = with_result a.top.result value caller; below = others }
+activity_returned a value (caller ∷ others) = returned a (with_result a.top.result value caller) others
 
 -- the top frame returns the value
 abbrev pub return_left : Place → Value → List Frame → Left
@@ -265,6 +265,10 @@ acquire_left p free request =
 abbrev pub release_fate : ℕ → Fate
 release_fate depth = if depth == 0 then fate.Fails fault.NoSection else fate.GoesOn
 
+-- where a thread is that leaves a section, if it is in one: the last one, or an inner one
+abbrev pub activity_left : Activity → Activity
+activity_left a = if a.depth == 0 then a else if a.depth == 1 then left_last a else going_on a (a.depth - 1) (advanced a.top)
+
 -- the holding after a `rel`, in so many sections
 abbrev pub holding_released : ℕ → ℕ → Holding → Holding
 holding_released depth t holding = if depth == 1 then release holding t else holding
@@ -272,10 +276,9 @@ holding_released depth t holding = if depth == 1 then release holding t else hol
 -- the thread leaves a section
 abbrev pub release_left : Place → Left
 release_left p =
-    let f = release_fate p.activity.depth in
     record {
-      fate = f;
-      activity = activity_moved f (p.activity.depth - 1) p.activity;
+      fate = release_fate p.activity.depth;
+      activity = activity_left p.activity;
       objects = p.objects;
       holding = holding_released p.activity.depth p.thread p.holding;
     }
@@ -373,9 +376,10 @@ step_at image s t (Some thread) =
 abbrev pub step_of : Image → State → ℕ → Stepped
 step_of image s t = step_at image s t (slice_get s.threads t)
 
--- the instruction is a `new`, a `call`, or an `acq` outside all sections: those that may want memory
-abbrev pub WantsMemory : Activity → Instr → Type 0
-WantsMemory activity (instr.New to cells class) = Unit {0}
-WantsMemory activity (instr.Call to first function) = Unit {0}
-WantsMemory activity (instr.Acquire list) = activity.depth ≡ 0
-WantsMemory activity i = ⊥
+-- those that may want memory: a `new` and a `call` with room for an object or a frame more, and an `acq` outside all
+-- sections
+abbrev pub WantsMemory : List Object → Activity → Instr → Type 0
+WantsMemory objects activity (instr.New to cells class) = length objects < 65536
+WantsMemory objects activity (instr.Call to first function) = frame_count activity < 256
+WantsMemory objects activity (instr.Acquire list) = activity.depth ≡ 0
+WantsMemory objects activity i = ⊥

@@ -1,7 +1,7 @@
 //! How a thread goes on in the code: by jumps, calls, returns, and what it shows on its way.
 ghost use Rattle.std.specs.Prelude.{◌≡◌, ◌<◌, ◌≤◌, ◌+◌, ◌^◌, IfOk, OnOk, OnErr, if◌then◌else◌, length};
 ghost use Rattle.asl_code.specs.Fits.{FitsImage};
-ghost use Rattle.asl_machine.specs.Calls.{function_of, IsAwaited};
+ghost use Rattle.asl_machine.specs.Calls.{function_of, frame_count, IsAwaited};
 ghost use Rattle.asl_machine.specs.Step.{placed_at, advanced, going_on, is_zero};
 ghost use Rattle.asl_machine.specs.Twin.{register_of, call_fate, activity_called, fate_returned, activity_returned};
 
@@ -61,8 +61,10 @@ pub fn call(
     requires there { function < length code.now.functions }
     requires arguments { first + (function_of code.now function).params ≤ length activity.old.top.regs }
     requires room { activity.old.top.pc + 1 < 2 ^ 16 }
+    requires few { frame_count activity.old ≤ 256 }
     ensures fate { IfOk result (λ fate. fate ≡ call_fate activity.old) }
     ensures activity { OnOk result (activity.new ≡ activity_called code.now activity.old to first function) }
+    ensures memory { OnErr result (frame_count activity.old < 256) }
     ensures err { OnErr result (activity.new ≡ activity.old) }
 {
     if activity.frames() == 256 {

@@ -187,22 +187,18 @@ impl Model for Activity {
 }
 
 impl Activity {
-    ghost use Rattle.std.specs.Prelude.{◌∷◌, [], None};
+    ghost use Rattle.std.specs.Prelude.{[]};
     ghost use Rattle.asl_code.specs.Fits.{FitsImage};
-    ghost use Rattle.asl_code.specs.declared.value.Value.TheVariants.{Int};
-    ghost use Rattle.asl_machine.specs.Calls.{first_frame, frame_count, IsAwaited};
-    ghost use Rattle.asl_machine.specs.Step.{placed_at, advanced, advanced_with, going_on};
-    ghost use Rattle.asl_machine.specs.Twin.{register_of, called, activity_returned};
+    ghost use Rattle.asl_machine.specs.Calls.{frame_count, IsAwaited};
+    ghost use Rattle.asl_machine.specs.Run.{first_activity};
+    ghost use Rattle.asl_machine.specs.Step.{placed_at, advanced, advanced_with, going_on, called, left_last};
+    ghost use Rattle.asl_machine.specs.Twin.{register_of, activity_returned};
 
     /// What thread t is at when it starts.
     pub fn first(alloc: Global, code: &Code<'_>, t: u32) -> Result<Activity, AllocError>
         requires fits { FitsImage code.now }
         requires small { t < 64 }
-        ensures { IfOk result (λ activity. activity ≡ record {
-          depth = 0;
-          top = first_frame code.now code.now.start (Int (pos t) ∷ []) None;
-          below = [];
-        }) }
+        ensures { IfOk result (λ activity. activity ≡ first_activity code.now t) }
     {
         Ok(Activity {
             depth: 0,
@@ -290,6 +286,15 @@ impl Activity {
         ensures { self.new ≡ going_on self.old (self.old.depth + 1) (advanced self.old.top) }
     {
         self.depth += 1;
+        self.top.advance();
+    }
+
+    /// Leaves the last section that it is in, and goes to the next instruction.
+    pub fn leave_last(&mut self)
+        requires { self.old.top.pc + 1 < 2 ^ 16 }
+        ensures { self.new ≡ left_last self.old }
+    {
+        self.depth = 0;
         self.top.advance();
     }
 

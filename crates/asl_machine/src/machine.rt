@@ -1,5 +1,5 @@
 //! The machine: a program, its heap, its locks and its threads.
-ghost use Rattle.std.specs.Prelude.{◌≡◌, ◌<◌, ◌≤◌, ◌↔◌, ◌⊎◌, IfOk, IfErr, OnErr, IsErrOf, IsTrue, Some, length, slice_get, option_map, option_and_then};
+ghost use Rattle.std.specs.Prelude.{◌≡◌, ◌≢◌, ◌<◌, ◌≤◌, ◌↔◌, ◌⊎◌, IfOk, IfErr, OnErr, IsErrOf, IsTrue, Some, length, slice_get, option_map, option_and_then};
 ghost use Rattle.asl_code.specs.Fits.{FitsImage};
 ghost use Rattle.asl_lock_forest.specs.declared.node.Node.{Node};
 ghost use Rattle.asl_machine.specs.Run.{start_of, first_threads};
@@ -51,6 +51,7 @@ impl<'p> Machine<'p> {
     ghost use Rattle.asl_machine.specs.Twin.{step_of};
     ghost use Rattle.asl_machine.specs.World.{SomeoneGoesOn};
     ghost use Rattle.asl_machine.specs.View.{status_of};
+    ghost use Rattle.asl_machine.specs.Nodes.{IsNode};
     ghost use Rattle.asl_machine.specs.Sound.{IsSound, MayWantMemory};
 
     /// The machine in which n threads of the program start: 1 to 64 of them.
@@ -67,8 +68,8 @@ impl<'p> Machine<'p> {
     }
 
     /// Steps thread t: one instruction, or nothing where the thread has ended. The step is one that the instruction table
-    /// allows, and the only one. Only a thread that is at a `new`, at a `call`, or at an `acq`
-    /// outside all sections may want memory.
+    /// allows, and the only one. Only a thread that is at a `new` or a `call` for which there is room, or at an `acq`
+    /// outside all sections, may want memory.
     pub fn step(&mut self, alloc: Global, t: u32) -> Result<Reply, MachineFault>
         ensures step { IfOk result (λ reply. Step self.old.image self.old.state t reply self.new.state) }
         ensures reply { IfOk result (λ reply. reply ≡ (step_of self.old.image self.old.state t).reply) }
@@ -191,7 +192,8 @@ impl<'p> Machine<'p> {
     /// The mode in which thread t holds the node: NL where it does not, or where there is no such node.
     pub fn held(&self, t: u32, node: Node) -> Mode
         requires { t < length self.now.state.threads }
-        ensures { result ≡ held self.now.state.holding t node }
+        ensures value { result ≡ held self.now.state.holding t node }
+        ensures there { result ≢ Mode.NL → IsNode self.now.image.classes self.now.state.objects node }
     {
         if self.is_there(node) {
             self.forest.mode(t, node)

@@ -3,7 +3,8 @@ ghost use Rattle.std.specs.Prelude.{◌≡◌, ◌<◌, ◌≤◌, ◌+◌, ◌^
 ghost use Rattle.asl_code.specs.declared.value.Effect.TheVariants.{Read, Write};
 ghost use Rattle.asl_machine.specs.Access.{is_protected, Points, AllPoint, AreOfClasses};
 ghost use Rattle.asl_machine.specs.State.{cell_at};
-ghost use Rattle.asl_machine.specs.Twin.{place, accessed_by, accessed, allowed_cell, register_of, fate_of, loaded, activity_stored, objects_stored, made_address, made_objects};
+ghost use Rattle.asl_machine.specs.Cover.{cover};
+ghost use Rattle.asl_machine.specs.Twin.{place, accessed_by, accessed, allowed_cell, register_of, fate_of, loaded, activity_stored, objects_stored, make_fate, activity_made, made_objects};
 
 use crate::fate::Fate;
 use crate::fault::Fault;
@@ -65,23 +66,31 @@ pub fn store(
     }
 }
 
-/// Makes an object, and answers its address, unless there are as many objects as there may be.
+/// Makes an object and puts its address into the register, or fails where there are as many objects as there may be.
 pub fn make(
     alloc: Global,
     heap: &mut Heap,
+    activity: &mut Activity,
+    to: u8,
     cells: u8,
     class: u16,
-) -> Result<Result<Value, Fault>, AllocError>
-    requires { length heap.old ≤ 65536 }
-    ensures address { IfOk result (λ address. address ≡ made_address heap.old) }
+) -> Result<Fate, AllocError>
+    requires few { length heap.old ≤ 65536 }
+    requires there { to < length activity.old.top.regs }
+    requires room { activity.old.top.pc + 1 < 2 ^ 16 }
+    ensures fate { IfOk result (λ fate. fate ≡ make_fate heap.old) }
+    ensures activity { OnOk result (activity.new ≡ activity_made heap.old activity.old to) }
     ensures objects { OnOk result (heap.new ≡ made_objects heap.old cells class) }
-    ensures err { OnErr result (heap.new ≡ heap.old) }
+    ensures memory { OnErr result (length heap.old < 65536) }
+    ensures err { OnErr result (activity.new ≡ activity.old) }
+    ensures err_heap { OnErr result (heap.new ≡ heap.old) }
 {
     if heap.len() == 65_536 {
-        return Ok(Err(Fault::Full));
+        return Ok(Fate::Fails(Fault::Full));
     }
     let number = heap.make(alloc, cells, class)?;
-    Ok(Ok(Value::Addr(number, 0)))
+    activity.advance_with(to, Value::Addr(number, 0));
+    Ok(Fate::GoesOn)
 }
 
 /// The cell that the register holds the address of, where the thread may access it so.
@@ -100,29 +109,22 @@ fn target(
     ensures value { result ≡ accessed_by (place t activity.now heap.now forest.now) effect register }
     ensures there { IfOk result (λ cell. IsSome (cell_at heap.now cell)) }
 {
-    access(
-        heap,
-        forest,
-        t,
-        activity.depth(),
-        effect,
-        activity.read(register),
-    )
+    access(heap, forest, t, activity, effect, activity.read(register))
 }
 
-/// The cell that the value is the address of, where thread t, in so many sections, may access it so.
+/// The cell that the value is the address of, where thread t may access it so.
 fn access(
     heap: &Heap,
     forest: &Forest,
     t: u32,
-    depth: u8,
+    activity: &Activity,
     effect: Effect,
     value: Value,
 ) -> Result<Cell, Fault>
     requires thread { t < forest.now.threads }
     requires classes { AreOfClasses forest.now.classes heap.now }
     requires points { Points heap.now value }
-    ensures value { result ≡ accessed forest.now.holding heap.now t depth effect value }
+    ensures value { result ≡ accessed (cover forest.now.holding) heap.now t activity.now.depth effect value }
     ensures there { IfOk result (λ cell. IsSome (cell_at heap.now cell)) }
 {
     match value {
@@ -130,7 +132,7 @@ fn access(
             heap,
             forest,
             t,
-            depth,
+            activity,
             effect,
             Cell { object, offset },
         ),
@@ -144,15 +146,15 @@ fn allow(
     heap: &Heap,
     forest: &Forest,
     t: u32,
-    depth: u8,
+    activity: &Activity,
     effect: Effect,
     cell: Cell,
 ) -> Result<Cell, Fault>
     requires thread { t < forest.now.threads }
     requires classes { AreOfClasses forest.now.classes heap.now }
-    ensures { result ≡ allowed_cell (is_protected forest.now.holding heap.now t depth effect cell) effect cell }
+    ensures { result ≡ allowed_cell (is_protected (cover forest.now.holding) heap.now t activity.now.depth effect cell) effect cell }
 {
-    if is_allowed(heap, forest, t, depth, effect, cell) {
+    if is_allowed(heap, forest, t, activity, effect, cell) {
         Ok(cell)
     } else {
         Err(Fault::Unprotected(cell, effect))
@@ -160,12 +162,19 @@ fn allow(
 }
 
 /// Whether the thread is in a section, and its locks cover the cell for the effect.
-fn is_allowed(heap: &Heap, forest: &Forest, t: u32, depth: u8, effect: Effect, cell: Cell) -> bool
+fn is_allowed(
+    heap: &Heap,
+    forest: &Forest,
+    t: u32,
+    activity: &Activity,
+    effect: Effect,
+    cell: Cell,
+) -> bool
     requires thread { t < forest.now.threads }
     requires classes { AreOfClasses forest.now.classes heap.now }
-    ensures { result ≡ is_protected forest.now.holding heap.now t depth effect cell }
+    ensures { result ≡ is_protected (cover forest.now.holding) heap.now t activity.now.depth effect cell }
 {
-    if depth == 0 {
+    if activity.depth() == 0 {
         return false;
     }
     match heap.class(usize::from(cell.object)) {

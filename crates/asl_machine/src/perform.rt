@@ -32,7 +32,7 @@ pub fn perform(
         ≡ left_by code.now forest.old.threads (place t activity.old heap.old forest.old) instr) }
     ensures classes { forest.new.classes ≡ forest.old.classes }
     ensures threads { forest.new.threads ≡ forest.old.threads }
-    ensures memory { OnErr result (WantsMemory activity.old instr) }
+    ensures memory { OnErr result (WantsMemory heap.old activity.old instr) }
     ensures err { OnErr result (activity.new ≡ activity.old) }
     ensures err_heap { OnErr result (heap.new ≡ heap.old) }
     ensures err_forest { OnErr result (forest.new ≡ forest.old) }
@@ -49,7 +49,7 @@ pub fn perform(
         Instr::FieldAddress { to, from, offset } => move_on(heap, activity, to, from, offset),
         Instr::Load { to, address } => set(activity, to, load(heap, forest, t, activity, address)),
         Instr::Store { address, from } => store(heap, forest, t, activity, address, from),
-        Instr::New { to, cells, class } => set(activity, to, make(alloc, heap, cells, class)?),
+        Instr::New { to, cells, class } => make(alloc, heap, activity, to, cells, class)?,
         Instr::Jump { target } => jump(activity, target),
         Instr::JumpIfZero { test, target } => jump_if_zero(activity, test, target),
         Instr::Call {

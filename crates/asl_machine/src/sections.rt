@@ -4,7 +4,7 @@ ghost use Rattle.asl_lock_forest.specs.Holding.{HoldsNothing, grant};
 ghost use Rattle.asl_lock_forest.specs.Request.{names_once, asks_modes, asks_parents, IsOfClasses};
 ghost use Rattle.asl_machine.specs.Access.{AreOfClasses};
 ghost use Rattle.asl_machine.specs.Request.{LockOfClass, request_of, locks_of};
-ghost use Rattle.asl_machine.specs.Twin.{can_grant, release_fate, activity_moved, holding_released, acquire_fate, holding_acquired};
+ghost use Rattle.asl_machine.specs.Twin.{can_grant, release_fate, activity_moved, activity_left, holding_released, acquire_fate, holding_acquired};
 
 use crate::code::Code;
 use crate::fate::Fate;
@@ -62,7 +62,7 @@ pub fn leave(forest: &mut Forest, t: u32, activity: &mut Activity) -> Fate
     requires thread { t < forest.old.threads }
     requires room { activity.old.top.pc + 1 < 2 ^ 16 }
     ensures fate { result ≡ release_fate activity.old.depth }
-    ensures activity { activity.new ≡ activity_moved result (activity.old.depth - 1) activity.old }
+    ensures activity { activity.new ≡ activity_left activity.old }
     ensures holding { forest.new.holding ≡ holding_released activity.old.depth t forest.old.holding }
     ensures classes { forest.new.classes ≡ forest.old.classes }
     ensures threads { forest.new.threads ≡ forest.old.threads }
@@ -71,7 +71,7 @@ pub fn leave(forest: &mut Forest, t: u32, activity: &mut Activity) -> Fate
         0 => Fate::Fails(Fault::NoSection),
         1 => {
             forest.release(t);
-            activity.leave();
+            activity.leave_last();
             Fate::GoesOn
         }
         _ => {

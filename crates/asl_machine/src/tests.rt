@@ -385,4 +385,8 @@ fn laws_are_there() {
     crate::no_world_is_blocked();
     crate::runs_go_on();
     crate::runs_reach();
+    crate::steps_leave_others_alone();
+    crate::stores_change_one_cell();
+    crate::new_objects_change_no_cell();
+    crate::grants_cover_their_locks();
 }

@@ -2,24 +2,32 @@
 ghost use Rattle.std.specs.Prelude.{◌≡◌, ◌<◌, IfOk, OnOk, OnErr, IsSome, IsSomeAnd, Some, length, slice_get};
 ghost use Rattle.asl_machine.specs.Access.{IsReady, CanDo};
 ghost use Rattle.asl_machine.specs.Sound.{ThreadReady, ThreadWantsMemory};
-ghost use Rattle.asl_machine.specs.View.{status_by};
 ghost use Rattle.asl_machine.specs.Twin.{place, left_with, left_at, turn_of, reply_of, thread_after, holding_after, WantsMemory};
 
 use crate::code::Code;
 use crate::fate::Fate;
+use crate::fault::Fault;
 use crate::frame::Activity;
 use crate::heap::Heap;
 use crate::perform::perform;
 use crate::reply::{Reply, Status};
+use asl_code::Value;
 use asl_lock_forest::Forest;
 use std::alloc::{AllocError, Global};
 use std::marker::Model;
 
-/// A thread. What it was last at is kept, and counts while it runs.
-#[derive(Debug, Drop)]
+/// A thread.
+#[derive(Drop)]
 pub struct Thread {
-    status: Status,
-    activity: Activity,
+    stage: Stage,
+}
+
+/// What a thread is at while it runs, and else how it ended.
+#[derive(Drop)]
+enum Stage {
+    Running(Activity),
+    Done(Value),
+    Failed(Fault),
 }
 
 impl Model for Thread {
@@ -29,7 +37,7 @@ impl Model for Thread {
 
     ghost use Rattle.asl_machine.specs.View.{thread_of};
 
-    ghost view = { λ t. thread_of t.status t.activity };
+    ghost view = { λ t. thread_of t.stage };
 }
 
 impl Thread {
@@ -45,9 +53,9 @@ impl Thread {
         requires small { t < 64 }
         ensures { IfOk result (λ thread. thread ≡ first_thread code.now t) }
     {
+        let activity = Activity::first(alloc, code, t)?;
         Ok(Thread {
-            status: Status::Running,
-            activity: Activity::first(alloc, code, t)?,
+            stage: Stage::Running(activity),
         })
     }
 
@@ -55,19 +63,21 @@ impl Thread {
     pub fn try_copy(&self, alloc: Global) -> Result<Thread, AllocError>
         ensures { IfOk result (λ thread. thread ≡ self.now) }
     {
-        Ok(Thread {
-            status: self.status,
-            activity: self.activity.try_copy(alloc)?,
-        })
+        let stage = match &self.stage {
+            Stage::Running(activity) => Stage::Running(activity.try_copy(alloc)?),
+            Stage::Done(value) => Stage::Done(*value),
+            Stage::Failed(fault) => Stage::Failed(*fault),
+        };
+        Ok(Thread { stage })
     }
 
     /// What the thread is at, if it runs.
     pub fn activity(&self) -> Option<&Activity>
         ensures { option_copied result ≡ activity_of self.now }
     {
-        match self.status {
-            Status::Running => Some(&self.activity),
-            Status::Done(_) | Status::Failed(_) => None,
+        match &self.stage {
+            Stage::Running(activity) => Some(activity),
+            Stage::Done(_) | Stage::Failed(_) => None,
         }
     }
 
@@ -75,7 +85,11 @@ impl Thread {
     pub fn status(&self) -> Status
         ensures { result ≡ status_of self.now }
     {
-        self.status
+        match &self.stage {
+            Stage::Running(_) => Status::Running,
+            Stage::Done(value) => Status::Done(*value),
+            Stage::Failed(fault) => Status::Failed(*fault),
+        }
     }
 
     /// Steps thread t.
@@ -95,20 +109,22 @@ impl Thread {
         ensures holding { OnOk result (forest.new.holding ≡ (turn_of code.now forest.old.threads t self.old heap.old forest.old.holding).holding) }
         ensures classes { forest.new.classes ≡ forest.old.classes }
         ensures threads { forest.new.threads ≡ forest.old.threads }
-        ensures memory { OnErr result (ThreadWantsMemory code.now self.old) }
+        ensures memory { OnErr result (ThreadWantsMemory code.now heap.old self.old) }
         ensures err { OnErr result (self.new ≡ self.old) }
         ensures err_heap { OnErr result (heap.new ≡ heap.old) }
         ensures err_forest { OnErr result (forest.new ≡ forest.old) }
     {
-        match self.status {
-            Status::Running => {
-                let fate = advance(alloc, code, heap, forest, t, &mut self.activity)?;
-                self.status = status_after(fate);
-                give_back(forest, t, fate);
-                Ok(reply(fate))
-            }
-            Status::Done(_) | Status::Failed(_) => Ok(Reply::Ended),
+        let Stage::Running(activity) = &mut self.stage else {
+            return Ok(Reply::Ended);
+        };
+        let fate = advance(alloc, code, heap, forest, t, activity)?;
+        match fate {
+            Fate::Ends(value) => self.stage = Stage::Done(value),
+            Fate::Fails(fault) => self.stage = Stage::Failed(fault),
+            Fate::GoesOn | Fate::Shows(_) | Fate::Waits => {}
         }
+        give_back(forest, t, fate);
+        Ok(reply(fate))
     }
 }
 
@@ -128,24 +144,13 @@ fn advance(
         (slice_get code.now.code activity.old.top.pc)) }
     ensures classes { forest.new.classes ≡ forest.old.classes }
     ensures threads { forest.new.threads ≡ forest.old.threads }
-    ensures memory { OnErr result (IsSomeAnd (slice_get code.now.code activity.old.top.pc) (WantsMemory activity.old)) }
+    ensures memory { OnErr result (IsSomeAnd (slice_get code.now.code activity.old.top.pc) (WantsMemory heap.old activity.old)) }
     ensures err { OnErr result (activity.new ≡ activity.old) }
     ensures err_heap { OnErr result (heap.new ≡ heap.old) }
     ensures err_forest { OnErr result (forest.new ≡ forest.old) }
 {
     let instr = code.fetch(activity.pc());
     perform(alloc, code, heap, forest, t, activity, instr)
-}
-
-/// The status after this.
-fn status_after(fate: Fate) -> Status
-    ensures { result ≡ status_by fate }
-{
-    match fate {
-        Fate::GoesOn | Fate::Shows(_) | Fate::Waits => Status::Running,
-        Fate::Ends(value) => Status::Done(value),
-        Fate::Fails(fault) => Status::Failed(fault),
-    }
 }
 
 /// The reply to this.

@@ -16,7 +16,7 @@ pub returns-in_err-step-clause-memory : goal.returns-in_err-step-clause-memory
 returns-in_err-step-clause-memory c =
     let lt : c.args.t < length c.self.inside.threads.items = omega arith in
     let at = slice_get_read c.self.inside.threads.items _ c.args.t c.index_mut-thread.result.now refl lt c.index_mut-thread.ensures.value in
-    λ _. rw (← c.self.view_is) (subst (λ o. IsSomeAnd o (ThreadWantsMemory c.self.inside.code)) (sym at) c.in_err-step.ensures.memory)
+    λ _. rw (← c.self.view_is) (subst (λ o. IsSomeAnd o (ThreadWantsMemory c.self.inside.code c.self.inside.heap)) (sym at) c.in_err-step.ensures.memory)
 
 pub invariant_of-self-2 : goal.invariant_of-self-2
 invariant_of-self-2 c =
