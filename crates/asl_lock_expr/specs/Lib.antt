@@ -1,1 +1,8 @@
 pub mod Expression
+pub mod ClassOf
+pub mod Stores
+pub mod Links
+pub mod LinksView
+pub mod Order
+pub mod Placing
+pub mod Agrees

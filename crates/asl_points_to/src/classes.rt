@@ -41,6 +41,13 @@ impl Classes {
         self.globals[usize::from(global)]
     }
 
+    /// The classes of all globals, in their order.
+    pub fn globals(&self) -> &[u16]
+        ensures { result.now ≡ self.now.globals }
+    {
+        self.globals.as_slice()
+    }
+
     /// The class of the objects that are made at a site.
     pub fn of_site(&self, site: u16) -> u16
         requires { site < length self.now.sites }

@@ -1,0 +1,113 @@
+-- Laws of the order of locks, and of a lock put at its place in a list in order.
+use Rattle.std.proofs.Common.{◌≡◌, ℕ, ◌+◌, ◌⊎◌, ◌++◌, List, [], ◌∷◌, map, refl, ap, ap₂, ◌∙◌, subst, inl, inr, arith}
+use Rattle.std.specs.declared.cmp.Ordering.TheVariants.{Less, Equal, Greater}
+use Rattle.std.specs.Ordering.{ordering_reverse}
+use Rattle.std.specs.Cmp.{IsTotalOrder, on_total}
+use Rattle.std.specs.Cmp.Lexicographic.{nat_list_cmp_total}
+use Rattle.std.specs.FinMap.{nat_cmp-IsAntisymmetric, slice_cmp-IsAntisymmetric}
+use Rattle.asl_code.specs.declared.value.Effect.{Effect}
+use Rattle.asl_code.specs.declared.value.Effect.TheVariants.{Read, Write}
+use Rattle.asl_code.specs.declared.lock.Base.{Base}
+use Rattle.asl_code.specs.declared.lock.Base.TheVariants.{Reg, Global}
+use Rattle.asl_code.specs.declared.lock.Expr.{Expr}
+use Rattle.asl_code.specs.declared.lock.Lock.{Lock}
+use Rattle.asl_code.specs.declared.lock.Lock.TheVariants as lock
+use Rattle.asl_code.specs.declared.path.Op.{Op}
+use Rattle.asl_code.specs.declared.path.Op.TheVariants.{Deref, Off}
+use Rattle.asl_lock_expr.specs.Links.{IsOne}
+use Rattle.asl_lock_expr.specs.Order.{effect_code, op_code, base_code, lock_code, lock_cmp, AreInOrder}
+use Rattle.asl_lock_expr.specs.Placing.{placed, placed_by}
+
+effect_same : (a b : Effect) → effect_code a ≡ effect_code b → a ≡ b
+effect_same Read Read e = refl
+effect_same Read Write e = cc
+effect_same Write Read e = cc
+effect_same Write Write e = refl
+
+op_same : (a b : Op) → op_code a ≡ op_code b → a ≡ b
+op_same Deref Deref e = refl
+op_same Deref (Off j) e = absurd (omega arith)
+op_same (Off i) Deref e = absurd (omega arith)
+op_same (Off i) (Off j) e = let same : i ≡ j = omega arith in ap Off same
+
+-- paths that end alike are the same
+ends_same : (p q : List Op) (x y : ℕ) → map op_code p ++ 0 ∷ x ∷ [] ≡ map op_code q ++ 0 ∷ y ∷ [] → (p ≡ q) × (x ≡ y)
+ends_same [] [] x y e = (refl, cc)
+ends_same [] (Deref ∷ q) x y e = cc
+ends_same [] (Off j ∷ q) x y e = let z : 0 ≡ j + 2 = cc in absurd (omega arith)
+ends_same (Deref ∷ p) [] x y e = cc
+ends_same (Off i ∷ p) [] x y e = let z : i + 2 ≡ 0 = cc in absurd (omega arith)
+ends_same (o ∷ p) (n ∷ q) x y e =
+    let first : op_code o ≡ op_code n = cc in
+    let rest : map op_code p ++ 0 ∷ x ∷ [] ≡ map op_code q ++ 0 ∷ y ∷ [] = cc in
+    let r = ends_same p q x y rest in
+    (ap₂ (λ (a : Op) (b : List Op). a ∷ b) (op_same o n first) r.0, r.1)
+
+expr_same : (a b : Base) (p q : List Op) (x y : ℕ) → base_code a ++ (map op_code p ++ 0 ∷ x ∷ []) ≡ base_code b ++ (map op_code q ++ 0 ∷ y ∷ []) → (a ≡ b) × (p ≡ q) × (x ≡ y)
+expr_same (Reg m) (Reg n) p q x y e =
+    let same : m ≡ n = cc in
+    let r = ends_same p q x y cc in
+    (ap Reg same, r.0, r.1)
+expr_same (Reg m) (Global n) p q x y e = absurd (cc)
+expr_same (Global m) (Reg n) p q x y e = absurd (cc)
+expr_same (Global m) (Global n) p q x y e =
+    let same : m ≡ n = cc in
+    let r = ends_same p q x y cc in
+    (ap Global same, r.0, r.1)
+
+-- locks with the same numbers are the same
+pub lock_same : (a b : Lock) → lock_code a ≡ lock_code b → a ≡ b
+lock_same (lock.Root x) (lock.Root y) e = ap lock.Root (effect_same x y cc)
+lock_same (lock.Root x) (lock.Class d y) e = cc
+lock_same (lock.Root x) (lock.Expr f y) e = elim f.base as (λ b. 0 ∷ effect_code x ∷ [] ≡ base_code b ++ (map op_code f.path ++ 0 ∷ effect_code y ∷ []) → lock.Root x ≡ lock.Expr f y) [ Reg n ↦ λ h. absurd (cc) | Global n ↦ λ h. absurd (cc) ] e
+lock_same (lock.Class c x) (lock.Root y) e = cc
+lock_same (lock.Class c x) (lock.Class d y) e =
+    let same : c ≡ d = cc in
+    ap₂ (λ (n : ℕ) (f : Effect). lock.Class n f) same (effect_same x y cc)
+lock_same (lock.Class c x) (lock.Expr f y) e = elim f.base as (λ b. 1 ∷ c ∷ effect_code x ∷ [] ≡ base_code b ++ (map op_code f.path ++ 0 ∷ effect_code y ∷ []) → lock.Class c x ≡ lock.Expr f y) [ Reg n ↦ λ h. absurd (cc) | Global n ↦ λ h. absurd (cc) ] e
+lock_same (lock.Expr f x) (lock.Root y) e = elim f.base as (λ b. base_code b ++ (map op_code f.path ++ 0 ∷ effect_code x ∷ []) ≡ 0 ∷ effect_code y ∷ [] → lock.Expr f x ≡ lock.Root y) [ Reg n ↦ λ h. absurd (cc) | Global n ↦ λ h. absurd (cc) ] e
+lock_same (lock.Expr f x) (lock.Class d y) e = elim f.base as (λ b. base_code b ++ (map op_code f.path ++ 0 ∷ effect_code x ∷ []) ≡ 1 ∷ d ∷ effect_code y ∷ [] → lock.Expr f x ≡ lock.Class d y) [ Reg n ↦ λ h. absurd (cc) | Global n ↦ λ h. absurd (cc) ] e
+lock_same (lock.Expr f x) (lock.Expr g y) e =
+    let r = expr_same f.base g.base f.path g.path (effect_code x) (effect_code y) e in
+    let same : f ≡ g = (λ i. record { base = r.0 i; path = r.1 i }) in
+    ap₂ (λ (h : Expr) (z : Effect). lock.Expr h z) same (effect_same x y r.2)
+
+pub lock_total : IsTotalOrder lock_cmp
+lock_total = on_total lock_code nat_list_cmp_total
+
+-- locks that the order does not tell apart are the same
+pub lock_exact : (a b : Lock) → lock_cmp a b ≡ Equal → a ≡ b
+lock_exact a b e = lock_same a b (slice_cmp-IsAntisymmetric nat_cmp-IsAntisymmetric _ _ e)
+
+-- what is in the list with the new lock was there or is the new one
+pub placed_ones : (ms : List Lock) (n k : Lock) → IsOne (placed ms n) k → IsOne ms k ⊎ (n ≡ k)
+placed_ones [] n k o = elim o [ inl e ↦ inr e | inr e ↦ absurd e ]
+placed_ones (m ∷ ms) n k o =
+    elim (lock_cmp m n) as (λ r. IsOne (placed_by r m ms n (placed ms n)) k → IsOne (m ∷ ms) k ⊎ (n ≡ k)) [
+      | Less ↦ λ h. elim h [ inl e ↦ inl (inl e) | inr p ↦ elim (placed_ones ms n k p) [ inl q ↦ inl (inr q) | inr q ↦ inr q ] ]
+      | Equal ↦ λ h. inl h
+      | Greater ↦ λ h. elim h [ inl e ↦ inr e | inr p ↦ inl p ]
+    ] o
+
+pub placed_from : (ms : List Lock) (n k : Lock) → IsOne ms k ⊎ (n ≡ k) → IsOne (placed ms n) k
+placed_from [] n k o = elim o [ inl e ↦ absurd e | inr e ↦ inl e ]
+placed_from (m ∷ ms) n k o =
+    elim (lock_cmp m n) as (λ r. lock_cmp m n ≡ r → IsOne (m ∷ ms) k ⊎ (n ≡ k) → IsOne (placed_by r m ms n (placed ms n)) k) [
+      | Less ↦ λ is h. elim h [
+        | inl p ↦ elim p [ inl e ↦ inl e | inr q ↦ inr (placed_from ms n k (inl q)) ]
+        | inr e ↦ inr (placed_from ms n k (inr e))
+      ]
+      | Equal ↦ λ is h. elim h [ inl p ↦ p | inr e ↦ inl (lock_exact m n is ∙ e) ]
+      | Greater ↦ λ is h. elim h [ inl p ↦ inr p | inr e ↦ inl e ]
+    ] refl o
+
+pub placed_in_order : (ms : List Lock) (n : Lock) → AreInOrder ms → AreInOrder (placed ms n)
+placed_in_order [] n all = ((λ b o. absurd o), tt)
+placed_in_order (m ∷ ms) n all =
+    elim (lock_cmp m n) as (λ r. lock_cmp m n ≡ r → AreInOrder (placed_by r m ms n (placed ms n))) [
+      | Less ↦ λ is. ((λ b o. elim (placed_ones ms n b o) [ inl p ↦ all.0 b p | inr e ↦ subst (λ (x : Lock). lock_cmp m x ≡ Less) e is ]), placed_in_order ms n all.1)
+      | Equal ↦ λ is. all
+      | Greater ↦ λ is.
+          let below : lock_cmp n m ≡ Less = lock_total.antisymm n m ∙ ap ordering_reverse is in
+          ((λ b o. elim o [ inl e ↦ subst (λ (x : Lock). lock_cmp n x ≡ Less) e below | inr p ↦ lock_total.trans n m b below (all.0 b p) ]), all)
+    ] refl

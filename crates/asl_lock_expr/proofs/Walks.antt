@@ -1,0 +1,169 @@
+-- Laws of paths: of the cells to which they lead, and of the classes of these.
+use Rattle.std.proofs.Common.{◌≡◌, ◌≢◌, ℕ, ◌+◌, ◌⊎◌, ◌||◌, ◌++◌, Bool, true, false, cond, List, [], ◌∷◌, Option, Some, None, refl, ap, ap₂, sym, ◌∙◌, subst, inl, inr}
+use Rattle.std.specs.Prelude.{option_and_then, nat_lt}
+use Rattle.std.proofs.lemmas.Bool.Decides.{eqb_tells}
+use Rattle.asl_code.specs.declared.value.Value.{Value}
+use Rattle.asl_code.specs.declared.value.Value.TheVariants.{Int, Null, Addr}
+use Rattle.asl_code.specs.declared.value.Cell.{Cell}
+use Rattle.asl_code.specs.declared.value.Effect.{Effect}
+use Rattle.asl_code.specs.declared.lock.Base.TheVariants.{Reg}
+use Rattle.asl_code.specs.declared.path.Op.{Op}
+use Rattle.asl_code.specs.declared.path.Op.TheVariants.{Deref, Off}
+use Rattle.asl_points_to.specs.Classes.{Classed, inside}
+use Rattle.asl_lock_expr.specs.Expression.{Seen, cell_of, pointed, moved, walked, path_cell}
+use Rattle.asl_lock_expr.specs.ClassOf.{step_class, path_class}
+use Rattle.asl_lock_expr.specs.Links.{IsOne, on, is_class, hits, begins_with_star, goes_through}
+use Rattle.asl_lock_expr.specs.Agrees.{PointsTo, HeapAgrees, IsWrite}
+use Rattle.asl_lock_expr.proofs.Paths.{no_cell_from_none}
+use Rattle.asl_lock_expr.proofs.Ones.{one_left, one_right}
+
+-- a path after a path
+pub path_append : (h : Seen) (p q : List Op) (start : Option Cell) → path_cell h (p ++ q) start ≡ path_cell h q (path_cell h p start)
+path_append h [] q start = refl
+path_append h (op ∷ p) q start = path_append h p q (option_and_then (walked h op) start)
+
+pub class_append : (c : Classed) (p q : List Op) (start : Option ℕ) → path_class c (p ++ q) start ≡ path_class c q (path_class c p start)
+class_append c [] q start = refl
+class_append c (op ∷ p) q start = class_append c p q (option_and_then (step_class c op) start)
+
+-- the first operation of a path that leads to a cell
+pub first_step : (h : Seen) (op : Op) (ops : List Op) (cell end : Cell) → path_cell h (op ∷ ops) (Some cell) ≡ Some end →
+    (next : Cell) × (walked h op cell ≡ Some next) × (path_cell h ops (Some next) ≡ Some end)
+first_step h op ops cell end e =
+    elim (walked h op cell) as (λ o. walked h op cell ≡ o → path_cell h ops o ≡ Some end → (next : Cell) × (walked h op cell ≡ Some next) × (path_cell h ops (Some next) ≡ Some end)) [
+      | None ↦ λ is f. let n = no_cell_from_none h ops in cc
+      | Some next ↦ λ is f. (next, is, f)
+    ] refl e
+
+-- a path from no cell leads to none
+pub start_there : (h : Seen) (ops : List Op) (start : Option Cell) (end : Cell) → path_cell h ops start ≡ Some end → (cell : Cell) × (start ≡ Some cell)
+start_there h ops None end e = let n = no_cell_from_none h ops in cc
+start_there h ops (Some cell) end e = (cell, refl)
+
+pub moved_stays : (h : Seen) (places : ℕ) (cell next : Cell) → moved h places cell ≡ Some next → next.object ≡ cell.object
+moved_stays h places cell next e =
+    elim (h.size cell.object) as (λ o. option_and_then (λ size. cond (nat_lt (cell.offset + places) size) (Some (cell_of cell.object (cell.offset + places))) None) o ≡ Some next → next.object ≡ cell.object) [
+      | None ↦ λ f. cc
+      | Some size ↦ λ f. elim (nat_lt (cell.offset + places) size) as (λ b. cond b (Some (cell_of cell.object (cell.offset + places))) None ≡ Some next → next.object ≡ cell.object) [
+        | true ↦ λ g. let is : cell_of cell.object (cell.offset + places) ≡ next = cc in ap (λ (k : Cell). k.object) (sym is)
+        | false ↦ λ g. cc
+      ] f
+    ] e
+
+-- two cells are the same or not
+pub tell_cells : (a b : Cell) → (a ≡ b) ⊎ (a ≢ b)
+tell_cells a b =
+    elim (eqb_tells a.object b.object) [
+      | inl o ↦ elim (eqb_tells a.offset b.offset) [
+        | inl i ↦ inl (ap₂ (λ x y. cell_of x y) o.1 i.1)
+        | inr i ↦ inr (λ e. i.1 (ap (λ (k : Cell). k.offset) e))
+      ]
+      | inr o ↦ inr (λ e. o.1 (ap (λ (k : Cell). k.object) e))
+    ]
+
+-- where a value points
+pub value_class : (classes : ℕ → Option ℕ) (class : Option ℕ) (v : Value) (next : Cell) → PointsTo classes class v → pointed v ≡ Some next →
+    (y : ℕ) × (class ≡ Some y) × (classes next.object ≡ Some y)
+value_class classes class (Int n) next p e = cc
+value_class classes class Null next p e = cc
+value_class classes class (Addr object offset) next p e =
+    let is : cell_of object offset ≡ next = cc in
+    (p.0, p.1, ap (λ (k : Cell). classes k.object) (sym is) ∙ p.2)
+
+-- the value of a cell that a `*` reads
+pub star_reads : (h : Seen) (cell next : Cell) → walked h Deref cell ≡ Some next → (v : Value) × (h.cell cell ≡ Some v) × (pointed v ≡ Some next)
+star_reads h cell next e =
+    elim (h.cell cell) as (λ o. h.cell cell ≡ o → option_and_then pointed o ≡ Some next → (v : Value) × (h.cell cell ≡ Some v) × (pointed v ≡ Some next)) [
+      | None ↦ λ is f. cc
+      | Some v ↦ λ is f. (v, is, f)
+    ] refl e
+
+-- one operation leads to a cell of the class that it gives
+pub class_walk : (c : Classed) (classes : ℕ → Option ℕ) (h : Seen) → HeapAgrees c classes h → (op : Op) (cell next : Cell) (x : ℕ) →
+    classes cell.object ≡ Some x → walked h op cell ≡ Some next → (y : ℕ) × (step_class c op x ≡ Some y) × (classes next.object ≡ Some y)
+class_walk c classes h agrees Deref cell next x at e =
+    let r = star_reads h cell next e in
+    value_class classes (inside c x) r.0 next (agrees cell r.0 x r.1 at) r.2
+class_walk c classes h agrees (Off places) cell next x at e = (x, refl, ap classes (moved_stays h places cell next e) ∙ at)
+
+-- the cell to which a path leads is of the class of the path
+pub class_along : (c : Classed) (classes : ℕ → Option ℕ) (h : Seen) → HeapAgrees c classes h → (ops : List Op) (cell end : Cell) (x : ℕ) →
+    classes cell.object ≡ Some x → path_cell h ops (Some cell) ≡ Some end → (y : ℕ) × (path_class c ops (Some x) ≡ Some y) × (classes end.object ≡ Some y)
+class_along c classes h agrees [] cell end x at e =
+    let is : cell ≡ end = cc in
+    (x, refl, ap (λ (k : Cell). classes k.object) (sym is) ∙ at)
+class_along c classes h agrees (op ∷ ops) cell end x at e =
+    let s = first_step h op ops cell end e in
+    let w = class_walk c classes h agrees op cell s.0 x at s.1 in
+    let r = class_along c classes h agrees ops s.0 end w.0 w.2 s.2 in
+    (r.0, ap (path_class c ops) w.1 ∙ r.1, r.2)
+
+pub moved_same : (h new : Seen) → ((n : ℕ) → new.size n ≡ h.size n) → (places : ℕ) (cell : Cell) → moved new places cell ≡ moved h places cell
+moved_same h new same places cell =
+    ap (λ o. option_and_then (λ size. cond (nat_lt (cell.offset + places) size) (Some (cell_of cell.object (cell.offset + places))) None) o) (same cell.object)
+
+pub walked_same : (h new : Seen) (c0 : Cell) (v : Value) → IsWrite h new c0 v → (cell : Cell) → cell ≢ c0 → walked new Deref cell ≡ walked h Deref cell
+walked_same h new c0 v w cell other = ap (λ o. option_and_then pointed o) (w.others cell other)
+
+-- a path in the new heap either meets no changed cell and leads where it led, or goes on from the stored value by
+-- a path that the store's line of links offers, in the old heap
+abbrev pub StaysOrHits : Classed → Option ℕ → ℕ → Effect → Option ℕ → List Op → Seen → Cell → Value → Cell → Cell → Type 0
+StaysOrHits c hit b effect class ops h c0 v cell end =
+    ((path_cell h ops (Some cell) ≡ Some end) × (begins_with_star ops ≡ true → cell ≢ c0))
+    ⊎ ((r : List Op) × IsOne (hits c hit b effect class ops) (on (Reg b) r effect) × (path_cell h r (pointed v) ≡ Some end))
+
+same_class : (x : ℕ) → is_class (Some x) (Some x) ≡ true
+same_class x = elim (eqb_tells x x) [ inl y ↦ y.0 | inr n ↦ absurd (n.1 refl) ]
+
+pub last_hit : (c : Classed) (classes : ℕ → Option ℕ) (h new : Seen) (c0 : Cell) (v : Value) → IsWrite h new c0 v → HeapAgrees c classes new →
+    (b hit : ℕ) (effect : Effect) → classes c0.object ≡ Some hit → (ops : List Op) (cell end : Cell) (x : ℕ) →
+    classes cell.object ≡ Some x → path_cell new ops (Some cell) ≡ Some end → StaysOrHits c (Some hit) b effect (Some x) ops h c0 v cell end
+last_hit c classes h new c0 v w agrees b hit effect of [] cell end x at e = inl (e, λ f. cc)
+last_hit c classes h new c0 v w agrees b hit effect of (Off places ∷ ops) cell end x at e =
+    let s = first_step new (Off places) ops cell end e in
+    let k = class_walk c classes new agrees (Off places) cell s.0 x at s.1 in
+    elim (last_hit c classes h new c0 v w agrees b hit effect of ops s.0 end x (ap classes (moved_stays new places cell s.0 s.1) ∙ at) s.2) [
+      | inl p ↦ inl (ap (path_cell h ops) (sym (moved_same h new w.sizes places cell) ∙ s.1) ∙ p.0, λ f. cc)
+      | inr q ↦ inr q
+    ]
+last_hit c classes h new c0 v w agrees b hit effect of (Deref ∷ ops) cell end x at e =
+    let s = first_step new Deref ops cell end e in
+    let k = class_walk c classes new agrees Deref cell s.0 x at s.1 in
+    let later : (r : List Op) → IsOne (hits c (Some hit) b effect (Some k.0) ops) (on (Reg b) r effect) → IsOne (hits c (Some hit) b effect (Some x) (Deref ∷ ops)) (on (Reg b) r effect) =
+    λ r o. one_right _ _ _ (subst (λ class. IsOne (hits c (Some hit) b effect class ops) (on (Reg b) r effect)) (sym k.1) o) in
+    elim (last_hit c classes h new c0 v w agrees b hit effect of ops s.0 end k.0 k.2 s.2) [
+      | inl p ↦ elim (tell_cells cell c0) [
+        | inl is ↦
+            let same : x ≡ hit = (let u : Some x ≡ Some hit = sym at ∙ ap (λ (k : Cell). classes k.object) is ∙ of in cc) in
+            let reads : pointed v ≡ Some s.0 = sym (ap (λ o. option_and_then pointed o) (ap new.cell is ∙ w.there)) ∙ s.1 in
+            let yes : is_class (Some x) (Some hit) ≡ true = ap (λ y. is_class (Some x) (Some y)) (sym same) ∙ same_class x in
+            inr (
+              ops,
+              one_left _ _ _ (subst (λ (t : Bool). IsOne (cond t (on (Reg b) ops effect ∷ []) []) (on (Reg b) ops effect)) (sym yes) (inl refl)),
+              ap (path_cell h ops) reads ∙ p.0,
+            )
+        | inr other ↦ inl (ap (path_cell h ops) (sym (walked_same h new c0 v w cell other) ∙ s.1) ∙ p.0, λ f. other)
+      ]
+      | inr q ↦ inr (q.0, later q.0 q.1, q.2)
+    ]
+
+neither : (a b : Bool) → (a || b) ≡ false → (a ≡ false) × (b ≡ false)
+neither true b e = cc
+neither false b e = (refl, e)
+
+-- a path that goes through no class to which is stored leads where it led
+pub not_through : (c : Classed) (classes : ℕ → Option ℕ) (h new : Seen) (c0 : Cell) (v : Value) → IsWrite h new c0 v → HeapAgrees c classes new →
+    (stores : ℕ → Bool) (hit : ℕ) → classes c0.object ≡ Some hit → stores hit ≡ true → (ops : List Op) (cell end : Cell) (x : ℕ) →
+    classes cell.object ≡ Some x → path_cell new ops (Some cell) ≡ Some end → goes_through c stores (Some x) ops ≡ false → path_cell h ops (Some cell) ≡ Some end
+not_through c classes h new c0 v w agrees stores hit of writes [] cell end x at e g = e
+not_through c classes h new c0 v w agrees stores hit of writes (Off places ∷ ops) cell end x at e g =
+    let s = first_step new (Off places) ops cell end e in
+    ap (path_cell h ops) (sym (moved_same h new w.sizes places cell) ∙ s.1)
+    ∙ not_through c classes h new c0 v w agrees stores hit of writes ops s.0 end x (ap classes (moved_stays new places cell s.0 s.1) ∙ at) s.2 g
+not_through c classes h new c0 v w agrees stores hit of writes (Deref ∷ ops) cell end x at e g =
+    let s = first_step new Deref ops cell end e in
+    let k = class_walk c classes new agrees Deref cell s.0 x at s.1 in
+    let both = neither (stores x) (goes_through c stores (inside c x) ops) g in
+    let other : cell ≢ c0 = λ is. (let u : Some x ≡ Some hit = sym at ∙ ap (λ (k : Cell). classes k.object) is ∙ of in let same : x ≡ hit = cc in let b = ap stores same in let n = both.0 in cc) in
+    ap (path_cell h ops) (sym (walked_same h new c0 v w cell other) ∙ s.1)
+    ∙ not_through c classes h new c0 v w agrees stores hit of writes ops s.0 end k.0 k.2 s.2 (ap (λ class. goes_through c stores class ops) (sym k.1) ∙ both.1)

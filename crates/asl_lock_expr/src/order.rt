@@ -1,0 +1,45 @@
+//! The order of locks, and lists in that order.
+ghost use Rattle.std.specs.Prelude.{◌≡◌, ◌≤◌, ◌↔◌, ◌⊎◌, OnOk, OnErr, IfNone, IfSome, length, insert};
+ghost use Rattle.asl_lock_expr.specs.Links.{IsOne};
+ghost use Rattle.asl_lock_expr.specs.Order.{lock_cmp, AreInOrder};
+ghost use Rattle.asl_lock_expr.specs.Placing.{placed};
+
+use asl_code::Lock;
+use std::alloc::AllocError;
+use std::cmp::Ordering;
+
+/// Puts the lock at its place in a list in order, unless it is there (`docs/ANALYSIS.md`, "The order of locks").
+pub fn add_in_order(locks: &mut Vec<Lock>, new: Lock) -> Result<(), AllocError>
+    requires { AreInOrder locks.old.items }
+    ensures order { AreInOrder locks.new.items }
+    ensures locks { OnOk result ((n : _) → IsOne locks.new.items n ↔ (IsOne locks.old.items n ⊎ (new ≡ n))) }
+    ensures err { OnErr result (locks.new.items ≡ locks.old.items) }
+{
+    if let Some(place) = place(locks, &new) {
+        locks.insert(place, new)?;
+    }
+    Ok(())
+}
+
+/// Where the lock goes, unless it is there.
+fn place(locks: &[Lock], new: &Lock) -> Option<usize>
+    ensures bound { IfSome result (λ i. i ≤ length locks.now) }
+    ensures place { IfSome result (λ i. placed locks.now new.now ≡ insert locks.now i new.now) }
+    ensures there { IfNone result (placed locks.now new.now ≡ locks.now) }
+{
+    for (i, other) in locks.iter().enumerate() {
+        match compare(other, new) {
+            Ordering::Less => {}
+            Ordering::Equal => return None,
+            Ordering::Greater => return Some(i),
+        }
+    }
+    Some(locks.len())
+}
+
+/// Which lock comes first.
+fn compare(a: &Lock, b: &Lock) -> Ordering
+    ensures { result ≡ lock_cmp a.now b.now }
+{
+    a.cmp(b)
+}

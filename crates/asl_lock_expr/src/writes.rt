@@ -1,0 +1,31 @@
+//! The classes that each function may store to.
+ghost use Rattle.std.specs.Prelude.{◌≡◌};
+ghost use Rattle.asl_lock_expr.specs.Stores.{stores};
+
+use std::marker::Model;
+
+/// The classes that each function may store to, itself or by its calls (`docs/ANALYSIS.md`, "Written classes").
+#[derive(Drop)]
+pub struct Writes {
+    functions: Vec<Vec<u16>>,
+}
+
+impl Model for Writes {
+    ghost use Rattle.std.specs.Prelude.{List, ℕ, map};
+
+    ghost Value = { List (List ℕ) };
+
+    ghost view = { λ w. map (λ f. f.items) w.functions.items };
+}
+
+impl Writes {
+    /// Whether the function may store to the class.
+    pub fn has(&self, function: u16, class: u16) -> bool
+        ensures { result ≡ stores self.now function class }
+    {
+        match self.functions.get(usize::from(function)) {
+            Some(classes) => classes.contains(&class),
+            None => false,
+        }
+    }
+}
