@@ -1,2 +1,3 @@
-pub mod Runs
 pub mod Recordings
+pub mod Replays
+pub mod Runs

@@ -1,12 +1,14 @@
 -- What a replay has followed so far, and where it stops.
-use Rattle.std.proofs.Common.{◌≡◌, ◌≢◌, ℕ, ◌+◌, ◌<◌, ◌≤◌, List, [], ◌∷◌, ◌++◌, length, take, drop, get_or, slice_get, Option, Some, None, refl, ap, sym, subst, ◌∙◌, arith, length-append}
+use Rattle.std.proofs.Common.{◌≡◌, ◌≢◌, ℕ, suc, ◌+◌, ◌<◌, ◌≤◌, List, [], ◌∷◌, ◌++◌, length, take, drop, get_or, slice_get, Result, Ok, Err, refl, ap, sym, subst, ◌∙◌, arith}
+use Rattle.std.specs.Prelude.{IfErr}
+use Rattle.std.proofs.Math.Seq.{drop-cons}
 use Rattle.std.proofs.lemmas.List.{take_more, take_all, take-append-drop}
-use Rattle.std.proofs.lemmas.Option.{slice_get_read}
+use Rattle.std.proofs.lemmas.Option.{slice_get-get_or, slice_get_within, get_or_from_slice_get}
 use Rattle.asl_code.specs.declared.image.Image.{Image}
 use Rattle.asl_machine.specs.declared.reply.Reply.{Reply}
 use Rattle.asl_machine.specs.State.{State}
 use Rattle.asl_machine.specs.View.{Configuration}
-use Rattle.asl_machine.specs.Run.{state_after, replies_of}
+use Rattle.asl_machine.specs.Run.{state_after}
 use Rattle.asl_machine.specs.Twin.{step_of}
 use Rattle.asl_machine.proofs.Reached.{step_count}
 use Rattle.asl_journal.specs.declared.event.Event.{Event}
@@ -14,7 +16,7 @@ use Rattle.asl_journal.specs.declared.fault.JournalFault.{JournalFault}
 use Rattle.asl_journal.specs.declared.fault.JournalFault.TheVariants as faults
 use Rattle.asl_journal.specs.Journal.{GoesBy, schedule_of}
 use Rattle.asl_journal.specs.Replay.{DiffersAt, IsFollowFault}
-use Rattle.asl_journal.proofs.Runs.{state_snoc, goes_snoc, goes_front, goes_back, goes_head}
+use Rattle.asl_journal.proofs.Runs.{state_snoc, goes_snoc, goes_back, goes_head}
 
 -- the machine has made the steps of the first events, so many, and each replied as it says
 pub record HasFollowed (from now : Configuration) (events : List Event) (index : ℕ) : Type 0 where
@@ -26,11 +28,12 @@ pub record HasFollowed (from now : Configuration) (events : List Event) (index :
 pub none_followed : (from : Configuration) (events : List Event) → HasFollowed from from events 0
 none_followed from events = record { image = refl; state = refl; goes = refl; count = refl }
 
-pub one_followed : (from now new : Configuration) (events : List Event) (index : ℕ) (event : Event) (reply : Reply) → index < length events → event ≡ get_or events index event
-    → HasFollowed from now events index → new.image ≡ now.image → reply ≡ (step_of now.image now.state event.thread).reply → new.state ≡ (step_of now.image now.state event.thread).state → reply ≡ event.reply
+pub one_followed : (from now new : Configuration) (events : List Event) (index : ℕ) (d : Event) (reply : Reply) → index < length events → HasFollowed from now events index
+    → new.image ≡ now.image → reply ≡ (step_of now.image now.state (get_or events index d).thread).reply → new.state ≡ (step_of now.image now.state (get_or events index d).thread).state → reply ≡ (get_or events index d).reply
     → HasFollowed from new events (index + 1)
-one_followed from now new events index event reply lt at h image said state same =
-    let more : take (index + 1) events ≡ take index events ++ event ∷ [] = take_more events index event lt ∙ ap (λ (e : Event). take index events ++ e ∷ []) (sym at) in
+one_followed from now new events index d reply lt h image said state same =
+    let event : Event = get_or events index d in
+    let more : take (index + 1) events ≡ take index events ++ event ∷ [] = take_more events index d lt in
     let here : step_of now.image now.state event.thread ≡ step_of from.image (state_after from.image from.state (schedule_of (take index events))) event.thread =
     ap (λ (i : Image). step_of i now.state event.thread) h.image ∙ ap (λ (s : State). step_of from.image s event.thread) h.state in
     record {
@@ -40,22 +43,54 @@ one_followed from now new events index event reply lt at h image said state same
       count = ap (λ (s : State). length s.threads) state ∙ step_count now.image now.state event.thread ∙ h.count;
     }
 
+-- a machine is its program in its state
+pub is_at : (machine : Configuration) (image : Image) (s : State) → machine.image ≡ image → machine.state ≡ s → machine ≡ record { image = image; state = s }
+is_at machine image s p q = rw (← p, ← q) refl
+
 pub all_followed : (from now : Configuration) (events : List Event) (index : ℕ) → length events ≤ index → HasFollowed from now events index
     → GoesBy from.image from.state events × (now ≡ record { image = from.image; state = state_after from.image from.state (schedule_of events) })
 all_followed from now events index le h =
     let all : take index events ≡ events = take_all index events le in
     let state : now.state ≡ state_after from.image from.state (schedule_of events) = h.state ∙ ap (λ (es : List Event). state_after from.image from.state (schedule_of es)) all in
-    let image = h.image in
-    (subst (GoesBy from.image from.state) all h.goes, cc)
+    (subst (GoesBy from.image from.state) all h.goes, is_at now from.image (state_after from.image from.state (schedule_of events)) h.image state)
 
-pub one_differs : (from now : Configuration) (events : List Event) (index : ℕ) (event : Event) (reply : Reply) → index < length events → event ≡ get_or events index event
-    → HasFollowed from now events index → reply ≡ (step_of now.image now.state event.thread).reply → reply ≢ event.reply → DiffersAt from.image from.state events index
-one_differs from now events index event reply lt at h said other =
+pub one_differs : (from now : Configuration) (events : List Event) (index : ℕ) (d : Event) (reply : Reply) → index < length events → HasFollowed from now events index
+    → reply ≡ (step_of now.image now.state (get_or events index d).thread).reply → reply ≢ (get_or events index d).reply → DiffersAt from.image from.state events index
+one_differs from now events index d reply lt h said other =
+    let event : Event = get_or events index d in
     let here : step_of now.image now.state event.thread ≡ step_of from.image (state_after from.image from.state (schedule_of (take index events))) event.thread =
     ap (λ (i : Image). step_of i now.state event.thread) h.image ∙ ap (λ (s : State). step_of from.image s event.thread) h.state in
     record {
       event = event;
-      at = slice_get_read events _ index event refl lt at;
+      at = slice_get-get_or events index d lt;
       before = h.goes;
       differs = λ e. other (said ∙ ap (λ r. r.reply) here ∙ sym e);
     }
+
+-- events of a run differ from it nowhere
+pub no_difference : (image : Image) (s : State) (events : List Event) (index : ℕ) → GoesBy image s events → DiffersAt image s events index → ⊥
+no_difference image s events index goes d =
+    let split : events ≡ take index events ++ drop index events = sym (take-append-drop index events) in
+    let rest : GoesBy image (state_after image s (schedule_of (take index events))) (drop index events) = goes_back image s (take index events) (drop index events) (subst (GoesBy image s) split goes) in
+    let lt = slice_get_within events index d.event d.at in
+    let front : drop index events ≡ d.event ∷ drop (suc index) events = drop-cons events index d.event lt ∙ ap (λ (e : Event). e ∷ drop (suc index) events) (get_or_from_slice_get events index d.event d.event d.at) in
+    d.differs (goes_head image (state_after image s (schedule_of (take index events))) d.event (drop (suc index) events) (subst (GoesBy image (state_after image s (schedule_of (take index events)))) front rest))
+
+-- what stops a replay of a run is want of memory
+pub only_memory : {T : Type 0} (image : Image) (s : State) (events : List Event) (r : Result T JournalFault) → GoesBy image s events → IfErr r (IsFollowFault image s events) → IfErr r (λ fault. fault ≡ faults.OutOfMemory)
+only_memory image s events (Ok t) goes is = tt
+only_memory image s events (Err faults.JournalFull) goes is = absurd is
+only_memory image s events (Err faults.BadCount) goes is = absurd is
+only_memory image s events (Err faults.BadThread) goes is = absurd is
+only_memory image s events (Err (faults.Differs index)) goes is = absurd (no_difference image s events index goes is)
+only_memory image s events (Err faults.Magic) goes is = absurd is
+only_memory image s events (Err faults.Version) goes is = absurd is
+only_memory image s events (Err (faults.Truncated at)) goes is = absurd is
+only_memory image s events (Err (faults.BadField at)) goes is = absurd is
+only_memory image s events (Err (faults.Trailing at)) goes is = absurd is
+only_memory image s events (Err faults.OutOfMemory) goes is = refl
+
+-- the same, where the machine is said to be at this state of this program
+pub only_memory_at : {T : Type 0} (machine : Configuration) (events : List Event) (image : Image) (s : State) (others : List Event) (r : Result T JournalFault) → machine.image ≡ image → machine.state ≡ s → events ≡ others
+    → GoesBy image s others → IfErr r (IsFollowFault machine.image machine.state events) → IfErr r (λ fault. fault ≡ faults.OutOfMemory)
+only_memory_at machine events image s others r p q e goes is = only_memory machine.image machine.state events r (rw (p, q, e) goes) is

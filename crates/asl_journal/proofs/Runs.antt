@@ -5,18 +5,9 @@ use Rattle.asl_machine.specs.declared.reply.Reply.{Reply}
 use Rattle.asl_machine.specs.State.{State}
 use Rattle.asl_machine.specs.Run.{start_of, replies_of, state_after}
 use Rattle.asl_machine.specs.Twin.{step_of}
+use Rattle.asl_machine.proofs.Runs.{state_after-append}
 use Rattle.asl_journal.specs.declared.event.Event.{Event}
 use Rattle.asl_journal.specs.Journal.{schedule_of, replies_in, GoesBy, state_at}
-
--- the state after a schedule in two parts
-pub state_append : (image : Image) (s : State) (ts us : List ℕ) → state_after image s (ts ++ us) ≡ state_after image (state_after image s ts) us
-state_append image s [] us = refl
-state_append image s (t ∷ ts) us = state_append image (step_of image s t).state ts us
-
--- the replies of a schedule in two parts
-pub replies_append : (image : Image) (s : State) (ts us : List ℕ) → replies_of image s (ts ++ us) ≡ replies_of image s ts ++ replies_of image (state_after image s ts) us
-replies_append image s [] us = refl
-replies_append image s (t ∷ ts) us = ap (λ (rs : List Reply). (step_of image s t).reply ∷ rs) (replies_append image (step_of image s t).state ts us)
 
 pub schedule_append : (es fs : List Event) → schedule_of (es ++ fs) ≡ schedule_of es ++ schedule_of fs
 schedule_append [] fs = refl
@@ -24,13 +15,13 @@ schedule_append (e ∷ es) fs = ap (λ (ts : List ℕ). e.thread ∷ ts) (schedu
 
 -- the state after events in two parts
 pub state_events : (image : Image) (s : State) (es fs : List Event) → state_after image s (schedule_of (es ++ fs)) ≡ state_after image (state_after image s (schedule_of es)) (schedule_of fs)
-state_events image s es fs = ap (state_after image s) (schedule_append es fs) ∙ state_append image s (schedule_of es) (schedule_of fs)
+state_events image s es fs = ap (state_after image s) (schedule_append es fs) ∙ state_after-append image s (schedule_of es) (schedule_of fs)
 
 -- the first event goes by its step, and the others by the run behind it
-goes_head : (image : Image) (s : State) (e : Event) (es : List Event) → GoesBy image s (e ∷ es) → e.reply ≡ (step_of image s e.thread).reply
+pub goes_head : (image : Image) (s : State) (e : Event) (es : List Event) → GoesBy image s (e ∷ es) → e.reply ≡ (step_of image s e.thread).reply
 goes_head image s e es h = cc
 
-goes_tail : (image : Image) (s : State) (e : Event) (es : List Event) → GoesBy image s (e ∷ es) → GoesBy image (step_of image s e.thread).state es
+pub goes_tail : (image : Image) (s : State) (e : Event) (es : List Event) → GoesBy image s (e ∷ es) → GoesBy image (step_of image s e.thread).state es
 goes_tail image s e es h = cc
 
 pub goes_cons : (image : Image) (s : State) (e : Event) (es : List Event) → e.reply ≡ (step_of image s e.thread).reply → GoesBy image (step_of image s e.thread).state es → GoesBy image s (e ∷ es)

@@ -1,3 +1,4 @@
 pub mod Fault
 pub mod Journal
 pub mod Recorded
+pub mod Replay

@@ -6,8 +6,10 @@ mod fault;
 mod journal;
 mod journaled;
 mod limits;
+mod replaying;
 
 pub use event::{Event, Receipt};
 pub use fault::JournalFault;
 pub use journal::Journal;
 pub use journaled::Journaled;
+pub use replaying::{follow, replay};

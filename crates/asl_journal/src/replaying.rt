@@ -1,5 +1,5 @@
 //! Replay: the steps of a journal, made again.
-ghost use Rattle.std.specs.Prelude.{◌≡◌, ◌≤◌, length, IfOk, IfErr, OnOk};
+ghost use Rattle.std.specs.Prelude.{◌≡◌, ◌≢◌, ◌≤◌, length, IfOk, IfErr, MatchBool, OnOk};
 ghost use Rattle.asl_machine.specs.Run.{state_after};
 ghost use Rattle.asl_journal.specs.Journal.{AreThere, GoesBy, IsJournal, most_events, schedule_of, state_at};
 ghost use Rattle.asl_journal.specs.Replay.{IsFollowFault, IsReplayFault};
@@ -8,7 +8,7 @@ use crate::event::Event;
 use crate::fault::JournalFault;
 use crate::journal::Journal;
 use asl_code::Program;
-use asl_machine::Machine;
+use asl_machine::{Machine, Reply};
 use std::alloc::Global;
 
 /// The machine to which the journal leads, if it is one of this program; else the first event to which the program's
@@ -60,7 +60,7 @@ fn run_on<'p>(
     mut machine: Machine<'p>,
     events: &[Event],
 ) -> Result<Machine<'p>, JournalFault>
-    requires there { AreThere (length machine.entry.state.threads) events.now }
+    requires there { AreThere (length machine.state.threads) events.now }
     requires short { length events.now ≤ most_events }
     ensures goes { OnOk result (GoesBy machine.entry.image machine.entry.state events.now) }
     ensures machine { IfOk result (λ behind. behind ≡ record {
@@ -71,9 +71,16 @@ fn run_on<'p>(
 {
     for (index, event) in events.iter().enumerate() {
         let reply = machine.step(alloc, u32::from(event.thread))?;
-        if reply != event.reply {
+        if !are_same(reply, event.reply) {
             return Err(JournalFault::Differs(index as u32));
         }
     }
     Ok(machine)
+}
+
+/// Whether the replies are the same.
+fn are_same(reply: Reply, other: Reply) -> bool
+    ensures { MatchBool result (reply ≡ other) (reply ≢ other) }
+{
+    reply == other
 }
