@@ -1,5 +1,5 @@
 -- What has been emitted for all functions is the lowering of the program.
-use Rattle.std.proofs.Common.{◌≡◌, ℕ, suc, ◌≤◌, None, codes, List, [], ◌∷◌, ◌++◌, length, sym, ap, ◌∙◌, subst, sum_by}
+use Rattle.std.proofs.Common.{◌≡◌, ℕ, suc, ◌≤◌, None, codes, List, [], ◌∷◌, ◌++◌, length, sym, ap, ◌∙◌, subst}
 use Rattle.std.specs.List.{All}
 use Rattle.std.proofs.Math.Logic.{∥∥₁_map}
 use Rattle.std.proofs.lemmas.List.Elements.{All-nil, All-cons}
@@ -19,7 +19,6 @@ use Rattle.asl_lower.specs.OutputView.{Adds, place_of}
 use Rattle.asl_lower.specs.Refused.{first_crowded}
 use Rattle.asl_lower.specs.Kept.{IsKept, lowered_of}
 use Rattle.asl_lower.proofs.Laid.{lowering_of_is_lowering}
-use Rattle.asl_lower.proofs.Holds.{lowering_parted}
 use Rattle.asl_lower.proofs.Emits.{place_same}
 use Rattle.asl_lower.proofs.Listed.{none_crowded}
 
@@ -68,10 +67,3 @@ emitted_kept is l e parsed few size inside =
       size = size;
       inside = inside;
     }
-
--- what the search for accesses of bare functions needs
-pub emitted_parted : (is : List Item) (l : Lowered) → l ≡ lowering_of is → sum_by (λ (f : entry.Function). f.len) l.functions ≡ length l.code
-emitted_parted is l e = (lowering_parted is l (emitted_lowering is l e)).total
-
-pub emitted_functions : (is : List Item) (l : Lowered) → l ≡ lowering_of is → length l.functions ≡ length (functions_of is)
-emitted_functions is l e = (emitted_lowering is l e).functions

@@ -27,3 +27,7 @@ lowering_layout is l parsed h =
 
 pub kept_layout : (l : Lowered) → IsKept l → HasLayout l
 kept_layout l k = ∥∥₁_elim k.program (HasLayout-prop l) (λ p. lowering_layout p.0 l p.1 p.2)
+
+-- also where the text that spells the program is not at hand
+pub emitted_layout : (is : List Item) (l : Lowered) → ∥ IsParsed is ∥₁ → IsLowering is l → HasLayout l
+emitted_layout is l parsed h = ∥∥₁_elim parsed (HasLayout-prop l) (λ p. lowering_layout is l p h)

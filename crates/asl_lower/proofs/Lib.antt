@@ -12,10 +12,8 @@ pub mod Slices
 pub mod Laid
 pub mod Emits
 pub mod Numbering
-pub mod Owned
 pub mod Marks
 pub mod Outside
-pub mod Lowest
 pub mod Listed
 pub mod Emitted
 pub mod Named
@@ -27,3 +25,6 @@ pub mod Sized
 pub mod Props
 pub mod Layouts
 pub mod Inside
+pub mod Reaching
+pub mod Lowest
+pub mod Told

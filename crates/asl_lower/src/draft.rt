@@ -27,6 +27,26 @@ pub struct Draft {
     pub out: Output,
 }
 
+impl Draft {
+    ghost use Rattle.std.specs.Prelude.{◌≡◌, ◌≤◌, length};
+    ghost use Rattle.asl_lower.specs.Region.{start_of};
+    ghost use Rattle.asl_lower.specs.Facts.{HasLayout};
+    ghost use Rattle.asl_lower.specs.Kept.{lowered_of};
+
+    /// The first pc of a function.
+    pub fn start(&self, number: usize) -> usize
+        requires layout { HasLayout (lowered_of self.now) }
+        requires there { number ≤ length self.now.functions.items }
+        ensures { result ≡ start_of self.now.functions.items number }
+    {
+        let mut start = 0;
+        for function in &self.functions[..number] {
+            start += function.len as usize;
+        }
+        start
+    }
+}
+
 /// How many globals a program has.
 fn count_globals(items: &[Item]) -> usize
     ensures { result ≡ length (globals_of (map item_of items.now)) }

@@ -1,7 +1,6 @@
 //! The code of a program: each statement by its template, functions one after the other.
 #![tactic(auto)]
 
-mod bare;
 mod draft;
 mod emit;
 mod fault;
@@ -12,6 +11,7 @@ mod lowering;
 mod names;
 mod output;
 mod program;
+mod reach;
 mod scope;
 mod section;
 mod size;
@@ -26,6 +26,7 @@ pub use laws::{
 };
 pub use lowering::Lowering;
 pub use program::lower;
+pub use reach::Marks;
 pub use section::Section;
 
 #[cfg(test)]

@@ -1,11 +1,16 @@
 //! What a program is lowered to.
 
-ghost use Rattle.std.specs.Prelude.{◌≡◌};
+ghost use Rattle.std.specs.Prelude.{◌≡◌, ℕ, ◌<◌, ◌↔◌, true, Some, length, slice_get};
+ghost use Rattle.std.specs.List.{Contains};
+ghost use Rattle.asl_code.specs.declared.instr.Instr.{Instr};
+ghost use Rattle.asl_lower.specs.Region.{start_of, owner_of, returned, InBody, IsInner, GoesOn};
+ghost use Rattle.asl_lower.specs.Reach.{successors};
 ghost use Rattle.asl_lower.specs.Kept.{IsKept, lowered_of};
 
 use crate::draft::Draft;
-use crate::output::Output;
+use crate::reach::{Marks, inner_functions};
 use crate::section::Section;
+use arrayvec::ArrayVec;
 use asl_code::{Function, Instr};
 use std::marker::Model;
 
@@ -13,12 +18,7 @@ use std::marker::Model;
 /// site as its class, an `acq` the number of its section as its list.
 #[derive(Drop)]
 pub struct Lowering {
-    globals: u16,
-    functions: Vec<Function>,
-    main: u16,
-    code: Vec<Instr>,
-    sites: u16,
-    sections: Vec<Section>,
+    draft: Draft,
 }
 
 impl Model for Lowering {
@@ -26,11 +26,11 @@ impl Model for Lowering {
 
     ghost Value = { Lowered };
 
-    ghost use Rattle.asl_lower.specs.Kept.{IsKept};
+    ghost use Rattle.asl_lower.specs.Kept.{IsKept, lowered_of};
 
-    ghost view = { λ l. record { globals = l.globals; functions = l.functions.items; main = l.main; code = l.code.items; sites = l.sites; sections = l.sections.items } };
+    ghost view = { λ l. lowered_of l.draft };
 
-    ghost invariant = { λ l. IsKept (record { globals = l.globals; functions = l.functions.items; main = l.main; code = l.code.items; sites = l.sites; sections = l.sections.items }) };
+    ghost invariant = { λ l. IsKept (lowered_of l.draft) };
 }
 
 impl Lowering {
@@ -39,25 +39,7 @@ impl Lowering {
         requires { IsKept (lowered_of draft) }
         ensures { result ≡ lowered_of draft }
     {
-        let Draft {
-            globals,
-            functions,
-            main,
-            out,
-        } = draft;
-        let Output {
-            code,
-            sites,
-            sections,
-        } = out;
-        Lowering {
-            globals,
-            functions,
-            main,
-            code,
-            sites,
-            sections,
-        }
+        Lowering { draft }
     }
 
     /// How many globals the program has.
@@ -65,7 +47,7 @@ impl Lowering {
         ensures globals { result ≡ self.now.globals }
         ensures kept { IsKept self.now }
     {
-        self.globals
+        self.draft.globals
     }
 
     /// The functions in the order of the text; their bodies lie one after the other in the code.
@@ -73,7 +55,7 @@ impl Lowering {
         ensures functions { result.now ≡ self.now.functions }
         ensures kept { IsKept self.now }
     {
-        self.functions.as_slice()
+        self.draft.functions.as_slice()
     }
 
     /// The number of the function `main`.
@@ -81,7 +63,7 @@ impl Lowering {
         ensures main { result ≡ self.now.main }
         ensures kept { IsKept self.now }
     {
-        self.main
+        self.draft.main
     }
 
     /// The instructions.
@@ -89,7 +71,7 @@ impl Lowering {
         ensures code { result.now ≡ self.now.code }
         ensures kept { IsKept self.now }
     {
-        self.code.as_slice()
+        self.draft.out.code.as_slice()
     }
 
     /// How many `new` there are.
@@ -97,7 +79,7 @@ impl Lowering {
         ensures sites { result ≡ self.now.sites }
         ensures kept { IsKept self.now }
     {
-        self.sites
+        self.draft.out.sites
     }
 
     /// The sections in the order of their `acq`.
@@ -105,6 +87,79 @@ impl Lowering {
         ensures sections { result.now ≡ self.now.sections }
         ensures kept { IsKept self.now }
     {
-        self.sections.as_slice()
+        self.draft.out.sections.as_slice()
     }
+
+    /// The first pc of a function.
+    pub fn start(&self, function: u16) -> u16
+        requires { function < length self.now.functions }
+        ensures { result ≡ start_of self.now.functions function }
+    {
+        self.draft.start(usize::from(function)) as u16
+    }
+
+    /// The function in whose body a pc is.
+    pub fn owner(&self, pc: u16) -> u16
+        requires { pc < length self.now.code }
+        ensures owner { result ≡ owner_of self.now.functions pc }
+        ensures body { InBody self.now result pc }
+    {
+        let mut number = 0;
+        let mut left = u32::from(pc);
+        for function in &self.draft.functions {
+            if left < function.len {
+                return number;
+            }
+            left -= function.len;
+            number += 1;
+        }
+        number
+    }
+
+    /// The register that a function returns.
+    pub fn returned(&self, function: u16) -> u8
+        requires { function < length self.now.functions }
+        ensures returned { result ≡ returned self.now function }
+        ensures each { (pc from : ℕ) → InBody self.now function pc → slice_get self.now.code pc ≡ Some (Instr.Return from) → from ≡ result }
+    {
+        let number = usize::from(function);
+        let end = self.draft.start(number) + self.draft.functions[number].len as usize;
+        match self.draft.out.code[end - 1] {
+            Instr::Return { from } => from,
+            _ => unreachable!(),
+        }
+    }
+
+    /// Where control may go on from a pc, in the same body.
+    pub fn successors(&self, pc: u16) -> ArrayVec<u16, 2>
+        requires { pc < length self.now.code }
+        ensures { (i : Instr) → slice_get self.now.code pc ≡ Some i → (to : ℕ) → Contains result.items to ↔ GoesOn i pc to }
+    {
+        successors(&self.draft.out.code[usize::from(pc)], pc)
+    }
+
+    /// Which functions are inner, by their numbers.
+    pub fn inner(&self) -> Marks
+        ensures { (function : ℕ) → (slice_get result function ≡ Some true) ↔ IsInner self.now function }
+    {
+        inner_functions(&self.draft)
+    }
+}
+
+/// Where control may go on from an instruction at a pc, in the same body.
+fn successors(instr: &Instr, pc: u16) -> ArrayVec<u16, 2>
+    requires { pc < 65535 }
+    ensures { result.items ≡ successors instr.now pc }
+{
+    let mut next = ArrayVec::new();
+    match instr {
+        Instr::Jump { target } => next.push(*target),
+        Instr::JumpIfZero { target, .. } => {
+            next.push(*target);
+            next.push(pc + 1);
+        }
+        Instr::Return { .. } => {}
+        _ => next.push(pc + 1),
+    }
+    next
 }

@@ -9,10 +9,10 @@ ghost use Rattle.asl_lower.specs.Lowered.{IsLowering};
 ghost use Rattle.asl_lower.specs.Region.{IsBareAccess};
 ghost use Rattle.asl_lower.specs.Refused.{HasRoom, IsRefused};
 
-use crate::bare::first_bare_access;
 use crate::draft::make_draft;
 use crate::fault::LowerFault;
 use crate::lowering::Lowering;
+use crate::reach::first_bare_access;
 use asl_syntax::Ast;
 use asl_syntax::tree::Item;
 use std::alloc::Global;
@@ -28,7 +28,7 @@ fn lower_items(alloc: Global, items: &[Item]) -> Result<Lowering, LowerFault>
     ensures refused { IfErr result (IsRefused (map item_of items.now)) }
 {
     let draft = make_draft(alloc, items)?;
-    match first_bare_access(alloc, &draft.functions, draft.main, &draft.out.code)? {
+    match first_bare_access(&draft) {
         Some((function, pc)) => Err(LowerFault::AccessOutsideSection(function, pc)),
         None => Ok(Lowering::new(draft)),
     }

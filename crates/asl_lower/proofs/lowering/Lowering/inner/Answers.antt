@@ -1,0 +1,6 @@
+use Rattle.asl_lower.specs.Kept.{lowered_of}
+use Rattle.asl_lower.proofs.Layouts.{kept_layout}
+use Rattle.asl_lower.proofs.lowering.Lowering.inner.Goals as goal
+
+pub inner_functions-requires : goal.inner_functions-requires
+inner_functions-requires c = kept_layout (lowered_of c.self.inside.draft) c.self.invariant

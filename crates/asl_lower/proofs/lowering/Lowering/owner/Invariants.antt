@@ -1,0 +1,10 @@
+-- the bodies that were passed
+use Rattle.std.proofs.Common.{◌≡◌, ◌+◌, drop}
+use Rattle.asl_lower.specs.Region.{owner_of}
+use Rattle.asl_lower.proofs.lowering.Lowering.owner.Given as goal
+
+abbrev pub invariant-loop-function : goal.invariant-loop-function
+invariant-loop-function l = record {
+  number : l.number ≡ l.function-index;
+  owner : l.number + owner_of (drop l.function-index l.function-items) l.left ≡ owner_of l.function-items l.pc;
+}
