@@ -5,3 +5,4 @@ pub mod OneAnswer
 pub mod Scanning
 pub mod Told
 pub mod Values
+pub mod Same

@@ -4,7 +4,7 @@ use arrayvec::ArrayVec;
 use std::marker::Model;
 
 /// One operation of a path.
-#[derive(Clone, Copy, Debug, PartialEq, Eq, PartialOrd, Ord)]
+#[derive(Clone, Copy, Debug, PartialEq, Eq, PartialOrd, Ord, Hash)]
 pub enum Op {
     /// `*`: reads the cell, which must hold an address.
     Deref,
@@ -24,7 +24,7 @@ impl Default for Op {
 }
 
 /// The operations of a lock expression from its base on, eight at the most. Contracts see the list of them.
-#[derive(Clone, Debug, Drop, PartialEq, Eq, PartialOrd, Ord)]
+#[derive(Clone, Debug, Drop, PartialEq, Eq, PartialOrd, Ord, Hash)]
 pub struct Path {
     ops: ArrayVec<Op, 8>,
 }

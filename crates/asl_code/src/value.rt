@@ -19,7 +19,7 @@ pub struct Cell {
 }
 
 /// What an access does to a cell, and what a lock is asked for.
-#[derive(Clone, Copy, Debug, PartialEq, Eq, PartialOrd, Ord)]
+#[derive(Clone, Copy, Debug, PartialEq, Eq, PartialOrd, Ord, Hash)]
 pub enum Effect {
     /// The cell is read.
     Read,
