@@ -1,23 +1,19 @@
 -- The list of entries as the holding that it is.
 use Rattle.std.proofs.Common.{◌≡◌, ◌≢◌, ℕ, Bool, true, false, not, ◌||◌, ◌&&◌, ◌==◌, ◌<◌, ◌+◌, length, get_or, drop, List, [], ◌∷◌, ◌++◌, filter, map as each, None, Some, unwrap_or, if◌then◌else◌, refl, ap, sym, subst, ◌∙◌, ◌⊎◌, inl, inr}
 use Rattle.std.specs.FinMap as map
-use Rattle.std.specs.List.{list_all}
 use Rattle.std.proofs.lemmas.Bool.Decides.{eqb_tells}
 use Rattle.std.proofs.lemmas.List.{at_drop_more}
 use Rattle.asl_mode_lanes.specs.declared.mode.Mode.{Mode}
 use Rattle.asl_mode_lanes.specs.declared.mode.Mode.TheVariants.{NL}
-use Rattle.asl_mode_lanes.specs.Mode.{is_compatible, AreCompatible}
-use Rattle.asl_mode_lanes.proofs.ModeLaws.{compatible-NL}
 use Rattle.asl_lock_forest.specs.declared.node.Node.{Node}
 use Rattle.asl_lock_forest.specs.declared.node.Node.TheVariants.{Root}
 use Rattle.asl_lock_forest.specs.declared.entries.Entry.{Entry}
 use Rattle.asl_lock_forest.specs.Keys.{Key, key, key_cmp}
 use Rattle.asl_lock_forest.proofs.KeyLaws.{key_total, key_exact}
-use Rattle.asl_lock_forest.specs.Holding.{Holding, held, no_holding, Request, asked, grant, release, CanGrant, HoldsNothing}
-use Rattle.asl_lock_forest.specs.Request.{IsRefused, names}
-use Rattle.asl_lock_forest.specs.Entries.{key_of, holding_of, entry_of, goes_with}
+use Rattle.asl_lock_forest.specs.Holding.{Holding, held, no_holding, Request, asked, grant, release, HoldsNothing}
+use Rattle.asl_lock_forest.specs.Request.{names}
+use Rattle.asl_lock_forest.specs.Entries.{key_of, holding_of, entry_of}
 use Rattle.asl_lock_forest.proofs.Laws.{tell_keys, tell_nodes, get_insert_same, get_insert_other, get_release_own, get_release_other, get_grant_own, get_grant_other}
-use Rattle.std.proofs.lemmas.Bool.{and_parts}
 
 -- the first entry tells what is held at its key
 pub held_here : (e : Entry) (es : List Entry) (t : ℕ) (n : Node) → e.thread ≡ t → e.node ≡ n → held (holding_of (e ∷ es)) t n ≡ e.mode
@@ -160,59 +156,3 @@ entries_granted es t request nothing = map.same_map key_total key_exact _ _ (λ 
           found_as_before es more q (of_request ∙ get_grant_other no_holding t request q other.1 ∙ map.get-empty key_cmp q)
           ∙ sym (get_grant_other (holding_of es) t request q other.1)
     ])
-
--- What the test of all entries tells.
-
--- where it fails, the first entry that fails is in the way
-pub refused_by : (h : Holding) (t : ℕ) (request : Request) (es : List Entry) → list_all (goes_with h t request) es ≡ false → IsRefused h t request
-refused_by h t request [] fails = cc
-refused_by h t request (e ∷ es) fails = elim (eqb_tells e.thread t) [
-  | inl own ↦ refused_by h t request es
-      (sym (ap (λ b. (b || is_compatible (asked request e.node) (held h e.thread e.node)) && list_all (goes_with h t request) es) own.0) ∙ fails)
-  | inr other ↦
-      let goes = is_compatible (asked request e.node) (held h e.thread e.node) in
-      let left : (goes && list_all (goes_with h t request) es) ≡ false =
-      sym (ap (λ b. (b || goes) && list_all (goes_with h t request) es) other.0) ∙ fails in
-      elim goes as (λ b. goes ≡ b → IsRefused h t request) [
-        | true ↦ λ yes. refused_by h t request es (sym (ap (λ b. b && list_all (goes_with h t request) es) yes) ∙ left)
-        | false ↦ λ clash. (e.thread, e.node, record { different = other.1; clashes = clash })
-      ] refl
-]
-
-found_goes_with : (h : Holding) (t : ℕ) (request : Request) (es : List Entry) → list_all (goes_with h t request) es ≡ true
-    → (u : ℕ) (n : Node) → u ≢ t → (map.get (holding_of es) (key u n) ≡ None) ⊎ AreCompatible (asked request n) (held h u n)
-found_goes_with h t request [] all u n apart = inl (map.get-empty key_cmp (key u n))
-found_goes_with h t request (e ∷ es) all u n apart = elim (tell_keys (key u n) (key_of e)) [
-  | inl here ↦
-      let first : goes_with h t request e ≡ true = (and_parts (goes_with h t request e) _ all).0 in
-      let thread : u ≡ e.thread = ap (λ k. k.thread) here.1 in
-      let node : n ≡ e.node = ap (λ k. k.node) here.1 in
-      elim (eqb_tells e.thread t) [
-        | inl own ↦ absurd (apart (thread ∙ own.1))
-        | inr other ↦
-            let goes : AreCompatible (asked request e.node) (held h e.thread e.node) =
-            sym (ap (λ b. b || is_compatible (asked request e.node) (held h e.thread e.node)) other.0) ∙ first in
-            inr (subst (λ k. AreCompatible (asked request k.node) (held h k.thread k.node)) (sym here.1) goes)
-      ]
-  | inr there ↦ elim (found_goes_with h t request es (and_parts (goes_with h t request e) _ all).1 u n apart) [
-    | inl none ↦ inl (get_insert_other (holding_of es) (key_of e) e.mode (key u n) there.1 ∙ none)
-    | inr goes ↦ inr goes
-  ]
-]
-
--- where it holds of all entries, the request can be granted
-pub granted_by : (es : List Entry) (t : ℕ) (request : Request) → list_all (goes_with (holding_of es) t request) es ≡ true
-    → CanGrant (holding_of es) t request
-granted_by es t request all u n apart = elim (found_goes_with (holding_of es) t request es all u n apart) [
-  | inl none ↦ subst (λ m. AreCompatible (asked request n) m) (sym (ap (λ o. unwrap_or o NL) none)) (compatible-NL (asked request n))
-  | inr goes ↦ goes
-]
-
--- who is in the way keeps the request from being granted
-pub refused_cannot : (h : Holding) (t : ℕ) (request : Request) → IsRefused h t request → CanGrant h t request → ⊥
-refused_cannot h t request way can =
-    let other = way.0 in
-    let node = way.1 in
-    let yes = can other node way.2.different in
-    let no = way.2.clashes in
-    cc

@@ -3,12 +3,13 @@ use Rattle.std.proofs.Common.{◌≡◌, ℕ, ◌<◌, true, false, not, ◌==�
 use Rattle.std.specs.List.{list_all}
 use Rattle.asl_lock_forest.specs.declared.entries.Entry.{Entry}
 use Rattle.asl_lock_forest.specs.Held.{Held, IsForest}
-use Rattle.asl_lock_forest.specs.Holding.{Holding, HoldsNothing, Request, CanGrant}
+use Rattle.asl_lock_forest.specs.Holding.{Holding, HoldsNothing, Request, CanGrant, goes_with}
 use Rattle.asl_lock_forest.specs.Request.{asks_modes, asks_parents, IsOfClasses, IsRefused}
-use Rattle.asl_lock_forest.specs.Entries.{holding_of, entry_of, goes_with}
+use Rattle.asl_lock_forest.specs.Entries.{holding_of, entry_of, key_of}
 use Rattle.asl_lock_forest.proofs.Requests.{IsRooted-asked}
 use Rattle.asl_lock_forest.proofs.Lawful.{lawful_empty, lawful_grant, lawful_release, within_empty, within_grant, within_release}
-use Rattle.asl_lock_forest.proofs.EntryLaws.{entries_released, entries_granted, granted_by, refused_by}
+use Rattle.asl_lock_forest.proofs.EntryLaws.{entries_released, entries_granted}
+use Rattle.asl_lock_forest.proofs.Grantable.{granted_by, refused_by}
 
 -- a forest over a list of entries
 abbrev pub over : ℕ → ℕ → List Entry → Held
@@ -31,7 +32,7 @@ forest_release classes threads es new t is kept =
 pub forest_grant : (classes threads : ℕ) (es new : List Entry) (t : ℕ) (request : Request) → new ≡ es ++ each (entry_of t) request
     → IsForest (over classes threads es) → HoldsNothing (holding_of es) t → t < threads
     → IsTrue (asks_modes request) → IsTrue (asks_parents request) → IsOfClasses classes request
-    → list_all (goes_with (holding_of es) t request) es ≡ true
+    → list_all (λ e. goes_with (holding_of es) t request (key_of e)) es ≡ true
     → IsForest (over classes threads new)
 forest_grant classes threads es new t request is kept nothing there modes parents of_classes all =
     of_holding classes threads _ _ (ap holding_of is ∙ entries_granted es t request nothing)
@@ -42,11 +43,11 @@ forest_grant classes threads es new t request is kept nothing there modes parent
 
 -- what the test of all entries tells of a forest's holding
 pub refused_at : (h : Holding) (t : ℕ) (request : Request) (es xs : List Entry) → xs ≡ es → holding_of es ≡ h
-    → list_all (goes_with (holding_of xs) t request) xs ≡ false → IsRefused h t request
+    → list_all (λ e. goes_with (holding_of xs) t request (key_of e)) xs ≡ false → IsRefused h t request
 refused_at h t request es xs same is fails =
-    subst (λ k. IsRefused k t request) (ap holding_of same ∙ is) (refused_by (holding_of xs) t request xs fails)
+    subst (λ k. IsRefused k t request) (ap holding_of same ∙ is) (refused_by (holding_of xs) t request key_of xs fails)
 
 pub granted_at : (h : Holding) (t : ℕ) (request : Request) (es xs : List Entry) → xs ≡ es → holding_of es ≡ h
-    → list_all (goes_with (holding_of xs) t request) xs ≡ true → CanGrant h t request
+    → list_all (λ e. goes_with (holding_of xs) t request (key_of e)) xs ≡ true → CanGrant h t request
 granted_at h t request es xs same is all =
     subst (λ k. CanGrant k t request) (ap holding_of same ∙ is) (granted_by xs t request all)

@@ -2,6 +2,8 @@ pub mod Laws
 pub mod Requests
 pub mod Lawful
 pub mod NinePairs
-mod KeyLaws
+pub mod KeyLaws
+pub mod Swaps
+pub mod Grantable
 mod EntryLaws
 mod ForestLaws

@@ -3,4 +3,5 @@ pub mod Keys
 pub mod Holding
 pub mod Request
 pub mod Held
+-- Machinery of the proofs, not of the promise:
 pub mod Entries

@@ -1,15 +1,15 @@
 //! The plain list behind a forest: one entry for each node that a thread holds.
 ghost use Rattle.std.specs.Prelude.{◌≡◌, ◌↔◌, ◌++◌, IsTrue, OnErr, OnOk, IfOk, not, ◌==◌, filter, map};
 ghost use Rattle.std.specs.List.{list_all};
-ghost use Rattle.asl_lock_forest.specs.Holding.{held, asked};
-ghost use Rattle.asl_lock_forest.specs.Entries.{holding_of, entry_of, goes_with};
+ghost use Rattle.asl_lock_forest.specs.Holding.{held, asked, goes_with};
+ghost use Rattle.asl_lock_forest.specs.Entries.{holding_of, entry_of, key_of};
 
 use crate::Node;
 use asl_mode_lanes::{Mode, compatible};
 use std::alloc::{AllocError, Global};
 
 /// A node that a thread holds, and the mode in which it does.
-#[derive(Clone, Copy, Debug, PartialEq, Eq)]
+#[derive(Clone, Copy)]
 pub struct Entry {
     /// The thread's number.
     pub thread: u32,
@@ -52,7 +52,7 @@ pub fn asked_in(request: &[(Node, Mode)], node: Node) -> Mode
 
 /// Whether the entry is the thread's own, or goes with what the thread asks.
 fn goes_with(entries: &[Entry], thread: u32, request: &[(Node, Mode)], entry: Entry) -> bool
-    ensures { result ≡ goes_with (holding_of entries.now) thread request.now entry }
+    ensures { result ≡ goes_with (holding_of entries.now) thread request.now (key_of entry) }
 {
     if entry.thread == thread {
         return true;
@@ -63,7 +63,7 @@ fn goes_with(entries: &[Entry], thread: u32, request: &[(Node, Mode)], entry: En
 
 /// Whether every entry goes with what the thread asks.
 pub fn can_grant(entries: &[Entry], thread: u32, request: &[(Node, Mode)]) -> bool
-    ensures { result ≡ list_all (goes_with (holding_of entries.now) thread request.now) entries.now }
+    ensures { result ≡ list_all (λ entry. goes_with (holding_of entries.now) thread request.now (key_of entry)) entries.now }
 {
     entries
         .iter()

@@ -9,9 +9,6 @@ mod node;
 pub use forest::Forest;
 pub use holding_laws::{
     grants_are_held, grants_stay_lawful, readers_and_writers_exclude_each_other, releases_are_held,
-    releases_stay_lawful, those_in_the_way_hold,
+    releases_stay_lawful, requests_are_tested, those_in_the_way_hold, threads_change_places,
 };
 pub use node::Node;
-
-#[cfg(test)]
-mod tests;

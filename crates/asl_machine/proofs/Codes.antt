@@ -3,7 +3,7 @@ use Rattle.std.proofs.Common.{◌≡◌, ℕ, zero, suc, ◌+◌, ◌<◌, List,
 use Rattle.asl_code.specs.declared.image.Function.{Function}
 use Rattle.asl_code.specs.Bodies.{first_of}
 use Rattle.asl_code.proofs.FitsLaws.{begin-suc}
-use Rattle.asl_machine.specs.Calls.{firsts_from}
+use Rattle.asl_machine.specs.Ready.{firsts_from}
 
 -- there is one place a function
 pub length-firsts : (first : ℕ) (fs : List Function) → length (firsts_from first fs) ≡ length fs

@@ -13,7 +13,8 @@ use Rattle.asl_machine.specs.World.{SomeoneGoesOn}
 use Rattle.asl_machine.proofs.Table.{step_is}
 use Rattle.asl_machine.proofs.Reached.{someone_goes_on}
 use Rattle.asl_machine.specs.Twin.{turn_of, step_of, step_at}
-use Rattle.asl_machine.specs.Sound.{IsSound, IsMachine}
+use Rattle.asl_machine.specs.Sound.{IsSound}
+use Rattle.asl_machine.specs.Ready.{IsMachine}
 use Rattle.asl_machine.proofs.Soundness.{start_sound, turn_follows, length-first_threads}
 
 -- the state that these parts make up
@@ -43,22 +44,18 @@ start_state image objects holding threads n os h ts = same_state _ _ _ _ _ _ os 
 -- what a thread's step answers and leaves, over these parts
 module _ (image : Image) (objects new_objects : List Object) (forest new_forest : Held) (threads : List Thread) (t : ℕ) (thread new_thread : Thread)
     (m : IsMachine image objects forest threads) (at : slice_get threads t ≡ Some thread)
-    (own : new_thread ≡ (turn_of image forest.threads t thread objects forest.holding).thread)
-    (os : new_objects ≡ (turn_of image forest.threads t thread objects forest.holding).objects)
-    (holding : new_forest.holding ≡ (turn_of image forest.threads t thread objects forest.holding).holding) where
-  turn_state : (n : ℕ) → forest.threads ≡ n → state_of new_objects new_forest.holding (set threads t new_thread)
-      ≡ (let turn = turn_of image n t thread objects forest.holding in after (state_of objects forest.holding threads) t turn.thread turn.objects turn.holding)
-  turn_state n e =
-      same_state _ _ _ _ _ _
-      (os ∙ ap (λ k. (turn_of image k t thread objects forest.holding).objects) e)
-      (holding ∙ ap (λ k. (turn_of image k t thread objects forest.holding).holding) e)
-      (ap (set threads t) (own ∙ ap (λ k. (turn_of image k t thread objects forest.holding).thread) e))
+    (own : new_thread ≡ (turn_of image t thread objects forest.holding).thread)
+    (os : new_objects ≡ (turn_of image t thread objects forest.holding).objects)
+    (holding : new_forest.holding ≡ (turn_of image t thread objects forest.holding).holding) where
+  turn_state : state_of new_objects new_forest.holding (set threads t new_thread)
+      ≡ (let turn = turn_of image t thread objects forest.holding in after (state_of objects forest.holding threads) t turn.thread turn.objects turn.holding)
+  turn_state = same_state _ _ _ _ _ _ os holding (ap (set threads t) own)
 
   -- the step keeps what a machine keeps
   pub step_machine : new_forest.classes ≡ forest.classes → new_forest.threads ≡ forest.threads → IsMachine image new_objects new_forest (set threads t new_thread)
   step_machine classes counted =
       record {
-        sound = subst (IsSound image) (sym (turn_state (length threads) m.counted)) (turn_follows image (state_of objects forest.holding threads) t thread m.sound at);
+        sound = subst (IsSound image) (sym turn_state) (turn_follows image (state_of objects forest.holding threads) t thread m.sound at);
         classes = classes ∙ m.classes;
         counted = counted ∙ m.counted ∙ sym (length-set threads t new_thread);
         few_threads = let l = length-set threads t new_thread in let k = m.few_threads in omega arith;
@@ -67,13 +64,12 @@ module _ (image : Image) (objects new_objects : List Object) (forest new_forest 
   -- the state after it is the twin's
   pub step_state : state_of new_objects new_forest.holding (set threads t new_thread) ≡ (step_of image (state_of objects forest.holding threads) t).state
   step_state =
-      turn_state (length threads) m.counted ∙ sym (ap (λ o. (step_at image (state_of objects forest.holding threads) t o).state) at)
+      turn_state ∙ sym (ap (λ o. (step_at image (state_of objects forest.holding threads) t o).state) at)
 
 -- the reply is the twin's
 pub step_reply : (image : Image) (objects : List Object) (forest : Held) (threads : List Thread) (t : ℕ) (thread : Thread) → IsMachine image objects forest threads → slice_get threads t ≡ Some thread →
-    (turn_of image forest.threads t thread objects forest.holding).reply ≡ (step_of image (state_of objects forest.holding threads) t).reply
-step_reply image objects forest threads t thread m at =
-    ap (λ k. (turn_of image k t thread objects forest.holding).reply) m.counted ∙ sym (ap (λ o. (step_at image (state_of objects forest.holding threads) t o).reply) at)
+    (turn_of image t thread objects forest.holding).reply ≡ (step_of image (state_of objects forest.holding threads) t).reply
+step_reply image objects forest threads t thread m at = sym (ap (λ o. (step_at image (state_of objects forest.holding threads) t o).reply) at)
 
 -- the step is one that the table allows
 pub step_table : (image : Image) (objects : List Object) (forest : Held) (threads : List Thread) (t : ℕ) (r : Reply) (new : State) → IsMachine image objects forest threads → t < length threads →

@@ -1,7 +1,6 @@
 -- What holds of every state that a schedule reaches.
-use Rattle.std.proofs.Common.{◌≡◌, ◌≢◌, ℕ, zero, suc, ◌⊎◌, ◌==◌, ◌&&◌, ◌||◌, Bool, true, false, List, [], ◌∷◌, Option, Some, None, length, slice_get, refl, ap, sym, ◌∙◌, subst, inl, inr, length-set, eq-eqb}
+use Rattle.std.proofs.Common.{◌≡◌, ◌≢◌, ℕ, false, List, [], ◌∷◌, Option, Some, None, length, slice_get, refl, ap, sym, ◌∙◌, subst, length-set}
 use Rattle.std.specs.Prelude.{IsSome, option_and_then}
-use Rattle.std.specs.List.{list_all}
 use Rattle.std.proofs.lemmas.Bool.{false_from_ne_true}
 use Rattle.std.proofs.lemmas.Option.{slice_get_within}
 use Rattle.std.specs.Option.{option_map_or}
@@ -9,19 +8,16 @@ use Rattle.asl_code.specs.declared.image.Image.{Image}
 use Rattle.asl_code.specs.declared.instr.Instr.{Instr}
 use Rattle.asl_code.specs.declared.instr.Instr.TheVariants as instr
 use Rattle.asl_code.specs.Fits.{FitsImage}
-use Rattle.asl_mode_lanes.specs.declared.mode.Mode.TheVariants.{NL}
-use Rattle.asl_mode_lanes.specs.Mode.{is_compatible, AreCompatible}
-use Rattle.asl_mode_lanes.proofs.ModeLaws.{compatible-NL}
-use Rattle.asl_lock_forest.specs.declared.node.Node.{Node}
-use Rattle.asl_lock_forest.specs.Holding.{Holding, Request, CanGrant, asked, held}
+use Rattle.asl_lock_forest.specs.Holding.{Request, CanGrant, can_grant}
 use Rattle.asl_machine.specs.declared.reply.Reply.TheVariants as reply
 use Rattle.asl_machine.specs.State.{Activity, Thread, Running, Done, Failed, State, activity_of, activity_at, depth_at}
 use Rattle.asl_machine.specs.Run.{start_of, state_after, IsReached}
 use Rattle.asl_machine.specs.Step.{At, Line, StepOf}
-use Rattle.asl_machine.specs.Twin.{is_free, can_grant, step_at, step_of}
+use Rattle.asl_machine.specs.Twin.{step_at, step_of}
 use Rattle.asl_machine.specs.Sound.{IsSound}
 use Rattle.asl_machine.specs.World.{SomeoneGoesOn}
-use Rattle.asl_machine.proofs.Grants.{grant_when_free}
+use Rattle.asl_lock_forest.proofs.Grantable.{can_grant-tells, can_grant-refused}
+use Rattle.asl_lock_forest.proofs.Lawful.{way_holds}
 use Rattle.asl_machine.proofs.Soundness.{start_sound, step_sound, length-first_threads}
 use Rattle.asl_machine.proofs.Table.{step_is, at_of}
 use Rattle.asl_lock_forest.proofs.Laws.{held_nothing}
@@ -83,31 +79,6 @@ blocked image s t sound e =
           (ap (λ o. option_map_or (λ (a : Activity). a.depth) (option_and_then activity_of o) 0) is ∙ r.0, r.1)
     ] refl e
 
-clash_here : (x y z : Bool) → ((x || y) && z) ≡ false → ((x ≡ false) × (y ≡ false)) ⊎ (z ≡ false)
-clash_here true y z e = inr e
-clash_here false true z e = inr e
-clash_here false false z e = inl (refl, refl)
-
--- who is in the way of a request at a node
-someone : (h : Holding) (t : ℕ) (request : Request) (node : Node) (count : ℕ) → is_free h t request node count ≡ false →
-    (u : ℕ) × (u ≢ t) × (is_compatible (asked request node) (held h u node) ≡ false)
-someone h t request node zero e = let f : true ≡ false = e in cc
-someone h t request node (suc u) e =
-    elim (clash_here (u == t) (is_compatible (asked request node) (held h u node)) (is_free h t request node u) e) [
-      | inl here ↦ (u, (λ is. let f = eq-eqb u t is in let k = here.0 in cc), here.1)
-      | inr below ↦ someone h t request node u below
-    ]
-
-and_false : (x y : Bool) → (x && y) ≡ false → (x ≡ false) ⊎ (y ≡ false)
-and_false true y e = inr e
-and_false false y e = inl refl
-
-some_node : (h : Holding) (count t : ℕ) (request part : Request) → list_all (λ ask. is_free h t request ask.0 count) part ≡ false →
-    (node : Node) × (is_free h t request node count ≡ false)
-some_node h count t request [] e = let f : true ≡ false = e in cc
-some_node h count t request (ask ∷ rest) e =
-    elim (and_false _ _ e) [ inl here ↦ (ask.0, here) | inr later ↦ some_node h count t request rest later ]
-
 is_running : (o : Option Activity) → option_map_or (λ (a : Activity). a.depth) o 0 ≢ 0 → IsSome o
 is_running None h = absurd (h refl)
 is_running (Some a) h = refl
@@ -117,20 +88,14 @@ pub someone_goes_on : (image : Image) (s : State) (t : ℕ) → IsSound image s 
 someone_goes_on image s t sound e =
     let b = blocked image s t sound e in
     let request = b.1.0 in
-    let count = length s.threads in
-    let refused : can_grant s.holding count t request ≡ false =
-    false_from_ne_true _ (λ yes. b.1.1 (grant_when_free image.classes count s.holding t request sound.within yes)) in
-    let at = some_node s.holding count t request request refused in
-    let way = someone s.holding t request at.0 count at.1 in
-    let clash = way.2 in
-    let holds : held s.holding way.0 at.0 ≢ NL = λ none.
-    (let goes : is_compatible (asked request at.0) (held s.holding way.0 at.0) ≡ true =
-    subst (λ m. AreCompatible (asked request at.0) m) (sym none) (compatible-NL (asked request at.0)) in cc) in
-    let inside : depth_at s.threads way.0 ≢ 0 = λ z. holds (held_nothing s.holding way.0 at.0 (sound.outside way.0 z)) in
+    let refused : can_grant s.holding t request ≡ false = false_from_ne_true _ (λ free. b.1.1 (can_grant-tells s.holding t request free)) in
+    let way = can_grant-refused s.holding t request refused in
+    let holds = way_holds s.holding t request way.0 way.1 way.2 in
+    let inside : depth_at s.threads way.0 ≢ 0 = λ z. holds (held_nothing s.holding way.0 way.1 (sound.outside way.0 z)) in
     record {
       thread = way.0;
       runs = is_running (activity_at s.threads way.0) inside;
-      node = at.0;
+      node = way.1;
       holds = holds;
       goes_on = λ k. inside (blocked image s way.0 sound k).0;
     }

@@ -26,26 +26,28 @@ use Rattle.asl_mode_lanes.specs.declared.mode.Mode.TheVariants.{NL}
 use Rattle.asl_lock_forest.specs.declared.node.Node.{Node}
 use Rattle.asl_lock_forest.specs.Keys.{key, key_cmp}
 use Rattle.asl_lock_forest.specs.Held.{Held}
-use Rattle.asl_lock_forest.specs.Holding.{Holding, Request, HoldsNothing, held, grant, release, IsLawful, IsWithin}
+use Rattle.asl_lock_forest.specs.Holding.{Holding, Request, can_grant, HoldsNothing, held, grant, release, IsLawful, IsWithin}
 use Rattle.asl_lock_forest.proofs.Laws.{held_empty, nothing_released, nothing_kept_release, nothing_kept_grant}
+use Rattle.asl_lock_forest.proofs.Grantable.{can_grant-tells}
 use Rattle.asl_lock_forest.proofs.Lawful.{lawful_empty, within_empty, lawful_grant, lawful_release, within_grant, within_release}
 use Rattle.asl_machine.specs.declared.fate.Fate.TheVariants as fate
 use Rattle.asl_machine.specs.declared.fault.Fault.{Fault}
 use Rattle.asl_machine.specs.declared.fault.Fault.TheVariants as fault
 use Rattle.asl_machine.specs.State.{Object, Frame, Activity, Thread, Running, Done, Failed, State, cell_at, class_of, size_of, written, fresh_object, activity_of, activity_at, depth_at}
 use Rattle.asl_lock_expr.specs.Expression.{cell_of}
-use Rattle.asl_machine.specs.Access.{Points, AllPoint, AreOfClasses, CanDo}
+use Rattle.asl_machine.specs.Access.{Points, AllPoint, AreOfClasses}
+use Rattle.asl_machine.specs.Ready.{CanDo}
 use Rattle.asl_machine.specs.Request.{LockOfClass, locks_of, request_of}
 use Rattle.asl_machine.specs.Step.{placed_at, advanced, advanced_with, going_on, called, returned, having_made, left_last, after, is_zero}
-use Rattle.asl_machine.specs.Twin.{Left, Place, set_left, computed, added, subtracted, compared, truth, same_value, jump_left, show_left, address_moved, make_left, loaded, accessed_by, store_left, left_alone, call_left, return_left, activity_moved, acquire_left, release_left, left_by, left_at, turn_by, turn_of, step_at, step_of, register_of, can_grant}
-use Rattle.asl_machine.specs.Sound.{IsPlaced, IsSuspended, AreSuspended, AreSound, IsSound, IsMachine, ThreadReady}
+use Rattle.asl_machine.specs.Twin.{Left, Place, set_left, computed, added, subtracted, compared, truth, same_value, jump_left, show_left, address_moved, make_left, loaded, accessed_by, store_left, left_alone, call_left, return_left, activity_moved, acquire_left, release_left, left_by, left_at, turn_by, turn_of, step_at, step_of, register_of}
+use Rattle.asl_machine.specs.Sound.{IsPlaced, IsSuspended, AreSuspended, AreSound, IsSound}
+use Rattle.asl_machine.specs.Ready.{IsMachine, ThreadReady}
 use Rattle.asl_machine.specs.Calls.{function_of, first_registers, values_from, frame_count, with_result, IsAwaited}
 use Rattle.asl_machine.specs.Run.{global_object, first_activity, first_thread, first_threads, start_of}
 use Rattle.asl_machine.specs.Nodes.{IsNode}
 use Rattle.asl_machine.proofs.Lists.{get_same, get_other, get_either, set_same, one_more, replicated}
 use Rattle.asl_machine.proofs.Heaps.{class_of-written, read_before, sound_written, points_kept, sound_made, points_before, made_points, moved_points, global_points}
 use Rattle.asl_machine.proofs.Nodes.{node_kept, granted_before, released_before, request_there}
-use Rattle.asl_machine.proofs.Grants.{grant_when_free}
 use Rattle.asl_machine.proofs.RequestLaws.{request_is_rooted, request_asks_modes, request_is_of_classes}
 
 -- how many sections a thread is in
@@ -469,24 +471,24 @@ follows_leave image s t a h lies =
 
 follows_enter : (image : Image) (s : State) (t : ℕ) (a : Activity) (h : Here image s t a) → LiesIn image a.top.function (a.top.pc + 1) h.placed.function → (locks : List Lock) → All (LockOfClass image.classes) locks → All (HasLock image) locks →
     let request = request_of s.objects a.top.regs locks in
-    Follows image s t (acquire_left (here_place s t a) (can_grant s.holding (length s.threads) t request) request)
+    Follows image s t (acquire_left (here_place s t a) (can_grant s.holding t request) request)
 follows_enter image s t a h lies locks fit has =
     let request = request_of s.objects a.top.regs locks in
-    let laws : a.depth ≡ 0 → can_grant s.holding (length s.threads) t request ≡ true → Granted image s t request =
+    let laws : a.depth ≡ 0 → can_grant s.holding t request ≡ true → Granted image s t request =
     λ none free. record {
       lawful = lawful_grant s.holding t request h.sound.lawful (outside_here image s t a h none) (request_asks_modes s.objects a.top.regs locks) (request_is_rooted s.objects a.top.regs locks)
-          (grant_when_free image.classes (length s.threads) s.holding t request h.sound.within free);
+          (can_grant-tells s.holding t request free);
       within = within_grant image.classes (length s.threads) s.holding t request h.sound.within h.there (request_is_of_classes image.classes s.objects a.top.regs locks fit h.sound.formed.objects.classes);
       nodes = λ u n ne. elim (granted_before s.holding t request (outside_here image s t a h none) u n ne) [
         | inl before ↦ inl before
         | inr new ↦ inr (request_there image s.objects a.top.regs locks h.sound.formed.objects h.placed.points has n new)
       ];
     } in
-    by image s t a h lies request laws (a.depth == 0) (a.depth == 255) (can_grant s.holding (length s.threads) t request) refl refl refl
+    by image s t a h lies request laws (a.depth == 0) (a.depth == 255) (can_grant s.holding t request) refl refl refl
   where
     by : (image : Image) (s : State) (t : ℕ) (a : Activity) (h : Here image s t a) → LiesIn image a.top.function (a.top.pc + 1) h.placed.function → (request : Request) →
-        (a.depth ≡ 0 → can_grant s.holding (length s.threads) t request ≡ true → Granted image s t request) →
-        (z m free : Bool) → ((a.depth == 0) ≡ z) → ((a.depth == 255) ≡ m) → (can_grant s.holding (length s.threads) t request ≡ free) →
+        (a.depth ≡ 0 → can_grant s.holding t request ≡ true → Granted image s t request) →
+        (z m free : Bool) → ((a.depth == 0) ≡ z) → ((a.depth == 255) ≡ m) → (can_grant s.holding t request ≡ free) →
         (let f = cond z (cond free fate.GoesOn fate.Waits) (cond m (fate.Fails fault.Deep) fate.GoesOn) in
         Follows image s t (record { fate = f; activity = activity_moved f (a.depth + 1) a; objects = s.objects; holding = cond z (cond free (grant s.holding t request) s.holding) s.holding }))
     by image s t a h lies request laws true m true e k g =
@@ -515,7 +517,7 @@ register_points objects a r p = found_points objects (slice_get a.top.regs r) (�
 
 -- what the instruction that a thread is at leaves may follow
 follows_instr : (image : Image) (s : State) (t : ℕ) (a : Activity) (h : Here image s t a) (i : Instr) → slice_get image.code a.top.pc ≡ Some i →
-    FitsInstr image a.top.function h.placed.function i → Follows image s t (left_by image (length s.threads) (here_place s t a) i)
+    FitsInstr image a.top.function h.placed.function i → Follows image s t (left_by image (here_place s t a) i)
 follows_instr image s t a h (instr.SetInt to number) at fits =
     follows_set image s t a h (next_place image s.objects a h.placed _ h.sound.fits at refl) to (Ok (Int number)) tt
 follows_instr image s t a h (instr.SetNull to) at fits =
@@ -590,13 +592,13 @@ here_of image s t a sound e =
 
 -- what a thread's step leaves may follow
 pub turn_follows : (image : Image) (s : State) (t : ℕ) (thread : Thread) → IsSound image s → slice_get s.threads t ≡ Some thread →
-    let turn = turn_of image (length s.threads) t thread s.objects s.holding in IsSound image (after s t turn.thread turn.objects turn.holding)
+    let turn = turn_of image t thread s.objects s.holding in IsSound image (after s t turn.thread turn.objects turn.holding)
 turn_follows image s t (Running a) sound e =
     let h = here_of image s t a sound e in
     let found = instr_here image s.objects a h.placed sound.fits in
-    let l = left_by image (length s.threads) (here_place s t a) found.0 in
+    let l = left_by image (here_place s t a) found.0 in
     let m : Follows image s t l = follows_instr image s t a h found.0 found.1 found.2 in
-    subst (λ o. let turn = turn_by t (left_at image (length s.threads) (here_place s t a) o) in IsSound image (after s t turn.thread turn.objects turn.holding)) (sym found.1)
+    subst (λ o. let turn = turn_by t (left_at image (here_place s t a) o) in IsSound image (after s t turn.thread turn.objects turn.holding)) (sym found.1)
     (sound_after image s t (turn_by t l).thread (turn_by t l).objects (turn_by t l).holding sound h.there m)
 turn_follows image s t (Done v) sound e = subst (IsSound image) (sym (after_same s t (Done v) e)) sound
 turn_follows image s t (Failed f) sound e = subst (IsSound image) (sym (after_same s t (Failed f) e)) sound

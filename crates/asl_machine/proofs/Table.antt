@@ -14,7 +14,7 @@ use Rattle.asl_code.specs.declared.value.Value.{Value}
 use Rattle.asl_code.specs.declared.value.Value.TheVariants.{Int, Null, Addr}
 use Rattle.asl_code.specs.declared.value.Effect.TheVariants.{Read, Write}
 use Rattle.asl_code.specs.Fits.{FitsInstr}
-use Rattle.asl_lock_forest.specs.Holding.{Holding, Request, CanGrant, grant, release}
+use Rattle.asl_lock_forest.specs.Holding.{Holding, Request, CanGrant, can_grant, grant, release}
 use Rattle.asl_machine.specs.declared.fate.Fate.TheVariants as fate
 use Rattle.asl_machine.specs.declared.fault.Fault.TheVariants as fault
 use Rattle.asl_machine.specs.declared.reply.Reply.TheVariants as reply
@@ -25,9 +25,9 @@ use Rattle.asl_machine.specs.Access.{Points}
 use Rattle.asl_machine.specs.Calls.{frame_count, with_result, IsAwaited}
 use Rattle.asl_machine.specs.Request.{locks_of, request_of}
 use Rattle.asl_machine.specs.Step.{At, advanced, advanced_with, going_on, called, returned, having_made, left_last, after, Reads, is_allowed, GoesOn, is_zero, FailsOperands, Asks, Line, StepOf, Step}
-use Rattle.asl_machine.specs.Twin.{Left, set_left, computed, added, subtracted, compared, truth, same_value, jump_left, address_or_bounds, address_moved, make_left, allowed_cell, loaded, accessed, store_left, left_alone, call_left, return_left, activity_moved, release_left, left_by, left_at, turn_by, step_at, step_of, register_of, can_grant}
+use Rattle.asl_machine.specs.Twin.{Left, set_left, computed, added, subtracted, compared, truth, same_value, jump_left, address_or_bounds, address_moved, make_left, allowed_cell, loaded, accessed, store_left, left_alone, call_left, return_left, activity_moved, release_left, left_by, left_at, turn_by, step_at, step_of, register_of}
 use Rattle.asl_machine.specs.Sound.{IsSound}
-use Rattle.asl_machine.proofs.Grants.{grant_when_free, can_grant-true}
+use Rattle.asl_lock_forest.proofs.Grantable.{can_grant-tells, CanGrant-tested}
 use Rattle.asl_machine.proofs.Soundness.{Here, here_of, here_place, instr_here, after_same, awaited_below}
 
 -- the line that a step by what an instruction leaves would be
@@ -278,7 +278,7 @@ acquire_lines at list request false false free e k small asks granted taken here
 -- ---- the line of each instruction
 
 line_there : (image : Image) (s : State) (t : ℕ) (a : Activity) (h : Here image s t a) → slice_get s.threads t ≡ Some (Running a) → (i : Instr) →
-    FitsInstr image a.top.function h.placed.function i → IsLine (at_of image s t a) i (left_by image (length s.threads) (here_place s t a) i)
+    FitsInstr image a.top.function h.placed.function i → IsLine (at_of image s t a) i (left_by image (here_place s t a) i)
 line_there image s t a h here (instr.SetInt to number) fits = refl
 line_there image s t a h here (instr.SetNull to) fits = refl
 line_there image s t a h here (instr.Move to from) fits =
@@ -331,11 +331,11 @@ line_there image s t a h here (instr.Return from) fits =
     (read_there a from (omega arith))
 line_there image s t a h here (instr.Acquire list) fits =
     let request = request_of s.objects a.top.regs (locks_of image list) in
-    let free = can_grant s.holding (length s.threads) t request in
+    let free = can_grant s.holding t request in
     acquire_lines (at_of image s t a) list request (a.depth == 0) (a.depth == 255) free refl refl h.placed.depth
     (λ none. record { locks = fits.0; outside = none; listed = fits.1; is = ap (λ o. request_of s.objects a.top.regs (unwrap_or o [])) fits.1 })
-    (λ e. grant_when_free image.classes (length s.threads) s.holding t request h.sound.within e)
-    (λ e g. let yes = can_grant-true s.holding (length s.threads) t request g in cc)
+    (λ e. can_grant-tells s.holding t request e)
+    (λ e g. let yes = CanGrant-tested s.holding t request g in cc)
     here
 line_there image s t a h here instr.Release fits = release_line (at_of image s t a)
 
@@ -345,8 +345,8 @@ pub step_there : (image : Image) (s : State) (t : ℕ) (thread : Thread) → IsS
 step_there image s t (Running a) sound e =
     let h = here_of image s t a sound e in
     let found = instr_here image s.objects a h.placed sound.fits in
-    let l : IsLine (at_of image s t a) found.0 (left_at image (length s.threads) (here_place s t a) (slice_get image.code a.top.pc)) =
-    subst (λ o. IsLine (at_of image s t a) found.0 (left_at image (length s.threads) (here_place s t a) o)) (sym found.1) (line_there image s t a h e found.0 found.2) in
+    let l : IsLine (at_of image s t a) found.0 (left_at image (here_place s t a) (slice_get image.code a.top.pc)) =
+    subst (λ o. IsLine (at_of image s t a) found.0 (left_at image (here_place s t a) o)) (sym found.1) (line_there image s t a h e found.0 found.2) in
     (found.0, found.1, l)
 step_there image s t (Done v) sound e = (refl, after_same s t (Done v) e)
 step_there image s t (Failed f) sound e = (refl, after_same s t (Failed f) e)

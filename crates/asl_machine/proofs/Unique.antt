@@ -12,7 +12,7 @@ use Rattle.asl_code.specs.declared.value.Value.TheVariants.{Int, Null, Addr}
 use Rattle.asl_code.specs.declared.value.Cell.{Cell}
 use Rattle.asl_code.specs.declared.value.Effect.{Effect}
 use Rattle.asl_code.specs.declared.value.Effect.TheVariants.{Read, Write}
-use Rattle.asl_lock_forest.specs.Holding.{Holding, Request, CanGrant, grant, release}
+use Rattle.asl_lock_forest.specs.Holding.{Holding, Request, CanGrant, can_grant, grant, release}
 use Rattle.asl_machine.specs.declared.fate.Fate.TheVariants as fate
 use Rattle.asl_machine.specs.declared.fault.Fault.{Fault}
 use Rattle.asl_machine.specs.declared.fault.Fault.TheVariants as fault
@@ -24,9 +24,9 @@ use Rattle.asl_machine.specs.Cover.{cover}
 use Rattle.asl_lock_expr.specs.Expression.{cell_of}
 use Rattle.asl_machine.specs.Request.{locks_of, request_of}
 use Rattle.asl_machine.specs.Step.{At, advanced, going_on, called, returned, having_made, left_last, after, Reads, ReadsAddress, is_allowed, Sets, GoesOn, GoesTo, Fails, are_integers, FailsOperands, is_zero, ReturnsTo, Asks, Line, StepOf, Step}
-use Rattle.asl_machine.specs.Twin.{Left, set_left, computed, added, subtracted, compared, truth, same_value, jump_left, address_or_bounds, address_moved, make_left, allowed_cell, loaded, accessed, accessed_by, store_left, left_alone, return_fate, call_left, return_left, activity_moved, acquire_left, release_left, left_by, left_at, turn_by, step_at, step_of, register_of, can_grant}
+use Rattle.asl_machine.specs.Twin.{Left, set_left, computed, added, subtracted, compared, truth, same_value, jump_left, address_or_bounds, address_moved, make_left, allowed_cell, loaded, accessed, accessed_by, store_left, left_alone, return_fate, call_left, return_left, activity_moved, acquire_left, release_left, left_by, left_at, turn_by, step_at, step_of, register_of}
 use Rattle.asl_machine.specs.Sound.{IsSound}
-use Rattle.asl_machine.proofs.Grants.{grant_when_free, can_grant-true}
+use Rattle.asl_lock_forest.proofs.Grantable.{can_grant-tells, CanGrant-tested}
 use Rattle.asl_machine.proofs.Soundness.{here_place, after_same}
 use Rattle.asl_machine.proofs.Table.{at_of, same_is, same_self}
 
@@ -215,7 +215,7 @@ request_same : (at : At) (list : ℕ) (request : Request) → Asks at list reque
 request_same at list request asks = ap (λ o. request_of at.state.objects at.activity.top.regs (unwrap_or o [])) asks.listed ∙ sym asks.is
 
 only_line : (image : Image) (s : State) (t : ℕ) (a : Activity) → IsSound image s → slice_get s.threads t ≡ Some (Running a) → (i : Instr) (r : Reply) (n : State) → Line (at_of image s t a) i r n →
-    IsLeft (at_of image s t a) (left_by image (length s.threads) (here_place s t a) i) r n
+    IsLeft (at_of image s t a) (left_by image (here_place s t a) i) r n
 only_line image s t a sound here (instr.SetInt to number) reply.Ran n h = (refl, h)
 only_line image s t a sound here (instr.SetNull to) reply.Ran n h = (refl, h)
 only_line image s t a sound here (instr.Move to from) reply.Ran n h =
@@ -309,7 +309,7 @@ only_line image s t a sound here (instr.Return from) (reply.Fault fault.Open) n 
     let at = at_of image s t a in only_last at _ _ false (reply.Fault fault.Open) n h.last refl (some_test _ h.inside) (refl, h.fails)
 only_line image s t a sound here (instr.Acquire list) reply.Ran n h =
     let at = at_of image s t a in
-    let test = can_grant s.holding (length s.threads) t (request_of s.objects a.top.regs (locks_of image list)) in
+    let test = can_grant s.holding t (request_of s.objects a.top.regs (locks_of image list)) in
     elim h [
       | inl nests ↦
           let room = nests.room in
@@ -318,15 +318,15 @@ only_line image s t a sound here (instr.Acquire list) reply.Ran n h =
           let is = request_same at list enters.request enters.asks in
           let none = enters.asks.outside in
           let free : CanGrant s.holding t (request_of s.objects a.top.regs (locks_of image list)) = subst (CanGrant s.holding t) (sym is) enters.free in
-          only_acquire at _ true (a.depth == 255) true test reply.Ran n (zero_test _ none) refl (can_grant-true s.holding (length s.threads) t _ free)
+          only_acquire at _ true (a.depth == 255) true test reply.Ran n (zero_test _ none) refl (CanGrant-tested s.holding t _ free)
           (refl, goes_same at 1 (a.depth + 1) s.objects _ n (omega arith) (subst (λ q. GoesOn at 1 s.objects (grant s.holding t q) n) (sym is) enters.goes_on))
     ]
 only_line image s t a sound here (instr.Acquire list) reply.Blocked n h =
     let at = at_of image s t a in
     let request = request_of s.objects a.top.regs (locks_of image list) in
     let is = request_same at list h.request h.asks in
-    let taken : can_grant s.holding (length s.threads) t request ≡ false =
-    false_from_ne_true _ (λ e. h.taken (subst (CanGrant s.holding t) is (grant_when_free image.classes (length s.threads) s.holding t request sound.within e))) in
+    let taken : can_grant s.holding t request ≡ false =
+    false_from_ne_true _ (λ e. h.taken (subst (CanGrant s.holding t) is (can_grant-tells s.holding t request e))) in
     only_acquire at _ true (a.depth == 255) false _ reply.Blocked n (zero_test _ h.asks.outside) refl taken (refl, h.same ∙ sym (after_same s t (Running a) here))
 only_line image s t a sound here (instr.Acquire list) (reply.Fault fault.Deep) n h =
     let at = at_of image s t a in
@@ -352,7 +352,7 @@ only_there : (image : Image) (s : State) (t : ℕ) (thread : Thread) → IsSound
     (r ≡ (step_at image s t (Some thread)).reply) × (n ≡ (step_at image s t (Some thread)).state)
 only_there image s t (Running a) sound e r n h =
     let l = only_line image s t a sound e h.0 r n h.2 in
-    subst (λ o. IsLeft (at_of image s t a) (left_at image (length s.threads) (here_place s t a) o) r n) (sym h.1) l
+    subst (λ o. IsLeft (at_of image s t a) (left_at image (here_place s t a) o) r n) (sym h.1) l
 only_there image s t (Done v) sound e r n h = (h.0, h.1 ∙ sym (after_same s t (Done v) e))
 only_there image s t (Failed f) sound e r n h = (h.0, h.1 ∙ sym (after_same s t (Failed f) e))
 

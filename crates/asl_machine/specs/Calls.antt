@@ -11,11 +11,6 @@ use Rattle.asl_machine.specs.State.{Frame, Activity}
 abbrev pub function_of : Image → ℕ → Function
 function_of image number = unwrap_or (slice_get image.functions number) (record { params = 0; regs = 0; len = 0 })
 
--- where each of these functions begins, of which the first begins at this place (docs/INSTRUCTIONS.md)
-abbrev pub firsts_from : ℕ → List Function → List ℕ
-firsts_from first [] = []
-firsts_from first (f ∷ fs) = first ∷ firsts_from (first + f.len) fs
-
 -- the registers of a new frame: the arguments, and Int 0 in those that are no parameters (docs/INSTRUCTIONS.md, State)
 abbrev pub first_registers : List Value → ℕ → List Value
 first_registers arguments count = arguments ++ replicate (count - length arguments) (Int (pos 0))

@@ -10,3 +10,5 @@ pub mod Nodes
 pub mod Sound
 pub mod View
 pub mod World
+-- Machinery of the proofs, not of the promise:
+pub mod Ready

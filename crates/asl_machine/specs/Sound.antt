@@ -8,12 +8,11 @@ use Rattle.asl_code.specs.Fits.{FitsImage, LiesIn}
 use Rattle.asl_code.specs.declared.instr.Instr.TheVariants.{Call}
 use Rattle.asl_code.specs.declared.value.Value.{Value}
 use Rattle.asl_code.specs.declared.value.Cell.{Cell}
-use Rattle.asl_lock_forest.specs.Held.{Held}
 use Rattle.asl_mode_lanes.specs.declared.mode.Mode.TheVariants.{NL}
 use Rattle.asl_lock_forest.specs.declared.node.Node.{Node}
 use Rattle.asl_lock_forest.specs.Holding.{held, HoldsNothing, IsLawful, IsWithin}
 use Rattle.asl_machine.specs.State.{Object, Frame, Activity, Thread, Running, Done, Failed, State, cell_at, size_of, class_of, activity_at, depth_at}
-use Rattle.asl_machine.specs.Access.{Points, AllPoint, AreOfClasses, IsReady, CanDo}
+use Rattle.asl_machine.specs.Access.{Points, AllPoint, AreOfClasses}
 use Rattle.asl_machine.specs.Nodes.{IsNode}
 use Rattle.asl_machine.specs.Twin.{WantsMemory}
 
@@ -76,27 +75,11 @@ pub record IsSound (image : Image) (s : State) : Type 0 where
   pub within : IsWithin image.classes (length s.threads) s.holding
   pub there : (t : ℕ) (node : Node) → held s.holding t node ≢ NL → IsNode image.classes s.objects node
 
--- a running thread is ready for the instruction that it is at, and that is one that it can do
--- (docs/INSTRUCTIONS.md, What always holds)
-abbrev pub ThreadReady : Image → Held → List Object → ℕ → Thread → Type 0
-ThreadReady image forest objects t (Running activity) =
-    IsReady image forest objects t activity × IsSomeAnd (slice_get image.code activity.top.pc) (CanDo image activity.top)
-ThreadReady image forest objects t (Done value) = Unit {0}
-ThreadReady image forest objects t (Failed f) = Unit {0}
-
 -- the thread runs and is at an instruction that may want memory (docs/INSTRUCTIONS.md, A step)
 abbrev pub ThreadWantsMemory : Image → List Object → Thread → Type 0
 ThreadWantsMemory image objects (Running activity) = IsSomeAnd (slice_get image.code activity.top.pc) (WantsMemory objects activity)
 ThreadWantsMemory image objects (Done value) = ⊥
 ThreadWantsMemory image objects (Failed f) = ⊥
-
--- what every machine keeps: its state is sound, and its forest is over its program's classes and its own threads
--- (docs/INSTRUCTIONS.md, What always holds)
-pub record IsMachine (image : Image) (objects : List Object) (forest : Held) (threads : List Thread) : Type 0 where
-  pub sound : IsSound image (record { objects = objects; holding = forest.holding; threads = threads })
-  pub classes : forest.classes ≡ image.classes
-  pub counted : forest.threads ≡ length threads
-  pub few_threads : length threads ≤ 64
 
 -- the thread of this number is there, runs, and is at an instruction that may want memory
 -- (docs/INSTRUCTIONS.md, A step)

@@ -1,7 +1,6 @@
 -- The step, computed: for a verified program the reply and the state of the one line of the table that applies
 -- (specs/Step.antt; docs/INSTRUCTIONS.md, "A step"). It answers something also where no line applies; nobody asks there.
-use Rattle.std.specs.Prelude.{◌≡◌, ◌<◌, ℕ, zero, suc, ◌+◌, ◌-◌, ℤ, pos, int_lt, Bool, true, false, ◌&&◌, ◌||◌, ◌==◌, List, [], ◌∷◌, ◌++◌, Option, None, Some, Result, Ok, Err, slice_get, unwrap_or, length, if◌then◌else◌}
-use Rattle.std.specs.List.{list_all}
+use Rattle.std.specs.Prelude.{◌≡◌, ◌<◌, ℕ, ◌+◌, ◌-◌, ℤ, pos, int_lt, Bool, true, false, ◌&&◌, ◌==◌, List, [], ◌∷◌, ◌++◌, Option, None, Some, Result, Ok, Err, slice_get, unwrap_or, length, if◌then◌else◌}
 use Rattle.std.specs.Int.{w32, int_wrapping_add, int_wrapping_sub}
 use Rattle.std.specs.Ordering.{int_eq}
 use Rattle.asl_code.specs.declared.image.Image.{Image}
@@ -12,9 +11,7 @@ use Rattle.asl_code.specs.declared.value.Value.TheVariants.{Int, Null, Addr}
 use Rattle.asl_code.specs.declared.value.Cell.{Cell}
 use Rattle.asl_code.specs.declared.value.Effect.{Effect}
 use Rattle.asl_code.specs.declared.value.Effect.TheVariants.{Read, Write}
-use Rattle.asl_mode_lanes.specs.Mode.{is_compatible}
-use Rattle.asl_lock_forest.specs.declared.node.Node.{Node}
-use Rattle.asl_lock_forest.specs.Holding.{Holding, Request, asked, held, grant, release}
+use Rattle.asl_lock_forest.specs.Holding.{Holding, Request, can_grant, grant, release}
 use Rattle.asl_lock_forest.specs.Held.{Held}
 use Rattle.asl_machine.specs.declared.fate.Fate.{Fate}
 use Rattle.asl_machine.specs.declared.fate.Fate.TheVariants as fate
@@ -223,16 +220,6 @@ return_left p value below =
       holding = p.holding;
     }
 
--- whether each other thread below the count holds the node in a mode that goes with what is asked there
-abbrev pub is_free : Holding → ℕ → Request → Node → ℕ → Bool
-is_free h thread request node zero = true
-is_free h thread request node (suc other) =
-    (other == thread || is_compatible (asked request node) (held h other node)) && is_free h thread request node other
-
--- whether this is so at each node of the request
-abbrev pub can_grant : Holding → ℕ → ℕ → Request → Bool
-can_grant h count thread request = list_all (λ ask. is_free h thread request ask.0 count) request
-
 -- what becomes of a thread at an `acq`, in so many sections, where its locks are free or not
 abbrev pub acquire_fate : ℕ → Bool → Fate
 acquire_fate depth free =
@@ -287,35 +274,35 @@ release_left p =
 abbrev pub request_at : Image → Place → ℕ → Request
 request_at image p list = request_of p.objects p.activity.top.regs (locks_of image list)
 
--- what the instruction leaves, with so many threads
-abbrev pub left_by : Image → ℕ → Place → Instr → Left
-left_by image count p (instr.SetInt to number) = set_left p to (Ok (Int number))
-left_by image count p (instr.SetNull to) = set_left p to (Ok Null)
-left_by image count p (instr.Move to from) = set_left p to (Ok (register_of p.activity.top from))
-left_by image count p (instr.Add to left right) = set_left p to (computed added (register_of p.activity.top left) (register_of p.activity.top right))
-left_by image count p (instr.Subtract to left right) = set_left p to (computed subtracted (register_of p.activity.top left) (register_of p.activity.top right))
-left_by image count p (instr.LessThan to left right) = set_left p to (computed compared (register_of p.activity.top left) (register_of p.activity.top right))
-left_by image count p (instr.Equals to left right) =
+-- what the instruction leaves
+abbrev pub left_by : Image → Place → Instr → Left
+left_by image p (instr.SetInt to number) = set_left p to (Ok (Int number))
+left_by image p (instr.SetNull to) = set_left p to (Ok Null)
+left_by image p (instr.Move to from) = set_left p to (Ok (register_of p.activity.top from))
+left_by image p (instr.Add to left right) = set_left p to (computed added (register_of p.activity.top left) (register_of p.activity.top right))
+left_by image p (instr.Subtract to left right) = set_left p to (computed subtracted (register_of p.activity.top left) (register_of p.activity.top right))
+left_by image p (instr.LessThan to left right) = set_left p to (computed compared (register_of p.activity.top left) (register_of p.activity.top right))
+left_by image p (instr.Equals to left right) =
     set_left p to (Ok (truth (same_value (register_of p.activity.top left) (register_of p.activity.top right))))
-left_by image count p (instr.GlobalAddress to global) = set_left p to (Ok (Addr global 0))
-left_by image count p (instr.FieldAddress to from places) = set_left p to (address_moved p.objects places (register_of p.activity.top from))
-left_by image count p (instr.Load to address) = set_left p to (loaded p.objects (accessed_by p Read address))
-left_by image count p (instr.Store address from) = store_left p (register_of p.activity.top from) (accessed_by p Write address)
-left_by image count p (instr.New to cells class) = make_left p to cells class
-left_by image count p (instr.Jump target) = jump_left p target
-left_by image count p (instr.JumpIfZero test target) =
+left_by image p (instr.GlobalAddress to global) = set_left p to (Ok (Addr global 0))
+left_by image p (instr.FieldAddress to from places) = set_left p to (address_moved p.objects places (register_of p.activity.top from))
+left_by image p (instr.Load to address) = set_left p to (loaded p.objects (accessed_by p Read address))
+left_by image p (instr.Store address from) = store_left p (register_of p.activity.top from) (accessed_by p Write address)
+left_by image p (instr.New to cells class) = make_left p to cells class
+left_by image p (instr.Jump target) = jump_left p target
+left_by image p (instr.JumpIfZero test target) =
     jump_left p (if is_zero (register_of p.activity.top test) then target else p.activity.top.pc + 1)
-left_by image count p (instr.Call to first function) = call_left image p to first function
-left_by image count p (instr.Return from) = return_left p (register_of p.activity.top from) p.activity.below
-left_by image count p (instr.Output from) = show_left p (register_of p.activity.top from)
-left_by image count p (instr.Acquire list) =
-    acquire_left p (can_grant p.holding count p.thread (request_at image p list)) (request_at image p list)
-left_by image count p instr.Release = release_left p
+left_by image p (instr.Call to first function) = call_left image p to first function
+left_by image p (instr.Return from) = return_left p (register_of p.activity.top from) p.activity.below
+left_by image p (instr.Output from) = show_left p (register_of p.activity.top from)
+left_by image p (instr.Acquire list) =
+    acquire_left p (can_grant p.holding p.thread (request_at image p list)) (request_at image p list)
+left_by image p instr.Release = release_left p
 
 -- what the instruction leaves, if one is there
-abbrev pub left_at : Image → ℕ → Place → Option Instr → Left
-left_at image count p None = left_alone p fate.Waits
-left_at image count p (Some i) = left_by image count p i
+abbrev pub left_at : Image → Place → Option Instr → Left
+left_at image p None = left_alone p fate.Waits
+left_at image p (Some i) = left_by image p i
 
 -- the answer to a step, by what becomes of the thread
 abbrev pub reply_of : Fate → Reply
@@ -353,12 +340,12 @@ abbrev pub turn_by : ℕ → Left → Turn
 turn_by t l =
     record { reply = reply_of l.fate; thread = thread_after l.fate l.activity; objects = l.objects; holding = holding_after l.fate t l.holding }
 
--- the step of a thread among so many
-abbrev pub turn_of : Image → ℕ → ℕ → Thread → List Object → Holding → Turn
-turn_of image count t (Running activity) objects holding =
-    turn_by t (left_at image count (record { thread = t; activity = activity; objects = objects; holding = holding }) (slice_get image.code activity.top.pc))
-turn_of image count t (Done value) objects holding = record { reply = reply.Ended; thread = Done value; objects = objects; holding = holding }
-turn_of image count t (Failed f) objects holding = record { reply = reply.Ended; thread = Failed f; objects = objects; holding = holding }
+-- the step of thread t
+abbrev pub turn_of : Image → ℕ → Thread → List Object → Holding → Turn
+turn_of image t (Running activity) objects holding =
+    turn_by t (left_at image (record { thread = t; activity = activity; objects = objects; holding = holding }) (slice_get image.code activity.top.pc))
+turn_of image t (Done value) objects holding = record { reply = reply.Ended; thread = Done value; objects = objects; holding = holding }
+turn_of image t (Failed f) objects holding = record { reply = reply.Ended; thread = Failed f; objects = objects; holding = holding }
 
 -- what a step answers, and the state that it leaves
 pub record Stepped : Type 0 where
@@ -369,7 +356,7 @@ pub record Stepped : Type 0 where
 abbrev pub step_at : Image → State → ℕ → Option Thread → Stepped
 step_at image s t None = record { reply = reply.Ended; state = s }
 step_at image s t (Some thread) =
-    let turn = turn_of image (length s.threads) t thread s.objects s.holding in
+    let turn = turn_of image t thread s.objects s.holding in
     record { reply = turn.reply; state = after s t turn.thread turn.objects turn.holding }
 
 -- the step of thread t

@@ -2,15 +2,7 @@
 use Rattle.asl_code.specs.declared.image.Image.{Image}
 use Rattle.asl_machine.specs.declared.reply.Status.{Status}
 use Rattle.asl_machine.specs.declared.reply.Status.TheVariants as status
-use Rattle.asl_machine.specs.declared.thread.Stage.{Stage}
-use Rattle.asl_machine.specs.declared.thread.Stage.TheVariants as stage
 use Rattle.asl_machine.specs.State.{Thread, Running, Done, Failed, State}
-
--- a thread at this stage (docs/INSTRUCTIONS.md, State)
-abbrev pub thread_of : Stage → Thread
-thread_of (stage.Running activity) = Running activity
-thread_of (stage.Done value) = Done value
-thread_of (stage.Failed f) = Failed f
 
 -- whether a thread runs, and else how it ended (docs/INSTRUCTIONS.md, State)
 abbrev pub status_of : Thread → Status

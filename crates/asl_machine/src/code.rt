@@ -2,7 +2,8 @@
 ghost use Rattle.std.specs.Prelude.{◌≡◌, ◌<◌, ◌≤◌, ◌^◌, IfOk, IsSome, Some, length, slice_get};
 ghost use Rattle.asl_code.specs.Bodies.{first_of, total_len};
 ghost use Rattle.asl_code.specs.Verified.{IsVerified};
-ghost use Rattle.asl_machine.specs.Calls.{firsts_from, function_of};
+ghost use Rattle.asl_machine.specs.Calls.{function_of};
+ghost use Rattle.asl_machine.specs.Ready.{firsts_from};
 
 use asl_code::{Function, Instr, Items, Lock, Program};
 use std::alloc::{AllocError, Global};
@@ -19,7 +20,7 @@ impl<'p> Model for Code<'p> {
     ghost use Rattle.std.specs.Prelude.{◌≡◌};
     ghost use Rattle.asl_code.specs.declared.image.Image.{Image};
     ghost use Rattle.asl_code.specs.Verified.{IsVerified};
-    ghost use Rattle.asl_machine.specs.Calls.{firsts_from};
+    ghost use Rattle.asl_machine.specs.Ready.{firsts_from};
 
     ghost Value = { Image };
 

@@ -2,7 +2,7 @@ use crate::fault::Fault;
 use asl_code::Value;
 
 /// What becomes of a thread by an instruction of its own.
-#[derive(Clone, Copy, Debug, PartialEq, Eq)]
+#[derive(Clone, Copy)]
 pub enum Fate {
     /// It goes on.
     GoesOn,

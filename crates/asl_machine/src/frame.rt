@@ -11,7 +11,7 @@ use std::mem;
 
 /// A frame of a function: the place of its next instruction, its registers, and the register of the frame below that
 /// awaits its value.
-#[derive(Debug, Drop)]
+#[derive(Drop)]
 pub struct Frame {
     function: u16,
     pc: u16,
@@ -170,7 +170,7 @@ fn copies(alloc: Global, frames: &[Frame]) -> Result<Vec<Frame>, AllocError>
 }
 
 /// What a running thread is at: how many sections it is in, its top frame, and the frames below, the nearest last.
-#[derive(Debug, Drop)]
+#[derive(Drop)]
 pub struct Activity {
     depth: u8,
     top: Frame,

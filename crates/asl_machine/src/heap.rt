@@ -7,7 +7,7 @@ use std::alloc::{AllocError, Global};
 use std::marker::Model;
 
 /// An object: its class, and what its cells hold.
-#[derive(Debug, Drop)]
+#[derive(Drop)]
 struct Object {
     class: u16,
     cells: Vec<Value>,
@@ -94,7 +94,7 @@ fn zeros(alloc: Global, count: u8) -> Result<Vec<Value>, AllocError>
 }
 
 /// All objects, by their numbers. Contracts see the list of them.
-#[derive(Debug, Drop)]
+#[derive(Drop)]
 pub struct Heap {
     objects: Vec<Object>,
 }

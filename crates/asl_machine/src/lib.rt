@@ -31,6 +31,3 @@ pub use step_laws::{
     grants_cover_their_locks, new_objects_change_no_cell, steps_leave_others_alone,
     stores_change_one_cell,
 };
-
-#[cfg(test)]
-mod tests;

@@ -34,7 +34,7 @@ impl<'p> Model for Machine<'p> {
 
     ghost coded = { Prim.hlevel (codes, coded_holding) };
 
-    ghost use Rattle.asl_machine.specs.Sound.{IsMachine};
+    ghost use Rattle.asl_machine.specs.Ready.{IsMachine};
 
     ghost view = { λ m. record {
       image = m.code;

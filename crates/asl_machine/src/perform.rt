@@ -1,6 +1,6 @@
 //! What one instruction does for the thread that is at it.
 ghost use Rattle.std.specs.Prelude.{◌≡◌, ◌<◌, ◌+◌, ◌^◌, IfOk, OnOk, OnErr, length};
-ghost use Rattle.asl_machine.specs.Access.{IsReady, CanDo};
+ghost use Rattle.asl_machine.specs.Ready.{IsReady, CanDo};
 ghost use Rattle.asl_machine.specs.Twin.{place, left_with, left_by, WantsMemory, fate_of, activity_set, address_moved, register_of};
 
 use crate::code::Code;
@@ -29,7 +29,7 @@ pub fn perform(
     requires ready { IsReady code.now forest.old heap.old t activity.old }
     requires fits { CanDo code.now activity.old.top instr }
     ensures left { IfOk result (λ fate. left_with fate activity.new heap.new forest.new
-        ≡ left_by code.now forest.old.threads (place t activity.old heap.old forest.old) instr) }
+        ≡ left_by code.now (place t activity.old heap.old forest.old) instr) }
     ensures classes { forest.new.classes ≡ forest.old.classes }
     ensures threads { forest.new.threads ≡ forest.old.threads }
     ensures memory { OnErr result (WantsMemory heap.old activity.old instr) }

@@ -1,10 +1,10 @@
 //! How a thread enters sections, with their locks, and leaves them.
 ghost use Rattle.std.specs.Prelude.{◌≡◌, ◌<◌, ◌+◌, ◌-◌, ◌^◌, IfOk, OnErr, IsTrue, All, if◌then◌else◌, length};
-ghost use Rattle.asl_lock_forest.specs.Holding.{HoldsNothing, grant};
+ghost use Rattle.asl_lock_forest.specs.Holding.{HoldsNothing, can_grant, grant};
 ghost use Rattle.asl_lock_forest.specs.Request.{names_once, asks_modes, asks_parents, IsOfClasses};
 ghost use Rattle.asl_machine.specs.Access.{AreOfClasses};
 ghost use Rattle.asl_machine.specs.Request.{LockOfClass, request_of, locks_of};
-ghost use Rattle.asl_machine.specs.Twin.{can_grant, release_fate, activity_moved, activity_left, holding_released, acquire_fate, holding_acquired};
+ghost use Rattle.asl_machine.specs.Twin.{release_fate, activity_moved, activity_left, holding_released, acquire_fate, holding_acquired};
 
 use crate::code::Code;
 use crate::fate::Fate;
@@ -35,12 +35,12 @@ pub fn acquire(
     requires room { activity.old.top.pc + 1 < 2 ^ 16 }
     ensures fate { IfOk result (λ fate.
         let request = request_of heap.now activity.old.top.regs (locks_of code.now list) in
-        fate ≡ acquire_fate activity.old.depth (can_grant forest.old.holding forest.old.threads t request)) }
+        fate ≡ acquire_fate activity.old.depth (can_grant forest.old.holding t request)) }
     ensures activity { IfOk result (λ fate. activity.new ≡ activity_moved fate (activity.old.depth + 1) activity.old) }
     ensures holding { IfOk result (λ _.
         let request = request_of heap.now activity.old.top.regs (locks_of code.now list) in
         forest.new.holding ≡ holding_acquired activity.old.depth
-        (can_grant forest.old.holding forest.old.threads t request) t request forest.old.holding) }
+        (can_grant forest.old.holding t request) t request forest.old.holding) }
     ensures classes { forest.new.classes ≡ forest.old.classes }
     ensures threads { forest.new.threads ≡ forest.old.threads }
     ensures memory { OnErr result (activity.old.depth ≡ 0) }
@@ -105,11 +105,11 @@ fn enter(
     requires classes { AreOfClasses forest.old.classes heap.now }
     requires room { activity.old.top.pc + 1 < 2 ^ 16 }
     ensures fate { IfOk result (λ fate. fate ≡ acquire_fate 0
-        (can_grant forest.old.holding forest.old.threads t (request_of heap.now activity.old.top.regs locks.now))) }
+        (can_grant forest.old.holding t (request_of heap.now activity.old.top.regs locks.now))) }
     ensures activity { IfOk result (λ fate. activity.new ≡ activity_moved fate 1 activity.old) }
     ensures holding { IfOk result (λ _. let request = request_of heap.now activity.old.top.regs locks.now in
         forest.new.holding ≡ holding_acquired 0
-        (can_grant forest.old.holding forest.old.threads t request) t request forest.old.holding) }
+        (can_grant forest.old.holding t request) t request forest.old.holding) }
     ensures classes { forest.new.classes ≡ forest.old.classes }
     ensures threads { forest.new.threads ≡ forest.old.threads }
     ensures err { OnErr result (activity.new ≡ activity.old) }
@@ -137,7 +137,7 @@ fn ask(
     requires modes { IsTrue (asks_modes request.now) }
     requires parents { IsTrue (asks_parents request.now) }
     requires classes { IsOfClasses forest.old.classes request.now }
-    ensures granted { IfOk result (λ all. all ≡ can_grant forest.old.holding forest.old.threads t request.now) }
+    ensures granted { IfOk result (λ all. all ≡ can_grant forest.old.holding t request.now) }
     ensures holding { IfOk result (λ all. forest.new.holding ≡ (if all then grant forest.old.holding t request.now else forest.old.holding)) }
     ensures classes { forest.new.classes ≡ forest.old.classes }
     ensures threads { forest.new.threads ≡ forest.old.threads }

@@ -1,7 +1,8 @@
 //! A thread of the machine, and its step.
 ghost use Rattle.std.specs.Prelude.{◌≡◌, ◌<◌, IfOk, OnOk, OnErr, IsSome, IsSomeAnd, Some, length, slice_get};
-ghost use Rattle.asl_machine.specs.Access.{IsReady, CanDo};
-ghost use Rattle.asl_machine.specs.Sound.{ThreadReady, ThreadWantsMemory};
+ghost use Rattle.asl_machine.specs.Ready.{IsReady, CanDo};
+ghost use Rattle.asl_machine.specs.Sound.{ThreadWantsMemory};
+ghost use Rattle.asl_machine.specs.Ready.{ThreadReady};
 ghost use Rattle.asl_machine.specs.Twin.{place, left_with, left_at, turn_of, reply_of, thread_after, holding_after, WantsMemory};
 
 use crate::code::Code;
@@ -35,7 +36,7 @@ impl Model for Thread {
 
     ghost Value = { Thread };
 
-    ghost use Rattle.asl_machine.specs.View.{thread_of};
+    ghost use Rattle.asl_machine.specs.Ready.{thread_of};
 
     ghost view = { λ t. thread_of t.stage };
 }
@@ -103,10 +104,10 @@ impl Thread {
     ) -> Result<Reply, AllocError>
         requires there { t < forest.old.threads }
         requires ready { ThreadReady code.now forest.old heap.old t self.old }
-        ensures reply { IfOk result (λ reply. reply ≡ (turn_of code.now forest.old.threads t self.old heap.old forest.old.holding).reply) }
-        ensures thread { OnOk result (self.new ≡ (turn_of code.now forest.old.threads t self.old heap.old forest.old.holding).thread) }
-        ensures objects { OnOk result (heap.new ≡ (turn_of code.now forest.old.threads t self.old heap.old forest.old.holding).objects) }
-        ensures holding { OnOk result (forest.new.holding ≡ (turn_of code.now forest.old.threads t self.old heap.old forest.old.holding).holding) }
+        ensures reply { IfOk result (λ reply. reply ≡ (turn_of code.now t self.old heap.old forest.old.holding).reply) }
+        ensures thread { OnOk result (self.new ≡ (turn_of code.now t self.old heap.old forest.old.holding).thread) }
+        ensures objects { OnOk result (heap.new ≡ (turn_of code.now t self.old heap.old forest.old.holding).objects) }
+        ensures holding { OnOk result (forest.new.holding ≡ (turn_of code.now t self.old heap.old forest.old.holding).holding) }
         ensures classes { forest.new.classes ≡ forest.old.classes }
         ensures threads { forest.new.threads ≡ forest.old.threads }
         ensures memory { OnErr result (ThreadWantsMemory code.now heap.old self.old) }
@@ -140,7 +141,7 @@ fn advance(
     requires ready { IsReady code.now forest.old heap.old t activity.old }
     requires fits { IsSomeAnd (slice_get code.now.code activity.old.top.pc) (CanDo code.now activity.old.top) }
     ensures left { IfOk result (λ fate. left_with fate activity.new heap.new forest.new
-        ≡ left_at code.now forest.old.threads (place t activity.old heap.old forest.old)
+        ≡ left_at code.now (place t activity.old heap.old forest.old)
         (slice_get code.now.code activity.old.top.pc)) }
     ensures classes { forest.new.classes ≡ forest.old.classes }
     ensures threads { forest.new.threads ≡ forest.old.threads }

@@ -1,5 +1,5 @@
 use Rattle.asl_lock_forest.proofs.Lawful.{way_holds, way_there}
-use Rattle.asl_lock_forest.proofs.EntryLaws.{refused_cannot}
+use Rattle.asl_lock_forest.proofs.Grantable.{refused_cannot}
 use Rattle.asl_lock_forest.proofs.holding_laws.those_in_the_way_hold.Goals as goal
 
 pub returns-clause-holds : goal.returns-clause-holds

@@ -1,6 +1,6 @@
 use Rattle.std.proofs.Common.{◌≡◌, ◌+◌, ◌++◌, drop}
 use Rattle.asl_code.specs.Bodies.{total_len}
-use Rattle.asl_machine.specs.Calls.{firsts_from}
+use Rattle.asl_machine.specs.Ready.{firsts_from}
 use Rattle.asl_machine.proofs.code.firsts.Given as goal
 
 abbrev pub invariant-loop-function : goal.invariant-loop-function

@@ -3,7 +3,7 @@ use Rattle.asl_code.specs.declared.image.Image.{Image}
 use Rattle.asl_code.specs.Fits.{FitsImage}
 use Rattle.asl_code.proofs.FitsLaws.{image_fits}
 use Rattle.asl_machine.specs.Run.{global_object, first_threads}
-use Rattle.asl_machine.specs.Sound.{IsMachine}
+use Rattle.asl_machine.specs.Ready.{IsMachine}
 use Rattle.asl_machine.proofs.Machines.{start_machine}
 use Rattle.asl_machine.proofs.machine.start.Goals as goal
 

@@ -1,11 +1,12 @@
 use Rattle.std.proofs.Common.{◌≡◌, ◌<◌, ap, sym, refl, ◌∙◌, subst, true}
 use Rattle.std.specs.List.{list_all}
 use Rattle.asl_lock_forest.specs.Held.{Held, IsForest}
-use Rattle.asl_lock_forest.specs.Entries.{holding_of, goes_with}
-use Rattle.asl_lock_forest.specs.Holding.{HoldsNothing, grant}
+use Rattle.asl_lock_forest.specs.Entries.{holding_of, key_of}
+use Rattle.asl_lock_forest.specs.Holding.{HoldsNothing, grant, goes_with}
 use Rattle.asl_lock_forest.specs.Request.{IsRefused, IsOfClasses}
 use Rattle.asl_lock_forest.proofs.Laws.{nothing_kept_grant}
-use Rattle.asl_lock_forest.proofs.EntryLaws.{entries_granted, refused_cannot}
+use Rattle.asl_lock_forest.proofs.EntryLaws.{entries_granted}
+use Rattle.asl_lock_forest.proofs.Grantable.{refused_cannot}
 use Rattle.asl_lock_forest.proofs.ForestLaws.{forest_grant, refused_at, granted_at, over}
 use Rattle.asl_lock_forest.proofs.forest.Forest.try_acquire.Goals as goal
 
@@ -30,8 +31,8 @@ kept c =
     let there : c.args.thread < c.self.inside.threads = subst (λ (f : Held). c.args.thread < f.threads) (sym c.self.view_is) c.requires.thread_there in
     let classes_there : IsOfClasses c.self.inside.classes c.args.request.now =
     subst (λ (f : Held). IsOfClasses f.classes c.args.request.now) (sym c.self.view_is) c.requires.classes_there in
-    let all : list_all (goes_with (holding_of c.self.inside.entries.items) c.args.thread c.args.request.now) c.self.inside.entries.items ≡ true =
-    subst (λ xs. list_all (goes_with (holding_of xs) c.args.thread c.args.request.now) xs ≡ true) c.as_slice.ensures.value
+    let all : list_all (λ e. goes_with (holding_of c.self.inside.entries.items) c.args.thread c.args.request.now (key_of e)) c.self.inside.entries.items ≡ true =
+    subst (λ xs. list_all (λ e. goes_with (holding_of xs) c.args.thread c.args.request.now (key_of e)) xs ≡ true) c.as_slice.ensures.value
     (sym c.can_grant.ensures ∙ c.if-not-can_grant.false) in
     forest_grant c.self.inside.classes c.self.inside.threads c.self.inside.entries.items c.add_all.new.entries.items c.args.thread c.args.request.now
     c.in_ok-add_all.ensures.ok c.self.invariant (nothing_before c) there c.requires.modes c.requires.parents classes_there all

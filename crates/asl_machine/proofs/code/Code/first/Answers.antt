@@ -1,7 +1,7 @@
 use Rattle.std.proofs.Common.{◌≡◌, ℕ, ◌<◌, List, length, get_or, ap, ◌∙◌, arith}
 use Rattle.asl_code.specs.declared.image.Image.{Image}
 use Rattle.asl_code.specs.Bodies.{first_of}
-use Rattle.asl_machine.specs.Calls.{firsts_from}
+use Rattle.asl_machine.specs.Ready.{firsts_from}
 use Rattle.asl_machine.proofs.Codes.{length-firsts, first_at}
 use Rattle.asl_machine.proofs.code.Code.first.Goals as goal
 

@@ -1,10 +1,10 @@
-//! What the readers tell, what is refused, and want of memory. The instructions are tested in `asl_tool`, by their text.
+//! What the readers tell, what is refused, and want of memory.
 mod programs;
 mod readers;
 
-use crate::{Fault, Machine, MachineFault, Reply, Status};
 use asl_code::{Cell, Program, Value};
 use asl_lock_forest::Node;
+use asl_machine::{Fault, Machine, MachineFault, Reply, Status};
 use asl_mode_lanes::Mode;
 use programs::{COUNTER, FAILING, GROWING, program, program_in_the_end};
 use readers::{
@@ -113,14 +113,14 @@ fn expect_steps(
     wanted: Reply,
 ) {
     for _ in 0..count {
-        assert_eq!(rt; reply(rt.alloc(), machine), Some(wanted));
+        assert!(rt; reply(rt.alloc(), machine) == Some(wanted));
     }
 }
 
 /// Expects that this is told of the two threads.
 fn expect_threads(rt: &impl Abort, machine: &Machine<'_>, first: ThreadSeen, second: ThreadSeen) {
-    assert_eq!(rt; see_thread(machine, 0), Some(first));
-    assert_eq!(rt; see_thread(machine, 1), Some(second));
+    assert!(rt; see_thread(machine, 0) == Some(first));
+    assert!(rt; see_thread(machine, 1) == Some(second));
 }
 
 /// How often thread 0 runs, the reply to one step more, and what is told of the thread then.
@@ -206,19 +206,19 @@ fn readers_follow_a_thread_to_its_fault(rt: HostRuntime) -> Result<(), Fail> {
 
 /// Expects that this is told of what thread 0 of the counter has and holds, and of what is not there.
 fn expect_registers_and_nodes(rt: &impl Abort, machine: &Machine<'_>) {
-    assert_eq!(rt; see_register(machine, 4), Some(Value::Int(1)));
-    assert_eq!(rt; see_register(machine, 5), None);
-    assert_eq!(rt; see_held(machine, 0, Node::Leaf(CELL, 0)), Mode::X);
-    assert_eq!(rt; see_held(machine, 0, Node::Leaf(CELL, 7)), Mode::NL);
-    assert_eq!(rt; see_held(machine, 0, Node::Class(1)), Mode::NL);
+    assert!(rt; see_register(machine, 4) == Some(Value::Int(1)));
+    assert!(rt; see_register(machine, 5) == None);
+    assert!(rt; see_held(machine, 0, Node::Leaf(CELL, 0)) == Mode::X);
+    assert!(rt; see_held(machine, 0, Node::Leaf(CELL, 7)) == Mode::NL);
+    assert!(rt; see_held(machine, 0, Node::Class(1)) == Mode::NL);
 }
 
 /// Expects that the only object is the global, and its only cell is 1.
 fn expect_objects(rt: &impl Abort, machine: &Machine<'_>) {
-    assert_eq!(rt; machine.objects(), 1);
-    assert_eq!(rt; see_object(machine, 0), GLOBAL);
-    assert_eq!(rt; see_object(machine, 1), NO_OBJECT);
-    assert_eq!(rt; machine.cell(PAST), None);
+    assert!(rt; machine.objects() == 1);
+    assert!(rt; see_object(machine, 0) == GLOBAL);
+    assert!(rt; see_object(machine, 1) == NO_OBJECT);
+    assert!(rt; machine.cell(PAST) == None);
 }
 
 #[test]
@@ -234,7 +234,7 @@ fn what_is_there_is_told_and_nothing_else(rt: HostRuntime) -> Result<(), Fail> {
 /// Expects that no machine has so many threads.
 fn expect_bad_count(rt: &(impl Abort + AllocGlobal), program: &Program, n: u32) {
     let refused = Machine::new(rt.alloc(), program, n).err();
-    assert_eq!(rt; refused, Some(MachineFault::BadCount));
+    assert!(rt; refused == Some(MachineFault::BadCount));
 }
 
 /// Expects this answer to a step of a thread of 64.
@@ -245,7 +245,7 @@ fn expect_step(
     answer: Result<Reply, MachineFault>,
 ) -> Result<(), Fail> {
     let mut machine = Machine::new(rt.alloc(), program, 64)?;
-    assert_eq!(rt; machine.step(rt.alloc(), t), answer);
+    assert!(rt; machine.step(rt.alloc(), t) == answer);
     Ok(())
 }
 
@@ -273,7 +273,7 @@ fn a_copy_goes_on_apart(rt: HostRuntime) -> Result<(), Fail> {
 }
 
 /// What is told of a machine of two threads.
-#[derive(Clone, Copy, Debug, PartialEq, Eq)]
+#[derive(Clone, Copy, PartialEq)]
 struct Seen {
     first: Option<ThreadSeen>,
     second: Option<ThreadSeen>,
@@ -297,10 +297,10 @@ fn expect_step_in_the_end(rt: &(impl Abort + AllocGlobal), machine: &mut Machine
     let before = see(machine);
     let answer = machine.step(rt.alloc(), 0);
     if answer == Err(MachineFault::OutOfMemory) {
-        assert_eq!(rt; see(machine), before);
+        assert!(rt; see(machine) == before);
         expect_steps(rt, machine, 1, Reply::Ran);
     } else {
-        assert_eq!(rt; answer, Ok(Reply::Ran));
+        assert!(rt; answer == Ok(Reply::Ran));
     }
 }
 
@@ -335,7 +335,7 @@ fn expect_end_in_the_end(rt: &(impl Abort + AllocGlobal), program: &Program) -> 
     let mut machine = machine_in_the_end(rt.alloc(), program)?;
     expect_steps_in_the_end(rt, &mut machine, 8);
     expect_threads(rt, &machine, DONE, UNSTEPPED);
-    assert_eq!(rt; see_object(&machine, 0), GLOBAL);
+    assert!(rt; see_object(&machine, 0) == GLOBAL);
     Ok(())
 }
 
@@ -352,9 +352,9 @@ fn expect_copy_in_the_end(
     machine: &Machine<'_>,
 ) -> Result<(), Fail> {
     let copy = copy_in_the_end(rt.alloc(), machine)?;
-    assert_eq!(rt; copy.objects(), 4);
-    assert_eq!(rt; see_object(&copy, 3), MADE);
-    assert_eq!(rt; see(&copy), see(machine));
+    assert!(rt; copy.objects() == 4);
+    assert!(rt; see_object(&copy, 3) == MADE);
+    assert!(rt; see(&copy) == see(machine));
     Ok(())
 }
 
@@ -377,16 +377,16 @@ fn want_of_memory_for_objects_and_frames_changes_nothing(rt: HostRuntime) -> Res
 
 #[test]
 fn laws_are_there() {
-    crate::requests_are_least();
-    crate::steps_have_one_line();
-    crate::reached_states_are_well_formed();
-    crate::reached_holdings_are_lawful();
-    crate::held_nodes_are_there();
-    crate::no_world_is_blocked();
-    crate::runs_go_on();
-    crate::runs_reach();
-    crate::steps_leave_others_alone();
-    crate::stores_change_one_cell();
-    crate::new_objects_change_no_cell();
-    crate::grants_cover_their_locks();
+    asl_machine::requests_are_least();
+    asl_machine::steps_have_one_line();
+    asl_machine::reached_states_are_well_formed();
+    asl_machine::reached_holdings_are_lawful();
+    asl_machine::held_nodes_are_there();
+    asl_machine::no_world_is_blocked();
+    asl_machine::runs_go_on();
+    asl_machine::runs_reach();
+    asl_machine::steps_leave_others_alone();
+    asl_machine::stores_change_one_cell();
+    asl_machine::new_objects_change_no_cell();
+    asl_machine::grants_cover_their_locks();
 }

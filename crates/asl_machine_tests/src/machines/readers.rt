@@ -1,7 +1,7 @@
 //! What the readers of a machine tell, gathered.
-use crate::{Machine, Status};
 use asl_code::{Cell, Value};
 use asl_lock_forest::Node;
+use asl_machine::{Machine, Status};
 use asl_mode_lanes::Mode;
 
 /// The one cell of the one global.
@@ -11,7 +11,7 @@ pub const CELL: Cell = Cell {
 };
 
 /// What a thread holds at the root, at the global's class and at the global's cell.
-#[derive(Clone, Copy, Debug, PartialEq, Eq)]
+#[derive(Clone, Copy, PartialEq)]
 pub struct Locks {
     pub root: Mode,
     pub class: Mode,
@@ -19,7 +19,7 @@ pub struct Locks {
 }
 
 /// What is told of a thread: of its registers the first two.
-#[derive(Clone, Copy, Debug, PartialEq, Eq)]
+#[derive(Clone, Copy, PartialEq)]
 pub struct ThreadSeen {
     pub status: Status,
     pub pc: Option<u32>,
@@ -29,7 +29,7 @@ pub struct ThreadSeen {
 }
 
 /// What is told of an object and its first cell.
-#[derive(Clone, Copy, Debug, PartialEq, Eq)]
+#[derive(Clone, Copy, PartialEq)]
 pub struct ObjectSeen {
     pub class: Option<u32>,
     pub size: Option<u32>,

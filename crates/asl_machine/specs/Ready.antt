@@ -1,0 +1,83 @@
+-- Machinery of the proofs, not of the promise: what private functions want of a state so that an instruction can be done
+-- in it, what a machine's parts keep, and what they are to contracts (docs/INSTRUCTIONS.md).
+use Rattle.std.specs.Prelude.{◌≡◌, ◌<◌, ◌≤◌, ◌+◌, ◌^◌, ℕ, List, [], ◌∷◌, length, All, slice_get, IsSomeAnd}
+use Rattle.asl_code.specs.declared.image.Function.{Function}
+use Rattle.asl_code.specs.declared.image.Image.{Image}
+use Rattle.asl_code.specs.declared.instr.Instr.{Instr}
+use Rattle.asl_code.specs.declared.instr.Instr.TheVariants.{SetInt, SetNull, Move, Add, Subtract, LessThan, Equals, GlobalAddress, FieldAddress, Load, Store, New, Jump, JumpIfZero, Call, Return, Output, Acquire, Release}
+use Rattle.asl_code.specs.Fits.{FitsImage}
+use Rattle.asl_lock_forest.specs.Held.{Held}
+use Rattle.asl_lock_forest.specs.Holding.{HoldsNothing}
+use Rattle.asl_machine.specs.declared.thread.Stage.{Stage}
+use Rattle.asl_machine.specs.declared.thread.Stage.TheVariants as stage
+use Rattle.asl_machine.specs.State.{Object, Frame, Activity, Thread, Running, Done, Failed}
+use Rattle.asl_machine.specs.Calls.{function_of, frame_count, IsAwaited}
+use Rattle.asl_machine.specs.Request.{LockOfClass, locks_of}
+use Rattle.asl_machine.specs.Access.{AllPoint, AreOfClasses}
+use Rattle.asl_machine.specs.Sound.{IsSound}
+
+-- where each of these functions begins, of which the first begins at this place (docs/INSTRUCTIONS.md)
+abbrev pub firsts_from : ℕ → List Function → List ℕ
+firsts_from first [] = []
+firsts_from first (f ∷ fs) = first ∷ firsts_from (first + f.len) fs
+
+-- a thread at this stage (docs/INSTRUCTIONS.md, State)
+abbrev pub thread_of : Stage → Thread
+thread_of (stage.Running activity) = Running activity
+thread_of (stage.Done value) = Done value
+thread_of (stage.Failed f) = Failed f
+
+-- the registers, globals and lists that the instruction names are there, and the classes that its locks name
+-- (docs/INSTRUCTIONS.md, A step)
+abbrev pub CanDo : Image → Frame → Instr → Type 0
+CanDo image f (SetInt to number) = to < length f.regs
+CanDo image f (SetNull to) = to < length f.regs
+CanDo image f (Move to from) = (to < length f.regs) × (from < length f.regs)
+CanDo image f (Add to left right) = (to < length f.regs) × (left < length f.regs) × (right < length f.regs)
+CanDo image f (Subtract to left right) = (to < length f.regs) × (left < length f.regs) × (right < length f.regs)
+CanDo image f (LessThan to left right) = (to < length f.regs) × (left < length f.regs) × (right < length f.regs)
+CanDo image f (Equals to left right) = (to < length f.regs) × (left < length f.regs) × (right < length f.regs)
+CanDo image f (GlobalAddress to global) = to < length f.regs
+CanDo image f (FieldAddress to from places) = (to < length f.regs) × (from < length f.regs)
+CanDo image f (Load to address) = (to < length f.regs) × (address < length f.regs)
+CanDo image f (Store address from) = (address < length f.regs) × (from < length f.regs)
+CanDo image f (New to cells class) = to < length f.regs
+CanDo image f (Jump target) = Unit {0}
+CanDo image f (JumpIfZero test target) = test < length f.regs
+CanDo image f (Call to first function) =
+    (function < length image.functions) × (first + (function_of image function).params ≤ length f.regs)
+CanDo image f (Return from) = from < length f.regs
+CanDo image f (Output from) = from < length f.regs
+CanDo image f (Acquire list) = (list < length image.lists) × All (LockOfClass image.classes) (locks_of image list)
+CanDo image f Release = Unit {0}
+
+-- what an instruction of a thread stands on: the cells that its registers point to are there, outside all sections
+-- the thread holds nothing, and a frame below has the register that awaits the value of the one above
+-- (docs/INSTRUCTIONS.md, What always holds)
+pub record IsReady (image : Image) (forest : Held) (objects : List Object) (thread : ℕ) (activity : Activity) : Type 0 where
+  pub fits : FitsImage image
+  pub there : thread < forest.threads
+  pub classes : forest.classes ≡ image.classes
+  pub room : activity.top.pc + 1 < 2 ^ 16
+  pub points : AllPoint objects activity.top.regs
+  pub object_classes : AreOfClasses forest.classes objects
+  pub few_objects : length objects ≤ 65536
+  pub few_frames : frame_count activity ≤ 256
+  pub outside : activity.depth ≡ 0 → HoldsNothing forest.holding thread
+  pub awaited : IsAwaited activity.top.result activity.below
+
+-- a running thread is ready for the instruction that it is at, and that is one that it can do
+-- (docs/INSTRUCTIONS.md, What always holds)
+abbrev pub ThreadReady : Image → Held → List Object → ℕ → Thread → Type 0
+ThreadReady image forest objects t (Running activity) =
+    IsReady image forest objects t activity × IsSomeAnd (slice_get image.code activity.top.pc) (CanDo image activity.top)
+ThreadReady image forest objects t (Done value) = Unit {0}
+ThreadReady image forest objects t (Failed f) = Unit {0}
+
+-- what every machine keeps: its state is sound, and its forest is over its program's classes and its own threads
+-- (docs/INSTRUCTIONS.md, What always holds)
+pub record IsMachine (image : Image) (objects : List Object) (forest : Held) (threads : List Thread) : Type 0 where
+  pub sound : IsSound image (record { objects = objects; holding = forest.holding; threads = threads })
+  pub classes : forest.classes ≡ image.classes
+  pub counted : forest.threads ≡ length threads
+  pub few_threads : length threads ≤ 64
