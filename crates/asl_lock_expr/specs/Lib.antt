@@ -1,7 +1,7 @@
 pub mod Expression
 pub mod ClassOf
-pub mod Stores
 pub mod Links
+pub mod Stores
 pub mod LinksView
 pub mod Order
 pub mod Placing
