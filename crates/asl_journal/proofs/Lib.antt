@@ -1,3 +1,11 @@
+pub mod Front
+pub mod Loads
+pub mod Logs
+pub mod Loop
+pub mod Outcomes
+pub mod Parts
 pub mod Recordings
 pub mod Replays
 pub mod Runs
+pub mod Values
+pub mod Written

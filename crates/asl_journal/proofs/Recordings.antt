@@ -5,7 +5,6 @@ use Rattle.std.proofs.lemmas.Bool.{cases_lt}
 use Rattle.std.proofs.lemmas.List.{length_push}
 use Rattle.std.proofs.lemmas.List.Elements.{All-push, All-nil}
 use Rattle.asl_code.specs.declared.image.Image.{Image}
-use Rattle.asl_machine.specs.declared.reply.Reply.{Reply}
 use Rattle.asl_machine.specs.State.{State}
 use Rattle.asl_machine.specs.View.{Configuration}
 use Rattle.asl_machine.specs.Run.{start_of}
@@ -13,7 +12,7 @@ use Rattle.asl_machine.specs.Twin.{step_of}
 use Rattle.asl_machine.proofs.Reached.{step_count}
 use Rattle.asl_machine.proofs.Soundness.{length-first_threads}
 use Rattle.asl_journal.specs.declared.event.Event.{Event}
-use Rattle.asl_journal.specs.Journal.{IsCount, IsJournal, AreThere, GoesBy, most_events, state_at, schedule_of}
+use Rattle.asl_journal.specs.Journal.{IsCount, IsJournal, most_events, state_at}
 use Rattle.asl_journal.specs.Recorded.{Fits}
 use Rattle.asl_journal.proofs.Runs.{state_snoc, goes_snoc}
 

@@ -1,8 +1,9 @@
 -- What a replay has followed so far, and where it stops.
-use Rattle.std.proofs.Common.{◌≡◌, ◌≢◌, ℕ, suc, ◌+◌, ◌<◌, ◌≤◌, List, [], ◌∷◌, ◌++◌, length, take, drop, get_or, slice_get, Result, Ok, Err, refl, ap, sym, subst, ◌∙◌, arith}
+use Rattle.std.proofs.Common.{◌≡◌, ◌≢◌, ℕ, zero, suc, inl, inr, ◌+◌, ◌<◌, ◌≤◌, List, [], ◌∷◌, ◌++◌, length, take, drop, get_or, Some, Result, Ok, Err, refl, ap, sym, subst, ◌∙◌, arith}
 use Rattle.std.specs.Prelude.{IfErr}
 use Rattle.std.proofs.Math.Seq.{drop-cons}
-use Rattle.std.proofs.lemmas.List.{take_more, take_all, take-append-drop}
+use Rattle.std.proofs.lemmas.List.{take_more, take_all, take-append-drop, length-take, get_or-take}
+use Rattle.std.proofs.lemmas.Bool.{cases_lt}
 use Rattle.std.proofs.lemmas.Option.{slice_get-get_or, slice_get_within, get_or_from_slice_get}
 use Rattle.asl_code.specs.declared.image.Image.{Image}
 use Rattle.asl_machine.specs.declared.reply.Reply.{Reply}
@@ -94,3 +95,33 @@ only_memory image s events (Err faults.OutOfMemory) goes is = refl
 pub only_memory_at : {T : Type 0} (machine : Configuration) (events : List Event) (image : Image) (s : State) (others : List Event) (r : Result T JournalFault) → machine.image ≡ image → machine.state ≡ s → events ≡ others
     → GoesBy image s others → IfErr r (IsFollowFault machine.image machine.state events) → IfErr r (λ fault. fault ≡ faults.OutOfMemory)
 only_memory_at machine events image s others r p q e goes is = only_memory machine.image machine.state events r (rw (p, q, e) goes) is
+
+-- no earlier event differs than the first that does
+earlier : (image : Image) (s : State) (events : List Event) (index later : ℕ) → index < later → DiffersAt image s events index → DiffersAt image s events later → ⊥
+earlier image s events index later lt d other =
+    let within = slice_get_within events later other.event other.at in
+    let short : index < length (take later events) = omega (arith, length-take later events) in
+    let shorter : take index (take later events) ≡ take index events = take_of_take index later events lt in
+    no_difference image s (take later events) index other.before (record {
+      event = d.event;
+      at = slice_get-get_or (take later events) index d.event short ∙ ap (λ (e : Event). Some e) (get_or-take later events index d.event lt ∙ get_or_from_slice_get events index d.event d.event d.at);
+      before = subst (GoesBy image s) (sym shorter) d.before;
+      differs = subst (λ (es : List Event). d.event.reply ≢ (step_of image (state_after image s (schedule_of es)) d.event.thread).reply) (sym shorter) d.differs;
+    })
+  where
+    take_of_take : (i n : ℕ) (es : List Event) → i < n → take i (take n es) ≡ take i es
+    take_of_take zero n es lt = refl
+    take_of_take (suc i) zero es lt = absurd (omega arith)
+    take_of_take (suc i) (suc n) [] lt = refl
+    take_of_take (suc i) (suc n) (e ∷ es) lt = ap (λ (xs : List Event). e ∷ xs) (take_of_take i n es (omega arith))
+
+-- one event is the first that differs
+pub one_difference : (image : Image) (s : State) (events : List Event) (index other : ℕ) → DiffersAt image s events index → DiffersAt image s events other → index ≡ other
+one_difference image s events index other d e =
+    elim (cases_lt index other) [
+      | inl lt ↦ absurd (earlier image s events index other lt d e)
+      | inr le ↦ elim (cases_lt other index) [
+        | inl lt ↦ absurd (earlier image s events other index lt e d)
+        | inr back ↦ omega arith
+      ]
+    ]

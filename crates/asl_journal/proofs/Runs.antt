@@ -1,13 +1,15 @@
 -- Runs in two parts.
-use Rattle.std.proofs.Common.{◌≡◌, ℕ, zero, suc, List, [], ◌∷◌, ◌++◌, refl, ap, ap₂, ◌∙◌}
+use Rattle.std.proofs.Common.{◌≡◌, ℕ, ◌<◌, List, [], ◌∷◌, ◌++◌, take, drop, refl, ap, ap₂, sym, subst, ◌∙◌}
+use Rattle.std.proofs.lemmas.List.{take-append-drop}
+use Rattle.std.proofs.lemmas.List.Elements.{All-take}
 use Rattle.asl_code.specs.declared.image.Image.{Image}
 use Rattle.asl_machine.specs.declared.reply.Reply.{Reply}
 use Rattle.asl_machine.specs.State.{State}
-use Rattle.asl_machine.specs.Run.{start_of, replies_of, state_after}
+use Rattle.asl_machine.specs.Run.{start_of, state_after}
 use Rattle.asl_machine.specs.Twin.{step_of}
 use Rattle.asl_machine.proofs.Runs.{state_after-append}
 use Rattle.asl_journal.specs.declared.event.Event.{Event}
-use Rattle.asl_journal.specs.Journal.{schedule_of, replies_in, GoesBy, state_at}
+use Rattle.asl_journal.specs.Journal.{schedule_of, GoesBy, IsJournal}
 
 pub schedule_append : (es fs : List Event) → schedule_of (es ++ fs) ≡ schedule_of es ++ schedule_of fs
 schedule_append [] fs = refl
@@ -45,3 +47,10 @@ state_snoc image s es e = state_events image s es (e ∷ [])
 
 pub goes_snoc : (image : Image) (s : State) (es : List Event) (e : Event) → GoesBy image s es → e.reply ≡ (step_of image (state_after image s (schedule_of es)) e.thread).reply → GoesBy image s (es ++ e ∷ [])
 goes_snoc image s es e a b = goes_append image s es (e ∷ []) a (goes_cons image (state_after image s (schedule_of es)) e [] b refl)
+
+-- the first events of a journal are one
+pub prefix_is_journal : (image : Image) (count k : ℕ) (events : List Event) → IsJournal image count events → IsJournal image count (take k events)
+prefix_is_journal image count k events j = record {
+  there = All-take (λ (e : Event). e.thread < count) k events j.there;
+  replies = goes_front image (start_of image count) (take k events) (drop k events) (subst (GoesBy image (start_of image count)) (sym (take-append-drop k events)) j.replies);
+}

@@ -1,5 +1,5 @@
 -- A machine whose steps are written down (docs/JOURNAL.md, "A machine that writes it down").
-use Rattle.std.specs.Prelude.{◌≡◌, ◌≤◌, ◌+◌, ◌-◌, ℕ, Bool, List, length, min, is_none}
+use Rattle.std.specs.Prelude.{◌≡◌, ◌≤◌, ◌-◌, ℕ, Bool, List, length, min, is_none}
 use Rattle.asl_code.specs.declared.image.Image.{Image}
 use Rattle.asl_machine.specs.State.{State, activity_at}
 use Rattle.asl_machine.specs.View.{Configuration}

@@ -5,11 +5,17 @@ mod event;
 mod fault;
 mod journal;
 mod journaled;
+pub mod laws;
 mod limits;
+mod loading;
+mod reading;
 mod replaying;
+mod storing;
 
 pub use event::{Event, Receipt};
 pub use fault::JournalFault;
 pub use journal::Journal;
 pub use journaled::Journaled;
+pub use loading::get;
 pub use replaying::{follow, replay};
+pub use storing::put;

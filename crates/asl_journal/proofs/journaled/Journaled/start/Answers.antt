@@ -1,8 +1,5 @@
-use Rattle.std.proofs.Common.{arith, ap, ◌∙◌, length, subst, sym, List}
-use Rattle.asl_machine.specs.State.{State}
-use Rattle.asl_machine.proofs.Soundness.{length-first_threads}
+use Rattle.std.proofs.Common.{length, subst, sym, List}
 use Rattle.asl_journal.specs.declared.event.Event.{Event}
-use Rattle.asl_journal.specs.Journal.{IsCount}
 use Rattle.asl_journal.specs.Recorded.{Fits}
 use Rattle.asl_journal.proofs.Recordings.{fits_start, machine_count, in_count}
 use Rattle.asl_journal.proofs.journaled.Journaled.start.Goals as goal

@@ -1,11 +1,8 @@
-use Rattle.std.proofs.Common.{◌≡◌, ◌<◌, ◌++◌, ◌∷◌, [], List, length, arith, ap, ◌∙◌, refl, subst, sym}
-use Rattle.std.specs.Prelude.{is_none}
-use Rattle.asl_machine.specs.declared.reply.Reply.{Reply}
-use Rattle.asl_machine.specs.State.{Activity, State, activity_at}
-use Rattle.asl_machine.specs.Step.{Step}
+use Rattle.std.proofs.Common.{◌≡◌, ◌++◌, ◌∷◌, [], List, length, arith, ap, ◌∙◌, subst, sym}
+use Rattle.asl_machine.specs.State.{Activity, activity_at}
 use Rattle.asl_journal.specs.declared.event.Event.{Event}
 use Rattle.asl_journal.specs.Journal.{IsJournal}
-use Rattle.asl_journal.specs.Recorded.{Fits, has_ended}
+use Rattle.asl_journal.specs.Recorded.{Fits}
 use Rattle.asl_journal.proofs.Recordings.{fits_step, no_activity}
 use Rattle.asl_journal.proofs.journaled.Journaled.step.Goals as goal
 

@@ -1,0 +1,11 @@
+use Rattle.std.proofs.Common.{arith}
+use Rattle.asl_journal.proofs.Loads.{rest_within, left_within}
+use Rattle.asl_journal.proofs.loading.whole_of.Goals as goal
+
+pub overflow_sub-result : goal.overflow_sub-result
+overflow_sub-result c = rest_within c.args.bytes.now c.in-Ok._journal c.in-Ok.rest.now (λ i. omega (arith, c.type_inv.bytes i)) c.in-Ok.ensures
+
+pub overflow_sub-bytes : goal.overflow_sub-bytes
+overflow_sub-bytes c =
+    let stopped = rw c.in-Err-Bad.field-0-is at c.in-Err-Bad.ensures in
+    left_within c.args.bytes.now c.in-Err-Bad.left (λ i. omega (arith, c.type_inv.bytes i)) stopped

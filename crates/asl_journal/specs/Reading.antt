@@ -1,0 +1,163 @@
+-- Reading a journal from front to back, to the first field that is cut or bad: what the readers of src/ compute
+-- (docs/JOURNAL.md, "Bytes"). No public contract cites it; the lemmas of proofs/ lead from here to the relations of
+-- specs/Bytes and specs/Faults, which contracts cite.
+use Rattle.std.specs.Prelude.{◌≡◌, ℕ, zero, suc, ◌-◌, Bool, nat_lt, nat_le, ◌==◌, ◌&&◌, if◌then◌else◌, List, length, Result, Ok, Err}
+use Rattle.std.specs.Int.{w16, w32, cast_signed}
+use Rattle.asl_code.specs.declared.value.Value.{Value}
+use Rattle.asl_code.specs.declared.value.Value.TheVariants.{Int, Null, Addr}
+use Rattle.asl_machine.specs.declared.fault.Fault.{Fault}
+use Rattle.asl_machine.specs.declared.fault.Fault.TheVariants as fault
+use Rattle.asl_machine.specs.declared.reply.Reply.{Reply}
+use Rattle.asl_machine.specs.declared.reply.Reply.TheVariants as reply
+use Rattle.asl_loader.specs.declared.fault.Stop.{Stop}
+use Rattle.asl_loader.specs.declared.fault.Stop.TheVariants.{Short, Bad}
+use Rattle.asl_loader.specs.Reading.{◌>>=◌, passed, byte_at, number_at, below_at, effect_at, items_at}
+use Rattle.asl_journal.specs.declared.event.Event.{Event}
+use Rattle.asl_journal.specs.declared.fault.JournalFault.{JournalFault}
+use Rattle.asl_journal.specs.declared.fault.JournalFault.TheVariants.{Magic, Version, Truncated, BadField, Trailing}
+use Rattle.asl_journal.specs.declared.fault.ReadError.{ReadError}
+use Rattle.asl_journal.specs.declared.fault.ReadError.TheVariants as errors
+use Rattle.asl_journal.specs.Journal.{Log, most_threads, most_events}
+
+-- what a function returned, seen by view, is what reading gives, unless memory ran out
+abbrev pub Fails : {Y : Type 0} → ReadError → Result Y Stop → Type 0
+Fails errors.Memory read = Unit {0}
+Fails errors.Short read = read ≡ Err Short
+Fails (errors.Bad left) read = read ≡ Err (Bad left)
+
+-- the same of what was read
+abbrev pub Gives : {X Y : Type 0} → (X → Y) → Result X ReadError → Result Y Stop → Type 0
+Gives view (Ok x) read = read ≡ Ok (view x)
+Gives view (Err e) read = Fails e read
+
+-- the four letters
+unfoldable pub letters_at : List ℕ → Result (ℕ × List ℕ) Stop
+letters_at bytes = do
+  n ← number_at w32 bytes
+  passed (n.0 == 1095978058) n bytes
+
+-- the version
+unfoldable pub version_at : List ℕ → Result (ℕ × List ℕ) Stop
+version_at bytes = do
+  n ← number_at w16 bytes
+  passed (n.0 == 1) n bytes
+
+-- whether there may be so many threads
+abbrev pub is_count : ℕ → Bool
+is_count n = nat_lt 0 n && nat_le n most_threads
+
+-- how many threads
+unfoldable pub threads_at : List ℕ → Result (ℕ × List ℕ) Stop
+threads_at bytes = do
+  n ← byte_at bytes
+  passed (is_count n.0) n bytes
+
+-- how many events
+unfoldable pub count_at : List ℕ → Result (ℕ × List ℕ) Stop
+count_at bytes = do
+  n ← number_at w32 bytes
+  passed (nat_le n.0 most_events) n bytes
+
+-- the rest of a value of this kind
+unfoldable pub value_of : ℕ → List ℕ → Result (Value × List ℕ) Stop
+value_of zero bytes = do
+  n ← number_at w32 bytes
+  Ok (Int (cast_signed w32 n.0), n.1)
+value_of (suc zero) bytes = Ok (Null, bytes)
+value_of (suc (suc kind)) bytes = do
+  object ← number_at w16 bytes
+  offset ← byte_at object.1
+  Ok (Addr object.0 offset.0, offset.1)
+
+-- a value
+unfoldable pub value_at : List ℕ → Result (Value × List ℕ) Stop
+value_at bytes = do
+  kind ← below_at 3 bytes
+  value_of kind.0 kind.1
+
+-- the cell and the effect of an unprotected access
+unfoldable pub unprotected_at : List ℕ → Result (Fault × List ℕ) Stop
+unprotected_at bytes = do
+  object ← number_at w16 bytes
+  offset ← byte_at object.1
+  effect ← effect_at offset.1
+  Ok (fault.Unprotected (record { object = object.0; offset = offset.0 }) effect.0, effect.1)
+
+-- the fault of a number that names nothing more
+abbrev pub plain_fault : ℕ → Fault
+plain_fault zero = fault.BadType
+plain_fault (suc zero) = fault.Null
+plain_fault (suc (suc zero)) = fault.Bounds
+plain_fault (suc (suc (suc zero))) = fault.Full
+plain_fault (suc (suc (suc (suc zero)))) = fault.Full
+plain_fault (suc (suc (suc (suc (suc zero))))) = fault.Stack
+plain_fault (suc (suc (suc (suc (suc (suc zero)))))) = fault.Open
+plain_fault (suc (suc (suc (suc (suc (suc (suc zero))))))) = fault.Deep
+plain_fault (suc (suc (suc (suc (suc (suc (suc (suc n)))))))) = fault.NoSection
+
+-- the rest of a fault of this number
+unfoldable pub fault_of : ℕ → List ℕ → Result (Fault × List ℕ) Stop
+fault_of number bytes = if number == 3 then unprotected_at bytes else Ok (plain_fault number, bytes)
+
+-- a fault
+unfoldable pub fault_at : List ℕ → Result (Fault × List ℕ) Stop
+fault_at bytes = do
+  number ← below_at 9 bytes
+  fault_of number.0 number.1
+
+-- the rest of a reply of this number
+unfoldable pub reply_of : ℕ → List ℕ → Result (Reply × List ℕ) Stop
+reply_of zero bytes = Ok (reply.Ran, bytes)
+reply_of (suc zero) bytes = do
+  value ← value_at bytes
+  Ok (reply.Out value.0, value.1)
+reply_of (suc (suc zero)) bytes = Ok (reply.Blocked, bytes)
+reply_of (suc (suc (suc zero))) bytes = Ok (reply.Ended, bytes)
+reply_of (suc (suc (suc (suc number)))) bytes = do
+  f ← fault_at bytes
+  Ok (reply.Fault f.0, f.1)
+
+-- a reply
+unfoldable pub reply_at : List ℕ → Result (Reply × List ℕ) Stop
+reply_at bytes = do
+  number ← below_at 5 bytes
+  reply_of number.0 number.1
+
+-- an event of one of so many threads
+unfoldable pub event_at : ℕ → List ℕ → Result (Event × List ℕ) Stop
+event_at threads bytes = do
+  thread ← below_at threads bytes
+  r ← reply_at thread.1
+  Ok (record { thread = thread.0; reply = r.0 }, r.1)
+
+-- a journal
+unfoldable pub log_at : List ℕ → Result (Log × List ℕ) Stop
+log_at bytes = do
+  front ← letters_at bytes
+  v ← version_at front.1
+  threads ← threads_at v.1
+  count ← count_at threads.1
+  events ← items_at (event_at threads.0) count.0 count.1
+  Ok (record { threads = threads.0; events = events.0 }, events.1)
+
+-- the fault of a bad byte
+abbrev pub bad_fault : ℕ → JournalFault
+bad_fault at = if at == 0 then Magic else if at == 4 then Version else BadField at
+
+-- the fault of what stopped the reading of so many bytes
+abbrev pub stop_fault : Stop → ℕ → JournalFault
+stop_fault Short len = Truncated len
+stop_fault (Bad left) len = bad_fault (len - left)
+
+-- a journal, if no bytes are left
+abbrev pub ended : Log → ℕ → ℕ → Result Log JournalFault
+ended log left len = if left == 0 then Ok log else Err (Trailing (len - left))
+
+-- the journal that was read, or the fault
+abbrev pub whole_from : ℕ → Result (Log × List ℕ) Stop → Result Log JournalFault
+whole_from len (Ok x) = ended x.0 (length x.1) len
+whole_from len (Err stop) = Err (stop_fault stop len)
+
+-- the journal of all the bytes
+unfoldable pub whole_of : List ℕ → Result Log JournalFault
+whole_of bytes = whole_from (length bytes) (log_at bytes)

@@ -1,0 +1,48 @@
+//! Laws of the definitions that the contracts of this crate cite.
+ghost use Rattle.std.specs.Prelude.{◌≡◌, ◌++◌, ℕ, List, take};
+ghost use Rattle.asl_code.specs.declared.image.Image.{Image};
+ghost use Rattle.asl_machine.specs.State.{State};
+ghost use Rattle.asl_machine.specs.Run.{state_after};
+ghost use Rattle.asl_journal.specs.declared.event.Event.{Event};
+ghost use Rattle.asl_journal.specs.Bytes.{LogOfSpellingIsOne, SpellingOfLogIsOne};
+ghost use Rattle.asl_journal.specs.Faults.{BytesHaveAnOutcome, OutcomeIsOne};
+ghost use Rattle.asl_journal.specs.Journal.{GoesBy, IsJournal, schedule_of};
+ghost use Rattle.asl_journal.specs.Replay.{DiffersAt};
+
+/// A journal and its bytes belong to no other. So to get what was put gives the same journal.
+pub fn journal_and_bytes_are_one()
+    ensures journal { LogOfSpellingIsOne }
+    ensures bytes { SpellingOfLogIsOne }
+{}
+
+/// Bytes have exactly one outcome: a journal, or one refusal. Want of memory says nothing of them.
+pub fn bytes_have_one_outcome()
+    ensures some { BytesHaveAnOutcome }
+    ensures one { OutcomeIsOne }
+{}
+
+/// A run in two parts: the events of the whole are a run's where the first are, and the others are from where the first
+/// lead.
+pub fn runs_have_parts()
+    ensures state { (image : Image) (s : State) (first rest : List Event) → state_after image s (schedule_of (first ++ rest))
+        ≡ state_after image (state_after image s (schedule_of first)) (schedule_of rest) }
+    ensures together { (image : Image) (s : State) (first rest : List Event) → GoesBy image s first
+        → GoesBy image (state_after image s (schedule_of first)) rest → GoesBy image s (first ++ rest) }
+    ensures first { (image : Image) (s : State) (first rest : List Event) → GoesBy image s (first ++ rest) → GoesBy image s first }
+    ensures rest { (image : Image) (s : State) (first rest : List Event) → GoesBy image s (first ++ rest)
+        → GoesBy image (state_after image s (schedule_of first)) rest }
+{}
+
+/// The first events of a journal of a program, however many, are one too.
+pub fn prefixes_are_journals()
+    ensures { (image : Image) (count k : ℕ) (events : List Event) → IsJournal image count events
+        → IsJournal image count (take k events) }
+{}
+
+/// One event at the most is the first that differs from a run, and none of a run's own events is.
+pub fn first_differences_are_one()
+    ensures one { (image : Image) (s : State) (events : List Event) (index other : ℕ) → DiffersAt image s events index
+        → DiffersAt image s events other → index ≡ other }
+    ensures none { (image : Image) (s : State) (events : List Event) (index : ℕ) → GoesBy image s events
+        → ¬ DiffersAt image s events index }
+{}

@@ -1,0 +1,122 @@
+//! Writing the bytes of a journal.
+ghost use Rattle.std.specs.Prelude.{◌≡◌, ◌<◌, ◌^◌, ℕ, List, [], ◌∷◌, length, IfOk, OnOk};
+ghost use Rattle.asl_code.specs.Spelling.{IsValue};
+ghost use Rattle.asl_code.specs.declared.value.Effect.{Effect};
+ghost use Rattle.asl_code.specs.declared.value.Value.{Value};
+ghost use Rattle.asl_machine.specs.declared.fault.Fault.{Fault};
+ghost use Rattle.asl_machine.specs.declared.reply.Reply.{Reply};
+ghost use Rattle.asl_loader.specs.Bytes.{one, two, effect_field};
+ghost use Rattle.asl_loader.specs.Writing.{Writes, WritesEach};
+ghost use Rattle.asl_journal.specs.declared.event.Event.{Event};
+ghost use Rattle.asl_journal.specs.Bytes.{four, value_fields, fault_fields, reply_fields, event_fields, IsFault, IsReply, SpellsLog};
+
+use crate::event::Event;
+use crate::journal::Journal;
+use asl_code::{Effect, Value, put_value};
+use asl_machine::{Fault, Reply};
+use std::alloc::{AllocError, Global};
+
+/// The bytes of the journal.
+pub fn put(alloc: Global, journal: &Journal) -> Result<Vec<u8>, AllocError>
+    ensures { IfOk result (λ bytes. SpellsLog journal.now bytes.items) }
+{
+    let mut out = Vec::new(alloc);
+    out.extend_from_slice(b"ASLJ")?;
+    put_two(&mut out, 1)?;
+    put_byte(&mut out, journal.threads() as u8)?;
+    put_four(&mut out, journal.events().len() as u32)?;
+    put_events(&mut out, journal.events())?;
+    Ok(out)
+}
+
+fn put_byte(out: &mut Vec<u8>, n: u8) -> Result<(), AllocError>
+    ensures { OnOk result (Writes ℕ (λ n. n < 256) (λ n. one n ∷ []) out.old.items out.new.items n) }
+{
+    out.push(n)?;
+    Ok(())
+}
+
+fn put_two(out: &mut Vec<u8>, n: u16) -> Result<(), AllocError>
+    ensures { OnOk result (Writes ℕ (λ n. n < 2 ^ 16) (λ n. two n ∷ []) out.old.items out.new.items n) }
+{
+    out.extend_from_slice(&n.to_be_bytes())?;
+    Ok(())
+}
+
+fn put_four(out: &mut Vec<u8>, n: u32) -> Result<(), AllocError>
+    ensures { OnOk result (Writes ℕ (λ n. n < 2 ^ 32) (λ n. four n ∷ []) out.old.items out.new.items n) }
+{
+    out.extend_from_slice(&n.to_be_bytes())?;
+    Ok(())
+}
+
+fn put_events(out: &mut Vec<u8>, events: &[Event]) -> Result<(), AllocError>
+    ensures { OnOk result (WritesEach Event (λ event. IsReply event.reply) event_fields out.old.items out.new.items events.now) }
+{
+    for event in events {
+        put_event(out, *event)?;
+    }
+    Ok(())
+}
+
+fn put_event(out: &mut Vec<u8>, event: Event) -> Result<(), AllocError>
+    ensures { OnOk result (Writes Event (λ event. IsReply event.reply) event_fields out.old.items out.new.items event) }
+{
+    put_byte(out, event.thread)?;
+    put_reply(out, event.reply)
+}
+
+fn put_reply(out: &mut Vec<u8>, reply: Reply) -> Result<(), AllocError>
+    ensures { OnOk result (Writes Reply IsReply reply_fields out.old.items out.new.items reply) }
+{
+    match reply {
+        Reply::Ran => put_byte(out, 0),
+        Reply::Out(value) => {
+            put_byte(out, 1)?;
+            put_one_value(out, value)
+        }
+        Reply::Blocked => put_byte(out, 2),
+        Reply::Ended => put_byte(out, 3),
+        Reply::Fault(fault) => {
+            put_byte(out, 4)?;
+            put_fault(out, fault)
+        }
+    }
+}
+
+fn put_one_value(out: &mut Vec<u8>, value: Value) -> Result<(), AllocError>
+    ensures { OnOk result (Writes Value IsValue value_fields out.old.items out.new.items value) }
+{
+    out.extend_from_slice(put_value(value).as_slice())?;
+    Ok(())
+}
+
+fn put_fault(out: &mut Vec<u8>, fault: Fault) -> Result<(), AllocError>
+    ensures { OnOk result (Writes Fault IsFault fault_fields out.old.items out.new.items fault) }
+{
+    match fault {
+        Fault::BadType => put_byte(out, 0),
+        Fault::Null => put_byte(out, 1),
+        Fault::Bounds => put_byte(out, 2),
+        Fault::Unprotected(cell, effect) => {
+            put_byte(out, 3)?;
+            put_two(out, cell.object)?;
+            put_byte(out, cell.offset)?;
+            put_effect(out, effect)
+        }
+        Fault::Full => put_byte(out, 4),
+        Fault::Stack => put_byte(out, 5),
+        Fault::Open => put_byte(out, 6),
+        Fault::Deep => put_byte(out, 7),
+        Fault::NoSection => put_byte(out, 8),
+    }
+}
+
+fn put_effect(out: &mut Vec<u8>, effect: Effect) -> Result<(), AllocError>
+    ensures { OnOk result (Writes Effect (λ e. Unit {0}) (λ e. effect_field e ∷ []) out.old.items out.new.items effect) }
+{
+    match effect {
+        Effect::Read => put_byte(out, 0),
+        Effect::Write => put_byte(out, 1),
+    }
+}
