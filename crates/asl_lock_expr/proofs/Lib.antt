@@ -3,4 +3,6 @@ pub mod Ones
 pub mod Steps
 pub mod Orders
 pub mod Derived
+pub mod Storings
+pub mod Leaves
 pub mod Walks

@@ -40,19 +40,18 @@ flat_of (l ∷ ms) m n (inr o) p = one_right (dereferenced l) _ n (flat_of ms m 
 -- a list with what it dereferences is what a lock is linked to
 pub linked_is : (v : View) (i : Instr) (l : Lock) (ms list : List Lock) → ms ≡ link v i l → ((n : Lock) → IsOne list n ↔ (IsOne ms n ⊎ IsOne (flat_map dereferenced ms) n)) →
     (n : Lock) → IsOne list n ↔ IsLinked v i l n
-linked_is v i l ms list is same n =
-    (
-      λ o. elim ((same n).0 o) [
-        | inl p ↦ (n, subst (λ (xs : List Lock). IsOne xs n) is p, inl refl)
-        | inr q ↦ (let r = flat_from ms n q in (r.0, subst (λ (xs : List Lock). IsOne xs r.0) is r.1, inr r.2))
+linked_is v i l ms list is same n = (
+  λ o. elim ((same n).0 o) [
+    | inl p ↦ (n, subst (λ (xs : List Lock). IsOne xs n) is p, inl refl)
+    | inr q ↦ (let r = flat_from ms n q in (r.0, subst (λ (xs : List Lock). IsOne xs r.0) is r.1, inr r.2))
+  ],
+  λ o.
+      let there : IsOne ms o.0 = subst (λ (xs : List Lock). IsOne xs o.0) (sym is) o.1 in
+      elim o.2 [
+        | inl e ↦ (same n).1 (inl (subst (λ (x : Lock). IsOne ms x) e there))
+        | inr p ↦ (same n).1 (inr (flat_of ms o.0 n there p))
       ],
-      λ o.
-        let there : IsOne ms o.0 = subst (λ (xs : List Lock). IsOne xs o.0) (sym is) o.1 in
-        elim o.2 [
-          | inl e ↦ (same n).1 (inl (subst (λ (x : Lock). IsOne ms x) e there))
-          | inr p ↦ (same n).1 (inr (flat_of ms o.0 n there p))
-        ],
-    )
+)
 
 -- what was linked, read against the view of the function
 pub linked_view : (c : Classed) (w : List (List ℕ)) (k f function pc : ℕ) (code now : List Instr) (d i : Instr) (l : Lock) (start end : List Lock) →

@@ -1,5 +1,5 @@
 -- Laws of the order of locks, and of a lock put at its place in a list in order.
-use Rattle.std.proofs.Common.{◌≡◌, ℕ, ◌+◌, ◌⊎◌, ◌++◌, List, [], ◌∷◌, map, refl, ap, ap₂, ◌∙◌, subst, inl, inr, arith}
+use Rattle.std.proofs.Common.{◌≡◌, ℕ, ◌+◌, ◌⊎◌, ◌↔◌, ◌++◌, List, [], ◌∷◌, map, refl, sym, ap, ap₂, ◌∙◌, subst, inl, inr, arith}
 use Rattle.std.specs.declared.cmp.Ordering.TheVariants.{Less, Equal, Greater}
 use Rattle.std.specs.Ordering.{ordering_reverse}
 use Rattle.std.specs.Cmp.{IsTotalOrder, on_total}
@@ -111,3 +111,30 @@ placed_in_order (m ∷ ms) n all =
           let below : lock_cmp n m ≡ Less = lock_total.antisymm n m ∙ ap ordering_reverse is in
           ((λ b o. elim o [ inl e ↦ subst (λ (x : Lock). lock_cmp n x ≡ Less) e below | inr p ↦ lock_total.trans n m b below (all.0 b p) ]), all)
     ] refl
+
+-- the first of a list comes before none that is in it
+not_less_itself : (a : Lock) → lock_cmp a a ≡ Less → ⊥
+not_less_itself a e = let back : lock_cmp a a ≡ Greater = lock_total.antisymm a a ∙ ap ordering_reverse e in cc
+
+-- the first locks of two lists in order that have the same locks are the same
+same_first : (m n : Lock) (ms ns : List Lock) → AreInOrder (m ∷ ms) → AreInOrder (n ∷ ns) → ((l : Lock) → IsOne (m ∷ ms) l ↔ IsOne (n ∷ ns) l) → m ≡ n
+same_first m n ms ns up vp same =
+    elim ((same m).0 (inl refl)) [
+      | inl e ↦ sym e
+      | inr p ↦ elim ((same n).1 (inl refl)) [
+        | inl e ↦ e
+        | inr q ↦ absurd (not_less_itself m (lock_total.trans m n m (up.0 n q) (vp.0 m p)))
+      ]
+    ]
+
+pub one_list : (ms ns : List Lock) → AreInOrder ms → AreInOrder ns → ((l : Lock) → IsOne ms l ↔ IsOne ns l) → ms ≡ ns
+one_list [] [] up vp same = refl
+one_list [] (n ∷ ns) up vp same = absurd ((same n).1 (inl refl))
+one_list (m ∷ ms) [] up vp same = absurd ((same m).0 (inl refl))
+one_list (m ∷ ms) (n ∷ ns) up vp same =
+    let e = same_first m n ms ns up vp same in
+    let rest : (l : Lock) → IsOne ms l ↔ IsOne ns l = λ l. (
+      λ o. elim ((same l).0 (inr o)) [ inl is ↦ absurd (not_less_itself m (subst (λ (x : Lock). lock_cmp m x ≡ Less) (sym is ∙ sym e) (up.0 l o))) | inr p ↦ p ],
+      λ o. elim ((same l).1 (inr o)) [ inl is ↦ absurd (not_less_itself n (subst (λ (x : Lock). lock_cmp n x ≡ Less) (sym is ∙ e) (vp.0 l o))) | inr p ↦ p ],
+    ) in
+    ap₂ (λ (a : Lock) (b : List Lock). a ∷ b) e (one_list ms ns up.1 vp.1 rest)

@@ -3,6 +3,7 @@ pub mod ClassOf
 pub mod Links
 pub mod Stores
 pub mod LinksView
+pub mod Storing
 pub mod Order
 pub mod Placing
 pub mod Agrees

@@ -116,6 +116,12 @@ link v i (lock.Expr e effect) = flat_map (settle v) (before v i e effect)
 link v i (lock.Class class effect) = lock.Class class effect ∷ []
 link v i (lock.Root effect) = lock.Root effect ∷ []
 
+-- an expression that is not too long, and has a class; any class or root lock
+abbrev pub IsSettled : View → Lock → Type 0
+IsSettled v (lock.Expr e effect) = (nat_le (length e.path) v.longest ≡ true) × ((x : ℕ) × (class_of v.classes v.function e ≡ Some x))
+IsSettled v (lock.Class class effect) = Unit {0}
+IsSettled v (lock.Root effect) = Unit {0}
+
 -- the lock that a load or a store itself needs
 abbrev pub accesses : View → Instr → List Lock
 accesses v (instr.Load a b) = settle v (on (Reg b) [] Read)

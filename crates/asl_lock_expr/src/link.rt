@@ -9,7 +9,7 @@ ghost use Rattle.asl_lock_expr.specs.LinksView.{seen};
 ghost use Rattle.asl_lock_expr.specs.Stores.{stores};
 
 use crate::class::{base_class, class_of, next_class, path_class};
-use crate::writes::Writes;
+use crate::written::Writes;
 use asl_code::{Base, Effect, Expr, Instr, Lock, Op, Path};
 use asl_points_to::Classes;
 use std::alloc::AllocError;

@@ -2,15 +2,15 @@
 ghost use Rattle.std.specs.Prelude.{◌≡◌, ◌<◌, ◌≤◌, ◌⊎◌, ◌↔◌, ℕ, OnOk, IfOk, Some, length, slice_get};
 ghost use Rattle.std.specs.List.{flat_map};
 ghost use Rattle.asl_code.specs.declared.instr.Instr.{Instr as AnyInstr};
-ghost use Rattle.asl_lower.specs.Region.{InBody, owner_of};
+ghost use Rattle.asl_lower.specs.Region.{InBody};
 ghost use Rattle.asl_lock_expr.specs.Links.{IsOne, IsLinked, dereferenced};
 ghost use Rattle.asl_lock_expr.specs.Order.{AreInOrder};
 ghost use Rattle.asl_lock_expr.specs.Stores.{view_of};
 
 use crate::link::{View, add_dereferenced, add_links};
 use crate::order::add_in_order;
-use crate::writes::Writes;
-use asl_code::{Function, Lock};
+use crate::written::Writes;
+use asl_code::Lock;
 use asl_lower::Lowering;
 use asl_points_to::Classes;
 use std::alloc::{AllocError, Global};
@@ -32,30 +32,16 @@ pub fn links(
     ensures locks { (function : ℕ) (i : AnyInstr) → InBody lowering.now function pc → slice_get lowering.now.code pc ≡ Some i
         → IfOk result (λ v. (n : _) → IsOne v.items n ↔ IsLinked (view_of classes.now writes.now k function) i lock.now n) }
 {
+    let code = lowering.code();
     let view = View {
         classes,
         writes,
         longest: k as usize,
-        function: function_at(lowering.functions(), pc),
+        function: lowering.owner(pc as u16),
     };
     let mut linked = Vec::new(alloc);
-    add_links(&view, &lowering.code()[pc as usize], lock, &mut linked)?;
+    add_links(&view, &code[pc as usize], lock, &mut linked)?;
     with_prefixes(alloc, linked)
-}
-
-/// The number of the function in whose body the place is.
-fn function_at(functions: &[Function], pc: u32) -> u16
-    requires { length functions.now < 65536 }
-    ensures { result ≡ owner_of functions.now pc }
-{
-    let mut left = pc;
-    for (number, function) in functions.iter().enumerate() {
-        if left < function.len {
-            return number as u16;
-        }
-        left -= function.len;
-    }
-    functions.len() as u16
 }
 
 /// The locks and their dereferenced prefixes, each once, in order.

@@ -1,0 +1,205 @@
+//! The classes that each function may store to, found by its stores and its calls.
+ghost use Rattle.std.specs.Prelude.{◌≡◌, ◌<◌, ◌≤◌, ◌⊎◌, ◌↔◌, ℕ, true, false, slice_get, OnOk, IfOk, length, replicate};
+ghost use Rattle.asl_lock_expr.specs.ClassOf.{TellsStores};
+ghost use Rattle.asl_lock_expr.specs.Stores.{stores};
+ghost use Rattle.asl_lock_expr.specs.Storing.{IsMarked, IsIn, row, stored_class, called, AreListed, Reaches, MarksAll};
+
+use crate::written::Writes;
+use asl_code::{Instr, Items};
+use asl_lower::Lowering;
+use asl_points_to::Classes;
+use std::alloc::{AllocError, Global};
+
+/// The classes that each function of the program may store to: those of its own stores, and of the functions that it calls.
+pub fn writes(alloc: Global, lowering: &Lowering, classes: &Classes) -> Result<Writes, AllocError>
+    ensures { IfOk result (λ w. TellsStores lowering.now classes.now (stores w)) }
+{
+    let own = own_stores(alloc, lowering, classes)?;
+    let callers = callers(alloc, lowering)?;
+    let count = lowering.functions().len();
+    let mut lists = Vec::new(alloc);
+    for (class, stored) in own.iter().enumerate() {
+        let marks = storing(alloc, count, &callers, stored.as_slice())?;
+        add_class(alloc, &mut lists, &marks, class as u16)?;
+    }
+    Ok(Writes::from_lists(lists))
+}
+
+/// For each class the functions with a store of their own to it.
+fn own_stores(
+    alloc: Global,
+    lowering: &Lowering,
+    classes: &Classes,
+) -> Result<Vec<Items<u16>>, AllocError>
+    ensures listed { IfOk result (λ rows. AreListed (stored_class classes.now) lowering.now (length lowering.now.code) rows.items) }
+    ensures few { IfOk result (λ rows. length rows.items ≤ 65536) }
+{
+    let mut rows = Vec::new(alloc);
+    for (pc, instr) in lowering.code().iter().enumerate() {
+        let function = lowering.owner(pc as u16);
+        if let Some(class) = stored_class(classes, function, *instr) {
+            add_at(alloc, &mut rows, class, function)?;
+        }
+    }
+    Ok(rows)
+}
+
+/// For each function those that call it.
+fn callers(alloc: Global, lowering: &Lowering) -> Result<Vec<Items<u16>>, AllocError>
+    ensures { IfOk result (λ rows. AreListed (λ _. called) lowering.now (length lowering.now.code) rows.items) }
+{
+    let mut rows = Vec::new(alloc);
+    for (pc, instr) in lowering.code().iter().enumerate() {
+        if let Some(callee) = called(*instr) {
+            add_at(alloc, &mut rows, callee, lowering.owner(pc as u16))?;
+        }
+    }
+    Ok(rows)
+}
+
+/// The class to which the instruction of the function stores.
+fn stored_class(classes: &Classes, function: u16, instr: Instr) -> Option<u16>
+    ensures { result ≡ stored_class classes.now function instr }
+{
+    match instr {
+        Instr::Store { address, .. } => classes.to(function, address),
+        _ => None,
+    }
+}
+
+/// The function that the instruction calls.
+fn called(instr: Instr) -> Option<u16>
+    ensures { result ≡ called instr }
+{
+    match instr {
+        Instr::Call { function, .. } => Some(function),
+        _ => None,
+    }
+}
+
+/// Adds the number to the row at a place, unless it is the last there.
+fn add_at(alloc: Global, rows: &mut Vec<Items<u16>>, at: u16, number: u16) -> Result<(), AllocError>
+    ensures rows { OnOk result ((a n : ℕ) → IsIn (row rows.new.items a) n ↔ (IsIn (row rows.old.items a) n ⊎ ((a ≡ at) × (n ≡ number)))) }
+    ensures few { OnOk result (length rows.old.items ≤ 65536 → length rows.new.items ≤ 65536) }
+{
+    let at = usize::from(at);
+    grow(alloc, rows, at + 1)?;
+    let row = &mut rows[at];
+    if !ends_with(row.as_slice(), number) {
+        row.push(number)?;
+    }
+    Ok(())
+}
+
+/// The row at a place, which is empty past the last.
+fn row_at(rows: &[Items<u16>], at: u16) -> &[u16]
+    ensures { result.now ≡ row rows.now at }
+{
+    match rows.get(usize::from(at)) {
+        Some(row) => row.as_slice(),
+        None => &[],
+    }
+}
+
+/// Whether the number is the last of the row.
+fn ends_with(row: &[u16], number: u16) -> bool
+    ensures { result ≡ true → IsIn row.now number }
+{
+    match row.last() {
+        Some(last) => *last == number,
+        None => false,
+    }
+}
+
+/// Adds empty rows until there are so many.
+fn grow(alloc: Global, rows: &mut Vec<Items<u16>>, count: usize) -> Result<(), AllocError>
+    requires { count ≤ 65536 }
+    ensures rows { OnOk result ((a : ℕ) → row rows.new.items a ≡ row rows.old.items a) }
+    ensures many { OnOk result (count ≤ length rows.new.items) }
+    ensures few { OnOk result (length rows.old.items ≤ 65536 → length rows.new.items ≤ 65536) }
+{
+    for _ in rows.len()..count {
+        rows.push(Items::new(alloc))?;
+    }
+    Ok(())
+}
+
+/// Marks the functions that are listed, and those that call them, directly or not.
+fn storing(
+    alloc: Global,
+    count: usize,
+    callers: &[Items<u16>],
+    listed: &[u16],
+) -> Result<Vec<bool>, AllocError>
+    ensures marks { IfOk result (λ marks. (f : ℕ) → IsMarked marks.items f ↔ Reaches count callers.now listed.now f) }
+    ensures count { IfOk result (λ marks. length marks.items ≡ count) }
+{
+    let mut search = Search {
+        marks: no_marks(alloc, count)?,
+        waiting: Vec::new(alloc),
+    };
+    search.mark_all(listed)?;
+    while let Some(function) = search.waiting.pop() {
+        search.mark_all(row_at(callers, function))?;
+    }
+    Ok(search.marks)
+}
+
+/// So many places without a mark.
+fn no_marks(alloc: Global, count: usize) -> Result<Vec<bool>, AllocError>
+    ensures { IfOk result (λ marks. marks.items ≡ replicate count false) }
+{
+    vec![in alloc; false; count]
+}
+
+/// Which functions have a mark, and those of them whose callers are still to be marked.
+#[derive(Drop)]
+struct Search {
+    marks: Vec<bool>,
+    waiting: Vec<u16>,
+}
+
+impl Search {
+    /// Marks each of the functions; those that had no mark wait.
+    fn mark_all(&mut self, functions: &[u16]) -> Result<(), AllocError>
+        ensures { OnOk result (MarksAll functions.now self.old.marks.items self.new.marks.items
+            self.old.waiting.items self.new.waiting.items) }
+    {
+        for function in functions {
+            if is_free(&self.marks, *function) {
+                self.waiting.push(*function)?;
+                self.marks[usize::from(*function)] = true;
+            }
+        }
+        Ok(())
+    }
+}
+
+/// Whether the function is there and has no mark.
+fn is_free(marks: &[bool], function: u16) -> bool
+    ensures free { result ≡ true → slice_get marks.now function ≡ Some false }
+    ensures taken { result ≡ false → function < length marks.now → IsMarked marks.now function }
+{
+    match marks.get(usize::from(function)) {
+        Some(mark) => !*mark,
+        None => false,
+    }
+}
+
+/// Adds the class to the list of each function with a mark.
+fn add_class(
+    alloc: Global,
+    lists: &mut Vec<Items<u16>>,
+    marks: &[bool],
+    class: u16,
+) -> Result<(), AllocError>
+    requires { length marks.now ≤ 65536 }
+    ensures { OnOk result ((f x : ℕ) → IsIn (row lists.new.items f) x ↔ (IsIn (row lists.old.items f) x ⊎ (IsMarked marks.now f × (x ≡ class)))) }
+{
+    for (function, marked) in marks.iter().enumerate() {
+        if *marked {
+            add_at(alloc, lists, function as u16, class)?;
+        }
+    }
+    Ok(())
+}
