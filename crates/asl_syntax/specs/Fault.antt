@@ -60,7 +60,7 @@ pub record IsWithoutMain (text : List ℕ) : Type 0 where
   pub arity : wrong_call tree (tokens_of text) ≡ None
   pub none : has_main tree ≡ false
 
--- the fault that a text has; want of memory says nothing of it
+-- the fault that a text has. Bytes and tokens are judged without memory, so want of memory hides neither
 abbrev pub IsFault : List ℕ → code.SyntaxFault → Type 0
 IsFault text (fault.NotAscii at) = IsWide text at
 IsFault text (fault.Token at) = IsNoToken text at
@@ -70,4 +70,4 @@ IsFault text (fault.Twice x) = IsTwice text x
 IsFault text (fault.Unknown x) = IsUnknown text x
 IsFault text (fault.Arity at) = IsArity text at
 IsFault text fault.NoMain = IsWithoutMain text
-IsFault text fault.OutOfMemory = Unit {0}
+IsFault text fault.OutOfMemory = IsLexed text
