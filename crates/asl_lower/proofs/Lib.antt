@@ -13,7 +13,7 @@ pub mod Laid
 pub mod Emits
 pub mod Numbering
 pub mod Marks
-pub mod Outside
+pub mod Depths
 pub mod Listed
 pub mod Emitted
 pub mod Named
@@ -28,3 +28,6 @@ pub mod Inside
 pub mod Reaching
 pub mod Lowest
 pub mod Told
+pub mod Judged
+pub mod Marking
+pub mod Trees

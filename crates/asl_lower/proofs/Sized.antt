@@ -23,7 +23,7 @@ value_sized (NewValue n) p = omega arith
 value_sized (CallValue f args) p = omega (arith, moves_sized args p)
 
 mutual
-  stmt_sized : (s : Statement) (p : Place) → (past_stmt s p).pc ≡ p.pc + stmt_size s
+  pub stmt_sized : (s : Statement) (p : Place) → (past_stmt s p).pc ≡ p.pc + stmt_size s
   stmt_sized (AssignStatement x v) p = value_sized v p
   stmt_sized (StoreStatement x y) p = omega arith
   stmt_sized (OutStatement x) p = omega arith
@@ -32,11 +32,11 @@ mutual
   stmt_sized (WhileStatement x a) p = omega (arith, block_sized a (next p))
   stmt_sized (AtomicStatement a) p = omega (arith, block_sized a (entered p))
 
-  block_sized : (b : Block) (p : Place) → (past_block b p).pc ≡ p.pc + block_size b
+  pub block_sized : (b : Block) (p : Place) → (past_block b p).pc ≡ p.pc + block_size b
   block_sized NoMore p = omega arith
   block_sized (Then s b) p = omega (arith, stmt_sized s p, block_sized b (past_stmt s p))
 
-  else_sized : (e : Block) (p : Place) → (past_else e p).pc ≡ p.pc + else_size e
+  pub else_sized : (e : Block) (p : Place) → (past_else e p).pc ≡ p.pc + else_size e
   else_sized NoMore p = omega arith
   else_sized (Then s b) p = omega (arith, stmt_sized s (next p), block_sized b (past_stmt s (next p)))
 

@@ -14,3 +14,4 @@ pub mod Operands
 pub mod Limits
 pub mod Facts
 pub mod Regions
+pub mod Outside

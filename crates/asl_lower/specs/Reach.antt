@@ -4,7 +4,7 @@ use Rattle.std.specs.Prelude.{◌≡◌, ℕ, suc, ◌+◌, ◌-◌, ◌<◌, �
 use Rattle.asl_code.specs.declared.instr.Instr.{Instr}
 use Rattle.asl_code.specs.declared.instr.Instr.TheVariants as instr
 use Rattle.asl_lower.specs.declared.reach.Calls.{Calls}
-use Rattle.asl_lower.specs.declared.reach.Calls.TheVariants.{Outside, Inside, All}
+use Rattle.asl_lower.specs.declared.reach.Calls.TheVariants as calls
 use Rattle.asl_lower.specs.Lowered.{Lowered}
 use Rattle.asl_lower.specs.Region.{open_at, is_access, InBody, CallsAt}
 
@@ -21,23 +21,33 @@ successors (instr.JumpIfZero test target) pc = target ∷ (pc + 1) ∷ []
 successors (instr.Return from) pc = []
 successors i pc = (pc + 1) ∷ []
 
--- such calls stand where so many sections are open
-abbrev pub AreAtDepth : Calls → ℕ → Type 0
+-- where calls stand: outside all sections, inside one, or anywhere
+pub data Where : Type 0 where
+  Outside : Where
+  Inside : Where
+  Anywhere : Where
+
+abbrev pub where_of : Calls → Where
+where_of calls.Inside = Inside
+where_of calls.All = Anywhere
+
+-- so many sections are open there
+abbrev pub AreAtDepth : Where → ℕ → Type 0
 AreAtDepth Outside depth = depth ≡ 0
 AreAtDepth Inside depth = 0 < depth
-AreAtDepth All depth = Unit {0}
+AreAtDepth Anywhere depth = Unit {0}
 
 -- the instruction at the pc is such a call of the function
-pub record IsSuchCall (l : Lowered) (calls : Calls) (pc callee : ℕ) : Type 0 where
+pub record IsSuchCall (l : Lowered) (place : Where) (pc callee : ℕ) : Type 0 where
   pub stands : CallsAt l pc callee
-  pub depth : AreAtDepth calls (length (open_at l.code pc))
+  pub depth : AreAtDepth place (length (open_at l.code pc))
 
 -- one of the instructions from a pc up to another is such a call of the function
-pub record IsCalled (l : Lowered) (calls : Calls) (from end callee : ℕ) : Type 0 where
+pub record IsCalled (l : Lowered) (place : Where) (from end callee : ℕ) : Type 0 where
   pub pc : ℕ
   pub low : from ≤ pc
   pub high : pc < end
-  pub call : IsSuchCall l calls pc callee
+  pub call : IsSuchCall l place pc callee
 
 -- the function has a mark
 abbrev pub IsMarked : List Bool → ℕ → Type 0
@@ -48,17 +58,17 @@ abbrev pub KeepsMarks : List Bool → List Bool → Type 0
 KeepsMarks old new = (function : ℕ) → IsMarked old function → IsMarked new function
 
 -- all that such calls of a function call has a mark
-abbrev pub IsFollowed : Lowered → Calls → List Bool → ℕ → Type 0
-IsFollowed l calls marks function = (pc callee : ℕ) → InBody l function pc → IsSuchCall l calls pc callee → IsMarked marks callee
+abbrev pub IsFollowed : Lowered → Where → List Bool → ℕ → Type 0
+IsFollowed l place marks function = (pc callee : ℕ) → InBody l function pc → IsSuchCall l place pc callee → IsMarked marks callee
 
 -- so it is of each function with a mark
-abbrev pub AreFollowed : Lowered → Calls → List Bool → Type 0
-AreFollowed l calls marks = (function : ℕ) → IsMarked marks function → IsFollowed l calls marks function
+abbrev pub AreFollowed : Lowered → Where → List Bool → Type 0
+AreFollowed l place marks = (function : ℕ) → IsMarked marks function → IsFollowed l place marks function
 
 -- what such calls lead to from the functions with a mark
-pub data Reached (l : Lowered) (calls : Calls) (marks : List Bool) : ℕ → Type 0 where
-  First : (function : ℕ) → IsMarked marks function → Reached l calls marks function
-  Follow : (caller pc callee : ℕ) → Reached l calls marks caller → InBody l caller pc → IsSuchCall l calls pc callee → Reached l calls marks callee
+pub data Reached (l : Lowered) (place : Where) (marks : List Bool) : ℕ → Type 0 where
+  First : (function : ℕ) → IsMarked marks function → Reached l place marks function
+  Follow : (caller pc callee : ℕ) → Reached l place marks caller → InBody l caller pc → IsSuchCall l place pc callee → Reached l place marks callee
 
 -- how many functions have no mark
 abbrev pub unmarked : List Bool → ℕ

@@ -5,7 +5,7 @@ use Rattle.asl_lower.specs.declared.fault.LowerFault.{LowerFault}
 use Rattle.asl_lower.specs.declared.fault.LowerFault.TheVariants.{Registers, CodeSize, AccessOutsideSection, OutOfMemory}
 use Rattle.asl_lower.specs.Names.{registers_of}
 use Rattle.asl_lower.specs.Lowered.{Lowered, IsLowering, end_of}
-use Rattle.asl_lower.specs.Region.{IsFirstBareAccess}
+use Rattle.asl_lower.specs.Region.{IsBareAccess, IsFirstBareAccess}
 
 -- the first function with more than 64 registers, where functions are numbered from this number on (docs/SOURCE.md, "Templates")
 abbrev pub first_crowded : ℕ → List Function → Option ℕ
@@ -17,11 +17,15 @@ pub record HasRoom (is : List Item) : Type 0 where
   pub few_registers : first_crowded 0 (functions_of is) ≡ None
   pub few_instructions : (end_of is).pc ≤ 65535
 
--- the program has this fault, and none that is listed before it. Registers and instructions are counted without memory,
--- so want of memory hides neither; it may hide an access, which is looked for in the code (docs/SOURCE.md, "Templates")
+-- no bare function of the program has an access outside its sections
+abbrev pub HasAccessesInside : List Item → Type 0
+HasAccessesInside is = (l : Lowered) → IsLowering is l → (function pc : ℕ) → ¬ IsBareAccess l function pc
+
+-- the program has this fault, and none that is listed before it. All is judged in the tree, without memory, before any
+-- code is made, so want of memory hides no other fault
 abbrev pub IsRefused : List Item → LowerFault → Type 0
 IsRefused is (Registers number) = first_crowded 0 (functions_of is) ≡ Some number
 IsRefused is CodeSize = (first_crowded 0 (functions_of is) ≡ None) × (65535 < (end_of is).pc)
 IsRefused is (AccessOutsideSection function pc) =
     HasRoom is × ((l : Lowered) × IsLowering is l × IsFirstBareAccess l function pc)
-IsRefused is OutOfMemory = HasRoom is
+IsRefused is OutOfMemory = HasRoom is × HasAccessesInside is

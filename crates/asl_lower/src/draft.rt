@@ -1,22 +1,20 @@
 //! The code of a program, before its accesses are judged.
 
-ghost use Rattle.std.specs.Prelude.{◌≡◌, ◌≤◌, length, map, codes, IfOk, IfErr};
+ghost use Rattle.std.specs.Prelude.{◌≡◌, ◌≤◌, length, map, codes, IfOk};
 ghost use Rattle.asl_syntax.specs.View.{item_of};
 ghost use Rattle.asl_syntax.specs.Tree.{globals_of, functions_of};
 ghost use Rattle.asl_lower.specs.Names.{function_names, number_of};
 ghost use Rattle.asl_lower.specs.Layout.{lowering_of};
-ghost use Rattle.asl_lower.specs.Refused.{HasRoom, IsRefused};
+ghost use Rattle.asl_lower.specs.Refused.{HasRoom};
 ghost use Rattle.asl_lower.specs.Kept.{lowered_of};
 
-use crate::fault::LowerFault;
-use crate::functions::{emit_functions, first_crowded};
+use crate::functions::emit_functions;
 use crate::names::function_number;
 use crate::output::{Full, Output};
-use crate::size::has_few_instructions;
 use asl_code::Function;
 use asl_syntax::Name;
 use asl_syntax::tree::Item;
-use std::alloc::Global;
+use std::alloc::{AllocError, Global};
 
 /// What has been emitted for a program.
 #[derive(Drop)]
@@ -61,32 +59,25 @@ fn count_globals(items: &[Item]) -> usize
 }
 
 /// The number of the function `main`.
-fn main_number(items: &[Item]) -> usize
+pub fn main_number(items: &[Item]) -> usize
     ensures number { result ≡ number_of (function_names (functions_of (map item_of items.now))) (codes "main") }
     ensures bound { result ≤ length (functions_of (map item_of items.now)) }
 {
     function_number(items, &Name::from_slice(b"main"))
 }
 
-/// The code of a program, if its functions have few registers and it has few instructions.
-pub fn make_draft(alloc: Global, items: &[Item]) -> Result<Draft, LowerFault>
+/// The code of a program of few registers and few instructions.
+pub fn make_draft(alloc: Global, items: &[Item]) -> Result<Draft, AllocError>
     requires few_globals { length (globals_of (map item_of items.now)) ≤ 1024 }
     requires few_functions { length (functions_of (map item_of items.now)) ≤ 256 }
-    ensures lowered { IfOk result (λ d. lowered_of d ≡ lowering_of (map item_of items.now)) }
-    ensures room { IfOk result (λ _. HasRoom (map item_of items.now)) }
-    ensures refused { IfErr result (IsRefused (map item_of items.now)) }
+    requires room { HasRoom (map item_of items.now) }
+    ensures { IfOk result (λ d. lowered_of d ≡ lowering_of (map item_of items.now)) }
 {
-    if let Some(number) = first_crowded(items) {
-        return Err(LowerFault::Registers(number));
-    }
-    if !has_few_instructions(items) {
-        return Err(LowerFault::CodeSize);
-    }
     let mut out = Output::new(alloc);
     let functions = match emit_functions(alloc, &mut out, items) {
         Ok(functions) => functions,
         Err(Full::CodeSize) => unreachable!(),
-        Err(Full::OutOfMemory) => return Err(LowerFault::OutOfMemory),
+        Err(Full::OutOfMemory) => return Err(AllocError),
     };
     let globals = count_globals(items) as u16;
     let main = main_number(items) as u16;

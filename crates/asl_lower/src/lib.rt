@@ -10,6 +10,7 @@ mod locals;
 mod lowering;
 mod names;
 mod output;
+mod outside;
 mod program;
 mod reach;
 mod scope;

@@ -11,8 +11,10 @@ ghost use Rattle.asl_lower.specs.Refused.{HasRoom, IsRefused};
 
 use crate::draft::make_draft;
 use crate::fault::LowerFault;
+use crate::functions::first_crowded;
 use crate::lowering::Lowering;
-use crate::reach::first_bare_access;
+use crate::outside::first_bare_access;
+use crate::size::has_few_instructions;
 use asl_syntax::Ast;
 use asl_syntax::tree::Item;
 use std::alloc::Global;
@@ -27,11 +29,17 @@ fn lower_items(alloc: Global, items: &[Item]) -> Result<Lowering, LowerFault>
     ensures inside { IfOk result (λ l. (function pc : ℕ) → ¬ IsBareAccess l function pc) }
     ensures refused { IfErr result (IsRefused (map item_of items.now)) }
 {
-    let draft = make_draft(alloc, items)?;
-    match first_bare_access(&draft) {
-        Some((function, pc)) => Err(LowerFault::AccessOutsideSection(function, pc)),
-        None => Ok(Lowering::new(draft)),
+    if let Some(number) = first_crowded(items) {
+        return Err(LowerFault::Registers(number));
     }
+    if !has_few_instructions(items) {
+        return Err(LowerFault::CodeSize);
+    }
+    if let Some((function, pc)) = first_bare_access(items) {
+        return Err(LowerFault::AccessOutsideSection(function, pc));
+    }
+    let draft = make_draft(alloc, items)?;
+    Ok(Lowering::new(draft))
 }
 
 /// The code of a program by its templates, or the first fault of the program. Each kind of fault is judged over the whole

@@ -1,16 +1,16 @@
-//! Which functions calls lead to, and the first access of a bare function outside its sections.
+//! Which functions calls lead to from inside sections.
 
 ghost use Rattle.std.specs.Prelude.{◌≡◌, ℕ, ◌+◌, ◌<◌, ◌≤◌, ◌⊎◌, ◌^◌, ◌↔◌, [], true, false, Some, length, slice_get, vec_len, IsTrue, MatchOption};
-ghost use Rattle.asl_lower.specs.Region.{open_at, is_access, IsBare, IsInner, IsBareAccess, IsFirstBareAccess};
+ghost use Rattle.asl_lower.specs.Region.{open_at, IsInner};
 ghost use Rattle.asl_lower.specs.Facts.{HasLayout};
 ghost use Rattle.asl_lower.specs.Kept.{lowered_of};
-ghost use Rattle.asl_lower.specs.Reach.{depth_behind, AreAtDepth, IsCalled, IsMarked, KeepsMarks, AreFollowed, Reached, IsOutsideAccess, IsFirstOutsideAccess};
+ghost use Rattle.asl_lower.specs.Reach.{depth_behind, where_of, AreAtDepth, IsCalled, IsMarked, KeepsMarks, AreFollowed, Reached};
 
 use crate::draft::Draft;
 use asl_code::Instr;
 
 /// The most functions that a program has.
-const MOST: usize = 256;
+pub const MOST: usize = 256;
 
 /// Whether each function has a mark, by its number.
 pub type Marks = [bool; MOST];
@@ -18,8 +18,6 @@ pub type Marks = [bool; MOST];
 /// Some of the calls of a program.
 #[derive(Clone, Copy)]
 enum Calls {
-    /// Those outside all sections.
-    Outside,
     /// Those inside a section.
     Inside,
     /// All of them.
@@ -40,10 +38,9 @@ fn depth_behind(depth: usize, instr: &Instr) -> usize
 
 /// Whether such calls stand where so many sections are open.
 fn are_at_depth(calls: Calls, depth: usize) -> bool
-    ensures { IsTrue result ↔ AreAtDepth calls depth }
+    ensures { IsTrue result ↔ AreAtDepth (where_of calls) depth }
 {
     match calls {
-        Calls::Outside => depth == 0,
         Calls::Inside => depth > 0,
         Calls::All => true,
     }
@@ -52,8 +49,8 @@ fn are_at_depth(calls: Calls, depth: usize) -> bool
 /// The function that the instruction calls, if it is such a call.
 fn callee(calls: Calls, depth: usize, instr: &Instr) -> Option<u16>
     ensures { MatchOption result
-        ((to first callee : ℕ) → AreAtDepth calls depth → ¬ (instr.now ≡ Instr.Call to first callee))
-        (λ callee. AreAtDepth calls depth × ((to : ℕ) × ((first : ℕ) × (instr.now ≡ Instr.Call to first callee)))) }
+        ((to first callee : ℕ) → AreAtDepth (where_of calls) depth → ¬ (instr.now ≡ Instr.Call to first callee))
+        (λ callee. AreAtDepth (where_of calls) depth × ((to : ℕ) × ((first : ℕ) × (instr.now ≡ Instr.Call to first callee)))) }
 {
     match instr {
         Instr::Call { function, .. } if are_at_depth(calls, depth) => Some(*function),
@@ -68,8 +65,8 @@ fn mark_callees(draft: &Draft, marks: &mut Marks, from: usize, end: usize, calls
     requires within { end ≤ vec_len draft.now.out.code }
     requires none_open { open_at draft.now.out.code.items from ≡ [] }
     ensures kept { KeepsMarks marks.old marks.new }
-    ensures called { (callee : ℕ) → IsCalled (lowered_of draft.now) calls from end callee → IsMarked marks.new callee }
-    ensures only { (callee : ℕ) → IsMarked marks.new callee → IsMarked marks.old callee ⊎ IsCalled (lowered_of draft.now) calls from end callee }
+    ensures called { (callee : ℕ) → IsCalled (lowered_of draft.now) (where_of calls) from end callee → IsMarked marks.new callee }
+    ensures only { (callee : ℕ) → IsMarked marks.new callee → IsMarked marks.old callee ⊎ IsCalled (lowered_of draft.now) (where_of calls) from end callee }
 {
     let mut depth = 0;
     for pc in from..end {
@@ -82,7 +79,7 @@ fn mark_callees(draft: &Draft, marks: &mut Marks, from: usize, end: usize, calls
 }
 
 /// The first of so many functions that has a mark here and none there.
-fn next_function(functions: usize, marks: &Marks, followed: &Marks) -> Option<usize>
+pub fn next_function(functions: usize, marks: &Marks, followed: &Marks) -> Option<usize>
     requires { functions ≤ 256 }
     ensures { MatchOption result
         ((function : ℕ) → function < functions → IsMarked marks.now function → IsMarked followed.now function)
@@ -100,8 +97,8 @@ fn next_function(functions: usize, marks: &Marks, followed: &Marks) -> Option<us
 fn follow_calls(draft: &Draft, marks: &mut Marks, calls: Calls)
     requires { HasLayout (lowered_of draft.now) }
     ensures kept { KeepsMarks marks.old marks.new }
-    ensures followed { AreFollowed (lowered_of draft.now) calls marks.new }
-    ensures only { (function : ℕ) → IsMarked marks.new function → Reached (lowered_of draft.now) calls marks.old function }
+    ensures followed { AreFollowed (lowered_of draft.now) (where_of calls) marks.new }
+    ensures only { (function : ℕ) → IsMarked marks.new function → Reached (lowered_of draft.now) (where_of calls) marks.old function }
 {
     let mut followed = [false; MOST];
     while let Some(function) = next_function(draft.functions.len(), marks, &followed) {
@@ -110,17 +107,6 @@ fn follow_calls(draft: &Draft, marks: &mut Marks, calls: Calls)
         let end = start + draft.functions[function].len as usize;
         mark_callees(draft, marks, start, end, calls);
     }
-}
-
-/// Which functions are bare.
-fn bare_functions(draft: &Draft) -> Marks
-    requires { HasLayout (lowered_of draft.now) }
-    ensures { (function : ℕ) → IsMarked result function ↔ IsBare (lowered_of draft.now) function }
-{
-    let mut marks = [false; MOST];
-    marks[usize::from(draft.main)] = true;
-    follow_calls(draft, &mut marks, Calls::Outside);
-    marks
 }
 
 /// Which functions are inner.
@@ -132,52 +118,4 @@ pub fn inner_functions(draft: &Draft) -> Marks
     mark_callees(draft, &mut marks, 0, draft.out.code.len(), Calls::Inside);
     follow_calls(draft, &mut marks, Calls::All);
     marks
-}
-
-/// Whether the instruction reads or writes a cell.
-fn is_access(instr: &Instr) -> bool
-    ensures { result ≡ is_access instr.now }
-{
-    matches!(instr, Instr::Load { .. } | Instr::Store { .. })
-}
-
-/// The first access outside all sections from a pc up to another.
-fn first_outside_access(code: &[Instr], from: usize, end: usize) -> Option<u16>
-    requires within { end ≤ length code.now }
-    requires places { length code.now ≤ 65535 }
-    requires none_open { open_at code.now from ≡ [] }
-    ensures { MatchOption result
-        ((pc : ℕ) → from ≤ pc → pc < end → ¬ IsOutsideAccess code.now pc)
-        (λ pc. IsFirstOutsideAccess code.now from end pc) }
-{
-    let mut depth = 0;
-    for pc in from..end {
-        let instr = &code[pc];
-        if depth == 0 && is_access(instr) {
-            return Some(pc as u16);
-        }
-        depth = depth_behind(depth, instr);
-    }
-    None
-}
-
-/// The lowest access of a bare function outside its sections, as the function and the pc.
-pub fn first_bare_access(draft: &Draft) -> Option<(u16, u16)>
-    requires { HasLayout (lowered_of draft.now) }
-    ensures { MatchOption result
-        ((function pc : ℕ) → ¬ IsBareAccess (lowered_of draft.now) function pc)
-        (λ at. IsFirstBareAccess (lowered_of draft.now) at.0 at.1) }
-{
-    let bare = bare_functions(draft);
-    let mut start = 0;
-    for (number, function) in draft.functions.iter().enumerate() {
-        let end = start + function.len as usize;
-        if bare[number] {
-            if let Some(pc) = first_outside_access(&draft.out.code, start, end) {
-                return Some((number as u16, pc));
-            }
-        }
-        start = end;
-    }
-    None
 }

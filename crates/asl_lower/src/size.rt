@@ -69,8 +69,16 @@ fn jumps_of_if(second: &[Statement]) -> usize
     if second.is_empty() { 1 } else { 2 }
 }
 
+/// How many instructions the code of statements has, where there are at most 65,535.
+pub fn block_size(block: &[Statement]) -> usize
+    requires { block_size (block_of block.now) ≤ 65535 }
+    ensures { result ≡ block_size (block_of block.now) }
+{
+    Output::MOST - left_behind_block(Output::MOST, block).unwrap_or(0)
+}
+
 /// How many instructions the code of a value has.
-fn value_size(value: &Value) -> usize
+pub fn value_size(value: &Value) -> usize
     ensures { result ≡ value_size (value_of value.now) }
 {
     match value {

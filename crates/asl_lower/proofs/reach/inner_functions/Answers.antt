@@ -1,7 +1,6 @@
 use Rattle.std.proofs.Common.{◌≡◌, ℕ, inl, inr, length, sym, subst, arith}
-use Rattle.asl_lower.specs.declared.reach.Calls.TheVariants.{Inside}
 use Rattle.asl_lower.specs.Kept.{lowered_of}
-use Rattle.asl_lower.specs.Reach.{IsMarked, IsCalled}
+use Rattle.asl_lower.specs.Reach.{Inside, IsMarked, IsCalled}
 use Rattle.asl_lower.proofs.Marks.{none_marked}
 use Rattle.asl_lower.proofs.Reaching.{inner_from_reached, inner_marked}
 use Rattle.asl_lower.proofs.reach.inner_functions.Goals as goal

@@ -84,7 +84,7 @@ pub no_depth : (code : List Instr) (pc depth : ℕ) → IsDepth code pc depth �
 no_depth code pc depth d e = d.count ∙ ap length e
 
 -- one instruction more, with no access outside all sections
-pub no_access_more : (code : List Instr) (from pc : ℕ) (i : Instr) → slice_get code pc ≡ Some i → (open_at code pc ≡ [] → IsTrue (is_access i) → ⊥) → ((n : ℕ) → from ≤ n → n < pc → ¬ IsOutsideAccess code n) → (n : ℕ) → from ≤ n → n < pc + 1 → ¬ IsOutsideAccess code n
+no_access_more : (code : List Instr) (from pc : ℕ) (i : Instr) → slice_get code pc ≡ Some i → (open_at code pc ≡ [] → IsTrue (is_access i) → ⊥) → ((n : ℕ) → from ≤ n → n < pc → ¬ IsOutsideAccess code n) → (n : ℕ) → from ≤ n → n < pc + 1 → ¬ IsOutsideAccess code n
 no_access_more code from pc i stands none h n low high a =
     elim (cases_lt n pc) [
       | inl before ↦ h n low before a
