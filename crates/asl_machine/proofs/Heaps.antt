@@ -241,6 +241,21 @@ global_points image objects g sound lt =
       | inr past ↦ let le : length image.globals ≤ g = past.0 in absurd (omega arith)
     ]
 
+-- there are as many objects as globals, at least
+pub many_globals : (image : Image) (objects : List Object) → AreSound image objects → length image.globals ≤ length objects
+many_globals image objects sound =
+    elim (slice_get_cases image.globals (length objects)).1 [
+      | inl found ↦ absurd (past objects found.0 (sound.globals (length objects) found.0 found.2).0)
+      | inr le ↦ le.0
+    ]
+  where
+    past : (objects : List Object) (class : ℕ) → class_of objects (length objects) ≡ Some class → ⊥
+    past objects class e =
+        elim (slice_get objects (length objects)) as (λ o. slice_get objects (length objects) ≡ o → option_map (λ (p : Object). p.class) o ≡ Some class → ⊥) [
+          | None ↦ λ is f. cc
+          | Some p ↦ λ is f. let lt = slice_get_within objects (length objects) p is in omega (arith, lt)
+        ] refl e
+
 -- what pointed to a cell still does
 pub points_before : (objects more : List Object) (w : Value) → Points objects w → Points (objects ++ more) w
 points_before objects more (Int number) h = tt
