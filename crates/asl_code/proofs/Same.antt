@@ -1,5 +1,6 @@
--- Locks that the derived test finds equal are one lock, for sets of locks that are found by their hash.
-use Rattle.std.proofs.Common.{rules, ◌≡◌, true, List, [], ◌∷◌, refl}
+-- Locks that the derived test finds equal are one lock, and each is equal to itself, for sets of locks that are found by
+-- their hash.
+use Rattle.std.proofs.Common.{rules, ◌≡◌, ◌&&◌, true, List, [], ◌∷◌, refl, ap₂}
 use Rattle.std.proofs.lemmas.Bool.{and_parts}
 use lib.Pointwise.{pointwise}
 use Rattle.asl_code.specs.declared.value.Effect.{Effect}
@@ -53,3 +54,21 @@ same_lock (lock.Expr a x) (lock.Expr b y) h =
     let exprs = same_expr a b parts.0 in
     let effects = same_effect x y parts.1 in
     λ i. lock.Expr (exprs i) (effects i)
+
+itself_op : (a : Op) → op_test.ghosts.eq a a ≡ true
+itself_op a = search rules
+
+itself_ops : (a : List Op) → pointwise op_test.ghosts.eq a a ≡ true
+itself_ops [] = refl
+itself_ops (a ∷ xs) = ap₂ (λ x y. x && y) (itself_op a) (itself_ops xs)
+
+itself_base : (a : Base) → base_test.ghosts.eq a a ≡ true
+itself_base a = search rules
+
+itself_effect : (a : Effect) → effect_test.ghosts.eq a a ≡ true
+itself_effect a = search rules
+
+pub itself_lock : (a : Lock) → lock_test.ghosts.eq a a ≡ true
+itself_lock (lock.Root x) = itself_effect x
+itself_lock (lock.Class a x) = search (rules, itself_effect)
+itself_lock (lock.Expr a x) = ap₂ (λ e f. e && f) (ap₂ (λ b p. b && p) (itself_base a.base) (itself_ops a.path)) (itself_effect x)

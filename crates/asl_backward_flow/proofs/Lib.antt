@@ -1,0 +1,5 @@
+mod Sets
+mod Tables
+mod Steps
+mod SpanLaws
+mod Rows

@@ -1,0 +1,29 @@
+-- Machinery of the proofs, not of the promise: from where control comes, and from where functions are called (src/graph.rt).
+use Rattle.std.specs.Prelude.{◌≡◌, ◌+◌, ◌<◌, ℕ, List, [], Some, slice_get, unwrap_or}
+use Rattle.asl_code.specs.declared.instr.Instr.{Instr}
+use Rattle.asl_lower.specs.Lowered.{Lowered}
+use Rattle.asl_lower.specs.Region.{CallsAt, GoesOn}
+use Rattle.asl_backward_flow.specs.Found.{IsAt}
+
+-- the row of a number
+abbrev pub row : List (List ℕ) → ℕ → List ℕ
+row rows n = unwrap_or (slice_get rows n) []
+
+-- control goes on from the pc to another
+abbrev pub IsEdge : Lowered → ℕ → ℕ → Type 0
+IsEdge l to pc = (i : Instr) × (slice_get l.code pc ≡ Some i) × GoesOn i pc to
+
+-- the function is called at the pc
+abbrev pub IsCall : Lowered → ℕ → ℕ → Type 0
+IsCall l callee pc = CallsAt l pc callee
+
+-- the rows have the pcs below a number that are related to their own number
+pub record HasRows (rows : List (List ℕ)) (related : ℕ → ℕ → Type 0) (below : ℕ) : Type 0 where
+  pub only : (n pc : ℕ) → IsAt (row rows n) pc → (pc < below) × related n pc
+  pub all : (n pc : ℕ) → pc < below → related n pc → IsAt (row rows n) pc
+
+-- the rows have the pcs below one that are related to their own number, and that one as far as it was added
+pub record HasSome (rows : List (List ℕ)) (related : ℕ → ℕ → Type 0) (pc : ℕ) (added : List ℕ) : Type 0 where
+  pub only : (n x : ℕ) → IsAt (row rows n) x → (x < pc + 1) × related n x
+  pub below : (n x : ℕ) → x < pc → related n x → IsAt (row rows n) x
+  pub here : (n : ℕ) → IsAt added n → IsAt (row rows n) pc

@@ -1,0 +1,5 @@
+pub mod Needed
+-- machinery of the proofs
+pub mod Found
+pub mod Spans
+pub mod Graph

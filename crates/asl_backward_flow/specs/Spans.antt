@@ -1,0 +1,45 @@
+-- Machinery of the proofs, not of the promise: where the regions lie in the code (src/span.rt).
+use Rattle.std.specs.Prelude.{◌≡◌, ◌+◌, ◌<◌, ◌≤◌, ℕ, List, length, Some, slice_get}
+use Rattle.asl_lower.specs.Lowered.{Lowered}
+use Rattle.asl_lower.specs.Region.{start_of, IsInner}
+use Rattle.asl_lower.specs.Regions.{Region, IsIn}
+use Rattle.asl_backward_flow.specs.declared.region.Region.TheVariants as variant
+use Rattle.asl_backward_flow.specs.declared.span.Span.{Span}
+use Rattle.asl_backward_flow.specs.Needed.{region_of}
+
+-- the span is that of its region
+pub record IsSpan (l : Lowered) (s : Span) : Type 0 where
+  pub points : (f pc : ℕ) → IsIn l (region_of s.region) f pc → (f ≡ s.function) × (s.first ≤ pc) × (pc < s.end)
+  pub inside : (pc : ℕ) → s.first ≤ pc → pc < s.end → IsIn l (region_of s.region) s.function pc
+  pub entry : (g : ℕ) → s.region ≡ variant.Body g → s.first ≡ start_of l.functions g
+  pub within : s.end ≤ length l.code
+
+-- each is the span of its region
+abbrev pub AreOfRegions : Lowered → List Span → Type 0
+AreOfRegions l spans = (n : ℕ) (s : Span) → slice_get spans n ≡ Some s → IsSpan l s
+
+-- one of them is of the section, or of the body, of this number
+abbrev pub HasSection : List Span → ℕ → Type 0
+HasSection spans n = (k : ℕ) × (s : Span) × (slice_get spans k ≡ Some s) × (s.region ≡ variant.Section n)
+
+abbrev pub HasBody : List Span → ℕ → Type 0
+HasBody spans g = (k : ℕ) × (s : Span) × (slice_get spans k ≡ Some s) × (s.region ≡ variant.Body g)
+
+-- the spans of all regions, and of no other
+pub record AreSpans (l : Lowered) (spans : List Span) : Type 0 where
+  pub each : AreOfRegions l spans
+  pub all : (r : Region) (f pc : ℕ) → IsIn l r f pc → (k : ℕ) × (s : Span) × (slice_get spans k ≡ Some s) × (region_of s.region ≡ r)
+  pub few : length spans ≤ 1280
+
+-- the spans of the sections below a number
+pub record AreSections (l : Lowered) (spans : List Span) (number : ℕ) : Type 0 where
+  pub each : AreOfRegions l spans
+  pub all : (n : ℕ) → n < number → HasSection spans n
+  pub count : length spans ≡ number
+
+-- the spans of all sections, and of the bodies of the inner functions below a number
+pub record AreBodies (l : Lowered) (spans : List Span) (number : ℕ) : Type 0 where
+  pub each : AreOfRegions l spans
+  pub sections : (n : ℕ) → n < length l.sections → HasSection spans n
+  pub all : (g : ℕ) → g < number → IsInner l g → HasBody spans g
+  pub few : length spans ≤ length l.sections + number

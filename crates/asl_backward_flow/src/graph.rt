@@ -1,0 +1,72 @@
+//! From where control comes to each pc, and from where each function is called.
+ghost use Rattle.std.specs.Prelude.{◌≡◌, ◌++◌, ◌∷◌, ◌+◌, [], ◌<◌, ◌≤◌, length, map, slice_set, vec_len, IfOk, OnOk, replicate};
+ghost use Rattle.asl_lower.specs.Kept.{IsKept};
+ghost use Rattle.asl_backward_flow.specs.Graph.{row, HasRows, IsEdge, IsCall};
+
+use asl_code::Instr;
+use asl_lower::Lowering;
+use std::alloc::{AllocError, Global};
+
+/// So many empty rows.
+fn empty_rows(alloc: Global, count: usize) -> Result<Vec<Vec<u16>>, AllocError>
+    ensures { IfOk result (λ rows. map (λ r. r.items) rows.items ≡ replicate count []) }
+{
+    let mut rows = Vec::new(alloc);
+    for _ in 0..count {
+        rows.push(Vec::new(alloc))?;
+    }
+    Ok(rows)
+}
+
+/// Adds a pc to the row of a number.
+fn add_to_row(rows: &mut Vec<Vec<u16>>, number: usize, pc: u16) -> Result<(), AllocError>
+    requires { number < vec_len rows.old }
+    ensures count { OnOk result (vec_len rows.new ≡ vec_len rows.old) }
+    ensures rows { OnOk result (map (λ r. r.items) rows.new.items
+        ≡ slice_set (map (λ r. r.items) rows.old.items) number (row (map (λ r. r.items) rows.old.items) number ++ pc ∷ [])) }
+{
+    rows[number].push(pc)?;
+    Ok(())
+}
+
+/// For each pc, the pcs from which control goes on to it.
+pub fn predecessors(alloc: Global, lowering: &Lowering) -> Result<Vec<Vec<u16>>, AllocError>
+    ensures { IfOk result (λ rows. HasRows (map (λ r. r.items) rows.items) (IsEdge lowering.now) (length lowering.now.code)) }
+{
+    let count = lowering.code().len();
+    let mut rows = empty_rows(alloc, count)?;
+    for pc in 0..count {
+        add_edges(lowering, pc as u16, &mut rows)?;
+    }
+    Ok(rows)
+}
+
+/// Adds the pc to the rows of those to which control goes on from it.
+fn add_edges(lowering: &Lowering, pc: u16, rows: &mut Vec<Vec<u16>>) -> Result<(), AllocError>
+    requires kept { IsKept lowering.now }
+    requires there { pc < length lowering.now.code }
+    requires rows { length lowering.now.code ≡ vec_len rows.old }
+    requires before { HasRows (map (λ r. r.items) rows.old.items) (IsEdge lowering.now) pc }
+    ensures rows { OnOk result (HasRows (map (λ r. r.items) rows.new.items) (IsEdge lowering.now) (pc + 1)) }
+    ensures count { OnOk result (vec_len rows.new ≡ vec_len rows.old) }
+{
+    let next = lowering.successors(pc);
+    for to in next.as_slice() {
+        add_to_row(rows, usize::from(*to), pc)?;
+    }
+    Ok(())
+}
+
+/// For each function, the pcs at which it is called.
+pub fn callers(alloc: Global, lowering: &Lowering) -> Result<Vec<Vec<u16>>, AllocError>
+    ensures { IfOk result (λ rows. HasRows (map (λ r. r.items) rows.items) (IsCall lowering.now) (length lowering.now.code)) }
+{
+    let mut rows = empty_rows(alloc, lowering.functions().len())?;
+    let code = lowering.code();
+    for pc in 0..code.len() {
+        if let Instr::Call { function, .. } = code[pc] {
+            add_to_row(&mut rows, usize::from(function), pc as u16)?;
+        }
+    }
+    Ok(rows)
+}
