@@ -5,6 +5,4 @@ pub mod control;
 pub mod laws;
 pub mod lexer;
 pub mod recognizer;
-#[cfg(test)]
-mod tests;
 pub mod token;

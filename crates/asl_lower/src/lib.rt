@@ -29,8 +29,3 @@ pub use lowering::Lowering;
 pub use program::lower;
 pub use reach::Marks;
 pub use section::Section;
-
-#[cfg(test)]
-mod memory_tests;
-#[cfg(test)]
-mod tests;

@@ -18,10 +18,3 @@ pub use fault::SyntaxFault;
 pub use name::Name;
 pub use parser::parse;
 pub use printer::print;
-
-#[cfg(test)]
-mod fault_tests;
-#[cfg(test)]
-mod memory_tests;
-#[cfg(test)]
-mod tests;

@@ -1,10 +1,11 @@
-use crate::laws::{
+//! Tokens and grammar.
+use asl_grammar::laws::{
     a_front_is_the_longest_token, a_text_has_one_grammar_fault, a_text_has_one_reading,
     a_text_has_real_tokens, a_token_is_read_whole,
 };
-use crate::lexer::{Found, Tokens, first_bad};
-use crate::recognizer::first_fault;
-use crate::token::{Mark, Token};
+use asl_grammar::lexer::{Found, Tokens, first_bad};
+use asl_grammar::recognizer::first_fault;
+use asl_grammar::token::{Mark, Token};
 use std::alloc::{AllocError, Global};
 use std::fmt::Write;
 use std::test::Fail;

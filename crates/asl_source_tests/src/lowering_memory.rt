@@ -1,13 +1,13 @@
 //! Want of memory. Under an allocator that refuses one growth, `lower` answers so, and made again it answers as with
 //! ample memory. The tests pass whichever one growth is refused: they are to be run with each refused in turn.
-use crate::tests::{listing, wide};
-use crate::{LowerFault, Lowering, lower};
+use crate::lowering::{listing, wide};
+use asl_lower::{LowerFault, Lowering, lower};
 use asl_syntax::{Ast, SyntaxFault, parse};
 use std::alloc::{AllocError, Global};
 use std::test::Fail;
 
 /// Functions that are bare, inner, both and neither, with locals, calls, sections, branches and loops.
-const EACH_GROWTH: &[u8] =
+pub(crate) const EACH_GROWTH: &[u8] =
     b"global g; fn both(p, t) { atomic { x = *p; y = inner(x, t); } return y; } fn inner(q, u) { if u { *q = u; } else { while u { u = inner(q, u); } } return q; } fn idle(a) { b = *a; atomic { atomic { *a = b; } } return b; } fn main(t) { p = &g; n = new 2; while t { if t { atomic { *p = n; } t = both(p, t); } else { out t; } } atomic { n = both(p, t); } return t; }";
 
 /// What `parse` answers, at the second call if the first wants memory.
@@ -46,14 +46,15 @@ fn want_of_memory_is_answered(rt: HostRuntime) -> Result<(), Fail> {
     Ok(())
 }
 
+/// Accesses are judged without memory: no second call is made.
 #[test]
-fn an_access_is_found_in_the_end(rt: HostRuntime) -> Result<(), Fail> {
+fn an_access_is_told_whatever_is_refused(rt: HostRuntime) -> Result<(), Fail> {
     let ast = parse_again(
         rt.alloc(),
         b"fn c(p) { *p = p; return p; } fn b(p) { y = c(p); return y; } fn main(t) { x = b(t); x = *x; return x; }",
     )?;
-    let fault = lower_again(rt.alloc(), &ast).err();
-    assert_eq!(rt; fault, Some(LowerFault::AccessOutsideSection(0, 0)));
+    let fault = lower(rt.alloc(), &ast).err();
+    assert!(rt; fault == Some(LowerFault::AccessOutsideSection(0, 0)));
     Ok(())
 }
 

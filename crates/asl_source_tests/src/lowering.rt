@@ -1,5 +1,11 @@
-use super::*;
+//! Trees to code.
 use asl_code::Instr;
+use asl_lower::{
+    LowerFault, Lowering, bare_accesses_are_in_sections, bodies_part_the_code, calls_pass_on,
+    control_stays_inside, limits_are_kept, lower, numbers_follow_the_code, one_lowering,
+    open_sections_are_distinct, operands_are_there, regions_are_left_at_their_ends,
+    returns_stand_last, sections_are_listed, sections_nest, the_outermost_section_stays,
+};
 use asl_syntax::{SyntaxFault, parse};
 use std::alloc::{AllocError, Global};
 use std::test::Fail;
@@ -180,23 +186,77 @@ fn uncalled(rt: HostRuntime) -> Result<(), Fail> {
     Ok(())
 }
 
+/// A text whose lowering is refused, or is not, and why.
+#[derive(Drop)]
+struct Access {
+    source: &'static str,
+    fault: Option<LowerFault>,
+}
+
+static ACCESSES: [Access; 8] = [
+    Access {
+        source: "global g; fn main(t) { p = &g; x = *p; return t; }",
+        fault: Some(LowerFault::AccessOutsideSection(0, 1)),
+    },
+    Access {
+        source: "global g; fn main(t) { p = &g; atomic { x = *p; } *p = x; x = *p; return t; }",
+        fault: Some(LowerFault::AccessOutsideSection(0, 4)),
+    },
+    // two calls away, and before the access of `main`
+    Access {
+        source: "fn c(p) { *p = p; return p; } fn b(p) { y = c(p); return y; } fn main(t) { x = b(t); x = *x; return x; }",
+        fault: Some(LowerFault::AccessOutsideSection(0, 0)),
+    },
+    // two calls away, behind `main`
+    Access {
+        source: "fn main(t) { x = b(t); return x; } fn b(p) { y = c(p); return y; } fn c(p) { y = *p; return y; }",
+        fault: Some(LowerFault::AccessOutsideSection(2, 6)),
+    },
+    // called in a section
+    Access {
+        source: "fn main(t) { atomic { x = f(t); } return x; } fn f(p) { y = *p; return y; }",
+        fault: None,
+    },
+    // called in a section and behind it
+    Access {
+        source: "fn main(t) { atomic { x = f(t); } x = f(t); return x; } fn f(p) { y = *p; return y; }",
+        fault: Some(LowerFault::AccessOutsideSection(1, 7)),
+    },
+    // called by nobody
+    Access {
+        source: "fn idle(p) { y = *p; return y; } fn main(t) { atomic { atomic { } x = *t; } return x; }",
+        fault: None,
+    },
+    // called in front of `main`
+    Access {
+        source: "fn f(p) { y = *p; return y; } fn main(t) { x = f(t); x = *t; return x; }",
+        fault: Some(LowerFault::AccessOutsideSection(0, 0)),
+    },
+];
+
+/// Why a text is not lowered.
+fn fault_of(alloc: Global, source: &[u8]) -> Result<Option<LowerFault>, SyntaxFault> {
+    let ast = parse(alloc, source)?;
+    Ok(lower(alloc, &ast).err())
+}
+
 #[test]
-fn access_outside(rt: HostRuntime) -> Result<(), Fail> {
-    let main = outcome(
+fn the_lowest_access_outside_sections_is_named(rt: HostRuntime) -> Result<(), Fail> {
+    for access in &ACCESSES {
+        let found = fault_of(rt.alloc(), access.source.as_bytes())?;
+        assert!(rt; found == access.fault);
+    }
+    Ok(())
+}
+
+/// The fault of an access in words.
+#[test]
+fn an_access_outside_is_printed(rt: HostRuntime) -> Result<(), Fail> {
+    let found = outcome(
         rt.alloc(),
         b"global g; fn main(t) { p = &g; x = *p; return t; }",
     )?;
-    let lowest = outcome(
-        rt.alloc(),
-        b"global g; fn main(t) { p = &g; atomic { x = *p; } *p = x; x = *p; return t; }",
-    )?;
-    let far = outcome(
-        rt.alloc(),
-        b"fn c(p) { *p = p; return p; } fn b(p) { y = c(p); return y; } fn main(t) { x = b(t); x = *x; return x; }",
-    )?;
-    assert_eq!(rt; main.as_str(), "AccessOutsideSection(0, 1)");
-    assert_eq!(rt; lowest.as_str(), "AccessOutsideSection(0, 4)");
-    assert_eq!(rt; far.as_str(), "AccessOutsideSection(0, 0)");
+    assert!(rt; found.as_str() == "AccessOutsideSection(0, 1)");
     Ok(())
 }
 
@@ -285,5 +345,8 @@ fn laws_are_there(_rt: HostRuntime) -> Result<(), Fail> {
     bare_accesses_are_in_sections();
     operands_are_there();
     limits_are_kept();
+    regions_are_left_at_their_ends();
+    open_sections_are_distinct();
+    the_outermost_section_stays();
     Ok(())
 }

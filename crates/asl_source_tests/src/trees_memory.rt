@@ -1,6 +1,6 @@
 //! Want of memory. Under an allocator that refuses one growth, the call that wants it answers so, and made again it
 //! answers as with ample memory.
-use crate::{Ast, SyntaxFault, parse, print};
+use asl_syntax::{Ast, SyntaxFault, parse, print};
 use std::alloc::{AllocError, Global};
 use std::test::Fail;
 

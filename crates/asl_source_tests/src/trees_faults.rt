@@ -1,5 +1,5 @@
 //! Which of two faults of a text is answered, and the edges of what is counted by name.
-use crate::{Name, SyntaxFault, parse};
+use asl_syntax::{Name, SyntaxFault, parse};
 use std::alloc::{AllocError, Global};
 use std::test::Fail;
 

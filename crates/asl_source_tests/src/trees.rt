@@ -1,9 +1,10 @@
-use super::*;
-use crate::laws::{
+//! Texts to trees and back.
+use asl_syntax::laws::{
     a_printed_ast_is_read_back, a_printed_tree_is_lexed, a_printed_tree_is_read_back,
     a_printed_tree_is_spelled, a_text_has_one_outcome, a_text_has_one_tree,
     a_tree_mentions_its_names, names_are_declared_once,
 };
+use asl_syntax::{parse, print};
 use std::alloc::{AllocError, Global};
 use std::test::Fail;
 
