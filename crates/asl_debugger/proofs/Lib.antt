@@ -1,0 +1,4 @@
+pub mod Halts
+pub mod Marks
+pub mod Places
+pub mod Positions

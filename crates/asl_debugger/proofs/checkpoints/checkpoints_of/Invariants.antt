@@ -1,0 +1,9 @@
+use Rattle.std.proofs.Common.{length, ◌-◌}
+use Rattle.asl_debugger.specs.Kept.{AreSoFar}
+use Rattle.asl_debugger.proofs.checkpoints.checkpoints_of.Given as goal
+
+abbrev pub invariant-loop-here : goal.invariant-loop-here
+invariant-loop-here l = AreSoFar l.program l.journal l.spacing l.here l.checkpoints.items
+
+abbrev pub decreases-loop-here : goal.decreases-loop-here
+decreases-loop-here l = length l.events - l.here

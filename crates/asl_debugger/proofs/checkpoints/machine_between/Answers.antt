@@ -1,0 +1,46 @@
+use Rattle.std.proofs.Common.{◌≡◌, ◌<◌, ◌-◌, List, length, take, drop, ap, sym, subst, ◌∙◌, arith}
+use Rattle.std.proofs.lemmas.List.Elements.{All-take, All-drop}
+use Rattle.asl_machine.specs.Run.{state_after}
+use Rattle.asl_machine.specs.State.{State}
+use Rattle.asl_machine.specs.View.{Configuration}
+use Rattle.asl_journal.specs.declared.event.Event.{Event}
+use Rattle.asl_journal.specs.Journal.{AreThere, GoesBy, schedule_of}
+use Rattle.asl_journal.specs.Replay.{DiffersAt}
+use Rattle.asl_journal.proofs.Replays.{no_difference}
+use Rattle.asl_debugger.specs.Session.{state_before}
+use Rattle.asl_debugger.proofs.Positions.{threads_of, state_between, goes_between, goes_from, differs_between, is_at}
+use Rattle.asl_debugger.proofs.checkpoints.machine_between.Goals as goal
+
+pub follow-requires-clause-there : goal.follow-requires-clause-there
+follow-requires-clause-there c =
+    let log = c.args.journal.now in
+    let count = threads_of c.args.from.now.image log c.args.start c.args.from.now.state c.requires.from c.events-events.ensures.log in
+    rw (c.events-events.ensures.events, count)
+    (All-take (λ (e : Event). e.thread < log.threads) (c.args.end - c.args.start) (drop c.args.start log.events) (All-drop (λ (e : Event). e.thread < log.threads) c.args.start log.events c.events-events.ensures.log.there))
+
+pub returns-in-Ok-clause-machine : goal.returns-in-Ok-clause-machine
+returns-in-Ok-clause-machine c =
+    let from = c.args.from.now in
+    let log = c.args.journal.now in
+    let told = c.in-Ok.ensures.machine in
+    let slice = λ (es : List Event). take (c.args.end - c.args.start) (drop c.args.start es) in
+    is_at c.in-Ok.machine from.image (state_before from.image log c.args.end) (ap (λ (m : Configuration). m.image) told)
+    (ap (λ (m : Configuration). m.state) told
+    ∙ ap (λ (es : List Event). state_after from.image from.state (schedule_of (slice es))) c.events-events.ensures.events
+    ∙ ap (λ (s : State). state_after from.image s (schedule_of (slice log.events))) c.requires.from
+    ∙ state_between from.image log c.args.start c.args.end c.requires.order)
+
+pub returns-in-Ok-clause-goes : goal.returns-in-Ok-clause-goes
+returns-in-Ok-clause-goes c front =
+    goes_between c.args.from.now.image c.args.journal.now c.args.start c.args.end c.requires.order front (rw (c.events-events.ensures.events, c.requires.from) at c.in-Ok.ensures.goes)
+
+pub returns-in-Err-Differs-clause-refused : goal.returns-in-Err-Differs-clause-refused
+returns-in-Err-Differs-clause-refused c front =
+    let d = rw (c.in-Err-Differs.field-0-is, c.events-events.ensures.events, c.requires.from) at c.in-Err-Differs.ensures.refused in
+    differs_between c.args.from.now.image c.args.journal.now c.args.start c.args.end c.requires.order c.in-Err-Differs.index front d
+
+pub returns-in-Err-Differs-clause-only : goal.returns-in-Err-Differs-clause-only
+returns-in-Err-Differs-clause-only c j =
+    let d = rw (c.in-Err-Differs.field-0-is, c.events-events.ensures.events, c.requires.from) at c.in-Err-Differs.ensures.refused in
+    absurd (no_difference c.args.from.now.image (state_before c.args.from.now.image c.args.journal.now c.args.start) (take (c.args.end - c.args.start) (drop c.args.start c.args.journal.now.events)) c.in-Err-Differs.index
+    (goes_from c.args.from.now.image c.args.journal.now c.args.start c.args.end c.requires.order j) d)

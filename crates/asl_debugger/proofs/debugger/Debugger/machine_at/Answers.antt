@@ -1,0 +1,37 @@
+use Rattle.std.proofs.Common.{◌≡◌, ◌≤◌, ◌*◌, ◌/◌, Some, arith, refl, ap}
+use Rattle.std.specs.Prelude.{slice_get}
+use Rattle.std.proofs.lemmas.Option.{slice_get_read}
+use Rattle.asl_debugger.proofs.Marks.{number_there, checkpoint_at}
+use Rattle.asl_debugger.proofs.debugger.Debugger.machine_at.Goals as goal
+
+pub machine_between-requires-else-start-self-clause-from : goal.machine_between-requires-else-start-self-clause-from
+machine_between-requires-else-start-self-clause-from c =
+    let d = c.self.inside in
+    let number = c.args.k / d.spacing in
+    let few = rw (← c.self.view_is) at c.requires in
+    let low : number * d.spacing ≤ c.args.k = omega (arith, c.self.invariant.spaced) in
+    let lt = number_there d.machine.image d.journal d.spacing d.position c.args.k number d.checkpoints.items d.machine c.self.invariant few low in
+    let at : slice_get d.checkpoints.items number ≡ Some c.index-nearest.result.now = slice_get_read d.checkpoints.items _ number c.index-nearest.result.now refl lt c.index-nearest.ensures in
+    rw (checkpoint_at d.machine.image d.journal d.spacing d.position number d.checkpoints.items d.machine c.index-nearest.result.now c.self.invariant at) refl
+
+pub returns-else-start-self-clause-machine : goal.returns-else-start-self-clause-machine
+returns-else-start-self-clause-machine c =
+    let d = c.self.inside in
+    let number = c.args.k / d.spacing in
+    let few = rw (← c.self.view_is) at c.requires in
+    let low : number * d.spacing ≤ c.args.k = omega (arith, c.self.invariant.spaced) in
+    let lt = number_there d.machine.image d.journal d.spacing d.position c.args.k number d.checkpoints.items d.machine c.self.invariant few low in
+    let at : slice_get d.checkpoints.items number ≡ Some c.index-nearest.result.now = slice_get_read d.checkpoints.items _ number c.index-nearest.result.now refl lt c.index-nearest.ensures in
+    let e = checkpoint_at d.machine.image d.journal d.spacing d.position number d.checkpoints.items d.machine c.index-nearest.result.now c.self.invariant at in
+    rw (← c.self.view_is) (rw e at c.machine_between-else-start-self.ensures.machine)
+
+pub returns-else-start-self-clause-memory : goal.returns-else-start-self-clause-memory
+returns-else-start-self-clause-memory c =
+    let d = c.self.inside in
+    let number = c.args.k / d.spacing in
+    let few = rw (← c.self.view_is) at c.requires in
+    let low : number * d.spacing ≤ c.args.k = omega (arith, c.self.invariant.spaced) in
+    let lt = number_there d.machine.image d.journal d.spacing d.position c.args.k number d.checkpoints.items d.machine c.self.invariant few low in
+    let at : slice_get d.checkpoints.items number ≡ Some c.index-nearest.result.now = slice_get_read d.checkpoints.items _ number c.index-nearest.result.now refl lt c.index-nearest.ensures in
+    let e = checkpoint_at d.machine.image d.journal d.spacing d.position number d.checkpoints.items d.machine c.index-nearest.result.now c.self.invariant at in
+    (rw e at c.machine_between-else-start-self.ensures.only) c.self.invariant.journal

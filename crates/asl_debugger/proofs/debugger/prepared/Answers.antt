@@ -1,0 +1,20 @@
+use Rattle.std.proofs.Common.{◌∙◌, refl, arith, length}
+use Rattle.std.proofs.lemmas.Option.{slice_get_read}
+use Rattle.asl_debugger.proofs.Marks.{first_there, first_is}
+use Rattle.asl_debugger.proofs.debugger.prepared.Goals as goal
+
+pub returns-clause-kept : goal.returns-clause-kept
+returns-clause-kept c =
+    let told = c.in_ok-checkpoints.ensures in
+    let items = c.in_ok-checkpoints.checkpoints.items in
+    let some = first_there (length c.args.journal.now.events) (length items) c.args.spacing told.enough in
+    let at = slice_get_read items _ 0 c.index.result.now refl some c.index.ensures in
+    record {
+      is_log = told.log;
+      journal = told.journal;
+      spaced = c.requires;
+      shown = c.in-Ok.ensures.equal ∙ first_is c.args.program.now c.args.journal.now c.args.spacing items c.index.result.now told.each at;
+      within = omega arith;
+      each = told.each;
+      enough = told.enough;
+    }

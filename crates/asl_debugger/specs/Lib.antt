@@ -1,0 +1,5 @@
+pub mod Breaks
+pub mod Kept
+pub mod Opening
+pub mod Search
+pub mod Session

@@ -1,0 +1,31 @@
+//! Breakpoints: places of the code.
+ghost use Rattle.std.specs.Prelude.{◌≡◌, ◌==◌, filter, not, OnErr, OnOk};
+ghost use Rattle.asl_debugger.specs.Breaks.{has_break, HasBreak, HasNoBreak};
+
+use std::alloc::AllocError;
+
+/// Whether the place is among the breakpoints.
+pub fn has_break(breakpoints: &[u32], pc: u32) -> bool
+    ensures { result ≡ has_break breakpoints.now pc }
+{
+    breakpoints.contains(&pc)
+}
+
+/// Puts the place among the breakpoints.
+pub fn put_break(breakpoints: &mut Vec<u32>, pc: u32) -> Result<(), AllocError>
+    ensures has { OnOk result (HasBreak breakpoints.old.items breakpoints.new.items pc) }
+    ensures err { OnErr result (breakpoints.new.items ≡ breakpoints.old.items) }
+{
+    if !has_break(breakpoints.as_slice(), pc) {
+        breakpoints.push(pc)?;
+    }
+    Ok(())
+}
+
+/// Takes the place from the breakpoints.
+pub fn clear_break(breakpoints: &mut Vec<u32>, pc: u32)
+    ensures rest { breakpoints.new.items ≡ filter (λ place. not (place == pc)) breakpoints.old.items }
+    ensures has { HasNoBreak breakpoints.old.items breakpoints.new.items pc }
+{
+    breakpoints.retain(|place| *place != pc);
+}

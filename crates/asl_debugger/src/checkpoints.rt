@@ -1,0 +1,106 @@
+//! The machine at positions of a journal, and the checkpoints that a debugger keeps.
+ghost use Rattle.std.specs.Prelude.{◌≡◌, ◌<◌, ◌≤◌, ◌+◌, ◌*◌, length, take, IfErr, IfOk, OnErr, OnOk};
+ghost use Rattle.asl_machine.specs.Run.{start_of};
+ghost use Rattle.asl_journal.specs.Journal.{GoesBy, IsJournal, IsLog};
+ghost use Rattle.asl_debugger.specs.Kept.{AreCheckpoints};
+ghost use Rattle.asl_debugger.specs.Opening.{IsOpenFault};
+ghost use Rattle.asl_debugger.specs.Session.{machine_before, state_before};
+
+use crate::fault::DebugFault;
+use asl_code::Program;
+use asl_journal::{Journal, JournalFault, follow};
+use asl_machine::Machine;
+use std::alloc::Global;
+
+/// The machine at position `end`, from the one at position `start`, which stays as it is.
+pub fn machine_between<'p>(
+    alloc: Global,
+    from: &Machine<'p>,
+    journal: &Journal,
+    start: usize,
+    end: usize,
+) -> Result<Machine<'p>, DebugFault>
+    requires from { from.now.state ≡ state_before from.now.image journal.now start }
+    requires order { start ≤ end }
+    requires within { end ≤ length journal.now.events }
+    ensures machine { IfOk result (λ machine. machine ≡ machine_before from.now.image journal.now end) }
+    ensures goes { GoesBy from.now.image (start_of from.now.image journal.now.threads) (take start journal.now.events)
+        → OnOk result (GoesBy from.now.image (start_of from.now.image journal.now.threads) (take end journal.now.events)) }
+    ensures refused { GoesBy from.now.image (start_of from.now.image journal.now.threads) (take start journal.now.events)
+        → IfErr result (λ fault. IsOpenFault from.now.image journal.now fault) }
+    ensures only { IsJournal from.now.image journal.now.threads journal.now.events
+        → IfErr result (λ fault. fault ≡ DebugFault.OutOfMemory) }
+{
+    let events = journal.events();
+    match follow(alloc, from, &events[start..end]) {
+        Ok(machine) => Ok(machine),
+        Err(JournalFault::Differs(index)) => Err(DebugFault::Differs(start as u32 + index)),
+        Err(_) => Err(DebugFault::OutOfMemory),
+    }
+}
+
+/// Makes the event at this position, from the machine there.
+pub fn make_event(
+    alloc: Global,
+    machine: &mut Machine<'_>,
+    journal: &Journal,
+    position: usize,
+) -> Result<(), DebugFault>
+    requires at { machine.old.state ≡ state_before machine.old.image journal.now position }
+    requires there { position < length journal.now.events }
+    ensures made { OnOk result (machine.new ≡ machine_before machine.old.image journal.now (position + 1)) }
+    ensures memory { IfErr result (λ fault. fault ≡ DebugFault.OutOfMemory) }
+    ensures err { OnErr result (machine.new ≡ machine.old) }
+{
+    let events = journal.events();
+    match machine.step(alloc, u32::from(events[position].thread)) {
+        Ok(_reply) => Ok(()),
+        Err(_fault) => Err(DebugFault::OutOfMemory),
+    }
+}
+
+/// The checkpoints of the journal, if it is one of the program: the machine at 0, the spacing, twice the spacing and so
+/// on.
+pub fn checkpoints_of<'p>(
+    alloc: Global,
+    program: &'p Program,
+    journal: &Journal,
+    spacing: u32,
+) -> Result<Vec<Machine<'p>>, DebugFault>
+    requires { 0 < spacing }
+    ensures log { IsLog journal.now }
+    ensures journal { OnOk result (IsJournal program.now journal.now.threads journal.now.events) }
+    ensures each { IfOk result (λ checkpoints. AreCheckpoints program.now journal.now spacing checkpoints.items) }
+    ensures enough { IfOk result (λ checkpoints. length journal.now.events < length checkpoints.items * spacing) }
+    ensures refused { IfErr result (λ fault. IsOpenFault program.now journal.now fault) }
+{
+    let events = journal.events();
+    let mut checkpoints = Vec::new(alloc);
+    checkpoints.push(first_machine(alloc, program, journal)?)?;
+    let mut here = 0;
+    while events.len() - here >= spacing as usize {
+        let next = here + spacing as usize;
+        let last = &checkpoints[checkpoints.len() - 1];
+        let machine = machine_between(alloc, last, journal, here, next)?;
+        checkpoints.push(machine)?;
+        here = next;
+    }
+    let last = &checkpoints[checkpoints.len() - 1];
+    let _end = machine_between(alloc, last, journal, here, events.len())?;
+    Ok(checkpoints)
+}
+
+/// The machine at position 0.
+fn first_machine<'p>(
+    alloc: Global,
+    program: &'p Program,
+    journal: &Journal,
+) -> Result<Machine<'p>, DebugFault>
+    ensures machine { IfOk result (λ machine. machine ≡ machine_before program.now journal.now 0) }
+    ensures memory { IfErr result (λ fault. fault ≡ DebugFault.OutOfMemory) }
+{
+    match Machine::new(alloc, program, journal.threads()) {
+        Ok(machine) => Ok(machine),
+        Err(_fault) => Err(DebugFault::OutOfMemory),
+    }
+}

@@ -1,0 +1,238 @@
+//! The debugger: a journal of a program, and a position in it.
+ghost use Rattle.std.specs.Prelude.{◌≡◌, ◌<◌, ◌≤◌, ◌+◌, ◌-◌, ◌↔◌, ◌⊎◌, [], length, IfErr, IfOk, IsErrOf, OnErr, OnOk};
+ghost use Rattle.asl_journal.specs.Journal.{IsJournal};
+ghost use Rattle.asl_debugger.specs.Breaks.{HasBreak, HasNoBreak};
+ghost use Rattle.asl_debugger.specs.Kept.{IsKept};
+ghost use Rattle.asl_debugger.specs.Opening.{IsOpenFault};
+
+mod search;
+
+use crate::breakpoints::{clear_break, put_break};
+use crate::checkpoints::{checkpoints_of, machine_between, make_event};
+use crate::fault::DebugFault;
+use asl_code::Program;
+use asl_journal::Journal;
+use asl_machine::Machine;
+use std::alloc::Global;
+use std::marker::Model;
+
+/// A journal of a program, a position in it with the machine there, and breakpoints. Checkpoints of the machine stand
+/// at 0, the spacing, twice the spacing and so on (`docs/JOURNAL.md`, "The debugger").
+#[derive(Drop)]
+pub struct Debugger<'p> {
+    journal: Journal,
+    spacing: u32,
+    checkpoints: Vec<Machine<'p>>,
+    machine: Machine<'p>,
+    position: u32,
+    breakpoints: Vec<u32>,
+}
+
+impl<'p> Model for Debugger<'p> {
+    ghost use Rattle.asl_debugger.specs.Session.{Session};
+    ghost use Rattle.asl_debugger.specs.Kept.{IsKept};
+
+    ghost Value = { Session };
+
+    ghost view = { λ d. record {
+      image = d.machine.image;
+      log = d.journal;
+      position = d.position;
+      breakpoints = d.breakpoints.items;
+    } };
+
+    ghost invariant = { λ d. IsKept d.machine.image d.journal d.spacing d.checkpoints.items d.machine d.position };
+}
+
+impl<'p> Debugger<'p> {
+    ghost use Rattle.asl_debugger.specs.Session.{IsNextStop, IsLastStop, machine_before, moved, with_breaks};
+
+    /// A debugger at position 0 of the journal, if it is one of the program. Else it is handed back.
+    pub fn open(
+        alloc: Global,
+        program: &'p Program,
+        journal: Journal,
+        spacing: u32,
+    ) -> Result<Debugger<'p>, (DebugFault, Journal)>
+        requires { 0 < spacing }
+        ensures session { IfOk result (λ debugger. debugger ≡ record {
+          image = program.now;
+          log = journal;
+          position = 0;
+          breakpoints = [];
+        }) }
+        ensures journal { OnOk result (IsJournal program.now journal.threads journal.events) }
+        ensures refused { IfErr result (λ refusal. IsOpenFault program.now journal refusal.0) }
+        // A journal of the program is refused for want of memory alone.
+        ensures only { IsJournal program.now journal.threads journal.events
+            → IfErr result (λ refusal. refusal.0 ≡ DebugFault.OutOfMemory) }
+        ensures back { IfErr result (λ refusal. refusal.1 ≡ journal) }
+    {
+        match prepared(alloc, program, &journal, spacing) {
+            Ok((checkpoints, machine)) => Ok(Debugger {
+                journal,
+                spacing,
+                checkpoints,
+                machine,
+                position: 0,
+                breakpoints: Vec::new(alloc),
+            }),
+            Err(fault) => Err((fault, journal)),
+        }
+    }
+
+    /// Goes to position k.
+    pub fn goto(&mut self, alloc: Global, k: u32) -> Result<(), DebugFault>
+        ensures moves { OnOk result (self.new ≡ moved self.old k) }
+        ensures none { IsErrOf result DebugFault.NoSuchStep ↔ (length self.old.log.events < k) }
+        ensures other { IfErr result (λ fault. (fault ≡ DebugFault.NoSuchStep) ⊎ (fault ≡ DebugFault.OutOfMemory)) }
+        ensures err { OnErr result (self.new ≡ self.old) }
+    {
+        if k as usize > self.journal.events().len() {
+            return Err(DebugFault::NoSuchStep);
+        }
+        let machine = self.machine_at(alloc, k)?;
+        self.machine = machine;
+        self.position = k;
+        Ok(())
+    }
+
+    /// Goes on by one event, which takes one step.
+    pub fn forward(&mut self, alloc: Global) -> Result<(), DebugFault>
+        ensures moves { OnOk result (self.new ≡ moved self.old (self.old.position + 1)) }
+        ensures end { IsErrOf result DebugFault.AtEnd ↔ (self.old.position ≡ length self.old.log.events) }
+        ensures other { IfErr result (λ fault. (fault ≡ DebugFault.AtEnd) ⊎ (fault ≡ DebugFault.OutOfMemory)) }
+        ensures err { OnErr result (self.new ≡ self.old) }
+    {
+        let position = self.position as usize;
+        if position == self.journal.events().len() {
+            return Err(DebugFault::AtEnd);
+        }
+        make_event(alloc, &mut self.machine, &self.journal, position)?;
+        self.position += 1;
+        Ok(())
+    }
+
+    /// Goes back by one event.
+    pub fn back(&mut self, alloc: Global) -> Result<(), DebugFault>
+        ensures moves { OnOk result (self.new ≡ moved self.old (self.old.position - 1)) }
+        ensures start { IsErrOf result DebugFault.AtStart ↔ (self.old.position ≡ 0) }
+        ensures other { IfErr result (λ fault. (fault ≡ DebugFault.AtStart) ⊎ (fault ≡ DebugFault.OutOfMemory)) }
+        ensures err { OnErr result (self.new ≡ self.old) }
+    {
+        if self.position == 0 {
+            return Err(DebugFault::AtStart);
+        }
+        let before = self.position - 1;
+        let machine = self.machine_at(alloc, before)?;
+        self.machine = machine;
+        self.position = before;
+        Ok(())
+    }
+
+    /// Goes on to the least later stop, or to the end where there is none.
+    pub fn forward_to_break(&mut self, alloc: Global) -> Result<(), DebugFault>
+        ensures moves { OnOk result (self.new ≡ moved self.old self.new.position) }
+        ensures stop { OnOk result (IsNextStop self.old self.new.position) }
+        ensures end { IsErrOf result DebugFault.AtEnd ↔ (self.old.position ≡ length self.old.log.events) }
+        ensures other { IfErr result (λ fault. (fault ≡ DebugFault.AtEnd) ⊎ (fault ≡ DebugFault.OutOfMemory)) }
+        ensures err { OnErr result (self.new ≡ self.old) }
+    {
+        if self.position as usize == self.journal.events().len() {
+            return Err(DebugFault::AtEnd);
+        }
+        let (machine, position) = self.next_stop(alloc)?;
+        self.machine = machine;
+        self.position = position;
+        Ok(())
+    }
+
+    /// Goes back to the greatest earlier stop, or to the start where there is none.
+    pub fn back_to_break(&mut self, alloc: Global) -> Result<(), DebugFault>
+        ensures moves { OnOk result (self.new ≡ moved self.old self.new.position) }
+        ensures stop { OnOk result (IsLastStop self.old self.new.position) }
+        ensures start { IsErrOf result DebugFault.AtStart ↔ (self.old.position ≡ 0) }
+        ensures other { IfErr result (λ fault. (fault ≡ DebugFault.AtStart) ⊎ (fault ≡ DebugFault.OutOfMemory)) }
+        ensures err { OnErr result (self.new ≡ self.old) }
+    {
+        if self.position == 0 {
+            return Err(DebugFault::AtStart);
+        }
+        let stop = self.last_stop(alloc)?;
+        let machine = self.machine_at(alloc, stop)?;
+        self.machine = machine;
+        self.position = stop;
+        Ok(())
+    }
+
+    /// Makes the place a breakpoint. A place out of the code never stops.
+    pub fn break_at(&mut self, pc: u32) -> Result<(), DebugFault>
+        ensures same { self.new ≡ with_breaks self.old self.new.breakpoints }
+        ensures has { OnOk result (HasBreak self.old.breakpoints self.new.breakpoints pc) }
+        ensures memory { IfErr result (λ fault. fault ≡ DebugFault.OutOfMemory) }
+        ensures err { OnErr result (self.new ≡ self.old) }
+    {
+        put_break(&mut self.breakpoints, pc)?;
+        Ok(())
+    }
+
+    /// Makes the place no breakpoint.
+    pub fn clear(&mut self, pc: u32)
+        ensures same { self.new ≡ with_breaks self.old self.new.breakpoints }
+        ensures has { HasNoBreak self.old.breakpoints self.new.breakpoints pc }
+    {
+        clear_break(&mut self.breakpoints, pc);
+    }
+
+    /// The machine at the position.
+    pub fn view(&self) -> &Machine<'p>
+        ensures { result.now ≡ machine_before self.now.image self.now.log self.now.position }
+    {
+        &self.machine
+    }
+
+    /// How many events lead to the machine that is shown.
+    pub fn position(&self) -> u32
+        ensures position { result ≡ self.now.position }
+        ensures within { result ≤ length self.now.log.events }
+    {
+        self.position
+    }
+
+    /// The machine at position k, from the greatest checkpoint that is not past it, or from the present one if that is
+    /// nearer.
+    fn machine_at(&self, alloc: Global, k: u32) -> Result<Machine<'p>, DebugFault>
+        requires { k ≤ length self.now.log.events }
+        ensures machine { IfOk result (λ machine. machine ≡ machine_before self.now.image self.now.log k) }
+        ensures memory { IfErr result (λ fault. fault ≡ DebugFault.OutOfMemory) }
+    {
+        let number = k / self.spacing;
+        let start = number * self.spacing;
+        if start <= self.position && self.position <= k {
+            let here = self.position as usize;
+            machine_between(alloc, &self.machine, &self.journal, here, k as usize)
+        } else {
+            let nearest = &self.checkpoints[number as usize];
+            machine_between(alloc, nearest, &self.journal, start as usize, k as usize)
+        }
+    }
+}
+
+/// The checkpoints of the journal, and the machine at position 0, if the journal is one of the program.
+fn prepared<'p>(
+    alloc: Global,
+    program: &'p Program,
+    journal: &Journal,
+    spacing: u32,
+) -> Result<(Vec<Machine<'p>>, Machine<'p>), DebugFault>
+    requires { 0 < spacing }
+    ensures kept { IfOk result (λ parts. IsKept program.now journal.now spacing parts.0.items parts.1 0) }
+    ensures refused { IfErr result (λ fault. IsOpenFault program.now journal.now fault) }
+{
+    let checkpoints = checkpoints_of(alloc, program, journal, spacing)?;
+    let machine = match checkpoints[0].try_copy(alloc) {
+        Ok(machine) => machine,
+        Err(_fault) => return Err(DebugFault::OutOfMemory),
+    };
+    Ok((checkpoints, machine))
+}

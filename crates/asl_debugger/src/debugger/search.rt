@@ -1,0 +1,92 @@
+//! The search for stops, on copies of machines.
+ghost use Rattle.std.specs.Prelude.{◌≡◌, ◌<◌, ◌≤◌, ◌*◌, length, IfErr, IfOk};
+
+use crate::checkpoints::make_event;
+use crate::debugger::Debugger;
+use crate::fault::DebugFault;
+use crate::stops::is_at_break;
+use asl_machine::Machine;
+use std::alloc::Global;
+
+impl<'p> Debugger<'p> {
+    ghost use Rattle.asl_debugger.specs.Search.{IsFound};
+    ghost use Rattle.asl_debugger.specs.Session.{IsNextStop, IsLastStop, machine_before};
+
+    /// The least later stop, or the end, and the machine there.
+    pub(crate) fn next_stop(&self, alloc: Global) -> Result<(Machine<'p>, u32), DebugFault>
+        requires { self.now.position < length self.now.log.events }
+        ensures stop { IfOk result (λ found. IsNextStop self.now found.1) }
+        ensures machine { IfOk result (λ found. found.0 ≡ machine_before self.now.image self.now.log found.1) }
+        ensures memory { IfErr result (λ fault. fault ≡ DebugFault.OutOfMemory) }
+    {
+        let events = self.journal.events();
+        let mut machine = match self.machine.try_copy(alloc) {
+            Ok(machine) => machine,
+            Err(_fault) => return Err(DebugFault::OutOfMemory),
+        };
+        let mut position = self.position as usize;
+        make_event(alloc, &mut machine, &self.journal, position)?;
+        position += 1;
+        while position < events.len() {
+            if is_at_break(
+                &machine,
+                events[position].thread,
+                self.breakpoints.as_slice(),
+            ) {
+                break;
+            }
+            make_event(alloc, &mut machine, &self.journal, position)?;
+            position += 1;
+        }
+        Ok((machine, position as u32))
+    }
+
+    /// The greatest earlier stop, or the start: the stretches between checkpoints are searched one by one, the last
+    /// first.
+    pub(crate) fn last_stop(&self, alloc: Global) -> Result<u32, DebugFault>
+        requires { 0 < self.now.position }
+        ensures stop { IfOk result (λ found. IsLastStop self.now found) }
+        ensures memory { IfErr result (λ fault. fault ≡ DebugFault.OutOfMemory) }
+    {
+        let mut until = self.position;
+        while until > 0 {
+            let number = (until - 1) / self.spacing;
+            let start = number * self.spacing;
+            let checkpoint = &self.checkpoints[number as usize];
+            match self.last_within(alloc, checkpoint, start, until)? {
+                Some(stop) => return Ok(stop),
+                None => until = start,
+            }
+        }
+        Ok(0)
+    }
+
+    /// The greatest stop from `start` on and before `until`, if there is one. The machine is the one at `start`.
+    fn last_within(
+        &self,
+        alloc: Global,
+        from: &Machine<'p>,
+        start: u32,
+        until: u32,
+    ) -> Result<Option<u32>, DebugFault>
+        requires from { from.now ≡ machine_before self.now.image self.now.log start }
+        requires order { start ≤ until }
+        requires within { until ≤ length self.now.log.events }
+        ensures stop { IfOk result (λ found. IsFound self.now start until found) }
+        ensures memory { IfErr result (λ fault. fault ≡ DebugFault.OutOfMemory) }
+    {
+        let mut machine = match from.try_copy(alloc) {
+            Ok(machine) => machine,
+            Err(_fault) => return Err(DebugFault::OutOfMemory),
+        };
+        let mut found = None;
+        for k in start..until {
+            let thread = self.journal.events()[k as usize].thread;
+            if is_at_break(&machine, thread, self.breakpoints.as_slice()) {
+                found = Some(k);
+            }
+            make_event(alloc, &mut machine, &self.journal, k as usize)?;
+        }
+        Ok(found)
+    }
+}

@@ -1,0 +1,47 @@
+use asl_journal::JournalFault;
+use asl_machine::MachineFault;
+use std::alloc::{AllocError, AllocFailed};
+use std::convert::From;
+use thiserror::Error;
+
+/// Why a debugger refused a call. Where several apply, the first is answered.
+#[derive(Clone, Copy, Debug, PartialEq, Eq, Error)]
+pub enum DebugFault {
+    /// There is no event after this position.
+    #[error("AtEnd")]
+    AtEnd,
+    /// There is no event before this position.
+    #[error("AtStart")]
+    AtStart,
+    /// The journal has no such position.
+    #[error("NoSuchStep")]
+    NoSuchStep,
+    /// The program's run replies something else at this event, counted from 0.
+    #[error("Differs({0})")]
+    Differs(u32),
+    /// A growth was refused.
+    #[error("OutOfMemory")]
+    OutOfMemory,
+}
+
+impl From<AllocError> for DebugFault {
+    ghost use Rattle.std.specs.Prelude.{◌≡◌};
+    ghost use Rattle.asl_debugger.specs.declared.fault.DebugFault.TheVariants.{OutOfMemory};
+
+    ghost from_gives = { λ _ fault. fault ≡ OutOfMemory };
+
+    fn from(_: AllocError) -> Self {
+        DebugFault::OutOfMemory
+    }
+}
+
+impl<T: Drop> From<AllocFailed<T>> for DebugFault {
+    ghost use Rattle.std.specs.Prelude.{◌≡◌};
+    ghost use Rattle.asl_debugger.specs.declared.fault.DebugFault.TheVariants.{OutOfMemory};
+
+    ghost from_gives = { λ _ fault. fault ≡ OutOfMemory };
+
+    fn from(_: AllocFailed<T>) -> Self {
+        DebugFault::OutOfMemory
+    }
+}

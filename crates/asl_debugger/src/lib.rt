@@ -1,0 +1,11 @@
+//! A debugger over a journal: the machine at any position of the run, steps to and fro, and breakpoints.
+#![tactic(auto)]
+
+mod breakpoints;
+mod checkpoints;
+mod debugger;
+mod fault;
+mod stops;
+
+pub use debugger::Debugger;
+pub use fault::DebugFault;
