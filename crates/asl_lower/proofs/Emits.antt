@@ -1,5 +1,5 @@
 -- Steps of emitting code.
-use Rattle.std.proofs.Common.{◌≡◌, ℕ, suc, ◌<◌, Result, Ok, Err, IfOk, List, [], ◌∷◌, ◌++◌, length, drop, get_or, set, refl, sym, ap, ◌∙◌, arith, append_assoc, drop-cons, length-append}
+use Rattle.std.proofs.Common.{◌≡◌, ℕ, suc, ◌<◌, ◌≤◌, Result, Ok, Err, IfOk, List, [], ◌∷◌, ◌++◌, length, drop, get_or, set, refl, sym, ap, ◌∙◌, arith, append_assoc, drop-cons, length-append}
 use Rattle.std.proofs.lemmas.List.{append-nil}
 use Rattle.std.proofs.Math.Seq.{set-append_seam}
 use Rattle.std.proofs.Math.ListN.{length-set}
@@ -10,7 +10,6 @@ use Rattle.asl_syntax.specs.declared.tree.Statement as tree
 use Rattle.asl_syntax.specs.View.{statement_of, block_of}
 use Rattle.asl_lower.specs.declared.section.Section.{Section}
 use Rattle.asl_lower.specs.declared.output.Output.{Output}
-use Rattle.asl_lower.specs.declared.output.Full.{Full}
 use Rattle.asl_lower.specs.Names.{Scope, register}
 use Rattle.asl_lower.specs.Lowered.{section_of}
 use Rattle.asl_lower.specs.Layout.{stmt_code, block_code, stmt_sections, block_sections}
@@ -22,13 +21,13 @@ use Rattle.asl_lower.proofs.Grows.{Precedes, joined, by_moves, by_stmt, by_block
 pub place_same : (p q : Place) → p.pc ≡ q.pc → p.site ≡ q.site → p.section ≡ q.section → p ≡ q
 place_same p q a b c = λ i. record { pc = a i; site = b i; section = c i }
 
--- one `mov` too many is too many in all
-pub moves_full : (args : List (List ℕ)) (i : ℕ) (p q : Place) → past_moves args q ≡ past_moves (drop i args) p → i < length args → 65535 < (next p).pc → 65535 < (past_moves args q).pc
-moves_full args i p q e low h =
+-- where there is room for all, there is room for one `mov` more
+pub moves_room : (args : List (List ℕ)) (i : ℕ) (p q : Place) → past_moves args q ≡ past_moves (drop i args) p → i < length args → (past_moves args q).pc ≤ 65535 → (next p).pc ≤ 65535
+moves_room args i p q e low h =
     let f : drop i args ≡ get_or args i [] ∷ drop (suc i) args = drop-cons args i [] low in
     let g : Precedes (next p) (past_moves (drop (suc i) args) (next p)) = by_moves (drop (suc i) args) (next p) in
     let k : past_moves (drop i args) p ≡ past_moves (drop (suc i) args) (next p) = ap (λ (xs : List (List ℕ)). past_moves xs p) f in
-    omega (arith, g.pc, ap (λ (r : Place). r.pc) (e ∙ k))
+    omega (arith, h, g.pc, ap (λ (r : Place). r.pc) (e ∙ k))
 
 -- the lists of an `if` with two blocks
 pub if_else_code : {X : Type 0} (old c1 c2 c3 c4 c5 c6 one two : List X) (hole over jz jump : X) → c1 ≡ old ++ hole ∷ [] → c2 ≡ c1 ++ one → c3 ≡ c2 ++ over ∷ [] → c4 ≡ set c3 (length old) jz → c5 ≡ c4 ++ two → c6 ≡ set c5 (length c2) jump → c6 ≡ old ++ jz ∷ (one ++ jump ∷ two)
@@ -63,41 +62,41 @@ around_code {X} old c1 c2 c3 one first last e1 e2 e3 =
     let f2 : c2 ≡ old ++ first ∷ one = e2 ∙ ap (λ (l : List X). l ++ one) e1 ∙ append_assoc old (first ∷ []) one in
     e3 ∙ ap (λ (l : List X). l ++ last ∷ []) f2 ∙ append_assoc old (first ∷ one) (last ∷ [])
 
--- a statement too many is too many in all
-pub block_full : (ss : List tree.Statement) (i : ℕ) (s : tree.Statement) (p q : Place) → past_block (block_of ss) q ≡ past_block (block_of (drop i ss)) p → i < length ss → s ≡ get_or ss i s → 65535 < (past_stmt (statement_of s) p).pc → 65535 < (past_block (block_of ss) q).pc
-block_full ss i s p q e low same h =
+-- where there is room for all statements, there is room for the next
+pub block_room : (ss : List tree.Statement) (i : ℕ) (s : tree.Statement) (p q : Place) → past_block (block_of ss) q ≡ past_block (block_of (drop i ss)) p → i < length ss → s ≡ get_or ss i s → (past_block (block_of ss) q).pc ≤ 65535 → (past_stmt (statement_of s) p).pc ≤ 65535
+block_room ss i s p q e low same h =
     let f : drop i ss ≡ get_or ss i s ∷ drop (suc i) ss = drop-cons ss i s low in
     let f2 : drop i ss ≡ s ∷ drop (suc i) ss = f ∙ ap (λ (t : tree.Statement). t ∷ drop (suc i) ss) (sym same) in
     let m : Place = past_stmt (statement_of s) p in
     let g : Precedes m (past_block (block_of (drop (suc i) ss)) m) = by_block (block_of (drop (suc i) ss)) m in
     let k : past_block (block_of (drop i ss)) p ≡ past_block (block_of (drop (suc i) ss)) m = ap (λ (xs : List tree.Statement). past_block (block_of xs) p) f2 in
-    omega (arith, g.pc, ap (λ (r : Place). r.pc) (e ∙ k))
+    omega (arith, h, g.pc, ap (λ (r : Place). r.pc) (e ∙ k))
 
--- too much inside a statement is too much
-pub full_if_test : (x : List ℕ) (a b : Block) (p : Place) → 65535 < (next p).pc → 65535 < (past_stmt (IfStatement x a b) p).pc
-full_if_test x a b p h =
-    omega (arith, (by_block a (next p)).pc, (by_else b (past_block a (next p))).pc)
+-- where there is room for a statement, there is room inside
+pub room_if_test : (x : List ℕ) (a b : Block) (p : Place) → (past_stmt (IfStatement x a b) p).pc ≤ 65535 → (next p).pc ≤ 65535
+room_if_test x a b p h =
+    omega (arith, h, (by_block a (next p)).pc, (by_else b (past_block a (next p))).pc)
 
-pub full_if_first : (x : List ℕ) (a b : Block) (p q : Place) → q ≡ next p → 65535 < (past_block a q).pc → 65535 < (past_stmt (IfStatement x a b) p).pc
-full_if_first x a b p q e h =
-    omega (arith, ap (λ (r : Place). (past_block a r).pc) e, (by_else b (past_block a (next p))).pc)
+pub room_if_first : (x : List ℕ) (a b : Block) (p q : Place) → q ≡ next p → (past_stmt (IfStatement x a b) p).pc ≤ 65535 → (past_block a q).pc ≤ 65535
+room_if_first x a b p q e h =
+    omega (arith, h, ap (λ (r : Place). (past_block a r).pc) e, (by_else b (past_block a (next p))).pc)
 
-pub full_if_leap : (x : List ℕ) (a : Block) (ss : List tree.Statement) (p q : Place) → q ≡ past_block a (next p) → 0 < length ss → 65535 < (next q).pc → 65535 < (past_stmt (IfStatement x a (block_of ss)) p).pc
-full_if_leap x a [] p q e some h = absurd (omega arith)
-full_if_leap x a (s ∷ ss) p q e some h =
+pub room_if_leap : (x : List ℕ) (a : Block) (ss : List tree.Statement) (p q : Place) → q ≡ past_block a (next p) → 0 < length ss → (past_stmt (IfStatement x a (block_of ss)) p).pc ≤ 65535 → (next q).pc ≤ 65535
+room_if_leap x a [] p q e some h = absurd (omega arith)
+room_if_leap x a (s ∷ ss) p q e some h =
     let m : Place = next (past_block a (next p)) in
-    omega (arith, ap (λ (r : Place). r.pc) e, (joined (by_stmt (statement_of s) m) (by_block (block_of ss) (past_stmt (statement_of s) m))).pc)
+    omega (arith, h, ap (λ (r : Place). r.pc) e, (joined (by_stmt (statement_of s) m) (by_block (block_of ss) (past_stmt (statement_of s) m))).pc)
 
-pub full_if_second : (x : List ℕ) (a : Block) (ss : List tree.Statement) (p q : Place) → q ≡ next (past_block a (next p)) → 0 < length ss → 65535 < (past_block (block_of ss) q).pc → 65535 < (past_stmt (IfStatement x a (block_of ss)) p).pc
-full_if_second x a [] p q e some h = absurd (omega arith)
-full_if_second x a (s ∷ ss) p q e some h =
-    omega (arith, ap (λ (r : Place). (past_block (block_of (s ∷ ss)) r).pc) e)
+pub room_if_second : (x : List ℕ) (a : Block) (ss : List tree.Statement) (p q : Place) → q ≡ next (past_block a (next p)) → 0 < length ss → (past_stmt (IfStatement x a (block_of ss)) p).pc ≤ 65535 → (past_block (block_of ss) q).pc ≤ 65535
+room_if_second x a [] p q e some h = absurd (omega arith)
+room_if_second x a (s ∷ ss) p q e some h =
+    omega (arith, h, ap (λ (r : Place). (past_block (block_of (s ∷ ss)) r).pc) e)
 
-pub full_while_test : (x : List ℕ) (a : Block) (p : Place) → 65535 < (next p).pc → 65535 < (past_stmt (WhileStatement x a) p).pc
-full_while_test x a p h = omega (arith, (by_block a (next p)).pc)
+pub room_while_test : (x : List ℕ) (a : Block) (p : Place) → (past_stmt (WhileStatement x a) p).pc ≤ 65535 → (next p).pc ≤ 65535
+room_while_test x a p h = omega (arith, h, (by_block a (next p)).pc)
 
-pub full_enter : (a : Block) (p : Place) → 65535 < (entered p).pc → 65535 < (past_stmt (AtomicStatement a) p).pc
-full_enter a p h = omega (arith, (by_block a (entered p)).pc)
+pub room_enter : (a : Block) (p : Place) → (past_stmt (AtomicStatement a) p).pc ≤ 65535 → (entered p).pc ≤ 65535
+room_enter a p h = omega (arith, h, (by_block a (entered p)).pc)
 
 -- a list of no elements
 pub no_items : {X : Type 0} (xs : List X) → length xs ≡ 0 → xs ≡ []
@@ -189,8 +188,8 @@ atomic_adds sc a old o1 o2 o3 h1 h2 e3 s3 n3 =
       place = place_same (place_of o3) (next (place_of o2)) len n3 seen ∙ ap next end2;
     }
 
--- a section whose `rel` may not find room
-pub leave_adds : (sc : Scope) (a : Block) (old o1 o2 o3 : Output) (r : Result (Unit {0}) Full) (number acquire : ℕ) → number ≡ length old.sections.items → acquire ≡ length old.code.items → Adds old o1 (instr.Acquire (length old.sections.items) ∷ []) (record { function = sc.function; acquire = length old.code.items; release = 0 } ∷ []) (entered (place_of old)) → Adds o1 o2 (block_code sc a (place_of o1)) (block_sections sc a (place_of o1)) (past_block a (place_of o1)) → IfOk r (λ _. o3.code.items ≡ o2.code.items ++ instr.Release ∷ []) → IfOk r (λ _. o3.sections.items ≡ set o2.sections.items number (record { function = sc.function; acquire = acquire; release = length o2.code.items })) → IfOk r (λ _. o3.sites ≡ o2.sites) → IfOk r (λ _. Adds old o3 (stmt_code sc (AtomicStatement a) (place_of old)) (stmt_sections sc (AtomicStatement a) (place_of old)) (past_stmt (AtomicStatement a) (place_of old)))
+-- a section whose `rel` may want memory
+pub leave_adds : {E : Type 0} (sc : Scope) (a : Block) (old o1 o2 o3 : Output) (r : Result (Unit {0}) E) (number acquire : ℕ) → number ≡ length old.sections.items → acquire ≡ length old.code.items → Adds old o1 (instr.Acquire (length old.sections.items) ∷ []) (record { function = sc.function; acquire = length old.code.items; release = 0 } ∷ []) (entered (place_of old)) → Adds o1 o2 (block_code sc a (place_of o1)) (block_sections sc a (place_of o1)) (past_block a (place_of o1)) → IfOk r (λ _. o3.code.items ≡ o2.code.items ++ instr.Release ∷ []) → IfOk r (λ _. o3.sections.items ≡ set o2.sections.items number (record { function = sc.function; acquire = acquire; release = length o2.code.items })) → IfOk r (λ _. o3.sites ≡ o2.sites) → IfOk r (λ _. Adds old o3 (stmt_code sc (AtomicStatement a) (place_of old)) (stmt_sections sc (AtomicStatement a) (place_of old)) (past_stmt (AtomicStatement a) (place_of old)))
 leave_adds sc a old o1 o2 o3 (Err e) number acquire en ea h1 h2 e3 s3 n3 = tt
 leave_adds sc a old o1 o2 o3 (Ok u) number acquire en ea h1 h2 e3 s3 n3 =
     let made : ℕ → Section = λ k. record { function = sc.function; acquire = k; release = length o2.code.items } in

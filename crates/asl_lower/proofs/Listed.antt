@@ -47,10 +47,10 @@ at_global is i x y low same e =
     ∙ ap (λ (z : items.Item). functions_of (map item_of (z ∷ drop (suc i) is))) (sym same ∙ e)
     ∙ ap (λ (n : ℕ). functions_of (map item_of (drop n is))) (sym (add-one i))
 
--- a function too many is too many in all
-pub functions_full : (f : Function) (left rest : List Function) (p q : Place) → left ≡ f ∷ rest → q ≡ past_functions left p → 65535 < (past_function f p).pc → 65535 < q.pc
-functions_full f left rest p q e g h =
-    omega (arith, (by_functions rest (past_function f p)).pc, ap (λ (r : Place). r.pc) g, ap (λ (fs : List Function). (past_functions fs p).pc) e)
+-- where there is room for all functions, there is room for the next
+pub functions_room : (f : Function) (left rest : List Function) (p q : Place) → left ≡ f ∷ rest → q ≡ past_functions left p → q.pc ≤ 65535 → (past_function f p).pc ≤ 65535
+functions_room f left rest p q e g h =
+    omega (arith, h, (by_functions rest (past_function f p)).pc, ap (λ (r : Place). r.pc) g, ap (λ (fs : List Function). (past_functions fs p).pc) e)
 
 -- one function more is emitted
 pub code_step : (is : List Item) (number n : ℕ) (f : Function) (left rest : List Function) (old new : Output) (all : List Instr) → left ≡ f ∷ rest → n ≡ suc number → Adds old new (function_code is number f (place_of old)) (block_sections (scope_of is number f) f.body (place_of old)) (past_function f (place_of old)) → old.code.items ++ functions_code is number left (place_of old) ≡ all → new.code.items ++ functions_code is n rest (place_of new) ≡ all

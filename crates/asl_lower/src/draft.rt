@@ -10,7 +10,7 @@ ghost use Rattle.asl_lower.specs.Kept.{lowered_of};
 
 use crate::functions::emit_functions;
 use crate::names::function_number;
-use crate::output::{Full, Output};
+use crate::output::Output;
 use asl_code::Function;
 use asl_syntax::Name;
 use asl_syntax::tree::Item;
@@ -74,11 +74,7 @@ pub fn make_draft(alloc: Global, items: &[Item]) -> Result<Draft, AllocError>
     ensures { IfOk result (λ d. lowered_of d ≡ lowering_of (map item_of items.now)) }
 {
     let mut out = Output::new(alloc);
-    let functions = match emit_functions(alloc, &mut out, items) {
-        Ok(functions) => functions,
-        Err(Full::CodeSize) => unreachable!(),
-        Err(Full::OutOfMemory) => return Err(AllocError),
-    };
+    let functions = emit_functions(alloc, &mut out, items)?;
     let globals = count_globals(items) as u16;
     let main = main_number(items) as u16;
     Ok(Draft {

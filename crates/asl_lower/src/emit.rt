@@ -10,11 +10,12 @@ ghost use Rattle.asl_lower.specs.Layout.{moves, value_code, stmt_code, block_cod
 ghost use Rattle.asl_lower.specs.OutputView.{Adds, place_of};
 ghost use Rattle.asl_lower.specs.ScopeView.{scope_view};
 
-use crate::output::{Full, Output};
+use crate::output::Output;
 use crate::scope::Scope;
 use asl_code::Instr;
 use asl_syntax::Name;
 use asl_syntax::tree::{Operator, Statement, Value};
+use std::alloc::AllocError;
 
 /// The instruction of an operator.
 fn operator_instr(operator: Operator, to: u8, left: u8, right: u8) -> Instr
@@ -45,10 +46,10 @@ fn emit_moves(
     scope: &Scope<'_>,
     arguments: &[Name],
     first: u8,
-) -> Result<(), Full>
-    requires { first + length arguments.now ≤ 64 }
-    ensures ok { IfOk result (λ _. Adds out.old out.new (moves (scope_view scope.now) arguments.now first) [] (past_moves arguments.now (place_of out.old))) }
-    ensures full { result ≡ Err Full.CodeSize → 65535 < (past_moves arguments.now (place_of out.old)).pc }
+) -> Result<(), AllocError>
+    requires few { first + length arguments.now ≤ 64 }
+    requires room { (past_moves arguments.now (place_of out.old)).pc ≤ 65535 }
+    ensures { IfOk result (λ _. Adds out.old out.new (moves (scope_view scope.now) arguments.now first) [] (past_moves arguments.now (place_of out.old))) }
 {
     let mut to = first;
     for argument in arguments {
@@ -66,10 +67,10 @@ fn emit_call(
     to: u8,
     name: &Name,
     arguments: &[Name],
-) -> Result<(), Full>
-    requires { length scope.now.locals.now + length arguments.now ≤ 64 }
-    ensures ok { IfOk result (λ _. Adds out.old out.new (value_code (scope_view scope.now) to out.old.sites (CallValue name.now arguments.now)) [] (past_value (CallValue name.now arguments.now) (place_of out.old))) }
-    ensures full { result ≡ Err Full.CodeSize → 65535 < (past_value (CallValue name.now arguments.now) (place_of out.old)).pc }
+) -> Result<(), AllocError>
+    requires few { length scope.now.locals.now + length arguments.now ≤ 64 }
+    requires room { (past_value (CallValue name.now arguments.now) (place_of out.old)).pc ≤ 65535 }
+    ensures { IfOk result (λ _. Adds out.old out.new (value_code (scope_view scope.now) to out.old.sites (CallValue name.now arguments.now)) [] (past_value (CallValue name.now arguments.now) (place_of out.old))) }
 {
     let first = scope.locals.len() as u8;
     emit_moves(out, scope, arguments, first)?;
@@ -83,10 +84,15 @@ fn emit_call(
 }
 
 /// Emits the code that puts a value into a register.
-pub fn emit_value(out: &mut Output, scope: &Scope<'_>, to: u8, value: &Value) -> Result<(), Full>
-    requires { length scope.now.locals.now + value_arguments (value_of value.now) ≤ 64 }
-    ensures ok { IfOk result (λ _. Adds out.old out.new (value_code (scope_view scope.now) to out.old.sites (value_of value.now)) [] (past_value (value_of value.now) (place_of out.old))) }
-    ensures full { result ≡ Err Full.CodeSize → 65535 < (past_value (value_of value.now) (place_of out.old)).pc }
+pub fn emit_value(
+    out: &mut Output,
+    scope: &Scope<'_>,
+    to: u8,
+    value: &Value,
+) -> Result<(), AllocError>
+    requires few { length scope.now.locals.now + value_arguments (value_of value.now) ≤ 64 }
+    requires room { (past_value (value_of value.now) (place_of out.old)).pc ≤ 65535 }
+    ensures { IfOk result (λ _. Adds out.old out.new (value_code (scope_view scope.now) to out.old.sites (value_of value.now)) [] (past_value (value_of value.now) (place_of out.old))) }
 {
     match value {
         Value::Number(number) => out.push(Instr::SetInt { to, value: *number }),

@@ -12,13 +12,13 @@ ghost use Rattle.asl_lower.specs.OutputView.{Adds, place_of};
 ghost use Rattle.asl_lower.specs.Refused.{first_crowded};
 
 use crate::locals::{Locals, MOST, TooMany, add_block, block_arguments};
-use crate::output::{Full, Output};
+use crate::output::Output;
 use crate::scope::Scope;
 use crate::statements::emit_block;
 use arrayvec::ArrayVec;
 use asl_code::{Function as Entry, Instr};
 use asl_syntax::tree::{Function, Item};
-use std::alloc::Global;
+use std::alloc::{AllocError, Global};
 
 /// The locals of a function in the order of their registers, where it has at most 64 registers.
 fn locals_of(function: &Function) -> Result<Locals<'_>, TooMany>
@@ -70,13 +70,13 @@ fn emit_function(
     items: &[Item],
     number: u16,
     function: &Function,
-) -> Result<Entry, Full>
+) -> Result<Entry, AllocError>
     requires few_globals { length (globals_of (map item_of items.now)) ≤ 1024 }
     requires few_functions { length (functions_of (map item_of items.now)) ≤ 256 }
     requires few_registers { registers_of (function_of function.now) ≤ 64 }
+    requires room { (past_function (function_of function.now) (place_of out.old)).pc ≤ 65535 }
     ensures adds { IfOk result (λ _. Adds out.old out.new (function_code (map item_of items.now) number (function_of function.now) (place_of out.old)) (block_sections (scope_of (map item_of items.now) number (function_of function.now)) (function_of function.now).body (place_of out.old)) (past_function (function_of function.now) (place_of out.old))) }
     ensures entry { IfOk result (λ entry. entry ≡ entry_of (function_of function.now) (place_of out.old)) }
-    ensures full { result ≡ Err Full.CodeSize → 65535 < (past_function (function_of function.now) (place_of out.old)).pc }
 {
     let Ok(locals) = locals_of(function) else {
         unreachable!()
@@ -97,13 +97,17 @@ fn emit_function(
 }
 
 /// Emits the functions of a program one after the other, and tells their table.
-pub fn emit_functions(alloc: Global, out: &mut Output, items: &[Item]) -> Result<Vec<Entry>, Full>
+pub fn emit_functions(
+    alloc: Global,
+    out: &mut Output,
+    items: &[Item],
+) -> Result<Vec<Entry>, AllocError>
     requires few_globals { length (globals_of (map item_of items.now)) ≤ 1024 }
     requires few_functions { length (functions_of (map item_of items.now)) ≤ 256 }
     requires few_registers { first_crowded 0 (functions_of (map item_of items.now)) ≡ None }
+    requires room { (past_functions (functions_of (map item_of items.now)) (place_of out.old)).pc ≤ 65535 }
     ensures adds { IfOk result (λ _. Adds out.old out.new (functions_code (map item_of items.now) 0 (functions_of (map item_of items.now)) (place_of out.old)) (functions_sections (map item_of items.now) 0 (functions_of (map item_of items.now)) (place_of out.old)) (past_functions (functions_of (map item_of items.now)) (place_of out.old))) }
     ensures table { IfOk result (λ table. table.items ≡ functions_table (functions_of (map item_of items.now)) (place_of out.old)) }
-    ensures full { result ≡ Err Full.CodeSize → 65535 < (past_functions (functions_of (map item_of items.now)) (place_of out.old)).pc }
 {
     let mut table = Vec::new(alloc);
     let mut number = 0;

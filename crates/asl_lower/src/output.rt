@@ -4,27 +4,7 @@ ghost use Rattle.std.specs.Prelude.{◌≡◌, ◌<◌, ◌≤◌, [], ◌∷◌
 
 use crate::section::Section;
 use asl_code::Instr;
-use std::alloc::{AllocFailed, Global};
-
-/// Why no more code can be emitted.
-#[derive(Clone, Copy)]
-pub enum Full {
-    /// There are 65,535 instructions already.
-    CodeSize,
-    /// The memory ran out.
-    OutOfMemory,
-}
-
-impl<T: Drop> From<AllocFailed<T>> for Full {
-    ghost use Rattle.std.specs.Prelude.{◌≡◌};
-    ghost use Rattle.asl_lower.specs.declared.output.Full.TheVariants.{OutOfMemory};
-
-    ghost from_gives = { λ _ e. e ≡ OutOfMemory };
-
-    fn from(_failed: AllocFailed<T>) -> Full {
-        Full::OutOfMemory
-    }
-}
+use std::alloc::{AllocError, Global};
 
 /// The code and the sections so far, and how many sites they have.
 #[derive(Drop)]
@@ -65,13 +45,10 @@ impl Output {
     }
 
     /// Emits an instruction.
-    pub fn push(&mut self, instr: Instr) -> Result<(), Full>
-        ensures ok { IfOk result (λ _. Adds self.old self.new (instr ∷ []) [] (next (place_of self.old))) }
-        ensures full { result ≡ Err Full.CodeSize → 65535 < (next (place_of self.old)).pc }
+    pub fn push(&mut self, instr: Instr) -> Result<(), AllocError>
+        requires { (next (place_of self.old)).pc ≤ 65535 }
+        ensures { IfOk result (λ _. Adds self.old self.new (instr ∷ []) [] (next (place_of self.old))) }
     {
-        if self.code.len() >= Output::MOST {
-            return Err(Full::CodeSize);
-        }
         self.code.push(instr)?;
         Ok(())
     }
@@ -87,9 +64,9 @@ impl Output {
     }
 
     /// Emits a `new` of the next site.
-    pub fn create(&mut self, to: u8, cells: u8) -> Result<(), Full>
-        ensures ok { IfOk result (λ _. Adds self.old self.new (Instr.New to cells self.old.sites ∷ []) [] (created (place_of self.old))) }
-        ensures full { result ≡ Err Full.CodeSize → 65535 < (created (place_of self.old)).pc }
+    pub fn create(&mut self, to: u8, cells: u8) -> Result<(), AllocError>
+        requires { (created (place_of self.old)).pc ≤ 65535 }
+        ensures { IfOk result (λ _. Adds self.old self.new (Instr.New to cells self.old.sites ∷ []) [] (created (place_of self.old))) }
     {
         let class = self.sites;
         self.push(Instr::New { to, cells, class })?;
@@ -98,9 +75,9 @@ impl Output {
     }
 
     /// Emits the `acq` of the next section, whose `rel` is not known yet.
-    pub fn enter(&mut self, function: u16) -> Result<(), Full>
-        ensures ok { IfOk result (λ _. Adds self.old self.new (Instr.Acquire (length self.old.sections.items) ∷ []) (record { function = function; acquire = length self.old.code.items; release = 0 } ∷ []) (entered (place_of self.old))) }
-        ensures full { result ≡ Err Full.CodeSize → 65535 < (entered (place_of self.old)).pc }
+    pub fn enter(&mut self, function: u16) -> Result<(), AllocError>
+        requires { (entered (place_of self.old)).pc ≤ 65535 }
+        ensures { IfOk result (λ _. Adds self.old self.new (Instr.Acquire (length self.old.sections.items) ∷ []) (record { function = function; acquire = length self.old.code.items; release = 0 } ∷ []) (entered (place_of self.old))) }
     {
         let list = self.sections.len() as u16;
         let acquire = self.here();
@@ -114,12 +91,12 @@ impl Output {
     }
 
     /// Emits the `rel` of a section.
-    pub fn leave(&mut self, number: usize, function: u16, acquire: u16) -> Result<(), Full>
-        requires { number < vec_len self.old.sections }
+    pub fn leave(&mut self, number: usize, function: u16, acquire: u16) -> Result<(), AllocError>
+        requires there { number < vec_len self.old.sections }
+        requires room { (next (place_of self.old)).pc ≤ 65535 }
         ensures code { IfOk result (λ _. self.new.code.items ≡ self.old.code.items ++ Instr.Release ∷ []) }
         ensures sections { IfOk result (λ _. self.new.sections.items ≡ slice_set self.old.sections.items number (record { function = function; acquire = acquire; release = length self.old.code.items })) }
         ensures sites { IfOk result (λ _. self.new.sites ≡ self.old.sites) }
-        ensures full { result ≡ Err Full.CodeSize → 65535 < (next (place_of self.old)).pc }
     {
         let release = self.here();
         self.push(Instr::Release)?;

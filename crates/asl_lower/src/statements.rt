@@ -9,17 +9,22 @@ ghost use Rattle.asl_lower.specs.OutputView.{Adds, place_of};
 ghost use Rattle.asl_lower.specs.ScopeView.{scope_view};
 
 use crate::emit::emit_value;
-use crate::output::{Full, Output};
+use crate::output::Output;
 use crate::scope::Scope;
 use asl_code::Instr;
 use asl_syntax::tree::Statement;
+use std::alloc::AllocError;
 
 /// Emits the code of statements, one after the other.
 #[cycle(emit)]
-pub fn emit_block(out: &mut Output, scope: &Scope<'_>, block: &[Statement]) -> Result<(), Full>
-    requires { length scope.now.locals.now + block_arguments (block_of block.now) ≤ 64 }
-    ensures ok { IfOk result (λ _. Adds out.old out.new (block_code (scope_view scope.now) (block_of block.now) (place_of out.old)) (block_sections (scope_view scope.now) (block_of block.now) (place_of out.old)) (past_block (block_of block.now) (place_of out.old))) }
-    ensures full { result ≡ Err Full.CodeSize → 65535 < (past_block (block_of block.now) (place_of out.old)).pc }
+pub fn emit_block(
+    out: &mut Output,
+    scope: &Scope<'_>,
+    block: &[Statement],
+) -> Result<(), AllocError>
+    requires few { length scope.now.locals.now + block_arguments (block_of block.now) ≤ 64 }
+    requires room { (past_block (block_of block.now) (place_of out.old)).pc ≤ 65535 }
+    ensures { IfOk result (λ _. Adds out.old out.new (block_code (scope_view scope.now) (block_of block.now) (place_of out.old)) (block_sections (scope_view scope.now) (block_of block.now) (place_of out.old)) (past_block (block_of block.now) (place_of out.old))) }
 {
     for statement in block {
         emit_statement(out, scope, statement)?;
@@ -29,10 +34,14 @@ pub fn emit_block(out: &mut Output, scope: &Scope<'_>, block: &[Statement]) -> R
 
 /// Emits the code of a statement; a jump forward is patched once its target is known.
 #[cycle(emit)]
-fn emit_statement(out: &mut Output, scope: &Scope<'_>, statement: &Statement) -> Result<(), Full>
-    requires { length scope.now.locals.now + stmt_arguments (statement_of statement.now) ≤ 64 }
-    ensures ok { IfOk result (λ _. Adds out.old out.new (stmt_code (scope_view scope.now) (statement_of statement.now) (place_of out.old)) (stmt_sections (scope_view scope.now) (statement_of statement.now) (place_of out.old)) (past_stmt (statement_of statement.now) (place_of out.old))) }
-    ensures full { result ≡ Err Full.CodeSize → 65535 < (past_stmt (statement_of statement.now) (place_of out.old)).pc }
+fn emit_statement(
+    out: &mut Output,
+    scope: &Scope<'_>,
+    statement: &Statement,
+) -> Result<(), AllocError>
+    requires few { length scope.now.locals.now + stmt_arguments (statement_of statement.now) ≤ 64 }
+    requires room { (past_stmt (statement_of statement.now) (place_of out.old)).pc ≤ 65535 }
+    ensures { IfOk result (λ _. Adds out.old out.new (stmt_code (scope_view scope.now) (statement_of statement.now) (place_of out.old)) (stmt_sections (scope_view scope.now) (statement_of statement.now) (place_of out.old)) (past_stmt (statement_of statement.now) (place_of out.old))) }
 {
     match statement {
         Statement::Assign(x, value) => {

@@ -1,4 +1,4 @@
-use Rattle.std.proofs.Common.{◌≡◌, ◌+◌, suc, ◌∷◌, ◌++◌, List, drop, map, length, sym, ap, ◌∙◌, subst, arith, rules, Vec, Global}
+use Rattle.std.proofs.Common.{◌≡◌, ◌+◌, suc, ◌∷◌, ◌++◌, List, drop, map, length, sym, ap, ◌∙◌, subst, arith, Vec, Global}
 use Rattle.asl_code.specs.declared.image.Function as entry
 use Rattle.asl_syntax.specs.Tree.{Function, functions_of}
 use Rattle.asl_syntax.specs.View.{function_of, item_of}
@@ -8,14 +8,14 @@ use Rattle.asl_lower.specs.Place.{past_function, past_functions}
 use Rattle.asl_lower.specs.Layout.{block_sections, function_code, functions_code, functions_sections, functions_table}
 use Rattle.asl_lower.specs.OutputView.{Adds, place_of}
 use Rattle.asl_lower.specs.Refused.{first_crowded}
-use Rattle.asl_lower.proofs.Listed.{none_crowded, at_function, at_global, functions_full, code_step, sections_step, table_step}
+use Rattle.asl_lower.proofs.Listed.{none_crowded, at_function, at_global, functions_room, code_step, sections_step, table_step}
 use Rattle.asl_lower.proofs.functions.emit_functions.Goals as goal
 use Rattle.asl_lower.proofs.functions.emit_functions.Goals.{in-Function+in_ok-entry+in_ok-push, in_default}
 
-pub returns-in_err-entry-clause-full : goal.returns-in_err-entry-clause-full
-returns-in_err-entry-clause-full c = λ h.
-    let e = at_function c.args.items.now c.loop-item.item-index c.item-item.result c.in-Function.function (omega arith) c.item-item.is c.in-Function.is in
-    functions_full (function_of c.in-Function.function) _ _ (place_of c.loop-item.out) _ e c.loop-item.invariant.4 (c.in_err-entry.ensures.full (search rules))
+pub emit_function-requires-clause-room : goal.emit_function-requires-clause-room
+emit_function-requires-clause-room c =
+    let e = at_function c.args.items.now c.loop-item.item-index c.item-item.result c.in-Function.function c.loop-item-test.true c.item-item.is c.in-Function.is in
+    functions_room (function_of c.in-Function.function) _ _ (place_of c.loop-item.out) _ e c.loop-item.invariant.4 c.requires.room
 
 pub loop-item-preserved : goal.loop-item-preserved
 loop-item-preserved c =

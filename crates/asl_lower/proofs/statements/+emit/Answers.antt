@@ -1,5 +1,6 @@
 -- Too much inside is too much in all, and the parts of a statement's code are its template.
-use Rattle.std.proofs.Common.{◌≡◌, ℕ, ◌<◌, List, [], ◌∷◌, IfOk, length, set, arith, rules, sym, ap, ◌∙◌, subst, vec_len}
+use Rattle.std.proofs.Common.{◌≡◌, ℕ, ◌+◌, ◌<◌, ◌≤◌, List, [], ◌∷◌, IfOk, length, set, arith, rules, sym, ap, ◌∙◌, subst, vec_len}
+use Rattle.std.proofs.lemmas.List.{at_drop_more}
 use Rattle.std.proofs.lemmas.Bool.{eqb-true, eqb-false}
 use Rattle.asl_code.specs.declared.instr.Instr.TheVariants as instr
 use Rattle.asl_syntax.specs.declared.tree.Statement as tree
@@ -7,34 +8,16 @@ use Rattle.asl_syntax.specs.declared.tree.Statement.TheViews.{the_lemmas}
 use Rattle.asl_syntax.specs.declared.tree.Statement.TheFolds.{fold-roll-Statement, fold_out-Statement}
 use Rattle.asl_syntax.specs.Tree.{Statement, IfStatement, WhileStatement, AtomicStatement, NoMore}
 use Rattle.asl_syntax.specs.View.{statement_of, block_of}
-use Rattle.asl_lower.specs.Names.{register}
+use Rattle.asl_lower.specs.Names.{register, stmt_arguments, block_arguments}
 use Rattle.asl_lower.specs.Place.{past_stmt, past_block, next}
 use Rattle.asl_lower.specs.Layout.{stmt_code, stmt_sections}
 use Rattle.asl_lower.specs.OutputView.{Adds, place_of}
 use Rattle.asl_lower.specs.ScopeView.{scope_view}
-use Rattle.asl_lower.proofs.Emits.{block_full, full_if_test, full_if_first, full_if_leap, full_if_second, full_while_test, full_enter, no_items, if_adds, if_else_adds, while_adds, leave_adds, patched_place}
+use Rattle.asl_lower.proofs.Emits.{block_room, room_if_test, room_if_first, room_if_leap, room_if_second, room_while_test, room_enter, no_items, if_adds, if_else_adds, while_adds, leave_adds, patched_place}
 use Rattle.asl_lower.proofs.statements.+emit.Goals as goal
 
-pub emit_block-returns-in_err-emit_statement-clause-full : goal.emit_block-returns-in_err-emit_statement-clause-full
-emit_block-returns-in_err-emit_statement-clause-full t c = λ h.
-    block_full c.args.block.now c.loop-statement.statement-index c.statement-item.result (place_of c.loop-statement.out) (place_of c.args.out.now) c.loop-statement.invariant.3 (omega arith) c.statement-item.is (c.in_err-emit_statement.ensures.full (search rules))
-
-pub emit_statement-returns-in_err-push-in-If-clause-full : goal.emit_statement-returns-in_err-push-in-If-clause-full
-emit_statement-returns-in_err-push-in-If-clause-full t c = λ h.
-    let e : statement_of c.args.statement.now ≡ IfStatement c.in-If.x (block_of c.in-If.first.items) (block_of c.in-If.second.items) = search (rules, the_lemmas, fold-roll-Statement, fold_out-Statement) in
-    let P : Statement → Type 0 = λ s. 65535 < (past_stmt s (place_of c.args.out.now)).pc in
-    subst P (sym e) (full_if_test c.in-If.x (block_of c.in-If.first.items) (block_of c.in-If.second.items) (place_of c.args.out.now) (c.in_err-push-in-If.ensures.full (search rules)))
-
-pub emit_statement-returns-in_err-emit_block-in-If-clause-full : goal.emit_statement-returns-in_err-emit_block-in-If-clause-full
-emit_statement-returns-in_err-emit_block-in-If-clause-full t c = λ h.
-    let e : statement_of c.args.statement.now ≡ IfStatement c.in-If.x (block_of c.in-If.first.items) (block_of c.in-If.second.items) = search (rules, the_lemmas, fold-roll-Statement, fold_out-Statement) in
-    let f : c.in-If.first.items ≡ c.deref.result.now = sym c.deref.ensures.value in
-    let g : statement_of c.args.statement.now ≡ IfStatement c.in-If.x (block_of c.deref.result.now) (block_of c.in-If.second.items) = e ∙ ap (λ (l : List tree.Statement). IfStatement c.in-If.x (block_of l) (block_of c.in-If.second.items)) f in
-    let P : Statement → Type 0 = λ s. 65535 < (past_stmt s (place_of c.args.out.now)).pc in
-    subst P (sym g) (full_if_first c.in-If.x (block_of c.deref.result.now) (block_of c.in-If.second.items) (place_of c.args.out.now) (place_of c.push-in-If.new.self) c.in_ok-push-in-If.ensures.ok.place (c.in_err-emit_block-in-If.ensures.full (search rules)))
-
-pub emit_statement-returns-then-is_empty-clause-ok : goal.emit_statement-returns-then-is_empty-clause-ok
-emit_statement-returns-then-is_empty-clause-ok t c =
+pub emit_statement-returns-then-is_empty : goal.emit_statement-returns-then-is_empty
+emit_statement-returns-then-is_empty t c =
     let sc = scope_view c.args.scope.now in
     let old = c.args.out.now in
     let e : statement_of c.args.statement.now ≡ IfStatement c.in-If.x (block_of c.in-If.first.items) (block_of c.in-If.second.items) = search (rules, the_lemmas, fold-roll-Statement, fold_out-Statement) in
@@ -44,54 +27,32 @@ emit_statement-returns-then-is_empty-clause-ok t c =
     let at : c.len-branch.result ≡ length old.code.items = c.len-branch.ensures ∙ old.code.ok.0 in
     let patched : c.patch.new.self.code.items ≡ set c.emit_block.new.out.code.items (length old.code.items) (instr.JumpIfZero (register sc c.in-If.x) (length c.emit_block.new.out.code.items)) = cc in
     let P : Statement → Type 0 = λ s. Adds old c.patch.new.self (stmt_code sc s (place_of old)) (stmt_sections sc s (place_of old)) (past_stmt s (place_of old)) in
-    subst P (sym g) (if_adds sc c.in-If.x (block_of c.deref.result.now) old c.push-in-If.new.self c.emit_block.new.out c.patch.new.self _ c.in_ok-push-in-If.ensures.ok c.in_ok-emit_block-in-If.ensures.ok patched c.patch.ensures.sections c.patch.ensures.sites)
+    subst P (sym g) (if_adds sc c.in-If.x (block_of c.deref.result.now) old c.push-in-If.new.self c.emit_block.new.out c.patch.new.self _ c.in_ok-push-in-If.ensures c.in_ok-emit_block-in-If.ensures patched c.patch.ensures.sections c.patch.ensures.sites)
 
-pub emit_statement-returns-in_err-push-in-If-2-clause-full : goal.emit_statement-returns-in_err-push-in-If-2-clause-full
-emit_statement-returns-in_err-push-in-If-2-clause-full t c = λ h.
-    let e : statement_of c.args.statement.now ≡ IfStatement c.in-If.x (block_of c.in-If.first.items) (block_of c.in-If.second.items) = search (rules, the_lemmas, fold-roll-Statement, fold_out-Statement) in
-    let f : c.in-If.first.items ≡ c.deref.result.now = sym c.deref.ensures.value in
-    let g : statement_of c.args.statement.now ≡ IfStatement c.in-If.x (block_of c.deref.result.now) (block_of c.in-If.second.items) = e ∙ ap (λ (l : List tree.Statement). IfStatement c.in-If.x (block_of l) (block_of c.in-If.second.items)) f in
-    let some : 0 < length c.in-If.second.items = omega (arith, eqb-false (vec_len c.in-If.second) 0 (sym c.is_empty.ensures ∙ c.if-is_empty.false), c.in-If.second.ok.0) in
-    let there = c.in_ok-emit_block-in-If.ensures.ok.place ∙ ap (past_block (block_of c.deref.result.now)) c.in_ok-push-in-If.ensures.ok.place in
-    let P : Statement → Type 0 = λ s. 65535 < (past_stmt s (place_of c.args.out.now)).pc in
-    subst P (sym g) (full_if_leap c.in-If.x (block_of c.deref.result.now) c.in-If.second.items (place_of c.args.out.now) (place_of c.emit_block.new.out) there some (c.in_err-push-in-If-2.ensures.full (search rules)))
-
-pub emit_statement-returns-in_err-push-in-While-clause-full : goal.emit_statement-returns-in_err-push-in-While-clause-full
-emit_statement-returns-in_err-push-in-While-clause-full t c = λ h.
-    let e : statement_of c.args.statement.now ≡ WhileStatement c.in-While.x (block_of c.in-While.body.items) = search (rules, the_lemmas, fold-roll-Statement, fold_out-Statement) in
-    let P : Statement → Type 0 = λ s. 65535 < (past_stmt s (place_of c.args.out.now)).pc in
-    subst P (sym e) (full_while_test c.in-While.x (block_of c.in-While.body.items) (place_of c.args.out.now) (c.in_err-push-in-While.ensures.full (search rules)))
-
-pub emit_statement-returns-in_err-enter-in-Atomic-clause-full : goal.emit_statement-returns-in_err-enter-in-Atomic-clause-full
-emit_statement-returns-in_err-enter-in-Atomic-clause-full t c = λ h.
-    let e : statement_of c.args.statement.now ≡ AtomicStatement (block_of c.in-Atomic.body.items) = search (rules, the_lemmas, fold-roll-Statement, fold_out-Statement) in
-    let P : Statement → Type 0 = λ s. 65535 < (past_stmt s (place_of c.args.out.now)).pc in
-    subst P (sym e) (full_enter (block_of c.in-Atomic.body.items) (place_of c.args.out.now) (c.in_err-enter-in-Atomic.ensures.full (search rules)))
-
-pub emit_statement-returns-in_ok-push-in-While-2-clause-ok : goal.emit_statement-returns-in_ok-push-in-While-2-clause-ok
-emit_statement-returns-in_ok-push-in-While-2-clause-ok t c =
+pub emit_statement-returns-in_ok-push-in-While-2 : goal.emit_statement-returns-in_ok-push-in-While-2
+emit_statement-returns-in_ok-push-in-While-2 t c =
     let sc = scope_view c.args.scope.now in
     let old = c.args.out.now in
     let e : statement_of c.args.statement.now ≡ WhileStatement c.in-While.x (block_of c.in-While.body.items) = search (rules, the_lemmas, fold-roll-Statement, fold_out-Statement) in
     let g : statement_of c.args.statement.now ≡ WhileStatement c.in-While.x (block_of c.deref-in-While.result.now) = e ∙ ap (λ (l : List tree.Statement). WhileStatement c.in-While.x (block_of l)) (sym c.deref-in-While.ensures.value) in
     let at : c.from.result ≡ length old.code.items = c.from.ensures ∙ c.here-from.ensures in
     let J : ℕ → Type 0 = λ n. Adds c.emit_block-in-While.new.out c.push-in-While-2.new.self (instr.Jump n ∷ []) [] (next (place_of c.emit_block-in-While.new.out)) in
-    let back = subst J c.here-from.ensures c.in_ok-push-in-While-2.ensures.ok in
+    let back = subst J c.here-from.ensures c.in_ok-push-in-While-2.ensures in
     let patched : c.patch-in-While.new.self.code.items ≡ set c.push-in-While-2.new.self.code.items (length old.code.items) (instr.JumpIfZero (register sc c.in-While.x) (length c.push-in-While-2.new.self.code.items)) = cc in
     let P : Statement → Type 0 = λ s. Adds old c.patch-in-While.new.self (stmt_code sc s (place_of old)) (stmt_sections sc s (place_of old)) (past_stmt s (place_of old)) in
-    subst P (sym g) (while_adds sc c.in-While.x (block_of c.deref-in-While.result.now) old c.push-in-While.new.self c.emit_block-in-While.new.out c.push-in-While-2.new.self c.patch-in-While.new.self _ c.in_ok-push-in-While.ensures.ok c.in_ok-emit_block-in-While.ensures.ok back patched c.patch-in-While.ensures.sections c.patch-in-While.ensures.sites)
+    subst P (sym g) (while_adds sc c.in-While.x (block_of c.deref-in-While.result.now) old c.push-in-While.new.self c.emit_block-in-While.new.out c.push-in-While-2.new.self c.patch-in-While.new.self _ c.in_ok-push-in-While.ensures c.in_ok-emit_block-in-While.ensures back patched c.patch-in-While.ensures.sections c.patch-in-While.ensures.sites)
 
-pub emit_statement-returns-in_ok-emit_block-in-Atomic-clause-ok : goal.emit_statement-returns-in_ok-emit_block-in-Atomic-clause-ok
-emit_statement-returns-in_ok-emit_block-in-Atomic-clause-ok t c =
+pub emit_statement-returns-in_ok-emit_block-in-Atomic : goal.emit_statement-returns-in_ok-emit_block-in-Atomic
+emit_statement-returns-in_ok-emit_block-in-Atomic t c =
     let sc = scope_view c.args.scope.now in
     let old = c.args.out.now in
     let e : statement_of c.args.statement.now ≡ AtomicStatement (block_of c.in-Atomic.body.items) = search (rules, the_lemmas, fold-roll-Statement, fold_out-Statement) in
     let g : statement_of c.args.statement.now ≡ AtomicStatement (block_of c.deref-in-Atomic.result.now) = e ∙ ap (λ (l : List tree.Statement). AtomicStatement (block_of l)) (sym c.deref-in-Atomic.ensures.value) in
     let P : Statement → Type 0 = λ s. IfOk c.leave.result (λ _. Adds old c.leave.new.self (stmt_code sc s (place_of old)) (stmt_sections sc s (place_of old)) (past_stmt s (place_of old))) in
-    subst P (sym g) (leave_adds sc (block_of c.deref-in-Atomic.result.now) old c.enter.new.self c.emit_block-in-Atomic.new.out c.leave.new.self c.leave.result c.len-number.result c.here-acquire.result (c.len-number.ensures ∙ old.sections.ok.0) c.here-acquire.ensures c.in_ok-enter-in-Atomic.ensures.ok c.in_ok-emit_block-in-Atomic.ensures.ok c.leave.ensures.code c.leave.ensures.sections c.leave.ensures.sites)
+    subst P (sym g) (leave_adds sc (block_of c.deref-in-Atomic.result.now) old c.enter.new.self c.emit_block-in-Atomic.new.out c.leave.new.self c.leave.result c.len-number.result c.here-acquire.result (c.len-number.ensures ∙ old.sections.ok.0) c.here-acquire.ensures c.in_ok-enter-in-Atomic.ensures c.in_ok-emit_block-in-Atomic.ensures c.leave.ensures.code c.leave.ensures.sections c.leave.ensures.sites)
 
-pub emit_statement-returns-in_ok-emit_block-in-If-2-clause-ok : goal.emit_statement-returns-in_ok-emit_block-in-If-2-clause-ok
-emit_statement-returns-in_ok-emit_block-in-If-2-clause-ok t c =
+pub emit_statement-returns-in_ok-emit_block-in-If-2 : goal.emit_statement-returns-in_ok-emit_block-in-If-2
+emit_statement-returns-in_ok-emit_block-in-If-2 t c =
     let sc = scope_view c.args.scope.now in
     let old = c.args.out.now in
     let e : statement_of c.args.statement.now ≡ IfStatement c.in-If.x (block_of c.in-If.first.items) (block_of c.in-If.second.items) = search (rules, the_lemmas, fold-roll-Statement, fold_out-Statement) in
@@ -102,14 +63,64 @@ emit_statement-returns-in_ok-emit_block-in-If-2-clause-ok t c =
     let first_patch : c.patch-in-If.new.self.code.items ≡ set c.push-in-If-2.new.self.code.items (length old.code.items) (instr.JumpIfZero (register sc c.in-If.x) (length c.push-in-If-2.new.self.code.items)) = cc in
     let second_patch : c.patch-in-If-2.new.self.code.items ≡ set c.emit_block-in-If.new.out.code.items (length c.emit_block.new.out.code.items) (instr.Jump (length c.emit_block-in-If.new.out.code.items)) = cc in
     let P : Statement → Type 0 = λ s. Adds old c.patch-in-If-2.new.self (stmt_code sc s (place_of old)) (stmt_sections sc s (place_of old)) (past_stmt s (place_of old)) in
-    subst P (sym g) (if_else_adds sc c.in-If.x (block_of c.deref.result.now) c.deref-in-If.result.now old c.push-in-If.new.self c.emit_block.new.out c.push-in-If-2.new.self c.patch-in-If.new.self c.emit_block-in-If.new.out c.patch-in-If-2.new.self _ _ some c.in_ok-push-in-If.ensures.ok c.in_ok-emit_block-in-If.ensures.ok c.in_ok-push-in-If-2.ensures.ok first_patch c.patch-in-If.ensures.sections c.patch-in-If.ensures.sites c.in_ok-emit_block-in-If-2.ensures.ok second_patch c.patch-in-If-2.ensures.sections c.patch-in-If-2.ensures.sites)
+    subst P (sym g) (if_else_adds sc c.in-If.x (block_of c.deref.result.now) c.deref-in-If.result.now old c.push-in-If.new.self c.emit_block.new.out c.push-in-If-2.new.self c.patch-in-If.new.self c.emit_block-in-If.new.out c.patch-in-If-2.new.self _ _ some c.in_ok-push-in-If.ensures c.in_ok-emit_block-in-If.ensures c.in_ok-push-in-If-2.ensures first_patch c.patch-in-If.ensures.sections c.patch-in-If.ensures.sites c.in_ok-emit_block-in-If-2.ensures second_patch c.patch-in-If-2.ensures.sections c.patch-in-If-2.ensures.sites)
 
-pub emit_statement-returns-in_err-emit_block-in-If-2-clause-full : goal.emit_statement-returns-in_err-emit_block-in-If-2-clause-full
-emit_statement-returns-in_err-emit_block-in-If-2-clause-full t c = λ h.
+pub emit_block-emit_statement-requires : goal.emit_block-emit_statement-requires
+emit_block-emit_statement-requires t c =
+    let room = block_room c.args.block.now c.loop-statement.statement-index c.statement-item.result (place_of c.loop-statement.out) (place_of c.args.out.now) c.loop-statement.invariant.3 c.loop-statement-test.true c.statement-item.is c.requires.room in
+    let step = at_drop_more (λ (ss : List tree.Statement). block_arguments (block_of ss)) c.args.block.now c.loop-statement.statement-index c.statement-item.result c.loop-statement-test.true in
+    let here = ap (λ (s : tree.Statement). stmt_arguments (statement_of s)) c.statement-item.is in
+    let few : length c.args.scope.now.locals.now + stmt_arguments (statement_of c.statement-item.result) ≤ 64 = omega (arith, c.loop-statement.invariant.0, step, here) in
+    (search (rules, the_lemmas, fold-roll-Statement, fold_out-Statement), (few, room))
+
+pub emit_statement-push-requires-in-If : goal.emit_statement-push-requires-in-If
+emit_statement-push-requires-in-If t c =
+    let e : statement_of c.args.statement.now ≡ IfStatement c.in-If.x (block_of c.in-If.first.items) (block_of c.in-If.second.items) = search (rules, the_lemmas, fold-roll-Statement, fold_out-Statement) in
+    let P : Statement → Type 0 = λ s. (past_stmt s (place_of c.args.out.now)).pc ≤ 65535 in
+    room_if_test c.in-If.x (block_of c.in-If.first.items) (block_of c.in-If.second.items) (place_of c.args.out.now) (subst P e c.requires.room)
+
+pub emit_statement-emit_block-requires : goal.emit_statement-emit_block-requires
+emit_statement-emit_block-requires t c =
+    let e : statement_of c.args.statement.now ≡ IfStatement c.in-If.x (block_of c.in-If.first.items) (block_of c.in-If.second.items) = search (rules, the_lemmas, fold-roll-Statement, fold_out-Statement) in
+    let f : c.in-If.first.items ≡ c.deref.result.now = sym c.deref.ensures.value in
+    let g : statement_of c.args.statement.now ≡ IfStatement c.in-If.x (block_of c.deref.result.now) (block_of c.in-If.second.items) = e ∙ ap (λ (l : List tree.Statement). IfStatement c.in-If.x (block_of l) (block_of c.in-If.second.items)) f in
+    let P : Statement → Type 0 = λ s. (past_stmt s (place_of c.args.out.now)).pc ≤ 65535 in
+    let room = room_if_first c.in-If.x (block_of c.deref.result.now) (block_of c.in-If.second.items) (place_of c.args.out.now) (place_of c.push-in-If.new.self) c.in_ok-push-in-If.ensures.place (subst P g c.requires.room) in
+    let Q : Statement → Type 0 = λ s. length c.args.scope.now.locals.now + stmt_arguments s ≤ 64 in
+    let few = subst Q g c.requires.few in
+    (search (rules, the_lemmas, fold-roll-Statement, fold_out-Statement), (omega (arith, few), room))
+
+pub emit_statement-push-requires-in-If-2 : goal.emit_statement-push-requires-in-If-2
+emit_statement-push-requires-in-If-2 t c =
+    let e : statement_of c.args.statement.now ≡ IfStatement c.in-If.x (block_of c.in-If.first.items) (block_of c.in-If.second.items) = search (rules, the_lemmas, fold-roll-Statement, fold_out-Statement) in
+    let f : c.in-If.first.items ≡ c.deref.result.now = sym c.deref.ensures.value in
+    let g : statement_of c.args.statement.now ≡ IfStatement c.in-If.x (block_of c.deref.result.now) (block_of c.in-If.second.items) = e ∙ ap (λ (l : List tree.Statement). IfStatement c.in-If.x (block_of l) (block_of c.in-If.second.items)) f in
+    let some : 0 < length c.in-If.second.items = omega (arith, eqb-false (vec_len c.in-If.second) 0 (sym c.is_empty.ensures ∙ c.if-is_empty.false), c.in-If.second.ok.0) in
+    let there = c.in_ok-emit_block-in-If.ensures.place ∙ ap (past_block (block_of c.deref.result.now)) c.in_ok-push-in-If.ensures.place in
+    let P : Statement → Type 0 = λ s. (past_stmt s (place_of c.args.out.now)).pc ≤ 65535 in
+    room_if_leap c.in-If.x (block_of c.deref.result.now) c.in-If.second.items (place_of c.args.out.now) (place_of c.emit_block.new.out) there some (subst P g c.requires.room)
+
+pub emit_statement-emit_block-requires-in-If : goal.emit_statement-emit_block-requires-in-If
+emit_statement-emit_block-requires-in-If t c =
     let e : statement_of c.args.statement.now ≡ IfStatement c.in-If.x (block_of c.in-If.first.items) (block_of c.in-If.second.items) = search (rules, the_lemmas, fold-roll-Statement, fold_out-Statement) in
     let g : statement_of c.args.statement.now ≡ IfStatement c.in-If.x (block_of c.deref.result.now) (block_of c.deref-in-If.result.now) = e ∙ ap (λ (l : List tree.Statement). IfStatement c.in-If.x (block_of l) (block_of c.in-If.second.items)) (sym c.deref.ensures.value) ∙ ap (λ (l : List tree.Statement). IfStatement c.in-If.x (block_of c.deref.result.now) (block_of l)) (sym c.deref-in-If.ensures.value) in
     let some : 0 < length c.deref-in-If.result.now = omega (arith, eqb-false (vec_len c.in-If.second) 0 (sym c.is_empty.ensures ∙ c.if-is_empty.false), c.in-If.second.ok.0, ap length c.deref-in-If.ensures.value) in
-    let there = c.in_ok-push-in-If-2.ensures.ok.place ∙ ap next (c.in_ok-emit_block-in-If.ensures.ok.place ∙ ap (past_block (block_of c.deref.result.now)) c.in_ok-push-in-If.ensures.ok.place) in
-    let patched = patched_place c.push-in-If-2.new.self c.patch-in-If.new.self _ _ c.patch-in-If.ensures.code c.patch-in-If.ensures.sections c.patch-in-If.ensures.sites in
-    let P : Statement → Type 0 = λ s. 65535 < (past_stmt s (place_of c.args.out.now)).pc in
-    subst P (sym g) (full_if_second c.in-If.x (block_of c.deref.result.now) c.deref-in-If.result.now (place_of c.args.out.now) (place_of c.patch-in-If.new.self) (patched ∙ there) some (c.in_err-emit_block-in-If-2.ensures.full (search rules)))
+    let at = patched_place c.push-in-If-2.new.self c.patch-in-If.new.self _ _ c.patch-in-If.ensures.code c.patch-in-If.ensures.sections c.patch-in-If.ensures.sites in
+    let there = at ∙ c.in_ok-push-in-If-2.ensures.place ∙ ap next (c.in_ok-emit_block-in-If.ensures.place ∙ ap (past_block (block_of c.deref.result.now)) c.in_ok-push-in-If.ensures.place) in
+    let P : Statement → Type 0 = λ s. (past_stmt s (place_of c.args.out.now)).pc ≤ 65535 in
+    let room = room_if_second c.in-If.x (block_of c.deref.result.now) c.deref-in-If.result.now (place_of c.args.out.now) (place_of c.patch-in-If.new.self) there some (subst P g c.requires.room) in
+    let Q : Statement → Type 0 = λ s. length c.args.scope.now.locals.now + stmt_arguments s ≤ 64 in
+    let few = subst Q g c.requires.few in
+    (search (rules, the_lemmas, fold-roll-Statement, fold_out-Statement), (omega (arith, few), room))
+
+pub emit_statement-push-requires-in-While : goal.emit_statement-push-requires-in-While
+emit_statement-push-requires-in-While t c =
+    let e : statement_of c.args.statement.now ≡ WhileStatement c.in-While.x (block_of c.in-While.body.items) = search (rules, the_lemmas, fold-roll-Statement, fold_out-Statement) in
+    let P : Statement → Type 0 = λ s. (past_stmt s (place_of c.args.out.now)).pc ≤ 65535 in
+    room_while_test c.in-While.x (block_of c.in-While.body.items) (place_of c.args.out.now) (subst P e c.requires.room)
+
+pub emit_statement-enter-requires : goal.emit_statement-enter-requires
+emit_statement-enter-requires t c =
+    let e : statement_of c.args.statement.now ≡ AtomicStatement (block_of c.in-Atomic.body.items) = search (rules, the_lemmas, fold-roll-Statement, fold_out-Statement) in
+    let P : Statement → Type 0 = λ s. (past_stmt s (place_of c.args.out.now)).pc ≤ 65535 in
+    room_enter (block_of c.in-Atomic.body.items) (place_of c.args.out.now) (subst P e c.requires.room)
