@@ -1,0 +1,12 @@
+pub mod Begins
+pub mod Cells
+pub mod Filling
+pub mod Flowing
+pub mod Forests
+pub mod Keeping
+pub mod Merges
+pub mod Narrow
+pub mod Numbering
+pub mod Owed
+pub mod Rounds
+pub mod Wide

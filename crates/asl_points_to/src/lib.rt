@@ -1,6 +1,16 @@
 //! Which objects a register or a cell may point to: the classes of a program.
 #![tactic(auto)]
 
-mod classes;
+mod analysis;
+mod draft;
+mod fault;
+mod flow;
+mod flows;
+mod numbers;
+mod sets;
+mod settle;
+mod table;
 
-pub use classes::Classes;
+pub use analysis::classes;
+pub use fault::ClassesFault;
+pub use table::Classes;

@@ -1,8 +1,14 @@
 //! Classes of the objects of a program, and where registers and cells point.
 
-ghost use Rattle.std.specs.Prelude.{◌≡◌, ◌<◌, length, Some, slice_get};
+ghost use Rattle.std.specs.Prelude.{◌≡◌, ◌<◌, ◌≤◌, IfOk, length, Some, slice_get};
 ghost use Rattle.asl_points_to.specs.Classes.{to, inside};
+ghost use Rattle.asl_points_to.specs.Numbers.{AreNumbers};
+ghost use Rattle.asl_points_to.specs.Found.{IsSettled, IsNumbering};
 
+use crate::draft::Draft;
+use crate::numbers::{Numbers, narrowed, numbered_cells, numbered_rows};
+use asl_lower::Lowering;
+use std::alloc::{AllocError, Global};
 use std::marker::Model;
 
 /// The classes of a program (`docs/ANALYSIS.md`, "Classes"). They are numbered from 0 by their first members, globals
@@ -26,6 +32,28 @@ impl Model for Classes {
 }
 
 impl Classes {
+    /// The classes of a settled draft, with numbers for them.
+    pub(crate) fn numbered(
+        alloc: Global,
+        lowering: &Lowering,
+        draft: &Draft,
+        numbers: &Numbers,
+    ) -> Result<Classes, AllocError>
+        requires draft { IsSettled lowering.now draft.now }
+        requires numbers { AreNumbers draft.now.sets numbers.now.of.items numbers.now.firsts.items }
+        requires few { length numbers.now.firsts.items ≤ 1024 }
+        ensures { IfOk result (IsNumbering lowering.now draft.now numbers.now.of.items numbers.now.firsts.items) }
+    {
+        let (globals, sites) = numbers.of.split_at(usize::from(lowering.globals()));
+        Ok(Classes {
+            count: numbers.firsts.len() as u16,
+            globals: narrowed(alloc, globals)?,
+            sites: narrowed(alloc, sites)?,
+            registers: numbered_rows(alloc, lowering.functions(), &numbers.of, &draft.registers)?,
+            cells: numbered_cells(alloc, &numbers.of, &draft.cells, &numbers.firsts)?,
+        })
+    }
+
     /// How many classes there are.
     pub fn count(&self) -> u16
         ensures { result ≡ self.now.count }

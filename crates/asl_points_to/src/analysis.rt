@@ -1,0 +1,51 @@
+//! The classes of a program.
+
+ghost use Rattle.std.specs.Prelude.{◌≡◌, ◌+◌, ◌≤◌, IfOk, IfErr};
+ghost use Rattle.asl_lower.specs.Kept.{IsKept};
+ghost use Rattle.asl_points_to.specs.Classes.{AreClasses};
+ghost use Rattle.asl_points_to.specs.Refused.{IsRefused};
+ghost use Rattle.asl_points_to.specs.Found.{IsSettled};
+
+use crate::draft::Draft;
+use crate::fault::ClassesFault;
+use crate::flows::program_flows;
+use crate::numbers::number_classes;
+use crate::settle::settle;
+use crate::table::Classes;
+use asl_lower::Lowering;
+use std::alloc::{AllocError, Global};
+
+/// The most classes that a program may have.
+const MOST_CLASSES: usize = 1024;
+
+/// How many globals and sites a program has.
+fn members(lowering: &Lowering) -> u32
+    ensures count { result ≡ lowering.now.globals + lowering.now.sites }
+    ensures kept { IsKept lowering.now }
+{
+    u32::from(lowering.globals()) + u32::from(lowering.sites())
+}
+
+/// The draft of the classes of a program in which nothing more is to flow.
+fn settled(alloc: Global, lowering: &Lowering) -> Result<Draft, AllocError>
+    ensures { IfOk result (IsSettled lowering.now) }
+{
+    let flows = program_flows(alloc, lowering)?;
+    let mut draft = Draft::new(alloc, members(lowering), lowering.functions().len())?;
+    settle(alloc, &mut draft, flows)?;
+    Ok(draft)
+}
+
+/// The classes of a program: the least legal ones, numbered by their first members, globals before sites.
+pub fn classes(alloc: Global, lowering: &Lowering) -> Result<Classes, ClassesFault>
+    ensures classes { IfOk result (AreClasses lowering.now) }
+    ensures few { IfOk result (λ c. c.count ≤ 1024) }
+    ensures refused { IfErr result (IsRefused lowering.now) }
+{
+    let mut draft = settled(alloc, lowering)?;
+    let numbers = number_classes(alloc, &mut draft.sets, members(lowering))?;
+    if numbers.firsts.len() > MOST_CLASSES {
+        return Err(ClassesFault::TooManyClasses);
+    }
+    Ok(Classes::numbered(alloc, lowering, &draft, &numbers)?)
+}
