@@ -1,6 +1,7 @@
 pub mod Begins
 pub mod Cells
 pub mod Filling
+pub mod Finest
 pub mod Flowing
 pub mod Forests
 pub mod Keeping
@@ -9,4 +10,5 @@ pub mod Narrow
 pub mod Numbering
 pub mod Owed
 pub mod Rounds
+pub mod Uniques
 pub mod Wide

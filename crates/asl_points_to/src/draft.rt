@@ -152,7 +152,7 @@ impl Draft {
     {
         let first = self.sets.first(address);
         match self.cells[first as usize] {
-            Some(other) => self.unify(other, member),
+            Some(inside) => self.unify(inside, member),
             None => self.cells[first as usize] = Some(member),
         }
     }

@@ -6,6 +6,7 @@ mod draft;
 mod fault;
 mod flow;
 mod flows;
+mod laws;
 mod numbers;
 mod sets;
 mod settle;
@@ -13,4 +14,5 @@ mod table;
 
 pub use analysis::classes;
 pub use fault::ClassesFault;
+pub use laws::{calls_pass_classes, classes_are_there, least_classes_are_finest};
 pub use table::Classes;

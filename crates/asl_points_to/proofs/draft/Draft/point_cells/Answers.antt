@@ -16,9 +16,9 @@ unify-requires-clause-left c =
     let low = c.first-first.ensures.low in
     let cells = c.requires.draft.cells in
     let there = kept_at s c.first-first.result (length s.cells.items) c.index.result.now refl (omega (arith, c.requires.address)) c.index.ensures ∙ c.in-Some.is in
-    omega (arith, c.requires.draft.cells_there c.first-first.result c.in-Some.other there, ap length c.first-first.ensures.same)
+    omega (arith, c.requires.draft.cells_there c.first-first.result c.in-Some.inside there, ap length c.first-first.ensures.same)
 
-there_at : (c : goal.After-unify) → some_at c.args.self.now.cells.items c.first-first.result ≡ Some c.in-Some.other
+there_at : (c : goal.After-unify) → some_at c.args.self.now.cells.items c.first-first.result ≡ Some c.in-Some.inside
 there_at c =
     let s = c.args.self.now in
     let low = c.first-first.ensures.low in
@@ -29,14 +29,14 @@ pub returns-in-Some-clause-into : goal.returns-in-Some-clause-into
 returns-in-Some-clause-into c =
     let s = c.args.self.now in
     let K : Draft → Type 0 = λ d. Keeps d c.unify.new.self in
-    merged_points s c.unify.new.self c.args.address c.args.member c.first-first.result c.in-Some.other c.first-first.ensures.value (there_at c) (subst K (ap (over s) c.first-first.ensures.same) c.unify.ensures.keeps) c.unify.ensures.joined
+    merged_points s c.unify.new.self c.args.address c.args.member c.first-first.result c.in-Some.inside c.first-first.ensures.value (there_at c) (subst K (ap (over s) c.first-first.ensures.same) c.unify.ensures.keeps) c.unify.ensures.joined
 
 pub returns-in-Some-clause-forced : goal.returns-in-Some-clause-forced
 returns-in-Some-clause-forced c = λ classes f e. (
     let s = c.args.self.now in
     let F : Draft → Type 0 = λ d. IsForced classes d in
     c.unify.ensures.forced classes (subst F (sym (ap (over s) c.first-first.ensures.same)) f)
-    (merge_is_forced classes s c.args.address c.args.member c.first-first.result c.in-Some.other c.first-first.ensures.value c.requires.address (there_at c) f e))
+    (merge_is_forced classes s c.args.address c.args.member c.first-first.result c.in-Some.inside c.first-first.ensures.value c.requires.address (there_at c) f e))
 
 is_fill : (c : goal.After-self-1) → IsFill c.args.self.now c.args.address c.args.member c.first-first.result
 is_fill c =
