@@ -1,13 +1,13 @@
 -- The least legal classes of a program, numbered by their first members, are one, and nothing points past them.
-use Rattle.std.proofs.Common.{◌≡◌, ◌≢◌, ℕ, zero, suc, ◌+◌, ◌<◌, ◌≤◌, inl, inr, Bool, true, false, cond, ltb, List, [], ◌∷◌, ◌++◌, length, map, Option, None, Some, get_or, slice_get, refl, sym, ap, ◌∙◌, subst, arith, length-append}
+use Rattle.std.proofs.Common.{◌≡◌, ℕ, zero, suc, ◌+◌, ◌<◌, ◌≤◌, inl, inr, cond, ltb, List, [], ◌∷◌, ◌++◌, length, map, Option, None, Some, get_or, slice_get, refl, sym, ap, ◌∙◌, arith}
 use Rattle.std.proofs.lemmas.Bool.{cases_lt, cond-true, lt-ltb, ltb-true}
 use Rattle.std.proofs.lemmas.List.{ext_get_or}
-use Rattle.std.proofs.lemmas.Option.{slice_get-get_or, slice_get_within, get_or_from_slice_get, cond_some}
+use Rattle.std.proofs.lemmas.Option.{slice_get-get_or, cond_some}
 use Rattle.asl_code.specs.declared.image.Function as entry
 use Rattle.asl_code.specs.declared.instr.Instr.{Instr}
 use Rattle.asl_code.specs.declared.instr.Instr.TheVariants as instr
 use Rattle.asl_lower.specs.Lowered.{Lowered}
-use Rattle.asl_points_to.specs.Classes.{Classed, some_at, to, inside, members, Gives, IsLegalAt, IsLegal, GoInto, IsLeast, AreNumbered, AreClasses}
+use Rattle.asl_points_to.specs.Classes.{Classed, some_at, to, inside, members, Gives, IsLegalAt, GoInto, AreNumbered, AreClasses}
 use Rattle.asl_points_to.proofs.Cells.{read}
 use Rattle.asl_points_to.proofs.Narrow.{row_at}
 use Rattle.asl_points_to.proofs.Wide.{mapped_at, mapped_rows}
@@ -224,3 +224,29 @@ same_split (x ∷ ps) qs (z ∷ rs) ts len e =
     let rest : ps ++ qs ≡ rs ++ ts = cc in
     let r = same_split ps qs rs ts (omega arith) rest in
     (ap (λ (w : ℕ). w ∷ ps) head ∙ ap (λ (ws : List ℕ). z ∷ ws) r.0, r.1)
+
+pub one_classed : (l : Lowered) (c d : Classed) → AreClasses l c → AreClasses l d → c ≡ d
+one_classed l c d h k =
+    let f = h.least.least d k.least.legal in
+    let g = k.least.least c h.least.legal in
+    let both = same_numbers f.into g.into c.count d.count 0 (members c) (members d) (record { along = f.members_go }) (record { along = g.members_go }) h.numbered k.numbered (λ z lt. absurd (omega arith)) (λ z lt. absurd (omega arith)) in
+    let same = both.0 in
+    let parts = same_split c.globals c.sites d.globals d.sites (h.least.legal.globals ∙ sym k.least.legal.globals) same in
+    let registers : c.registers ≡ d.registers = ext_get_or [] c.registers d.registers (h.tables.functions ∙ sym k.tables.functions) (λ n lt. (
+    let fd : entry.Function = record { params = 0; regs = 0; len = 0 } in
+    let low : n < length l.functions = omega (arith, h.tables.functions) in
+    let at = slice_get-get_or l.functions n fd low in
+    let row1 = h.tables.registers n (get_or l.functions n fd) (get_or c.registers n []) at (slice_get-get_or c.registers n [] lt) in
+    let row2 = k.tables.registers n (get_or l.functions n fd) (get_or d.registers n []) at (slice_get-get_or d.registers n [] (omega (arith, k.tables.functions))) in
+    same_rows (get_or c.registers n []) (get_or d.registers n []) (row1 ∙ sym row2) (λ r.
+    sym (row_at c.registers n r)
+    ∙ same_options (to c n r) (to d n r) (register_goes l c d h k same n r) (register_goes l d c k h (sym same) n r)
+    ∙ row_at d.registers n r))) in
+    let cells : c.cells ≡ d.cells = same_rows c.cells d.cells (h.tables.cells ∙ both.1 ∙ sym k.tables.cells) (λ x.
+    same_options (inside c x) (inside d x) (cell_goes l c d h k same x) (cell_goes l d c k h (sym same) x)) in
+    let by_count : ℕ → Classed = λ n. record { count = n; globals = c.globals; sites = c.sites; registers = c.registers; cells = c.cells } in
+    let by_globals : List ℕ → Classed = λ xs. record { count = d.count; globals = xs; sites = c.sites; registers = c.registers; cells = c.cells } in
+    let by_sites : List ℕ → Classed = λ xs. record { count = d.count; globals = d.globals; sites = xs; registers = c.registers; cells = c.cells } in
+    let by_registers : List (List (Option ℕ)) → Classed = λ xs. record { count = d.count; globals = d.globals; sites = d.sites; registers = xs; cells = c.cells } in
+    let by_cells : List (Option ℕ) → Classed = λ xs. record { count = d.count; globals = d.globals; sites = d.sites; registers = d.registers; cells = xs } in
+    ap by_count both.1 ∙ ap by_globals parts.0 ∙ ap by_sites parts.1 ∙ ap by_registers registers ∙ ap by_cells cells

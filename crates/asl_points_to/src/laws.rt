@@ -6,6 +6,11 @@ ghost use Rattle.asl_lower.specs.Lowered.{Lowered};
 ghost use Rattle.asl_lower.specs.Region.{InBody};
 ghost use Rattle.asl_points_to.specs.Classes.{Classed, to, inside, members, Gives, IsLegal, IsLeast, IsFinest, AreClasses};
 
+/// A program has one numbering of its least legal classes, at the most; `classes` answers one where memory suffices.
+pub fn classes_are_one()
+    ensures { (l : Lowered) (c d : Classed) → AreClasses l c → AreClasses l d → c ≡ d }
+{}
+
 /// The least legal classes are the finest: members share a class, and something points somewhere, only where this is so in
 /// all legal classes.
 pub fn least_classes_are_finest()

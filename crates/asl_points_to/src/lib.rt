@@ -14,5 +14,5 @@ mod table;
 
 pub use analysis::classes;
 pub use fault::ClassesFault;
-pub use laws::{calls_pass_classes, classes_are_there, least_classes_are_finest};
+pub use laws::{calls_pass_classes, classes_are_one, classes_are_there, least_classes_are_finest};
 pub use table::Classes;

@@ -1,0 +1,7 @@
+//! Tests of the analysis over its public calls, from source texts on.
+#![tactic(auto)]
+
+#[cfg(test)]
+mod classes;
+#[cfg(test)]
+mod classes_memory;
