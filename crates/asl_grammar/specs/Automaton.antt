@@ -1,6 +1,6 @@
--- The grammar of docs/SOURCE.md as an automaton with a stack of open blocks: one step for each token, without looking
--- ahead or back. It is private to the code and the proofs: contracts about texts cite specs/Grammar, which knows no
--- automaton.
+-- Machinery of the proofs, not of the promise: the grammar of docs/SOURCE.md as an automaton with a stack of open
+-- blocks: one step for each token, without looking ahead or back. Contracts about texts cite specs/Grammar, which knows
+-- no automaton.
 use Rattle.std.specs.Prelude.{ℕ, List, [], ◌∷◌, ◌++◌, true, false, Option, Some, None}
 use Rattle.asl_grammar.specs.declared.token.Mark.TheVariants as mark
 use Rattle.asl_grammar.specs.declared.control.Operator.{Operator}

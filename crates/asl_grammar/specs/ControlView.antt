@@ -1,5 +1,5 @@
--- The code's controls and acts (src/control.rt) as the values that the automaton of docs/SOURCE.md's grammar speaks of;
--- private.
+-- Machinery of the proofs, not of the promise: the code's controls and acts (src/control.rt) as the values that the
+-- automaton of docs/SOURCE.md's grammar speaks of.
 use Rattle.asl_grammar.specs.Lex.{number_value}
 use Rattle.asl_grammar.specs.declared.control.Right as right
 use Rattle.asl_grammar.specs.declared.control.Right.TheVariants as rights

@@ -1,5 +1,5 @@
--- What a reader of a text's tokens (docs/SOURCE.md) has left, and what one call of it does; private to this crate and
--- asl_syntax.
+-- Machinery of the proofs, not of the promise: what a reader of a text's tokens (docs/SOURCE.md) has left, and what one
+-- call of it does.
 use Rattle.std.specs.Prelude.{◌≡◌, ℕ, ◌<◌, List, [], ◌∷◌, false, Option, Some, None, length}
 use Rattle.asl_grammar.specs.declared.lexer.Tokens as reader
 use Rattle.asl_grammar.specs.declared.lexer.Found as answer

@@ -1,6 +1,6 @@
--- The automaton of docs/SOURCE.md's grammar without the trees: the control and the kinds of the open blocks, and where it
--- stops. It is private to the code and the proofs; what contracts about texts say of the place is `IsGrammarFault` of
--- specs/Grammar.
+-- Machinery of the proofs, not of the promise: the automaton of docs/SOURCE.md's grammar without the trees: the control
+-- and the kinds of the open blocks, and where it stops. What contracts about texts say of the place is `IsGrammarFault`
+-- of specs/Grammar.
 use Rattle.std.specs.Prelude.{ℕ, List, [], ◌∷◌, Option, Some, None}
 use Rattle.asl_grammar.specs.declared.token.Mark.TheVariants as mark
 use Rattle.asl_grammar.specs.declared.control.Kind.{Kind}

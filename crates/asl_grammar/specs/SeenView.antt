@@ -1,4 +1,5 @@
--- The code's control and stack of kinds as a place of the automaton of docs/SOURCE.md's grammar; private.
+-- Machinery of the proofs, not of the promise: the code's control and stack of kinds as a place of the automaton of
+-- docs/SOURCE.md's grammar.
 use Rattle.std.specs.Prelude.{List, reverse}
 use Rattle.asl_grammar.specs.declared.control.Control as control
 use Rattle.asl_grammar.specs.declared.control.Kind.{Kind}

@@ -16,7 +16,7 @@ pub record IsKept (l : Lowered) : Type 0 where
   pub size : length l.code ≤ 65535
   pub inside : (function pc : ℕ) → ¬ IsBareAccess l function pc
 
--- what has been emitted (src/draft.rt), as a lowering; private
+-- machinery: what has been emitted (src/draft.rt), as a lowering
 abbrev pub lowered_of : Draft → Lowered
 lowered_of d =
     record { globals = d.globals; functions = d.functions.items; main = d.main; code = d.out.code.items; sites = d.out.sites; sections = d.out.sections.items }

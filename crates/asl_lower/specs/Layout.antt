@@ -1,5 +1,5 @@
--- The code of a program as one list, computed: what the templates of specs/Lowered put at each place; private. What
--- contracts cite is `IsLowering` of specs/Lowered.
+-- Machinery of the proofs, not of the promise: the code of a program as one list, computed: what the templates of
+-- specs/Lowered put at each place. What contracts cite is `IsLowering` of specs/Lowered.
 use Rattle.std.specs.Prelude.{ℕ, suc, List, [], ◌∷◌, ◌++◌, length, codes}
 use Rattle.asl_code.specs.declared.image.Function as entry
 use Rattle.asl_code.specs.declared.instr.Instr.{Instr}

@@ -11,7 +11,7 @@ use Rattle.asl_lower.specs.Names.{Scope, register, global_number, function_numbe
 use Rattle.asl_lower.specs.Place.{Place, origin, next, entered, past_moves, past_block, past_stmt, past_else, past_function, past_functions}
 
 -- what a lowering is: how many globals there are, the functions, which of them is `main`, the code with site numbers
--- in `new` and section numbers in `acq`, how many sites there are, and the sections (docs/SOURCE.md, "Templates")
+-- in `new` and section numbers in `acq`, how many sites there are, and the sections
 pub record Lowered : Type 0 where
   pub globals : ℕ
   pub functions : List entry.Function
@@ -20,23 +20,23 @@ pub record Lowered : Type 0 where
   pub sites : ℕ
   pub sections : List Section
 
--- the instruction stands at the place (docs/SOURCE.md, "Templates")
+-- the instruction stands at the place
 abbrev pub Has : Lowered → Place → Instr → Type 0
 Has l p i = slice_get l.code p.pc ≡ Some i
 
--- the instruction of an operator (docs/SOURCE.md, "Templates")
+-- the instruction of an operator
 abbrev pub operator_instr : Operator → ℕ → ℕ → ℕ → Instr
 operator_instr Add x y z = instr.Add x y z
 operator_instr Subtract x y z = instr.Subtract x y z
 operator_instr IsLess x y z = instr.LessThan x y z
 operator_instr IsEqual x y z = instr.Equals x y z
 
--- the first argument register, 0 where there are no arguments (docs/SOURCE.md, "Templates")
+-- the first argument register, 0 where there are no arguments
 abbrev pub first_argument : Scope → List (List ℕ) → ℕ
 first_argument sc [] = 0
 first_argument sc (a ∷ rest) = length sc.locals
 
--- the instruction that puts a value into a register; a `new` has the next site (docs/SOURCE.md, "Templates")
+-- the instruction that puts a value into a register; a `new` has the next site
 abbrev pub value_instr : Scope → ℕ → ℕ → Value → Instr
 value_instr sc to site (IntegerValue z) = instr.SetInt to z
 value_instr sc to site NullValue = instr.SetNull to
@@ -48,27 +48,27 @@ value_instr sc to site (LoadValue y) = instr.Load to (register sc y)
 value_instr sc to site (NewValue n) = instr.New to n site
 value_instr sc to site (CallValue f args) = instr.Call to (first_argument sc args) (function_number sc f)
 
--- a `mov` of each argument to its argument register, of which `to` is the first (docs/SOURCE.md, "Templates")
+-- a `mov` of each argument to its argument register, of which `to` is the first
 abbrev pub AreMoved : Scope → Lowered → List (List ℕ) → Place → ℕ → Type 0
 AreMoved sc l [] p to = Unit {0}
 AreMoved sc l (a ∷ rest) p to = Has l p (instr.Move to (register sc a)) × AreMoved sc l rest (next p) (suc to)
 
--- the code of a value for a register begins at the place (docs/SOURCE.md, "Templates")
+-- the code of a value for a register begins at the place
 abbrev pub IsLoweredValue : Scope → Lowered → ℕ → Value → Place → Type 0
 IsLoweredValue sc l to (CallValue f args) p =
     AreMoved sc l args p (length sc.locals) × Has l (past_moves args p) (value_instr sc to p.site (CallValue f args))
 IsLoweredValue sc l to v p = Has l p (value_instr sc to p.site v)
 
--- where the `jz` of an `if` goes: behind its block, and behind the jump over the other block (docs/SOURCE.md, "Templates")
+-- where the `jz` of an `if` goes: behind its block, and behind the jump over the other block
 abbrev pub else_target : Block → Place → ℕ
 else_target NoMore p = p.pc
 else_target (Then s b) p = suc p.pc
 
--- the section of a block that begins behind the place (docs/SOURCE.md, "Templates")
+-- the section of a block that begins behind the place
 abbrev pub section_of : Scope → Block → Place → Section
 section_of sc a p = record { function = sc.function; acquire = p.pc; release = (past_block a (entered p)).pc }
 
--- the code of a statement, of a block, and of what follows the block of an `if`, begins at the place (docs/SOURCE.md, "Templates")
+-- the code of a statement, of a block, and of what follows the block of an `if`, begins at the place
 abbrev mutual
   pub IsLoweredStmt : Scope → Lowered → Statement → Place → Type 0
   IsLoweredStmt sc l (AssignStatement x v) p = IsLoweredValue sc l (register sc x) v p
@@ -99,28 +99,28 @@ abbrev mutual
       × IsLoweredStmt sc l s (next p)
       × IsLoweredBlock sc l b (past_stmt s (next p))
 
--- the function's entry of the table: its parameters, its registers, the length of its body (docs/SOURCE.md, "Templates")
+-- the function's entry of the table: its parameters, its registers, the length of its body
 abbrev pub entry_of : Function → Place → entry.Function
 entry_of f p =
     record { params = length f.parameters; regs = registers_of f; len = (past_function f p).pc - p.pc }
 
--- the function of this number is in the table, and its body begins at the place; its last instruction is its `ret` (docs/SOURCE.md, "Templates")
+-- the function of this number is in the table, and its body begins at the place; its last instruction is its `ret`
 pub record IsLoweredFunction (is : List Item) (l : Lowered) (number : ℕ) (f : Function) (p : Place) : Type 0 where
   pub in_table : slice_get l.functions number ≡ Some (entry_of f p)
   pub body : IsLoweredBlock (scope_of is number f) l f.body p
   pub returns : Has l (past_block f.body p) (instr.Return (register (scope_of is number f) f.returned))
 
--- functions from this number on, one after the other from the place (docs/SOURCE.md, "Templates")
+-- functions from this number on, one after the other from the place
 abbrev pub AreLoweredFunctions : List Item → Lowered → ℕ → List Function → Place → Type 0
 AreLoweredFunctions is l number [] p = Unit {0}
 AreLoweredFunctions is l number (f ∷ fs) p =
     IsLoweredFunction is l number f p × AreLoweredFunctions is l (suc number) fs (past_function f p)
 
--- where the code of a program ends: how many instructions, sites and sections it has (docs/SOURCE.md, "Templates")
+-- where the code of a program ends: how many instructions, sites and sections it has
 abbrev pub end_of : List Item → Place
 end_of is = past_functions (functions_of is) origin
 
--- `l` is the lowering of the program (docs/SOURCE.md, "Templates")
+-- `l` is the lowering of the program
 pub record IsLowering (is : List Item) (l : Lowered) : Type 0 where
   pub globals : l.globals ≡ length (globals_of is)
   pub main : l.main ≡ number_of (function_names (functions_of is)) (codes "main")

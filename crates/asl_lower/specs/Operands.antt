@@ -6,14 +6,14 @@ use Rattle.asl_code.specs.declared.instr.Instr.TheVariants as instr
 use Rattle.asl_lower.specs.Lowered.{Lowered}
 use Rattle.asl_lower.specs.Region.{InBody}
 
--- the callee is there, and as many registers as it has parameters (docs/SOURCE.md, "Templates")
+-- the callee is there, and as many registers as it has parameters
 pub record HasCallee (l : Lowered) (registers first callee : ℕ) : Type 0 where
   pub function : entry.Function
   pub in_table : slice_get l.functions callee ≡ Some function
   pub arguments : first + function.params ≤ registers
 
 -- the registers, the global, the callee, the site and the section of an instruction are there, in a function with so
--- many registers, and a `new` makes a cell (docs/SOURCE.md, "Templates")
+-- many registers, and a `new` makes a cell
 abbrev pub HasOperands : Lowered → ℕ → Instr → Type 0
 HasOperands l registers (instr.SetInt to value) = to < registers
 HasOperands l registers (instr.SetNull to) = to < registers
@@ -35,7 +35,7 @@ HasOperands l registers (instr.Output from) = from < registers
 HasOperands l registers (instr.Acquire section) = section < length l.sections
 HasOperands l registers instr.Release = Unit {0}
 
--- so it is of each instruction of a body (docs/SOURCE.md, "Templates")
+-- so it is of each instruction of a body
 abbrev pub AreOperandsThere : Lowered → Type 0
 AreOperandsThere l =
     (pc number : ℕ) (f : entry.Function) (i : Instr) → InBody l number pc → slice_get l.functions number ≡ Some f → slice_get l.code pc ≡ Some i → HasOperands l f.regs i

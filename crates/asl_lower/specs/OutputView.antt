@@ -1,4 +1,5 @@
--- What has been emitted (src/output.rt), as the values that definitions speak of; private.
+-- Machinery of the proofs, not of the promise: what has been emitted (src/output.rt), as the values that definitions
+-- speak of (docs/SOURCE.md, "Templates").
 use Rattle.std.specs.Prelude.{◌≡◌, List, ◌++◌, length}
 use Rattle.asl_code.specs.declared.instr.Instr.{Instr}
 use Rattle.asl_lower.specs.declared.section.Section.{Section}

@@ -1,5 +1,5 @@
--- Machinery of the proofs, not of the promise: the marks of functions that calls lead to, as src/reach.rt makes them. What
--- contracts promise are `IsBare`, `IsInner` and `IsFirstBareAccess` of specs/Region.
+-- Machinery of the proofs, not of the promise: the marks of functions that calls lead to, as src/reach.rt makes them.
+-- What contracts promise are `IsBare`, `IsInner` and `IsFirstBareAccess` of specs/Region.
 use Rattle.std.specs.Prelude.{◌≡◌, ℕ, suc, ◌+◌, ◌-◌, ◌<◌, ◌≤◌, Bool, true, false, IsTrue, List, [], ◌∷◌, length, Some, slice_get}
 use Rattle.asl_code.specs.declared.instr.Instr.{Instr}
 use Rattle.asl_code.specs.declared.instr.Instr.TheVariants as instr

@@ -7,12 +7,12 @@ use Rattle.asl_lower.specs.Names.{registers_of}
 use Rattle.asl_lower.specs.Lowered.{Lowered, IsLowering, end_of}
 use Rattle.asl_lower.specs.Region.{IsBareAccess, IsFirstBareAccess}
 
--- the first function with more than 64 registers, where functions are numbered from this number on (docs/SOURCE.md, "Templates")
+-- the first function with more than 64 registers, where functions are numbered from this number on
 abbrev pub first_crowded : ℕ → List Function → Option ℕ
 first_crowded number [] = None
 first_crowded number (f ∷ fs) = if nat_lt 64 (registers_of f) then Some number else first_crowded (suc number) fs
 
--- no function has more than 64 registers, and the code has at most 65,535 instructions (docs/SOURCE.md, "Templates")
+-- no function has more than 64 registers, and the code has at most 65,535 instructions
 pub record HasRoom (is : List Item) : Type 0 where
   pub few_registers : first_crowded 0 (functions_of is) ≡ None
   pub few_instructions : (end_of is).pc ≤ 65535

@@ -1,4 +1,5 @@
--- The scope of a function (src/scope.rt), as the value that definitions speak of; private.
+-- Machinery of the proofs, not of the promise: the scope of a function (src/scope.rt), as the value that definitions
+-- speak of (docs/SOURCE.md, "Templates").
 use Rattle.std.specs.Prelude.{map}
 use Rattle.asl_syntax.specs.View.{item_of}
 use Rattle.asl_lower.specs.declared.scope.Scope as code

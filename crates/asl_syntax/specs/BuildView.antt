@@ -1,5 +1,5 @@
--- What the code has built (src/build.rt), as the value that specs/Built speaks of, the builder of docs/SOURCE.md's trees;
--- private.
+-- Machinery of the proofs, not of the promise: what the code has built (src/build.rt), as the value that specs/Built
+-- speaks of, the builder of docs/SOURCE.md's trees.
 use Rattle.std.specs.Prelude.{ℕ, List, Option, Some, None, map, Vec}
 use Rattle.std.specs.declared.alloc.Global.{Global}
 use Rattle.asl_syntax.specs.declared.tree.Statement as tree

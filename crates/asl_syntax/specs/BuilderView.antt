@@ -1,4 +1,5 @@
--- The code's builder (src/build.rt) as the value that specs/Built speaks of, the builder of docs/SOURCE.md's trees; private.
+-- Machinery of the proofs, not of the promise: the code's builder (src/build.rt) as the value that specs/Built speaks
+-- of, the builder of docs/SOURCE.md's trees.
 use Rattle.std.specs.Prelude.{map, reverse}
 use Rattle.asl_syntax.specs.declared.build.Builder as code
 use Rattle.asl_grammar.specs.declared.control.Control as control

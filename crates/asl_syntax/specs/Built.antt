@@ -1,5 +1,6 @@
--- The automaton of docs/SOURCE.md's grammar with the trees that the code builds; private. What contracts cite is `Spells`
--- of specs/Spelled. asl_grammar's automaton builds other trees, those of specs/Written, which keep an empty `else`.
+-- Machinery of the proofs, not of the promise: the automaton of docs/SOURCE.md's grammar with the trees that the code
+-- builds. What contracts cite is `Spells` of specs/Spelled. asl_grammar's automaton builds other trees, those of
+-- specs/Written, which keep an empty `else`.
 use Rattle.std.specs.Prelude.{ℕ, List, [], ◌∷◌, ◌++◌, Option, Some, None}
 use Rattle.asl_grammar.specs.declared.token.Mark.TheVariants as mark
 use Rattle.asl_grammar.specs.declared.control.Kind.{Kind}

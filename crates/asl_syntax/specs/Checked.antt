@@ -1,4 +1,5 @@
--- What `parse` knows of a text before it builds the tree: no refusal of docs/SOURCE.md up to `Limit` applies; private.
+-- Machinery of the proofs, not of the promise: what `parse` knows of a text before it builds the tree: no refusal of
+-- docs/SOURCE.md up to `Limit` applies.
 use Rattle.std.specs.Prelude.{◌≡◌, ℕ, List, None}
 use Rattle.asl_grammar.specs.Lex.{tokens_of}
 use Rattle.asl_grammar.specs.Grammar.{IsProgram, bare}

@@ -1,5 +1,5 @@
--- Which names and numbers the code's tree has room for; private. Texts within the limits of docs/SOURCE.md, which are those
--- of specs/Limit, have no others.
+-- Machinery of the proofs, not of the promise: which names and numbers the code's tree has room for. Texts within the
+-- limits of docs/SOURCE.md, which are those of specs/Limit, have no others.
 use Rattle.std.specs.Prelude.{ℕ, ◌≤◌, List, [], ◌∷◌, true, false, Option, Some, None, length}
 use Rattle.asl_grammar.specs.Token.{Token, Spot}
 use Rattle.asl_grammar.specs.Written.{Right, Line, Literal, NullValue, Copied, Binary, GlobalAddress, FieldAddress, Loaded, Created, Assigns, Calls, Stores, Shows}

@@ -1,4 +1,5 @@
--- Which names of a name space of docs/SOURCE.md the code's maps know (src/names.rt); private.
+-- Machinery of the proofs, not of the promise: which names of a name space of docs/SOURCE.md the code's maps know
+-- (src/names.rt).
 use Rattle.std.specs.Prelude.{ℕ, List, is_some}
 use Rattle.std.specs.Borrow.{Bor}
 use Rattle.std.specs.Ordering.{nat_cmp}

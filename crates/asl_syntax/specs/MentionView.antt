@@ -1,4 +1,5 @@
--- The code's mentions (src/mentions.rt) of the names of docs/SOURCE.md as values; private.
+-- Machinery of the proofs, not of the promise: the code's mentions (src/mentions.rt) of the names of docs/SOURCE.md as
+-- values.
 use Rattle.std.specs.Prelude.{List, map}
 use Rattle.asl_syntax.specs.declared.mentions.Mention as code
 use Rattle.asl_syntax.specs.declared.mentions.Mention.TheVariants as codes

@@ -1,5 +1,5 @@
--- The text of a tree part by part (docs/SOURCE.md, "Printing"), as src/printer.rt writes it; private. What contracts cite
--- is specs/Printed.
+-- Machinery of the proofs, not of the promise: the text of a tree part by part (docs/SOURCE.md, "Printing"), as
+-- src/printer.rt writes it. What contracts cite is specs/Printed.
 use Rattle.std.specs.Prelude.{ℕ, suc, ℤ, pos, negsuc, ◌+◌, List, [], ◌∷◌, ◌++◌, map}
 use Rattle.std.specs.Int.Digits.{digits_of}
 use Rattle.asl_grammar.specs.declared.token.Mark.{Mark}

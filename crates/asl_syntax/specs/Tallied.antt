@@ -1,5 +1,5 @@
--- The limits of docs/SOURCE.md counted token by token, as src/limit.rt counts them; private. What contracts cite is
--- specs/Limit.
+-- Machinery of the proofs, not of the promise: the limits of docs/SOURCE.md counted token by token, as src/limit.rt
+-- counts them. What contracts cite is specs/Limit.
 use Rattle.std.specs.Prelude.{ℕ, suc, ◌-◌, List, [], ◌∷◌, Option, Some, None, if◌then◌else◌}
 use Rattle.asl_grammar.specs.declared.token.Mark.TheVariants as mark
 use Rattle.asl_grammar.specs.Token.{Token, Fixed, Name, Spot}

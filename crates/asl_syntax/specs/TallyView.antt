@@ -1,4 +1,5 @@
--- The code's counts (src/limit.rt) as what the limits of docs/SOURCE.md count; private.
+-- Machinery of the proofs, not of the promise: the code's counts (src/limit.rt) as what the limits of docs/SOURCE.md
+-- count.
 use Rattle.std.specs.Option.{option_map}
 use Rattle.asl_grammar.specs.View.{token_of}
 use Rattle.asl_syntax.specs.declared.limit.Counts as code
