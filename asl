@@ -1,9 +1,11 @@
 #!/usr/bin/env bash
 # Runs the program `asl`. Where its binary is missing or older than the sources, the workspace is proved and built first:
-# there is no build without the proofs. What the build says goes to standard error and to crates/asl/out/build.log.
+# there is no build without the proofs. Crates that do not stand on one another are proved side by side. What the build
+# says goes to crates/asl/out/build.log; how far it is goes to standard error.
 set -eu
 root=$(cd "$(dirname "$(readlink -f "${BASH_SOURCE[0]}")")" && pwd)
 binary=$root/crates/asl/out/asl
+log=$root/crates/asl/out/build.log
 
 is_stale() {
   [ ! -x "$binary" ] && return 0
@@ -11,40 +13,86 @@ is_stale() {
   [ -n "$(find "$root/crates" -name out -prune -o -type f \( -name '*.rt' -o -name '*.antt' \) -newer "$binary" -print -quit)" ]
 }
 
-# the crates of the repository that the program stands on, in the order of crates.txt, which is lowest first
+# the crates of the repository below the program, lowest first, each with those of them that it stands on
 crates_below() {
   awk -F: '
     !/^#/ && NF > 1 { split($1, word, " "); name[++count] = word[1]; uses[word[1]] = $2 }
     END {
       needed["asl"] = 1
       for (i = count; i > 0; i--)
-        if (name[i] in needed) { n = split(uses[name[i]], dep, " "); for (k = 1; k <= n; k++) needed[dep[k]] = 1 }
-      for (i = 1; i <= count; i++) if (name[i] != "asl" && name[i] in needed) print name[i]
+        if (name[i] in needed) { n = split(uses[name[i]], low, " "); for (k = 1; k <= n; k++) needed[low[k]] = 1 }
+      for (i = 1; i <= count; i++) if (name[i] != "asl" && name[i] in needed) {
+        line = name[i]
+        n = split(uses[name[i]], low, " ")
+        for (k = 1; k <= n; k++) if (low[k] in uses) line = line " " low[k]
+        print line
+      }
     }' "$root/crates.txt"
 }
 
-build() {
-  command -v rt >/dev/null || { echo "asl: the command rt of the Rattle kit is needed to build" >&2; exit 1; }
-  mkdir -p "$root/crates/asl/out"
-  local log=$root/crates/asl/out/build.log names count done=0 name
-  names=$(crates_below)
-  count=$(($(wc -w <<<"$names") + 1))
-  echo "asl: proving and building the workspace first, $count crates; a first build takes some minutes" >&2
-  : >"$log"
-  for name in $names; do
-    done=$((done + 1))
-    echo "asl: $done of $count: $name" >&2
-    (cd "$root/crates/$name" && rt lib) >>"$log" 2>&1 </dev/null || fail "$name" "$log"
-  done
-  echo "asl: $count of $count: asl" >&2
-  (cd "$root/crates/asl" && rt run -- --help) >>"$log" 2>&1 </dev/null || fail asl "$log"
-  touch "$binary"
+# as many crates at a time as there are processors, and as memory has room for at 3 GB each
+crates_at_a_time() {
+  local processors memory
+  processors=$(nproc)
+  memory=$(($(awk '/^MemAvailable:/ { print $2 }' /proc/meminfo) / 3000000))
+  [ "$memory" -ge 1 ] || memory=1
+  echo $((processors < memory ? processors : memory))
 }
 
 fail() {
   echo "asl: $1 was not built; the last lines of $2:" >&2
   tail -n 20 "$2" >&2
   exit 1
+}
+
+prove() {
+  (cd "$root/crates/$1" && exec rt lib --jobs "$2") >"$root/crates/asl/out/build-$1.log" 2>&1 </dev/null
+}
+
+build_libraries() {
+  local -A waits_for=() builds=()
+  local most busy total ended=0 name below pid left began=$SECONDS
+  while read -r name below; do waits_for[$name]=$below; done < <(crates_below)
+  total=$((${#waits_for[@]} + 1))
+  most=$(crates_at_a_time)
+  echo "asl: proving and building $total crates first, up to $most side by side; a first build takes 5 to 20 minutes" >&2
+  while [ ${#waits_for[@]} -gt 0 ] || [ ${#builds[@]} -gt 0 ]; do
+    busy=${#builds[@]}
+    for name in "${!waits_for[@]}"; do [ -n "${waits_for[$name]// /}" ] || busy=$((busy + 1)); done
+    for name in "${!waits_for[@]}"; do
+      [ ${#builds[@]} -lt "$most" ] || break
+      [ -z "${waits_for[$name]// /}" ] || continue
+      unset "waits_for[$name]"
+      prove "$name" "$(((most + busy - 1) / busy))" &
+      builds[$!]=$name
+    done
+    [ ${#builds[@]} -gt 0 ] || { echo "asl: crates.txt has crates that stand on one another" >&2; exit 1; }
+    if wait -n -p pid "${!builds[@]}"; then :; else
+      name=${builds[$pid]}
+      kill $(jobs -p) 2>/dev/null || :
+      fail "$name" "$root/crates/asl/out/build-$name.log"
+    fi
+    name=${builds[$pid]}
+    unset "builds[$pid]"
+    ended=$((ended + 1))
+    echo "asl: $ended of $total: $name, $((SECONDS - began)) s" >&2
+    cat "$root/crates/asl/out/build-$name.log" >>"$log"
+    rm -f "$root/crates/asl/out/build-$name.log"
+    for left in "${!waits_for[@]}"; do
+      below=" ${waits_for[$left]} "
+      waits_for[$left]=${below// $name / }
+    done
+  done
+  echo "asl: $total of $total: asl" >&2
+}
+
+build() {
+  command -v rt >/dev/null || { echo "asl: the command rt of the Rattle kit is needed to build" >&2; exit 1; }
+  mkdir -p "$root/crates/asl/out"
+  : >"$log"
+  build_libraries
+  (cd "$root/crates/asl" && rt run -- --help) >>"$log" 2>&1 </dev/null || fail asl "$log"
+  touch "$binary"
 }
 
 if is_stale; then
