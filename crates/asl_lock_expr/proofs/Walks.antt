@@ -22,10 +22,6 @@ pub path_append : (h : Seen) (p q : List Op) (start : Option Cell) → path_cell
 path_append h [] q start = refl
 path_append h (op ∷ p) q start = path_append h p q (option_and_then (walked h op) start)
 
-pub class_append : (c : Classed) (p q : List Op) (start : Option ℕ) → path_class c (p ++ q) start ≡ path_class c q (path_class c p start)
-class_append c [] q start = refl
-class_append c (op ∷ p) q start = class_append c p q (option_and_then (step_class c op) start)
-
 -- the first operation of a path that leads to a cell
 pub first_step : (h : Seen) (op : Op) (ops : List Op) (cell end : Cell) → path_cell h (op ∷ ops) (Some cell) ≡ Some end →
     (next : Cell) × (walked h op cell ≡ Some next) × (path_cell h ops (Some next) ≡ Some end)
