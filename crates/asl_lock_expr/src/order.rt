@@ -38,6 +38,7 @@ fn place(locks: &[Lock], new: &Lock) -> Option<usize>
 }
 
 /// Which lock comes first.
+#[tactic(auto, using(crate::proofs::Derived::derived_is))]
 fn compare(a: &Lock, b: &Lock) -> Ordering
     ensures { result ≡ lock_cmp a.now b.now }
 {
