@@ -1,0 +1,140 @@
+//! The bytes of the counter's journal: as given, cut at each place, and with each byte changed to each other value.
+use crate::programs::{COUNTER, WAITING, recorded};
+use asl_journal::{JournalFault, get, put};
+use std::alloc::Global;
+use std::test::Fail;
+
+/// The counter's journal in which thread 1 waits for thread 0.
+const BYTES: [u8; 19] = [
+    0x41, 0x53, 0x4c, 0x4a, 0, 1, 2, 0, 0, 0, 4, 0, 0, 0, 0, 1, 0, 1, 2,
+];
+
+/// The refusal of the bytes, or none where they are those of a journal that has these bytes.
+fn refusal(alloc: Global, bytes: &[u8]) -> Result<Option<JournalFault>, Fail> {
+    match get(alloc, bytes) {
+        Err(fault) => Ok(Some(fault)),
+        Ok(journal) => {
+            let again = put(alloc, &journal)?;
+            if again.as_slice() == bytes {
+                Ok(None)
+            } else {
+                Err(Fail::from("other bytes"))
+            }
+        }
+    }
+}
+
+#[test]
+fn the_journal_has_these_bytes(rt: HostRuntime) -> Result<(), Fail> {
+    let (_program, journal) = recorded(rt.alloc(), COUNTER, &WAITING).ok_or("no journal")?;
+    let bytes = put(rt.alloc(), &journal)?;
+    assert!(rt; bytes.as_slice() == BYTES.as_slice());
+    Ok(())
+}
+
+#[test]
+fn cut_bytes_are_truncated(rt: HostRuntime) -> Result<(), Fail> {
+    for n in 0..BYTES.len() {
+        let fault = refusal(rt.alloc(), &BYTES[..n])?;
+        assert!(rt; fault == Some(JournalFault::Truncated(n)), "{n} bytes");
+    }
+    Ok(())
+}
+
+#[test]
+fn a_byte_more_trails(rt: HostRuntime) -> Result<(), Fail> {
+    let mut bytes = BYTES.to_vec(rt.alloc())?;
+    bytes.push(0)?;
+    let fault = refusal(rt.alloc(), bytes.as_slice())?;
+    assert!(rt; fault == Some(JournalFault::Trailing(19)));
+    Ok(())
+}
+
+/// What a changed byte of the letters, the version or the number of threads meets.
+fn front(at: usize, value: u8) -> Option<JournalFault> {
+    if at < 4 {
+        return Some(JournalFault::Magic);
+    }
+    if at < 6 {
+        return Some(JournalFault::Version);
+    }
+    // A journal of one thread: the first event of thread 1 is bad.
+    if value == 1 {
+        return Some(JournalFault::BadField(15));
+    }
+    if value == 0 || value > 64 {
+        return Some(JournalFault::BadField(6));
+    }
+    None
+}
+
+/// What a changed byte of the number of events meets: too many, fewer than there are, or more.
+fn count(at: usize, value: u8) -> Option<JournalFault> {
+    if at == 7 {
+        return Some(JournalFault::BadField(7));
+    }
+    if at == 10 && value < 4 {
+        return Some(JournalFault::Trailing(11 + 2 * usize::from(value)));
+    }
+    Some(JournalFault::Truncated(19))
+}
+
+/// What a changed byte of a thread meets.
+fn thread(at: usize, value: u8) -> Option<JournalFault> {
+    if value < 2 {
+        return None;
+    }
+    Some(JournalFault::BadField(at))
+}
+
+/// What a changed byte of a reply meets. Behind 1 and 4 the bytes of the next events are read as a value or a fault: up to
+/// a thread 2, which is bad, or past the end.
+fn reply(at: usize, value: u8) -> Option<JournalFault> {
+    if value == 0 || value == 2 || value == 3 {
+        return None;
+    }
+    if value > 4 {
+        return Some(JournalFault::BadField(at));
+    }
+    if at == 16 || at == 12 && value == 1 {
+        return Some(JournalFault::BadField(18));
+    }
+    Some(JournalFault::Truncated(19))
+}
+
+/// What a byte with another value meets.
+fn wanted(at: usize, value: u8) -> Option<JournalFault> {
+    if at < 7 {
+        return front(at, value);
+    }
+    if at < 11 {
+        return count(at, value);
+    }
+    if at % 2 == 1 {
+        return thread(at, value);
+    }
+    reply(at, value)
+}
+
+/// The bytes with this one changed.
+fn changed(alloc: Global, at: usize, value: u8) -> Result<Vec<u8>, Fail> {
+    let mut bytes = BYTES.to_vec(alloc)?;
+    if at < bytes.len() {
+        bytes[at] = value;
+    }
+    Ok(bytes)
+}
+
+#[test]
+fn changed_bytes_are_refused_at_their_place(rt: HostRuntime) -> Result<(), Fail> {
+    for at in 0..19 {
+        for value in 0..=255 {
+            let bytes = changed(rt.alloc(), at, value)?;
+            if bytes.as_slice() != BYTES.as_slice() {
+                let fault = refusal(rt.alloc(), bytes.as_slice())?;
+                assert!(rt; fault == wanted(at, value), "byte {at} as {value}");
+            }
+        }
+    }
+    Ok(())
+}

@@ -1,0 +1,9 @@
+//! Tests of journals and of the debugger, over their public calls.
+#![tactic(auto)]
+
+#[cfg(test)]
+mod bytes;
+#[cfg(test)]
+mod journals;
+#[cfg(test)]
+mod programs;

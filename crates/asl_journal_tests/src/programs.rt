@@ -1,0 +1,85 @@
+//! Programs, journals of them, and what machines show.
+ghost use Rattle.std.specs.Prelude.{◌≡◌, ◌<◌, length};
+
+use asl_assembler::assemble;
+use asl_code::{Cell, Program};
+use asl_journal::{Journal, Journaled};
+use asl_lock_forest::Node;
+use asl_machine::Machine;
+use std::alloc::Global;
+
+/// A counter that each thread counts up once.
+pub const COUNTER: &[u8] =
+    b"version 1\nclasses 1\nglobal 0\nentry 0\nfn 1 5\nglob r1, g0\nacq 0\nload r2, r1\nint r3, 1\nadd r4, r2, r3\nstore r1, r4\nrel\nret r0\nlist\nexpr r1 write\n";
+
+/// A sum to which each thread adds its number again and again.
+pub const SUM: &[u8] =
+    b"version 1\nclasses 1\nglobal 0\nentry 0\nfn 1 5\nglob r1, g0\nacq 0\nload r2, r1\nadd r2, r2, r0\nout r2\nstore r1, r2\nrel\njmp 1\nlist\nexpr r1 write\n";
+
+/// The schedule of the counter in which thread 1 waits for thread 0.
+pub const WAITING: [u8; 4] = [0, 0, 1, 1];
+
+/// The program of a text.
+pub fn program(alloc: Global, text: &[u8]) -> Option<Program> {
+    assemble(alloc, text).ok()
+}
+
+/// The journal of two threads of the program over the schedule.
+pub fn journal_of(alloc: Global, program: &Program, schedule: &[u8]) -> Option<Journal> {
+    let mut journaled = Journaled::start(alloc, program, 2).ok()?;
+    for thread in schedule {
+        journaled.step(alloc, u32::from(*thread)).ok()?;
+    }
+    let (journal, _machine) = journaled.into_parts();
+    Some(journal)
+}
+
+/// The journal of the program's text over the schedule, and the program.
+pub fn recorded(alloc: Global, text: &[u8], schedule: &[u8]) -> Option<(Program, Journal)> {
+    let program = program(alloc, text)?;
+    let journal = journal_of(alloc, &program, schedule)?;
+    Some((program, journal))
+}
+
+/// A schedule of two threads, so many steps in no order.
+pub fn mixed(alloc: Global, steps: u16) -> Option<Vec<u8>> {
+    let mut schedule = Vec::new(alloc);
+    let mut number: u32 = 1;
+    for _ in 0..steps {
+        number = number.wrapping_mul(1_103_515_245).wrapping_add(12_345);
+        schedule
+            .push(if number % 65_536 < 30_000 { 0 } else { 1 })
+            .ok()?;
+    }
+    Some(schedule)
+}
+
+/// Whether the machines show the same of thread t.
+fn shows_thread(left: &Machine<'_>, right: &Machine<'_>, t: u32) -> bool
+    requires left { t < length left.now.state.threads }
+    requires right { t < length right.now.state.threads }
+{
+    let place = left.status(t) == right.status(t)
+        && left.pc(t) == right.pc(t)
+        && left.depth(t) == right.depth(t);
+    let locks = left.held(t, Node::Root) == right.held(t, Node::Root)
+        && left.held(t, Node::Class(0)) == right.held(t, Node::Class(0));
+    place && locks && (0..5).all(|register| left.reg(t, register) == right.reg(t, register))
+}
+
+/// Whether the machines show the same of their threads, their locks, and the global.
+pub fn shows_same(left: &Machine<'_>, right: &Machine<'_>) -> bool {
+    let global = Cell {
+        object: 0,
+        offset: 0,
+    };
+    if left.threads() != right.threads() {
+        return false;
+    }
+    for t in 0..left.threads() {
+        if !shows_thread(left, right, t) {
+            return false;
+        }
+    }
+    left.objects() == right.objects() && left.cell(global) == right.cell(global)
+}
