@@ -3,3 +3,10 @@ mod Tables
 mod Steps
 mod SpanLaws
 mod Rows
+mod Adding
+mod Points
+mod Each
+mod Chains
+mod Leasts
+mod Sound
+mod Closing

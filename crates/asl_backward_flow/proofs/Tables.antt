@@ -150,7 +150,7 @@ module _ (lists now : List (List Lock)) (p : ℕ) (old new : List Lock) (lock : 
     has_fact at =
         subst (λ l. HasFact (record { locks = l; facts = facts_after }) p pc lock) (sym change.is) (added_has lists p change.there new lock named facts facts_after pc number held stored at)
 
-list_of : {X : Type 0} (keys : X → List Lock) (items : List X) (p : ℕ) (d : X) → p < length items → list_at (map keys items) p ≡ keys (get_or items p d)
+pub list_of : {X : Type 0} (keys : X → List Lock) (items : List X) (p : ℕ) (d : X) → p < length items → list_at (map keys items) p ≡ keys (get_or items p d)
 list_of keys [] p d h = absurd (omega arith)
 list_of keys (x ∷ xs) zero d h = refl
 list_of keys (x ∷ xs) (suc p) d h = list_of keys xs p d (omega arith)

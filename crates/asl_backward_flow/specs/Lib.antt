@@ -3,3 +3,4 @@ pub mod Needed
 pub mod Found
 pub mod Spans
 pub mod Graph
+pub mod Follows

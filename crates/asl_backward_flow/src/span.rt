@@ -1,5 +1,5 @@
 //! Where the regions lie in the code.
-ghost use Rattle.std.specs.Prelude.{◌≡◌, ◌<◌, ◌≤◌, [], length, IfOk, OnOk};
+ghost use Rattle.std.specs.Prelude.{◌≡◌, ◌<◌, ◌≤◌, ◌↔◌, IsTrue, [], length, IfOk, OnOk};
 ghost use Rattle.asl_lower.specs.Region.{IsInner};
 ghost use Rattle.asl_backward_flow.specs.Spans.{IsSpan, AreSpans, AreSections};
 
@@ -14,6 +14,15 @@ pub struct Span {
     pub function: u16,
     pub first: u16,
     pub end: u16,
+}
+
+impl Span {
+    /// Whether the pc is one of the region.
+    pub fn has(&self, pc: u16) -> bool
+        ensures { IsTrue result ↔ ((self.now.first ≤ pc) × (pc < self.now.end)) }
+    {
+        self.first <= pc && pc < self.end
+    }
 }
 
 /// Where each region lies: the sections, and the bodies of inner functions.

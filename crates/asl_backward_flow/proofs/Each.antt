@@ -1,0 +1,146 @@
+-- What each turn of the loops over regions, pcs and calls adds.
+use Rattle.std.proofs.Common.{◌≡◌, ℕ, ◌+◌, ◌<◌, ◌≤◌, List, Some, length, slice_get, refl, ap, sym, subst, ◌∙◌, arith}
+use Rattle.std.proofs.lemmas.Option.{slice_get_within}
+use Rattle.asl_code.specs.declared.lock.Lock.{Lock}
+use Rattle.asl_backward_flow.specs.declared.found.AddFault.{AddFault}
+use Rattle.asl_backward_flow.specs.declared.region.Region.TheVariants as variant
+use Rattle.asl_backward_flow.specs.declared.span.Span.{Span}
+use Rattle.asl_backward_flow.specs.Graph.{row}
+use Rattle.asl_backward_flow.specs.Found.{Table}
+use Rattle.asl_backward_flow.specs.Follows.{Read, IsRead, IsAtPoint, IsLinked, IsEntered, IsSeed, IsSeedIn, IsAccessed, IsBack, IsCalledAt, IsAtCall, At, Added, Stopped, AddedBelow}
+use Rattle.asl_backward_flow.proofs.Sets.{some_same}
+use Rattle.asl_backward_flow.proofs.Adding.{below_more, below_skip, below_end, below_stopped}
+
+abbrev pub each_back : Read → ℕ → Lock → List ℕ → ℕ → ℕ → ℕ → Lock → Type 0
+each_back r part lock pcs j p q m = (p ≡ part) × (slice_get pcs j ≡ Some q) × IsAtPoint r p q × IsLinked r p q lock m
+
+abbrev pub each_point : Read → ℕ → ℕ → ℕ → ℕ → Lock → Type 0
+each_point r part j p q m = (p ≡ part) × (q ≡ j) × IsSeed r p q m
+
+abbrev pub each_region : Read → ℕ → ℕ → ℕ → Lock → Type 0
+each_region r j p q m = (p ≡ j) × IsSeed r p q m
+
+abbrev pub each_call : Read → ℕ → Lock → ℕ → ℕ → ℕ → Lock → Type 0
+each_call r pc lock j p q m = (p ≡ j) × (q ≡ pc) × IsAtPoint r p q × IsEntered r p q lock m
+
+abbrev pub each_caller : Read → Lock → List ℕ → ℕ → ℕ → ℕ → Lock → Type 0
+each_caller r lock pcs j p q m = (slice_get pcs j ≡ Some q) × IsCalledAt r q lock p q m
+
+module _ (r : Read) (part pc : ℕ) (these : ℕ → ℕ → Lock → Type 0) where
+  -- what is at one point is so under other names of the region and the pc
+  pub to_point : (p q : ℕ) (m : Lock) → At part pc (these part pc) p q m → these p q m
+  to_point p q m h = subst (λ x. these x q m) (sym h.0) (subst (λ y. these part y m) (sym h.1) h.2)
+
+  pub from_point : (p q : ℕ) (m : Lock) → p ≡ part → q ≡ pc → these p q m → At part pc (these part pc) p q m
+  from_point p q m a b h = (a, b, subst (λ y. these part y m) b (subst (λ x. these x q m) a h))
+
+pub at_point : (r : Read) (part pc : ℕ) → IsAtPoint r part pc → (p q : ℕ) → p ≡ part → q ≡ pc → IsAtPoint r p q
+at_point r part pc point p q a b = subst (λ x. IsAtPoint r x q) (sym a) (subst (λ y. IsAtPoint r part y) (sym b) point)
+
+-- the turns over the pcs of a region
+pub points_more : (r : Read) (initial now new : Table) (part pc : ℕ) → IsAtPoint r part pc → AddedBelow r initial now (each_point r part) pc
+    → Added r now new (At part pc (IsAccessed r part pc)) → AddedBelow r initial new (each_point r part) (pc + 1)
+points_more r initial now new part pc point so x = below_more r initial now new (each_point r part) pc _
+    (λ p q m h. (h.0, h.1, (at_point r part pc point p q h.0 h.1, to_point r part pc (IsAccessed r) p q m h)))
+    (λ p q m h. from_point r part pc (IsAccessed r) p q m h.0 h.1 h.2.1) so x
+
+pub points_stopped : (r : Read) (initial now new : Table) (part pc : ℕ) (fault : AddFault) → IsAtPoint r part pc → AddedBelow r initial now (each_point r part) pc
+    → Stopped now new (At part pc (IsAccessed r part pc)) fault → Stopped initial new (IsSeedIn r part) fault
+points_stopped r initial now new part pc fault point so x = below_stopped r initial now new (each_point r part) pc _ (IsSeedIn r part) fault
+    (λ j p q m h. (h.0, h.2))
+    (λ p q m h. (h.0, (at_point r part pc point p q h.0 h.1, to_point r part pc (IsAccessed r) p q m h))) so x
+
+pub points_end : (r : Read) (initial now : Table) (part pc : ℕ) (s : Span) → slice_get r.spans part ≡ Some s → s.end ≤ pc → AddedBelow r initial now (each_point r part) pc → Added r initial now (IsSeedIn r part)
+points_end r initial now part pc s there end so = below_end r initial now (each_point r part) pc (IsSeedIn r part)
+    (λ j p q m h. (h.0, h.2))
+    (λ p q m h.
+    let same : h.1.0.0 ≡ s = some_same (sym h.1.0.1 ∙ ap (λ n. slice_get r.spans n) h.0 ∙ there) in
+    let lt = subst (λ (t : Span). q < t.end) same h.1.0.3 in
+    (q, omega (arith, lt, end), (h.0, refl, h.1))) so
+
+-- the turns over regions
+pub regions_more : (r : Read) (initial now new : Table) (part : ℕ) → AddedBelow r initial now (each_region r) part → Added r now new (IsSeedIn r part) → AddedBelow r initial new (each_region r) (part + 1)
+regions_more r initial now new part so x = below_more r initial now new (each_region r) part (IsSeedIn r part) (λ p q m h. h) (λ p q m h. h) so x
+
+pub regions_stopped : (r : Read) (initial now new : Table) (part : ℕ) (fault : AddFault) → AddedBelow r initial now (each_region r) part → Stopped now new (IsSeedIn r part) fault → Stopped initial new (IsSeed r) fault
+regions_stopped r initial now new part fault so x = below_stopped r initial now new (each_region r) part _ (IsSeed r) fault (λ j p q m h. h.1) (λ p q m h. h.1) so x
+
+pub regions_end : (r : Read) (initial now : Table) (part : ℕ) → length r.spans ≤ part → AddedBelow r initial now (each_region r) part → Added r initial now (IsSeed r)
+regions_end r initial now part end so = below_end r initial now (each_region r) part (IsSeed r) (λ j p q m h. h.1)
+    (λ p q m h. let lt = slice_get_within r.spans p h.0.0 h.0.1 in (p, omega (arith, lt, end), (refl, h))) so
+
+-- the turns over the regions that may have a call
+pub calls_more : (r : Read) (initial now new : Table) (part pc : ℕ) (lock : Lock) → IsAtPoint r part pc → AddedBelow r initial now (each_call r pc lock) part
+    → Added r now new (At part pc (IsEntered r part pc lock)) → AddedBelow r initial new (each_call r pc lock) (part + 1)
+calls_more r initial now new part pc lock point so x = below_more r initial now new (each_call r pc lock) part _
+    (λ p q m h. (h.0, h.1, at_point r part pc point p q h.0 h.1, to_point r part pc (λ a b. IsEntered r a b lock) p q m h))
+    (λ p q m h. from_point r part pc (λ a b. IsEntered r a b lock) p q m h.0 h.1 h.3) so x
+
+pub calls_skip : (r : Read) (initial now : Table) (part pc : ℕ) (lock : Lock) → ¬ IsAtPoint r part pc → AddedBelow r initial now (each_call r pc lock) part → AddedBelow r initial now (each_call r pc lock) (part + 1)
+calls_skip r initial now part pc lock not so = below_skip r initial now (each_call r pc lock) part
+    (λ p q m h. not (subst (λ x. IsAtPoint r x pc) h.0 (subst (λ y. IsAtPoint r p y) h.1 h.2))) so
+
+pub calls_stopped : (r : Read) (initial now new : Table) (part pc : ℕ) (lock : Lock) (fault : AddFault) → IsAtPoint r part pc → AddedBelow r initial now (each_call r pc lock) part
+    → Stopped now new (At part pc (IsEntered r part pc lock)) fault → Stopped initial new (IsCalledAt r pc lock) fault
+calls_stopped r initial now new part pc lock fault point so x = below_stopped r initial now new (each_call r pc lock) part _ (IsCalledAt r pc lock) fault
+    (λ j p q m h. (h.1, h.2, h.3))
+    (λ p q m h. (h.1, at_point r part pc point p q h.0 h.1, to_point r part pc (λ a b. IsEntered r a b lock) p q m h)) so x
+
+pub calls_end : (r : Read) (initial now : Table) (part pc : ℕ) (lock : Lock) → length r.spans ≤ part → AddedBelow r initial now (each_call r pc lock) part → Added r initial now (IsCalledAt r pc lock)
+calls_end r initial now part pc lock end so = below_end r initial now (each_call r pc lock) part (IsCalledAt r pc lock) (λ j p q m h. (h.1, h.2, h.3))
+    (λ p q m h. let lt = slice_get_within r.spans p h.1.0 h.1.1 in (p, omega (arith, lt, end), (refl, h.0, h.1, h.2))) so
+
+-- what is read where there is no span
+abbrev pub no_span : Span
+no_span = record { region = variant.Body 0; function = 0; first = 0; end = 0 }
+
+-- the turns over the calls of a function
+pub callers_more : (r : Read) (initial now new : Table) (j pc : ℕ) (lock : Lock) (pcs : List ℕ) → slice_get pcs j ≡ Some pc → AddedBelow r initial now (each_caller r lock pcs) j
+    → Added r now new (IsCalledAt r pc lock) → AddedBelow r initial new (each_caller r lock pcs) (j + 1)
+callers_more r initial now new j pc lock pcs at so x = below_more r initial now new (each_caller r lock pcs) j _
+    (λ p q m h. (at ∙ ap Some (sym h.0), (refl, subst (λ y. IsAtPoint r p y) refl h.1, h.2)))
+    (λ p q m h. let same : q ≡ pc = some_same (sym h.0 ∙ at) in (same, h.1.1, h.1.2)) so x
+
+pub callers_stopped : (r : Read) (initial now new : Table) (j pc : ℕ) (lock : Lock) (pcs : List ℕ) (g : ℕ) (fault : AddFault) → pcs ≡ row r.callers g → IsRead r → slice_get pcs j ≡ Some pc
+    → AddedBelow r initial now (each_caller r lock pcs) j → Stopped now new (IsCalledAt r pc lock) fault → Stopped initial new (IsAtCall r g lock) fault
+callers_stopped r initial now new j pc lock pcs g fault is read at so x = below_stopped r initial now new (each_caller r lock pcs) j _ (IsAtCall r g lock) fault
+    (λ k p q m h. ((read.callers.only g q (k, ap (λ l. slice_get l k) (sym is) ∙ h.0)).1, h.1))
+    (λ p q m h. ((read.callers.only g q (j, ap (λ l. slice_get l j) (sym is) ∙ at ∙ ap Some (sym h.0))).1, (refl, h.1, h.2))) so x
+
+pub callers_end : (r : Read) (initial now : Table) (j : ℕ) (lock : Lock) (pcs : List ℕ) (g : ℕ) → pcs ≡ row r.callers g → IsRead r → length pcs ≤ j
+    → AddedBelow r initial now (each_caller r lock pcs) j → Added r initial now (IsAtCall r g lock)
+callers_end r initial now j lock pcs g is read end so = below_end r initial now (each_caller r lock pcs) j (IsAtCall r g lock)
+    (λ k p q m h. ((read.callers.only g q (k, ap (λ l. slice_get l k) (sym is) ∙ h.0)).1, h.1))
+    (λ p q m h.
+    let at = read.callers.all g q (slice_get_within r.lowered.code q _ h.0.2) h.0 in
+    let here : slice_get pcs at.0 ≡ Some q = ap (λ l. slice_get l at.0) is ∙ at.1 in
+    let lt = slice_get_within pcs at.0 q here in
+    (at.0, omega (arith, lt, end), (here, h.1))) so
+
+-- the turns over the pcs from which control goes on to one
+pub back_more : (r : Read) (initial now new : Table) (j part q : ℕ) (lock : Lock) (pcs : List ℕ) → slice_get pcs j ≡ Some q → IsAtPoint r part q → AddedBelow r initial now (each_back r part lock pcs) j
+    → Added r now new (At part q (IsLinked r part q lock)) → AddedBelow r initial new (each_back r part lock pcs) (j + 1)
+back_more r initial now new j part q lock pcs at point so x = below_more r initial now new (each_back r part lock pcs) j _
+    (λ p y m h. (h.0, at ∙ ap Some (sym h.1), at_point r part q point p y h.0 h.1, to_point r part q (λ a b. IsLinked r a b lock) p y m h))
+    (λ p y m h. from_point r part q (λ a b. IsLinked r a b lock) p y m h.0 (some_same (sym h.1 ∙ at)) h.3) so x
+
+pub back_skip : (r : Read) (initial now : Table) (j part q : ℕ) (lock : Lock) (pcs : List ℕ) → slice_get pcs j ≡ Some q → ¬ IsAtPoint r part q → AddedBelow r initial now (each_back r part lock pcs) j
+    → AddedBelow r initial now (each_back r part lock pcs) (j + 1)
+back_skip r initial now j part q lock pcs at not so = below_skip r initial now (each_back r part lock pcs) j
+    (λ p y m h. let same : y ≡ q = some_same (sym h.1 ∙ at) in not (subst (λ x. IsAtPoint r x q) h.0 (subst (λ z. IsAtPoint r p z) same h.2))) so
+
+pub back_stopped : (r : Read) (initial now new : Table) (j part q : ℕ) (lock : Lock) (pcs : List ℕ) (pc : ℕ) (fault : AddFault) → pcs ≡ row r.predecessors pc → IsRead r → slice_get pcs j ≡ Some q → IsAtPoint r part q
+    → AddedBelow r initial now (each_back r part lock pcs) j → Stopped now new (At part q (IsLinked r part q lock)) fault → Stopped initial new (IsBack r part pc lock) fault
+back_stopped r initial now new j part q lock pcs pc fault is read at point so x = below_stopped r initial now new (each_back r part lock pcs) j _ (IsBack r part pc lock) fault
+    (λ k p y m h. (h.0, (read.predecessors.only pc y (k, ap (λ l. slice_get l k) (sym is) ∙ h.1)).1, h.2, h.3))
+    (λ p y m h. (h.0, (read.predecessors.only pc y (j, ap (λ l. slice_get l j) (sym is) ∙ at ∙ ap Some (sym h.1))).1, at_point r part q point p y h.0 h.1, to_point r part q (λ a b. IsLinked r a b lock) p y m h)) so x
+
+pub back_end : (r : Read) (initial now : Table) (j part : ℕ) (lock : Lock) (pcs : List ℕ) (pc : ℕ) → pcs ≡ row r.predecessors pc → IsRead r → length pcs ≤ j
+    → AddedBelow r initial now (each_back r part lock pcs) j → Added r initial now (IsBack r part pc lock)
+back_end r initial now j part lock pcs pc is read end so = below_end r initial now (each_back r part lock pcs) j (IsBack r part pc lock)
+    (λ k p y m h. (h.0, (read.predecessors.only pc y (k, ap (λ l. slice_get l k) (sym is) ∙ h.1)).1, h.2, h.3))
+    (λ p y m h.
+    let at = read.predecessors.all pc y (slice_get_within r.lowered.code y _ h.1.1) h.1 in
+    let here : slice_get pcs at.0 ≡ Some y = ap (λ l. slice_get l at.0) is ∙ at.1 in
+    let lt = slice_get_within pcs at.0 y here in
+    (at.0, omega (arith, lt, end), (h.0, here, h.2, h.3))) so

@@ -1,0 +1,168 @@
+-- Machinery of the proofs, not of the promise: what is needed at once, and what follows from a fact (src/step.rt).
+use Rattle.std.specs.Prelude.{◌≡◌, ◌⊎◌, ◌<◌, ◌≤◌, ℕ, Bool, List, length, map, Some, slice_get}
+use Rattle.asl_code.specs.declared.image.Function as entry
+use Rattle.asl_code.specs.declared.instr.Instr.{Instr}
+use Rattle.asl_code.specs.declared.instr.Instr.TheVariants as instr
+use Rattle.asl_code.specs.declared.lock.Lock.{Lock}
+use Rattle.asl_lower.specs.Lowered.{Lowered}
+use Rattle.asl_lower.specs.Kept.{IsKept}
+use Rattle.asl_points_to.specs.Classes.{Classed}
+use Rattle.asl_lock_expr.specs.Links.{View, IsOne, link, settle, accesses, renamed, dereferenced}
+use Rattle.asl_lock_expr.specs.Stores.{stores}
+use Rattle.asl_backward_flow.specs.declared.region.Region.TheVariants as variant
+use Rattle.asl_backward_flow.specs.declared.span.Span.{Span}
+use Rattle.asl_backward_flow.specs.declared.program.Program.{Program}
+use Rattle.asl_backward_flow.specs.declared.found.Fact.{Fact}
+use Rattle.asl_backward_flow.specs.declared.found.AddFault.{AddFault}
+use Rattle.asl_backward_flow.specs.Found.{Table, HasFact, IsName, IsWhole, IsOver, Adds, locks_of}
+use Rattle.asl_backward_flow.specs.Graph.{HasRows, IsEdge, IsCall}
+use Rattle.asl_backward_flow.specs.Needed.{Needed, view, region_of}
+use Rattle.asl_backward_flow.specs.Spans.{AreSpans}
+
+-- a program with where its regions lie and the ways into its points
+pub record Read : Type 0 where
+  pub lowered : Lowered
+  pub classes : Classed
+  pub stores : ℕ → ℕ → Bool
+  pub longest : ℕ
+  pub spans : List Span
+  pub predecessors : List (List ℕ)
+  pub callers : List (List ℕ)
+
+abbrev pub read : Program → Read
+read p = record {
+  lowered = p.lowering.now;
+  classes = p.classes.now;
+  stores = stores p.writes.now;
+  longest = p.longest;
+  spans = p.spans.now;
+  predecessors = map (λ r. r.items) p.predecessors.now;
+  callers = map (λ r. r.items) p.callers.now;
+}
+
+pub record IsRead (r : Read) : Type 0 where
+  pub short : r.longest ≤ 8
+  pub kept : IsKept r.lowered
+  pub spans : AreSpans r.lowered r.spans
+  pub predecessors : HasRows r.predecessors (IsEdge r.lowered) (length r.lowered.code)
+  pub callers : HasRows r.callers (IsCall r.lowered) (length r.lowered.code)
+
+abbrev pub seen : Read → ℕ → View
+seen r function = view r.classes r.stores r.longest function
+
+-- the pc is one of the region
+abbrev pub IsAtPoint : Read → ℕ → ℕ → Type 0
+IsAtPoint r part pc = (s : Span) × (slice_get r.spans part ≡ Some s) × (s.first ≤ pc) × (pc < s.end)
+
+-- the access at the pc needs the lock
+pub record IsAccessed (r : Read) (part pc : ℕ) (m : Lock) : Type 0 where
+  pub span : Span
+  pub there : slice_get r.spans part ≡ Some span
+  pub instruction : Instr
+  pub stands : slice_get r.lowered.code pc ≡ Some instruction
+  pub one : IsOne (accesses (seen r span.function) instruction) m
+
+-- the first lock becomes the second over the instruction at the pc
+pub record IsLinked (r : Read) (part pc : ℕ) (lock m : Lock) : Type 0 where
+  pub span : Span
+  pub there : slice_get r.spans part ≡ Some span
+  pub instruction : Instr
+  pub stands : slice_get r.lowered.code pc ≡ Some instruction
+  pub one : IsOne (link (seen r span.function) instruction lock) m
+
+-- the first lock, at the entry of the callee, becomes the second at the call at the pc
+pub record IsEntered (r : Read) (part pc : ℕ) (lock m : Lock) : Type 0 where
+  pub span : Span
+  pub there : slice_get r.spans part ≡ Some span
+  pub to : ℕ
+  pub first : ℕ
+  pub function : ℕ
+  pub callee : entry.Function
+  pub stands : slice_get r.lowered.code pc ≡ Some (instr.Call to first function)
+  pub in_table : slice_get r.lowered.functions function ≡ Some callee
+  pub passed : Lock
+  pub renames : IsOne (renamed first callee.params lock) passed
+  pub one : IsOne (settle (seen r span.function) passed) m
+
+-- these locks, at one point
+abbrev pub At : ℕ → ℕ → (Lock → Type 0) → ℕ → ℕ → Lock → Type 0
+At part pc these p q m = (p ≡ part) × (q ≡ pc) × these m
+
+-- an access at a point needs the lock
+abbrev pub IsSeed : Read → ℕ → ℕ → Lock → Type 0
+IsSeed r p q m = IsAtPoint r p q × IsAccessed r p q m
+
+abbrev pub IsSeedIn : Read → ℕ → ℕ → ℕ → Lock → Type 0
+IsSeedIn r part p q m = (p ≡ part) × IsSeed r p q m
+
+-- the second lock is a dereferenced prefix of the first, at the same point
+abbrev pub IsPrefix : ℕ → ℕ → Lock → ℕ → ℕ → Lock → Type 0
+IsPrefix part pc lock = At part pc (IsOne (dereferenced lock))
+
+-- the second lock comes by a link over an instruction from which control goes on to the pc
+abbrev pub IsBack : Read → ℕ → ℕ → Lock → ℕ → ℕ → Lock → Type 0
+IsBack r part pc lock p q m = (p ≡ part) × IsEdge r.lowered pc q × IsAtPoint r p q × IsLinked r p q lock m
+
+-- the second lock is needed at the call at the pc, at the entry of whose callee the first is needed
+abbrev pub IsCalledAt : Read → ℕ → Lock → ℕ → ℕ → Lock → Type 0
+IsCalledAt r pc lock p q m = (q ≡ pc) × IsAtPoint r p q × IsEntered r p q lock m
+
+-- the second lock is needed at a call of the function, at whose entry the first is needed
+abbrev pub IsAtCall : Read → ℕ → Lock → ℕ → ℕ → Lock → Type 0
+IsAtCall r function lock p q m = IsCall r.lowered function q × IsCalledAt r q lock p q m
+
+-- the pc is the entry of a body, and the second lock is needed at a call of its function
+pub record IsEntry (r : Read) (part pc : ℕ) (lock : Lock) (p q : ℕ) (m : Lock) : Type 0 where
+  pub body : Span
+  pub function : ℕ
+  pub there : slice_get r.spans part ≡ Some body
+  pub region : body.region ≡ variant.Body function
+  pub entry : pc ≡ body.first
+  pub call : IsAtCall r function lock p q m
+
+-- what follows at once from a fact
+abbrev pub Follows : Read → ℕ → ℕ → Lock → ℕ → ℕ → Lock → Type 0
+Follows r part pc lock p q m = IsPrefix part pc lock p q m ⊎ (IsBack r part pc lock p q m ⊎ IsEntry r part pc lock p q m)
+
+-- all these are found
+abbrev pub HasAll : Table → (ℕ → ℕ → Lock → Type 0) → Type 0
+HasAll t these = (p q : ℕ) (m : Lock) → these p q m → HasFact t p q m
+
+-- the region needs the lock there
+abbrev pub NeededAt : Read → ℕ → ℕ → Lock → Type 0
+NeededAt r p q m = (s : Span) × (slice_get r.spans p ≡ Some s) × Needed r.lowered r.classes r.stores r.longest (region_of s.region) q m
+
+-- a whole table of all regions
+pub record IsReady (r : Read) (t : Table) : Type 0 where
+  pub count : length t.locks ≡ length r.spans
+  pub whole : IsWhole t
+
+-- these are added, and nothing else
+pub record Added (r : Read) (old new : Table) (these : ℕ → ℕ → Lock → Type 0) : Type 0 where
+  pub ready : IsReady r new
+  pub has : HasAll new these
+  pub adds : Adds old new these
+
+-- some of these are added, and nothing else, until a region has too many locks or a growth is refused
+pub record Stopped (old new : Table) (these : ℕ → ℕ → Lock → Type 0) (fault : AddFault) : Type 0 where
+  pub adds : Adds old new these
+  pub over : IsOver new fault
+
+-- what a loop over numbers has added below a number
+pub record AddedBelow (r : Read) (initial now : Table) (each : ℕ → ℕ → ℕ → Lock → Type 0) (k : ℕ) : Type 0 where
+  pub ready : IsReady r now
+  pub adds : Adds initial now (λ p q m. (j : ℕ) × each j p q m)
+  pub has : (j : ℕ) → j < k → HasAll now (each j)
+
+-- the seeds are there, what follows from the facts below a number too, and all is needed
+pub record IsFollowed (r : Read) (t : Table) (next : ℕ) : Type 0 where
+  pub ready : IsReady r t
+  pub sound : (p q : ℕ) (m : Lock) → HasFact t p q m → NeededAt r p q m
+  pub names : (p : ℕ) (m : Lock) → IsName t p m → (q : ℕ) × NeededAt r p q m
+  pub seeds : HasAll t (IsSeed r)
+  pub closed : (j : ℕ) (f : Fact) (m : Lock) → j < next → slice_get t.facts j ≡ Some f → slice_get (locks_of t f.part) f.lock ≡ Some m → HasAll t (Follows r f.part f.pc m)
+
+-- a region has too many locks, each needed somewhere
+pub record Overflows (r : Read) (t : Table) (fault : AddFault) : Type 0 where
+  pub over : IsOver t fault
+  pub names : (p : ℕ) (m : Lock) → IsName t p m → (q : ℕ) × NeededAt r p q m

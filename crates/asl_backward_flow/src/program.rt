@@ -1,0 +1,25 @@
+//! A program with where its regions lie and the ways into its points.
+
+use crate::span::Span;
+use asl_lock_expr::Writes;
+use asl_lower::Lowering;
+use asl_points_to::Classes;
+
+/// What the flow backwards goes over.
+#[derive(Clone, Copy)]
+pub struct Program<'a> {
+    /// The program.
+    pub lowering: &'a Lowering,
+    /// Its classes.
+    pub classes: &'a Classes,
+    /// The classes that its functions may store to.
+    pub writes: &'a Writes,
+    /// The most operations that a path keeps, at most eight.
+    pub longest: usize,
+    /// Where its regions lie.
+    pub spans: &'a [Span],
+    /// For each pc, the pcs from which control goes on to it.
+    pub predecessors: &'a [Vec<u16>],
+    /// For each function, the pcs at which it is called.
+    pub callers: &'a [Vec<u16>],
+}
