@@ -7,6 +7,6 @@ mod Adding
 mod Points
 mod Each
 mod Chains
-mod Leasts
+pub mod Leasts
 mod Sound
 mod Closing

@@ -1,4 +1,5 @@
 pub mod Needed
+pub mod Closed
 -- machinery of the proofs
 pub mod Found
 pub mod Spans
