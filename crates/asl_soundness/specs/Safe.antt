@@ -1,0 +1,43 @@
+-- The promise: no run of an image ever faults for want of a lock (docs/SOUNDNESS.md, "The statement").
+use Rattle.std.specs.Prelude.{◌≡◌, ◌<◌, ℕ, suc, Bool, true, List, Some, slice_get, All}
+use Rattle.asl_code.specs.declared.image.Image.{Image}
+use Rattle.asl_code.specs.declared.lock.Lock.{Lock}
+use Rattle.asl_lower.specs.declared.section.Section.{Section}
+use Rattle.asl_lower.specs.Lowered.{Lowered}
+use Rattle.asl_lower.specs.Regions.{Region, Inside}
+use Rattle.asl_lower.specs.Kept.{IsKept}
+use Rattle.asl_points_to.specs.Classes.{Classed}
+use Rattle.asl_lock_expr.specs.ClassOf.{MayStore}
+use Rattle.asl_lock_expr.specs.Links.{IsOne}
+use Rattle.asl_backward_flow.specs.Closed.{Family, IsClosed}
+use Rattle.asl_machine.specs.declared.fault.Fault.TheVariants as fault
+use Rattle.asl_machine.specs.declared.reply.Reply.{Reply}
+use Rattle.asl_machine.specs.declared.reply.Reply.TheVariants as reply
+use Rattle.asl_machine.specs.Run.{start_of, replies_of}
+use Rattle.asl_soundness.specs.Coded.{IsImageOf}
+use Rattle.asl_soundness.specs.Protected.{LockThere}
+use Rattle.asl_soundness.specs.Over.{StandsOver}
+
+-- a reply that is no fault for want of a lock, for leaving a section that was not entered, or for one that was left open
+abbrev pub IsSafe : Reply → Type 0
+IsSafe (reply.Fault (fault.Unprotected cell effect)) = ⊥
+IsSafe (reply.Fault fault.NoSection) = ⊥
+IsSafe (reply.Fault fault.Open) = ⊥
+IsSafe r = Unit {0}
+
+-- with any number of threads, and in any order of their steps, each reply is safe
+abbrev pub NeverUnprotected : Image → Type 0
+NeverUnprotected image =
+    (count : ℕ) (schedule : List ℕ) → All (λ t. t < count) schedule → All IsSafe (replies_of image (start_of image count) schedule)
+
+-- the image of a lowering, with legal classes, whose lists stand over a closed family of locks: over all that the family has
+-- behind the `acq` of the section; the written classes are those that functions may store to, or more; and each lock of the
+-- family begins on a register, or on a global that is there
+pub record IsAnalysed (l : Lowered) (c : Classed) (stores : ℕ → ℕ → Bool) (longest : ℕ) (K : Family) (image : Image) : Type 0 where
+  pub kept : IsKept l
+  pub made : IsImageOf l c image
+  pub closed : IsClosed l c stores longest K
+  pub based : (r : Region) (pc : ℕ) (n : Lock) → K r pc n → LockThere c n
+  pub told : (function class : ℕ) → MayStore l c function class → stores function class ≡ true
+  pub lists : (section : ℕ) (s : Section) (list : List Lock) (n : Lock) → slice_get l.sections section ≡ Some s → slice_get image.lists section ≡ Some list →
+      K (Inside section) (suc s.acquire) n → (m : Lock) × IsOne list m × StandsOver c s.function m n
