@@ -1,0 +1,5 @@
+pub mod Same
+pub mod Reducing
+pub mod Absorbing
+pub mod Covering
+pub mod Fits

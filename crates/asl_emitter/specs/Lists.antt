@@ -1,0 +1,86 @@
+-- The lists of locks that sections ask for: which lock does in place of another, what of a set is left, and the short list to
+-- which a set is fitted (docs/ANALYSIS.md, "Lists").
+use Rattle.std.specs.Prelude.{◌≡◌, ◌≢◌, ◌<◌, ◌≤◌, ◌⊎◌, ℕ, Bool, true, false, IsTrue, List, [], ◌∷◌, length, Some}
+use Rattle.asl_code.specs.declared.value.Effect.{Effect}
+use Rattle.asl_code.specs.declared.value.Effect.TheVariants.{Read, Write}
+use Rattle.asl_code.specs.declared.lock.Lock.{Lock}
+use Rattle.asl_code.specs.declared.lock.Lock.TheVariants as lock
+use Rattle.asl_points_to.specs.Classes.{Classed}
+use Rattle.asl_lock_expr.specs.ClassOf.{class_of}
+use Rattle.asl_lock_expr.specs.Links.{IsOne, class_lock}
+use Rattle.asl_lock_expr.specs.Order.{AreInOrder}
+
+-- the first effect is at least as strong as the second
+abbrev pub covers_effect : Effect → Effect → Bool
+covers_effect Write other = true
+covers_effect Read Read = true
+covers_effect Read Write = false
+
+-- in a function the first lock does in place of the second: it is on the same class or the same expression, or on the class of
+-- the expression, and its effect is at least as strong
+abbrev pub DoesFor : Classed → ℕ → Lock → Lock → Type 0
+DoesFor c f (lock.Class x effect) (lock.Class y other) = (x ≡ y) × IsTrue (covers_effect effect other)
+DoesFor c f (lock.Class x effect) (lock.Expr e other) = (class_of c f e ≡ Some x) × IsTrue (covers_effect effect other)
+DoesFor c f (lock.Expr a effect) (lock.Expr b other) = (a ≡ b) × IsTrue (covers_effect effect other)
+DoesFor c f a b = ⊥
+
+-- a lock absorbs another, different one
+pub record Absorbs (c : Classed) (f : ℕ) (a b : Lock) : Type 0 where
+  pub different : a ≢ b
+  pub does : DoesFor c f a b
+
+-- a set of locks
+abbrev pub Locks : Type 1
+Locks = Lock → Type 0
+
+-- no lock of the set absorbs this one
+abbrev pub IsFree : Classed → ℕ → Locks → Lock → Type 0
+IsFree c f given a = (b : Lock) → given b → ¬ Absorbs c f b a
+
+-- the reduced list of a set: the locks of the set that no other of it absorbs, in order, each once
+pub record IsReduced (c : Classed) (f : ℕ) (given : Locks) (list : List Lock) : Type 0 where
+  pub order : AreInOrder list
+  pub kept : (a : Lock) → IsOne list a → given a × IsFree c f given a
+  pub all : (a : Lock) → given a → IsFree c f given a → IsOne list a
+
+-- an expression becomes its class, and one without a class is dropped; every other lock stays
+abbrev pub as_class : Classed → ℕ → Lock → List Lock
+as_class c f (lock.Root effect) = lock.Root effect ∷ []
+as_class c f (lock.Class class effect) = lock.Class class effect ∷ []
+as_class c f (lock.Expr e effect) = class_lock effect (class_of c f e)
+
+-- what the locks of a list become so
+abbrev pub AsClasses : Classed → ℕ → List Lock → Locks
+AsClasses c f list a = (b : Lock) × IsOne list b × IsOne (as_class c f b) a
+
+abbrev pub effect_of : Lock → Effect
+effect_of (lock.Root effect) = effect
+effect_of (lock.Class class effect) = effect
+effect_of (lock.Expr e effect) = effect
+
+-- the stronger of two effects, and the strongest of a list of locks
+abbrev pub stronger : Effect → Effect → Effect
+stronger Write other = Write
+stronger Read other = other
+
+abbrev pub strongest : List Lock → Effect
+strongest [] = Read
+strongest (a ∷ rest) = stronger (effect_of a) (strongest rest)
+
+-- the last step: a list of at most so many locks is as it was, and of a longer one there is one lock on the root
+abbrev pub IsRootFor : ℕ → List Lock → List Lock → Type 0
+IsRootFor most coarse list =
+    ((length coarse ≤ most) × (list ≡ coarse)) ⊎ ((most < length coarse) × (list ≡ lock.Root (strongest coarse) ∷ []))
+
+-- the step before it: the locks of the list become classes, which are reduced
+pub record IsCoarse (c : Classed) (f most : ℕ) (fine list : List Lock) : Type 0 where
+  pub coarse : List Lock
+  pub reduced : IsReduced c f (AsClasses c f fine) coarse
+  pub is : IsRootFor most coarse list
+
+-- the fitted list of a set, for at most so many locks: the reduced list where it is short enough, else its classes where
+-- these are few enough, else the root
+pub record IsFitted (c : Classed) (f most : ℕ) (given : Locks) (list : List Lock) : Type 0 where
+  pub fine : List Lock
+  pub reduced : IsReduced c f given fine
+  pub is : ((length fine ≤ most) × (list ≡ fine)) ⊎ ((most < length fine) × IsCoarse c f most fine list)

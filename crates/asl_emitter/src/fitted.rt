@@ -1,0 +1,95 @@
+//! Lists of at most 64 locks.
+ghost use Rattle.std.specs.Prelude.{◌≡◌, ◌<◌, IfOk, length};
+ghost use Rattle.std.specs.List.{flat_map};
+ghost use Rattle.asl_lock_expr.specs.Links.{IsOne};
+ghost use Rattle.asl_emitter.specs.Lists.{IsFitted, IsCoarse, as_class, effect_of, strongest};
+
+use crate::reduced::reduce;
+use asl_code::{Effect, Lock};
+use asl_lock_expr::class_of;
+use asl_points_to::Classes;
+use std::alloc::{AllocError, Global};
+
+/// The most locks that a list may have.
+pub const MOST_LOCKS: usize = 64;
+
+/// The locks of a function fitted to a list of at most 64: reduced; where more are left, their classes, reduced; where more
+/// are left still, one lock on the root with the strongest effect (`docs/ANALYSIS.md`, "Lists").
+pub fn fit(
+    alloc: Global,
+    classes: &Classes,
+    function: u16,
+    given: &[Lock],
+) -> Result<Vec<Lock>, AllocError>
+    ensures { IfOk result (λ v. IsFitted classes.now function 64 (IsOne given.now) v.items) }
+{
+    let fine = reduce(alloc, classes, function, given)?;
+    if fine.len() <= MOST_LOCKS {
+        return Ok(fine);
+    }
+    coarsen(alloc, classes, function, &fine)
+}
+
+/// The classes of the locks, reduced; where more than 64 are left, one lock on the root with the strongest effect.
+fn coarsen(
+    alloc: Global,
+    classes: &Classes,
+    function: u16,
+    fine: &[Lock],
+) -> Result<Vec<Lock>, AllocError>
+    ensures { IfOk result (λ v. IsCoarse classes.now function 64 fine.now v.items) }
+{
+    let coarse = as_classes(alloc, classes, function, fine)?;
+    let coarse = reduce(alloc, classes, function, &coarse)?;
+    if coarse.len() <= MOST_LOCKS {
+        return Ok(coarse);
+    }
+    let mut root = Vec::new(alloc);
+    root.push(Lock::Root(strongest(&coarse)))?;
+    Ok(root)
+}
+
+/// The classes of the expressions that have one, and the other locks as they are.
+fn as_classes(
+    alloc: Global,
+    classes: &Classes,
+    function: u16,
+    fine: &[Lock],
+) -> Result<Vec<Lock>, AllocError>
+    ensures { IfOk result (λ v. v.items ≡ flat_map (as_class classes.now function) fine.now) }
+{
+    let mut coarse = Vec::new(alloc);
+    for lock in fine {
+        match lock {
+            Lock::Root(effect) => coarse.push(Lock::Root(*effect))?,
+            Lock::Class(class, effect) => coarse.push(Lock::Class(*class, *effect))?,
+            Lock::Expr(expr, effect) => {
+                if let Some(class) = class_of(classes, function, expr) {
+                    coarse.push(Lock::Class(class, *effect))?;
+                }
+            }
+        }
+    }
+    Ok(coarse)
+}
+
+/// The effect of a lock.
+fn effect_of(lock: &Lock) -> Effect
+    ensures { result ≡ effect_of lock.now }
+{
+    match lock {
+        Lock::Root(effect) | Lock::Class(_, effect) | Lock::Expr(_, effect) => *effect,
+    }
+}
+
+/// The strongest effect of the locks.
+fn strongest(locks: &[Lock]) -> Effect
+    ensures { result ≡ strongest locks.now }
+{
+    for lock in locks {
+        if effect_of(lock) == Effect::Write {
+            return Effect::Write;
+        }
+    }
+    Effect::Read
+}

@@ -1,0 +1,31 @@
+//! Laws of lists of locks, as functions that do nothing: what each ensures is the law.
+ghost use Rattle.std.specs.Prelude.{◌≡◌, ◌<◌, ◌≤◌, ◌⊎◌, ◌↔◌, ℕ, List, length};
+ghost use Rattle.asl_code.specs.declared.lock.Lock.{Lock as AnyLock};
+ghost use Rattle.asl_points_to.specs.Classes.{Classed};
+ghost use Rattle.asl_lock_expr.specs.Links.{IsOne};
+ghost use Rattle.asl_emitter.specs.Lists.{Absorbs, IsReduced, IsFitted};
+ghost use Rattle.asl_emitter.specs.Standing.{StandsOver, HasClass};
+
+/// Absorbing is a strict order, so each lock of a set is kept or absorbed by one that is kept.
+pub fn absorbing_is_a_strict_order()
+    ensures irreflexive { (c : Classed) (f : ℕ) (a : AnyLock) → ¬ Absorbs c f a a }
+    ensures transitive { (c : Classed) (f : ℕ) (x y z : AnyLock) → Absorbs c f x y → Absorbs c f y z → Absorbs c f x z }
+    ensures kept { (c : Classed) (f : ℕ) (given list : List AnyLock) → IsReduced c f (IsOne given) list → (a : AnyLock) → IsOne given a
+        → IsOne list a ⊎ ((m : AnyLock) × IsOne list m × Absorbs c f m a) }
+{}
+
+/// The reduced list and the fitted list of a set are one list each, which depends on the set alone, and a fitted list is
+/// short.
+pub fn lists_depend_on_the_set_alone()
+    ensures reduced { (c : Classed) (f : ℕ) (given other xs ys : List AnyLock) → ((a : AnyLock) → IsOne given a ↔ IsOne other a)
+        → IsReduced c f (IsOne given) xs → IsReduced c f (IsOne other) ys → xs ≡ ys }
+    ensures fitted { (c : Classed) (f most : ℕ) (given other xs ys : List AnyLock) → ((a : AnyLock) → IsOne given a ↔ IsOne other a)
+        → IsFitted c f most (IsOne given) xs → IsFitted c f most (IsOne other) ys → xs ≡ ys }
+    ensures short { (c : Classed) (f most : ℕ) (given list : List AnyLock) → 0 < most → IsFitted c f most (IsOne given) list → length list ≤ most }
+{}
+
+/// Who holds what a fitted list asks for is protected for each lock of the set that has a class.
+pub fn fitted_lists_stand_over_their_sets()
+    ensures { (c : Classed) (f most : ℕ) (given list : List AnyLock) → IsFitted c f most (IsOne given) list → (a : AnyLock)
+        → IsOne given a → HasClass c f a → (m : AnyLock) × IsOne list m × StandsOver c f m a }
+{}

@@ -1,0 +1,13 @@
+//! Lock lists, and the image that is inferred for a program.
+#![tactic(auto)]
+
+mod absorb;
+mod fitted;
+mod laws;
+mod reduced;
+
+pub use fitted::{MOST_LOCKS, fit};
+pub use laws::{
+    absorbing_is_a_strict_order, fitted_lists_stand_over_their_sets, lists_depend_on_the_set_alone,
+};
+pub use reduced::reduce;

@@ -1,0 +1,35 @@
+//! What is left of a set of locks once each that another absorbs is taken out.
+ghost use Rattle.std.specs.Prelude.{◌≡◌, IfOk};
+ghost use Rattle.asl_lock_expr.specs.Links.{IsOne};
+ghost use Rattle.asl_emitter.specs.Lists.{IsReduced};
+
+use crate::absorb::is_free;
+use asl_code::Lock;
+use asl_lock_expr::add_in_order;
+use asl_points_to::Classes;
+use std::alloc::{AllocError, Global};
+
+/// The locks of a function that no other of them absorbs, each once, in order (`docs/ANALYSIS.md`, "Lists").
+pub fn reduce(
+    alloc: Global,
+    classes: &Classes,
+    function: u16,
+    given: &[Lock],
+) -> Result<Vec<Lock>, AllocError>
+    ensures { IfOk result (λ v. IsReduced classes.now function (IsOne given.now) v.items) }
+{
+    let mut reduced = Vec::new(alloc);
+    for lock in given {
+        if is_free(classes, function, given, lock) {
+            add_in_order(&mut reduced, copied(lock)?)?;
+        }
+    }
+    Ok(reduced)
+}
+
+/// The same lock.
+fn copied(lock: &Lock) -> Result<Lock, AllocError>
+    ensures { IfOk result (λ copy. copy ≡ lock.now) }
+{
+    lock.clone()
+}
