@@ -1,0 +1,14 @@
+pub mod Protecting
+pub mod Rows
+pub mod Stored
+pub mod Grown
+pub mod Standing
+pub mod Agreeing
+pub mod Faults
+pub mod Agreement
+pub mod Owning
+pub mod Nesting
+pub mod NestingLines
+pub mod Stepping
+pub mod Structure
+pub mod StructureLaws
