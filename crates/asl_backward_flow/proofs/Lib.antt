@@ -10,3 +10,7 @@ mod Chains
 pub mod Leasts
 mod Sound
 mod Closing
+mod Completing
+mod Tellings
+mod Grouping
+mod Listing

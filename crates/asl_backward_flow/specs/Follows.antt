@@ -166,3 +166,9 @@ pub record IsFollowed (r : Read) (t : Table) (next : ℕ) : Type 0 where
 pub record Overflows (r : Read) (t : Table) (fault : AddFault) : Type 0 where
   pub over : IsOver t fault
   pub names : (p : ℕ) (m : Lock) → IsName t p m → (q : ℕ) × NeededAt r p q m
+
+-- what is needed is found, and nothing else
+pub record IsAll (r : Read) (t : Table) : Type 0 where
+  pub ready : IsReady r t
+  pub sound : (p q : ℕ) (m : Lock) → HasFact t p q m → NeededAt r p q m
+  pub full : (p q : ℕ) (m : Lock) → NeededAt r p q m → HasFact t p q m

@@ -1,5 +1,5 @@
 -- Machinery of the proofs, not of the promise: what has been found so far (src/found.rt).
-use Rattle.std.specs.Prelude.{◌≡◌, ◌⊎◌, ◌+◌, ◌<◌, ◌≤◌, ℕ, List, [], Some, map, length, slice_get, unwrap_or}
+use Rattle.std.specs.Prelude.{◌≡◌, ◌⊎◌, ◌+◌, ◌<◌, ◌≤◌, ℕ, List, [], Some, map, length, slice_get, unwrap_or, replicate}
 use Rattle.asl_code.specs.declared.lock.Lock.{Lock}
 use Rattle.asl_lock_expr.specs.Links.{IsOne}
 use Rattle.asl_backward_flow.specs.declared.found.Fact.{Fact}
@@ -14,6 +14,11 @@ pub record Table : Type 0 where
 
 abbrev pub table : Found → Table
 table f = record { locks = map (λ s. s.keys) f.locks.items; facts = f.facts.keys }
+
+-- nothing is found of so many regions
+pub record IsBlank (t : Table) (count : ℕ) : Type 0 where
+  pub locks : t.locks ≡ replicate count []
+  pub facts : t.facts ≡ []
 
 -- the value stands somewhere in the list
 abbrev pub IsAt : {A : Type 0} → List A → A → Type 0

@@ -1,7 +1,9 @@
 pub mod Needed
 pub mod Closed
+pub mod Flows
 -- machinery of the proofs
 pub mod Found
 pub mod Spans
 pub mod Graph
 pub mod Follows
+pub mod Parts

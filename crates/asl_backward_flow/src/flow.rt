@@ -28,7 +28,7 @@ fn follow_next(
 }
 
 /// Adds what follows from each fact, those that are added on the way too.
-fn follow_all(alloc: Global, program: &Program, found: &mut Found) -> Result<(), AddFault>
+pub fn follow_all(alloc: Global, program: &Program, found: &mut Found) -> Result<(), AddFault>
     requires program { IsRead (read program.now) }
     requires followed { IsFollowed (read program.now) (table found.old) 0 }
     ensures ok { OnOk result (IsFollowed (read program.now) (table found.new) (length (table found.new).facts)) }

@@ -2,11 +2,11 @@
 ghost use Rattle.std.specs.Prelude.{◌≡◌, ◌⊎◌, ◌+◌, ◌<◌, ◌≤◌, ℕ, Some, length, slice_get, vec_len, IfOk, OnOk, IfErr};
 ghost use Rattle.asl_code.specs.declared.lock.Lock.{Lock};
 ghost use Rattle.asl_lock_expr.specs.Links.{IsOne};
-ghost use Rattle.asl_backward_flow.specs.Found.{table, IsAt, HasFact, IsWhole, IsOver, Adds, Numbers, Holds};
+ghost use Rattle.asl_backward_flow.specs.Found.{table, IsBlank, IsAt, HasFact, IsWhole, IsOver, Adds, Numbers, Holds};
 
 use asl_code::Lock;
 use indexmap::IndexSet;
-use std::alloc::AllocError;
+use std::alloc::{AllocError, Global};
 use std::convert::From;
 
 /// The most locks that a region may need.
@@ -67,6 +67,20 @@ fn insert(facts: &mut IndexSet<Fact>, fact: Fact) -> Result<(), AllocError>
 }
 
 impl Found {
+    /// Nothing found of so many regions.
+    pub fn new(alloc: Global, regions: usize) -> Result<Found, AllocError>
+        ensures { IfOk result (λ found. IsBlank (table found) regions) }
+    {
+        let mut locks = Vec::new(alloc);
+        for _ in 0..regions {
+            locks.push(IndexSet::new(alloc))?;
+        }
+        Ok(Found {
+            locks,
+            facts: IndexSet::new(alloc),
+        })
+    }
+
     /// Adds that a region needs a lock at a pc.
     pub fn add(&mut self, part: u16, pc: u16, lock: Lock) -> Result<(), AddFault>
         requires there { part < vec_len self.old.locks }

@@ -31,7 +31,8 @@ fn add_to_row(rows: &mut Vec<Vec<u16>>, number: usize, pc: u16) -> Result<(), Al
 
 /// For each pc, the pcs from which control goes on to it.
 pub fn predecessors(alloc: Global, lowering: &Lowering) -> Result<Vec<Vec<u16>>, AllocError>
-    ensures { IfOk result (λ rows. HasRows (map (λ r. r.items) rows.items) (IsEdge lowering.now) (length lowering.now.code)) }
+    ensures kept { IsKept lowering.now }
+    ensures rows { IfOk result (λ rows. HasRows (map (λ r. r.items) rows.items) (IsEdge lowering.now) (length lowering.now.code)) }
 {
     let count = lowering.code().len();
     let mut rows = empty_rows(alloc, count)?;

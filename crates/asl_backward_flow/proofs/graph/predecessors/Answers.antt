@@ -12,8 +12,8 @@ loop-pc-init c = (
 pub loop-pc-preserved : goal.loop-pc-preserved
 loop-pc-preserved c = (c.in_ok-add_edges.ensures.rows, (let was = c.loop-pc.invariant.1 in let count = c.in_ok-add_edges.ensures.count in omega (arith, was, count)))
 
-pub returns : goal.returns
-returns c =
+pub returns-clause-rows : goal.returns-clause-rows
+returns-clause-rows c =
     let end = c.loop-pc-test.false in
     let at = c.loop-pc.auto.pc-end in
     let same = ap length c.code-count.ensures.code in

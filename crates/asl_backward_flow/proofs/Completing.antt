@@ -1,0 +1,172 @@
+-- All that is needed is found: what is found is a closed family.
+use Rattle.std.proofs.Common.{◌≡◌, ⊎_elim, ℕ, ◌≤◌, arith, List, [], Some, length, slice_get, replicate, unwrap_or, refl, ap, sym, subst, ◌∙◌, inl, inr, zero, suc}
+use Rattle.std.proofs.lemmas.Option.{slice_get_within}
+use Rattle.asl_code.specs.declared.image.Function as entry
+use Rattle.asl_code.specs.declared.instr.Instr.{Instr}
+use Rattle.asl_code.specs.declared.instr.Instr.TheVariants as instr
+use Rattle.asl_code.specs.declared.lock.Lock.{Lock}
+use Rattle.asl_lower.specs.Region.{GoesOn, start_of}
+use Rattle.asl_lower.specs.Regions.{Region, Body, Inside, IsIn}
+use Rattle.asl_lock_expr.specs.Links.{IsOne, link, accesses, settle, renamed, dereferenced}
+use Rattle.asl_backward_flow.specs.declared.region.Region as code
+use Rattle.asl_backward_flow.specs.declared.region.Region.TheVariants as variant
+use Rattle.asl_backward_flow.specs.declared.found.AddFault.{AddFault}
+use Rattle.asl_backward_flow.specs.declared.found.AddFault.TheVariants.{OutOfMemory}
+use Rattle.asl_backward_flow.specs.declared.found.Fact.{Fact}
+use Rattle.asl_backward_flow.specs.declared.span.Span.{Span}
+use Rattle.asl_backward_flow.specs.Needed.{Needed, Accessed, Linked, Entered, Before, region_of}
+use Rattle.asl_backward_flow.specs.Closed.{Family, IsClosed}
+use Rattle.asl_backward_flow.specs.Found.{Table, HasFact, IsName, IsBlank, fact}
+use Rattle.asl_backward_flow.specs.Follows.{Read, IsRead, IsReady, seen, IsAtPoint, IsSeed, Follows, Added, Stopped, IsFollowed, Overflows, IsAll}
+use Rattle.asl_backward_flow.proofs.Leasts.{needed_inside, needed_least}
+use Rattle.asl_backward_flow.proofs.Sound.{seed_needed}
+
+abbrev number_of : Region → ℕ
+number_of (Body g) = g
+number_of (Inside n) = n
+
+body_named : (x : code.Region) (g : ℕ) → region_of x ≡ Body g → x ≡ variant.Body g
+body_named (variant.Body h) g e = ap variant.Body (ap number_of e)
+body_named (variant.Section n) g e = absurd cc
+
+module _ (r : Read) (read : IsRead r) (t : Table) (so : IsFollowed r t (length t.facts)) where
+  abbrev Is : Region → ℕ → Lock → Type 0
+  Is region q m = Needed r.lowered r.classes r.stores r.longest region q m
+
+  -- the lock is needed, and each span of the region has the fact
+  abbrev FoundToo : Family
+  FoundToo region q m = Is region q m × ((p : ℕ) (s : Span) → slice_get r.spans p ≡ Some s → region_of s.region ≡ region → HasFact t p q m)
+
+  follow : (p q : ℕ) (m : Lock) (x y : ℕ) (n : Lock) → HasFact t p q m → Follows r p q m x y n → HasFact t x y n
+  follow p q m x y n has f = so.closed has.1.0 (fact p q has.0) m (slice_get_within t.facts has.1.0 _ has.1.1) has.1.1 has.2 x y n f
+
+  point : (region : Region) (f pc p : ℕ) (s : Span) → IsIn r.lowered region f pc → slice_get r.spans p ≡ Some s → region_of s.region ≡ region → (f ≡ s.function) × IsAtPoint r p pc
+  point region f pc p s isin there e = let at = (read.spans.each p s there).points f pc (subst (λ x. IsIn r.lowered x f pc) (sym e) isin) in (at.0, (s, there, at.1, at.2))
+
+  found_accessed : (region : Region) (f pc : ℕ) (i : Instr) (n : Lock) → IsIn r.lowered region f pc → slice_get r.lowered.code pc ≡ Some i → IsOne (accesses (seen r f) i) n
+      → (p : ℕ) (s : Span) → slice_get r.spans p ≡ Some s → region_of s.region ≡ region → HasFact t p pc n
+  found_accessed region f pc i n isin at o p s there e =
+      let here = point region f pc p s isin there e in
+      so.seeds p pc n (here.1, record { span = s; there = there; instruction = i; stands = at; one = subst (λ g. IsOne (accesses (seen r g) i) n) here.0 o })
+
+  found_linked : (region : Region) (f pc next : ℕ) (i : Instr) (m n : Lock) → IsIn r.lowered region f pc → slice_get r.lowered.code pc ≡ Some i → GoesOn i pc next
+      → FoundToo region next m → IsOne (link (seen r f) i m) n → (p : ℕ) (s : Span) → slice_get r.spans p ≡ Some s → region_of s.region ≡ region → HasFact t p pc n
+  found_linked region f pc next i m n isin at goes k o p s there e =
+      let here = point region f pc p s isin there e in
+      follow p next m p pc n (k.1 p s there e)
+      (inr (inl (refl, (i, at, goes), here.1, record { span = s; there = there; instruction = i; stands = at; one = subst (λ g. IsOne (link (seen r g) i m) n) here.0 o })))
+
+  found_entered : (region : Region) (f pc to first g : ℕ) (callee : entry.Function) (m passed n : Lock) → IsIn r.lowered region f pc
+      → slice_get r.lowered.code pc ≡ Some (instr.Call to first g) → slice_get r.lowered.functions g ≡ Some callee
+      → FoundToo (Body g) (start_of r.lowered.functions g) m → IsOne (renamed first callee.params m) passed → IsOne (settle (seen r f) passed) n
+      → (p : ℕ) (s : Span) → slice_get r.spans p ≡ Some s → region_of s.region ≡ region → HasFact t p pc n
+  found_entered region f pc to first g callee m passed n isin at in_table k renames o p s there e =
+      let here = point region f pc p s isin there e in
+      let inside = needed_inside r.lowered r.classes r.stores r.longest (Body g) (start_of r.lowered.functions g) m k.0 in
+      let body = read.spans.all (Body g) inside.0 (start_of r.lowered.functions g) inside.1 in
+      let named : body.1.region ≡ variant.Body g = body_named body.1.region g body.3 in
+      follow body.0 (start_of r.lowered.functions g) m p pc n (k.1 body.0 body.1 body.2 body.3)
+      (inr (inr (record {
+        body = body.1;
+        function = g;
+        there = body.2;
+        region = named;
+        entry = sym ((read.spans.each body.0 body.1 body.2).entry g named);
+        call = (
+          (to, first, at),
+          (
+            refl,
+            here.1,
+            record {
+              span = s;
+              there = there;
+              to = to;
+              first = first;
+              function = g;
+              callee = callee;
+              stands = at;
+              in_table = in_table;
+              passed = passed;
+              renames = renames;
+              one = subst (λ h. IsOne (settle (seen r h) passed) n) here.0 o;
+            },
+          ),
+        );
+      })))
+
+  found_before : (region : Region) (pc : ℕ) (m n : Lock) → FoundToo region pc m → IsOne (dereferenced m) n → (p : ℕ) (s : Span) → slice_get r.spans p ≡ Some s → region_of s.region ≡ region → HasFact t p pc n
+  found_before region pc m n k o p s there e = follow p pc m p pc n (k.1 p s there e) (inl (refl, refl, o))
+
+  found_closed : IsClosed r.lowered r.classes r.stores r.longest FoundToo
+  found_closed = record {
+    accessed = λ region f pc i n isin at o. (Accessed region f pc i n isin at o, found_accessed region f pc i n isin at o);
+    linked = λ region f pc next i m n isin at goes k o. (Linked region f pc next i m n isin at goes k.0 o, found_linked region f pc next i m n isin at goes k o);
+    entered = λ region f pc to first g callee m p n isin at there k o q. (Entered region f pc to first g callee m p n isin at there k.0 o q, found_entered region f pc to first g callee m p n isin at there k o q);
+    before = λ region pc m n k o. (Before region pc m n k.0 o, found_before region pc m n k o);
+  }
+
+  pub all_found : IsAll r t
+  all_found = record {
+    ready = so.ready;
+    sound = so.sound;
+    full = λ p q m n. (needed_least r.lowered r.classes r.stores r.longest FoundToo found_closed (region_of n.0.region) q m n.2).1 p n.0 n.1 refl;
+  }
+
+nothing_blank : (count p n : ℕ) (m : Lock) → slice_get (unwrap_or (slice_get (replicate {A = List Lock} count []) p) []) n ≡ Some m → ⊥
+nothing_blank zero p n m e = cc
+nothing_blank (suc count) zero n m e = cc
+nothing_blank (suc count) (suc p) n m e = nothing_blank count p n m e
+
+no_name : (t : Table) (count : ℕ) → IsBlank t count → (p : ℕ) (m : Lock) → IsName t p m → ⊥
+no_name t count blank p m at = nothing_blank count p at.0 m (ap (λ l. slice_get (unwrap_or (slice_get l p) []) at.0) (sym blank.locks) ∙ at.1)
+
+no_fact : (t : Table) (count : ℕ) → IsBlank t count → (p q : ℕ) (m : Lock) → HasFact t p q m → ⊥
+no_fact t count blank p q m has = no_name t count blank p m (has.0, has.2)
+
+few_blank : (count p : ℕ) → length (unwrap_or (slice_get (replicate {A = List Lock} count []) p) []) ≤ 4096
+few_blank zero p = omega arith
+few_blank (suc count) zero = omega arith
+few_blank (suc count) (suc p) = few_blank count p
+
+many_blank : (count : ℕ) → length (replicate {A = List Lock} count []) ≡ count
+many_blank zero = refl
+many_blank (suc count) = ap suc (many_blank count)
+
+pub blank_ready : (r : Read) (t : Table) (count : ℕ) → count ≡ length r.spans → IsBlank t count → IsReady r t
+blank_ready r t count same blank = record {
+  count = ap length blank.locks ∙ many_blank count ∙ same;
+  whole = record {
+    valid = λ n f at. absurd (none n f (ap (λ fs. slice_get fs n) (sym blank.facts) ∙ at));
+    apart = λ p m n a at_m at_n. absurd (no_name t count blank p a (m, at_m));
+    few = λ p. subst (λ l. length (unwrap_or (slice_get l p) []) ≤ 4096) (sym blank.locks) (few_blank count p);
+  };
+}
+  where
+    none : (n : ℕ) (f : Fact) → slice_get {X = Fact} [] n ≡ Some f → ⊥
+    none n f e = cc
+
+-- with the seeds alone nothing is followed yet
+pub followed_begin : (r : Read) (t new : Table) (count : ℕ) → IsRead r → IsBlank t count → Added r t new (IsSeed r) → IsFollowed r new 0
+followed_begin r t new count read blank x = record {
+  ready = x.ready;
+  sound = λ p q m h. ⊎_elim (λ o. absurd (no_fact t count blank p q m o)) (λ k. seed_needed r read p q m k) (x.adds.only.facts p q m h);
+  names = λ p m h. ⊎_elim (λ o. absurd (no_name t count blank p m o)) (λ k. (k.0, seed_needed r read p k.0 m k.1)) (x.adds.only.names p m h);
+  seeds = x.has;
+  closed = λ j f m lt. absurd (omega (arith, lt));
+}
+
+pub seeds_over : (r : Read) (t new : Table) (count : ℕ) (fault : AddFault) → IsRead r → IsBlank t count → Stopped t new (IsSeed r) fault → (x : Table) × Overflows r x fault
+seeds_over r t new count fault read blank x = (
+  new,
+  record {
+    over = x.over;
+    names = λ p m h. ⊎_elim (λ o. absurd (no_name t count blank p m o)) (λ k. (k.0, seed_needed r read p k.0 m k.1)) (x.adds.only.names p m h);
+  },
+)
+
+-- a growth was refused before anything was found
+pub refused_at_first : (r : Read) (fault : AddFault) → fault ≡ OutOfMemory → (t : Table) × Overflows r t fault
+refused_at_first r fault is = subst (λ f. (t : Table) × Overflows r t f) (sym is) (record { locks = []; facts = [] }, record { over = tt; names = λ p m h. absurd (none p h.0 m h.1) })
+  where
+    none : (p n : ℕ) (m : Lock) → slice_get (unwrap_or (slice_get {X = List Lock} [] p) []) n ≡ Some m → ⊥
+    none p n m e = cc

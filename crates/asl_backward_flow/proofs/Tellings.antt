@@ -1,0 +1,136 @@
+-- Parts tell what is found.
+use Rattle.std.proofs.Common.{◌≡◌, ◌≢◌, ◌⊎◌, ⊎_elim, ℕ, ◌<◌, ◌≤◌, List, [], Some, length, slice_get, get_or, ap, sym, subst, ◌∙◌, inl, inr, arith, Result, Ok, Err, IfOk}
+use Rattle.std.specs.List.{AllPairs}
+use Rattle.std.proofs.lemmas.Option.{slice_get_within, slice_get-get_or}
+use Rattle.indexmap.proofs.IndexTableLemmas.Probe.{pigeonhole}
+use Rattle.std.proofs.lemmas.Bool.{cases_lt}
+use Rattle.asl_code.specs.declared.lock.Lock.{Lock}
+use Rattle.asl_code.specs.declared.lock.Lock.TheVariants as root
+use Rattle.asl_code.specs.declared.value.Effect.TheVariants as write
+use Rattle.asl_lower.specs.Regions.{Region}
+use Rattle.asl_lock_expr.specs.ClassOf.{TellsStores}
+use Rattle.asl_backward_flow.specs.declared.fault.FlowFault.{FlowFault}
+use Rattle.asl_backward_flow.specs.Flows.{IsFlow}
+use Rattle.asl_backward_flow.specs.declared.span.Span.{Span}
+use Rattle.asl_backward_flow.specs.declared.found.AddFault.TheVariants.{Many}
+use Rattle.asl_backward_flow.specs.Needed.{Needed, Part, IsTold, TellsNeeded, NeedsMany, region_of}
+use Rattle.asl_backward_flow.specs.Found.{Table, AreApart, IsName, HasFact, locks_of}
+use Rattle.asl_backward_flow.specs.Follows.{Read, IsRead, IsAll, Overflows}
+use Rattle.asl_backward_flow.specs.Parts.{HasRegion, AreParts, TellsAll}
+use Rattle.asl_backward_flow.proofs.Leasts.{needed_inside}
+use Rattle.asl_backward_flow.proofs.Sets.{some_same}
+
+module _ (r : Read) (read : IsRead r) (t : Table) (all : IsAll r t) where
+  abbrev Is : Region → ℕ → Lock → Type 0
+  Is region q m = Needed r.lowered r.classes r.stores r.longest region q m
+
+  -- what is needed is found under the number of the region
+  found_at : (region : Region) (q : ℕ) (m : Lock) → Is region q m → (p : ℕ) × (s : Span) × (slice_get r.spans p ≡ Some s) × (region_of s.region ≡ region) × HasFact t p q m
+  found_at region q m n =
+      let inside = needed_inside r.lowered r.classes r.stores r.longest region q m n in
+      let span = read.spans.all region inside.0 q inside.1 in
+      (span.0, span.1, span.2, span.3, all.full span.0 q m (span.1, span.2, subst (λ x. Is x q m) (sym span.3) n))
+
+  module _ (parts : List Part) (are : AreParts r.spans t parts) where
+    told_needed : (region : Region) (q : ℕ) (m : Lock) → IsTold parts region q m → Is region q m
+    told_needed region q m told =
+        let k = told.0 in
+        let p : Part = told.1 in
+        let each = are.each k p told.2 in
+        let of : HasRegion r.spans t.locks k p = each.0 in
+        let n = told.4.0 in
+        let at = each.1.only q n (told.4.1, told.4.2) in
+        let named : slice_get (locks_of t k) n ≡ Some m = ap (λ l. slice_get l n) (sym of.locks) ∙ told.4.3 in
+        let need = all.sound k q m (n, at, named) in
+        let same : need.0 ≡ of.span = some_same (sym need.1 ∙ of.there) in
+        subst (λ x. Is x q m) (ap (λ (s : Span). region_of s.region) same ∙ sym of.region ∙ told.3) need.2
+
+    needed_told : (region : Region) (q : ℕ) (m : Lock) → Is region q m → IsTold parts region q m
+    needed_told region q m n =
+        let f = found_at region q m n in
+        let k = f.0 in
+        let has = f.4 in
+        let within : k < length parts = subst (λ x. k < x) (sym are.count) (slice_get_within r.spans k f.1 f.2) in
+        let p : Part = get_or parts k (record { region = region; locks = []; needs = [] }) in
+        let there : slice_get parts k ≡ Some p = slice_get-get_or parts k (record { region = region; locks = []; needs = [] }) within in
+        let each = are.each k p there in
+        let of : HasRegion r.spans t.locks k p = each.0 in
+        let same : of.span ≡ f.1 = some_same (sym of.there ∙ f.2) in
+        let at = each.1.all has.1.0 q has.0 (slice_get_within t.facts has.1.0 _ has.1.1) has.1.1 in
+        (k, p, there, of.region ∙ ap (λ (s : Span). region_of s.region) same ∙ f.3, (has.0, at.0, at.1, ap (λ l. slice_get l has.0) of.locks ∙ has.2))
+
+    tells : TellsNeeded r.lowered r.classes r.stores r.longest parts
+    tells region q m = (λ h. told_needed region q m h, λ h. needed_told region q m h)
+
+  -- a region that needs locks has a number, under which all that it needs are found
+  module _ (region : Region) (many : NeedsMany r.lowered r.classes r.stores r.longest region) (d : Lock) where
+    first : (p : ℕ) × (s : Span) × (slice_get r.spans p ≡ Some s) × (region_of s.region ≡ region)
+    first =
+        let there : slice_get many.locks 0 ≡ Some (get_or many.locks 0 d) = slice_get-get_or many.locks 0 d (let lt = many.many in omega (arith, lt)) in
+        let need = many.needed 0 (get_or many.locks 0 d) there in
+        let f = found_at region need.0 (get_or many.locks 0 d) need.1 in
+        (f.0, f.1, f.2, f.3)
+
+    name : (i : ℕ) → i < length many.locks → IsName t first.0 (get_or many.locks i d)
+    name i lt =
+        let need = many.needed i (get_or many.locks i d) (slice_get-get_or many.locks i d lt) in
+        let has = all.full first.0 need.0 (get_or many.locks i d) (first.1, first.2, subst (λ x. Is x need.0 (get_or many.locks i d)) (sym first.3) need.1) in
+        (has.0, has.2)
+
+    numbered : (i : ℕ) → (n : ℕ) × (i < length many.locks → slice_get (locks_of t first.0) n ≡ Some (get_or many.locks i d))
+    numbered i = either (cases_lt i (length many.locks))
+      where
+        either : (i < length many.locks) ⊎ (length many.locks ≤ i) → (n : ℕ) × (i < length many.locks → slice_get (locks_of t first.0) n ≡ Some (get_or many.locks i d))
+        either (inl lt) = ((name i lt).0, λ l. (name i lt).1)
+        either (inr ge) = (0, λ lt. absurd (omega (arith, lt, ge)))
+
+    one_number : (i j : ℕ) → i < length many.locks → j < length many.locks → (numbered i).0 ≡ (numbered j).0 → get_or many.locks i d ≡ get_or many.locks j d
+    one_number i j below_i below_j e = some_same (sym ((numbered i).1 below_i) ∙ ap (λ n. slice_get (locks_of t first.0) n) e ∙ (numbered j).1 below_j)
+
+    not_many : ⊥
+    not_many =
+        let holds = pigeonhole (length many.locks) (length (locks_of t first.0)) (λ i. (numbered i).0)
+        (λ i lt. slice_get_within (locks_of t first.0) (numbered i).0 _ ((numbered i).1 lt))
+        (λ i j below_i below_j e. ⊎_elim
+        (λ lt. absurd (many.different i j d lt below_j (one_number i j below_i below_j e)))
+        (λ ge. ⊎_elim (λ lt. absurd (many.different j i d lt below_i (one_number j i below_j below_i (sym e)))) (λ le. omega (arith, le, ge)) (cases_lt j i))
+        (cases_lt i j)) in
+        let over = many.many in let few = all.ready.whole.few first.0 in omega (arith, holds, over, few)
+
+  pub tells_all : (parts : List Part) → AreParts r.spans t parts → TellsAll r parts
+  tells_all parts are = record {
+    tells = tells parts are;
+    few = λ region many. not_many region many (root.Root write.Write);
+  }
+
+-- different places have different locks
+apart_pairs : (locks : List Lock) → AreApart locks → AllPairs (λ a b. a ≢ b) locks
+apart_pairs locks apart i j d lt below e =
+    let at_i : slice_get locks i ≡ Some (get_or locks i d) = slice_get-get_or locks i d (omega (arith, lt, below)) in
+    let at_j : slice_get locks j ≡ Some (get_or locks j d) = slice_get-get_or locks j d below in
+    let same : i ≡ j = apart i j (get_or locks i d) at_i (at_j ∙ ap Some (sym e)) in
+    omega (arith, same, lt)
+
+module _ (r : Read) (t : Table) (p : ℕ) (x : Overflows r t (Many p)) where
+  over_name : (IsName t p) (get_or (locks_of t p) 0 (root.Root write.Write))
+  over_name = (0, slice_get-get_or (locks_of t p) 0 (root.Root write.Write) (let over = x.over.0 in omega (arith, over)))
+
+  pub over_there : p < length r.spans
+  over_there = let need = x.names p _ over_name in slice_get_within r.spans p need.1.0 need.1.1
+
+  pub over_many : (s : Span) → slice_get r.spans p ≡ Some s → NeedsMany r.lowered r.classes r.stores r.longest (region_of s.region)
+  over_many s there = record {
+    locks = locks_of t p;
+    many = x.over.0;
+    different = apart_pairs (locks_of t p) x.over.1;
+    needed = λ n lock at.
+        let need = x.names p lock (n, at) in
+        let same : need.1.0 ≡ s = some_same (sym need.1.1 ∙ there) in
+        (need.0, subst (λ (k : Span). Needed r.lowered r.classes r.stores r.longest (region_of k.region) need.0 lock) same need.1.2);
+  }
+
+-- the answer, with the written classes for what functions may store to
+module _ (r : Read) (written : TellsStores r.lowered r.classes r.stores) where
+  pub flow_told : (result : Result (List Part) FlowFault) → IfOk result (TellsAll r) → IfOk result (IsFlow r.lowered r.classes r.longest)
+  flow_told (Ok parts) x = record { stores = r.stores; written = written; tells = x.tells; few = x.few }
+  flow_told (Err fault) x = tt
