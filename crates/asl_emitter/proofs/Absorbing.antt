@@ -13,8 +13,8 @@ use Rattle.asl_code.proofs.Same.{same_lock, itself_lock}
 use Rattle.asl_points_to.specs.Classes.{Classed}
 use Rattle.asl_lock_expr.specs.ClassOf.{class_of}
 use Rattle.asl_lock_expr.specs.Links.{IsOne}
-use Rattle.asl_emitter.specs.Lists.{covers_effect, DoesFor, Absorbs, Locks, IsReduced}
-use Rattle.asl_emitter.specs.Standing.{IsOver}
+use Rattle.asl_emitter.specs.Lists.{DoesFor, Absorbs, Locks, IsReduced}
+use Rattle.asl_soundness.specs.Over.{covers_effect}
 use Rattle.asl_emitter.proofs.Same.{same_expr, itself_expr}
 
 tell_expr : (a b : Expr) → (a ≡ b) ⊎ (a ≢ b)
@@ -110,6 +110,10 @@ absorbs_trans c f a b d p q =
     let up = absorbs_down c f a b p in
     let down = absorbs_down c f b d q in
     record { different = λ e. (let same : rank a ≡ rank d = ap rank e in omega (arith, up, down, same)); does = does_trans c f a b d p.does q.does }
+
+-- the first lock is the second, or does in its place
+abbrev pub IsOver : Classed → ℕ → Lock → Lock → Type 0
+IsOver c f m a = (m ≡ a) ⊎ DoesFor c f m a
 
 find_for : (c : Classed) (f : ℕ) (list : List Lock) (a : Lock) → ((m : Lock) × IsOne list m × DoesFor c f m a) ⊎ ((m : Lock) → IsOne list m → ¬ DoesFor c f m a)
 find_for c f [] a = inr (λ m o. absurd o)

@@ -8,9 +8,10 @@ use Rattle.asl_code.specs.declared.lock.Lock.TheVariants as lock
 use Rattle.asl_points_to.specs.Classes.{Classed}
 use Rattle.asl_lock_expr.specs.ClassOf.{class_of}
 use Rattle.asl_lock_expr.specs.Links.{IsOne, class_lock}
-use Rattle.asl_emitter.specs.Lists.{covers_effect, DoesFor, Locks, as_class, AsClasses, effect_of, stronger, strongest, IsFitted}
-use Rattle.asl_emitter.specs.Standing.{IsOver, StandsOver, HasClass}
-use Rattle.asl_emitter.proofs.Absorbing.{effect_trans, over_trans, reduced_covers}
+use Rattle.asl_machine.specs.Request.{effect_of}
+use Rattle.asl_soundness.specs.Over.{covers_effect, StandsOver}
+use Rattle.asl_emitter.specs.Lists.{DoesFor, Locks, as_class, AsClasses, stronger, strongest, IsFitted, HasClass}
+use Rattle.asl_emitter.proofs.Absorbing.{IsOver, effect_trans, over_trans, reduced_covers}
 
 effect_refl : (e : Effect) → IsTrue (covers_effect e e)
 effect_refl Read = refl
@@ -26,10 +27,20 @@ over_root c f (lock.Expr a e) (lock.Class x g) (inr d) = absurd d
 over_root c f (lock.Expr a e) (lock.Root g) (inr d) = absurd d
 over_root c f (lock.Root e) b (inr d) = absurd d
 
+stands_itself : (c : Classed) (f : ℕ) (a : Lock) → StandsOver c f a a
+stands_itself c f (lock.Root e) = effect_refl e
+stands_itself c f (lock.Class x e) = (refl, effect_refl e)
+stands_itself c f (lock.Expr b e) = (refl, effect_refl e)
+
 stands : (c : Classed) (f : ℕ) (m a : Lock) → IsOver c f m a → StandsOver c f m a
-stands c f (lock.Root e) a o = over_root c f (lock.Root e) a o
-stands c f (lock.Class x e) a o = o
-stands c f (lock.Expr b e) a o = o
+stands c f m a (inl is) = subst (StandsOver c f m) is (stands_itself c f m)
+stands c f (lock.Class x e) (lock.Class y g) (inr d) = d
+stands c f (lock.Class x e) (lock.Expr b g) (inr d) = d
+stands c f (lock.Expr a e) (lock.Expr b g) (inr d) = d
+stands c f (lock.Class x e) (lock.Root g) (inr d) = absurd d
+stands c f (lock.Expr a e) (lock.Class x g) (inr d) = absurd d
+stands c f (lock.Expr a e) (lock.Root g) (inr d) = absurd d
+stands c f (lock.Root e) b (inr d) = absurd d
 
 -- the class of a lock that is over another is over it too
 coarser : (c : Classed) (f : ℕ) (m a : Lock) → IsOver c f m a → HasClass c f a → (n : Lock) × IsOne (as_class c f m) n × IsOver c f n a

@@ -106,3 +106,7 @@ kept_coarse c f most fine all list e r few = record { coarse = list; reduced = c
 
 pub root_coarse : (c : Classed) (f most : ℕ) (fine all coarse list : List Lock) → all ≡ flat_map (as_class c f) fine → IsReduced c f (IsOne all) coarse → most < length coarse → list ≡ lock.Root (strongest coarse) ∷ [] → IsCoarse c f most fine list
 root_coarse c f most fine all coarse list e r many is = record { coarse = coarse; reduced = coarse_reduced c f fine all coarse e r; is = inr (many, is) }
+
+-- the fitted list of a set is that of each set with the same locks
+pub fitted_same : (c : Classed) (f most : ℕ) (given other : Locks) (list : List Lock) → ((a : Lock) → given a ↔ other a) → IsFitted c f most given list → IsFitted c f most other list
+fitted_same c f most given other list same p = record { fine = p.fine; reduced = reduced_same c f given other p.fine same p.reduced; is = p.is }

@@ -3,3 +3,7 @@ pub mod Reducing
 pub mod Absorbing
 pub mod Covering
 pub mod Fits
+pub mod Verifying
+pub mod Making
+pub mod Needing
+pub mod Refusing

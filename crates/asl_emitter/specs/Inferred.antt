@@ -1,9 +1,7 @@
 -- The image that is inferred for a program, and which programs are refused (docs/ANALYSIS.md, "The inferred image"). Lock inference is
 -- after S. Cherem, T. Chilimbi, S. Gulwani, "Inferring Locks for Atomic Sections" (2008); the lists are this project's.
-use Rattle.std.specs.Prelude.{◌≡◌, ℕ, suc, Bool, List, length, map, Some, slice_get, unwrap_or}
+use Rattle.std.specs.Prelude.{◌≡◌, ℕ, suc, Bool, List, length, map, Some, slice_get}
 use Rattle.asl_code.specs.declared.image.Image.{Image}
-use Rattle.asl_code.specs.declared.instr.Instr.{Instr}
-use Rattle.asl_code.specs.declared.instr.Instr.TheVariants as instr
 use Rattle.asl_code.specs.declared.lock.Lock.{Lock}
 use Rattle.asl_syntax.specs.Tree.{Item}
 use Rattle.asl_lower.specs.declared.section.Section.{Section}
@@ -12,12 +10,8 @@ use Rattle.asl_lower.specs.Regions.{Inside}
 use Rattle.asl_points_to.specs.Classes.{Classed, AreClasses}
 use Rattle.asl_lock_expr.specs.ClassOf.{TellsStores}
 use Rattle.asl_backward_flow.specs.Needed.{Needed}
+use Rattle.asl_soundness.specs.Coded.{classed}
 use Rattle.asl_emitter.specs.Lists.{IsFitted}
-
--- the instruction of the image: a `new` makes objects of its site's class
-abbrev pub classed : Classed → Instr → Instr
-classed c (instr.New to cells site) = instr.New to cells (unwrap_or (slice_get c.sites site) 0)
-classed c i = i
 
 -- the image of a lowering with these classes: its code with classes in place of sites, and for each section the fitted list, of
 -- at most 64 locks, of what is needed behind its `acq`
@@ -32,16 +26,20 @@ pub record IsInferred (l : Lowered) (c : Classed) (stores : ℕ → ℕ → Bool
   pub lists : (n : ℕ) (s : Section) (locks : List Lock) → slice_get l.sections n ≡ Some s → slice_get image.lists n ≡ Some locks →
       IsFitted c s.function 64 (λ lock. Needed l c stores longest (Inside n) (suc s.acquire) lock) locks
 
--- the lowering of a program, its classes, and a test that tells to which of them each function may store
-pub record Analysis (is : List Item) : Type 0 where
+-- a program with its lowering and its classes
+pub record ClassedProgram (is : List Item) : Type 0 where
   pub lowering : Lowered
   pub lowers : IsLowering is lowering
   pub classes : Classed
   pub are_classes : AreClasses lowering classes
+
+-- and with a test that tells to which classes each function may store
+pub record Analysis (is : List Item) : Type 0 where
+  pub program : ClassedProgram is
   pub stores : ℕ → ℕ → Bool
-  pub tells : TellsStores lowering classes stores
+  pub tells : TellsStores program.lowering program.classes stores
 
 -- the image that is inferred for a program, with paths of at most so many operations
 pub record IsInferredFor (is : List Item) (longest : ℕ) (image : Image) : Type 0 where
   pub analysis : Analysis is
-  pub inferred : IsInferred analysis.lowering analysis.classes analysis.stores longest image
+  pub inferred : IsInferred analysis.program.lowering analysis.program.classes analysis.stores longest image

@@ -1,3 +1,6 @@
 pub mod Lists
-pub mod Standing
 pub mod Inferred
+pub mod Refused
+-- machinery of the proofs
+pub mod Faults
+pub mod Parts

@@ -1,6 +1,6 @@
 -- The lists of locks that sections ask for: which lock does in place of another, what of a set is left, and the short list to
 -- which a set is fitted (docs/ANALYSIS.md, "Lists").
-use Rattle.std.specs.Prelude.{◌≡◌, ◌≢◌, ◌<◌, ◌≤◌, ◌⊎◌, ℕ, Bool, true, false, IsTrue, List, [], ◌∷◌, length, Some}
+use Rattle.std.specs.Prelude.{◌≡◌, ◌≢◌, ◌<◌, ◌≤◌, ◌⊎◌, ℕ, IsTrue, List, [], ◌∷◌, length, Some}
 use Rattle.asl_code.specs.declared.value.Effect.{Effect}
 use Rattle.asl_code.specs.declared.value.Effect.TheVariants.{Read, Write}
 use Rattle.asl_code.specs.declared.lock.Lock.{Lock}
@@ -9,12 +9,8 @@ use Rattle.asl_points_to.specs.Classes.{Classed}
 use Rattle.asl_lock_expr.specs.ClassOf.{class_of}
 use Rattle.asl_lock_expr.specs.Links.{IsOne, class_lock}
 use Rattle.asl_lock_expr.specs.Order.{AreInOrder}
-
--- the first effect is at least as strong as the second
-abbrev pub covers_effect : Effect → Effect → Bool
-covers_effect Write other = true
-covers_effect Read Read = true
-covers_effect Read Write = false
+use Rattle.asl_machine.specs.Request.{effect_of}
+use Rattle.asl_soundness.specs.Over.{covers_effect}
 
 -- in a function the first lock does in place of the second: it is on the same class or the same expression, or on the class of
 -- the expression, and its effect is at least as strong
@@ -53,11 +49,6 @@ as_class c f (lock.Expr e effect) = class_lock effect (class_of c f e)
 abbrev pub AsClasses : Classed → ℕ → List Lock → Locks
 AsClasses c f list a = (b : Lock) × IsOne list b × IsOne (as_class c f b) a
 
-abbrev pub effect_of : Lock → Effect
-effect_of (lock.Root effect) = effect
-effect_of (lock.Class class effect) = effect
-effect_of (lock.Expr e effect) = effect
-
 -- the stronger of two effects, and the strongest of a list of locks
 abbrev pub stronger : Effect → Effect → Effect
 stronger Write other = Write
@@ -84,3 +75,9 @@ pub record IsFitted (c : Classed) (f most : ℕ) (given : Locks) (list : List Lo
   pub fine : List Lock
   pub reduced : IsReduced c f given fine
   pub is : ((length fine ≤ most) × (list ≡ fine)) ⊎ ((most < length fine) × IsCoarse c f most fine list)
+
+-- an expression of the function with a class; any class or root lock
+abbrev pub HasClass : Classed → ℕ → Lock → Type 0
+HasClass c f (lock.Expr e effect) = (x : ℕ) × (class_of c f e ≡ Some x)
+HasClass c f (lock.Class class effect) = Unit {0}
+HasClass c f (lock.Root effect) = Unit {0}

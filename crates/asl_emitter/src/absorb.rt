@@ -1,7 +1,8 @@
 //! Which lock does in place of another.
 ghost use Rattle.std.specs.Prelude.{◌≡◌, ◌↔◌, IsTrue};
 ghost use Rattle.asl_lock_expr.specs.Links.{IsOne};
-ghost use Rattle.asl_emitter.specs.Lists.{covers_effect, DoesFor, Absorbs, IsFree};
+ghost use Rattle.asl_soundness.specs.Over.{covers_effect};
+ghost use Rattle.asl_emitter.specs.Lists.{DoesFor, Absorbs, IsFree};
 
 use asl_code::{Effect, Expr, Lock};
 use asl_lock_expr::class_of;

@@ -2,7 +2,8 @@
 ghost use Rattle.std.specs.Prelude.{◌≡◌, ◌<◌, IfOk, length};
 ghost use Rattle.std.specs.List.{flat_map};
 ghost use Rattle.asl_lock_expr.specs.Links.{IsOne};
-ghost use Rattle.asl_emitter.specs.Lists.{IsFitted, IsCoarse, as_class, effect_of, strongest};
+ghost use Rattle.asl_machine.specs.Request.{effect_of};
+ghost use Rattle.asl_emitter.specs.Lists.{IsFitted, IsCoarse, as_class, strongest};
 
 use crate::reduced::reduce;
 use asl_code::{Effect, Lock};

@@ -3,8 +3,8 @@ ghost use Rattle.std.specs.Prelude.{◌≡◌, ◌<◌, ◌≤◌, ◌⊎◌, �
 ghost use Rattle.asl_code.specs.declared.lock.Lock.{Lock as AnyLock};
 ghost use Rattle.asl_points_to.specs.Classes.{Classed};
 ghost use Rattle.asl_lock_expr.specs.Links.{IsOne};
-ghost use Rattle.asl_emitter.specs.Lists.{Absorbs, IsReduced, IsFitted};
-ghost use Rattle.asl_emitter.specs.Standing.{StandsOver, HasClass};
+ghost use Rattle.asl_soundness.specs.Over.{StandsOver};
+ghost use Rattle.asl_emitter.specs.Lists.{Absorbs, IsReduced, IsFitted, HasClass};
 
 /// Absorbing is a strict order, so each lock of a set is kept or absorbed by one that is kept.
 pub fn absorbing_is_a_strict_order()

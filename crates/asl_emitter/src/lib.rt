@@ -2,11 +2,16 @@
 #![tactic(auto)]
 
 mod absorb;
+mod fault;
 mod fitted;
+mod image;
+mod inferred;
 mod laws;
 mod reduced;
 
+pub use fault::InferFault;
 pub use fitted::{MOST_LOCKS, fit};
+pub use inferred::infer;
 pub use laws::{
     absorbing_is_a_strict_order, fitted_lists_stand_over_their_sets, lists_depend_on_the_set_alone,
 };

@@ -1,0 +1,45 @@
+-- Which programs have no inferred image, and why (docs/ANALYSIS.md, "The inferred image").
+use Rattle.std.specs.Prelude.{ℕ, ◌<◌, ◌≤◌, List}
+use Rattle.asl_syntax.specs.Tree.{Item}
+use Rattle.asl_lower.specs.Refused.{HasRoom, HasAccessesInside, IsRefused as IsNotLowered}
+use Rattle.asl_lower.specs.Regions.{Region}
+use Rattle.asl_lower.specs.declared.fault.LowerFault.TheVariants as lower
+use Rattle.asl_backward_flow.specs.Needed.{NeedsMany, region_of}
+use Rattle.asl_emitter.specs.declared.fault.InferFault.{InferFault}
+use Rattle.asl_emitter.specs.declared.fault.InferFault.TheVariants.{Registers, CodeSize, AccessOutsideSection, TooManyClasses, TooManyLocks, OutOfMemory}
+use Rattle.asl_emitter.specs.Inferred.{ClassedProgram, Analysis}
+
+-- the program is lowered: it has room, and its accesses are in sections
+pub record IsLowered (is : List Item) : Type 0 where
+  pub room : HasRoom is
+  pub inside : HasAccessesInside is
+
+-- it is lowered, and has more than 1,024 classes
+pub record HasManyClasses (is : List Item) : Type 0 where
+  pub lowered : IsLowered is
+  pub program : ClassedProgram is
+  pub many : 1024 < program.classes.count
+
+-- it is lowered, has at most 1,024 classes, and the region needs more than 4,096 locks
+pub record HasManyLocks (is : List Item) (longest : ℕ) (r : Region) : Type 0 where
+  pub lowered : IsLowered is
+  pub analysis : Analysis is
+  pub few_classes : analysis.program.classes.count ≤ 1024
+  pub many : NeedsMany analysis.program.lowering analysis.program.classes analysis.stores longest r
+
+-- it is lowered, has at most 1,024 classes, and no region needs more than 4,096 locks
+pub record IsAccepted (is : List Item) (longest : ℕ) : Type 0 where
+  pub lowered : IsLowered is
+  pub analysis : Analysis is
+  pub few_classes : analysis.program.classes.count ≤ 1024
+  pub few_locks : (r : Region) → ¬ NeedsMany analysis.program.lowering analysis.program.classes analysis.stores longest r
+
+-- the program has this fault, and none that is listed before it; want of memory hides no fault of the lowering, which is judged
+-- without memory
+abbrev pub IsRefused : List Item → ℕ → InferFault → Type 0
+IsRefused is longest (Registers function) = IsNotLowered is (lower.Registers function)
+IsRefused is longest CodeSize = IsNotLowered is lower.CodeSize
+IsRefused is longest (AccessOutsideSection function pc) = IsNotLowered is (lower.AccessOutsideSection function pc)
+IsRefused is longest TooManyClasses = HasManyClasses is
+IsRefused is longest (TooManyLocks region) = HasManyLocks is longest (region_of region)
+IsRefused is longest OutOfMemory = IsLowered is

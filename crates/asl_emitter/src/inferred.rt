@@ -1,0 +1,74 @@
+//! The program that is inferred for a tree.
+ghost use Rattle.std.specs.Prelude.{◌≡◌, ◌≤◌, IfOk, IfErr, OnOk};
+ghost use Rattle.asl_syntax.specs.AstView.{tree_of};
+ghost use Rattle.asl_lower.specs.Kept.{IsKept};
+ghost use Rattle.asl_points_to.specs.Classes.{AreClasses};
+ghost use Rattle.asl_backward_flow.specs.Flows.{IsFlow};
+ghost use Rattle.asl_emitter.specs.Inferred.{IsInferredFor};
+ghost use Rattle.asl_emitter.specs.Refused.{IsAccepted, IsRefused};
+ghost use Rattle.asl_emitter.specs.Parts.{IsMade};
+
+use crate::fault::InferFault;
+use crate::image::{code, copied, lists};
+use asl_backward_flow::{Flow, needed};
+use asl_code::{Image, Program};
+use asl_lower::{Lowering, lower};
+use asl_points_to::{Classes, classes};
+use asl_syntax::Ast;
+use std::alloc::{AllocError, Global};
+
+/// The program of a tree whose sections ask for the locks that they need, where paths have at most `k` operations
+/// (`docs/ANALYSIS.md`, "The inferred image").
+pub fn infer(alloc: Global, ast: &Ast, k: u32) -> Result<Program, InferFault>
+    requires { k ≤ 8 }
+    ensures inferred { IfOk result (IsInferredFor (tree_of ast.now) k) }
+    ensures accepted { IfOk result (λ _. IsAccepted (tree_of ast.now) k) }
+    ensures refused { IfErr result (IsRefused (tree_of ast.now) k) }
+{
+    let lowering = lower(alloc, ast)?;
+    let classes = classes(alloc, &lowering)?;
+    let flow = needed(alloc, &lowering, &classes, k)?;
+    Ok(program(alloc, &lowering, &classes, &flow, k)?)
+}
+
+/// The program of a lowering with its classes and its flow.
+fn program(
+    alloc: Global,
+    lowering: &Lowering,
+    classes: &Classes,
+    flow: &Flow,
+    k: u32,
+) -> Result<Program, AllocError>
+    requires classes { AreClasses lowering.now classes.now }
+    requires few { classes.now.count ≤ 1024 }
+    requires flow { IsFlow lowering.now classes.now k flow.now }
+    ensures { IfOk result (IsMade lowering.now classes.now flow.now) }
+{
+    let image = image(alloc, lowering, classes, flow)?;
+    match Program::verify(image) {
+        Ok(program) => Ok(program),
+        Err(_refused) => unreachable!(),
+    }
+}
+
+/// The image of a lowering with its classes and its flow.
+fn image(
+    alloc: Global,
+    lowering: &Lowering,
+    classes: &Classes,
+    flow: &Flow,
+) -> Result<Image, AllocError>
+    requires { AreClasses lowering.now classes.now }
+    ensures made { IfOk result (IsMade lowering.now classes.now flow.now) }
+    ensures kept { OnOk result (IsKept lowering.now) }
+{
+    Ok(Image {
+        version: 1,
+        classes: u32::from(classes.count()),
+        globals: copied(alloc, classes.globals())?,
+        functions: copied(alloc, lowering.functions())?,
+        start: lowering.main(),
+        code: code(alloc, lowering.code(), classes)?,
+        lists: lists(alloc, lowering, classes, flow)?,
+    })
+}
