@@ -14,3 +14,5 @@ mod Completing
 mod Tellings
 mod Grouping
 mod Listing
+pub mod Basing
+pub mod Ending

@@ -1,6 +1,7 @@
 pub mod Needed
 pub mod Closed
 pub mod Flows
+pub mod Based
 -- machinery of the proofs
 pub mod Found
 pub mod Spans

@@ -3,13 +3,16 @@
 use crate::region::Region;
 use std::alloc::AllocError;
 use std::convert::From;
+use thiserror::Error;
 
 /// Why a program has no flow. The first that applies is answered.
-#[derive(Clone, Copy, PartialEq, Eq, Drop)]
+#[derive(Clone, Copy, Debug, PartialEq, Eq, Error)]
 pub enum FlowFault {
     /// The region needs more than 4,096 locks; where several do, any of them is named.
+    #[error("TooManyLocks({0})")]
     TooManyLocks(Region),
     /// The memory ran out.
+    #[error("OutOfMemory")]
     OutOfMemory,
 }
 

@@ -7,6 +7,7 @@ mod fault;
 mod flow;
 mod found;
 mod graph;
+mod laws;
 mod parts;
 mod program;
 mod region;
@@ -15,5 +16,9 @@ mod step;
 
 pub use analysis::needed;
 pub use fault::FlowFault;
+pub use laws::{
+    nothing_is_needed_outside_a_region, the_needed_locks_are_the_least_closed_family,
+    what_needed_locks_name_is_there,
+};
 pub use parts::Flow;
 pub use region::Region;

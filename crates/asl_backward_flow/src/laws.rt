@@ -1,0 +1,32 @@
+//! Laws of needed locks, as functions that do nothing: what each ensures is the law.
+ghost use Rattle.std.specs.Prelude.{ℕ, Bool, IsTrue};
+ghost use Rattle.asl_code.specs.declared.lock.Lock.{Lock};
+ghost use Rattle.asl_lower.specs.Lowered.{Lowered};
+ghost use Rattle.asl_lower.specs.Kept.{IsKept};
+ghost use Rattle.asl_lower.specs.Regions.{Region, IsIn, IsEnd};
+ghost use Rattle.asl_points_to.specs.Classes.{Classed, AreClasses};
+ghost use Rattle.asl_backward_flow.specs.Needed.{Needed};
+ghost use Rattle.asl_backward_flow.specs.Closed.{IsClosed};
+ghost use Rattle.asl_backward_flow.specs.Based.{IsLockOf};
+
+/// The needed locks are a closed family, and lie in each closed family that a test tells.
+pub fn the_needed_locks_are_the_least_closed_family()
+    ensures closed { (l : Lowered) (c : Classed) (stores : ℕ → ℕ → Bool) (longest : ℕ) → IsClosed l c stores longest (Needed l c stores longest) }
+    ensures least { (l : Lowered) (c : Classed) (stores : ℕ → ℕ → Bool) (longest : ℕ) (has : Region → ℕ → Lock → Bool)
+        → IsClosed l c stores longest (λ r pc n. IsTrue (has r pc n)) → (r : Region) (pc : ℕ) (n : Lock) → Needed l c stores longest r pc n → IsTrue (has r pc n) }
+{}
+
+/// Nothing is needed outside a region, nor at its end: the `ret` of a body, the `rel` of a section.
+pub fn nothing_is_needed_outside_a_region()
+    ensures outside { (l : Lowered) (c : Classed) (stores : ℕ → ℕ → Bool) (longest : ℕ) (r : Region) (pc : ℕ) (n : Lock)
+        → Needed l c stores longest r pc n → (f : ℕ) × IsIn l r f pc }
+    ensures end { (l : Lowered) (c : Classed) (stores : ℕ → ℕ → Bool) (longest : ℕ) (r : Region) (pc : ℕ) (n : Lock)
+        → IsKept l → IsEnd l r pc → ¬ Needed l c stores longest r pc n }
+{}
+
+/// What a needed lock names is there: a class, or an expression of the region's function that has a class, begins on one of the
+/// function's registers or a global, and has at most as many operations as paths may have.
+pub fn what_needed_locks_name_is_there()
+    ensures { (l : Lowered) (c : Classed) (stores : ℕ → ℕ → Bool) (longest : ℕ) → IsKept l → AreClasses l c
+        → (r : Region) (pc : ℕ) (n : Lock) → Needed l c stores longest r pc n → (f q : ℕ) → IsIn l r f q → IsLockOf l c longest f n }
+{}
