@@ -1,9 +1,8 @@
 -- What agrees with classes: values, frames and cells, as registers are set, cells are written and objects are made.
-use Rattle.std.proofs.Common.{◌≡◌, ℕ, zero, suc, pos, ◌+◌, ◌-◌, ◌<◌, ◌⊎◌, ◌++◌, replicate, take, drop, List, [], ◌∷◌, Option, Some, None, length, set, slice_get, refl, ap, sym, ◌∙◌, subst, inl, inr, arith}
+use Rattle.std.proofs.Common.{◌≡◌, ℕ, pos, ◌<◌, ◌++◌, List, [], ◌∷◌, Option, Some, None, length, set, slice_get, refl, ap, sym, ◌∙◌, subst, inl, inr}
 use Rattle.std.specs.Prelude.{option_and_then, option_map}
 use Rattle.std.proofs.lemmas.Bool.Decides.{eqb_tells}
 use Rattle.std.proofs.lemmas.Option.{same_Some}
-use Rattle.asl_code.proofs.Told.{slice_get-drop}
 use Rattle.asl_code.specs.declared.value.Value.{Value}
 use Rattle.asl_code.specs.declared.value.Value.TheVariants.{Int, Null, Addr}
 use Rattle.asl_code.specs.declared.value.Cell.{Cell}
@@ -11,7 +10,6 @@ use Rattle.asl_lock_forest.specs.Holding.{Holding}
 use Rattle.asl_points_to.specs.Classes.{Classed, to, inside, Gives}
 use Rattle.asl_lock_expr.specs.Agrees.{PointsTo}
 use Rattle.asl_machine.specs.State.{Object, Frame, Activity, Thread, State, cell_at, class_of, written, fresh_object, activity_of}
-use Rattle.asl_machine.specs.Calls.{first_registers, values_from}
 use Rattle.asl_machine.specs.Step.{after}
 use Rattle.asl_machine.proofs.Lists.{get_same, get_other, get_either, get_last, one_more, replicated}
 use Rattle.asl_machine.proofs.Heaps.{class_of-written, stored_or_old, read_before}
@@ -47,26 +45,6 @@ frame_set c objects f regs a v p q r w e =
             | inr old ↦ p r w old
           ]
       | inr other ↦ p r w (sym (get_other regs a r v other.1) ∙ e)
-    ]
-
--- what a new frame's register holds was in an argument register, or is the integer 0
-pub filled : (xs : List Value) (m r : ℕ) (z v : Value) → slice_get (xs ++ replicate m z) r ≡ Some v → (slice_get xs r ≡ Some v) ⊎ (v ≡ z)
-filled [] m r z v e = inr (replicated m r z v e)
-filled (x ∷ xs) m zero z v e = inl e
-filled (x ∷ xs) m (suc r) z v e = filled xs m r z v e
-
-taken_from : (k : ℕ) (xs : List Value) (r : ℕ) (v : Value) → slice_get (take k xs) r ≡ Some v → (r < k) × (slice_get xs r ≡ Some v)
-taken_from zero xs r v e = cc
-taken_from (suc k) [] r v e = cc
-taken_from (suc k) (x ∷ xs) zero v e = (omega arith, e)
-taken_from (suc k) (x ∷ xs) (suc r) v e = let i = taken_from k xs r v e in (let lt = i.0 in omega arith, i.1)
-
-pub passed : (regs : List Value) (first params count r : ℕ) (v : Value) → slice_get (first_registers (values_from regs first params) count) r ≡ Some v →
-    ((r < params) × (slice_get regs (first + r) ≡ Some v)) ⊎ (v ≡ Int (pos 0))
-passed regs first params count r v e =
-    elim (filled (values_from regs first params) (count - length (values_from regs first params)) r (Int (pos 0)) v e) [
-      | inl argument ↦ (let from = taken_from params (drop first regs) r v argument in inl (from.0, sym (slice_get-drop first regs r) ∙ from.1))
-      | inr is ↦ inr is
     ]
 
 -- ---- states

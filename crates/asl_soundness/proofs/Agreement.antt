@@ -25,8 +25,9 @@ use Rattle.asl_machine.proofs.Table.{at_of}
 use Rattle.asl_soundness.specs.Coded.{classed, IsImageOf}
 use Rattle.asl_soundness.specs.Agrees.{FrameAgrees, FramesAgree, ThreadAgrees, Agrees}
 use Rattle.asl_soundness.proofs.Protecting.{get_within}
+use Rattle.asl_soundness.proofs.Arguments.{passed}
 use Rattle.asl_soundness.proofs.Standing.{body_of, call_at, globals_agree}
-use Rattle.asl_soundness.proofs.Agreeing.{points_given, Grows, frames_grown, frame_set, passed, agrees_after, stored_agrees, made_grows, made_agrees, made_class}
+use Rattle.asl_soundness.proofs.Agreeing.{points_given, Grows, frames_grown, frame_set, agrees_after, stored_agrees, made_grows, made_agrees, made_class}
 use Rattle.asl_soundness.proofs.Faults.{line_fails}
 
 module _ (l : Lowered) (c : Classed) (image : Image) (made : IsImageOf l c image) (s : State) (t : ℕ) (a : Activity) (h : Here image s t a) (agrees : Agrees c s)

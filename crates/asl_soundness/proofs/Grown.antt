@@ -13,6 +13,7 @@ use Rattle.asl_code.specs.declared.lock.Expr.{Expr}
 use Rattle.asl_code.specs.declared.lock.Lock.TheVariants as lock
 use Rattle.asl_code.specs.declared.path.Op.{Op}
 use Rattle.asl_code.specs.declared.path.Op.TheVariants.{Deref, Off}
+use Rattle.asl_points_to.specs.Classes.{Classed}
 use Rattle.asl_lock_expr.specs.Expression.{cell_of, pointed, moved, path_cell, base_cell, cell_denoted}
 use Rattle.asl_lock_expr.specs.ClassOf.{class_of as expr_class}
 use Rattle.asl_lock_expr.specs.Links.{View, class_lock, is_register, is_star, replaced}
@@ -85,31 +86,31 @@ path_grown objects more points (Deref ∷ ops) cell end there e =
     (ap (path_cell (heap_of objects) ops) (ap (option_and_then pointed) there.1 ∙ old) ∙ rest.0, rest.1)
 
 -- the globals' cells are there
-abbrev pub GlobalsPoint : View → List Object → Type 0
-GlobalsPoint v objects = (g : ℕ) → g < length v.classes.globals → Points objects (Addr g 0)
+abbrev pub GlobalsPoint : Classed → List Object → Type 0
+GlobalsPoint c objects = (g : ℕ) → g < length c.globals → Points objects (Addr g 0)
 
 -- the cell at a base is there
-base_there : (v : View) (objects : List Object) (regs : List Value) → AllPoint objects regs → GlobalsPoint v objects → (base : Base) (cell : Cell) → BaseThere v.classes base → base_cell regs base ≡ Some cell → IsCell objects cell
-base_there v objects regs points globals (Reg r) cell there e =
+base_there : (c : Classed) (objects : List Object) (regs : List Value) → AllPoint objects regs → GlobalsPoint c objects → (base : Base) (cell : Cell) → BaseThere c base → base_cell regs base ≡ Some cell → IsCell objects cell
+base_there c objects regs points globals (Reg r) cell there e =
     elim (slice_get regs r) as (λ o. slice_get regs r ≡ o → option_and_then pointed o ≡ Some cell → IsCell objects cell) [
       | None ↦ λ is f. cc
       | Some w ↦ λ is f. pointed_there objects w cell (points r w is) f
     ] refl e
-base_there v objects regs points globals (Global g) cell there e = pointed_there objects (Addr g 0) cell (globals g there) e
+base_there c objects regs points globals (Global g) cell there e = pointed_there objects (Addr g 0) cell (globals g there) e
 
 -- the class of an object that was there before
 class_before : (objects more : List Object) (o y x : ℕ) → class_of objects o ≡ Some y → class_of (objects ++ more) o ≡ Some x → class_of objects o ≡ Some x
 class_before objects more o y x was is = was ∙ ap (λ z. Some z) (same_Some y x (sym (read_before (λ (p : Object). p.class) objects more o y was) ∙ is))
 
 -- what is protected over objects is so over more
-pub grown_protects : (v : View) (k : Cover) (t : ℕ) (objects more : List Object) (regs after : List Value) → AllPoint objects regs → GlobalsPoint v objects →
-    ((cell : Cell) (w : Value) → cell_at objects cell ≡ Some w → Points objects w) → (e : Expr) (effect : Effect) → BaseThere v.classes e.base → base_cell after e.base ≡ base_cell regs e.base →
+pub grown_protects : (c : Classed) (k : Cover) (t : ℕ) (objects more : List Object) (regs after : List Value) → AllPoint objects regs → GlobalsPoint c objects →
+    ((cell : Cell) (w : Value) → cell_at objects cell ≡ Some w → Points objects w) → (e : Expr) (effect : Effect) → BaseThere c e.base → base_cell after e.base ≡ base_cell regs e.base →
     Protected k t objects regs (lock.Expr e effect) → Protected k t (objects ++ more) after (lock.Expr e effect)
-grown_protects v k t objects more regs after points globals cells e effect there same p =
+grown_protects c k t objects more regs after points globals cells e effect there same p =
     protect k t (objects ++ more) effect (cell_denoted (heap_of (objects ++ more)) after e) (λ end d.
     let d2 : path_cell (heap_of (objects ++ more)) e.path (base_cell regs e.base) ≡ Some end = ap (path_cell (heap_of (objects ++ more)) e.path) (sym same) ∙ d in
     let s = start_there (heap_of (objects ++ more)) e.path (base_cell regs e.base) end d2 in
-    let old = path_grown objects more cells e.path s.0 end (base_there v objects regs points globals e.base s.0 there s.1) (ap (path_cell (heap_of (objects ++ more)) e.path) (sym s.1) ∙ d2) in
+    let old = path_grown objects more cells e.path s.0 end (base_there c objects regs points globals e.base s.0 there s.1) (ap (path_cell (heap_of (objects ++ more)) e.path) (sym s.1) ∙ d2) in
     let y = class_there objects end old.1.0 old.1.1 in
     let denotes : cell_denoted (heap_of objects) regs e ≡ Some end = ap (path_cell (heap_of objects) e.path) s.1 ∙ old.0 in
     λ x of. protected_at k t objects effect _ end denotes p x (class_before objects more end.object y.0 x y.1 of))
@@ -133,7 +134,7 @@ star_ends objects class n (Deref ∷ ops) cell end at star e =
 
 -- `new`: an expression on the register is covered by the class of the new object, every other as before
 pub new_row : (v : View) (k : Cover) (t : ℕ) (objects : List Object) (regs : List Value) (a n class : ℕ) → a < length regs → Stands v (objects ++ fresh_object class n ∷ []) (set regs a (Addr (length objects) 0)) → AllPoint objects regs →
-    GlobalsPoint v objects → ((cell : Cell) (w : Value) → cell_at objects cell ≡ Some w → Points objects w) →
+    GlobalsPoint v.classes objects → ((cell : Cell) (w : Value) → cell_at objects cell ≡ Some w → Points objects w) →
     (e : Expr) (effect : Effect) → BaseThere v.classes e.base → AllProtected k t objects regs (replaced a e effect (cond (list_any is_star e.path) [] (class_lock effect (expr_class v.classes v.function e)))) →
     Protected k t (objects ++ fresh_object class n ∷ []) (set regs a (Addr (length objects) 0)) (lock.Expr e effect)
 new_row v k t objects regs a n class lt now points globals cells e effect there all =
@@ -150,5 +151,5 @@ new_row v k t objects regs a n class lt now points globals cells e effect there 
                 let held = subst (λ o. AllProtected k t objects regs (class_lock effect o)) y.1 m in
                 class_protects k t new effect end y.0 y.2 (held (lock.Class y.0 effect) (inl refl))
           ] refl p)
-      | false ↦ λ is p. grown_protects v k t objects (fresh_object class n ∷ []) regs after points globals cells e effect there (base false is) (p (lock.Expr e effect) (inl refl))
+      | false ↦ λ is p. grown_protects v.classes k t objects (fresh_object class n ∷ []) regs after points globals cells e effect there (base false is) (p (lock.Expr e effect) (inl refl))
     ] refl all

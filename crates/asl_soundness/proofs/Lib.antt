@@ -4,6 +4,7 @@ pub mod Stored
 pub mod Grown
 pub mod Standing
 pub mod Agreeing
+pub mod Arguments
 pub mod Faults
 pub mod Agreement
 pub mod Owning
@@ -12,3 +13,15 @@ pub mod NestingLines
 pub mod Stepping
 pub mod Structure
 pub mod StructureLaws
+pub mod Links
+pub mod Regions
+pub mod Keeping
+pub mod Entering
+pub mod Sections
+pub mod Calling
+pub mod OwnLines
+pub mod Others
+pub mod Safety
+pub mod Soundness
+pub mod Based
+pub mod NeededLaws

@@ -1,6 +1,6 @@
 -- What is protected: cells by locks on them, on their class or on the root, and locks by what they settle to.
 use Rattle.std.proofs.Common.{◌≡◌, ℕ, ◌<◌, ◌≤◌, ◌||◌, Bool, true, false, cond, List, [], ◌∷◌, Option, Some, None, length, slice_get, refl, ap, sym, ◌∙◌, subst, inl, inr, arith}
-use Rattle.std.specs.Prelude.{option_and_then, IsTrue, nat_le}
+use Rattle.std.specs.Prelude.{option_and_then, IsTrue, IsSome, nat_le}
 use Rattle.std.specs.List.{flat_map}
 use Rattle.std.proofs.lemmas.Option.{slice_get_cases, same_Some}
 use Rattle.asl_code.specs.declared.value.Value.{Value}
@@ -33,6 +33,11 @@ get_within xs i lt =
       | inl found ↦ (found.0, found.2)
       | inr past ↦ let le : length xs ≤ i = past.0 in absurd (omega (arith, lt))
     ]
+
+-- what is there is something
+pub get_some : (o : Option Value) → IsSome o → (v : Value) × (o ≡ Some v)
+get_some None e = let f : false ≡ true = e in cc
+get_some (Some v) e = (v, refl)
 
 -- the globals' objects have the globals' classes
 abbrev pub GlobalsAgree : Classed → List Object → Type 0

@@ -84,6 +84,10 @@ each_thread image s t P own others u b e =
       | inr apart ↦ others u b apart.1 (sym (ap (option_and_then activity_of) (step_leaves image s t u apart.1)) ∙ e)
     ]
 
+-- another thread is at what it was at
+pub still : (image : Image) (s : State) (t u : ℕ) (b : Activity) → u ≢ t → activity_at s.threads u ≡ Some b → activity_at (step_of image s t).state.threads u ≡ Some b
+still image s t u b apart is = ap (option_and_then activity_of) (step_leaves image s t u apart) ∙ is
+
 -- what each step keeps, runs keep
 run_keeps : (image : Image) (P : State → Type 0) → ((s : State) (t : ℕ) → P s → P (step_of image s t).state) → (schedule : List ℕ) (s : State) → P s → P (state_after image s schedule)
 run_keeps image P keeps [] s p = p

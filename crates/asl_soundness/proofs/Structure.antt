@@ -26,7 +26,7 @@ use Rattle.asl_machine.proofs.Table.{at_of}
 use Rattle.asl_soundness.specs.Coded.{classed, IsImageOf}
 use Rattle.asl_soundness.specs.Agrees.{FrameAgrees, FramesAgree, Agrees}
 use Rattle.asl_soundness.specs.Nested.{IsNestedAt, AreNested}
-use Rattle.asl_soundness.proofs.Agreeing.{filled}
+use Rattle.asl_soundness.proofs.Arguments.{filled}
 use Rattle.asl_soundness.proofs.Agreement.{line_agrees}
 use Rattle.asl_soundness.proofs.Nesting.{never_no_section, never_open}
 use Rattle.asl_soundness.proofs.NestingLines.{line_nested}
@@ -101,7 +101,7 @@ module _ (l : Lowered) (c : Classed) (image : Image) (made : IsImageOf l c image
 
   -- ---- no fault of sections
 
-  line_entered : (at : At) (i : Instr) (r : Reply) (new : State) → IsNestedAt l at.activity → slice_get l.code at.activity.top.pc ≡ Some i → Line at (classed c i) r new → (r ≢ reply.Fault fault.NoSection) × (r ≢ reply.Fault fault.Open)
+  pub line_entered : (at : At) (i : Instr) (r : Reply) (new : State) → IsNestedAt l at.activity → slice_get l.code at.activity.top.pc ≡ Some i → Line at (classed c i) r new → (r ≢ reply.Fault fault.NoSection) × (r ≢ reply.Fault fault.Open)
   line_entered at instr.Release (reply.Fault fault.NoSection) new nested here e = absurd (never_no_section l lay.nested at.activity nested here e.0)
   line_entered at (instr.Return from) (reply.Fault fault.Open) new nested here e =
       absurd (let z = never_open l lay.nested at.activity nested from here e.last in let lt = e.inside in omega (arith, z, lt))

@@ -30,14 +30,22 @@ abbrev pub NeverUnprotected : Image → Type 0
 NeverUnprotected image =
     (count : ℕ) (schedule : List ℕ) → All (λ t. t < count) schedule → All IsSafe (replies_of image (start_of image count) schedule)
 
--- the image of a lowering, with legal classes, whose lists stand over a closed family of locks: over all that the family has
--- behind the `acq` of the section; the written classes are those that functions may store to, or more; and each lock of the
--- family begins on a register, or on a global that is there
+-- for each lock that the family has behind the `acq` of a section, a lock of the section's list stands over it
+abbrev pub StandOver : Lowered → Classed → Family → Image → Type 0
+StandOver l c K image =
+    (section : ℕ) (s : Section) (list : List Lock) (n : Lock) → slice_get l.sections section ≡ Some s → slice_get image.lists section ≡ Some list →
+    K (Inside section) (suc s.acquire) n → (m : Lock) × IsOne list m × StandsOver c s.function m n
+
+-- the test tells of each class that the function may store to, and perhaps of more
+abbrev pub TellsAllStores : Lowered → Classed → (ℕ → ℕ → Bool) → Type 0
+TellsAllStores l c stores = (function class : ℕ) → MayStore l c function class → stores function class ≡ true
+
+-- the image of a lowering, with legal classes, whose lists stand over a closed family of locks; each of these begins on a
+-- register, or on a global that is there
 pub record IsAnalysed (l : Lowered) (c : Classed) (stores : ℕ → ℕ → Bool) (longest : ℕ) (K : Family) (image : Image) : Type 0 where
   pub kept : IsKept l
   pub made : IsImageOf l c image
   pub closed : IsClosed l c stores longest K
   pub based : (r : Region) (pc : ℕ) (n : Lock) → K r pc n → LockThere c n
-  pub told : (function class : ℕ) → MayStore l c function class → stores function class ≡ true
-  pub lists : (section : ℕ) (s : Section) (list : List Lock) (n : Lock) → slice_get l.sections section ≡ Some s → slice_get image.lists section ≡ Some list →
-      K (Inside section) (suc s.acquire) n → (m : Lock) × IsOne list m × StandsOver c s.function m n
+  pub told : TellsAllStores l c stores
+  pub lists : StandOver l c K image

@@ -1,0 +1,119 @@
+-- What a line of the table changes for the other threads: nothing, one cell that its thread covers for writing, or objects that
+-- are added; and so each other thread keeps what it wants.
+use Rattle.std.proofs.Common.{◌≡◌, ◌≢◌, ℕ, ◌++◌, Bool, false, List, [], ◌∷◌, Some, refl, ap, sym, ◌∙◌, subst, inl, inr}
+use Rattle.std.specs.Prelude.{unwrap_or, nat_lt, slice_get}
+use Rattle.std.specs.Option.{option_map_or}
+use Rattle.std.proofs.lemmas.Bool.{and_parts}
+use Rattle.asl_code.specs.declared.image.Image.{Image}
+use Rattle.asl_code.specs.declared.value.Value.{Value}
+use Rattle.asl_code.specs.declared.value.Value.TheVariants.{Addr}
+use Rattle.asl_code.specs.declared.value.Cell.{Cell}
+use Rattle.asl_code.specs.declared.value.Effect.TheVariants.{Write}
+use Rattle.asl_code.specs.declared.instr.Instr.{Instr}
+use Rattle.asl_code.specs.declared.instr.Instr.TheVariants as instr
+use Rattle.asl_mode_lanes.specs.Mode.{AtMost}
+use Rattle.asl_mode_lanes.proofs.ModeLaws.{at_most_refl}
+use Rattle.asl_lock_forest.specs.declared.node.Node.{Node}
+use Rattle.asl_lock_forest.specs.Holding.{held, Covers, is_covered}
+use Rattle.asl_lower.specs.Lowered.{Lowered}
+use Rattle.asl_points_to.specs.Classes.{Classed}
+use Rattle.asl_backward_flow.specs.Closed.{Family}
+use Rattle.asl_machine.specs.declared.reply.Reply.{Reply}
+use Rattle.asl_machine.specs.declared.reply.Reply.TheVariants as reply
+use Rattle.asl_machine.specs.State.{Object, Activity, State, cell_at, class_of, written, fresh_object}
+use Rattle.asl_machine.specs.Sound.{IsPlaced}
+use Rattle.asl_machine.specs.Cover.{cover}
+use Rattle.asl_machine.specs.Step.{Line}
+use Rattle.asl_machine.specs.Twin.{step_of}
+use Rattle.asl_machine.proofs.Soundness.{Here}
+use Rattle.asl_machine.proofs.Table.{at_of}
+use Rattle.asl_machine.proofs.Others.{step_leaves_held}
+use Rattle.asl_soundness.specs.Coded.{classed}
+use Rattle.asl_soundness.specs.Agrees.{Agrees}
+use Rattle.asl_soundness.specs.Safe.{IsAnalysed}
+use Rattle.asl_soundness.specs.Wanted.{HasWanted}
+use Rattle.asl_soundness.proofs.Protecting.{get_some}
+use Rattle.asl_soundness.proofs.Standing.{globals_point}
+use Rattle.asl_soundness.proofs.Faults.{line_fails}
+use Rattle.asl_soundness.proofs.Keeping.{held_keeps, stored_keeps, made_keeps, thread_keeps}
+use Rattle.asl_soundness.proofs.Structure.{IsStructured}
+
+-- the cell is there and of this class, and the thread covers it for writing
+pub record MayWrite (s : State) (t : ℕ) (cell : Cell) : Type 0 where
+  pub old : Value
+  pub there : cell_at s.objects cell ≡ Some old
+  pub hit : ℕ
+  pub class : class_of s.objects cell.object ≡ Some hit
+  pub covers : Covers s.holding t cell hit Write
+
+-- what a step of the thread makes of the objects
+pub data Change (s : State) (t : ℕ) (new : List Object) : Type 0 where
+  Same : new ≡ s.objects → Change s t new
+  Writes : (cell : Cell) (value : Value) → MayWrite s t cell → new ≡ written s.objects cell value → Change s t new
+  Adds : (more : List Object) → new ≡ s.objects ++ more → Change s t new
+
+module _ (c : Classed) (image : Image) (s : State) (t : ℕ) (a : Activity) (h : Here image s t a) (agrees : Agrees c s) where
+  stores : (x y : ℕ) (new : State) → Line (at_of image s t a) (instr.Store x y) reply.Ran new → Change s t new.objects
+  stores x y new e =
+      let target = (agrees.threads t a h.is).0 x (Addr e.cell.object e.cell.offset) e.reads_address in
+      let old = get_some (cell_at s.objects e.cell) (h.placed.points x (Addr e.cell.object e.cell.offset) e.reads_address) in
+      let covers : Covers s.holding t e.cell target.0 Write =
+      sym (ap (λ o. option_map_or (λ class. is_covered s.holding t e.cell class Write) o false) target.2) ∙ (and_parts (nat_lt 0 a.depth) _ e.allowed).1 in
+      Writes e.cell e.value (record { old = old.0; there = old.1; hit = target.0; class = target.2; covers = covers }) (ap (λ (u : State). u.objects) e.goes_on)
+
+  same : (new : State) (u : State) → u.objects ≡ s.objects → new ≡ u → Change s t new.objects
+  same new u e f = Same (ap (λ (w : State). w.objects) f ∙ e)
+
+  pub line_changes : (i : Instr) (r : Reply) (new : State) → Line (at_of image s t a) (classed c i) r new → Change s t new.objects
+  line_changes (instr.SetInt x n) reply.Ran new e = same new _ refl e
+  line_changes (instr.SetNull x) reply.Ran new e = same new _ refl e
+  line_changes (instr.Move x y) reply.Ran new e = same new _ refl e.sets
+  line_changes (instr.Add x y z) reply.Ran new e = same new _ refl e.sets
+  line_changes (instr.Subtract x y z) reply.Ran new e = same new _ refl e.sets
+  line_changes (instr.LessThan x y z) reply.Ran new (inl e) = same new _ refl e.sets
+  line_changes (instr.LessThan x y z) reply.Ran new (inr e) = same new _ refl e.sets
+  line_changes (instr.Equals x y z) reply.Ran new (inl e) = same new _ refl e.sets
+  line_changes (instr.Equals x y z) reply.Ran new (inr e) = same new _ refl e.sets
+  line_changes (instr.GlobalAddress x g) reply.Ran new e = same new _ refl e
+  line_changes (instr.FieldAddress x y n) reply.Ran new e = same new _ refl e.sets
+  line_changes (instr.Load x y) reply.Ran new e = same new _ refl e.sets
+  line_changes (instr.Store x y) reply.Ran new e = stores x y new e
+  line_changes (instr.New x n site) reply.Ran new e = Adds (fresh_object (unwrap_or (slice_get c.sites site) 0) n ∷ []) (ap (λ (u : State). u.objects) e.makes)
+  line_changes (instr.Jump target) reply.Ran new e = same new _ refl e
+  line_changes (instr.JumpIfZero x target) reply.Ran new (inl e) = same new _ refl e.goes_to
+  line_changes (instr.JumpIfZero x target) reply.Ran new (inr e) = same new _ refl e.goes_on
+  line_changes (instr.Call x first g) reply.Ran new e = same new _ refl e.calls
+  line_changes (instr.Return from) reply.Ran new (inl e) = same new _ refl e.returns
+  line_changes (instr.Return from) reply.Ran new (inr e) = same new _ refl e.ends
+  line_changes (instr.Output from) (reply.Out value) new e = same new _ refl e.goes_on
+  line_changes (instr.Acquire list) reply.Ran new (inl e) = same new _ refl e.goes_on
+  line_changes (instr.Acquire list) reply.Ran new (inr e) = same new _ refl e.goes_on
+  line_changes (instr.Acquire list) reply.Blocked new e = same new s refl e.same
+  line_changes instr.Release reply.Ran new (inl e) = same new _ refl e.goes_on
+  line_changes instr.Release reply.Ran new (inr e) = same new _ refl e.leaves
+  line_changes i (reply.Fault f) new e = same new _ refl (line_fails (at_of image s t a) (classed c i) f new e)
+  line_changes i r new e = absurd e
+
+-- each other thread keeps what it wants
+module _ (l : Lowered) (c : Classed) (stores : ℕ → ℕ → Bool) (longest : ℕ) (K : Family) (image : Image) (A : IsAnalysed l c stores longest K image) (s : State) (t : ℕ) (h : IsStructured l c image s) where
+  -- over the changed objects, under the old holding
+  changed : (new : List Object) → Change s t new → (u : ℕ) (b : Activity) → u ≢ t → IsPlaced image s.objects b → HasWanted l c stores longest K (cover s.holding) u s.objects b → HasWanted l c stores longest K (cover s.holding) u new b
+  changed new (Same e) u b apart placed has = subst (λ objects. HasWanted l c stores longest K (cover s.holding) u objects b) (sym e) has
+  changed new (Writes cell value w e) u b apart placed has =
+      subst (λ objects. HasWanted l c stores longest K (cover s.holding) u objects b) (sym e)
+      (thread_keeps l c stores longest K A.closed A.based u (cover s.holding) (cover s.holding) s.objects (written s.objects cell value)
+      (stored_keeps c u t s.holding h.sound.lawful apart s.objects cell value w.old w.hit w.there w.class w.covers) image b placed has)
+  changed new (Adds more e) u b apart placed has =
+      subst (λ objects. HasWanted l c stores longest K (cover s.holding) u objects b) (sym e)
+      (thread_keeps l c stores longest K A.closed A.based u (cover s.holding) (cover s.holding) s.objects (s.objects ++ more)
+      (made_keeps c u (cover s.holding) s.objects more (globals_point l c image A.made s h.sound) h.sound.formed.objects.points) image b placed has)
+
+  -- and under the new one, of which its own part is the same
+  pub others_keep : Change s t (step_of image s t).state.objects → (u : ℕ) (b : Activity) → u ≢ t → IsPlaced image s.objects b → IsPlaced image (step_of image s t).state.objects b →
+      HasWanted l c stores longest K (cover s.holding) u s.objects b → HasWanted l c stores longest K (cover (step_of image s t).state.holding) u (step_of image s t).state.objects b
+  others_keep change u b apart placed now has =
+      let new = (step_of image s t).state in
+      let more : (node : Node) → AtMost (held s.holding u node) (held new.holding u node) =
+      λ node. subst (AtMost (held s.holding u node)) (sym (step_leaves_held image s t u node apart)) (at_most_refl (held s.holding u node)) in
+      thread_keeps l c stores longest K A.closed A.based u (cover s.holding) (cover new.holding) new.objects new.objects (held_keeps c u s.holding new.holding new.objects more) image b now
+      (changed new.objects change u b apart placed has)

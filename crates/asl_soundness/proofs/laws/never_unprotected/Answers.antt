@@ -1,0 +1,8 @@
+use Rattle.asl_backward_flow.specs.Needed.{Needed}
+use Rattle.asl_soundness.proofs.Soundness.{sound_program}
+use Rattle.asl_soundness.proofs.NeededLaws.{needed_analysed}
+use Rattle.asl_soundness.proofs.laws.never_unprotected.Goals as goal
+
+pub returns : goal.returns
+returns c = λ l d stores longest image kept made told lists.
+    sound_program l d stores longest (Needed l d stores longest) image (needed_analysed l d stores longest image kept made told lists)
