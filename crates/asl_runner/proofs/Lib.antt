@@ -1,0 +1,6 @@
+mod Dealing
+mod Workers
+mod Joins
+mod Sizes
+mod Ends
+mod Promises

@@ -1,0 +1,47 @@
+use Rattle.std.proofs.Common.{rules, ◌≡◌, inl, inr, sym, ap, ◌∙◌}
+use Rattle.asl_machine.specs.View.{Configuration}
+use Rattle.asl_runner.specs.Ending.{all_receipts}
+use Rattle.asl_runner.proofs.Ends.{have_ended, are_right, wrong_at}
+use Rattle.asl_runner.proofs.Sizes.{as_many}
+use Rattle.asl_runner.proofs.running.run.Goals as goal
+
+pub returns-in-None-clause-history : goal.returns-in-None-clause-history
+returns-in-None-clause-history g c =
+    let ran = c.in-Ok-run_as.ensures.run in
+    let report = c.in-Ok-run_as.report in
+    let right = are_right c.args.workers report ran.dealers c.in-None.ensures in
+    record {
+      journal = rw (← c.in-Ok.ensures.image) ran.journal;
+      dealt = record { count = ran.dealers; each = λ worker mine at. (right worker mine at).0 };
+    }
+
+pub returns-in-None-clause-tickets : goal.returns-in-None-clause-tickets
+returns-in-None-clause-tickets g c =
+    let ran = c.in-Ok-run_as.ensures.run in
+    let report = c.in-Ok-run_as.report in
+    let right = are_right c.args.workers report ran.dealers c.in-None.ensures in
+    sym (as_many c.args.workers report.journal.events (all_receipts report) (search (c.if-workers-eq0.false, rules)) ran.dealers (λ worker mine at. (right worker mine at).0)) ∙ ran.receipts
+
+pub returns-in-None-clause-end : goal.returns-in-None-clause-end
+returns-in-None-clause-end g c =
+    let ran = c.in-Ok-run_as.ensures.run in
+    let report = c.in-Ok-run_as.report in
+    let right = are_right c.args.workers report ran.dealers c.in-None.ensures in
+    let state = ap (λ (m : Configuration). m.state) ran.machine in
+    elim ran.end [
+      inl told ↦ inl (rw (← c.in-Ok.ensures.image, ← state) (have_ended c.args.n c.args.workers report.machine.state (all_receipts report) (search (c.if-workers-eq0.false, rules)) ran.dealers (λ worker mine at. (right worker mine at).1) told))
+      | inr all ↦ inr all
+    ]
+
+pub returns-in-Some-clause-refused : goal.returns-in-Some-clause-refused
+returns-in-Some-clause-refused g c =
+    let ran = c.in-Ok-run_as.ensures.run in
+    (
+      record {
+        threads = (search (c.if-n-eq0.false, rules), search (c.if-n-gt-MOST_THREADS.false, rules));
+        some = search (c.if-workers-eq0.false, rules);
+        few = search (c.if-workers-gt-MOST_WORKERS.false, rules);
+        short = search (c.if-limit-gt-MOST_EVENTS.false, rules);
+      },
+      wrong_at c.args.program.now c.args.n c.args.workers c.args.limit c.in-Some.worker c.in-Ok-run_as.report (rw (← c.in-Ok.ensures.image) ran) c.in-Some.ensures.0 c.in-Some.ensures.1,
+    )

@@ -1,0 +1,67 @@
+-- What a run by workers leaves: a journal, dealt out to the workers as receipts (docs/WORKERS.md, "What a run leaves").
+use Rattle.std.specs.Prelude.{◌≡◌, ◌<◌, ◌≤◌, ◌⊎◌, ◌%◌, ◌+◌, ◌==◌, ℕ, true, List, [], ◌∷◌, length, map, Some, slice_get, if◌then◌else◌}
+use Rattle.asl_code.specs.declared.image.Image.{Image}
+use Rattle.asl_machine.specs.declared.reply.Reply.{Reply}
+use Rattle.asl_machine.specs.State.{State}
+use Rattle.asl_journal.specs.declared.event.Event.{Event}
+use Rattle.asl_journal.specs.declared.event.Receipt.{Receipt}
+use Rattle.asl_journal.specs.Journal.{IsCount, IsJournal, most_events}
+use Rattle.asl_journal.specs.Recorded.{has_ended}
+
+-- how many workers there are at most
+abbrev pub most_workers : ℕ
+most_workers = 8
+
+-- what a run is asked for: 1 to 64 threads, 1 to 8 workers, and a limit that a journal has room for
+pub record IsAsked (count workers limit : ℕ) : Type 0 where
+  pub threads : IsCount count
+  pub some : 0 < workers
+  pub few : workers ≤ most_workers
+  pub short : limit ≤ most_events
+
+-- an event with its place in the journal
+pub record Entry : Type 0 where
+  pub index : ℕ
+  pub thread : ℕ
+  pub reply : Reply
+
+abbrev pub entry : ℕ → ℕ → Reply → Entry
+entry index thread reply = record { index = index; thread = thread; reply = reply }
+
+-- what a receipt tells of the journal
+abbrev pub entry_of : Receipt → Entry
+entry_of receipt = entry receipt.index receipt.thread receipt.reply
+
+-- the entries of events that stand in the journal from the index on, as far as their threads are this worker's: worker j has
+-- the threads t with t mod workers = j
+abbrev pub entries_of : ℕ → ℕ → ℕ → List Event → List Entry
+entries_of workers worker index [] = []
+entries_of workers worker index (event ∷ events) =
+    if (event.thread % workers) == worker then entry index event.thread event.reply ∷ entries_of workers worker (index + 1) events
+    else entries_of workers worker (index + 1) events
+
+-- the receipts are the entries of the worker's threads, in the journal's order
+abbrev pub IsDealt : ℕ → ℕ → List Event → List Receipt → Type 0
+IsDealt workers worker events receipts = map entry_of receipts ≡ entries_of workers worker 0 events
+
+-- each worker has the entries of its threads
+pub record AreDealt (workers : ℕ) (events : List Event) (receipts : List (List Receipt)) : Type 0 where
+  pub count : length receipts ≡ workers
+  pub each : (worker : ℕ) (mine : List Receipt) → slice_get receipts worker ≡ Some mine → IsDealt workers worker events mine
+
+-- the events are a journal of the program with so many threads, and are dealt out to the workers
+pub record IsHistory (image : Image) (count workers : ℕ) (events : List Event) (receipts : List (List Receipt)) : Type 0 where
+  pub journal : IsJournal image count events
+  pub dealt : AreDealt workers events receipts
+
+-- where a receipt says that its thread has ended, it has
+abbrev pub AreTrue : State → List Receipt → Type 0
+AreTrue s receipts = (n : ℕ) (r : Receipt) → slice_get receipts n ≡ Some r → r.ended ≡ true → has_ended s r.thread ≡ true
+
+-- each thread has ended
+abbrev pub HaveEnded : State → ℕ → Type 0
+HaveEnded s count = (t : ℕ) → t < count → has_ended s t ≡ true
+
+-- the worker's receipts are not the entries of its threads, or one says that a thread has ended that has not
+abbrev pub IsWrong : ℕ → ℕ → State → List Event → List Receipt → Type 0
+IsWrong workers worker s events receipts = ¬ (IsDealt workers worker events receipts × AreTrue s receipts)

@@ -1,0 +1,23 @@
+-- Machinery of the proofs, not of the promise: the workers' seats, and what workers leave (src/start.rt, src/gather.rt).
+use Rattle.std.specs.Prelude.{◌≡◌, ◌<◌, ◌+◌, ℕ, true, false, List, [], map, length, Some, slice_get}
+use Rattle.std.specs.List.{AllByRecursion}
+use Rattle.asl_turns.specs.Turn.{Word, Turn}
+use Rattle.asl_journal.specs.declared.event.Receipt.{Receipt}
+use Rattle.asl_runner.specs.declared.worker.Work.{Work}
+use Rattle.asl_runner.specs.Working.{HasLeft, AreJoined}
+
+-- a seat with one pass
+abbrev pub seat_of : Word → Turn
+seat_of word = record { of = word; left = 1; spent = 0; tickets = [] }
+
+-- each has one pass
+abbrev pub AreSeats : Word → List Turn → Type 0
+AreSeats word seats = (k : ℕ) (seat : Turn) → slice_get seats k ≡ Some seat → seat ≡ seat_of word
+
+-- each of the workers has left what a worker leaves
+abbrev pub HaveWorked : Word → ℕ → ℕ → List Work → Type 0
+HaveWorked word count workers works = (k : ℕ) (w : Work) → slice_get works k ≡ Some w → HasLeft word count workers k w.seat w.receipts.items w.refused
+
+-- the same of those from a number on
+abbrev pub HaveWorkedFrom : Word → ℕ → ℕ → ℕ → List Work → Type 0
+HaveWorkedFrom word count workers first works = (k : ℕ) (w : Work) → slice_get works k ≡ Some w → HasLeft word count workers (first + k) w.seat w.receipts.items w.refused

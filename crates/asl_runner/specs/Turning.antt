@@ -1,0 +1,24 @@
+-- Machinery of the proofs, not of the promise: a worker before and after a call (src/worker.rt).
+use Rattle.std.specs.Prelude.{◌≡◌, ◌<◌, ◌≤◌, ℕ}
+use Rattle.asl_turns.specs.Turn.{Word}
+use Rattle.asl_runner.specs.declared.worker.Post.{Post}
+use Rattle.asl_runner.specs.declared.worker.Working.{Working}
+use Rattle.asl_runner.specs.declared.worker.Next.{Next}
+use Rattle.asl_runner.specs.declared.worker.Next.TheVariants.{GoOn, Stop, Refused}
+use Rattle.asl_runner.specs.Working.{IsWorking, HasPass, HasStopped}
+
+-- a worker of a run
+pub record IsAt (post : Post) : Type 0 where
+  pub threads : post.count ≤ 64
+  pub mine : post.worker < post.workers
+
+-- a worker between two calls
+pub record IsReadyAt (word : Word) (post : Post) (at : Working) : Type 0 where
+  pub placed : IsAt post
+  pub works : IsWorking word post.count post.workers post.worker at.seat at.receipts.items at.going
+
+-- a worker after a call
+abbrev pub AfterTurn : Word → Post → Working → Next → Type 0
+AfterTurn word post at GoOn = IsWorking word post.count post.workers post.worker at.seat at.receipts.items at.going
+AfterTurn word post at Stop = HasStopped word post.count post.workers post.worker at.seat at.receipts.items
+AfterTurn word post at Refused = HasPass word at.seat

@@ -1,0 +1,54 @@
+-- Machinery of the proofs, not of the promise: what a worker knows of itself (src/worker.rt), and what is known of those
+-- that have been joined (src/gather.rt).
+use Rattle.std.specs.Prelude.{◌≡◌, ◌<◌, ◌≤◌, ◌⊎◌, ◌%◌, ◌+◌, ◌-◌, ℕ, Bool, true, false, List, [], ◌∷◌, length, map, Some, slice_get, sum_by}
+use Rattle.asl_turns.specs.Turn.{Word, Turn}
+use Rattle.asl_journal.specs.declared.event.Receipt.{Receipt}
+
+-- the thread is one of the worker's
+pub record IsMine (count workers worker t : ℕ) : Type 0 where
+  pub there : t < count
+  pub mine : (t % workers) ≡ worker
+
+-- some receipt says that the thread has ended
+abbrev pub IsToldEnded : List Receipt → ℕ → Type 0
+IsToldEnded receipts t = (n : ℕ) × (r : Receipt) × (slice_get receipts n ≡ Some r) × (r.thread ≡ t) × (r.ended ≡ true)
+
+-- each thread of the worker has a receipt that says that it has ended
+abbrev pub AllTold : ℕ → ℕ → ℕ → List Receipt → Type 0
+AllTold count workers worker receipts = (t : ℕ) → IsMine count workers worker t → IsToldEnded receipts t
+
+-- a worker between two calls: it has its pass and a receipt for each ticket, and each of its threads goes on or has a receipt
+-- that says that it has ended
+pub record IsWorking (word : Word) (count workers worker : ℕ) (seat : Turn) (receipts : List Receipt) (going : List Bool) : Type 0 where
+  pub of : seat.of ≡ word
+  pub left : seat.left ≡ 1
+  pub spent : seat.spent ≡ 0
+  pub drawn : length receipts ≡ length seat.tickets
+  pub room : length going ≡ 64
+  pub each : (t : ℕ) → IsMine count workers worker t → (slice_get going t ≡ Some true) ⊎ IsToldEnded receipts t
+
+-- the seat has one pass, left or spent
+pub record HasPass (word : Word) (seat : Turn) : Type 0 where
+  pub of : seat.of ≡ word
+  pub passes : seat.left + seat.spent ≡ 1
+
+-- a worker that has stopped with nothing refused to it
+pub record HasStopped (word : Word) (count workers worker : ℕ) (seat : Turn) (receipts : List Receipt) : Type 0 where
+  pub pass : HasPass word seat
+  pub drawn : length receipts ≡ length seat.tickets
+  pub why : (0 < seat.spent) ⊎ AllTold count workers worker receipts
+
+-- what a worker leaves: its seat with its pass, and, where nothing was refused to it, what it knows when it stops
+pub record HasLeft (word : Word) (count workers worker : ℕ) (seat : Turn) (receipts : List Receipt) (refused : Bool) : Type 0 where
+  pub pass : HasPass word seat
+  pub stopped : refused ≡ false → HasStopped word count workers worker seat receipts
+
+-- how many receipts there are in all
+abbrev pub receipts_in : List (List Receipt) → ℕ
+receipts_in all = sum_by (λ (mine : List Receipt). length mine) all
+
+-- workers that have been joined, the first ones, with nothing refused to any: as many receipts as tickets, and each has all
+-- its threads told ended, or a pass is spent
+pub record AreJoined (count workers : ℕ) (seat : Turn) (all : List (List Receipt)) : Type 0 where
+  pub drawn : receipts_in all ≡ length seat.tickets
+  pub why : (worker : ℕ) (mine : List Receipt) → slice_get all worker ≡ Some mine → (0 < seat.spent) ⊎ AllTold count workers worker mine

@@ -1,0 +1,89 @@
+//! The machine and its journal under the lock.
+ghost use Rattle.std.specs.Prelude.{◌≡◌, ◌≢◌, ◌<◌, IfOk, Err};
+ghost use Rattle.asl_journal.specs.Journal.{IsJournal, state_at};
+
+use asl_journal::{Journal, JournalFault, Journaled, Receipt};
+use asl_machine::Machine;
+use std::alloc::Global;
+use std::marker::{Brand, PhantomData};
+use std::sync::{Mutex, Wait};
+
+/// Which run it is. Each call of `run` picks it.
+pub trait Named {
+    ghost use Rattle.std.specs.Prelude.{ℕ};
+    ghost use Rattle.asl_code.specs.declared.image.Image.{Image};
+
+    /// The program.
+    ghost image: { Image };
+    /// How many threads of it there are.
+    ghost count: { ℕ };
+}
+
+impl Named for Brand {
+    ghost use Rattle.std.specs.Prelude.{[]};
+
+    ghost image = { record { version = 1; classes = 0; globals = []; functions = []; lists = []; start = 0; code = [] } };
+    ghost count = { 0 };
+}
+
+/// A machine and the journal of its run, of which it is known which run it is.
+#[derive(Drop)]
+pub struct Locked<'p, J: Named> {
+    journaled: Journaled<'p>,
+    of: PhantomData<J>,
+    ghost named: { (journaled.image ≡ J.image) × (journaled.count ≡ J.count) },
+}
+
+impl<'p, J: Named> Locked<'p, J> {
+    /// The machine and its journal, named.
+    pub fn new(journaled: Journaled<'p>) -> Locked<'p, J>
+        requires image { journaled.image ≡ J.image }
+        requires count { journaled.count ≡ J.count }
+    {
+        Locked {
+            journaled,
+            of: PhantomData,
+        }
+    }
+
+    /// Steps the thread, and writes the step down.
+    pub fn step(&mut self, alloc: Global, t: u8) -> Result<Receipt, JournalFault>
+        requires { t < J.count }
+        ensures thread { IfOk result (λ receipt. receipt.thread ≡ t) }
+        ensures bad { result ≢ Err JournalFault.BadThread }
+    {
+        self.journaled.step(alloc, u32::from(t))
+    }
+
+    /// The journal and the machine: the journal is one of this run.
+    pub fn into_parts(self) -> (Journal, Machine<'p>)
+        ensures threads { result.0.threads ≡ J.count }
+        ensures journal { IsJournal J.image J.count result.0.events }
+        ensures machine { result.1 ≡ record { image = J.image; state = state_at J.image J.count result.0.events } }
+    {
+        let Locked { journaled, of: _ } = self;
+        journaled.into_parts()
+    }
+}
+
+/// What workers step under the lock.
+pub trait Steps: Sync {
+    ghost use Rattle.std.specs.Prelude.{◌≡◌, ◌≢◌, ◌<◌, ℕ, IfOk, Err};
+
+    /// How many threads there are.
+    ghost count: { ℕ };
+
+    /// Takes the lock, steps the thread, and frees the lock.
+    fn step_one<R: Wait>(&self, rt: &R, alloc: Global, t: u8) -> Result<Receipt, JournalFault>
+        requires { t < count }
+        ensures thread { IfOk result (λ receipt. receipt.thread ≡ t) }
+        ensures bad { result ≢ Err JournalFault.BadThread };
+}
+
+impl<'p, J: Named + Send + Sync> Steps for Mutex<Locked<'p, J>> {
+    ghost count = { J.count };
+
+    fn step_one<R: Wait>(&self, rt: &R, alloc: Global, t: u8) -> Result<Receipt, JournalFault> {
+        self.lock(rt).step(alloc, t)
+    }
+}

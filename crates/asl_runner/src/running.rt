@@ -1,0 +1,109 @@
+//! The run: a machine of the program under a lock, and workers that step it.
+ghost use Rattle.std.specs.Prelude.{◌≡◌, ◌<◌, ◌≤◌, ◌⊎◌, ℕ, map, length, vec_len, IfOk, IfErr, OnOk};
+ghost use Rattle.asl_journal.specs.Journal.{IsCount, IsJournal, most_events, state_at};
+ghost use Rattle.asl_runner.specs.History.{HaveEnded, IsAsked, IsHistory};
+ghost use Rattle.asl_runner.specs.Refused.{IsRefusal};
+ghost use Rattle.asl_runner.specs.Ending.{IsRun};
+
+use crate::compare::first_wrong;
+use crate::fault::RunFault;
+use crate::gate::Gate;
+use crate::gathering::{gather, seats};
+use crate::locked::{Locked, Named};
+use crate::report::Report;
+use crate::starting::start;
+use asl_code::Program;
+use asl_journal::Journaled;
+use asl_turns::Turns;
+use std::alloc::Global;
+use std::marker::Brand;
+use std::sync::{Mutex, Wait};
+use std::thread::Threads;
+
+/// How many threads of a program there are at most.
+const MOST_THREADS: u32 = 64;
+
+/// How many workers there are at most.
+const MOST_WORKERS: u32 = 8;
+
+/// How many events a journal has at most.
+const MOST_EVENTS: u64 = 16_777_216;
+
+/// Runs n threads of the program by 1 to 8 workers, each a thread of the system. Worker j steps the threads t with
+/// t mod workers = j, as long as they have not ended, one ticket for each step, until all have ended or `limit` tickets are
+/// drawn. The journal is one that a single thread could have made; `docs/WORKERS.md` says more.
+///
+/// # Errors
+/// `BadCount` where n is not 1 to 64, workers not 1 to 8, or limit above 16,777,216. `Spawn` and `OutOfMemory` where a
+/// start or a growth was refused; no worker runs any more then. `Receipt(worker)`, with the report, where that worker's
+/// receipts are not the journal's entries of its threads, or one says that a thread has ended that has not.
+pub fn run<'p, R: Threads + Wait + Sync, G: Gate>(
+    rt: &R,
+    alloc: Global,
+    program: &'p Program,
+    n: u32,
+    workers: u32,
+    limit: u64,
+    gate: &G,
+) -> Result<Report<'p>, (RunFault, Option<Report<'p>>)>
+    ensures asked { OnOk result (IsAsked n workers limit) }
+    ensures threads { IfOk result (λ report. report.journal.threads ≡ n) }
+    ensures history { IfOk result (λ report. IsHistory program.now n workers report.journal.events (map (λ mine. mine.items) report.receipts.items)) }
+    ensures machine { IfOk result (λ report. report.machine ≡ record { image = program.now; state = state_at program.now n report.journal.events }) }
+    ensures tickets { IfOk result (λ report. length report.journal.events ≡ report.tickets) }
+    ensures limit { IfOk result (λ report. report.tickets ≤ limit) }
+    ensures end { IfOk result (λ report. HaveEnded (state_at program.now n report.journal.events) n ⊎ (report.tickets ≡ limit)) }
+    ensures refused { IfErr result (λ refusal. IsRefusal program.now n workers limit refusal.0 refusal.1) }
+{
+    if n == 0 || n > MOST_THREADS || workers == 0 || workers > MOST_WORKERS || limit > MOST_EVENTS {
+        return Err((RunFault::BadCount, None));
+    }
+    let Ok(journaled) = Journaled::start(alloc, program, n) else {
+        return Err((RunFault::OutOfMemory, None));
+    };
+    let workers = workers as u8;
+    let report = match run_as::<Brand, R, G>(rt, alloc, journaled, n, workers, limit, gate) {
+        Ok(report) => report,
+        Err(fault) => return Err((fault, None)),
+    };
+    match first_wrong(&report, workers) {
+        Some(worker) => Err((RunFault::Receipt(worker), Some(report))),
+        None => Ok(report),
+    }
+}
+
+/// The run under a name, with receipts that nobody has compared.
+fn run_as<'p, J: Named + Send + Sync, R: Threads + Wait + Sync, G: Gate>(
+    rt: &R,
+    alloc: Global,
+    journaled: Journaled<'p>,
+    count: u32,
+    workers: u8,
+    limit: u64,
+    gate: &G,
+) -> Result<Report<'p>, RunFault>
+    requires image { journaled.image ≡ J.image }
+    requires named { (journaled.count ≡ J.count) × (count ≡ J.count) }
+    requires asked { IsAsked count workers limit }
+    ensures run { IfOk result (λ report. IsRun journaled.entry.image count workers limit report) }
+    ensures other { IfErr result (λ fault. (fault ≡ RunFault.Spawn) ⊎ (fault ≡ RunFault.OutOfMemory)) }
+{
+    let Ok((turns, mut seat)) = Turns::new(alloc, limit) else {
+        return Err(RunFault::OutOfMemory);
+    };
+    let seats = seats(alloc, &turns, &mut seat, workers)?;
+    let lock = Mutex::new(Locked::<J>::new(journaled));
+    let works = start(rt, alloc, count, &lock, &turns, gate, seats)?;
+    let gathered = gather(alloc, &turns, &mut seat, count, works)?;
+    if gathered.refused {
+        return Err(RunFault::OutOfMemory);
+    }
+    let tickets = turns.finish(seat);
+    let (journal, machine) = lock.into_inner().into_parts();
+    Ok(Report {
+        journal,
+        machine,
+        receipts: gathered.receipts,
+        tickets,
+    })
+}

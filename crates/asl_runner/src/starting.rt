@@ -1,0 +1,78 @@
+//! Starts a thread of the system for each worker, and waits for all of them.
+ghost use Rattle.std.specs.Prelude.{◌≡◌, ◌<◌, ◌≤◌, ◌⊎◌, ℕ, [], IfOk, IfErr, vec_len};
+ghost use Rattle.asl_turns.specs.Turn.{Turn};
+ghost use Rattle.asl_runner.specs.Working.{HasLeft};
+ghost use Rattle.asl_runner.specs.Starting.{AreSeats, HaveWorked};
+ghost use Rattle.asl_runner.specs.Turning.{IsAt};
+
+use crate::fault::RunFault;
+use crate::gate::Gate;
+use crate::locked::Steps;
+use crate::worker::{Post, Work, run_worker};
+use asl_turns::{TurnSeat, Turns};
+use std::alloc::Global;
+use std::sync::Wait;
+use std::thread;
+use std::thread::{Promise, Threads};
+
+/// What the thread of a worker leaves.
+#[derive(Clone, Copy, Drop)]
+struct WorkOf<'t> {
+    turns: &'t Turns,
+    post: Post,
+}
+
+impl<'t> Promise<Work> for WorkOf<'t> {
+    ghost kept_by = { λ p work. HasLeft p.turns.now p.post.count p.post.workers p.post.worker work.seat work.receipts.items work.refused };
+}
+
+/// Runs a worker for each seat, side by side, and gives what they leave once all have stopped.
+pub fn start<R: Threads + Wait + Sync, S: Steps, G: Gate>(
+    rt: &R,
+    alloc: Global,
+    count: u32,
+    steps: &S,
+    turns: &Turns,
+    gate: &G,
+    seats: Vec<TurnSeat>,
+) -> Result<Vec<Work>, RunFault>
+    requires count { S.count ≡ count }
+    requires threads { count ≤ 64 }
+    requires few { vec_len seats ≤ 8 }
+    requires seats { AreSeats turns.now seats.items }
+    ensures works { IfOk result (λ works. (vec_len works ≡ vec_len seats) × HaveWorked turns.now count (vec_len seats) works.items) }
+    ensures other { IfErr result (λ fault. (fault ≡ RunFault.Spawn) ⊎ (fault ≡ RunFault.OutOfMemory)) }
+{
+    thread::scope(
+        thread::scope_env(),
+        rt,
+        move |scope| -> Result<Vec<Work>, RunFault>
+            requires { (S.count ≡ count) × (count ≤ 64) × (vec_len seats ≤ 8) × AreSeats turns.now seats.items }
+            ensures works { IfOk result (λ works. (vec_len works ≡ vec_len seats) × HaveWorked turns.entry.now count (vec_len seats) works.items) }
+            ensures other { IfErr result (λ fault. (fault ≡ RunFault.Spawn) ⊎ (fault ≡ RunFault.OutOfMemory)) }
+        {
+            let workers = seats.len() as u32;
+            let mut handles = Vec::with_capacity(alloc, seats.len())?;
+            let mut worker: u8 = 0;
+            for seat in seats {
+                let post = Post {
+                    count,
+                    workers,
+                    worker,
+                };
+                let Ok(handle) = scope.spawn_with(WorkOf { turns, post }, move || -> Work
+                    requires { (S.count ≡ post.count) × IsAt post × (seat ≡ record { of = turns.now; left = 1; spent = 0; tickets = [] }) }
+                    ensures { HasLeft turns.entry.now post.count post.workers post.worker result.seat result.receipts.items result.refused }
+                { run_worker(rt, alloc, post, steps, turns, gate, seat) }) else {
+                    return Err(RunFault::Spawn);
+                };
+                handles.push_reserved(handle);
+                worker += 1;
+            }
+            match thread::join_promised(rt, handles) {
+                Ok(works) => Ok(works),
+                Err(_) => Err(RunFault::OutOfMemory),
+            }
+        },
+    )
+}

@@ -1,0 +1,192 @@
+//! A worker: it draws tickets, and with each steps one of its threads, until all have ended or no ticket is left.
+ghost use Rattle.std.specs.Prelude.{◌≡◌, ◌≢◌, ◌<◌, ◌≤◌, ◌%◌, ℕ, true, [], length, Some, slice_get, MatchOption};
+ghost use Rattle.asl_runner.specs.Working.{IsMine, HasLeft};
+ghost use Rattle.asl_runner.specs.Turning.{AfterTurn, IsAt, IsReadyAt};
+
+use crate::gate::Gate;
+use crate::locked::Steps;
+use asl_journal::{JournalFault, Receipt};
+use asl_machine::Reply;
+use asl_turns::{TurnSeat, Turns};
+use std::alloc::Global;
+use std::sync::Wait;
+
+/// No journal has an entry with this number.
+const NO_ENTRY: u32 = 16_777_216;
+
+/// Which worker it is, of how many, and how many threads there are: its threads are those t with t mod workers = worker.
+#[derive(Clone, Copy, Drop)]
+pub struct Post {
+    pub count: u32,
+    pub workers: u32,
+    pub worker: u8,
+}
+
+/// What a worker has at hand: its seat, a receipt for each of its calls, which threads have not been told ended, and from
+/// which thread on it looks for its next.
+#[derive(Drop)]
+pub struct Working {
+    pub seat: TurnSeat,
+    pub receipts: Vec<Receipt>,
+    pub going: [bool; 64],
+    pub from: u32,
+}
+
+/// What a worker leaves when it stops, and whether a growth was refused to it.
+#[derive(Drop)]
+pub struct Work {
+    pub seat: TurnSeat,
+    pub receipts: Vec<Receipt>,
+    pub refused: bool,
+}
+
+/// How a worker goes on after a call.
+#[derive(Clone, Copy, Drop)]
+enum Next {
+    GoOn,
+    Stop,
+    Refused,
+}
+
+/// The first of the worker's threads from low to below high that goes on.
+fn first_going(post: Post, going: &[bool; 64], low: u32, high: u32) -> Option<u8>
+    requires high { high ≤ 64 }
+    requires some { 0 < post.workers }
+    ensures { MatchOption result
+        ((t : ℕ) → low ≤ t → t < high → (t % post.workers) ≡ post.worker → slice_get going.now t ≢ Some true)
+        (λ t. (t < high) × ((t % post.workers) ≡ post.worker)) }
+{
+    for t in low..high {
+        if t % post.workers == u32::from(post.worker) && going[t as usize] {
+            return Some(t as u8);
+        }
+    }
+    None
+}
+
+/// A thread of the worker that goes on, in turn from the number on.
+fn next_thread(post: Post, going: &[bool; 64], from: u32) -> Option<u8>
+    requires count { post.count ≤ 64 }
+    requires some { 0 < post.workers }
+    ensures { MatchOption result
+        ((t : ℕ) → IsMine post.count post.workers post.worker t → slice_get going.now t ≢ Some true)
+        (λ t. IsMine post.count post.workers post.worker t) }
+{
+    let from = from.min(post.count);
+    match first_going(post, going, from, post.count) {
+        Some(thread) => Some(thread),
+        None => first_going(post, going, 0, from),
+    }
+}
+
+/// One call: a ticket, and with it a step of one of the worker's threads.
+fn turn<R: Wait, S: Steps, G: Gate>(
+    rt: &R,
+    alloc: Global,
+    post: Post,
+    steps: &S,
+    turns: &Turns,
+    gate: &G,
+    at: &mut Working,
+) -> Next
+    requires count { S.count ≡ post.count }
+    requires ready { IsReadyAt turns.now post at.old }
+    ensures { AfterTurn turns.now post at.new result }
+{
+    let Some(thread) = next_thread(post, &at.going, at.from) else {
+        return Next::Stop;
+    };
+    if at.receipts.reserve(1).is_err() {
+        return Next::Refused;
+    }
+    let Some(_ticket) = turns.draw(&mut at.seat) else {
+        return Next::Stop;
+    };
+    let call = at.receipts.len() as u64 + 1;
+    gate.before(post.worker, call);
+    let Some(receipt) = stepped(rt, alloc, steps, thread) else {
+        return Next::Refused;
+    };
+    gate.after(post.worker, call, &receipt);
+    if receipt.ended {
+        at.going[usize::from(thread)] = false;
+    }
+    at.from = u32::from(thread) + 1;
+    at.receipts.push_reserved(receipt);
+    Next::GoOn
+}
+
+/// What the step of the thread answered. A journal that is full gives a receipt that no journal has.
+fn stepped<R: Wait, S: Steps>(rt: &R, alloc: Global, steps: &S, thread: u8) -> Option<Receipt>
+    requires { thread < S.count }
+    ensures { MatchOption result (Unit {0}) (λ receipt. receipt.thread ≡ thread) }
+{
+    match steps.step_one(rt, alloc, thread) {
+        Ok(receipt) => Some(receipt),
+        Err(JournalFault::JournalFull) => Some(Receipt {
+            index: NO_ENTRY,
+            thread,
+            reply: Reply::Blocked,
+            ended: false,
+        }),
+        Err(_) => None,
+    }
+}
+
+/// Works until all threads of the worker have ended, no ticket is left, or a growth is refused.
+pub fn run_worker<R: Wait, S: Steps, G: Gate>(
+    rt: &R,
+    alloc: Global,
+    post: Post,
+    steps: &S,
+    turns: &Turns,
+    gate: &G,
+    seat: TurnSeat,
+) -> Work
+    requires count { S.count ≡ post.count }
+    requires at { IsAt post }
+    requires seat { seat ≡ record { of = turns.now; left = 1; spent = 0; tickets = [] } }
+    ensures { HasLeft turns.now post.count post.workers post.worker result.seat result.receipts.items result.refused }
+{
+    let mut at = Working {
+        seat,
+        receipts: Vec::new(alloc),
+        going: all_going(),
+        from: u32::from(post.worker),
+    };
+    for _ in rt.forever() {
+        match turn(rt, alloc, post, steps, turns, gate, &mut at) {
+            Next::GoOn => {}
+            Next::Stop => return left(at, false),
+            Next::Refused => return left(at, true),
+        }
+    }
+    unreachable!()
+}
+
+/// All threads go on.
+fn all_going() -> [bool; 64]
+    ensures count { length result ≡ 64 }
+    ensures each { (t : ℕ) → t < 64 → slice_get result t ≡ Some true }
+{
+    [true; 64]
+}
+
+/// What the worker leaves.
+fn left(at: Working, refused: bool) -> Work
+    ensures seat { result.seat ≡ at.seat }
+    ensures receipts { result.receipts.items ≡ at.receipts.items }
+    ensures refused { result.refused ≡ refused }
+{
+    let Working {
+        seat,
+        receipts,
+        going: _,
+        from: _,
+    } = at;
+    Work {
+        seat,
+        receipts,
+        refused,
+    }
+}
