@@ -1,6 +1,10 @@
 mod Writing
 mod Texts
 mod Lines
-mod Runs
+mod Schedules
 mod Stored
+mod Lengths
+mod RunFiles
+mod Differences
+mod Records
 mod Outcomes

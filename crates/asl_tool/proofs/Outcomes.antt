@@ -1,6 +1,6 @@
 -- A command has one outcome: its program is one, and what is made of it is one.
-use Rattle.std.proofs.Common.{◌≡◌, ◌≢◌, ℕ, ◌<◌, ◌⊎◌, inl, inr, List, [], ◌∷◌, take, arith, codes, All, Result, Ok, Err, MatchResult, refl, sym, ap, ◌∙◌, subst}
-use Rattle.std.proofs.lemmas.Bool.{both_ways, cases_Bool, cases_lt}
+use Rattle.std.proofs.Common.{◌≡◌, ◌≢◌, ℕ, ◌<◌, ◌⊎◌, inl, inr, List, [], ◌∷◌, take, arith, codes, All, Bool, Result, Ok, Err, MatchResult, refl, sym, ap, ◌∙◌, subst}
+use Rattle.std.proofs.lemmas.Bool.{both_ways, cases_Bool}
 use Rattle.std.specs.List.{AllByRecursion}
 use Rattle.std.proofs.lemmas.List.Elements.{All-from_recursion, recursion_from_All}
 use Rattle.std.proofs.lemmas.Slice.Eq.{bytes_eq-Decides}
@@ -14,8 +14,12 @@ use Rattle.asl_loader.specs.declared.fault.LoadFault.{LoadFault}
 use Rattle.asl_loader.specs.declared.fault.LoadFault.TheVariants as load
 use Rattle.asl_loader.specs.Faults as bytes
 use Rattle.asl_loader.specs.Bytes.{SpellsImage}
-use Rattle.asl_machine.specs.declared.fault.MachineFault.{MachineFault}
-use Rattle.asl_machine.specs.declared.fault.MachineFault.TheVariants as machine
+use Rattle.asl_journal.specs.declared.fault.JournalFault.{JournalFault}
+use Rattle.asl_journal.specs.declared.fault.JournalFault.TheVariants as journal
+use Rattle.asl_journal.specs.Journal.{Log, IsJournal}
+use Rattle.asl_journal.specs.Replay.{DiffersAt, IsReplayFault}
+use Rattle.asl_journal.proofs.Replays.{one_difference, no_difference}
+use Rattle.asl_machine.specs.Run.{start_of}
 use Rattle.asl_tool.specs.declared.program.ProgramFault.{ProgramFault}
 use Rattle.asl_tool.specs.declared.program.ProgramFault.TheVariants as program
 use Rattle.asl_tool.specs.declared.command.Command.{Command}
@@ -23,10 +27,16 @@ use Rattle.asl_tool.specs.declared.command.Command.TheVariants as command
 use Rattle.asl_tool.specs.declared.command.CommandFault.{CommandFault}
 use Rattle.asl_tool.specs.declared.command.CommandFault.TheVariants as fault
 use Rattle.asl_tool.specs.Program.{BeginsAsImage, IsProgram, IsNoProgram}
-use Rattle.asl_tool.specs.Step.{IsCount, IsRun, IsStepped, IsRefusedRun}
-use Rattle.asl_tool.specs.Command.{IsAssembled, IsDisassembled, IsOutput, IsRefused, IsRefusedStep, IsRefusedText, IsRefusedImage}
+use Rattle.asl_tool.specs.declared.run_file.FileFault.{FileFault}
+use Rattle.asl_tool.specs.declared.run_file.FileFault.TheVariants as file
+use Rattle.asl_tool.specs.RunFile.{SpellsRun, IsFileOutcome, FilesHaveAnOutcome, FileOutcomeIsOne}
+use Rattle.asl_tool.specs.Step.{IsStepped, written}
+use Rattle.asl_tool.specs.Replay.{IsReplayed, same_text}
+use Rattle.asl_tool.specs.Command.{IsAssembled, IsDisassembled, IsOutput, IsRefused, IsRefusedStep, IsRefusedText, IsRefusedImage, IsRefusedReplay}
+use Rattle.asl_tool.proofs.Differences.{some_difference}
+use Rattle.asl_tool.proofs.Records.{RunOutcome, run_one, some_run}
+use Rattle.asl_tool.proofs.RunFiles.{files_have_an_outcome, file_outcome_is_one}
 use Rattle.asl_tool.proofs.Stored.{stored}
-use Rattle.asl_tool.specs.Output.{step_output}
 use Rattle.asl_tool.specs.Outcome.{IsWantOfMemory, IsOutcome}
 
 -- what the laws of texts and of bytes say
@@ -90,65 +100,88 @@ program_one texts bytes input o p all x z =
           a.1 ∙ ap from_text (texts input a.0 b.0 a.2 b.2) ∙ sym b.1)
     ]
 
--- ---- a run
-
--- the output of a run, or why the program is not run
-abbrev RunOutcome : Image → ℕ → List ℕ → Result (List ℕ) MachineFault → Type 0
-RunOutcome image n schedule (Ok output) = IsRun image n schedule output
-RunOutcome image n schedule (Err f) = IsRefusedRun n schedule f × (f ≢ machine.OutOfMemory)
-
-run_one : (image : Image) (n : ℕ) (schedule : List ℕ) (o p : Result (List ℕ) MachineFault) → RunOutcome image n schedule o → RunOutcome image n schedule p → o ≡ p
-run_one image n schedule (Ok a) (Ok b) x y = ap Ok (x.output ∙ sym y.output)
-run_one image n schedule (Ok a) (Err machine.BadCount) x y = absurd (y.0 x.count)
-run_one image n schedule (Ok a) (Err machine.BadThread) x y = absurd (y.0.1 x.there)
-run_one image n schedule (Ok a) (Err machine.OutOfMemory) x y = absurd (y.1 refl)
-run_one image n schedule (Err machine.BadCount) (Ok b) x y = absurd (x.0 y.count)
-run_one image n schedule (Err machine.BadCount) (Err machine.BadCount) x y = refl
-run_one image n schedule (Err machine.BadCount) (Err machine.BadThread) x y = absurd (x.0 y.0.0)
-run_one image n schedule (Err machine.BadCount) (Err machine.OutOfMemory) x y = absurd (y.1 refl)
-run_one image n schedule (Err machine.BadThread) (Ok b) x y = absurd (x.0.1 y.there)
-run_one image n schedule (Err machine.BadThread) (Err machine.BadCount) x y = absurd (y.0 x.0.0)
-run_one image n schedule (Err machine.BadThread) (Err machine.BadThread) x y = refl
-run_one image n schedule (Err machine.BadThread) (Err machine.OutOfMemory) x y = absurd (y.1 refl)
-run_one image n schedule (Err machine.OutOfMemory) p x y = absurd (x.1 refl)
-
-abbrev from_run : Result (List ℕ) MachineFault → Result (List ℕ) CommandFault
-from_run (Ok output) = Ok output
-from_run (Err f) = Err (fault.Machine f)
-
-no_memory_run : (f : MachineFault) → (IsWantOfMemory (fault.Machine f) → ⊥) → f ≢ machine.OutOfMemory
-no_memory_run f tells e = tells (subst (λ (g : MachineFault). IsWantOfMemory (fault.Machine g)) (sym e) tt)
-
 -- ---- `step`
 
+abbrev from_run : Bool → Image → Result Log JournalFault → Result (List ℕ) CommandFault
+from_run record_it image (Ok log) = Ok (written record_it image log)
+from_run record_it image (Err f) = Err (fault.Journal f)
+
+no_memory_run : (f : JournalFault) → (IsWantOfMemory (fault.Journal f) → ⊥) → f ≢ journal.OutOfMemory
+no_memory_run f tells e = tells (subst (λ (g : JournalFault). IsWantOfMemory (fault.Journal g)) (sym e) tt)
+
 -- what a program, or none, makes of a run
-abbrev StepForm : ℕ → List ℕ → Result Image ProgramFault → Result (List ℕ) CommandFault → Type 0
-StepForm n schedule (Ok image) o = (r : Result (List ℕ) MachineFault) × (o ≡ from_run r) × RunOutcome image n schedule r
-StepForm n schedule (Err f) o = o ≡ Err (fault.Program f)
+abbrev StepForm : ℕ → List ℕ → Bool → Result Image ProgramFault → Result (List ℕ) CommandFault → Type 0
+StepForm n schedule record_it (Ok image) o = (r : Result Log JournalFault) × (o ≡ from_run record_it image r) × RunOutcome image n schedule r
+StepForm n schedule record_it (Err f) o = o ≡ Err (fault.Program f)
 
-abbrev IsStepOutcome : ℕ → List ℕ → List ℕ → Result (List ℕ) CommandFault → Type 0
-IsStepOutcome n schedule input o = (q : Result Image ProgramFault) × ProgramOutcome input q × StepForm n schedule q o
+abbrev IsStepOutcome : ℕ → List ℕ → Bool → List ℕ → Result (List ℕ) CommandFault → Type 0
+IsStepOutcome n schedule record_it input o = (q : Result Image ProgramFault) × ProgramOutcome input q × StepForm n schedule record_it q o
 
-step_form_one : (n : ℕ) (schedule : List ℕ) (q : Result Image ProgramFault) (o p : Result (List ℕ) CommandFault) → StepForm n schedule q o → StepForm n schedule q p → o ≡ p
-step_form_one n schedule (Ok image) o p x y = x.1 ∙ ap from_run (run_one image n schedule x.0 y.0 x.2 y.2) ∙ sym y.1
-step_form_one n schedule (Err f) o p x y = x ∙ sym y
+step_form_one : (n : ℕ) (schedule : List ℕ) (record_it : Bool) (q : Result Image ProgramFault) (o p : Result (List ℕ) CommandFault) → StepForm n schedule record_it q o → StepForm n schedule record_it q p → o ≡ p
+step_form_one n schedule record_it (Ok image) o p x y = x.1 ∙ ap (from_run record_it image) (run_one image n schedule x.0 y.0 x.2 y.2) ∙ sym y.1
+step_form_one n schedule record_it (Err f) o p x y = x ∙ sym y
 
-step_one : TextsAreOne → BytesAreOne → (n : ℕ) (schedule input : List ℕ) (o p : Result (List ℕ) CommandFault) → All (λ b. b < 256) input → IsStepOutcome n schedule input o → IsStepOutcome n schedule input p → o ≡ p
-step_one texts bytes n schedule input o p all x y =
+step_one : TextsAreOne → BytesAreOne → (n : ℕ) (schedule : List ℕ) (record_it : Bool) (input : List ℕ) (o p : Result (List ℕ) CommandFault) → All (λ b. b < 256) input → IsStepOutcome n schedule record_it input o → IsStepOutcome n schedule record_it input p → o ≡ p
+step_one texts bytes n schedule record_it input o p all x y =
     let same : y.0 ≡ x.0 = program_one texts bytes input y.0 x.0 all y.1 x.1 in
-    step_form_one n schedule x.0 o p x.2 (subst (λ (q : Result Image ProgramFault). StepForm n schedule q p) same y.2)
+    step_form_one n schedule record_it x.0 o p x.2 (subst (λ (q : Result Image ProgramFault). StepForm n schedule record_it q p) same y.2)
 
-step_ok : (n : ℕ) (schedule input output : List ℕ) → IsStepped input n schedule output → IsStepOutcome n schedule input (Ok output)
-step_ok n schedule input output x = (Ok x.image, x.program, (Ok output, refl, x.run))
+step_is : (n : ℕ) (schedule : List ℕ) (record_it : Bool) (input : List ℕ) (o : Result (List ℕ) CommandFault) → MatchResult o (λ output. IsStepped input n schedule record_it output) (λ f. IsRefusedStep input n schedule f × (IsWantOfMemory f → ⊥)) → IsStepOutcome n schedule record_it input o
+step_is n schedule record_it input (Ok output) x = (Ok x.image, x.program, (Ok x.log, ap Ok x.output_is, (x.legal, x.recorded)))
+step_is n schedule record_it input (Err (fault.Program cause)) x = (Err cause, (x.0, x.1), refl)
+step_is n schedule record_it input (Err (fault.File cause)) x = absurd x.0
+step_is n schedule record_it input (Err (fault.Journal cause)) x = (Ok x.0.image, x.0.program, (Err cause, refl, (x.0.refused, no_memory_run cause x.1)))
+step_is n schedule record_it input (Err fault.OutOfMemory) x = absurd (x.1 tt)
 
-step_err : (n : ℕ) (schedule input : List ℕ) (f : CommandFault) → IsRefusedStep input n schedule f → (IsWantOfMemory f → ⊥) → IsStepOutcome n schedule input (Err f)
-step_err n schedule input (fault.Program cause) x tells = (Err cause, (x, tells), refl)
-step_err n schedule input (fault.Machine cause) x tells = (Ok x.image, x.program, (Err cause, refl, (x.refused, no_memory_run cause tells)))
-step_err n schedule input fault.OutOfMemory x tells = absurd (tells tt)
+-- ---- `replay`
 
-step_is : (n : ℕ) (schedule input : List ℕ) (o : Result (List ℕ) CommandFault) → MatchResult o (λ output. IsStepped input n schedule output) (λ f. IsRefusedStep input n schedule f × (IsWantOfMemory f → ⊥)) → IsStepOutcome n schedule input o
-step_is n schedule input (Ok output) x = step_ok n schedule input output x
-step_is n schedule input (Err f) x = step_err n schedule input f x.0 x.1
+-- what a journal is to replay
+abbrev ReplayOutcome : Image → Log → Result Log JournalFault → Type 0
+ReplayOutcome image log (Ok other) = IsJournal image log.threads log.events × (other ≡ log)
+ReplayOutcome image log (Err f) = IsReplayFault image log f × (f ≢ journal.OutOfMemory)
+
+replay_one : (image : Image) (log : Log) (o p : Result Log JournalFault) → ReplayOutcome image log o → ReplayOutcome image log p → o ≡ p
+replay_one image log (Ok a) (Ok b) x y = ap Ok (x.1 ∙ sym y.1)
+replay_one image log (Ok a) (Err (journal.Differs i)) x y = absurd (no_difference image (start_of image log.threads) log.events i x.0.replies y.0)
+replay_one image log (Ok a) (Err journal.OutOfMemory) x y = absurd (y.1 refl)
+replay_one image log (Ok a) (Err g) x y = absurd y.0
+replay_one image log (Err (journal.Differs i)) (Ok b) x y = absurd (no_difference image (start_of image log.threads) log.events i y.0.replies x.0)
+replay_one image log (Err (journal.Differs i)) (Err (journal.Differs j)) x y = ap (λ (k : ℕ). Err (journal.Differs k)) (one_difference image (start_of image log.threads) log.events i j x.0 y.0)
+replay_one image log (Err (journal.Differs i)) (Err journal.OutOfMemory) x y = absurd (y.1 refl)
+replay_one image log (Err (journal.Differs i)) (Err g) x y = absurd y.0
+replay_one image log (Err journal.OutOfMemory) p x y = absurd (x.1 refl)
+replay_one image log (Err f) p x y = absurd x.0
+
+abbrev from_replay : Result Log JournalFault → Result (List ℕ) CommandFault
+from_replay (Ok log) = Ok (same_text log)
+from_replay (Err f) = Err (fault.Journal f)
+
+-- what a run file, or none, makes of replay
+abbrev ReplayForm : Result (Image × Log) FileFault → Result (List ℕ) CommandFault → Type 0
+ReplayForm (Ok run) o = (r : Result Log JournalFault) × (o ≡ from_replay r) × ReplayOutcome run.0 run.1 r
+ReplayForm (Err f) o = o ≡ Err (fault.File f)
+
+abbrev HasReplayForm : List ℕ → Result (List ℕ) CommandFault → Type 0
+HasReplayForm input o = (q : Result (Image × Log) FileFault) × IsFileOutcome input q × ReplayForm q o
+
+replay_form_one : (q : Result (Image × Log) FileFault) (o p : Result (List ℕ) CommandFault) → ReplayForm q o → ReplayForm q p → o ≡ p
+replay_form_one (Ok run) o p x y = x.1 ∙ ap from_replay (replay_one run.0 run.1 x.0 y.0 x.2 y.2) ∙ sym y.1
+replay_form_one (Err f) o p x y = x ∙ sym y
+
+no_memory_file : (f : FileFault) → (IsWantOfMemory (fault.File f) → ⊥) → f ≢ file.OutOfMemory
+no_memory_file f tells e = tells (subst (λ (g : FileFault). IsWantOfMemory (fault.File g)) (sym e) tt)
+
+replay_is : (input : List ℕ) (o : Result (List ℕ) CommandFault) → MatchResult o (λ output. IsReplayed input output) (λ f. IsRefusedReplay input f × (IsWantOfMemory f → ⊥)) → HasReplayForm input o
+replay_is input (Ok output) x = (Ok (x.image, x.log), x.run, (Ok x.log, ap Ok x.output_is, (x.journal, refl)))
+replay_is input (Err (fault.Program cause)) x = absurd x.0
+replay_is input (Err (fault.File cause)) x = (Err cause, (x.0, no_memory_file cause x.1), refl)
+replay_is input (Err (fault.Journal cause)) x = (Ok (x.0.image, x.0.log), x.0.run, (Err cause, refl, (x.0.refused, no_memory_run cause x.1)))
+replay_is input (Err fault.OutOfMemory) x = absurd (x.1 tt)
+
+replays_one : (input : List ℕ) (o p : Result (List ℕ) CommandFault) → All (λ b. b < 256) input → HasReplayForm input o → HasReplayForm input p → o ≡ p
+replays_one input o p all x y =
+    let same : y.0 ≡ x.0 = file_outcome_is_one input y.0 x.0 all y.1 x.1 in
+    replay_form_one x.0 o p x.2 (subst (λ (q : Result (Image × Log) FileFault). ReplayForm q p) same y.2)
 
 -- ---- `asm`
 
@@ -167,7 +200,8 @@ text_is : (input : List ℕ) (o : Result (List ℕ) CommandFault) → MatchResul
 text_is input (Ok output) x = (Ok x.image, (x.program.spelled, x.program.verified), (output, refl, x.spelled))
 text_is input (Err (fault.Program (program.Text cause))) x = (Err cause, (x.0, no_memory_text cause x.1), refl)
 text_is input (Err (fault.Program (program.Image cause))) x = absurd x.0
-text_is input (Err (fault.Machine cause)) x = absurd x.0
+text_is input (Err (fault.File cause)) x = absurd x.0
+text_is input (Err (fault.Journal cause)) x = absurd x.0
 text_is input (Err fault.OutOfMemory) x = absurd (x.1 tt)
 
 text_one : TextsAreOne → (input : List ℕ) (o p : Result (List ℕ) CommandFault) → IsTextOutcome input o → IsTextOutcome input p → o ≡ p
@@ -192,7 +226,8 @@ image_is : (input : List ℕ) (o : Result (List ℕ) CommandFault) → MatchResu
 image_is input (Ok output) x = (Ok x.image, (x.program.spelled, x.program.verified), ap Ok x.canonical)
 image_is input (Err (fault.Program (program.Image cause))) x = (Err cause, (x.0, no_memory_image cause x.1), refl)
 image_is input (Err (fault.Program (program.Text cause))) x = absurd x.0
-image_is input (Err (fault.Machine cause)) x = absurd x.0
+image_is input (Err (fault.File cause)) x = absurd x.0
+image_is input (Err (fault.Journal cause)) x = absurd x.0
 image_is input (Err fault.OutOfMemory) x = absurd (x.1 tt)
 
 image_one : BytesAreOne → (input : List ℕ) (o p : Result (List ℕ) CommandFault) → All (λ b. b < 256) input → IsImageOutcome input o → IsImageOutcome input p → o ≡ p
@@ -211,12 +246,15 @@ cases c input (Ok output) x = x
 cases c input (Err f) x = x
 
 pub one_outcome : TextsAreOne → BytesAreOne → (c : Command) (input : List ℕ) (o p : Result (List ℕ) CommandFault) → All (λ b. b < 256) input → IsOutcome c input o → IsOutcome c input p → o ≡ p
-one_outcome texts bytes (command.Step n schedule) input o p all x y =
-    step_one texts bytes n schedule.items input o p all (step_is n schedule.items input o (cases (command.Step n schedule) input o x)) (step_is n schedule.items input p (cases (command.Step n schedule) input p y))
+one_outcome texts bytes (command.Step n schedule record_it) input o p all x y =
+    let c = command.Step n schedule record_it in
+    step_one texts bytes n schedule.items record_it input o p all (step_is n schedule.items record_it input o (cases c input o x)) (step_is n schedule.items record_it input p (cases c input p y))
 one_outcome texts bytes command.Assemble input o p all x y =
     text_one texts input o p (text_is input o (cases command.Assemble input o x)) (text_is input p (cases command.Assemble input p y))
 one_outcome texts bytes command.Disassemble input o p all x y =
     image_one bytes input o p all (image_is input o (cases command.Disassemble input o x)) (image_is input p (cases command.Disassemble input p y))
+one_outcome texts bytes command.Replay input o p all x y =
+    replays_one input o p all (replay_is input o (cases command.Replay input o x)) (replay_is input p (cases command.Replay input p y))
 
 -- ---- there is one
 
@@ -234,6 +272,14 @@ want_text asm.OutOfMemory w = refl
 want_text (asm.Line number) w = absurd w
 want_text (asm.Verify cause) w = absurd w
 
+want_journal : (f : JournalFault) → IsWantOfMemory (fault.Journal f) → f ≡ journal.OutOfMemory
+want_journal journal.OutOfMemory w = refl
+want_journal f w = absurd w
+
+want_file : (f : FileFault) → IsWantOfMemory (fault.File f) → f ≡ file.OutOfMemory
+want_file file.OutOfMemory w = refl
+want_file f w = absurd w
+
 by_bytes : (input : List ℕ) (r : Result Image LoadFault) → BeginsAsImage input → bytes.IsOutcome input r → ProgramOutcome input (from_bytes r)
 by_bytes input (Ok image) y x = record { as_image = λ _. record { spelled = x.0; verified = x.1 }; as_text = λ n. absurd (n y) }
 by_bytes input (Err f) y x = ((y, x.0), λ w. x.1 (want_image f w))
@@ -249,49 +295,25 @@ some_program texts bytes input all =
       | inr n ↦ (let r = texts input in (from_text r.0, by_text input r.0 n r.1))
     ]
 
-counted : (n : ℕ) → IsCount n ⊎ (IsCount n → ⊥)
-counted n =
-    elim (cases_lt 0 n) [
-      | inl some ↦ elim (cases_lt 64 n) [
-        | inl many ↦ inr (λ c. absurd (omega (arith, many, c.few)))
-        | inr few ↦ inl (record { some = omega (arith, some); few = few })
-      ]
-      | inr none ↦ inr (λ c. absurd (omega (arith, none, c.some)))
-    ]
-
-there : (n : ℕ) (schedule : List ℕ) → AllByRecursion (λ t. t < n) schedule ⊎ (AllByRecursion (λ t. t < n) schedule → ⊥)
-there n [] = inl tt
-there n (t ∷ schedule) =
-    elim (cases_lt t n) [
-      | inl low ↦ elim (there n schedule) [
-        | inl rest ↦ inl (low, rest)
-        | inr missing ↦ inr (λ h. missing h.1)
-      ]
-      | inr high ↦ inr (λ h. absurd (omega (arith, high, h.0)))
-    ]
-
-some_run : (image : Image) (n : ℕ) (schedule : List ℕ) → (r : Result (List ℕ) MachineFault) × RunOutcome image n schedule r
-some_run image n schedule =
-    elim (counted n) [
-      | inl count ↦ elim (there n schedule) [
-        | inl each ↦ (Ok (step_output image n schedule), record { count = count; there = All-from_recursion (λ t. t < n) schedule each; output = refl })
-        | inr missing ↦ (Err machine.BadThread, ((count, λ each. missing (recursion_from_All (λ t. t < n) schedule each)), λ e. absurd cc))
-      ]
-      | inr none ↦ (Err machine.BadCount, (none, λ e. absurd cc))
-    ]
-
 -- what a run's outcome is to the command
-step_run : (n : ℕ) (schedule input : List ℕ) (image : Image) (r : Result (List ℕ) MachineFault) → IsProgram input image → RunOutcome image n schedule r
-    → MatchResult (from_run r) (λ output. IsStepped input n schedule output) (λ f. IsRefusedStep input n schedule f × (IsWantOfMemory f → ⊥))
-step_run n schedule input image (Ok output) p x = record { image = image; program = p; run = x }
-step_run n schedule input image (Err machine.BadCount) p x = (record { image = image; program = p; refused = x.0 }, λ w. absurd w)
-step_run n schedule input image (Err machine.BadThread) p x = (record { image = image; program = p; refused = x.0 }, λ w. absurd w)
-step_run n schedule input image (Err machine.OutOfMemory) p x = absurd (x.1 refl)
+step_run : (n : ℕ) (schedule : List ℕ) (record_it : Bool) (input : List ℕ) (image : Image) (r : Result Log JournalFault) → IsProgram input image → RunOutcome image n schedule r
+    → MatchResult (from_run record_it image r) (λ output. IsStepped input n schedule record_it output) (λ f. IsRefusedStep input n schedule f × (IsWantOfMemory f → ⊥))
+step_run n schedule record_it input image (Ok log) p x = record { image = image; log = log; program = p; legal = x.0; recorded = x.1; output_is = refl }
+step_run n schedule record_it input image (Err f) p x = (record { image = image; program = p; refused = x.0 }, λ w. x.1 (want_journal f w))
 
-some_step : (n : ℕ) (schedule input : List ℕ) (q : Result Image ProgramFault) → ProgramOutcome input q
-    → (o : Result (List ℕ) CommandFault) × MatchResult o (λ output. IsStepped input n schedule output) (λ f. IsRefusedStep input n schedule f × (IsWantOfMemory f → ⊥))
-some_step n schedule input (Ok image) p = let r = some_run image n schedule in (from_run r.0, step_run n schedule input image r.0 p r.1)
-some_step n schedule input (Err f) p = (Err (fault.Program f), (p.0, p.1))
+some_step : (n : ℕ) (schedule : List ℕ) (record_it : Bool) (input : List ℕ) (q : Result Image ProgramFault) → ProgramOutcome input q
+    → (o : Result (List ℕ) CommandFault) × MatchResult o (λ output. IsStepped input n schedule record_it output) (λ f. IsRefusedStep input n schedule f × (IsWantOfMemory f → ⊥))
+some_step n schedule record_it input (Ok image) p = let r = some_run image n schedule in (from_run record_it image r.0, step_run n schedule record_it input image r.0 p r.1)
+some_step n schedule record_it input (Err f) p = (Err (fault.Program f), (p.0, p.1))
+
+some_replay : (input : List ℕ) (q : Result (Image × Log) FileFault) → IsFileOutcome input q
+    → (o : Result (List ℕ) CommandFault) × MatchResult o (λ output. IsReplayed input output) (λ f. IsRefusedReplay input f × (IsWantOfMemory f → ⊥))
+some_replay input (Ok run) x =
+    elim (some_difference run.0 (start_of run.0 run.1.threads) run.1.events) [
+      | inl goes ↦ (Ok (same_text run.1), record { image = run.0; log = run.1; run = x; journal = record { there = x.journal.fits.is_log.there; replies = goes }; output_is = refl })
+      | inr d ↦ (Err (fault.Journal (journal.Differs d.0)), (record { image = run.0; log = run.1; run = x; refused = d.1 }, λ w. absurd w))
+    ]
+some_replay input (Err f) x = (Err (fault.File f), (x.0, λ w. x.1 (want_file f w)))
 
 some_image : (input : List ℕ) (r : Result Image AsmFault) → text.IsOutcome input r
     → (o : Result (List ℕ) CommandFault) × MatchResult o (λ output. IsAssembled input output) (λ f. IsRefusedText input f × (IsWantOfMemory f → ⊥))
@@ -310,10 +332,10 @@ uncased c input (Ok output) x = x
 uncased c input (Err f) x = x
 
 pub some_outcome : TextsHaveOne → BytesHaveOne → (c : Command) (input : List ℕ) → All (λ b. b < 256) input → (o : Result (List ℕ) CommandFault) × IsOutcome c input o
-some_outcome texts bytes (command.Step n schedule) input all =
+some_outcome texts bytes (command.Step n schedule record_it) input all =
     let q = some_program texts bytes input all in
-    let o = some_step n schedule.items input q.0 q.1 in
-    (o.0, uncased (command.Step n schedule) input o.0 o.1)
+    let o = some_step n schedule.items record_it input q.0 q.1 in
+    (o.0, uncased (command.Step n schedule record_it) input o.0 o.1)
 some_outcome texts bytes command.Assemble input all =
     let r = texts input in
     let o = some_image input r.0 r.1 in
@@ -322,3 +344,7 @@ some_outcome texts bytes command.Disassemble input all =
     let r = bytes input all in
     let o = some_text input r.0 r.1 in
     (o.0, uncased command.Disassemble input o.0 o.1)
+some_outcome texts bytes command.Replay input all =
+    let q = files_have_an_outcome input all in
+    let o = some_replay input q.0 q.1 in
+    (o.0, uncased command.Replay input o.0 o.1)

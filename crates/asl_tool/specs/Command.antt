@@ -11,6 +11,8 @@ use Rattle.asl_tool.specs.declared.command.Command.TheVariants as command
 use Rattle.asl_tool.specs.declared.command.CommandFault.{CommandFault}
 use Rattle.asl_tool.specs.declared.command.CommandFault.TheVariants as fault
 use Rattle.asl_tool.specs.Program.{IsProgramText, IsProgramImage, IsNoProgram}
+use Rattle.asl_tool.specs.Replay.{IsReplayed, HasRefusedReplay}
+use Rattle.asl_tool.specs.RunFile.{IsFileFault}
 use Rattle.asl_tool.specs.Step.{IsStepped, HasRefusedRun}
 
 -- the text is a program, and the bytes are its image
@@ -27,17 +29,19 @@ pub record IsDisassembled (bytes text : List ℕ) : Type 0 where
 
 -- the output of each command for an input
 abbrev pub IsOutput : Command → List ℕ → List ℕ → Type 0
-IsOutput (command.Step threads schedule) input text = IsStepped input threads schedule.items text
+IsOutput (command.Step threads schedule record_it) input output = IsStepped input threads schedule.items record_it output
 IsOutput command.Assemble input image = IsAssembled input image
 IsOutput command.Disassemble input text = IsDisassembled input text
+IsOutput command.Replay input text = IsReplayed input text
 
 -- what each refusal of `step` says of the input; of want of memory nothing is said
 abbrev pub IsRefusedStep : List ℕ → ℕ → List ℕ → CommandFault → Type 0
 IsRefusedStep input threads schedule (fault.Program cause) = IsNoProgram input cause
-IsRefusedStep input threads schedule (fault.Machine cause) = HasRefusedRun input threads schedule cause
+IsRefusedStep input threads schedule (fault.Journal cause) = HasRefusedRun input threads schedule cause
 IsRefusedStep input threads schedule fault.OutOfMemory = Unit {0}
+IsRefusedStep input threads schedule f = ⊥
 
--- what each refusal of `asm` says of the text: a machine has no part in it
+-- what each refusal of `asm` says of the text
 abbrev pub IsRefusedText : List ℕ → CommandFault → Type 0
 IsRefusedText input (fault.Program (program.Text cause)) = text.IsFault input cause
 IsRefusedText input fault.OutOfMemory = Unit {0}
@@ -49,8 +53,16 @@ IsRefusedImage image (fault.Program (program.Image cause)) = bytes.IsFault image
 IsRefusedImage image fault.OutOfMemory = Unit {0}
 IsRefusedImage image f = ⊥
 
+-- what each refusal of a run file's command says of the file: it is none, or its journal is none of its program
+abbrev pub IsRefusedReplay : List ℕ → CommandFault → Type 0
+IsRefusedReplay input (fault.File cause) = IsFileFault input cause
+IsRefusedReplay input (fault.Journal cause) = HasRefusedReplay input cause
+IsRefusedReplay input fault.OutOfMemory = Unit {0}
+IsRefusedReplay input f = ⊥
+
 -- what each refusal of a command says of the input
 abbrev pub IsRefused : Command → List ℕ → CommandFault → Type 0
-IsRefused (command.Step threads schedule) input f = IsRefusedStep input threads schedule.items f
+IsRefused (command.Step threads schedule record_it) input f = IsRefusedStep input threads schedule.items f
 IsRefused command.Assemble input f = IsRefusedText input f
 IsRefused command.Disassemble input f = IsRefusedImage input f
+IsRefused command.Replay input f = IsRefusedReplay input f

@@ -1,7 +1,9 @@
 pub mod Streams
 pub mod Output
 pub mod Program
+pub mod RunFile
 pub mod Step
+pub mod Replay
 pub mod Command
 pub mod Outcome
 pub mod Tool

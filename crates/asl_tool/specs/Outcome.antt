@@ -2,8 +2,9 @@
 use Rattle.std.specs.Prelude.{ℕ, List, Result, Ok, Err}
 use Rattle.asl_assembler.specs.declared.assembly.AsmFault.TheVariants as asm
 use Rattle.asl_loader.specs.declared.fault.LoadFault.TheVariants as load
-use Rattle.asl_machine.specs.declared.fault.MachineFault.TheVariants as machine
+use Rattle.asl_journal.specs.declared.fault.JournalFault.TheVariants as journal
 use Rattle.asl_tool.specs.declared.program.ProgramFault.TheVariants as program
+use Rattle.asl_tool.specs.declared.run_file.FileFault.TheVariants as file
 use Rattle.asl_tool.specs.declared.command.Command.{Command}
 use Rattle.asl_tool.specs.declared.command.CommandFault.{CommandFault}
 use Rattle.asl_tool.specs.declared.command.CommandFault.TheVariants as fault
@@ -13,7 +14,8 @@ use Rattle.asl_tool.specs.Command.{IsOutput, IsRefused}
 abbrev pub IsWantOfMemory : CommandFault → Type 0
 IsWantOfMemory (fault.Program (program.Text asm.OutOfMemory)) = Unit {0}
 IsWantOfMemory (fault.Program (program.Image load.OutOfMemory)) = Unit {0}
-IsWantOfMemory (fault.Machine machine.OutOfMemory) = Unit {0}
+IsWantOfMemory (fault.File file.OutOfMemory) = Unit {0}
+IsWantOfMemory (fault.Journal journal.OutOfMemory) = Unit {0}
 IsWantOfMemory fault.OutOfMemory = Unit {0}
 IsWantOfMemory f = ⊥
 

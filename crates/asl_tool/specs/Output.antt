@@ -1,4 +1,4 @@
--- What the command `step` writes: a line for each step of the schedule, with the step's number, its thread and the
+-- The texts that commands write of replies: a line for each step of a run, with the step's number, its thread and the
 -- machine's reply (docs/INSTRUCTIONS.md). Numbers are in decimal digits.
 use Rattle.std.specs.Prelude.{ℕ, suc, List, [], ◌∷◌, ◌++◌, codes}
 use Rattle.std.specs.Fmt.{decimal, signed_decimal}
@@ -7,12 +7,11 @@ use Rattle.asl_code.specs.declared.value.Value.TheVariants.{Int, Null, Addr}
 use Rattle.asl_code.specs.declared.value.Cell.{Cell}
 use Rattle.asl_code.specs.declared.value.Effect.{Effect}
 use Rattle.asl_code.specs.declared.value.Effect.TheVariants.{Read, Write}
-use Rattle.asl_code.specs.declared.image.Image.{Image}
 use Rattle.asl_machine.specs.declared.fault.Fault.{Fault}
 use Rattle.asl_machine.specs.declared.fault.Fault.TheVariants as fault
 use Rattle.asl_machine.specs.declared.reply.Reply.{Reply}
 use Rattle.asl_machine.specs.declared.reply.Reply.TheVariants as reply
-use Rattle.asl_machine.specs.Run.{start_of, replies_of}
+use Rattle.asl_journal.specs.declared.event.Event.{Event}
 
 -- an address, as `0.1`
 abbrev pub address_text : ℕ → ℕ → List ℕ
@@ -57,12 +56,7 @@ reply_text (reply.Fault f) = codes "fault " ++ fault_text f
 abbrev pub step_line : ℕ → ℕ → Reply → List ℕ
 step_line number thread r = decimal number ++ codes " " ++ decimal thread ++ codes " " ++ reply_text r ++ 10 ∷ []
 
--- the lines of a schedule and its replies, numbered from the given number on
-abbrev pub step_lines : ℕ → List ℕ → List Reply → List ℕ
-step_lines number [] replies = []
-step_lines number (t ∷ ts) [] = []
-step_lines number (t ∷ ts) (r ∷ rs) = step_line number t r ++ step_lines (suc number) ts rs
-
--- all that `step` writes for a program, a number of threads and a schedule
-abbrev pub step_output : Image → ℕ → List ℕ → List ℕ
-step_output image threads schedule = step_lines 0 schedule (replies_of image (start_of image threads) schedule)
+-- the lines of a journal's events, numbered from the given number on
+abbrev pub event_lines : ℕ → List Event → List ℕ
+event_lines number [] = []
+event_lines number (event ∷ events) = step_line number event.thread event.reply ++ event_lines (suc number) events

@@ -1,10 +1,12 @@
 -- What the command `step` answers: its output, or a named refusal (docs/LIMITS.md, "Refusals of the program asl").
-use Rattle.std.specs.Prelude.{◌≡◌, ℕ, ◌<◌, ◌≤◌, List, All}
+use Rattle.std.specs.Prelude.{◌≡◌, ℕ, ◌<◌, ◌≤◌, Bool, true, false, List, length, take, All}
 use Rattle.asl_code.specs.declared.image.Image.{Image}
-use Rattle.asl_machine.specs.declared.fault.MachineFault.{MachineFault}
-use Rattle.asl_machine.specs.declared.fault.MachineFault.TheVariants as machine
-use Rattle.asl_tool.specs.Output.{step_output}
+use Rattle.asl_journal.specs.declared.fault.JournalFault.{JournalFault}
+use Rattle.asl_journal.specs.declared.fault.JournalFault.TheVariants as journal
+use Rattle.asl_journal.specs.Journal.{Log, IsJournal, schedule_of, most_events}
+use Rattle.asl_tool.specs.Output.{event_lines}
 use Rattle.asl_tool.specs.Program.{IsProgram}
+use Rattle.asl_tool.specs.RunFile.{run_bytes}
 
 -- a machine has 1 to 64 threads
 pub record IsCount (threads : ℕ) : Type 0 where
@@ -15,27 +17,47 @@ pub record IsCount (threads : ℕ) : Type 0 where
 abbrev pub AllThere : ℕ → List ℕ → Type 0
 AllThere threads schedule = All (λ t. t < threads) schedule
 
--- the threads are a machine's, the schedule is of these threads, and the text is the program's output
-pub record IsRun (image : Image) (threads : ℕ) (schedule text : List ℕ) : Type 0 where
+-- the threads are a machine's, and the schedule is of these threads, with no more steps than a journal has
+pub record IsSchedule (threads : ℕ) (schedule : List ℕ) : Type 0 where
   pub count : IsCount threads
+  pub short : length schedule ≤ most_events
   pub there : AllThere threads schedule
-  pub output : text ≡ step_output image threads schedule
 
--- the input is a program, and the text is its output
-pub record IsStepped (input : List ℕ) (threads : ℕ) (schedule text : List ℕ) : Type 0 where
+-- the journal is the one of the program over the schedule
+pub record IsRecord (image : Image) (threads : ℕ) (schedule : List ℕ) (log : Log) : Type 0 where
+  pub threads_are : log.threads ≡ threads
+  pub schedule_is : schedule_of log.events ≡ schedule
+  pub journal : IsJournal image threads log.events
+
+-- what is written of a journal: a line for each event, or all of it, with its program, as a run file
+abbrev pub written : Bool → Image → Log → List ℕ
+written false image log = event_lines 0 log.events
+written true image log = run_bytes image log
+
+-- the input is a program, and the output is what is written of its journal over the schedule
+pub record IsStepped (input : List ℕ) (threads : ℕ) (schedule : List ℕ) (record_it : Bool) (output : List ℕ) : Type 0 where
   pub image : Image
+  pub log : Log
   pub program : IsProgram input image
-  pub run : IsRun image threads schedule text
+  pub legal : IsSchedule threads schedule
+  pub recorded : IsRecord image threads schedule log
+  pub output_is : output ≡ written record_it image log
 
--- why a program is not run: there is no machine of so many threads, or the schedule names a thread that is not there;
--- of want of memory nothing is said
-abbrev pub IsRefusedRun : ℕ → List ℕ → MachineFault → Type 0
-IsRefusedRun threads schedule machine.BadCount = IsCount threads → ⊥
-IsRefusedRun threads schedule machine.BadThread = IsCount threads × (AllThere threads schedule → ⊥)
-IsRefusedRun threads schedule machine.OutOfMemory = Unit {0}
+-- What is wrong with a schedule, as its steps would meet it one by one: there is no machine of so many threads, a step is
+-- of a thread that is not there, or a journal has no room for so many steps.
+abbrev pub IsFaultySchedule : ℕ → List ℕ → JournalFault → Type 0
+IsFaultySchedule threads schedule journal.BadCount = IsCount threads → ⊥
+IsFaultySchedule threads schedule journal.BadThread = IsCount threads × (AllThere threads (take most_events schedule) → ⊥)
+IsFaultySchedule threads schedule journal.JournalFull = IsCount threads × AllThere threads (take most_events schedule) × (most_events < length schedule)
+IsFaultySchedule threads schedule fault = ⊥
+
+-- why a program is not run: its schedule is faulty; only where it is not may memory be wanted
+abbrev pub IsRefusedRun : ℕ → List ℕ → JournalFault → Type 0
+IsRefusedRun threads schedule journal.OutOfMemory = IsSchedule threads schedule
+IsRefusedRun threads schedule fault = IsFaultySchedule threads schedule fault
 
 -- the input is a program that is not run
-pub record HasRefusedRun (input : List ℕ) (threads : ℕ) (schedule : List ℕ) (cause : MachineFault) : Type 0 where
+pub record HasRefusedRun (input : List ℕ) (threads : ℕ) (schedule : List ℕ) (cause : JournalFault) : Type 0 where
   pub image : Image
   pub program : IsProgram input image
   pub refused : IsRefusedRun threads schedule cause

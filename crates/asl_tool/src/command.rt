@@ -1,41 +1,53 @@
 //! The commands: from the bytes of an input to those of the output.
-ghost use Rattle.std.specs.Prelude.{IfOk, IfErr};
-ghost use Rattle.asl_tool.specs.Step.{IsStepped};
-ghost use Rattle.asl_tool.specs.Command.{IsAssembled, IsDisassembled, IsOutput, IsRefused, IsRefusedStep, IsRefusedText, IsRefusedImage};
+ghost use Rattle.std.specs.Prelude.{◌≡◌, IfOk, IfErr};
+ghost use Rattle.asl_tool.specs.Replay.{IsReplayed};
+ghost use Rattle.asl_tool.specs.Step.{IsStepped, written};
+ghost use Rattle.asl_tool.specs.Command.{IsAssembled, IsDisassembled, IsOutput, IsRefused, IsRefusedStep, IsRefusedText, IsRefusedImage, IsRefusedReplay};
 
 use crate::program::{ProgramFault, read_program};
-use crate::step::program_text;
+use crate::replaying::replayed_text;
+use crate::run_file::{FileFault, get_run, put_run};
+use crate::step::{lines_of, record_run};
 use asl_assembler::{assemble, disassemble};
+use asl_code::Program;
+use asl_journal::{Journal, JournalFault};
 use asl_loader::{load, store};
-use asl_machine::MachineFault;
-use std::alloc::Global;
+use std::alloc::{AllocError, Global};
 use thiserror::Error;
 
 /// What is made of an input.
 #[derive(Debug, Drop)]
 pub enum Command {
-    /// `step`: the lines of the replies of the input's program.
+    /// `step`: the lines of the replies of the input's program, or its run file.
     Step {
         /// How many threads the machine has.
         threads: u32,
         /// The thread of each step.
         schedule: Vec<u32>,
+        /// Whether the run file is written, in place of the lines.
+        record: bool,
     },
     /// `asm`: the image of the input, which is assembly text.
     Assemble,
     /// `dis`: the canonical text of the input, which is an image.
     Disassemble,
+    /// `replay`: whether the input, a run file, is a run of its program.
+    Replay,
 }
 
 /// Why a command gives no output. Where several apply, the first is answered.
 #[derive(Debug, Drop, Error)]
 pub enum CommandFault {
-    /// The input is not what the command takes.
+    /// The input is no program.
     #[error(transparent)]
     Program(ProgramFault),
-    /// There is no machine of so many threads, the schedule names a thread that is not there, or memory ran out.
+    /// The input is no run file.
     #[error(transparent)]
-    Machine(MachineFault),
+    File(FileFault),
+    /// There is no machine of so many threads, the schedule names a thread that is not there or is too long, the journal is
+    /// none of the program, or memory ran out.
+    #[error(transparent)]
+    Journal(JournalFault),
     /// Memory ran out.
     #[error("OutOfMemory")]
     OutOfMemory,
@@ -47,31 +59,56 @@ pub fn output_of(alloc: Global, command: &Command, input: &[u8]) -> Result<Vec<u
     ensures err { IfErr result (λ fault. IsRefused command.now input.now fault) }
 {
     match command {
-        Command::Step { threads, schedule } => {
-            stepped(alloc, *threads, schedule.as_slice(), input)
-        }
+        Command::Step {
+            threads,
+            schedule,
+            record,
+        } => stepped(alloc, *threads, schedule.as_slice(), *record, input),
         Command::Assemble => assembled(alloc, input),
         Command::Disassemble => disassembled(alloc, input),
+        Command::Replay => replayed(alloc, input),
     }
 }
 
-/// The lines of the replies of the input's program.
+/// What is written of the journal of the input's program.
 fn stepped(
     alloc: Global,
     threads: u32,
     schedule: &[u32],
+    record: bool,
     input: &[u8],
 ) -> Result<Vec<u8>, CommandFault>
-    ensures ok { IfOk result (λ bytes. IsStepped input.now threads schedule.now bytes.items) }
+    ensures ok { IfOk result (λ bytes. IsStepped input.now threads schedule.now «record» bytes.items) }
     ensures err { IfErr result (λ fault. IsRefusedStep input.now threads schedule.now fault) }
 {
     let program = match read_program(alloc, input) {
         Ok(program) => program,
         Err(fault) => return Err(CommandFault::Program(fault)),
     };
-    match program_text(alloc, threads, schedule, &program) {
-        Ok(text) => Ok(text.into_bytes()),
-        Err(fault) => Err(CommandFault::Machine(fault)),
+    let journal = match record_run(alloc, threads, schedule, &program) {
+        Ok(journal) => journal,
+        Err(fault) => return Err(CommandFault::Journal(fault)),
+    };
+    match written(alloc, &program, &journal, record) {
+        Ok(bytes) => Ok(bytes),
+        Err(_) => Err(CommandFault::OutOfMemory),
+    }
+}
+
+/// What is written of a journal: the run file, or the lines of its events.
+fn written(
+    alloc: Global,
+    program: &Program,
+    journal: &Journal,
+    record: bool,
+) -> Result<Vec<u8>, AllocError>
+    ensures { IfOk result (λ bytes. bytes.items ≡ written «record» program.now journal.now) }
+{
+    if record {
+        put_run(alloc, program, journal)
+    } else {
+        let text = lines_of(alloc, journal.events())?;
+        Ok(text.into_bytes())
     }
 }
 
@@ -85,7 +122,7 @@ fn assembled(alloc: Global, text: &[u8]) -> Result<Vec<u8>, CommandFault>
         Err(fault) => return Err(CommandFault::Program(ProgramFault::Text(fault))),
     };
     match store(alloc, &program) {
-        Ok(bytes) => Ok(bytes),
+        Ok(image) => Ok(image),
         Err(_) => Err(CommandFault::OutOfMemory),
     }
 }
@@ -102,5 +139,20 @@ fn disassembled(alloc: Global, image: &[u8]) -> Result<Vec<u8>, CommandFault>
     match disassemble(alloc, &program) {
         Ok(text) => Ok(text),
         Err(_) => Err(CommandFault::OutOfMemory),
+    }
+}
+
+/// Whether the run file is a run of its program.
+fn replayed(alloc: Global, file: &[u8]) -> Result<Vec<u8>, CommandFault>
+    ensures ok { IfOk result (λ text. IsReplayed file.now text.items) }
+    ensures err { IfErr result (λ fault. IsRefusedReplay file.now fault) }
+{
+    let (program, journal) = match get_run(alloc, file) {
+        Ok(run) => run,
+        Err(fault) => return Err(CommandFault::File(fault)),
+    };
+    match replayed_text(alloc, &program, &journal) {
+        Ok(text) => Ok(text.into_bytes()),
+        Err(fault) => Err(CommandFault::Journal(fault)),
     }
 }

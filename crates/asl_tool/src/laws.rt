@@ -3,6 +3,7 @@ ghost use Rattle.std.specs.Prelude.{◌≡◌, ◌<◌, ℕ, List, All, Result};
 ghost use Rattle.asl_tool.specs.declared.command.Command.{Command};
 ghost use Rattle.asl_tool.specs.declared.command.CommandFault.{CommandFault};
 ghost use Rattle.asl_tool.specs.Outcome.{IsOutcome};
+ghost use Rattle.asl_tool.specs.RunFile.{RunOfSpellingIsOne, SpellingOfRunIsOne, FilesHaveAnOutcome, FileOutcomeIsOne};
 
 use asl_assembler::laws::texts_have_one_outcome;
 use asl_loader::laws::bytes_have_one_outcome;
@@ -19,3 +20,15 @@ pub fn commands_have_one_outcome()
     texts_have_one_outcome();
     bytes_have_one_outcome();
 }
+
+/// A run and its bytes belong to no other. So to get what was put gives the same program and the same journal.
+pub fn run_and_bytes_are_one()
+    ensures run { RunOfSpellingIsOne }
+    ensures bytes { SpellingOfRunIsOne }
+{}
+
+/// Bytes have exactly one outcome as a run file: a run, or one refusal. Want of memory says nothing of them.
+pub fn run_files_have_one_outcome()
+    ensures some { FilesHaveAnOutcome }
+    ensures one { FileOutcomeIsOne }
+{}

@@ -6,7 +6,9 @@ mod command;
 mod fakes;
 pub mod laws;
 mod program;
+mod replaying;
 mod replies;
+mod run_file;
 mod step;
 mod streams;
 mod tool;
@@ -14,6 +16,7 @@ mod words;
 
 pub use command::{Command, CommandFault, output_of};
 pub use program::{ProgramFault, read_program};
+pub use run_file::{FileFault, get_run, put_run};
 pub use streams::{ReadFault, WriteFault};
 pub use tool::{ToolFault, perform, tool_alone};
 

@@ -83,7 +83,7 @@ fn push_reply(text: &mut String, reply: Reply) -> Result<(), AllocError>
 pub fn push_line(
     text: &mut String,
     number: usize,
-    thread: u32,
+    thread: u8,
     reply: Reply,
 ) -> Result<(), AllocError>
     ensures { OnOk result (string_bytes text.new ≡ string_bytes text.old ++ step_line number thread reply) }

@@ -1,48 +1,52 @@
-//! The command `step`: from a program to the lines of its replies.
-ghost use Rattle.std.specs.Prelude.{◌≡◌, ◌≢◌, ◌↔◌, ◌<◌, IsTrue, IfOk, IfErr, OnOk, length, string_bytes};
-ghost use Rattle.asl_machine.specs.Run.{replies_of};
-ghost use Rattle.asl_machine.specs.Twin.{step_of};
-ghost use Rattle.asl_tool.specs.Output.{step_lines};
-ghost use Rattle.asl_tool.specs.Step.{AllThere, IsRun, IsRefusedRun};
+//! The command `step`: from a program to the journal of its run, and to the lines of its replies.
+ghost use Rattle.std.specs.Prelude.{◌≡◌, ◌↔◌, ◌+◌, ◌≤◌, ◌++◌, IsTrue, IfOk, IfErr, OnOk, MatchResult, length, string_bytes};
+ghost use Rattle.asl_journal.specs.Journal.{most_events, schedule_of};
+ghost use Rattle.asl_tool.specs.Output.{event_lines};
+ghost use Rattle.asl_tool.specs.Step.{AllThere, IsSchedule, IsRecord, IsRefusedRun, IsFaultySchedule};
 
 use crate::replies::push_line;
 use asl_code::Program;
-use asl_machine::{Machine, MachineFault, Reply};
+use asl_journal::{Event, Journal, JournalFault, Journaled};
 use std::alloc::{AllocError, Global};
 
-/// The lines of the program's replies.
-pub fn program_text(
+/// How many threads a machine has at most.
+const MOST_THREADS: u32 = 64;
+
+/// How many steps a journal has at most.
+const MOST_STEPS: usize = 16_777_216;
+
+/// The journal of the program's run over the schedule. The schedule is judged before the first step.
+pub fn record_run(
     alloc: Global,
     threads: u32,
     schedule: &[u32],
     program: &Program,
-) -> Result<String, MachineFault>
-    ensures ok { IfOk result (λ text. IsRun program.now threads schedule.now (string_bytes text)) }
+) -> Result<Journal, JournalFault>
+    ensures legal { OnOk result (IsSchedule threads schedule.now) }
+    ensures ok { IfOk result (λ journal. IsRecord program.now threads schedule.now journal) }
     ensures err { IfErr result (λ fault. IsRefusedRun threads schedule.now fault) }
 {
-    match Machine::new(alloc, program, threads) {
-        Ok(mut machine) => schedule_text(alloc, &mut machine, schedule),
+    match judge(threads, schedule) {
+        Ok(()) => recorded(alloc, threads, schedule, program),
         Err(fault) => Err(fault),
     }
 }
 
-/// The lines of the machine's replies. The schedule is judged before the first step.
-fn schedule_text(
-    alloc: Global,
-    machine: &mut Machine<'_>,
-    schedule: &[u32],
-) -> Result<String, MachineFault>
-    ensures there { OnOk result (AllThere (length machine.old.state.threads) schedule.now) }
-    ensures lines { IfOk result (λ text. string_bytes text
-        ≡ step_lines 0 schedule.now (replies_of machine.old.image machine.old.state schedule.now)) }
-    ensures thread { result ≡ Err MachineFault.BadThread → AllThere (length machine.old.state.threads) schedule.now → ⊥ }
-    ensures count { result ≢ Err MachineFault.BadCount }
+/// Judges a number of threads, and a schedule of them.
+fn judge(threads: u32, schedule: &[u32]) -> Result<(), JournalFault>
+    ensures { MatchResult result (λ _. IsSchedule threads schedule.now) (λ fault. IsFaultySchedule threads schedule.now fault) }
 {
-    if all_there(machine.threads(), schedule) {
-        replies(alloc, machine, schedule)
-    } else {
-        Err(MachineFault::BadThread)
+    if threads == 0 || threads > MOST_THREADS {
+        return Err(JournalFault::BadCount);
     }
+    let most = schedule.len().min(MOST_STEPS);
+    if !all_there(threads, &schedule[..most]) {
+        return Err(JournalFault::BadThread);
+    }
+    if schedule.len() > MOST_STEPS {
+        return Err(JournalFault::JournalFull);
+    }
+    Ok(())
 }
 
 /// Whether every thread of the schedule is below the count.
@@ -52,35 +56,50 @@ fn all_there(threads: u32, schedule: &[u32]) -> bool
     schedule.iter().all(|thread| *thread < threads)
 }
 
-/// The lines of the machine's replies to the schedule, whose threads are there.
-fn replies(
+/// The journal of a legal schedule.
+fn recorded(
     alloc: Global,
-    machine: &mut Machine<'_>,
+    threads: u32,
     schedule: &[u32],
-) -> Result<String, MachineFault>
-    requires { AllThere (length machine.old.state.threads) schedule.now }
-    ensures lines { IfOk result (λ text. string_bytes text
-        ≡ step_lines 0 schedule.now (replies_of machine.old.image machine.old.state schedule.now)) }
-    ensures memory { IfErr result (λ fault. fault ≡ MachineFault.OutOfMemory) }
+    program: &Program,
+) -> Result<Journal, JournalFault>
+    requires { IsSchedule threads schedule.now }
+    ensures ok { IfOk result (λ journal. IsRecord program.now threads schedule.now journal) }
+    ensures err { IfErr result (λ fault. fault ≡ JournalFault.OutOfMemory) }
 {
-    let mut text = String::new(alloc);
-    for (number, thread) in schedule.iter().enumerate() {
-        let reply = next_reply(alloc, machine, *thread)?;
-        push_line(&mut text, number, *thread, reply)?;
-    }
-    Ok(text)
+    let mut journaled = Journaled::start(alloc, program, threads)?;
+    make_steps(alloc, &mut journaled, schedule)?;
+    let (journal, _machine) = journaled.into_parts();
+    Ok(journal)
 }
 
-/// The reply to a step of a thread that is there.
-fn next_reply(alloc: Global, machine: &mut Machine<'_>, thread: u32) -> Result<Reply, AllocError>
-    requires { thread < length machine.old.state.threads }
-    ensures reply { IfOk result (λ reply. reply ≡ (step_of machine.old.image machine.old.state thread).reply) }
-    ensures state { OnOk result (machine.new.state ≡ (step_of machine.old.image machine.old.state thread).state) }
-    ensures image { machine.new.image ≡ machine.old.image }
-    ensures threads { length machine.new.state.threads ≡ length machine.old.state.threads }
+/// Makes the steps of the schedule, whose threads are there.
+fn make_steps(
+    alloc: Global,
+    journaled: &mut Journaled<'_>,
+    schedule: &[u32],
+) -> Result<(), JournalFault>
+    requires there { AllThere journaled.old.count schedule.now }
+    requires room { length journaled.old.events + length schedule.now ≤ most_events }
+    ensures schedule { OnOk result
+        (schedule_of journaled.new.events ≡ schedule_of journaled.old.events ++ schedule.now) }
+    ensures image { journaled.new.image ≡ journaled.old.image }
+    ensures count { journaled.new.count ≡ journaled.old.count }
+    ensures memory { IfErr result (λ fault. fault ≡ JournalFault.OutOfMemory) }
 {
-    match machine.step(alloc, thread) {
-        Ok(reply) => Ok(reply),
-        Err(_) => Err(AllocError),
+    for thread in schedule {
+        journaled.step(alloc, *thread)?;
     }
+    Ok(())
+}
+
+/// The lines of the events.
+pub fn lines_of(alloc: Global, events: &[Event]) -> Result<String, AllocError>
+    ensures { IfOk result (λ text. string_bytes text ≡ event_lines 0 events.now) }
+{
+    let mut text = String::new(alloc);
+    for (number, event) in events.iter().enumerate() {
+        push_line(&mut text, number, event.thread, event.reply)?;
+    }
+    Ok(text)
 }

@@ -64,6 +64,7 @@ fn expect_run(
     let command = Command::Step {
         threads: THREADS,
         schedule: schedule(rt.alloc(), run)?,
+        record: false,
     };
     let output = output_of(rt.alloc(), &command, text.as_bytes())?;
     let wanted = printed(rt.alloc(), run)?;

@@ -21,6 +21,9 @@ const STEP_HELP: &str =
     "Reads a program, an image or assembly text, from standard input, makes a machine of N threads, \
     steps the threads in the given order, and writes one line a step: its number, its thread and the reply";
 
+const REPLAY_HELP: &str =
+    "Reads a run file from standard input, makes the steps of its journal again, and writes how many events came again";
+
 const ASM_HELP: &str = "Reads a program in assembly text from standard input, and writes its image";
 
 const DIS_HELP: &str =
@@ -34,6 +37,7 @@ pub fn read_words(alloc: Global, words: &[String]) -> Result<Invocation, AllocEr
             Some(("step", step)) => read_step(alloc, step),
             Some(("asm", _)) => Ok(Invocation::Run(Command::Assemble)),
             Some(("dis", _)) => Ok(Invocation::Run(Command::Disassemble)),
+            Some(("replay", _)) => Ok(Invocation::Run(Command::Replay)),
             _ => wrong_usage(alloc, "a command is missing"),
         },
         Err(error) => refused(alloc, &error),
@@ -49,7 +53,8 @@ fn command<'a>(alloc: Global) -> Result<clap::Command<'a>, AllocError> {
         .disable_help_subcommand(true)
         .subcommand(bare_command(alloc, "asm", "asl asm", ASM_HELP)?)?
         .subcommand(bare_command(alloc, "dis", "asl dis", DIS_HELP)?)?
-        .subcommand(step_command(alloc)?)?;
+        .subcommand(step_command(alloc)?)?
+        .subcommand(bare_command(alloc, "replay", "asl replay", REPLAY_HELP)?)?;
     Ok(command)
 }
 
@@ -79,10 +84,15 @@ fn step_command<'a>(alloc: Global) -> Result<clap::Command<'a>, AllocError> {
         .required(true)
         .num_args(1..)
         .action(ArgAction::Append);
+    let record = Arg::new(alloc, "record")
+        .long("record")
+        .help("Writes the run file, the program and its journal, in place of the lines")
+        .action(ArgAction::SetTrue);
     let command = clap::Command::new(alloc, "step")
         .about(STEP_HELP)
         .bin_name("asl step")?
         .arg(threads)?
+        .arg(record)?
         .arg(schedule)?;
     Ok(command)
 }
@@ -101,7 +111,11 @@ fn read_step(alloc: Global, matches: &ArgMatches<'_>) -> Result<Invocation, Allo
             None => return not_a_number(alloc, word),
         }
     }
-    Ok(Invocation::Run(Command::Step { threads, schedule }))
+    Ok(Invocation::Run(Command::Step {
+        threads,
+        schedule,
+        record: matches.get_flag("record"),
+    }))
 }
 
 /// The number that the digits spell, if they are only digits, at least one, and the number is below 2^32.

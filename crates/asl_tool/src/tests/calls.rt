@@ -93,6 +93,7 @@ fn steps(alloc: Global, count: u32) -> Result<Command, AllocError> {
     Ok(Command::Step {
         threads: 2,
         schedule,
+        record: false,
     })
 }
 

@@ -8,6 +8,8 @@ use std::test::Fail;
 /// What a word list must be read as.
 enum Wanted {
     Step(u32, &'static [u32]),
+    Record(u32, &'static [u32]),
+    Replay,
     Assemble,
     Disassemble,
     Help,
@@ -27,9 +29,27 @@ fn split(alloc: Global, line: &str) -> Result<Vec<String>, AllocError> {
 
 fn is_as_wanted(got: &Invocation, wanted: &Wanted) -> bool {
     match (got, wanted) {
-        (Invocation::Run(Command::Step { threads, schedule }), Wanted::Step(count, order)) => {
-            threads == count && schedule.as_slice() == *order
-        }
+        (
+            Invocation::Run(
+                Command::Step {
+                    threads,
+                    schedule,
+                    record,
+                },
+            ),
+            Wanted::Step(count, order),
+        ) => { threads == count && schedule.as_slice() == *order && !*record }
+        (
+            Invocation::Run(
+                Command::Step {
+                    threads,
+                    schedule,
+                    record,
+                },
+            ),
+            Wanted::Record(count, order),
+        ) => { threads == count && schedule.as_slice() == *order && *record }
+        (Invocation::Run(Command::Replay), Wanted::Replay) => true,
         (Invocation::Run(Command::Assemble), Wanted::Assemble) => true,
         (Invocation::Run(Command::Disassemble), Wanted::Disassemble) => true,
         (Invocation::Help(text), Wanted::Help) => !text.is_empty(),
@@ -68,6 +88,8 @@ fn steps(rt: HostRuntime) -> Result<(), Fail> {
                 Wanted::Step(2, &[1]),
             ),
             ("step --threads 1 9 9 9", Wanted::Step(1, &[9, 9, 9])),
+            ("step --threads 2 --record 0 1", Wanted::Record(2, &[0, 1])),
+            ("step 0 1 --record --threads=2", Wanted::Record(2, &[0, 1])),
         ],
     )
 }
@@ -76,7 +98,11 @@ fn steps(rt: HostRuntime) -> Result<(), Fail> {
 fn texts_and_images(rt: HostRuntime) -> Result<(), Fail> {
     check(
         &rt,
-        &[("asm", Wanted::Assemble), ("dis", Wanted::Disassemble)],
+        &[
+            ("asm", Wanted::Assemble),
+            ("dis", Wanted::Disassemble),
+            ("replay", Wanted::Replay),
+        ],
     )
 }
 
@@ -91,6 +117,7 @@ fn help(rt: HostRuntime) -> Result<(), Fail> {
             ("step -h", Wanted::Help),
             ("asm --help", Wanted::Help),
             ("dis -h", Wanted::Help),
+            ("replay --help", Wanted::Help),
             ("step --threads 2 --help", Wanted::Help),
         ],
     )
@@ -131,7 +158,11 @@ fn wrong_words(rt: HostRuntime) -> Result<(), Fail> {
             ("step --thread 1 0", Wanted::WrongUsage),
             ("step -threads 1 0", Wanted::WrongUsage),
             ("step --threads 1 --threads 2 0", Wanted::WrongUsage),
-            ("step --threads 1 --record 0", Wanted::WrongUsage),
+            ("step --threads 1 --record --record 0", Wanted::WrongUsage),
+            ("step --threads 1 --record=1 0", Wanted::WrongUsage),
+            ("step --threads 1 --rec 0", Wanted::WrongUsage),
+            ("replay 0", Wanted::WrongUsage),
+            ("replay --threads 1", Wanted::WrongUsage),
             ("step --threads 1 --help=1 0", Wanted::WrongUsage),
             ("step -t 1 0", Wanted::WrongUsage),
         ],

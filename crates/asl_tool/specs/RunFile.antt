@@ -1,0 +1,104 @@
+-- Run files: an image's length, the image, and a journal (docs/JOURNAL.md, "Run files").
+use Rattle.std.specs.Prelude.{◌≡◌, ◌≢◌, ℕ, ◌<◌, ◌^◌, ◌++◌, List, length, All, Result, Ok, Err}
+use Rattle.std.specs.Int.{w32, to_be_bytes}
+use Rattle.asl_code.specs.declared.image.Image.{Image}
+use Rattle.asl_loader.specs.declared.fault.LoadFault.{LoadFault}
+use Rattle.asl_loader.specs.declared.fault.LoadFault.TheVariants as load
+use Rattle.asl_loader.specs.Bytes.{text_of, image_fields}
+use Rattle.asl_loader.specs.Faults as image_faults
+use Rattle.asl_journal.specs.declared.fault.JournalFault.{JournalFault}
+use Rattle.asl_journal.specs.declared.fault.JournalFault.TheVariants as journal
+use Rattle.asl_journal.specs.Journal.{Log}
+use Rattle.asl_journal.specs.Bytes.{log_fields, SpellsLog}
+use Rattle.asl_journal.specs.Faults as log_faults
+use Rattle.asl_tool.specs.declared.run_file.FileFault.{FileFault}
+use Rattle.asl_tool.specs.declared.run_file.FileFault.TheVariants as fault
+use Rattle.asl_tool.specs.Program.{IsProgramImage}
+
+-- a file of two parts: the first one's length in four bytes, and both (docs/JOURNAL.md, Run files)
+abbrev pub file_of : List ℕ → List ℕ → List ℕ
+file_of image events = to_be_bytes w32 (length image) ++ (image ++ events)
+
+-- the bytes are a file of these two parts (docs/JOURNAL.md, Run files)
+pub record HasParts (bytes image events : List ℕ) : Type 0 where
+  pub short : length image < 2 ^ 32
+  pub whole : bytes ≡ file_of image events
+
+-- the bytes are a file of no two parts: they end before the first one does (docs/JOURNAL.md, Run files)
+abbrev pub HasNoParts : List ℕ → Type 0
+HasNoParts bytes = (image events : List ℕ) → HasParts bytes image events → ⊥
+
+-- the bytes of a program's run (docs/JOURNAL.md, Run files)
+abbrev pub run_bytes : Image → Log → List ℕ
+run_bytes image log = file_of (text_of (image_fields image)) (text_of (log_fields log))
+
+-- the bytes spell the program and the journal: they are a file of the program's image and the journal's bytes
+-- (docs/JOURNAL.md, Run files)
+pub record SpellsRun (image : Image) (log : Log) (bytes : List ℕ) : Type 0 where
+  pub first : List ℕ
+  pub second : List ℕ
+  pub parts : HasParts bytes first second
+  pub program : IsProgramImage first image
+  pub journal : SpellsLog log second
+
+-- what each refusal of the image's part says of it (docs/JOURNAL.md, Run files)
+abbrev pub IsPartFault : List ℕ → FileFault → Type 0
+IsPartFault first (fault.Image cause) = image_faults.IsFault first cause × (cause ≢ load.OutOfMemory)
+IsPartFault first fault.OutOfMemory = Unit {0}
+IsPartFault first f = ⊥
+
+-- what each refusal of the journal's part says of it (docs/JOURNAL.md, Run files)
+abbrev pub IsLogFault : List ℕ → FileFault → Type 0
+IsLogFault second (fault.Journal cause) = log_faults.IsBytesFault second cause × (cause ≢ journal.OutOfMemory)
+IsLogFault second fault.OutOfMemory = Unit {0}
+IsLogFault second f = ⊥
+
+-- the image's part is refused (docs/JOURNAL.md, Run files)
+pub record HasBadImage (bytes : List ℕ) (cause : LoadFault) : Type 0 where
+  pub first : List ℕ
+  pub second : List ℕ
+  pub parts : HasParts bytes first second
+  pub refused : IsPartFault first (fault.Image cause)
+
+-- the image's part is a program's, and the journal's part is refused (docs/JOURNAL.md, Run files)
+pub record HasBadJournal (bytes : List ℕ) (cause : JournalFault) : Type 0 where
+  pub image : Image
+  pub first : List ℕ
+  pub second : List ℕ
+  pub parts : HasParts bytes first second
+  pub program : IsProgramImage first image
+  pub refused : IsLogFault second (fault.Journal cause)
+
+-- what each refusal says of the bytes: they end before the image does, or a part of them is refused, the image's first;
+-- of want of memory nothing is said (docs/JOURNAL.md, Run files)
+abbrev pub IsFileFault : List ℕ → FileFault → Type 0
+IsFileFault bytes (fault.Truncated at) = (at ≡ length bytes) × HasNoParts bytes
+IsFileFault bytes (fault.Image cause) = HasBadImage bytes cause
+IsFileFault bytes (fault.Journal cause) = HasBadJournal bytes cause
+IsFileFault bytes fault.OutOfMemory = Unit {0}
+
+-- the outcome of the bytes, where memory is there: the run that they spell, or the refusal that they meet
+-- (docs/JOURNAL.md, Run files)
+abbrev pub IsFileOutcome : List ℕ → Result (Image × Log) FileFault → Type 0
+IsFileOutcome bytes (Ok run) = SpellsRun run.0 run.1 bytes
+IsFileOutcome bytes (Err f) = IsFileFault bytes f × (f ≢ fault.OutOfMemory)
+
+-- a spelling is of one run (docs/JOURNAL.md, Run files)
+abbrev pub RunOfSpellingIsOne : Type 0
+RunOfSpellingIsOne =
+    (image other : Image) (log another : Log) (bytes : List ℕ) → SpellsRun image log bytes → SpellsRun other another bytes
+    → (image ≡ other) × (log ≡ another)
+
+-- a run has one spelling (docs/JOURNAL.md, Run files)
+abbrev pub SpellingOfRunIsOne : Type 0
+SpellingOfRunIsOne = (image : Image) (log : Log) (bytes others : List ℕ) → SpellsRun image log bytes → SpellsRun image log others → bytes ≡ others
+
+-- any bytes have an outcome (docs/JOURNAL.md, Run files)
+abbrev pub FilesHaveAnOutcome : Type 0
+FilesHaveAnOutcome = (bytes : List ℕ) → All (λ b. b < 256) bytes → (outcome : Result (Image × Log) FileFault) × IsFileOutcome bytes outcome
+
+-- and they have no other (docs/JOURNAL.md, Run files)
+abbrev pub FileOutcomeIsOne : Type 0
+FileOutcomeIsOne =
+    (bytes : List ℕ) (outcome other : Result (Image × Log) FileFault) → All (λ b. b < 256) bytes → IsFileOutcome bytes outcome
+    → IsFileOutcome bytes other → outcome ≡ other

@@ -1,0 +1,34 @@
+//! The command `replay`: from a run file to the number of events that came again.
+ghost use Rattle.std.specs.Prelude.{◌≡◌, ◌++◌, ◌∷◌, [], IfOk, IfErr, OnOk, codes, string_bytes};
+ghost use Rattle.std.specs.Fmt.{decimal};
+ghost use Rattle.asl_journal.specs.Journal.{IsJournal};
+ghost use Rattle.asl_journal.specs.Replay.{IsReplayFault};
+ghost use Rattle.asl_tool.specs.Replay.{same_text};
+
+use asl_code::Program;
+use asl_journal::{Journal, JournalFault, replay};
+use std::alloc::{AllocError, Global};
+
+/// The line that says how many events came again, where the journal is one of the program.
+pub fn replayed_text(
+    alloc: Global,
+    program: &Program,
+    journal: &Journal,
+) -> Result<String, JournalFault>
+    ensures journal { OnOk result (IsJournal program.now journal.now.threads journal.now.events) }
+    ensures text { IfOk result (λ text. string_bytes text ≡ same_text journal.now) }
+    ensures err { IfErr result (λ fault. IsReplayFault program.now journal.now fault) }
+{
+    let _machine = replay(alloc, program, journal)?;
+    match same(alloc, journal.events().len()) {
+        Ok(text) => Ok(text),
+        Err(_) => Err(JournalFault::OutOfMemory),
+    }
+}
+
+/// The line of so many events.
+fn same(alloc: Global, events: usize) -> Result<String, AllocError>
+    ensures { IfOk result (λ text. string_bytes text ≡ codes "same " ++ decimal events ++ 10 ∷ []) }
+{
+    format!(in alloc; "same {events}\n")
+}
