@@ -1,5 +1,5 @@
 -- Receipts and the entries of events, one after the other.
-use Rattle.std.proofs.Common.{◌≡◌, ◌≢◌, ℕ, zero, suc, ◌+◌, ◌<◌, ◌≤◌, ◌%◌, ◌==◌, ◌↔◌, true, false, List, [], ◌∷◌, length, map, drop, get_or, Some, slice_get, refl, ap, sym, ◌∙◌, subst, cond, arith}
+use Rattle.std.proofs.Common.{◌≡◌, ◌≢◌, ℕ, suc, ◌+◌, ◌≤◌, ◌%◌, ◌==◌, ◌↔◌, true, false, List, [], ◌∷◌, length, map, drop, Some, slice_get, refl, ap, sym, ◌∙◌, cond, arith}
 use Rattle.std.specs.Prelude.{MatchBool}
 use Rattle.std.proofs.lemmas.Bool.Decides.{nat_tests}
 use Rattle.std.proofs.Math.Seq.{drop-cons}
@@ -7,7 +7,7 @@ use Rattle.std.proofs.Math.Numerals.{suc-eq-add-one}
 use Rattle.std.proofs.Math.Nat.{add-zero}
 use Rattle.asl_code.proofs.Told.{slice_get-drop}
 use Rattle.std.proofs.lemmas.List.{drop_all, length-drop}
-use Rattle.std.proofs.lemmas.Option.{slice_get-get_or, slice_get_within, get_or_from_slice_get}
+use Rattle.std.proofs.lemmas.Option.{slice_get_within, get_or_from_slice_get}
 use Rattle.asl_journal.specs.declared.event.Event.{Event}
 use Rattle.asl_journal.specs.declared.event.Receipt.{Receipt}
 use Rattle.asl_runner.specs.History.{Entry, entry, entry_of, entries_of, IsDealt}
@@ -37,8 +37,7 @@ hit workers worker events receipts next index event receipt at is there same h =
     let r = from_here receipts next receipt there in
     let left : map entry_of (drop next receipts) ≡ entry_of receipt ∷ map entry_of (drop (next + 1) receipts) = ap (map entry_of) r in
     let right : entries_of workers worker index (drop index events) ≡ entry index event.thread event.reply ∷ entries_of workers worker (index + 1) (drop (index + 1) events) =
-        ap (entries_of workers worker index) e ∙ ap (λ b. cond b (entry index event.thread event.reply ∷ entries_of workers worker (index + 1) (drop (index + 1) events)) (entries_of workers worker (index + 1) (drop (index + 1) events))) mine in
-    (
+    ap (entries_of workers worker index) e ∙ ap (λ b. cond b (entry index event.thread event.reply ∷ entries_of workers worker (index + 1) (drop (index + 1) events)) (entries_of workers worker (index + 1) (drop (index + 1) events))) mine in (
       (λ rest. h.0 (left ∙ ap (λ x. x ∷ map entry_of (drop (next + 1) receipts)) same ∙ ap (λ xs. entry index event.thread event.reply ∷ xs) rest ∙ sym right)),
       λ all. tail_is (entry_of receipt) (entry index event.thread event.reply) (map entry_of (drop (next + 1) receipts)) (entries_of workers worker (index + 1) (drop (index + 1) events)) (sym left ∙ h.1 all ∙ right),
     )
@@ -48,7 +47,7 @@ pub miss : (workers worker : ℕ) (events : List Event) (receipts : List Receipt
 miss workers worker events receipts next index event at is h =
     let other : ((event.thread % workers) == worker) ≡ false = grind (arith, nat_tests, is) in
     let right : entries_of workers worker index (drop index events) ≡ entries_of workers worker (index + 1) (drop (index + 1) events) =
-        ap (entries_of workers worker index) (from_here events index event at) ∙ ap (λ b. cond b (entry index event.thread event.reply ∷ entries_of workers worker (index + 1) (drop (index + 1) events)) (entries_of workers worker (index + 1) (drop (index + 1) events))) other in
+    ap (entries_of workers worker index) (from_here events index event at) ∙ ap (λ b. cond b (entry index event.thread event.reply ∷ entries_of workers worker (index + 1) (drop (index + 1) events)) (entries_of workers worker (index + 1) (drop (index + 1) events))) other in
     ((λ rest. h.0 (rest ∙ sym right)), λ all. h.1 all ∙ right)
 
 none_there : {A : Type 0} {x : A} {xs : List A} → x ∷ xs ≡ [] → ⊥
@@ -66,7 +65,7 @@ pub wrong_here : (workers worker : ℕ) (events : List Event) (receipts : List R
 wrong_here workers worker events receipts next index event at is none h all =
     let mine : ((event.thread % workers) == worker) ≡ true = grind (arith, nat_tests, is) in
     let right : entries_of workers worker index (drop index events) ≡ entry index event.thread event.reply ∷ entries_of workers worker (index + 1) (drop (index + 1) events) =
-        ap (entries_of workers worker index) (from_here events index event at) ∙ ap (λ b. cond b (entry index event.thread event.reply ∷ entries_of workers worker (index + 1) (drop (index + 1) events)) (entries_of workers worker (index + 1) (drop (index + 1) events))) mine in
+    ap (entries_of workers worker index) (from_here events index event at) ∙ ap (λ b. cond b (entry index event.thread event.reply ∷ entries_of workers worker (index + 1) (drop (index + 1) events)) (entries_of workers worker (index + 1) (drop (index + 1) events))) mine in
     let f = first_of (drop next receipts) (entry index event.thread event.reply) (entries_of workers worker (index + 1) (drop (index + 1) events)) (h.1 all ∙ right) in
     none f.0 (ap (slice_get receipts) (sym (add-zero next)) ∙ sym (slice_get-drop next receipts 0) ∙ f.1) f.2
 
@@ -80,7 +79,7 @@ pub all_dealt : (workers worker : ℕ) (events : List Event) (receipts : List Re
 all_dealt workers worker events receipts next index le end h =
     let right : entries_of workers worker index (drop index events) ≡ [] = ap (entries_of workers worker index) (drop_all index events end) in
     elim (next == length receipts) as (λ b. (next == length receipts) ≡ b → MatchBool b (IsDealt workers worker events receipts) (¬ IsDealt workers worker events receipts)) [
-      true ↦ λ e. h.0 (ap (map entry_of) (drop_all next receipts (grind (arith, nat_tests, e))) ∙ sym right)
+      | true ↦ λ e. h.0 (ap (map entry_of) (drop_all next receipts (grind (arith, nat_tests, e))) ∙ sym right)
       | false ↦ λ e all.
           let none : length (drop next receipts) ≡ 0 = none_left (drop next receipts) (h.1 all ∙ right) in
           grind (arith, nat_tests, e, none, length-drop next receipts)

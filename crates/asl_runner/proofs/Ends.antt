@@ -1,16 +1,15 @@
 -- A run at its end.
-use Rattle.std.proofs.Common.{◌≡◌, ◌⊎◌, inl, inr, ℕ, zero, suc, ◌<◌, ◌%◌, true, List, [], ◌∷◌, map, length, Vec, Global, Some, slice_get, refl, ap, sym, ◌∙◌, arith}
+use Rattle.std.proofs.Common.{◌≡◌, ◌⊎◌, inl, inr, ℕ, zero, suc, ◌<◌, ◌%◌, List, [], ◌∷◌, map, length, Vec, Global, Some, slice_get, refl, ap, sym, ◌∙◌, arith}
 use Rattle.std.proofs.Math.Nat.{mod-lt}
 use Rattle.std.proofs.lemmas.Bool.{cases_lt}
 use Rattle.std.proofs.lemmas.List.{length-map}
 use Rattle.asl_code.proofs.FitsLaws.{element_at}
 use Rattle.asl_machine.specs.State.{State}
 use Rattle.asl_turns.specs.Turn.{Turn}
-use Rattle.asl_journal.specs.declared.event.Event.{Event}
 use Rattle.asl_journal.specs.declared.event.Receipt.{Receipt}
 use Rattle.asl_journal.specs.Recorded.{has_ended}
 use Rattle.asl_code.specs.declared.image.Image.{Image}
-use Rattle.asl_runner.specs.History.{AreDealt, AreTrue, HaveEnded, IsDealt, IsWrong}
+use Rattle.asl_runner.specs.History.{AreTrue, HaveEnded, IsDealt, IsWrong}
 use Rattle.asl_runner.specs.Refused.{IsWrongAt}
 use Rattle.asl_runner.specs.Working.{AllTold, AreJoined}
 use Rattle.asl_runner.specs.Ending.{all_receipts, IsRun}
@@ -22,7 +21,7 @@ pub end_of : (count workers tickets limit : ℕ) (seat : Turn) (all : List (List
     → ((worker : ℕ) (mine : List Receipt) → slice_get all worker ≡ Some mine → AllTold count workers worker mine) ⊎ (tickets ≡ limit)
 end_of count workers tickets limit seat all joined spent =
     elim (cases_lt 0 seat.spent) [
-      inl some ↦ inr (spent some)
+      | inl some ↦ inr (spent some)
       | inr none ↦ inl (λ worker mine at. elim (joined.why worker mine at) [ inl some ↦ absurd (omega (arith, some, none)) | inr told ↦ told ])
     ]
 

@@ -6,7 +6,7 @@ use Rattle.std.proofs.lemmas.List.Sums.{sum_by_push}
 use Rattle.asl_turns.specs.Turn.{Word, Turn}
 use Rattle.asl_journal.specs.declared.event.Receipt.{Receipt}
 use Rattle.asl_runner.specs.declared.worker.Work.{Work}
-use Rattle.asl_runner.specs.Working.{AllTold, AreJoined, HasLeft, receipts_in}
+use Rattle.asl_runner.specs.Working.{AllTold, AreJoined, HasLeft}
 use Rattle.asl_runner.specs.Starting.{HaveWorkedFrom}
 
 -- a seat that has taken what another has
@@ -26,7 +26,7 @@ why_more : (count workers : ℕ) (seat other : Turn) (all : List (List Receipt))
     → (worker : ℕ) (m : List Receipt) → slice_get (all ++ mine ∷ []) worker ≡ Some m → (0 < (together seat other).spent) ⊎ AllTold count workers worker m
 why_more count workers seat other all mine old new worker m at =
     elim (at_or_last all mine m worker at) [
-      inl there ↦ elim (old worker m there) [ inl spent ↦ inl (omega (arith, spent)) | inr told ↦ inr told ]
+      | inl there ↦ elim (old worker m there) [ inl spent ↦ inl (omega (arith, spent)) | inr told ↦ inr told ]
       | inr last ↦ elim new [ inl spent ↦ inl (omega (arith, spent)) | inr told ↦ inr (rw (last.0, last.1) told) ]
     ]
 

@@ -1,5 +1,5 @@
 -- What the handles of the workers' threads promise.
-use Rattle.std.proofs.Common.{◌≡◌, ◌⊎◌, inl, inr, ℕ, ◌+◌, ◌<◌, List, [], ◌∷◌, ◌++◌, length, get_or, refl, ap, sym, ◌∙◌, arith}
+use Rattle.std.proofs.Common.{◌≡◌, ◌⊎◌, inl, inr, ℕ, ◌+◌, ◌<◌, List, [], ◌∷◌, ◌++◌, length, get_or, ap, sym, ◌∙◌, arith}
 use Rattle.std.proofs.lemmas.Bool.{cases_eq}
 use Rattle.std.proofs.lemmas.List.{get_or_push, get_or_append_left}
 use Rattle.asl_turns.specs.Turn.{Word}
@@ -13,7 +13,7 @@ pub pushed_or : {X : Type 0} (xs all : List X) (x d : X) (k n : ℕ) → all ≡
     → ((k < n) × (get_or all k d ≡ get_or xs k d)) ⊎ ((k ≡ n) × (get_or all k d ≡ x))
 pushed_or xs all x d k n is count lt =
     elim (cases_eq k n) [
-      inl same ↦ inr (same, rw is (get_or_push xs x d k (count ∙ sym same)))
+      | inl same ↦ inr (same, rw is (get_or_push xs x d k (count ∙ sym same)))
       | inr other ↦ inl (omega (arith, lt, other), rw is (get_or_append_left xs (x ∷ []) d k (omega (arith, lt, other, count))))
     ]
 

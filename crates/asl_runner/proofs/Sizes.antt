@@ -1,5 +1,5 @@
 -- All workers' entries together are as many as the events.
-use Rattle.std.proofs.Common.{◌≡◌, ◌≢◌, ◌⊎◌, inl, inr, ℕ, zero, suc, ◌+◌, ◌<◌, ◌≤◌, ◌%◌, ◌==◌, true, false, List, [], ◌∷◌, map, length, Some, slice_get, refl, ap, sym, ◌∙◌, cond, arith}
+use Rattle.std.proofs.Common.{◌≡◌, ◌≢◌, inl, inr, ℕ, zero, suc, ◌+◌, ◌<◌, ◌≤◌, ◌%◌, ◌==◌, true, false, List, [], ◌∷◌, length, Some, slice_get, refl, ap, sym, ◌∙◌, cond, arith}
 use Rattle.std.proofs.Math.Nat.{add-zero, zero-add, mod-lt}
 use Rattle.std.proofs.lemmas.Bool.{cases_eq}
 use Rattle.std.proofs.lemmas.Bool.Decides.{nat_tests}
@@ -38,14 +38,14 @@ one_more : (workers first n index : ℕ) (e : Event) (es : List Event) → first
 one_more workers first zero index e es le lt = absurd (omega (arith, le, lt))
 one_more workers first (suc n) index e es le lt =
     elim (cases_eq (e.thread % workers) first) [
-      inl is ↦
+      | inl is ↦
           (let here = hit workers first index e es is in
-           let there = none_more workers (suc first) n index e es (omega (arith, is)) in
-           omega (arith, here, there))
+          let there = none_more workers (suc first) n index e es (omega (arith, is)) in
+          omega (arith, here, there))
       | inr other ↦
           (let here = miss workers first index e es other in
-           let there = one_more workers (suc first) n index e es (omega (arith, le, other)) (omega (arith, lt)) in
-           omega (arith, here, there))
+          let there = one_more workers (suc first) n index e es (omega (arith, le, other)) (omega (arith, lt)) in
+          omega (arith, here, there))
     ]
 
 no_events : (workers first n index : ℕ) → sizes workers first n index [] ≡ 0

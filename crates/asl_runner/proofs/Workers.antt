@@ -1,11 +1,11 @@
 -- A worker from call to call.
-use Rattle.std.proofs.Common.{◌≡◌, ◌≢◌, ◌⊎◌, inl, inr, ℕ, ◌+◌, ◌<◌, ◌≤◌, ◌%◌, Bool, true, false, List, [], ◌∷◌, ◌++◌, length, Some, None, slice_get, set, refl, ap, sym, ◌∙◌, arith}
+use Rattle.std.proofs.Common.{◌≡◌, ◌≢◌, ◌⊎◌, inl, inr, ℕ, ◌+◌, Bool, true, false, List, [], ◌∷◌, ◌++◌, length, Some, slice_get, set, refl, ap, sym, ◌∙◌, arith}
 use Rattle.std.proofs.lemmas.List.{length-append, length-set}
 use Rattle.std.proofs.lemmas.Bool.{cases_eq}
 use Rattle.asl_machine.proofs.Lists.{get_other, get_before, get_last}
 use Rattle.asl_turns.specs.Turn.{Word, Turn}
 use Rattle.asl_journal.specs.declared.event.Receipt.{Receipt}
-use Rattle.asl_runner.specs.Working.{AllTold, HasPass, HasStopped, IsMine, IsToldEnded, IsWorking}
+use Rattle.asl_runner.specs.Working.{HasStopped, IsMine, IsToldEnded, IsWorking}
 
 -- a receipt more keeps what was told
 told_still : (rs : List Receipt) (r : Receipt) (t : ℕ) → IsToldEnded rs t → IsToldEnded (rs ++ r ∷ []) t
@@ -38,7 +38,7 @@ each_after : (count workers worker : ℕ) (rs : List Receipt) (r : Receipt) (goi
     → (t : ℕ) → IsMine count workers worker t → (slice_get (set going r.thread false) t ≡ Some true) ⊎ IsToldEnded (rs ++ r ∷ []) t
 each_after count workers worker rs r going ended each t mine =
     elim (cases_eq t r.thread) [
-      inl same ↦ inr (rw same (told_now rs r ended))
+      | inl same ↦ inr (rw same (told_now rs r ended))
       | inr other ↦ elim (each t mine) [ inl is ↦ inl (get_other going r.thread t false other ∙ is) | inr told ↦ inr (told_still rs r t told) ]
     ]
 

@@ -1,5 +1,5 @@
 -- What a run by workers leaves: a journal, dealt out to the workers as receipts (docs/WORKERS.md, "What a run leaves").
-use Rattle.std.specs.Prelude.{◌≡◌, ◌<◌, ◌≤◌, ◌⊎◌, ◌%◌, ◌+◌, ◌==◌, ℕ, true, List, [], ◌∷◌, length, map, Some, slice_get, if◌then◌else◌}
+use Rattle.std.specs.Prelude.{◌≡◌, ◌<◌, ◌≤◌, ◌%◌, ◌+◌, ◌==◌, ℕ, true, List, [], ◌∷◌, length, map, Some, slice_get, if◌then◌else◌}
 use Rattle.asl_code.specs.declared.image.Image.{Image}
 use Rattle.asl_machine.specs.declared.reply.Reply.{Reply}
 use Rattle.asl_machine.specs.State.{State}

@@ -1,10 +1,8 @@
 -- Machinery of the proofs, not of the promise: the workers' seats, and what workers leave (src/start.rt, src/gather.rt).
-use Rattle.std.specs.Prelude.{◌≡◌, ◌<◌, ◌+◌, ℕ, true, false, List, [], map, length, Some, slice_get}
-use Rattle.std.specs.List.{AllByRecursion}
+use Rattle.std.specs.Prelude.{◌≡◌, ◌+◌, ℕ, List, [], Some, slice_get}
 use Rattle.asl_turns.specs.Turn.{Word, Turn}
-use Rattle.asl_journal.specs.declared.event.Receipt.{Receipt}
 use Rattle.asl_runner.specs.declared.worker.Work.{Work}
-use Rattle.asl_runner.specs.Working.{HasLeft, AreJoined}
+use Rattle.asl_runner.specs.Working.{HasLeft}
 
 -- a seat with one pass
 abbrev pub seat_of : Word → Turn

@@ -1,5 +1,5 @@
 -- Machinery of the proofs, not of the promise: a worker before and after a call (src/worker.rt).
-use Rattle.std.specs.Prelude.{◌≡◌, ◌<◌, ◌≤◌, ℕ}
+use Rattle.std.specs.Prelude.{◌<◌, ◌≤◌}
 use Rattle.asl_turns.specs.Turn.{Word}
 use Rattle.asl_runner.specs.declared.worker.Post.{Post}
 use Rattle.asl_runner.specs.declared.worker.Working.{Working}

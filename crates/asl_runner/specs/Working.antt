@@ -1,6 +1,6 @@
 -- Machinery of the proofs, not of the promise: what a worker knows of itself (src/worker.rt), and what is known of those
 -- that have been joined (src/gather.rt).
-use Rattle.std.specs.Prelude.{◌≡◌, ◌<◌, ◌≤◌, ◌⊎◌, ◌%◌, ◌+◌, ◌-◌, ℕ, Bool, true, false, List, [], ◌∷◌, length, map, Some, slice_get, sum_by}
+use Rattle.std.specs.Prelude.{◌≡◌, ◌<◌, ◌⊎◌, ◌%◌, ◌+◌, ℕ, Bool, true, false, List, length, Some, slice_get, sum_by}
 use Rattle.asl_turns.specs.Turn.{Word, Turn}
 use Rattle.asl_journal.specs.declared.event.Receipt.{Receipt}
 

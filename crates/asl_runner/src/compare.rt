@@ -12,9 +12,9 @@ pub fn first_wrong(report: &Report, workers: u8) -> Option<u8>
     requires { 0 < workers }
     ensures { MatchOption result
         ((worker : ℕ) (mine : _) → worker < workers → slice_get report.now.receipts.items worker ≡ Some mine
-            → IsDealt workers worker report.now.journal.events mine.items × AreTrue report.now.machine.state mine.items)
+        → IsDealt workers worker report.now.journal.events mine.items × AreTrue report.now.machine.state mine.items)
         (λ worker. (worker < workers) × ((mine : _) → slice_get report.now.receipts.items worker ≡ Some mine
-            → IsWrong workers worker report.now.machine.state report.now.journal.events mine.items)) }
+        → IsWrong workers worker report.now.machine.state report.now.journal.events mine.items)) }
 {
     for worker in 0..workers {
         if let Some(receipts) = report.receipts.get(usize::from(worker)) {

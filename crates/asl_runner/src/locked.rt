@@ -23,6 +23,7 @@ impl Named for Brand {
     ghost use Rattle.std.specs.Prelude.{[]};
 
     ghost image = { record { version = 1; classes = 0; globals = []; functions = []; lists = []; start = 0; code = [] } };
+
     ghost count = { 0 };
 }
 

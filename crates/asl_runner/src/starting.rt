@@ -60,10 +60,13 @@ pub fn start<R: Threads + Wait + Sync, S: Steps, G: Gate>(
                     workers,
                     worker,
                 };
-                let Ok(handle) = scope.spawn_with(WorkOf { turns, post }, move || -> Work
-                    requires { (S.count ≡ post.count) × IsAt post × (seat ≡ record { of = turns.now; left = 1; spent = 0; tickets = [] }) }
-                    ensures { HasLeft turns.entry.now post.count post.workers post.worker result.seat result.receipts.items result.refused }
-                { run_worker(rt, alloc, post, steps, turns, gate, seat) }) else {
+                let Ok(handle) = scope.spawn_with(
+                    WorkOf { turns, post },
+                    move || -> Work
+                        requires { (S.count ≡ post.count) × IsAt post × (seat ≡ record { of = turns.now; left = 1; spent = 0; tickets = [] }) }
+                        ensures { HasLeft turns.entry.now post.count post.workers post.worker result.seat result.receipts.items result.refused }
+                    { run_worker(rt, alloc, post, steps, turns, gate, seat) },
+                ) else {
                     return Err(RunFault::Spawn);
                 };
                 handles.push_reserved(handle);

@@ -1,5 +1,4 @@
-use Rattle.std.proofs.Common.{◌≡◌, ◌<◌, ℕ, Vec, Some, slice_get}
-use Rattle.asl_journal.specs.declared.event.Receipt.{Receipt}
+use Rattle.std.proofs.Common.{◌≡◌, ◌<◌, ℕ, Some, slice_get}
 use Rattle.asl_runner.specs.History.{AreTrue, IsDealt}
 use Rattle.asl_runner.proofs.compare.first_wrong.Given as goal
 

@@ -1,4 +1,4 @@
-use Rattle.std.proofs.Common.{◌≡◌, ◌↔◌, ◌≤◌, ℕ, drop, length, map}
+use Rattle.std.proofs.Common.{◌≡◌, ◌↔◌, ◌≤◌, drop, length, map}
 use Rattle.asl_runner.specs.History.{IsDealt, entries_of, entry_of}
 use Rattle.asl_runner.proofs.compare.is_dealt.Given as goal
 

@@ -1,6 +1,5 @@
-use Rattle.std.proofs.Common.{rules, ◌≡◌, ◌≤◌, ◌<◌, ◌+◌, ◌++◌, ◌∷◌, [], ℕ, List, length, vec_len, arith, sym, ap, ◌∙◌}
-use Rattle.std.specs.Prelude.{vec_capacity}
-use Rattle.std.specs.Vec.Iter.{into_iter_items, into_iter_len}
+use Rattle.std.proofs.Common.{rules, ◌≡◌, ◌+◌, length, vec_len, arith, ap, ◌∙◌}
+use Rattle.std.specs.Vec.Iter.{into_iter_items}
 use Rattle.asl_turns.specs.Turn.{Turn}
 use Rattle.asl_runner.proofs.Joins.{work_joined, first_worked, rest_worked}
 use Rattle.asl_runner.proofs.gathering.gather.Goals as goal
@@ -19,8 +18,7 @@ loop-work-preserved c =
     let one = mine.pass.passes in
     let number : length c.loop-work.receipts.items ≡ done = search rules in
     let left : c.join.new.seat.left ≡ c.loop-work.seat.left + c.in-Some.work.seat.left = ap (λ (t : Turn). t.left) c.join.ensures in
-    let spent : c.join.new.seat.spent ≡ c.loop-work.seat.spent + c.in-Some.work.seat.spent = ap (λ (t : Turn). t.spent) c.join.ensures in
-    (
+    let spent : c.join.new.seat.spent ≡ c.loop-work.seat.spent + c.in-Some.work.seat.spent = ap (λ (t : Turn). t.spent) c.join.ensures in (
       tt,
       tt,
       omega (arith, more, steps.1, inv.2),

@@ -1,7 +1,7 @@
-use Rattle.std.proofs.Common.{◌≡◌, ◌+◌, ◌≤◌, ℕ, Vec, Bool, false, map, length, vec_len, vec_capacity, get_or, drop}
+use Rattle.std.proofs.Common.{◌≡◌, ◌+◌, ◌≤◌, false, map, vec_len, vec_capacity}
 use Rattle.std.specs.Vec.Iter.{into_iter_items, into_iter_len}
-use Rattle.asl_runner.specs.Working.{AreJoined, HasLeft}
-use Rattle.asl_runner.specs.Starting.{HaveWorked, HaveWorkedFrom}
+use Rattle.asl_runner.specs.Working.{AreJoined}
+use Rattle.asl_runner.specs.Starting.{HaveWorkedFrom}
 use Rattle.asl_runner.proofs.gathering.gather.Given as goal
 
 abbrev pub invariant-loop-work : goal.invariant-loop-work

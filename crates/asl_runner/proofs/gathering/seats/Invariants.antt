@@ -1,4 +1,4 @@
-use Rattle.std.proofs.Common.{◌≡◌, ◌≤◌, ◌-◌, ℕ, vec_len, vec_capacity}
+use Rattle.std.proofs.Common.{◌≡◌, ◌≤◌, ◌-◌, vec_len, vec_capacity}
 use Rattle.asl_runner.specs.Starting.{AreSeats}
 use Rattle.asl_runner.proofs.gathering.seats.Given as goal
 

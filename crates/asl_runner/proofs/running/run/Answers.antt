@@ -1,4 +1,4 @@
-use Rattle.std.proofs.Common.{rules, ◌≡◌, inl, inr, sym, ap, ◌∙◌}
+use Rattle.std.proofs.Common.{rules, inl, inr, sym, ap, ◌∙◌}
 use Rattle.asl_machine.specs.View.{Configuration}
 use Rattle.asl_runner.specs.Ending.{all_receipts}
 use Rattle.asl_runner.proofs.Ends.{have_ended, are_right, wrong_at}
@@ -29,14 +29,13 @@ returns-in-None-clause-end g c =
     let right = are_right c.args.workers report ran.dealers c.in-None.ensures in
     let state = ap (λ (m : Configuration). m.state) ran.machine in
     elim ran.end [
-      inl told ↦ inl (rw (← c.in-Ok.ensures.image, ← state) (have_ended c.args.n c.args.workers report.machine.state (all_receipts report) (search (c.if-workers-eq0.false, rules)) ran.dealers (λ worker mine at. (right worker mine at).1) told))
+      | inl told ↦ inl (rw (← c.in-Ok.ensures.image, ← state) (have_ended c.args.n c.args.workers report.machine.state (all_receipts report) (search (c.if-workers-eq0.false, rules)) ran.dealers (λ worker mine at. (right worker mine at).1) told))
       | inr all ↦ inr all
     ]
 
 pub returns-in-Some-clause-refused : goal.returns-in-Some-clause-refused
 returns-in-Some-clause-refused g c =
-    let ran = c.in-Ok-run_as.ensures.run in
-    (
+    let ran = c.in-Ok-run_as.ensures.run in (
       record {
         threads = (search (c.if-n-eq0.false, rules), search (c.if-n-gt-MOST_THREADS.false, rules));
         some = search (c.if-workers-eq0.false, rules);

@@ -1,4 +1,4 @@
-use Rattle.std.proofs.Common.{◌≡◌, true, ap, ◌∙◌, replicate, Some}
+use Rattle.std.proofs.Common.{true, ap, ◌∙◌, replicate, Some}
 use Rattle.std.proofs.lemmas.Option.{slice_get-get_or}
 use Rattle.std.proofs.lemmas.List.{get_or-replicate}
 use Rattle.asl_runner.proofs.worker.all_going.Goals as goal

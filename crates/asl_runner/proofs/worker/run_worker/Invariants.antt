@@ -1,5 +1,4 @@
 use Rattle.asl_runner.specs.Turning.{IsReadyAt}
-use Rattle.std.proofs.Common.{◌≡◌}
 use Rattle.asl_runner.proofs.worker.run_worker.Given as goal
 
 abbrev pub invariant-loop : goal.invariant-loop
