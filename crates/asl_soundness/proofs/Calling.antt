@@ -32,7 +32,7 @@ use Rattle.asl_machine.specs.Sound.{IsSuspended, AreSuspended}
 use Rattle.asl_machine.specs.Step.{placed_at, returned}
 use Rattle.asl_machine.specs.Request.{heap_of}
 use Rattle.asl_machine.specs.Cover.{Cover, cover}
-use Rattle.asl_soundness.specs.Safe.{IsAnalysed}
+use Rattle.asl_soundness.specs.Analysed.{IsAnalysed}
 use Rattle.asl_soundness.specs.Agrees.{FrameAgrees, FramesAgree, ThreadAgrees, CellsAgree}
 use Rattle.asl_soundness.specs.Nested.{is_inside, region_of}
 use Rattle.asl_soundness.specs.Protected.{CellProtected, Protected, BaseThere, LockThere}

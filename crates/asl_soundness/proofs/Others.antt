@@ -30,7 +30,7 @@ use Rattle.asl_machine.proofs.Table.{at_of}
 use Rattle.asl_machine.proofs.Others.{step_leaves_held}
 use Rattle.asl_soundness.specs.Coded.{classed}
 use Rattle.asl_soundness.specs.Agrees.{Agrees}
-use Rattle.asl_soundness.specs.Safe.{IsAnalysed}
+use Rattle.asl_soundness.specs.Analysed.{IsAnalysed}
 use Rattle.asl_soundness.specs.Wanted.{HasWanted}
 use Rattle.asl_soundness.proofs.Protecting.{get_some}
 use Rattle.asl_soundness.proofs.Standing.{globals_point}

@@ -12,7 +12,8 @@ use Rattle.asl_machine.specs.Run.{start_of, replies_of, first_activity, IsReache
 use Rattle.asl_machine.specs.Cover.{cover}
 use Rattle.asl_machine.specs.Twin.{step_of}
 use Rattle.asl_machine.proofs.Soundness.{Here}
-use Rattle.asl_soundness.specs.Safe.{IsSafe, NeverUnprotected, IsAnalysed}
+use Rattle.asl_soundness.specs.Safe.{IsSafe, NeverUnprotected}
+use Rattle.asl_soundness.specs.Analysed.{IsAnalysed}
 use Rattle.asl_soundness.specs.Wanted.{HasWanted, HaveWanted}
 use Rattle.asl_soundness.proofs.Regions.{no_region}
 use Rattle.asl_soundness.proofs.Stepping.{each_step, each_thread, still, reached_keeps, first_at}

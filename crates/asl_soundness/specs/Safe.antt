@@ -4,18 +4,15 @@ use Rattle.asl_code.specs.declared.image.Image.{Image}
 use Rattle.asl_code.specs.declared.lock.Lock.{Lock}
 use Rattle.asl_lower.specs.declared.section.Section.{Section}
 use Rattle.asl_lower.specs.Lowered.{Lowered}
-use Rattle.asl_lower.specs.Regions.{Region, Inside}
-use Rattle.asl_lower.specs.Kept.{IsKept}
+use Rattle.asl_lower.specs.Regions.{Inside}
 use Rattle.asl_points_to.specs.Classes.{Classed}
 use Rattle.asl_lock_expr.specs.ClassOf.{MayStore}
 use Rattle.asl_lock_expr.specs.Links.{IsOne}
-use Rattle.asl_backward_flow.specs.Closed.{Family, IsClosed}
+use Rattle.asl_backward_flow.specs.Closed.{Family}
 use Rattle.asl_machine.specs.declared.fault.Fault.TheVariants as fault
 use Rattle.asl_machine.specs.declared.reply.Reply.{Reply}
 use Rattle.asl_machine.specs.declared.reply.Reply.TheVariants as reply
 use Rattle.asl_machine.specs.Run.{start_of, replies_of}
-use Rattle.asl_soundness.specs.Coded.{IsImageOf}
-use Rattle.asl_soundness.specs.Protected.{LockThere}
 use Rattle.asl_soundness.specs.Over.{StandsOver}
 
 -- a reply that is no fault for want of a lock, for leaving a section that was not entered, or for one that was left open
@@ -39,13 +36,3 @@ StandOver l c K image =
 -- the test tells of each class that the function may store to, and perhaps of more
 abbrev pub TellsAllStores : Lowered → Classed → (ℕ → ℕ → Bool) → Type 0
 TellsAllStores l c stores = (function class : ℕ) → MayStore l c function class → stores function class ≡ true
-
--- the image of a lowering, with legal classes, whose lists stand over a closed family of locks; each of these begins on a
--- register, or on a global that is there
-pub record IsAnalysed (l : Lowered) (c : Classed) (stores : ℕ → ℕ → Bool) (longest : ℕ) (K : Family) (image : Image) : Type 0 where
-  pub kept : IsKept l
-  pub made : IsImageOf l c image
-  pub closed : IsClosed l c stores longest K
-  pub based : (r : Region) (pc : ℕ) (n : Lock) → K r pc n → LockThere c n
-  pub told : TellsAllStores l c stores
-  pub lists : StandOver l c K image
