@@ -7,3 +7,4 @@ pub mod Verifying
 pub mod Making
 pub mod Needing
 pub mod Refusing
+pub mod Sounding

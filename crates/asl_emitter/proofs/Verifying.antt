@@ -1,5 +1,5 @@
--- The image that is made for a lowering fits.
-use Rattle.std.proofs.Common.{◌≡◌, ℕ, suc, ◌+◌, ◌<◌, ◌≤◌, ◌++◌, false, List, [], ◌∷◌, zero, Option, Some, None, length, map, slice_get, get_or, refl, ap, ap₂, sym, ◌∙◌, subst, inl, inr, arith}
+-- The inferred image of a lowering is verified.
+use Rattle.std.proofs.Common.{◌≡◌, Bool, ℕ, suc, ◌+◌, ◌<◌, ◌≤◌, ◌++◌, false, List, [], ◌∷◌, zero, Option, Some, None, length, map, slice_get, get_or, refl, ap, ap₂, sym, ◌∙◌, subst, inl, inr, arith}
 use Rattle.std.specs.Prelude.{All, unwrap_or, option_map, option_and_then}
 use Rattle.std.proofs.lemmas.Option.{slice_get_within, get_or_from_slice_get}
 use Rattle.asl_code.specs.Bodies.{first_of, total_len}
@@ -28,22 +28,15 @@ use Rattle.asl_points_to.specs.Classes.{Classed, AreClasses, to}
 use Rattle.asl_points_to.proofs.Uniques.{member_below, register_below, cell_below}
 use Rattle.asl_lock_expr.specs.ClassOf.{class_of, base_class, path_class, step_class}
 use Rattle.asl_lock_expr.specs.Links.{IsOne, class_lock}
-use Rattle.asl_backward_flow.specs.Needed.{Part, IsTold}
+use Rattle.asl_backward_flow.specs.Needed.{Needed}
 use Rattle.asl_soundness.specs.Coded.{classed}
 use Rattle.asl_emitter.specs.Lists.{as_class}
-use Rattle.asl_emitter.specs.Parts.{HasSites, IsMade}
+use Rattle.asl_emitter.specs.Inferred.{IsInferred}
+use Rattle.asl_emitter.specs.Parts.{HasSites}
+use Rattle.asl_emitter.specs.There.{IsLockIn, IsBaseIn}
+use Rattle.asl_emitter.proofs.Needing.{needed_in}
 use Rattle.asl_emitter.proofs.Reducing.{one_at}
 use Rattle.asl_emitter.proofs.Fits.{fitted_short, fitted_all}
-
--- what the lock is on is there, in a function with so many registers
-abbrev pub IsBaseIn : Classed → ℕ → Base → Type 0
-IsBaseIn c regs (Reg register) = register < regs
-IsBaseIn c regs (Global global) = global < length c.globals
-
-abbrev pub IsLockIn : Classed → ℕ → Lock → Type 0
-IsLockIn c regs (lock.Root effect) = Unit {0}
-IsLockIn c regs (lock.Class class effect) = class < c.count
-IsLockIn c regs (lock.Expr e effect) = IsBaseIn c regs e.base
 
 get_front : {X : Type 0} (xs ys : List X) (n : ℕ) (x : X) → slice_get xs n ≡ Some x → slice_get (xs ++ ys) n ≡ Some x
 get_front [] ys n x e = cc
@@ -87,7 +80,7 @@ base_below : (l : Lowered) (c : Classed) → AreClasses l c → (f : ℕ) (b : B
 base_below l c are f (Reg r) x e = register_below l c are f r x e
 base_below l c are f (Global g) x e = member_below l c are g x (get_front c.globals c.sites g x e)
 
-pub class_below : (l : Lowered) (c : Classed) → AreClasses l c → (f : ℕ) (b : Base) (path : List Op) (x : ℕ) → path_class c path (base_class c f b) ≡ Some x → x < c.count
+class_below : (l : Lowered) (c : Classed) → AreClasses l c → (f : ℕ) (b : Base) (path : List Op) (x : ℕ) → path_class c path (base_class c f b) ≡ Some x → x < c.count
 class_below l c are f b path x e = path_below l c are path (base_class c f b) x (λ y h. base_below l c are f b y h) e
 
 -- so a lock that becomes its class is still there
@@ -100,8 +93,7 @@ as_class_in l c are f regs (lock.Expr d e) b h o =
       | Some x ↦ λ k p. elim p [ inl s ↦ subst (IsLockIn c regs) s (class_below l c are f d.base d.path x k) | inr z ↦ absurd z ]
     ] refl o
 
-module _ (l : Lowered) (c : Classed) (parts : List Part) (image : Image) (kept : IsKept l) (are : AreClasses l c) (few : c.count ≤ 1024) (m : IsMade l c parts image)
-    (told : (n : ℕ) (s : Section) (fn : entry.Function) (a : Lock) → slice_get l.sections n ≡ Some s → slice_get l.functions s.function ≡ Some fn → IsTold parts (Inside n) (s.acquire + 1) a → IsLockIn c fn.regs a) where
+module _ (l : Lowered) (c : Classed) (stores : ℕ → ℕ → Bool) (longest : ℕ) (image : Image) (kept : IsKept l) (are : AreClasses l c) (few : c.count ≤ 1024) (m : IsInferred l c stores longest image) where
   lay : HasLayout l
   lay = kept_layout l kept
 
@@ -113,17 +105,17 @@ module _ (l : Lowered) (c : Classed) (parts : List Part) (image : Image) (kept :
 
   -- the section of a list
   section_at : (n : ℕ) (locks : List Lock) → slice_get image.lists n ≡ Some locks → (s : Section) × (slice_get l.sections n ≡ Some s)
-  section_at n locks at = let lt = slice_get_within image.lists n locks at in let same = m.lists.count in get_below l.sections n (omega (arith, lt, same))
+  section_at n locks at = let lt = slice_get_within image.lists n locks at in let same = m.count in get_below l.sections n (omega (arith, lt, same))
 
   list_short : (n : ℕ) (locks : List Lock) → slice_get image.lists n ≡ Some locks → length locks ≤ 64
   list_short n locks at =
       let s = section_at n locks at in
-      fitted_short c s.0.function 64 (IsTold parts (Inside n) (s.0.acquire + 1)) locks (omega arith) (m.lists.each n s.0 locks s.1 at)
+      fitted_short c s.0.function 64 (Needed l c stores longest (Inside n) (suc s.0.acquire)) locks (omega arith) (m.lists n s.0 locks s.1 at)
 
   list_in : (n : ℕ) (s : Section) (locks : List Lock) (fn : entry.Function) → slice_get l.sections n ≡ Some s → slice_get image.lists n ≡ Some locks → slice_get l.functions s.function ≡ Some fn → (a : Lock) → IsOne locks a → IsLockIn c fn.regs a
   list_in n s locks fn there at function a o =
-      fitted_all (IsLockIn c fn.regs) c s.function 64 (IsTold parts (Inside n) (s.acquire + 1)) locks (λ b h. told n s fn b there function h)
-      (λ b d h k. as_class_in l c are s.function fn.regs b d h k) (λ e. tt) (m.lists.each n s locks there at) a o
+      fitted_all (IsLockIn c fn.regs) c s.function 64 (Needed l c stores longest (Inside n) (suc s.acquire)) locks (λ b h. needed_in l c stores longest kept are n (suc s.acquire) s fn b there function h)
+      (λ b d h k. as_class_in l c are s.function fn.regs b d h k) (λ e. tt) (m.lists n s locks there at) a o
 
   base_fits : (fn : entry.Function) (b : Base) → IsBaseIn c fn.regs b → FitsBase image fn b
   base_fits fn (Reg r) h = h
@@ -186,7 +178,7 @@ module _ (l : Lowered) (c : Classed) (parts : List Part) (image : Image) (kept :
   acquire_fits : (n pc section : ℕ) (f : entry.Function) → LiesIn image n pc f → slice_get l.code pc ≡ Some (instr.Acquire section) → section < length l.sections → (locks : List Lock) × (slice_get image.lists section ≡ Some locks) × All (FitsLock image f) locks
   acquire_fits n pc section f lies at lt =
       let k = lay.sections.there section lt in
-      let count = m.lists.count in
+      let count = m.count in
       let locks = get_below image.lists section (omega (arith, lt, count)) in
       let entered = lay.sections.entered pc section at in
       let acquire : k.section.acquire ≡ pc = (let u : Some k.section.acquire ≡ Some pc = sym (ap (option_map (λ (s : Section). s.acquire)) k.in_table) ∙ entered in cc) in
@@ -239,14 +231,14 @@ module _ (l : Lowered) (c : Classed) (parts : List Part) (image : Image) (kept :
       let t = all_at FitsTable l.functions n f lay.limits.functions there in
       record { some = t.some_code; params = t.parameters; few_params = t.few_parameters; few_regs = all_at (λ (g : entry.Function). g.regs ≤ 64) l.functions n f kept.few_registers there }
 
-  pub made_fits : FitsImage image
-  made_fits = record {
+  pub inferred_fits : FitsImage image
+  inferred_fits = record {
     version = m.version;
     few_classes = (let same = m.classes in omega (arith, same, few));
     few_globals = (let same = globals_length in let small = lay.limits.few_globals in omega (arith, same, small));
     few_functions = subst (λ fs. length fs ≤ 256) (sym m.functions) lay.limits.few_functions;
     few_instrs = (let same = code_length in let small = kept.size in omega (arith, same, small));
-    few_lists = (let same = m.lists.count in let small = lay.limits.few_sections in omega (arith, same, small));
+    few_lists = (let same = m.count in let small = lay.limits.few_sections in omega (arith, same, small));
     global_fits = λ n class at. (let below = member_below l c are n class (get_front c.globals c.sites n class (ap (λ xs. slice_get xs n) (sym m.globals) ∙ at)) in let same = m.classes in omega (arith, below, same));
     few_locks = list_short;
     list_fits = list_fits;

@@ -4,3 +4,4 @@ pub mod Refused
 -- machinery of the proofs
 pub mod Faults
 pub mod Parts
+pub mod There

@@ -4,53 +4,30 @@ use asl_backward_flow::{FlowFault, Region};
 use asl_lower::LowerFault;
 use asl_points_to::ClassesFault;
 use std::alloc::AllocError;
-use std::error::Error;
-use std::fmt;
+use thiserror::Error;
 
 /// Why no image is inferred for a program. The first that applies is answered.
-#[derive(Clone, Copy, PartialEq, Eq)]
+#[derive(Clone, Copy, Debug, PartialEq, Eq, Error)]
 pub enum InferFault {
     /// The function of this number has more than 64 registers; it is the first.
+    #[error("Registers({0})")]
     Registers(u16),
     /// The code has more than 65,535 instructions.
+    #[error("CodeSize")]
     CodeSize,
     /// A bare function has an access outside its sections; the pc is the lowest.
+    #[error("AccessOutsideSection({0}, {1})")]
     AccessOutsideSection(u16, u16),
     /// There are more than 1,024 classes.
+    #[error("TooManyClasses")]
     TooManyClasses,
     /// The region needs more than 4,096 locks; where several do, any of them is named.
+    #[error("TooManyLocks({0})")]
     TooManyLocks(Region),
     /// The memory ran out.
+    #[error("OutOfMemory")]
     OutOfMemory,
 }
-
-impl fmt::Display for InferFault {
-    fn fmt<W: fmt::Write>(&self, f: &mut fmt::Formatter<W>) -> fmt::Result {
-        match self {
-            InferFault::Registers(function) => write!(f, "Registers({function})"),
-            InferFault::CodeSize => f.write_str("CodeSize"),
-            InferFault::AccessOutsideSection(function, pc) => {
-                write!(f, "AccessOutsideSection({function}, {pc})")
-            }
-            InferFault::TooManyClasses => f.write_str("TooManyClasses"),
-            InferFault::TooManyLocks(Region::Body(function)) => {
-                write!(f, "TooManyLocks(Body({function}))")
-            }
-            InferFault::TooManyLocks(Region::Section(section)) => {
-                write!(f, "TooManyLocks(Section({section}))")
-            }
-            InferFault::OutOfMemory => f.write_str("OutOfMemory"),
-        }
-    }
-}
-
-impl fmt::Debug for InferFault {
-    fn fmt<W: fmt::Write>(&self, f: &mut fmt::Formatter<W>) -> fmt::Result {
-        fmt::Display::fmt(self, f)
-    }
-}
-
-impl Error for InferFault {}
 
 impl From<LowerFault> for InferFault {
     ghost use Rattle.std.specs.Prelude.{◌≡◌};

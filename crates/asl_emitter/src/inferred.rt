@@ -4,6 +4,7 @@ ghost use Rattle.asl_syntax.specs.AstView.{tree_of};
 ghost use Rattle.asl_lower.specs.Kept.{IsKept};
 ghost use Rattle.asl_points_to.specs.Classes.{AreClasses};
 ghost use Rattle.asl_backward_flow.specs.Flows.{IsFlow};
+ghost use Rattle.asl_soundness.specs.Safe.{NeverUnprotected};
 ghost use Rattle.asl_emitter.specs.Inferred.{IsInferredFor};
 ghost use Rattle.asl_emitter.specs.Refused.{IsAccepted, IsRefused};
 ghost use Rattle.asl_emitter.specs.Parts.{IsMade};
@@ -18,11 +19,13 @@ use asl_syntax::Ast;
 use std::alloc::{AllocError, Global};
 
 /// The program of a tree whose sections ask for the locks that they need, where paths have at most `k` operations
-/// (`docs/ANALYSIS.md`, "The inferred image").
+/// (`docs/ANALYSIS.md`, "The inferred image"). With any number of threads, and in any order of their steps, it never faults for
+/// want of a lock, for a section that was not entered, or for one left open.
 pub fn infer(alloc: Global, ast: &Ast, k: u32) -> Result<Program, InferFault>
     requires { k ≤ 8 }
     ensures inferred { IfOk result (IsInferredFor (tree_of ast.now) k) }
     ensures accepted { IfOk result (λ _. IsAccepted (tree_of ast.now) k) }
+    ensures sound { IfOk result NeverUnprotected }
     ensures refused { IfErr result (IsRefused (tree_of ast.now) k) }
 {
     let lowering = lower(alloc, ast)?;
@@ -42,7 +45,8 @@ fn program(
     requires classes { AreClasses lowering.now classes.now }
     requires few { classes.now.count ≤ 1024 }
     requires flow { IsFlow lowering.now classes.now k flow.now }
-    ensures { IfOk result (IsMade lowering.now classes.now flow.now) }
+    ensures made { IfOk result (IsMade lowering.now classes.now flow.now) }
+    ensures sound { IfOk result NeverUnprotected }
 {
     let image = image(alloc, lowering, classes, flow)?;
     match Program::verify(image) {

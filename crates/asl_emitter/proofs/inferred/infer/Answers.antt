@@ -15,7 +15,7 @@ returns-clause-inferred c =
         stores = f.stores;
         tells = f.written;
       };
-      inferred = made_inferred l k f.stores c.args.k c.in_ok-flow.flow c.in_ok-program.field-0 f.tells c.in_ok-program.ensures;
+      inferred = made_inferred l k f.stores c.args.k c.in_ok-flow.flow c.in_ok-program.field-0 f.tells c.in_ok-program.ensures.made;
     }
 
 pub returns-clause-accepted : goal.returns-clause-accepted
@@ -44,3 +44,6 @@ returns-in_err-program-clause-refused c =
     let p = err_from_is_err_and c.from_residual-in_err-program.result c.from_residual-in_err-program.ensures.1 in
     let low = c.in_ok-lowering.ensures in
     rw (p.1, p.2) (is_lowered (tree_of c.args.ast.now) c.in_ok-lowering.lowering low.lowering low.room low.inside)
+
+pub returns-clause-sound : goal.returns-clause-sound
+returns-clause-sound c = c.in_ok-program.ensures.sound

@@ -1,0 +1,35 @@
+-- An inferred program never faults for want of a lock.
+use Rattle.std.proofs.Common.{ℕ, suc, ◌≤◌, Bool}
+use Rattle.asl_code.specs.declared.image.Image.{Image}
+use Rattle.asl_lower.specs.Lowered.{Lowered}
+use Rattle.asl_lower.specs.Regions.{Inside}
+use Rattle.asl_lower.specs.Kept.{IsKept}
+use Rattle.asl_points_to.specs.Classes.{Classed, AreClasses}
+use Rattle.asl_lock_expr.specs.ClassOf.{TellsStores}
+use Rattle.asl_backward_flow.specs.Needed.{Needed}
+use Rattle.asl_soundness.specs.Coded.{IsImageOf}
+use Rattle.asl_soundness.specs.Safe.{StandOver, NeverUnprotected}
+use Rattle.asl_soundness.proofs.Soundness.{sound_program}
+use Rattle.asl_soundness.proofs.NeededLaws.{needed_analysed}
+use Rattle.asl_emitter.specs.Inferred.{IsInferred}
+use Rattle.asl_emitter.proofs.Covering.{fitted_covers}
+use Rattle.asl_emitter.proofs.Needing.{needed_class}
+use Rattle.asl_emitter.proofs.Verifying.{inferred_fits}
+
+stand_over : (l : Lowered) (c : Classed) (stores : ℕ → ℕ → Bool) (longest : ℕ) (image : Image) → IsKept l → AreClasses l c → IsInferred l c stores longest image → StandOver l c (Needed l c stores longest) image
+stand_over l c stores longest image kept are m n s list a there at needed =
+    fitted_covers c s.function 64 (Needed l c stores longest (Inside n) (suc s.acquire)) list (m.lists n s list there at) a needed
+    (needed_class l c stores longest kept are n (suc s.acquire) s a there needed)
+
+pub inferred_sound : (l : Lowered) (c : Classed) (stores : ℕ → ℕ → Bool) (longest : ℕ) (image : Image) → IsKept l → AreClasses l c → c.count ≤ 1024 → TellsStores l c stores → IsInferred l c stores longest image → NeverUnprotected image
+inferred_sound l c stores longest image kept are few tells m =
+    let made : IsImageOf l c image = record {
+      fits = inferred_fits l c stores longest image kept are few m;
+      legal = are.least.legal;
+      functions = m.functions;
+      start = m.start;
+      globals = m.globals;
+      code = m.code;
+    } in
+    sound_program l c stores longest (Needed l c stores longest) image
+    (needed_analysed l c stores longest image kept made (λ f x may. (tells f x).1 may) (stand_over l c stores longest image kept are m))
