@@ -10,21 +10,21 @@ use asl_syntax::{Ast, SyntaxFault, parse};
 use std::alloc::{AllocError, Global};
 use std::test::Fail;
 
-fn parse_again(alloc: Global) -> Result<Ast, SyntaxFault> {
+pub fn parse_again(alloc: Global) -> Result<Ast, SyntaxFault> {
     match parse(alloc, CALL.as_bytes()) {
         Err(SyntaxFault::OutOfMemory) => parse(alloc, CALL.as_bytes()),
         answer => answer,
     }
 }
 
-fn lower_again(alloc: Global, ast: &Ast) -> Result<Lowering, LowerFault> {
+pub fn lower_again(alloc: Global, ast: &Ast) -> Result<Lowering, LowerFault> {
     match lower(alloc, ast) {
         Err(LowerFault::OutOfMemory) => lower(alloc, ast),
         answer => answer,
     }
 }
 
-fn classes_again(alloc: Global, lowering: &Lowering) -> Result<Classes, ClassesFault> {
+pub fn classes_again(alloc: Global, lowering: &Lowering) -> Result<Classes, ClassesFault> {
     match classes(alloc, lowering) {
         Err(ClassesFault::OutOfMemory) => classes(alloc, lowering),
         answer => answer,
@@ -58,7 +58,7 @@ fn links_again(
     }
 }
 
-fn spelled_again(alloc: Global, locks: &[Lock]) -> Result<String, AllocError> {
+pub fn spelled_again(alloc: Global, locks: &[Lock]) -> Result<String, AllocError> {
     match spelled(alloc, locks) {
         Err(_error) => spelled(alloc, locks),
         Ok(text) => Ok(text),
