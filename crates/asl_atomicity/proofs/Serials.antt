@@ -1,0 +1,264 @@
+-- A serial schedule, made step by step: a step inside a section goes behind the last of its thread.
+use Rattle.std.proofs.Common.{◌≡◌, ◌≢◌, ℕ, zero, suc, ◌<◌, ◌==◌, ◌⊎◌, ◌++◌, Bool, true, false, List, [], ◌∷◌, Option, Some, None, length, slice_get, refl, ap, sym, ◌∙◌, subst, inl, inr, arith}
+use Rattle.std.specs.Prelude.{if◌then◌else◌, option_and_then, All}
+use Rattle.std.specs.Option.{option_map_or}
+use Rattle.std.proofs.lemmas.Bool.Decides.{eqb_tells}
+use Rattle.std.proofs.lemmas.List.{append_assoc, append-nil}
+use Rattle.std.proofs.lemmas.List.Elements.{All-head, All-tail}
+use Rattle.asl_code.specs.declared.image.Image.{Image}
+use Rattle.asl_code.specs.declared.instr.Instr.{Instr}
+use Rattle.asl_code.specs.declared.instr.Instr.TheVariants as instr
+use Rattle.asl_code.specs.Fits.{FitsImage}
+use Rattle.asl_machine.specs.declared.reply.Reply.{Reply}
+use Rattle.asl_machine.specs.declared.reply.Reply.TheVariants as reply
+use Rattle.asl_machine.specs.State.{Thread, Running, Done, Failed, Activity, State, activity_of, activity_at, depth_at}
+use Rattle.asl_machine.specs.Run.{first_thread, first_threads, start_of, state_after}
+use Rattle.asl_machine.specs.Step.{At, Line, StepOf}
+use Rattle.asl_machine.specs.Twin.{step_of, step_at}
+use Rattle.asl_machine.specs.Sound.{IsSound}
+use Rattle.asl_machine.proofs.Lists.{one_more}
+use Rattle.asl_machine.proofs.Soundness.{start_sound}
+use Rattle.asl_machine.proofs.Reached.{step_count}
+use Rattle.asl_machine.proofs.Table.{step_is}
+use Rattle.asl_atomicity.specs.Serial.{heard, told, AllCount, IsSerial, AreAlike, IsInside, AreOthers, MakesOutside, Stands, CanSwap, HasSerial}
+use Rattle.asl_atomicity.proofs.Moves.{others_stay, state_parts, step_stands, inside_stays, moves, moved_counts, moved_serial}
+
+-- ---- runs in two parts
+
+told_parts : (image : Image) (a b : List ℕ) (s : State) (x : ℕ) → told image s x (a ++ b) ≡ told image s x a ++ told image (state_after image s a) x b
+told_parts image [] b s x = refl
+told_parts image (t ∷ a) b s x =
+    ap (λ z. (if t == x then heard (step_of image s t).reply else []) ++ z) (told_parts image a b (step_of image s t).state x)
+    ∙ sym (append_assoc (if t == x then heard (step_of image s t).reply else []) _ _)
+
+counts_split : (image : Image) (a b : List ℕ) (s : State) → AllCount image s (a ++ b) → AllCount image s a × AllCount image (state_after image s a) b
+counts_split image [] b s c = (tt, c)
+counts_split image (t ∷ a) b s c = let rest = counts_split image a b (step_of image s t).state c.1 in ((c.0, rest.0), rest.1)
+
+counts_join : (image : Image) (a b : List ℕ) (s : State) → AllCount image s a → AllCount image (state_after image s a) b → AllCount image s (a ++ b)
+counts_join image [] b s c d = d
+counts_join image (t ∷ a) b s c d = (c.0, counts_join image a b (step_of image s t).state c.1 d)
+
+abbrev last_of : Option ℕ → List ℕ → Option ℕ
+last_of before [] = before
+last_of before (t ∷ ts) = last_of (Some t) ts
+
+last_end : (before : Option ℕ) (a : List ℕ) (t : ℕ) → last_of before (a ++ t ∷ []) ≡ Some t
+last_end before [] t = refl
+last_end before (u ∷ a) t = last_end (Some u) a t
+
+serial_split : (image : Image) (a b : List ℕ) (s : State) (before : Option ℕ) → IsSerial image s before (a ++ b) → IsSerial image s before a × IsSerial image (state_after image s a) (last_of before a) b
+serial_split image [] b s before c = (tt, c)
+serial_split image (t ∷ a) b s before c = let rest = serial_split image a b (step_of image s t).state (Some t) c.1 in ((c.0, rest.0), rest.1)
+
+serial_join : (image : Image) (a b : List ℕ) (s : State) (before : Option ℕ) → IsSerial image s before a → IsSerial image (state_after image s a) (last_of before a) b → IsSerial image s before (a ++ b)
+serial_join image [] b s before c d = d
+serial_join image (t ∷ a) b s before c d = (c.0, serial_join image a b (step_of image s t).state (Some t) c.1 d)
+
+run_stands : (image : Image) (count : ℕ) (a : List ℕ) (s : State) → Stands image count s → Stands image count (state_after image s a)
+run_stands image count [] s sound = sound
+run_stands image count (t ∷ a) s sound = run_stands image count a (step_of image s t).state (step_stands image count s t sound)
+
+run_length : (image : Image) (a : List ℕ) (s : State) → length (state_after image s a).threads ≡ length s.threads
+run_length image [] s = refl
+run_length image (t ∷ a) s = run_length image a (step_of image s t).state ∙ step_count image s t
+
+stays : (image : Image) (t : ℕ) (us : List ℕ) (s : State) → AreOthers t us → slice_get (state_after image s us).threads t ≡ slice_get s.threads t
+stays image t [] s others = refl
+stays image t (u ∷ us) s others = stays image t us (step_of image s u).state others.1 ∙ others_stay image s u t (λ e. others.0 (sym e))
+
+-- ---- the last step of a thread
+
+record LastAt (t : ℕ) (ts : List ℕ) : Type 0 where
+  front : List ℕ
+  back : List ℕ
+  is : ts ≡ (front ++ t ∷ []) ++ back
+  others : AreOthers t back
+
+find_last : (t : ℕ) (ts : List ℕ) → LastAt t ts ⊎ AreOthers t ts
+find_last t [] = inr tt
+find_last t (u ∷ us) = elim (find_last t us) [
+  | inl at ↦ inl (record { front = u ∷ at.front; back = at.back; is = ap (λ z. u ∷ z) at.is; others = at.others })
+  | inr none ↦ elim (eqb_tells u t) [
+    | inl same ↦ inl (record { front = []; back = us; is = ap (λ z. z ∷ us) same.1; others = none })
+    | inr other ↦ inr (other.1, none)
+  ]
+]
+
+-- the moved step gives the same reply
+moved_reply : (image : Image) (count : ℕ) → CanSwap image count → (t : ℕ) (us : List ℕ) (s : State) → Stands image count s → IsInside image s t → AreOthers t us → AllCount image s us
+    → (step_of image (state_after image s us) t).reply ≡ (step_of image s t).reply
+moved_reply image count swap t [] s sound i others counts = refl
+moved_reply image count swap t (u ∷ us) s sound i others counts =
+    moved_reply image count swap t us (step_of image s u).state (step_stands image count s u sound) (inside_stays image s u t others.0 i) others.1 counts.1
+    ∙ (swap s u t sound others.0 counts.0 i).0
+
+-- ---- steps that do not count
+
+line_ended : (at : At) (i : Instr) (n : State) → Line at i reply.Ended n → ⊥
+line_ended at instr.Release n h = h
+line_ended at i n h = absurd h
+
+line_blocked : (at : At) (i : Instr) (n : State) → Line at i reply.Blocked n → n ≡ at.state
+line_blocked at (instr.Acquire list) n h = h.same
+line_blocked at i n h = absurd h
+
+unheard_line : (at : At) (i : Instr) (r : Reply) (n : State) → Line at i r n → heard r ≡ [] → n ≡ at.state
+unheard_line at i reply.Blocked n h e = line_blocked at i n h
+unheard_line at i reply.Ended n h e = absurd (line_ended at i n h)
+unheard_line at i reply.Ran n h e = cc
+unheard_line at i (reply.Out v) n h e = cc
+unheard_line at i (reply.Fault f) n h e = cc
+
+unheard_step : (image : Image) (s : State) (t : ℕ) (o : Option Thread) (r : Reply) (n : State) → StepOf image s t o r n → heard r ≡ [] → n ≡ s
+unheard_step image s t None r n h e = absurd h
+unheard_step image s t (Some (Running a)) r n h e = unheard_line (record { image = image; state = s; thread = t; activity = a }) h.0 r n h.2 e
+unheard_step image s t (Some (Done v)) r n h e = h.1
+unheard_step image s t (Some (Failed f)) r n h e = h.1
+
+unheard : (image : Image) (s : State) (t : ℕ) → IsSound image s → t < length s.threads → heard (step_of image s t).reply ≡ [] → (step_of image s t).state ≡ s
+unheard image s t sound there e = unheard_step image s t (slice_get s.threads t) (step_of image s t).reply (step_of image s t).state (step_is image s t sound there) e
+
+tell_heard : (r : Reply) → (heard r ≡ []) ⊎ (heard r ≢ [])
+tell_heard reply.Blocked = inl refl
+tell_heard reply.Ended = inl refl
+tell_heard reply.Ran = inr (λ e. cc)
+tell_heard (reply.Out v) = inr (λ e. cc)
+tell_heard (reply.Fault f) = inr (λ e. cc)
+
+quiet : (b : Bool) (rs : List Reply) → rs ≡ [] → (if b then rs else []) ++ [] ≡ []
+quiet true rs e = append-nil rs ∙ e
+quiet false rs e = refl
+
+-- ---- the start
+
+abbrev slot_depth : Option Thread → ℕ
+slot_depth o = option_map_or (λ (a : Activity). a.depth) (option_and_then activity_of o) 0
+
+start_depth : (image : Image) (n t : ℕ) (thread : Thread) → slice_get (first_threads image n) t ≡ Some thread → slot_depth (Some thread) ≡ 0
+start_depth image zero t thread e = cc
+start_depth image (suc n) t thread e = elim (one_more (first_threads image n) (first_thread image n) thread t e) [
+  | inl before ↦ start_depth image n t thread before
+  | inr last ↦ ap (λ z. slot_depth (Some z)) last
+]
+
+-- ---- one step more
+
+module _ (image : Image) (count : ℕ) (swap : CanSwap image count) (s : State) (sound : Stands image count s) where
+  record From (done : List ℕ) : Type 0 where
+    serial : List ℕ
+    counts : AllCount image s serial
+    is_serial : IsSerial image s None serial
+    alike : AreAlike image s done serial
+
+  -- a step at the end of both
+  both_end : (done other : List ℕ) (t : ℕ) → AreAlike image s done other → AreAlike image s (done ++ t ∷ []) (other ++ t ∷ [])
+  both_end done other t a = (
+    state_parts image done (t ∷ []) s ∙ ap (λ z. (step_of image z t).state) a.0 ∙ sym (state_parts image other (t ∷ []) s),
+    λ x.
+        told_parts image done (t ∷ []) s x
+        ∙ ap (λ z. z ++ told image (state_after image s done) x (t ∷ [])) (a.1 x)
+        ∙ ap (λ z. told image s x other ++ told image z x (t ∷ [])) a.0
+        ∙ sym (told_parts image other (t ∷ []) s x),
+  )
+
+  -- alike behind one front
+  behind : (front a b : List ℕ) → AreAlike image (state_after image s front) a b → AreAlike image s (front ++ a) (front ++ b)
+  behind front a b k = (
+    state_parts image front a s ∙ k.0 ∙ sym (state_parts image front b s),
+    λ x. told_parts image front a s x ∙ ap (λ z. told image s x front ++ z) (k.1 x) ∙ sym (told_parts image front b s x),
+  )
+
+  dropped : (done : List ℕ) (t : ℕ) → From done → t < length s.threads → heard (step_of image (state_after image s done) t).reply ≡ [] → From (done ++ t ∷ [])
+  dropped done t f there e = record {
+    serial = f.serial;
+    counts = f.counts;
+    is_serial = f.is_serial;
+    alike =
+        let here : t < length (state_after image s done).threads = subst (λ n. t < n) (sym (run_length image done s)) there in
+        let same = unheard image (state_after image s done) t (run_stands image count done s sound).0 here e in (
+          state_parts image done (t ∷ []) s ∙ same ∙ f.alike.0,
+          λ x.
+              told_parts image done (t ∷ []) s x
+              ∙ ap (λ z. told image s x done ++ z) (nothing x e)
+              ∙ append-nil (told image s x done)
+              ∙ f.alike.1 x,
+        );
+  }
+    where
+      nothing : (x : ℕ) → heard (step_of image (state_after image s done) t).reply ≡ [] → told image (state_after image s done) x (t ∷ []) ≡ []
+      nothing x e = quiet (t == x) (heard (step_of image (state_after image s done) t).reply) e
+
+  appended : (done : List ℕ) (t : ℕ) → From done → heard (step_of image (state_after image s done) t).reply ≢ [] → depth_at (state_after image s done).threads t ≡ 0 → From (done ++ t ∷ [])
+  appended done t f c outside = record {
+    serial = f.serial ++ t ∷ [];
+    counts = counts_join image f.serial (t ∷ []) s f.counts (subst (λ z. heard (step_of image z t).reply ≢ []) f.alike.0 c, tt);
+    is_serial = serial_join image f.serial (t ∷ []) s None f.is_serial (inl (subst (λ z. depth_at z.threads t ≡ 0) f.alike.0 outside), tt);
+    alike = both_end done f.serial t f.alike;
+  }
+
+  inserted : (done : List ℕ) (t : ℕ) (f : From done) → heard (step_of image (state_after image s done) t).reply ≢ [] → IsInside image (state_after image s done) t → LastAt t f.serial → From (done ++ t ∷ [])
+  inserted done t f c inside at =
+    let front = at.front ++ t ∷ [] in
+    let p = state_after image s front in
+    let p_sound = run_stands image count front s sound in
+    let counts = counts_split image front at.back s (subst (AllCount image s) at.is f.counts) in
+    let serial = serial_split image front at.back s None (subst (IsSerial image s None) at.is f.is_serial) in
+    let goal_state : state_after image s done ≡ state_after image p at.back = f.alike.0 ∙ ap (state_after image s) at.is ∙ state_parts image front at.back s in
+    let i_end : IsInside image (state_after image p at.back) t = subst (λ z. IsInside image z t) goal_state inside in
+    let i : IsInside image p t = record { activity = i_end.activity; runs = sym (stays image t at.back p at.others) ∙ i_end.runs; inside = i_end.inside; makes_none = i_end.makes_none } in
+    let same_reply = moved_reply image count swap t at.back p p_sound i at.others counts.1 in
+    let c_end : heard (step_of image (state_after image p at.back) t).reply ≢ [] = subst (λ z. heard (step_of image z t).reply ≢ []) goal_state c in
+    record {
+      serial = front ++ t ∷ at.back;
+      counts = counts_join image front (t ∷ at.back) s counts.0 (subst (λ r. heard r ≢ []) same_reply c_end, moved_counts image count swap t at.back p p_sound i at.others counts.1);
+      is_serial = serial_join image front (t ∷ at.back) s None serial.0 (
+        inr (last_end None at.front t),
+        subst (λ b. IsSerial image (step_of image p t).state b at.back) (last_end None at.front t) (moved_serial image count swap t (last_of None front) at.back p p_sound i at.others counts.1 serial.1),
+      );
+      alike =
+          let one = both_end done f.serial t f.alike in
+          let two : f.serial ++ t ∷ [] ≡ front ++ (at.back ++ t ∷ []) = ap (λ z. z ++ t ∷ []) at.is ∙ append_assoc front at.back (t ∷ []) in
+          let three = behind front (at.back ++ t ∷ []) (t ∷ at.back) (moves image count swap t at.back p p_sound i at.others counts.1) in
+          (one.0 ∙ ap (state_after image s) two ∙ three.0, λ x. one.1 x ∙ ap (told image s x) two ∙ three.1 x);
+    }
+
+  one_step : (done : List ℕ) (t : ℕ) → ((u : ℕ) → depth_at s.threads u ≡ 0) → t < length s.threads → From done
+      → (depth_at (state_after image s done).threads t ≡ 0) ⊎ IsInside image (state_after image s done) t → From (done ++ t ∷ [])
+  one_step done t fresh there f place = elim (tell_heard (step_of image (state_after image s done) t).reply) [
+    | inl e ↦ dropped done t f there e
+    | inr c ↦ elim place [
+      | inl outside ↦ appended done t f c outside
+      | inr inside ↦ elim (find_last t f.serial) [
+        | inl at ↦ inserted done t f c inside at
+        | inr none ↦
+            let is : slice_get s.threads t ≡ Some (Running inside.activity) = sym (stays image t f.serial s none) ∙ ap (λ (z : State). slice_get z.threads t) (sym f.alike.0) ∙ inside.runs in
+            let zero_depth : inside.activity.depth ≡ 0 = sym (ap slot_depth is) ∙ fresh t in
+            let positive = inside.inside in absurd (no_depth inside.activity.depth zero_depth positive)
+      ]
+    ]
+  ]
+    where
+      no_depth : (d : ℕ) → d ≡ 0 → 0 < d → ⊥
+      no_depth d e p = omega arith
+
+  all_steps : (rest done : List ℕ) → ((u : ℕ) → depth_at s.threads u ≡ 0) → All (λ t. t < length s.threads) rest → MakesOutside image (state_after image s done) rest → From done → From (done ++ rest)
+  all_steps [] done fresh there m f = subst From (sym (append-nil done)) f
+  all_steps (t ∷ rest) done fresh there m f =
+    subst From (append_assoc done (t ∷ []) rest)
+    (all_steps rest (done ++ t ∷ []) fresh (All-tail (λ t. t < length s.threads) t rest there) (subst (λ z. MakesOutside image z rest) (sym (state_parts image done (t ∷ []) s)) m.1) (one_step done t fresh (All-head (λ t. t < length s.threads) t rest there) f m.0))
+
+start_outside : (image : Image) (n u : ℕ) → depth_at (start_of image n).threads u ≡ 0
+start_outside image n u =
+    elim (slice_get (first_threads image n) u) as (λ o. slice_get (first_threads image n) u ≡ o → slot_depth o ≡ 0) [
+      | None ↦ λ e. refl
+      | Some thread ↦ λ e. start_depth image n u thread e
+    ] refl
+
+-- the theorem
+pub has_serial : (image : Image) (count : ℕ) (schedule : List ℕ) → FitsImage image → CanSwap image count → All (λ t. t < length (start_of image count).threads) schedule → MakesOutside image (start_of image count) schedule → HasSerial image count schedule
+has_serial image count schedule fits swap there m =
+    let s = start_of image count in
+    let sound : Stands image count s = (start_sound image count fits, ([], refl)) in
+    let f = all_steps image count swap s sound schedule [] (start_outside image count) there m (record { serial = []; counts = tt; is_serial = tt; alike = (refl, λ x. refl) }) in
+    record { serial = f.serial; counts = f.counts; is_serial = f.is_serial; alike = f.alike }
