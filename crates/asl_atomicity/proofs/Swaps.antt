@@ -19,7 +19,8 @@ use Rattle.asl_machine.specs.Sound.{IsSound}
 use Rattle.asl_machine.proofs.Lists.{get_other}
 use Rattle.asl_machine.proofs.Heaps.{length-written}
 use Rattle.asl_machine.proofs.Soundness.{here_of, instr_here}
-use Rattle.asl_atomicity.specs.Serial.{heard, IsInside, CanSwap, EntryUnseen, EntriesUnseen}
+use Rattle.asl_atomicity.specs.Serial.{heard, IsInside}
+use Rattle.asl_atomicity.specs.Swapping.{CanSwap, EntryUnseen, EntriesUnseen}
 use Rattle.asl_atomicity.proofs.Uniform.{ObjectsEdit, Same, Stored, Made, put, HoldingEdit, edit, edits_commute, IsNew, Unseen, Uniform, uniform, place_at}
 use Rattle.asl_atomicity.proofs.Stores.{IsThere, AreApart, puts_commute, set_set}
 use Rattle.asl_atomicity.proofs.Unseen.{WroteBy, ok_covers, register_points, moved_kept, target_kept, value_kept}

@@ -1,0 +1,38 @@
+-- Machinery of the proofs, not of the promise: neighbouring steps that change places.
+use Rattle.std.specs.Prelude.{◌≡◌, ◌≢◌, ◌<◌, ◌⊎◌, ℕ, List, [], ◌∷◌, Some, slice_get}
+use Rattle.asl_code.specs.declared.image.Image.{Image}
+use Rattle.asl_code.specs.declared.instr.Instr.TheVariants as instr
+use Rattle.asl_lock_forest.specs.Holding.{can_grant}
+use Rattle.asl_machine.specs.State.{Activity, Running, State}
+use Rattle.asl_machine.specs.Request.{request_of, locks_of}
+use Rattle.asl_machine.specs.Sound.{IsSound}
+use Rattle.asl_machine.specs.Twin.{step_of}
+use Rattle.asl_atomicity.specs.Serial.{heard, InRun, IsInside}
+
+-- every thread of a list is another one
+abbrev pub AreOthers : ℕ → List ℕ → Type 0
+AreOthers t [] = Unit {0}
+AreOthers t (u ∷ us) = (u ≢ t) × AreOthers t us
+
+-- a sound state of a run
+abbrev pub Stands : Image → ℕ → State → Type 0
+Stands image count s = IsSound image s × InRun image count s
+
+-- two neighbouring steps can change places, where the later one is inside a section
+abbrev pub CanSwap : Image → ℕ → Type 0
+CanSwap image count = (s : State) (u t : ℕ) → Stands image count s → u ≢ t → heard (step_of image s u).reply ≢ [] → IsInside image s t →
+    let one = step_of image (step_of image s u).state t in
+    let first = step_of image s t in
+    let other = step_of image first.state u in
+    (one.reply ≡ first.reply) × ((step_of image s u).reply ≡ other.reply) × (one.state ≡ other.state)
+
+-- what thread u asks for at the entry of a section, and whether it is free, is as it was after t's step
+pub record EntryUnseen (image : Image) (s : State) (u t : ℕ) : Type 0 where
+  pub request : (b : Activity) (list : ℕ) → slice_get s.threads u ≡ Some (Running b) → slice_get image.code b.top.pc ≡ Some (instr.Acquire list) → b.depth ≡ 0 →
+      request_of (step_of image s t).state.objects b.top.regs (locks_of image list) ≡ request_of s.objects b.top.regs (locks_of image list)
+  pub free : (b : Activity) (list : ℕ) → slice_get s.threads u ≡ Some (Running b) → slice_get image.code b.top.pc ≡ Some (instr.Acquire list) → b.depth ≡ 0 →
+      can_grant (step_of image s t).state.holding u (request_of s.objects b.top.regs (locks_of image list)) ≡ can_grant s.holding u (request_of s.objects b.top.regs (locks_of image list))
+
+-- no step inside a section changes what another thread that enters one asks for, or is given
+abbrev pub EntriesUnseen : Image → ℕ → Type 0
+EntriesUnseen image count = (s : State) (u t : ℕ) → Stands image count s → u ≢ t → heard (step_of image s u).reply ≢ [] → IsInside image s t → EntryUnseen image s u t
