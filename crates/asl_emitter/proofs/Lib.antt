@@ -8,3 +8,4 @@ pub mod Making
 pub mod Needing
 pub mod Refusing
 pub mod Sounding
+pub mod Alike

@@ -1,9 +1,17 @@
-//! Laws of lists of locks, as functions that do nothing: what each ensures is the law.
-ghost use Rattle.std.specs.Prelude.{◌≡◌, ◌<◌, ◌≤◌, ◌⊎◌, ◌↔◌, ℕ, List, length};
+//! Laws of lists of locks and of inferred images, as functions that do nothing: what each ensures is the law.
+ghost use Rattle.std.specs.Prelude.{◌≡◌, ◌<◌, ◌≤◌, ◌⊎◌, ◌↔◌, ℕ, Bool, List, length};
+ghost use Rattle.asl_code.specs.declared.image.Image.{Image};
+ghost use Rattle.asl_code.specs.Fits.{FitsImage};
 ghost use Rattle.asl_code.specs.declared.lock.Lock.{Lock as AnyLock};
-ghost use Rattle.asl_points_to.specs.Classes.{Classed};
+ghost use Rattle.asl_syntax.specs.Tree.{Item};
+ghost use Rattle.asl_lower.specs.Lowered.{Lowered};
+ghost use Rattle.asl_lower.specs.Kept.{IsKept};
+ghost use Rattle.asl_points_to.specs.Classes.{Classed, AreClasses};
+ghost use Rattle.asl_lock_expr.specs.ClassOf.{TellsStores};
 ghost use Rattle.asl_lock_expr.specs.Links.{IsOne};
 ghost use Rattle.asl_soundness.specs.Over.{StandsOver};
+ghost use Rattle.asl_soundness.specs.Safe.{NeverUnprotected};
+ghost use Rattle.asl_emitter.specs.Inferred.{IsInferred, IsInferredFor};
 ghost use Rattle.asl_emitter.specs.Lists.{Absorbs, IsReduced, IsFitted, HasClass};
 
 /// Absorbing is a strict order, so each lock of a set is kept or absorbed by one that is kept.
@@ -28,4 +36,18 @@ pub fn lists_depend_on_the_set_alone()
 pub fn fitted_lists_stand_over_their_sets()
     ensures { (c : Classed) (f most : ℕ) (given list : List AnyLock) → IsFitted c f most (IsOne given) list → (a : AnyLock)
         → IsOne given a → HasClass c f a → (m : AnyLock) × IsOne list m × StandsOver c f m a }
+{}
+
+/// The image that is inferred for a lowering is verified, and no run of it ever faults for want of a lock, for a section that
+/// was not entered, or for one left open.
+pub fn inferred_images_are_sound()
+    ensures verified { (l : Lowered) (c : Classed) (stores : ℕ → ℕ → Bool) (longest : ℕ) (image : Image) → IsKept l → AreClasses l c → c.count ≤ 1024
+        → IsInferred l c stores longest image → FitsImage image }
+    ensures sound { (l : Lowered) (c : Classed) (stores : ℕ → ℕ → Bool) (longest : ℕ) (image : Image) → IsKept l → AreClasses l c → c.count ≤ 1024
+        → TellsStores l c stores → IsInferred l c stores longest image → NeverUnprotected image }
+{}
+
+/// A program has one inferred image for each longest path.
+pub fn inferred_images_are_one()
+    ensures { (is : List Item) (longest : ℕ) (image other : Image) → IsInferredFor is longest image → IsInferredFor is longest other → image ≡ other }
 {}

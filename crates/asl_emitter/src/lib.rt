@@ -13,6 +13,7 @@ pub use fault::InferFault;
 pub use fitted::{MOST_LOCKS, fit};
 pub use inferred::infer;
 pub use laws::{
-    absorbing_is_a_strict_order, fitted_lists_stand_over_their_sets, lists_depend_on_the_set_alone,
+    absorbing_is_a_strict_order, fitted_lists_stand_over_their_sets, inferred_images_are_one,
+    inferred_images_are_sound, lists_depend_on_the_set_alone,
 };
 pub use reduced::reduce;
