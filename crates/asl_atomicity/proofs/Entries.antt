@@ -1,15 +1,12 @@
 -- What a thread asks for at the entry of a section is not changed by another's step inside one.
-use Rattle.std.proofs.Common.{◌≡◌, ◌≢◌, ℕ, zero, suc, ◌<◌, ◌==◌, ◌+◌, ◌⊎◌, ◌++◌, Bool, true, false, List, [], ◌∷◌, Option, Some, None, Result, Ok, Err, length, slice_get, unwrap_or, refl, ap, ap₂, sym, ◌∙◌, subst, inl, inr}
+use Rattle.std.proofs.Common.{◌≡◌, ◌≢◌, ℕ, ◌==◌, ◌+◌, ◌⊎◌, ◌++◌, Bool, true, false, List, [], ◌∷◌, Option, Some, None, unwrap_or, refl, ap, sym, ◌∙◌, subst, inl, inr}
 use Rattle.std.specs.Prelude.{if◌then◌else◌, IsSome, nat_lt, option_and_then}
 use Rattle.std.specs.Option.{option_map_or}
 use Rattle.std.proofs.lemmas.Bool.Decides.{eqb_tells}
-use Rattle.asl_code.specs.declared.image.Image.{Image}
-use Rattle.asl_code.specs.declared.instr.Instr.{Instr}
-use Rattle.asl_code.specs.declared.instr.Instr.TheVariants as instr
 use Rattle.asl_code.specs.declared.value.Value.{Value}
 use Rattle.asl_code.specs.declared.value.Cell.{Cell}
 use Rattle.asl_code.specs.declared.value.Effect.{Effect}
-use Rattle.asl_code.specs.declared.value.Effect.TheVariants.{Read, Write}
+use Rattle.asl_code.specs.declared.value.Effect.TheVariants.{Read}
 use Rattle.asl_code.specs.declared.lock.Lock.{Lock}
 use Rattle.asl_code.specs.declared.lock.Lock.TheVariants as lock
 use Rattle.asl_code.specs.declared.path.Op.{Op}
@@ -19,20 +16,18 @@ use Rattle.asl_mode_lanes.specs.declared.mode.Mode.TheVariants.{NL}
 use Rattle.asl_mode_lanes.specs.Mode.{AreCompatible}
 use Rattle.asl_mode_lanes.proofs.ModeLaws.{compatible-NL}
 use Rattle.asl_lock_forest.specs.declared.node.Node.{Node}
-use Rattle.asl_lock_forest.specs.Holding.{Holding, Request, held, asked, grant, release, CanGrant, IsLawful, Covers}
+use Rattle.asl_lock_forest.specs.Holding.{Holding, Request, held, asked, release, CanGrant, Covers}
 use Rattle.asl_lock_forest.specs.Keys.{key}
 use Rattle.asl_lock_forest.proofs.Laws.{held_release_own}
-use Rattle.asl_lock_forest.proofs.NinePairs.{nine_pairs}
 use Rattle.asl_machine.specs.declared.fate.Fate.{Fate}
 use Rattle.asl_machine.specs.declared.fate.Fate.TheVariants as fate
-use Rattle.asl_machine.specs.declared.fault.Fault.{Fault}
-use Rattle.asl_machine.specs.State.{Object, Running, Activity, State, cell_at, class_of, size_of, written}
-use Rattle.asl_lock_expr.specs.Expression.{cell_of, pointed, base_cell, walked, moved, path_cell}
-use Rattle.asl_machine.specs.Request.{heap_of, cell_asks, leaf_asks, asks_of, all_asks, joined_all, request_of, locks_of}
+use Rattle.asl_machine.specs.State.{Object, cell_at, class_of, written}
+use Rattle.asl_lock_expr.specs.Expression.{cell_of, pointed, base_cell, walked, path_cell}
+use Rattle.asl_machine.specs.Request.{heap_of, cell_asks, leaf_asks, asks_of, all_asks, joined_all, request_of}
 use Rattle.asl_machine.specs.Twin.{holding_after, release_fate, holding_released}
 use Rattle.asl_machine.proofs.Heaps.{class_of-written, size_of-written}
 use Rattle.asl_atomicity.specs.Serial.{ReadsCovered, ListCovered}
-use Rattle.asl_atomicity.proofs.Uniform.{ObjectsEdit, Same, Stored, Made, put, HoldingEdit, After, Acquired, Released, edit, edit_other}
+use Rattle.asl_atomicity.proofs.Uniform.{HoldingEdit, After, Acquired, Released, edit, edit_other}
 use Rattle.asl_atomicity.proofs.Unseen.{other_cell}
 
 -- an evaluation that does not read the cell goes as before

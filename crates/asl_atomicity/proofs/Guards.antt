@@ -1,26 +1,23 @@
 -- Guarded entries: a step inside a section changes neither what another thread's entry asks for nor whether it is granted.
-use Rattle.std.proofs.Common.{◌≡◌, ◌≢◌, ℕ, ◌⊎◌, Bool, true, false, List, [], ◌∷◌, Option, Some, None, Result, Ok, Err, length, slice_get, refl, ap, sym, ◌∙◌, subst, inl, inr}
+use Rattle.std.proofs.Common.{◌≡◌, ◌≢◌, ℕ, Bool, true, false, List, [], Some, Ok, Err, slice_get, refl, ap, sym, ◌∙◌, subst}
 use Rattle.asl_code.specs.declared.image.Image.{Image}
-use Rattle.asl_code.specs.declared.instr.Instr.{Instr}
 use Rattle.asl_code.specs.declared.instr.Instr.TheVariants as instr
 use Rattle.asl_code.specs.declared.value.Value.{Value}
 use Rattle.asl_code.specs.declared.value.Cell.{Cell}
-use Rattle.asl_code.specs.declared.value.Effect.TheVariants.{Read, Write}
+use Rattle.asl_code.specs.declared.value.Effect.TheVariants.{Write}
 use Rattle.asl_code.specs.declared.lock.Lock.{Lock}
-use Rattle.asl_lock_forest.specs.Holding.{Holding, Request, CanGrant, IsLawful, HoldsNothing, Covers, grant, can_grant}
+use Rattle.asl_lock_forest.specs.Holding.{Holding, IsLawful, Covers, grant, can_grant}
 use Rattle.asl_lock_forest.proofs.Lawful.{lawful_grant}
 use Rattle.asl_lock_forest.proofs.NinePairs.{nine_pairs}
-use Rattle.asl_machine.specs.declared.fault.Fault.{Fault}
 use Rattle.asl_machine.specs.State.{Object, Running, Activity, State, class_of}
 use Rattle.asl_machine.specs.Request.{request_of, locks_of}
 use Rattle.asl_machine.specs.Twin.{Stepped, acquire_fate, reply_of, turn_by, left_at, step_at, step_of}
-use Rattle.asl_machine.specs.Sound.{IsSound}
 use Rattle.asl_lock_forest.proofs.Grantable.{CanGrant-tested, can_grant-tells}
 use Rattle.asl_machine.proofs.RequestLaws.{request_asks_modes, request_is_rooted}
 use Rattle.asl_machine.proofs.Soundness.{here_of, outside_here, instr_here}
-use Rattle.asl_atomicity.specs.Serial.{heard, IsInside, IsGuarded, ListCovered}
-use Rattle.asl_atomicity.specs.Swapping.{EntryUnseen, EntriesUnseen}
-use Rattle.asl_atomicity.proofs.Uniform.{ObjectsEdit, Same, Stored, Made, put, HoldingEdit, Acquired, edit, uniform, place_at}
+use Rattle.asl_atomicity.specs.Serial.{heard, IsGuarded, ListCovered}
+use Rattle.asl_atomicity.specs.Swapping.{EntriesUnseen}
+use Rattle.asl_atomicity.proofs.Uniform.{ObjectsEdit, Same, Stored, Made, put, Acquired, edit, uniform, place_at}
 use Rattle.asl_atomicity.proofs.Unseen.{WroteBy, covered_kept}
 use Rattle.asl_atomicity.proofs.Entries.{request_same, still_free}
 use Rattle.asl_atomicity.proofs.Swaps.{stepped, same_here, not_new, no_depth, wrote_by}
@@ -37,7 +34,7 @@ granted image s u b list runs at depth counts = by_test (can_grant s.holding u (
         ∙ ap (λ z. heard (turn_by u (left_at image (place_at u b s.objects s.holding) z)).reply) at
         ∙ ap (λ z. heard (reply_of (acquire_fate z (can_grant s.holding u (request_of s.objects b.top.regs (locks_of image list)))))) depth
         ∙ ap (λ z. heard (reply_of (acquire_fate 0 z))) e
-    ))
+        ))
 
 request_kept : (objects : List Object) (h : Holding) (t u : ℕ) (regs : List Value) (ls : List Lock) (e : ObjectsEdit) → u ≢ t → IsLawful (grant h u (request_of objects regs ls)) →
     ListCovered (grant h u (request_of objects regs ls)) u objects regs ls → WroteBy objects h t e → ((cells class : ℕ) → e ≢ Made cells class) → request_of (put e objects) regs ls ≡ request_of objects regs ls
@@ -48,10 +45,10 @@ request_kept objects h t u regs ls (Stored v (Ok c0)) apart lawful covered wrote
     let w = wrote v c0 refl in
     let r = request_of objects regs ls in
     request_same objects c0 v w.3 (grant h u r) u (λ c class of reads same.
-        let at : class_of objects c.object ≡ Some w.0 = ap (λ (z : Cell). class_of objects z.object) (sym same) ∙ w.1 in
-        let one : w.0 ≡ class = (let k : Some w.0 ≡ Some class = sym at ∙ of in cc) in
-        let writes : Covers h t c class Write = subst (λ z. Covers h t c z Write) one (subst (λ z. Covers h t z w.0 Write) same w.2) in
-        nine_pairs (grant h u r) lawful u t apart c class reads (covered_kept (Acquired 0 true r) u t h c class Write (λ k. apart (sym k)) ∙ writes)) w.0 w.1 regs ls covered
+    let at : class_of objects c.object ≡ Some w.0 = ap (λ (z : Cell). class_of objects z.object) (sym same) ∙ w.1 in
+    let one : w.0 ≡ class = (let k : Some w.0 ≡ Some class = sym at ∙ of in cc) in
+    let writes : Covers h t c class Write = subst (λ z. Covers h t c z Write) one (subst (λ z. Covers h t z w.0 Write) same w.2) in
+    nine_pairs (grant h u r) lawful u t apart c class reads (covered_kept (Acquired 0 true r) u t h c class Write (λ k. apart (sym k)) ∙ writes)) w.0 w.1 regs ls covered
 
 pub entries_unseen : (image : Image) (count : ℕ) → IsGuarded image count → EntriesUnseen image count
 entries_unseen image count guarded s u t stands apart counts inside =

@@ -11,10 +11,10 @@ use Rattle.asl_code.specs.declared.instr.Instr.TheVariants as instr
 use Rattle.asl_code.specs.Fits.{FitsImage}
 use Rattle.asl_machine.specs.declared.reply.Reply.{Reply}
 use Rattle.asl_machine.specs.declared.reply.Reply.TheVariants as reply
-use Rattle.asl_machine.specs.State.{Thread, Running, Done, Failed, Activity, State, activity_of, activity_at, depth_at}
+use Rattle.asl_machine.specs.State.{Thread, Running, Done, Failed, Activity, State, activity_of, depth_at}
 use Rattle.asl_machine.specs.Run.{first_thread, first_threads, start_of, state_after}
 use Rattle.asl_machine.specs.Step.{At, Line, StepOf}
-use Rattle.asl_machine.specs.Twin.{step_of, step_at}
+use Rattle.asl_machine.specs.Twin.{step_of}
 use Rattle.asl_machine.specs.Sound.{IsSound}
 use Rattle.asl_machine.proofs.Lists.{one_more}
 use Rattle.asl_machine.proofs.Soundness.{start_sound}
@@ -200,29 +200,29 @@ module _ (image : Image) (count : ℕ) (swap : CanSwap image count) (s : State) 
 
   inserted : (done : List ℕ) (t : ℕ) (f : From done) → heard (step_of image (state_after image s done) t).reply ≢ [] → IsInside image (state_after image s done) t → LastAt t f.serial → From (done ++ t ∷ [])
   inserted done t f c inside at =
-    let front = at.front ++ t ∷ [] in
-    let p = state_after image s front in
-    let p_sound = run_stands image count front s sound in
-    let counts = counts_split image front at.back s (subst (AllCount image s) at.is f.counts) in
-    let serial = serial_split image front at.back s None (subst (IsSerial image s None) at.is f.is_serial) in
-    let goal_state : state_after image s done ≡ state_after image p at.back = f.alike.0 ∙ ap (state_after image s) at.is ∙ state_parts image front at.back s in
-    let i_end : IsInside image (state_after image p at.back) t = subst (λ z. IsInside image z t) goal_state inside in
-    let i : IsInside image p t = record { activity = i_end.activity; runs = sym (stays image t at.back p at.others) ∙ i_end.runs; inside = i_end.inside; makes_none = i_end.makes_none } in
-    let same_reply = moved_reply image count swap t at.back p p_sound i at.others counts.1 in
-    let c_end : heard (step_of image (state_after image p at.back) t).reply ≢ [] = subst (λ z. heard (step_of image z t).reply ≢ []) goal_state c in
-    record {
-      serial = front ++ t ∷ at.back;
-      counts = counts_join image front (t ∷ at.back) s counts.0 (subst (λ r. heard r ≢ []) same_reply c_end, moved_counts image count swap t at.back p p_sound i at.others counts.1);
-      is_serial = serial_join image front (t ∷ at.back) s None serial.0 (
-        inr (last_end None at.front t),
-        subst (λ b. IsSerial image (step_of image p t).state b at.back) (last_end None at.front t) (moved_serial image count swap t (last_of None front) at.back p p_sound i at.others counts.1 serial.1),
-      );
-      alike =
-          let one = both_end done f.serial t f.alike in
-          let two : f.serial ++ t ∷ [] ≡ front ++ (at.back ++ t ∷ []) = ap (λ z. z ++ t ∷ []) at.is ∙ append_assoc front at.back (t ∷ []) in
-          let three = behind front (at.back ++ t ∷ []) (t ∷ at.back) (moves image count swap t at.back p p_sound i at.others counts.1) in
-          (one.0 ∙ ap (state_after image s) two ∙ three.0, λ x. one.1 x ∙ ap (told image s x) two ∙ three.1 x);
-    }
+      let front = at.front ++ t ∷ [] in
+      let p = state_after image s front in
+      let p_sound = run_stands image count front s sound in
+      let counts = counts_split image front at.back s (subst (AllCount image s) at.is f.counts) in
+      let serial = serial_split image front at.back s None (subst (IsSerial image s None) at.is f.is_serial) in
+      let goal_state : state_after image s done ≡ state_after image p at.back = f.alike.0 ∙ ap (state_after image s) at.is ∙ state_parts image front at.back s in
+      let i_end : IsInside image (state_after image p at.back) t = subst (λ z. IsInside image z t) goal_state inside in
+      let i : IsInside image p t = record { activity = i_end.activity; runs = sym (stays image t at.back p at.others) ∙ i_end.runs; inside = i_end.inside; makes_none = i_end.makes_none } in
+      let same_reply = moved_reply image count swap t at.back p p_sound i at.others counts.1 in
+      let c_end : heard (step_of image (state_after image p at.back) t).reply ≢ [] = subst (λ z. heard (step_of image z t).reply ≢ []) goal_state c in
+      record {
+        serial = front ++ t ∷ at.back;
+        counts = counts_join image front (t ∷ at.back) s counts.0 (subst (λ r. heard r ≢ []) same_reply c_end, moved_counts image count swap t at.back p p_sound i at.others counts.1);
+        is_serial = serial_join image front (t ∷ at.back) s None serial.0 (
+          inr (last_end None at.front t),
+          subst (λ b. IsSerial image (step_of image p t).state b at.back) (last_end None at.front t) (moved_serial image count swap t (last_of None front) at.back p p_sound i at.others counts.1 serial.1),
+        );
+        alike =
+            let one = both_end done f.serial t f.alike in
+            let two : f.serial ++ t ∷ [] ≡ front ++ (at.back ++ t ∷ []) = ap (λ z. z ++ t ∷ []) at.is ∙ append_assoc front at.back (t ∷ []) in
+            let three = behind front (at.back ++ t ∷ []) (t ∷ at.back) (moves image count swap t at.back p p_sound i at.others counts.1) in
+            (one.0 ∙ ap (state_after image s) two ∙ three.0, λ x. one.1 x ∙ ap (told image s x) two ∙ three.1 x);
+      }
 
   one_step : (done : List ℕ) (t : ℕ) → ((u : ℕ) → depth_at s.threads u ≡ 0) → t < length s.threads → From done
       → (depth_at (state_after image s done).threads t ≡ 0) ⊎ IsInside image (state_after image s done) t → From (done ++ t ∷ [])
@@ -246,8 +246,8 @@ module _ (image : Image) (count : ℕ) (swap : CanSwap image count) (s : State) 
   all_steps : (rest done : List ℕ) → ((u : ℕ) → depth_at s.threads u ≡ 0) → All (λ t. t < length s.threads) rest → MakesOutside image (state_after image s done) rest → From done → From (done ++ rest)
   all_steps [] done fresh there m f = subst From (sym (append-nil done)) f
   all_steps (t ∷ rest) done fresh there m f =
-    subst From (append_assoc done (t ∷ []) rest)
-    (all_steps rest (done ++ t ∷ []) fresh (All-tail (λ t. t < length s.threads) t rest there) (subst (λ z. MakesOutside image z rest) (sym (state_parts image done (t ∷ []) s)) m.1) (one_step done t fresh (All-head (λ t. t < length s.threads) t rest there) f m.0))
+      subst From (append_assoc done (t ∷ []) rest)
+      (all_steps rest (done ++ t ∷ []) fresh (All-tail (λ t. t < length s.threads) t rest there) (subst (λ z. MakesOutside image z rest) (sym (state_parts image done (t ∷ []) s)) m.1) (one_step done t fresh (All-head (λ t. t < length s.threads) t rest there) f m.0))
 
 start_outside : (image : Image) (n u : ℕ) → depth_at (start_of image n).threads u ≡ 0
 start_outside image n u =

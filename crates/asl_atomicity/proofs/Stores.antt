@@ -1,5 +1,5 @@
 -- Stores to different cells change places, and so do a store and a new object.
-use Rattle.std.proofs.Common.{◌≡◌, ◌≢◌, ℕ, zero, suc, ◌==◌, ◌⊎◌, ◌++◌, Bool, true, false, cond, set, List, [], ◌∷◌, Option, Some, None, Result, Ok, Err, length, slice_get, refl, ap, ap₂, sym, ◌∙◌, subst, inl, inr}
+use Rattle.std.proofs.Common.{◌≡◌, ◌≢◌, ℕ, zero, suc, ◌==◌, ◌++◌, Bool, true, false, set, List, [], ◌∷◌, Some, None, Ok, Err, length, slice_get, refl, ap, ap₂, sym, ◌∙◌, inl, inr}
 use Rattle.std.specs.Prelude.{if◌then◌else◌, IsSome, option_and_then}
 use Rattle.std.specs.Option.{option_map_or}
 use Rattle.std.proofs.lemmas.Bool.Decides.{eqb_tells}
@@ -7,9 +7,8 @@ use Rattle.std.proofs.lemmas.List.{set-append_left}
 use Rattle.std.proofs.lemmas.Option.{slice_get_within}
 use Rattle.asl_code.specs.declared.value.Value.{Value}
 use Rattle.asl_code.specs.declared.value.Cell.{Cell}
-use Rattle.asl_machine.specs.declared.fault.Fault.{Fault}
 use Rattle.asl_machine.specs.State.{Object, cell_at, with_cell, written, fresh_object}
-use Rattle.asl_machine.specs.Twin.{made_objects, objects_stored}
+use Rattle.asl_machine.specs.Twin.{made_objects}
 use Rattle.asl_machine.proofs.Lists.{get_same, get_other, get_before}
 use Rattle.asl_machine.proofs.Heaps.{length-written}
 use Rattle.asl_atomicity.proofs.Uniform.{ObjectsEdit, Same, Stored, Made, put}
@@ -56,7 +55,7 @@ stores_commute objects c d v w ne there also =
         let second : slice_get (set objects d.object (with_cell q d.offset w)) c.object ≡ Some (with_cell q d.offset w) = ap (slice_get (set objects d.object (with_cell q d.offset w))) same ∙ get_same objects d.object (with_cell q d.offset w) (slice_get_within objects d.object q f) in
         let pq : p ≡ q = (let u : Some p ≡ Some q = sym e ∙ ap (slice_get objects) same ∙ f in cc) in
         let cells : with_cell (with_cell p c.offset v) d.offset w ≡ with_cell (with_cell q d.offset w) c.offset v =
-            ap (λ z. record { class = p.class; cells = z }) (set_set p.cells c.offset d.offset v w (apart_in_one c d ne same)) ∙ ap (λ z. with_cell (with_cell z d.offset w) c.offset v) pq in
+        ap (λ z. record { class = p.class; cells = z }) (set_set p.cells c.offset d.offset v w (apart_in_one c d ne same)) ∙ ap (λ z. with_cell (with_cell z d.offset w) c.offset v) pq in
         ap (λ z. written z d w) (written_is objects c v p e)
         ∙ written_is (set objects c.object (with_cell p c.offset v)) d w (with_cell p c.offset v) first
         ∙ ap (λ z. set (set objects z (with_cell p c.offset v)) d.object (with_cell (with_cell p c.offset v) d.offset w)) same
@@ -66,6 +65,7 @@ stores_commute objects c d v w ne there also =
         ∙ ap (λ z. set (set objects d.object (with_cell q d.offset w)) z (with_cell (with_cell q d.offset w) c.offset v)) (sym same)
         ∙ sym (written_is (set objects d.object (with_cell q d.offset w)) c v (with_cell q d.offset w) second)
         ∙ ap (λ z. written z c v) (sym (written_is objects d w q f))
+
     two : (p q : Object) → slice_get objects c.object ≡ Some p → slice_get objects d.object ≡ Some q → c.object ≢ d.object → written (written objects c v) d w ≡ written (written objects d w) c v
     two p q e f other =
         ap (λ z. written z d w) (written_is objects c v p e)

@@ -1,27 +1,24 @@
 -- Two neighbouring steps change places where the later one is inside a section.
-use Rattle.std.proofs.Common.{◌≡◌, ◌≢◌, ℕ, zero, suc, ◌<◌, ◌==◌, ◌⊎◌, ◌++◌, set, Bool, true, false, List, [], ◌∷◌, Option, Some, None, Result, Ok, Err, length, slice_get, refl, ap, sym, ◌∙◌, subst, inl, inr, arith, length-set}
-use Rattle.std.specs.Prelude.{IsSome}
+use Rattle.std.proofs.Common.{◌≡◌, ◌≢◌, ℕ, ◌<◌, set, List, Option, Some, None, Ok, Err, length, slice_get, refl, ap, sym, ◌∙◌, subst, arith}
 use Rattle.asl_code.specs.declared.image.Image.{Image}
 use Rattle.asl_code.specs.declared.instr.Instr.{Instr}
 use Rattle.asl_code.specs.declared.instr.Instr.TheVariants as instr
-use Rattle.asl_code.specs.declared.value.Value.{Value}
 use Rattle.asl_code.specs.declared.value.Cell.{Cell}
-use Rattle.asl_code.specs.declared.value.Effect.TheVariants.{Read, Write}
+use Rattle.asl_code.specs.declared.value.Effect.TheVariants.{Write}
 use Rattle.asl_lock_forest.specs.Holding.{Holding, IsLawful, Covers, can_grant}
 use Rattle.asl_lock_forest.proofs.NinePairs.{nine_pairs, writer_covers_read}
-use Rattle.asl_machine.specs.declared.reply.Reply.{Reply}
-use Rattle.asl_machine.specs.State.{Object, Thread, Running, Done, Failed, Activity, State, cell_at, class_of}
+use Rattle.asl_machine.specs.State.{Object, Thread, Running, Done, Failed, Activity, State, class_of}
 use Rattle.asl_machine.specs.Access.{AllPoint}
 use Rattle.asl_machine.specs.Request.{request_of, locks_of}
 use Rattle.asl_machine.specs.Step.{after}
-use Rattle.asl_machine.specs.Twin.{Turn, Stepped, register_of, turn_of, turn_by, left_at, step_at, step_of}
+use Rattle.asl_machine.specs.Twin.{Turn, Stepped, register_of, turn_by, left_at, step_at, step_of}
 use Rattle.asl_machine.specs.Sound.{IsSound}
 use Rattle.asl_machine.proofs.Lists.{get_other}
 use Rattle.asl_machine.proofs.Heaps.{length-written}
 use Rattle.asl_machine.proofs.Soundness.{here_of, instr_here}
 use Rattle.asl_atomicity.specs.Serial.{heard, IsInside}
 use Rattle.asl_atomicity.specs.Swapping.{CanSwap, EntryUnseen, EntriesUnseen}
-use Rattle.asl_atomicity.proofs.Uniform.{ObjectsEdit, Same, Stored, Made, put, HoldingEdit, edit, edits_commute, IsNew, Unseen, Uniform, uniform, place_at}
+use Rattle.asl_atomicity.proofs.Uniform.{ObjectsEdit, Same, Stored, Made, put, edit, edits_commute, IsNew, Unseen, Uniform, uniform, place_at}
 use Rattle.asl_atomicity.proofs.Stores.{IsThere, AreApart, puts_commute, set_set}
 use Rattle.asl_atomicity.proofs.Unseen.{WroteBy, ok_covers, register_points, moved_kept, target_kept, value_kept}
 
@@ -127,9 +124,9 @@ module _ (image : Image) (s : State) (u t : ℕ) (sound : IsSound image s) (apar
       let holding : edit p.on_holding t (edit q.on_holding u h) ≡ edit q.on_holding u (edit p.on_holding t h) = edits_commute p.on_holding q.on_holding t u h apart in
       let threads : set (set s.threads u q.thread) t p.thread ≡ set (set s.threads t p.thread) u q.thread = set_set s.threads u t q.thread p.thread apart in
       let end : after su t p.thread (put p.on_objects (put q.on_objects o)) (edit p.on_holding t (edit q.on_holding u h)) ≡ after st u q.thread (put q.on_objects (put p.on_objects o)) (edit q.on_holding u (edit p.on_holding t h)) =
-          ap (λ z. after su t p.thread z (edit p.on_holding t (edit q.on_holding u h))) objects
-          ∙ ap (λ z. after su t p.thread (put q.on_objects (put p.on_objects o)) z) holding
-          ∙ ap (λ z. state_with (put q.on_objects (put p.on_objects o)) (edit q.on_holding u (edit p.on_holding t h)) z) threads in (
+      ap (λ z. after su t p.thread z (edit p.on_holding t (edit q.on_holding u h))) objects
+      ∙ ap (λ z. after su t p.thread (put q.on_objects (put p.on_objects o)) z) holding
+      ∙ ap (λ z. state_with (put q.on_objects (put p.on_objects o)) (edit q.on_holding u (edit p.on_holding t h)) z) threads in (
         ap (λ (w : Stepped). w.reply) one ∙ sym (ap (λ (w : Stepped). w.reply) first),
         ap (λ (w : Stepped). w.reply) second ∙ sym (ap (λ (w : Stepped). w.reply) two),
         ap (λ (w : Stepped). w.state) one ∙ end ∙ sym (ap (λ (w : Stepped). w.state) two),

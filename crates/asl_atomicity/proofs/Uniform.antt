@@ -1,20 +1,18 @@
 -- What a thread's step does to objects and holding does not depend on what other threads do to them.
-use Rattle.std.proofs.Common.{◌≡◌, ◌≢◌, ℕ, zero, suc, ◌<◌, ◌≤◌, ◌+◌, ◌==◌, ◌⊎◌, ◌++◌, Bool, true, false, cond, List, [], ◌∷◌, Option, Some, None, Result, Ok, Err, length, slice_get, unwrap_or, refl, ap, sym, ◌∙◌, subst, inl, inr, arith}
-use Rattle.std.specs.Prelude.{if◌then◌else◌, option_and_then, IsSome, IsTrue}
-use Rattle.std.specs.Option.{option_map_or}
+use Rattle.std.proofs.Common.{◌≡◌, ◌≢◌, ℕ, zero, suc, ◌+◌, ◌==◌, Bool, true, false, List, [], Some, Result, Ok, length, refl, ap, sym, ◌∙◌, subst, inl, inr, arith}
+use Rattle.std.specs.Prelude.{if◌then◌else◌}
 use Rattle.std.specs.FinMap as map
 use Rattle.std.proofs.lemmas.Bool.Decides.{eqb_tells}
 use Rattle.asl_code.specs.declared.image.Image.{Image}
 use Rattle.asl_code.specs.declared.instr.Instr.{Instr}
 use Rattle.asl_code.specs.declared.instr.Instr.TheVariants as instr
 use Rattle.asl_code.specs.declared.value.Value.{Value}
-use Rattle.asl_code.specs.declared.value.Value.TheVariants.{Int, Null, Addr}
 use Rattle.asl_code.specs.declared.value.Cell.{Cell}
 use Rattle.asl_code.specs.declared.value.Effect.{Effect}
 use Rattle.asl_code.specs.declared.value.Effect.TheVariants.{Read, Write}
 use Rattle.asl_lock_forest.specs.declared.node.Node.{Node}
-use Rattle.asl_lock_forest.specs.Keys.{Key, key, key_cmp}
-use Rattle.asl_lock_forest.specs.Holding.{Holding, Request, asked, held, grant, release, is_covered, can_grant}
+use Rattle.asl_lock_forest.specs.Keys.{Key, key}
+use Rattle.asl_lock_forest.specs.Holding.{Holding, Request, asked, grant, release, can_grant}
 use Rattle.asl_lock_forest.specs.Request.{names}
 use Rattle.asl_lock_forest.proofs.KeyLaws.{key_total, key_exact}
 use Rattle.asl_lock_forest.proofs.Laws.{get_release_own, get_release_other, get_grant_own, get_grant_other}
@@ -23,12 +21,11 @@ use Rattle.asl_machine.specs.declared.fate.Fate.TheVariants as fate
 use Rattle.asl_machine.specs.declared.fault.Fault.{Fault}
 use Rattle.asl_machine.specs.declared.fault.Fault.TheVariants as fault
 use Rattle.asl_machine.specs.declared.reply.Reply.{Reply}
-use Rattle.asl_machine.specs.State.{Object, Frame, Thread, Activity, State, cell_at, class_of, size_of, written, fresh_object}
+use Rattle.asl_machine.specs.State.{Object, Frame, Thread, Activity}
 use Rattle.asl_machine.specs.Cover.{cover}
 use Rattle.asl_machine.specs.Step.{having_made}
-use Rattle.asl_lock_expr.specs.Expression.{cell_of}
 use Rattle.asl_machine.specs.Request.{request_of, locks_of}
-use Rattle.asl_machine.specs.Twin.{Place, Left, Turn, fate_of, activity_set, activity_moved, register_of, address_moved, made_objects, accessed, loaded, objects_stored, holding_after, release_fate, holding_released, acquire_fate, holding_acquired, left_by, turn_by, set_left, store_left, make_left, acquire_left}
+use Rattle.asl_machine.specs.Twin.{Place, Left, activity_moved, register_of, address_moved, made_objects, accessed, loaded, objects_stored, holding_after, release_fate, holding_released, acquire_fate, holding_acquired, left_by, turn_by, set_left, store_left, make_left, acquire_left}
 
 -- what a step does to the objects
 pub data ObjectsEdit : Type 0 where
@@ -165,6 +162,7 @@ uniform image t a (instr.Acquire list) objects h = entering a.depth a.top a.belo
       where
         not_suc : (d : ℕ) → suc d ≡ 0 → ⊥
         not_suc d e = omega arith
+
         by_test : Activity → Bool → List Object → Holding → Bool → Request → Left
         by_test b outside others g free request =
             let f : Fate = if outside then (if free then fate.GoesOn else fate.Waits) else if b.depth == 255 then fate.Fails fault.Deep else fate.GoesOn in

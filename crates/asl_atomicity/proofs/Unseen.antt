@@ -1,12 +1,9 @@
 -- What one thread's step does is unseen by another thread.
-use Rattle.std.proofs.Common.{◌≡◌, ◌≢◌, ℕ, zero, suc, ◌==◌, ◌+◌, set, ap₂, ◌⊎◌, ◌++◌, ◌||◌, ◌&&◌, Bool, true, false, cond, List, [], ◌∷◌, Option, Some, None, Result, Ok, Err, length, slice_get, unwrap_or, refl, ap, sym, ◌∙◌, subst, inl, inr}
-use Rattle.std.specs.Prelude.{if◌then◌else◌, IsSome, IsTrue, nat_lt, option_map, option_and_then}
+use Rattle.std.proofs.Common.{◌≡◌, ◌≢◌, ℕ, ◌==◌, ◌+◌, set, ap₂, ◌++◌, ◌||◌, ◌&&◌, Bool, true, false, List, [], ◌∷◌, Some, None, Ok, Err, length, slice_get, unwrap_or, refl, ap, sym, ◌∙◌, subst, inl, inr}
+use Rattle.std.specs.Prelude.{if◌then◌else◌, IsSome, nat_lt, option_map, option_and_then}
 use Rattle.std.specs.Option.{option_map_or}
 use Rattle.std.proofs.lemmas.Bool.Decides.{eqb_tells}
 use Rattle.std.proofs.lemmas.Option.{slice_get_within}
-use Rattle.asl_code.specs.declared.image.Image.{Image}
-use Rattle.asl_code.specs.declared.instr.Instr.{Instr}
-use Rattle.asl_code.specs.declared.instr.Instr.TheVariants as instr
 use Rattle.asl_code.specs.declared.value.Value.{Value}
 use Rattle.asl_code.specs.declared.value.Value.TheVariants.{Int, Null, Addr}
 use Rattle.asl_code.specs.declared.value.Cell.{Cell}
@@ -16,20 +13,17 @@ use Rattle.asl_mode_lanes.specs.declared.mode.Mode.TheVariants.{NL}
 use Rattle.asl_mode_lanes.specs.Mode.{is_at_most}
 use Rattle.asl_lock_forest.specs.declared.node.Node.{Node}
 use Rattle.asl_lock_forest.specs.declared.node.Node.TheVariants.{Root, Class, Leaf}
-use Rattle.asl_lock_forest.specs.Keys.{Key, key}
-use Rattle.asl_lock_forest.specs.Holding.{Holding, held, is_covered, covering_mode, Covers, IsLawful, can_grant}
+use Rattle.asl_lock_forest.specs.Keys.{key}
+use Rattle.asl_lock_forest.specs.Holding.{Holding, held, is_covered, covering_mode, Covers, IsLawful}
 use Rattle.asl_lock_forest.proofs.NinePairs.{nine_pairs}
-use Rattle.asl_machine.specs.declared.fault.Fault.{Fault}
-use Rattle.asl_machine.specs.declared.fault.Fault.TheVariants as fault
-use Rattle.asl_machine.specs.State.{Object, Frame, Activity, State, cell_at, class_of, size_of, with_cell, written, fresh_object}
+use Rattle.asl_machine.specs.State.{Object, Frame, cell_at, class_of, size_of, with_cell, written, fresh_object}
 use Rattle.asl_machine.specs.Cover.{cover}
 use Rattle.asl_machine.specs.Access.{is_protected, Points, AllPoint}
 use Rattle.asl_lock_expr.specs.Expression.{cell_of}
-use Rattle.asl_machine.specs.Request.{request_of, locks_of}
 use Rattle.asl_machine.specs.Twin.{register_of, address_moved, address_or_bounds, made_objects, allowed_cell, accessed, loaded}
 use Rattle.asl_machine.proofs.Lists.{get_same, get_other, get_before}
-use Rattle.asl_machine.proofs.Heaps.{class_of-written, size_of-written, length-written}
-use Rattle.asl_atomicity.proofs.Uniform.{ObjectsEdit, Same, Stored, Made, put, HoldingEdit, edit, edit_other, IsNew, Unseen}
+use Rattle.asl_machine.proofs.Heaps.{class_of-written, size_of-written}
+use Rattle.asl_atomicity.proofs.Uniform.{ObjectsEdit, Same, Stored, Made, put, HoldingEdit, edit, edit_other}
 use Rattle.asl_atomicity.proofs.Stores.{object_of, written_is}
 
 -- what a thread wrote it covers for writing
@@ -146,10 +140,10 @@ module _ (objects : List Object) (h : Holding) (x y : ℕ) (e : ObjectsEdit) (k 
           let p = object_of objects (cell_of o i) points in
           let reads = protected_covers h objects x d Read (cell_of o i) p.0 p.1 is in
           ap (λ z. Ok (unwrap_or z Null)) (cell_kept e objects (cell_of o i) (λ v c f.
-              let w = wrote v c f in (
-                λ same.
-                    let of : class_of objects o ≡ Some w.0 = ap (λ (z : Cell). class_of objects z.object) (sym same) ∙ w.1 in
-                    let class : p.0.class ≡ w.0 = (let u : Some p.0.class ≡ Some w.0 = sym (ap (option_map (λ (q : Object). q.class)) p.1) ∙ of in cc) in
-                    nine_pairs h lawful x y apart (cell_of o i) p.0.class reads (subst (λ z. Covers h y (cell_of o i) z Write) (sym class) (subst (λ z. Covers h y z w.0 Write) same w.2)),
-                w.3,
-              )) points)
+          let w = wrote v c f in (
+            λ same.
+                let of : class_of objects o ≡ Some w.0 = ap (λ (z : Cell). class_of objects z.object) (sym same) ∙ w.1 in
+                let class : p.0.class ≡ w.0 = (let u : Some p.0.class ≡ Some w.0 = sym (ap (option_map (λ (q : Object). q.class)) p.1) ∙ of in cc) in
+                nine_pairs h lawful x y apart (cell_of o i) p.0.class reads (subst (λ z. Covers h y (cell_of o i) z Write) (sym class) (subst (λ z. Covers h y z w.0 Write) same w.2)),
+            w.3,
+          )) points)

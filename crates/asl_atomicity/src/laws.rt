@@ -11,5 +11,4 @@ ghost use Rattle.asl_atomicity.specs.Serial.{IsGuarded, MakesOutside, HasSerial}
 pub fn runs_have_serial_ones()
     ensures { (image : Image) (count : ℕ) (schedule : List ℕ) → FitsImage image → IsGuarded image count → All (λ t. t < count) schedule
         → MakesOutside image (start_of image count) schedule → HasSerial image count schedule }
-{
-}
+{}
