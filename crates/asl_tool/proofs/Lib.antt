@@ -7,4 +7,7 @@ mod Lengths
 mod RunFiles
 mod Differences
 mod Records
+mod Views
+mod Sessions
+mod Talks
 mod Outcomes

@@ -31,11 +31,14 @@ use Rattle.asl_tool.specs.declared.run_file.FileFault.{FileFault}
 use Rattle.asl_tool.specs.declared.run_file.FileFault.TheVariants as file
 use Rattle.asl_tool.specs.RunFile.{SpellsRun, IsFileOutcome, FilesHaveAnOutcome, FileOutcomeIsOne}
 use Rattle.asl_tool.specs.Step.{IsStepped, written}
+use Rattle.asl_tool.specs.declared.debugging.DebugWord.{DebugWord}
+use Rattle.asl_tool.specs.Debug.{IsDebugged, IsTalk, opened}
 use Rattle.asl_tool.specs.Replay.{IsReplayed, same_text}
 use Rattle.asl_tool.specs.Command.{IsAssembled, IsDisassembled, IsOutput, IsRefused, IsRefusedStep, IsRefusedText, IsRefusedImage, IsRefusedReplay}
 use Rattle.asl_tool.proofs.Differences.{some_difference}
 use Rattle.asl_tool.proofs.Records.{RunOutcome, run_one, some_run}
 use Rattle.asl_tool.proofs.RunFiles.{files_have_an_outcome, file_outcome_is_one}
+use Rattle.asl_tool.proofs.Talks.{talk_one, some_talk}
 use Rattle.asl_tool.proofs.Stored.{stored}
 use Rattle.asl_tool.specs.Outcome.{IsWantOfMemory, IsOutcome}
 
@@ -152,6 +155,12 @@ replay_one image log (Err (journal.Differs i)) (Err g) x y = absurd y.0
 replay_one image log (Err journal.OutOfMemory) p x y = absurd (x.1 refl)
 replay_one image log (Err f) p x y = absurd x.0
 
+ok_no_err : (log : Log) (f : JournalFault) → ◌≡◌ {A = Result Log JournalFault} (Ok log) (Err f) → ⊥
+ok_no_err log f e = cc
+
+err_one : (f g : JournalFault) → ◌≡◌ {A = Result Log JournalFault} (Err f) (Err g) → f ≡ g
+err_one f g e = cc
+
 abbrev from_replay : Result Log JournalFault → Result (List ℕ) CommandFault
 from_replay (Ok log) = Ok (same_text log)
 from_replay (Err f) = Err (fault.Journal f)
@@ -182,6 +191,47 @@ replays_one : (input : List ℕ) (o p : Result (List ℕ) CommandFault) → All 
 replays_one input o p all x y =
     let same : y.0 ≡ x.0 = file_outcome_is_one input y.0 x.0 all y.1 x.1 in
     replay_form_one x.0 o p x.2 (subst (λ (q : Result (Image × Log) FileFault). ReplayForm q p) same y.2)
+
+-- ---- `debug`
+
+-- what a journal is to the words
+abbrev DebugOutcome : Image → Log → List DebugWord → Result (List ℕ) JournalFault → Type 0
+DebugOutcome image log words (Ok text) = IsJournal image log.threads log.events × IsTalk (opened image log) words text
+DebugOutcome image log words (Err f) = IsReplayFault image log f × (f ≢ journal.OutOfMemory)
+
+debug_one : (image : Image) (log : Log) (words : List DebugWord) (o p : Result (List ℕ) JournalFault) → DebugOutcome image log words o → DebugOutcome image log words p → o ≡ p
+debug_one image log words (Ok a) (Ok b) x y = ap Ok (talk_one image log 0 [] [] words a b (λ place. refl) x.1 y.1)
+debug_one image log words (Ok a) (Err g) x y = absurd (let none = replay_one image log (Ok log) (Err g) (x.0, refl) y in ok_no_err log g none)
+debug_one image log words (Err f) (Ok b) x y = absurd (let none = replay_one image log (Ok log) (Err f) (y.0, refl) x in ok_no_err log f none)
+debug_one image log words (Err f) (Err g) x y = (let same = err_one f g (replay_one image log (Err f) (Err g) x y) in ap Err same)
+
+abbrev from_debug : Result (List ℕ) JournalFault → Result (List ℕ) CommandFault
+from_debug (Ok text) = Ok text
+from_debug (Err f) = Err (fault.Journal f)
+
+-- what a run file, or none, makes of the words
+abbrev DebugForm : List DebugWord → Result (Image × Log) FileFault → Result (List ℕ) CommandFault → Type 0
+DebugForm words (Ok run) o = (r : Result (List ℕ) JournalFault) × (o ≡ from_debug r) × DebugOutcome run.0 run.1 words r
+DebugForm words (Err f) o = o ≡ Err (fault.File f)
+
+abbrev HasDebugForm : List DebugWord → List ℕ → Result (List ℕ) CommandFault → Type 0
+HasDebugForm words input o = (q : Result (Image × Log) FileFault) × IsFileOutcome input q × DebugForm words q o
+
+debug_form_one : (words : List DebugWord) (q : Result (Image × Log) FileFault) (o p : Result (List ℕ) CommandFault) → DebugForm words q o → DebugForm words q p → o ≡ p
+debug_form_one words (Ok run) o p x y = x.1 ∙ ap from_debug (debug_one run.0 run.1 words x.0 y.0 x.2 y.2) ∙ sym y.1
+debug_form_one words (Err f) o p x y = x ∙ sym y
+
+debug_is : (words : List DebugWord) (input : List ℕ) (o : Result (List ℕ) CommandFault) → MatchResult o (λ output. IsDebugged input words output) (λ f. IsRefusedReplay input f × (IsWantOfMemory f → ⊥)) → HasDebugForm words input o
+debug_is words input (Ok output) x = (Ok (x.image, x.log), x.run, (Ok output, refl, (x.journal, x.talk)))
+debug_is words input (Err (fault.Program cause)) x = absurd x.0
+debug_is words input (Err (fault.File cause)) x = (Err cause, (x.0, no_memory_file cause x.1), refl)
+debug_is words input (Err (fault.Journal cause)) x = (Ok (x.0.image, x.0.log), x.0.run, (Err cause, refl, (x.0.refused, no_memory_run cause x.1)))
+debug_is words input (Err fault.OutOfMemory) x = absurd (x.1 tt)
+
+debugs_one : (words : List DebugWord) (input : List ℕ) (o p : Result (List ℕ) CommandFault) → All (λ b. b < 256) input → HasDebugForm words input o → HasDebugForm words input p → o ≡ p
+debugs_one words input o p all x y =
+    let same : y.0 ≡ x.0 = file_outcome_is_one input y.0 x.0 all y.1 x.1 in
+    debug_form_one words x.0 o p x.2 (subst (λ (q : Result (Image × Log) FileFault). DebugForm words q p) same y.2)
 
 -- ---- `asm`
 
@@ -255,6 +305,9 @@ one_outcome texts bytes command.Disassemble input o p all x y =
     image_one bytes input o p all (image_is input o (cases command.Disassemble input o x)) (image_is input p (cases command.Disassemble input p y))
 one_outcome texts bytes command.Replay input o p all x y =
     replays_one input o p all (replay_is input o (cases command.Replay input o x)) (replay_is input p (cases command.Replay input p y))
+one_outcome texts bytes (command.Debug words) input o p all x y =
+    let c = command.Debug words in
+    debugs_one words.items input o p all (debug_is words.items input o (cases c input o x)) (debug_is words.items input p (cases c input p y))
 
 -- ---- there is one
 
@@ -315,6 +368,17 @@ some_replay input (Ok run) x =
     ]
 some_replay input (Err f) x = (Err (fault.File f), (x.0, λ w. x.1 (want_file f w)))
 
+some_debug : (words : List DebugWord) (input : List ℕ) (q : Result (Image × Log) FileFault) → IsFileOutcome input q
+    → (o : Result (List ℕ) CommandFault) × MatchResult o (λ output. IsDebugged input words output) (λ f. IsRefusedReplay input f × (IsWantOfMemory f → ⊥))
+some_debug words input (Ok run) x =
+    elim (some_difference run.0 (start_of run.0 run.1.threads) run.1.events) [
+      | inl goes ↦
+          (let talk = some_talk run.0 run.1 0 [] words (omega arith) in
+          (Ok talk.0, record { image = run.0; log = run.1; run = x; journal = record { there = x.journal.fits.is_log.there; replies = goes }; talk = talk.1 }))
+      | inr d ↦ (Err (fault.Journal (journal.Differs d.0)), (record { image = run.0; log = run.1; run = x; refused = d.1 }, λ w. absurd w))
+    ]
+some_debug words input (Err f) x = (Err (fault.File f), (x.0, λ w. x.1 (want_file f w)))
+
 some_image : (input : List ℕ) (r : Result Image AsmFault) → text.IsOutcome input r
     → (o : Result (List ℕ) CommandFault) × MatchResult o (λ output. IsAssembled input output) (λ f. IsRefusedText input f × (IsWantOfMemory f → ⊥))
 some_image input (Ok image) x =
@@ -348,3 +412,7 @@ some_outcome texts bytes command.Replay input all =
     let q = files_have_an_outcome input all in
     let o = some_replay input q.0 q.1 in
     (o.0, uncased command.Replay input o.0 o.1)
+some_outcome texts bytes (command.Debug words) input all =
+    let q = files_have_an_outcome input all in
+    let o = some_debug words.items input q.0 q.1 in
+    (o.0, uncased (command.Debug words) input o.0 o.1)

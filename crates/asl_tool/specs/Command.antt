@@ -11,6 +11,7 @@ use Rattle.asl_tool.specs.declared.command.Command.TheVariants as command
 use Rattle.asl_tool.specs.declared.command.CommandFault.{CommandFault}
 use Rattle.asl_tool.specs.declared.command.CommandFault.TheVariants as fault
 use Rattle.asl_tool.specs.Program.{IsProgramText, IsProgramImage, IsNoProgram}
+use Rattle.asl_tool.specs.Debug.{IsDebugged}
 use Rattle.asl_tool.specs.Replay.{IsReplayed, HasRefusedReplay}
 use Rattle.asl_tool.specs.RunFile.{IsFileFault}
 use Rattle.asl_tool.specs.Step.{IsStepped, HasRefusedRun}
@@ -33,6 +34,7 @@ IsOutput (command.Step threads schedule record_it) input output = IsStepped inpu
 IsOutput command.Assemble input image = IsAssembled input image
 IsOutput command.Disassemble input text = IsDisassembled input text
 IsOutput command.Replay input text = IsReplayed input text
+IsOutput (command.Debug words) input text = IsDebugged input words.items text
 
 -- what each refusal of `step` says of the input; of want of memory nothing is said
 abbrev pub IsRefusedStep : List ℕ → ℕ → List ℕ → CommandFault → Type 0
@@ -66,3 +68,4 @@ IsRefused (command.Step threads schedule record_it) input f = IsRefusedStep inpu
 IsRefused command.Assemble input f = IsRefusedText input f
 IsRefused command.Disassemble input f = IsRefusedImage input f
 IsRefused command.Replay input f = IsRefusedReplay input f
+IsRefused (command.Debug words) input f = IsRefusedReplay input f

@@ -4,6 +4,8 @@ pub mod Program
 pub mod RunFile
 pub mod Step
 pub mod Replay
+pub mod View
+pub mod Debug
 pub mod Command
 pub mod Outcome
 pub mod Tool

@@ -1,9 +1,11 @@
 //! The commands: from the bytes of an input to those of the output.
 ghost use Rattle.std.specs.Prelude.{◌≡◌, IfOk, IfErr};
+ghost use Rattle.asl_tool.specs.Debug.{IsDebugged};
 ghost use Rattle.asl_tool.specs.Replay.{IsReplayed};
 ghost use Rattle.asl_tool.specs.Step.{IsStepped, written};
 ghost use Rattle.asl_tool.specs.Command.{IsAssembled, IsDisassembled, IsOutput, IsRefused, IsRefusedStep, IsRefusedText, IsRefusedImage, IsRefusedReplay};
 
+use crate::debugging::{DebugWord, debugged_text};
 use crate::program::{ProgramFault, read_program};
 use crate::replaying::replayed_text;
 use crate::run_file::{FileFault, get_run, put_run};
@@ -33,6 +35,11 @@ pub enum Command {
     Disassemble,
     /// `replay`: whether the input, a run file, is a run of its program.
     Replay,
+    /// `debug`: what a debugger over the input, a run file, answers to the words.
+    Debug {
+        /// What it is asked, one after the other.
+        words: Vec<DebugWord>,
+    },
 }
 
 /// Why a command gives no output. Where several apply, the first is answered.
@@ -67,6 +74,7 @@ pub fn output_of(alloc: Global, command: &Command, input: &[u8]) -> Result<Vec<u
         Command::Assemble => assembled(alloc, input),
         Command::Disassemble => disassembled(alloc, input),
         Command::Replay => replayed(alloc, input),
+        Command::Debug { words } => debugged(alloc, words.as_slice(), input),
     }
 }
 
@@ -152,6 +160,21 @@ fn replayed(alloc: Global, file: &[u8]) -> Result<Vec<u8>, CommandFault>
         Err(fault) => return Err(CommandFault::File(fault)),
     };
     match replayed_text(alloc, &program, &journal) {
+        Ok(text) => Ok(text.into_bytes()),
+        Err(fault) => Err(CommandFault::Journal(fault)),
+    }
+}
+
+/// What a debugger over the run file answers to the words.
+fn debugged(alloc: Global, words: &[DebugWord], file: &[u8]) -> Result<Vec<u8>, CommandFault>
+    ensures ok { IfOk result (λ text. IsDebugged file.now words.now text.items) }
+    ensures err { IfErr result (λ fault. IsRefusedReplay file.now fault) }
+{
+    let (program, journal) = match get_run(alloc, file) {
+        Ok(run) => run,
+        Err(fault) => return Err(CommandFault::File(fault)),
+    };
+    match debugged_text(alloc, &program, journal, words) {
         Ok(text) => Ok(text.into_bytes()),
         Err(fault) => Err(CommandFault::Journal(fault)),
     }

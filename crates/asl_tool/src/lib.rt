@@ -2,6 +2,7 @@
 #![tactic(auto)]
 
 mod command;
+mod debugging;
 #[cfg(test)]
 mod fakes;
 pub mod laws;
@@ -12,9 +13,11 @@ mod run_file;
 mod step;
 mod streams;
 mod tool;
+mod view;
 mod words;
 
 pub use command::{Command, CommandFault, output_of};
+pub use debugging::{Answer, DebugWord, Move};
 pub use program::{ProgramFault, read_program};
 pub use run_file::{FileFault, get_run, put_run};
 pub use streams::{ReadFault, WriteFault};

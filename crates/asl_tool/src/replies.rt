@@ -6,13 +6,13 @@ use asl_code::{Cell, Effect, Value};
 use asl_machine::{Fault, Reply};
 use std::alloc::AllocError;
 
-fn push_address(text: &mut String, object: u16, offset: u8) -> Result<(), AllocError>
+pub fn push_address(text: &mut String, object: u16, offset: u8) -> Result<(), AllocError>
     ensures { OnOk result (string_bytes text.new ≡ string_bytes text.old ++ address_text object offset) }
 {
     write!(text, "{object}.{offset}")
 }
 
-fn push_value(text: &mut String, value: Value) -> Result<(), AllocError>
+pub fn push_value(text: &mut String, value: Value) -> Result<(), AllocError>
     ensures { OnOk result (string_bytes text.new ≡ string_bytes text.old ++ value_text value) }
 {
     match value {
@@ -42,7 +42,7 @@ fn push_access(text: &mut String, cell: Cell, effect: Effect) -> Result<(), Allo
     push_effect(text, effect)
 }
 
-fn push_fault(text: &mut String, fault: Fault) -> Result<(), AllocError>
+pub fn push_fault(text: &mut String, fault: Fault) -> Result<(), AllocError>
     ensures { OnOk result (string_bytes text.new ≡ string_bytes text.old ++ fault_text fault) }
 {
     match fault {

@@ -2,6 +2,7 @@
 ghost use Rattle.std.specs.Prelude.{◌≡◌, ◌<◌, ◌^◌, IfSome};
 
 use crate::command::Command;
+use crate::debugging::{DebugWord, Move};
 use clap::error::ErrorKind;
 use clap::{Arg, ArgAction, ArgMatches, Error};
 use std::alloc::{AllocError, Global};
@@ -29,6 +30,10 @@ const ASM_HELP: &str = "Reads a program in assembly text from standard input, an
 const DIS_HELP: &str =
     "Reads a program's image from standard input, and writes its canonical assembly text";
 
+const DEBUG_HELP: &str =
+    "Reads a run file from standard input, and does what the words ask for, one after the other: goto K, forward, \
+    back, next and prev move, break P and clear P set and clear a breakpoint, view shows the machine";
+
 /// Judges the words, which are those after the program's name. Only memory can fail.
 pub fn read_words(alloc: Global, words: &[String]) -> Result<Invocation, AllocError> {
     let parsed = command(alloc)?.try_get_matches_from(words);
@@ -38,6 +43,7 @@ pub fn read_words(alloc: Global, words: &[String]) -> Result<Invocation, AllocEr
             Some(("asm", _)) => Ok(Invocation::Run(Command::Assemble)),
             Some(("dis", _)) => Ok(Invocation::Run(Command::Disassemble)),
             Some(("replay", _)) => Ok(Invocation::Run(Command::Replay)),
+            Some(("debug", debug)) => read_debug(alloc, debug),
             _ => wrong_usage(alloc, "a command is missing"),
         },
         Err(error) => refused(alloc, &error),
@@ -54,7 +60,8 @@ fn command<'a>(alloc: Global) -> Result<clap::Command<'a>, AllocError> {
         .subcommand(bare_command(alloc, "asm", "asl asm", ASM_HELP)?)?
         .subcommand(bare_command(alloc, "dis", "asl dis", DIS_HELP)?)?
         .subcommand(step_command(alloc)?)?
-        .subcommand(bare_command(alloc, "replay", "asl replay", REPLAY_HELP)?)?;
+        .subcommand(bare_command(alloc, "replay", "asl replay", REPLAY_HELP)?)?
+        .subcommand(debug_command(alloc)?)?;
     Ok(command)
 }
 
@@ -97,6 +104,83 @@ fn step_command<'a>(alloc: Global) -> Result<clap::Command<'a>, AllocError> {
     Ok(command)
 }
 
+fn debug_command<'a>(alloc: Global) -> Result<clap::Command<'a>, AllocError> {
+    let words = Arg::new(alloc, "words")
+        .value_name("WORD")
+        .help("What the debugger is asked")
+        .required(true)
+        .num_args(1..)
+        .action(ArgAction::Append);
+    let command = clap::Command::new(alloc, "debug")
+        .about(DEBUG_HELP)
+        .bin_name("asl debug")?
+        .arg(words)?;
+    Ok(command)
+}
+
+/// A word of the debugger that a number follows.
+#[derive(Clone, Copy)]
+enum Numbered {
+    Goto,
+    Break,
+    Clear,
+}
+
+impl Numbered {
+    fn with(self, number: u32) -> DebugWord {
+        match self {
+            Numbered::Goto => DebugWord::Move(Move::Goto(number)),
+            Numbered::Break => DebugWord::Break(number),
+            Numbered::Clear => DebugWord::Clear(number),
+        }
+    }
+}
+
+fn read_debug(alloc: Global, matches: &ArgMatches<'_>) -> Result<Invocation, AllocError> {
+    let mut words = Vec::new(alloc);
+    let mut pending = None;
+    for word in matches.get_strs("words").unwrap_or(&[]) {
+        match (pending, bare_word(word), numbered_word(word)) {
+            (Some(name), _, _) => {
+                let Some(number) = number(word) else {
+                    return not_a_number(alloc, word);
+                };
+                words.push(Numbered::with(name, number))?;
+                pending = None;
+            }
+            (None, Some(word), _) => words.push(word)?,
+            (None, None, Some(name)) => pending = Some(name),
+            (None, None, None) => return not_a_debug_word(alloc, word),
+        }
+    }
+    match pending {
+        Some(_) => wrong_usage(alloc, "a number is missing behind the last word"),
+        None => Ok(Invocation::Run(Command::Debug { words })),
+    }
+}
+
+/// The word of the debugger that stands alone, if it is one.
+fn bare_word(word: &str) -> Option<DebugWord> {
+    match word {
+        "forward" => Some(DebugWord::Move(Move::Forward)),
+        "back" => Some(DebugWord::Move(Move::Back)),
+        "next" => Some(DebugWord::Move(Move::Next)),
+        "prev" => Some(DebugWord::Move(Move::Previous)),
+        "view" => Some(DebugWord::View),
+        _ => None,
+    }
+}
+
+/// The word of the debugger that a number follows, if it is one.
+fn numbered_word(word: &str) -> Option<Numbered> {
+    match word {
+        "goto" => Some(Numbered::Goto),
+        "break" => Some(Numbered::Break),
+        "clear" => Some(Numbered::Clear),
+        _ => None,
+    }
+}
+
 fn read_step(alloc: Global, matches: &ArgMatches<'_>) -> Result<Invocation, AllocError> {
     let Some(threads) = matches.get_str("threads") else {
         return wrong_usage(alloc, "--threads is missing");
@@ -136,6 +220,13 @@ pub fn number(word: &str) -> Option<u32> {
 
 fn not_a_number(alloc: Global, word: &str) -> Result<Invocation, AllocError> {
     let text = format!(in alloc; "error: '{word}' is no number from 0 to 4294967295\n")?;
+    Ok(Invocation::WrongUsage(text))
+}
+
+fn not_a_debug_word(alloc: Global, word: &str) -> Result<Invocation, AllocError> {
+    let text = format!(in alloc;
+        "error: '{word}' is none of goto, forward, back, next, prev, break, clear, view\n"
+    )?;
     Ok(Invocation::WrongUsage(text))
 }
 

@@ -1,0 +1,180 @@
+//! The command `debug`: words to a debugger over a run file.
+ghost use Rattle.std.specs.Prelude.{◌≡◌, ◌≤◌, ◌++◌, length, IfOk, IfErr, OnErr, OnOk, string_bytes};
+ghost use Rattle.asl_debugger.specs.Breaks.{HasBreak};
+ghost use Rattle.asl_debugger.specs.Session.{moved, with_breaks};
+ghost use Rattle.asl_journal.specs.Journal.{IsJournal};
+ghost use Rattle.asl_journal.specs.Replay.{IsReplayFault};
+ghost use Rattle.asl_tool.specs.Debug.{Follows, IsAnswer, IsNoMove, IsOpened, IsTalk, answer_text, arrived, opened};
+
+use crate::view::push_view;
+use asl_code::Program;
+use asl_debugger::{DebugFault, Debugger};
+use asl_journal::{Journal, JournalFault};
+use std::alloc::{AllocError, Global};
+
+/// A move of the debugger.
+#[derive(Clone, Copy, Debug, PartialEq, Eq)]
+pub enum Move {
+    /// `goto K`: to position K.
+    Goto(u32),
+    /// `forward`: to the next position.
+    Forward,
+    /// `back`: to the position before.
+    Back,
+    /// `next`: to the next stop.
+    Next,
+    /// `prev`: to the stop before.
+    Previous,
+}
+
+/// What a word of the command `debug` asks for.
+#[derive(Clone, Copy, Debug, PartialEq, Eq)]
+pub enum DebugWord {
+    /// A move.
+    Move(Move),
+    /// `break P`: makes the place P a breakpoint.
+    Break(u32),
+    /// `clear P`: makes it none.
+    Clear(u32),
+    /// `view`: shows the machine.
+    View,
+}
+
+/// What a move answers.
+#[derive(Clone, Copy, Debug, PartialEq, Eq)]
+pub enum Answer {
+    /// The debugger is at this position now.
+    At(u32),
+    /// It is at the end, and stays there.
+    AtEnd,
+    /// It is at the start, and stays there.
+    AtStart,
+    /// There is no such position, and it stays where it is.
+    NoSuchStep,
+}
+
+/// How many events lie between two checkpoints.
+const SPACING: u32 = 1024;
+
+/// What a debugger over the journal answers to the words.
+pub fn debugged_text(
+    alloc: Global,
+    program: &Program,
+    journal: Journal,
+    words: &[DebugWord],
+) -> Result<String, JournalFault>
+    ensures journal { OnOk result (IsJournal program.now journal.threads journal.events) }
+    ensures text { IfOk result (λ text. IsTalk (opened program.now journal) words.now (string_bytes text)) }
+    ensures err { IfErr result (λ fault. IsReplayFault program.now journal fault) }
+{
+    let _verified = program.image();
+    match Debugger::open(alloc, program, journal, SPACING) {
+        Ok(mut debugger) => match talk(alloc, program, &mut debugger, words) {
+            Ok(text) => Ok(text),
+            Err(_) => Err(JournalFault::OutOfMemory),
+        },
+        Err((DebugFault::Differs(index), _)) => Err(JournalFault::Differs(index)),
+        Err(_) => Err(JournalFault::OutOfMemory),
+    }
+}
+
+/// What the debugger answers to the words, one after the other.
+fn talk(
+    alloc: Global,
+    program: &Program,
+    debugger: &mut Debugger<'_>,
+    words: &[DebugWord],
+) -> Result<String, AllocError>
+    requires { IsOpened program.now debugger.old }
+    ensures { IfOk result (λ text. IsTalk debugger.old words.now (string_bytes text)) }
+{
+    let mut text = String::new(alloc);
+    for word in words {
+        obey(alloc, program, debugger, *word, &mut text)?;
+    }
+    Ok(text)
+}
+
+/// Does what the word asks for, and adds the answer to the text.
+fn obey(
+    alloc: Global,
+    program: &Program,
+    debugger: &mut Debugger<'_>,
+    word: DebugWord,
+    text: &mut String,
+) -> Result<(), AllocError>
+    requires { IsOpened program.now debugger.old }
+    ensures says { OnOk result (Follows debugger.old word debugger.new (string_bytes text.old) (string_bytes text.new)) }
+    ensures opened { IsOpened program.now debugger.new }
+{
+    match word {
+        DebugWord::Move(step) => {
+            let answer = go(alloc, debugger, step)?;
+            push_answer(text, answer)
+        }
+        DebugWord::Break(pc) => {
+            set_break(debugger, pc)?;
+            write!(text, "break {pc}\n")
+        }
+        DebugWord::Clear(pc) => {
+            debugger.clear(pc);
+            write!(text, "clear {pc}\n")
+        }
+        DebugWord::View => push_view(text, program, debugger.view()),
+    }
+}
+
+/// Makes the place a breakpoint. Only memory can fail.
+fn set_break(debugger: &mut Debugger<'_>, pc: u32) -> Result<(), AllocError>
+    ensures same { debugger.new ≡ with_breaks debugger.old debugger.new.breakpoints }
+    ensures has { OnOk result (HasBreak debugger.old.breakpoints debugger.new.breakpoints pc) }
+{
+    match debugger.break_at(pc) {
+        Ok(()) => Ok(()),
+        Err(_) => Err(AllocError),
+    }
+}
+
+/// Makes the move, and says where it led, or why nowhere. Only memory can fail.
+fn go(alloc: Global, debugger: &mut Debugger<'_>, step: Move) -> Result<Answer, AllocError>
+    ensures answer { IfOk result (λ answer. IsAnswer debugger.old step answer) }
+    ensures arrived { IfOk result (λ answer. debugger.new ≡ arrived debugger.old answer) }
+    ensures same { debugger.new ≡ moved debugger.old debugger.new.position }
+{
+    match make_move(alloc, debugger, step) {
+        Ok(()) => Ok(Answer::At(debugger.position())),
+        Err(DebugFault::AtEnd) => Ok(Answer::AtEnd),
+        Err(DebugFault::AtStart) => Ok(Answer::AtStart),
+        Err(DebugFault::NoSuchStep) => Ok(Answer::NoSuchStep),
+        Err(_) => Err(AllocError),
+    }
+}
+
+/// Makes the move.
+fn make_move(alloc: Global, debugger: &mut Debugger<'_>, step: Move) -> Result<(), DebugFault>
+    ensures moves { OnOk result (debugger.new ≡ moved debugger.old debugger.new.position) }
+    ensures within { OnOk result (debugger.new.position ≤ length debugger.old.log.events
+        → IsAnswer debugger.old step (Answer.At debugger.new.position)) }
+    ensures refused { IfErr result (IsNoMove debugger.old step) }
+    ensures err { OnErr result (debugger.new ≡ debugger.old) }
+{
+    match step {
+        Move::Goto(k) => debugger.goto(alloc, k),
+        Move::Forward => debugger.forward(alloc),
+        Move::Back => debugger.back(alloc),
+        Move::Next => debugger.forward_to_break(alloc),
+        Move::Previous => debugger.back_to_break(alloc),
+    }
+}
+
+/// Adds the line of the answer.
+fn push_answer(text: &mut String, answer: Answer) -> Result<(), AllocError>
+    ensures { OnOk result (string_bytes text.new ≡ string_bytes text.old ++ answer_text answer) }
+{
+    match answer {
+        Answer::At(position) => write!(text, "at {position}\n"),
+        Answer::AtEnd => text.push_str("refused AtEnd\n"),
+        Answer::AtStart => text.push_str("refused AtStart\n"),
+        Answer::NoSuchStep => text.push_str("refused NoSuchStep\n"),
+    }
+}
