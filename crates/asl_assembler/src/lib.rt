@@ -15,8 +15,3 @@ mod words;
 
 pub use assembly::{AsmFault, assemble};
 pub use disassembly::disassemble;
-
-#[cfg(test)]
-mod canonical_tests;
-#[cfg(test)]
-mod tests;

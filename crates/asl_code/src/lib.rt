@@ -27,8 +27,3 @@ pub use path::{Op, Path};
 pub use program::Program;
 pub use value::{Cell, Effect, Value};
 pub use value_bytes::{ValueFault, get_value, put_value, value_and_bytes_are_one};
-
-#[cfg(test)]
-mod bytes_tests;
-#[cfg(test)]
-mod tests;

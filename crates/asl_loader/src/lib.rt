@@ -10,6 +10,3 @@ mod storing;
 pub use fault::LoadFault;
 pub use loading::load;
 pub use storing::store;
-
-#[cfg(test)]
-mod tests;

@@ -1,11 +1,11 @@
-use crate::{
+//! Instructions and values as bytes.
+use asl_code::{
     Instr, Value, ValueFault, get_instr, get_value, instr_and_bytes_are_one, put_instr, put_value,
     value_and_bytes_are_one,
 };
-use std::test::*;
 
 /// An instruction of each row, and its bytes.
-const ROWS: [(Instr, [u8; 8]); 19] = [
+static ROWS: [(Instr, [u8; 8]); 19] = [
     (
         Instr::SetInt { to: 3, value: -2 },
         [1, 3, 0, 0, 255, 255, 255, 254],
@@ -94,47 +94,69 @@ const ROWS: [(Instr, [u8; 8]); 19] = [
 #[test]
 fn rows_are_written_and_read(rt: HostRuntime) {
     instr_and_bytes_are_one();
-    for (instr, bytes) in ROWS {
-        assert_eq!(rt; put_instr(&instr), bytes);
-        assert_eq!(rt; get_instr(&bytes), Ok(instr));
+    for &(instr, bytes) in ROWS.iter() {
+        assert!(rt; put_instr(&instr) == bytes);
+        assert!(rt; get_instr(&bytes) == Ok(instr));
     }
 }
 
+/// Bytes of no instruction, and the place of their first bad field.
+static BAD: [([u8; 8], usize); 8] = [
+    ([0, 1, 1, 1, 1, 1, 1, 1], 0),
+    ([20, 0, 0, 0, 0, 0, 0, 0], 0),
+    ([19, 1, 1, 1, 1, 1, 1, 1], 1),
+    ([1, 1, 1, 1, 1, 1, 1, 1], 2),
+    ([10, 1, 1, 1, 1, 1, 1, 1], 3),
+    ([4, 1, 1, 1, 0, 0, 0, 1], 4),
+    ([9, 1, 1, 0, 0, 0, 1, 0], 4),
+    ([13, 0, 0, 0, 0, 1, 0, 0], 4),
+];
+
 #[test]
 fn first_bad_field_is_named(rt: HostRuntime) {
-    for (bytes, place) in [
-        ([0, 1, 1, 1, 1, 1, 1, 1], 0),
-        ([20, 0, 0, 0, 0, 0, 0, 0], 0),
-        ([19, 1, 1, 1, 1, 1, 1, 1], 1),
-        ([1, 1, 1, 1, 1, 1, 1, 1], 2),
-        ([10, 1, 1, 1, 1, 1, 1, 1], 3),
-        ([4, 1, 1, 1, 0, 0, 0, 1], 4),
-        ([9, 1, 1, 0, 0, 0, 1, 0], 4),
-        ([13, 0, 0, 0, 0, 1, 0, 0], 4),
-    ] {
-        assert_eq!(rt; get_instr(&bytes), Err(place));
+    for &(bytes, place) in BAD.iter() {
+        assert!(rt; get_instr(&bytes) == Err(place));
     }
 }
+
+/// Values, and their bytes.
+static VALUES: [(Value, &[u8]); 5] = [
+    (Value::Int(-2), &[0, 255, 255, 255, 254]),
+    (Value::Int(258), &[0, 0, 0, 1, 2]),
+    (Value::Int(i32::MIN), &[0, 128, 0, 0, 0]),
+    (Value::Null, &[1]),
+    (Value::Addr(513, 7), &[2, 2, 1, 7]),
+];
 
 #[test]
 fn values_are_written_and_read(rt: HostRuntime) {
     value_and_bytes_are_one();
-    let table: [(Value, &[u8]); 5] = [
-        (Value::Int(-2), &[0, 255, 255, 255, 254]),
-        (Value::Int(258), &[0, 0, 0, 1, 2]),
-        (Value::Int(i32::MIN), &[0, 128, 0, 0, 0]),
-        (Value::Null, &[1]),
-        (Value::Addr(513, 7), &[2, 2, 1, 7]),
-    ];
-    for (value, bytes) in table {
+    for &(value, bytes) in VALUES.iter() {
         assert!(rt; put_value(value).as_slice() == bytes);
-        assert_eq!(rt; get_value(bytes), Ok((value, bytes.len())));
+        assert!(rt; get_value(bytes) == Ok((value, bytes.len())));
+    }
+}
+
+#[test]
+fn cut_values_are_short(rt: HostRuntime) {
+    for &(_value, bytes) in VALUES.iter() {
         for count in 0..bytes.len() {
-            assert_eq!(rt; get_value(&bytes[..count]), Err(ValueFault::Short));
+            assert!(rt; get_value(&bytes[..count]) == Err(ValueFault::Short));
         }
     }
-    assert_eq!(rt; get_value(&[1, 9, 9]), Ok((Value::Null, 1)));
-    assert_eq!(rt; get_value(&[2, 0, 1, 2, 9]), Ok((Value::Addr(1, 2), 4)));
-    assert_eq!(rt; get_value(&[3]), Err(ValueFault::Bad));
-    assert_eq!(rt; get_value(&[255, 0, 0, 0, 0]), Err(ValueFault::Bad));
+}
+
+/// Bytes that begin with a value or with none, and what is read.
+static FRONTS: [(&[u8], Result<(Value, usize), ValueFault>); 4] = [
+    (&[1, 9, 9], Ok((Value::Null, 1))),
+    (&[2, 0, 1, 2, 9], Ok((Value::Addr(1, 2), 4))),
+    (&[3], Err(ValueFault::Bad)),
+    (&[255, 0, 0, 0, 0], Err(ValueFault::Bad)),
+];
+
+#[test]
+fn values_are_read_from_the_front(rt: HostRuntime) {
+    for &(bytes, answer) in FRONTS.iter() {
+        assert!(rt; get_value(bytes) == answer);
+    }
 }
