@@ -1,14 +1,8 @@
-//! Tests of tokens and grammar, of trees and of lowering, over their public calls.
+//! Tests of tokens and grammar and of trees, over the public calls of `asl_grammar` and `asl_syntax`.
 #![tactic(auto)]
 
 #[cfg(test)]
 mod grammar;
-#[cfg(test)]
-mod lowering;
-#[cfg(test)]
-mod lowering_memory;
-#[cfg(test)]
-mod lowering_told;
 #[cfg(test)]
 mod trees;
 #[cfg(test)]

@@ -1,7 +1,7 @@
 //! Which of two faults of a text is answered, and the edges of what is counted by name.
+use crate::trees::is_outcome;
 use asl_syntax::{Name, SyntaxFault, parse};
 use std::alloc::{AllocError, Global};
-use std::test::Fail;
 
 /// A piece of text with one fault, those that are judged first before the others; the last lacks `main` alone.
 fn piece(kind: u8) -> &'static str {
@@ -51,22 +51,26 @@ fn first_judged(first: u8, second: u8) -> SyntaxFault {
     }
 }
 
+/// The fault of a text.
+fn fault_of(alloc: Global, text: &[u8]) -> Option<SyntaxFault> {
+    parse(alloc, text).err()
+}
+
+/// Whether the fault of two pieces is the one that is judged first.
+fn is_first_judged(alloc: Global, first: u8, second: u8) -> bool {
+    match two_pieces(alloc, first, second) {
+        Ok(text) => fault_of(alloc, &text) == Some(first_judged(first, second)),
+        Err(_refused) => false,
+    }
+}
+
 #[test]
-fn earlier_kind_of_fault_wins(rt: HostRuntime) -> Result<(), Fail> {
+fn earlier_kind_of_fault_wins(rt: HostRuntime) {
     for first in 0..8u8 {
         for second in 0..8u8 {
-            if first != second {
-                let text = two_pieces(rt.alloc(), first, second)?;
-                let found = parse(rt.alloc(), &text).err();
-                assert_eq!(rt;
-                    found,
-                    Some(first_judged(first, second)),
-                    "{first} {second}"
-                );
-            }
+            assert!(rt; first == second || is_first_judged(rt.alloc(), first, second));
         }
     }
-    Ok(())
 }
 
 /// `count` pieces with a number of four digits in each, and a `main` behind them.
@@ -85,28 +89,37 @@ fn numbered(
     Ok(text)
 }
 
-#[test]
-fn functions_are_counted(rt: HostRuntime) -> Result<(), Fail> {
-    let most = numbered(rt.alloc(), "fn f", 255, "(t){return t;}")?;
-    let more = numbered(rt.alloc(), "fn f", 256, "(t){return t;}")?;
-    assert_eq!(rt; parse(rt.alloc(), &most).err(), None);
-    assert_eq!(rt;
-        parse(rt.alloc(), &more).err(),
-        Some(SyntaxFault::Limit(5632))
-    );
-    Ok(())
+/// The fault of so many pieces.
+fn fault_of_numbered(
+    alloc: Global,
+    before: &str,
+    count: usize,
+    behind: &str,
+) -> Option<SyntaxFault> {
+    let text = numbered(alloc, before, count, behind).ok()?;
+    fault_of(alloc, &text)
+}
+
+/// Whether so many pieces are read.
+fn is_read(alloc: Global, before: &str, count: usize, behind: &str) -> bool {
+    match numbered(alloc, before, count, behind) {
+        Ok(text) => fault_of(alloc, &text).is_none(),
+        Err(_refused) => false,
+    }
 }
 
 #[test]
-fn globals_are_counted(rt: HostRuntime) -> Result<(), Fail> {
-    let most = numbered(rt.alloc(), "global g", 1024, ";")?;
-    let more = numbered(rt.alloc(), "global g", 1025, ";")?;
-    assert_eq!(rt; parse(rt.alloc(), &most).err(), None);
-    assert_eq!(rt;
-        parse(rt.alloc(), &more).err(),
-        Some(SyntaxFault::Limit(13312))
-    );
-    Ok(())
+fn functions_are_counted(rt: HostRuntime) {
+    let more = fault_of_numbered(rt.alloc(), "fn f", 256, "(t){return t;}");
+    assert!(rt; is_read(rt.alloc(), "fn f", 255, "(t){return t;}"));
+    assert!(rt; more == Some(SyntaxFault::Limit(5632)));
+}
+
+#[test]
+fn globals_are_counted(rt: HostRuntime) {
+    let more = fault_of_numbered(rt.alloc(), "global g", 1025, ";");
+    assert!(rt; is_read(rt.alloc(), "global g", 1024, ";"));
+    assert!(rt; more == Some(SyntaxFault::Limit(13312)));
 }
 
 /// A program, `count` blanks, and what stands behind them.
@@ -120,28 +133,26 @@ fn far_behind(alloc: Global, count: usize, behind: &str) -> Result<Vec<u8>, Allo
     Ok(text)
 }
 
+/// What stands 1,048,600 blanks behind a program, and the fault.
+static BEHIND: [(&str, &str); 4] = [
+    ("$\u{e9}", "NotAscii(1048622)"),
+    ("}$", "Token(1048622)"),
+    ("}", "Grammar(1048621)"),
+    ("fn main(t){return t;}", "Limit(1048576)"),
+];
+
+/// Whether that fault is answered.
+fn is_judged(alloc: Global, behind: &str, expected: &str) -> bool {
+    match far_behind(alloc, 1_048_600, behind) {
+        Ok(text) => is_outcome(alloc, &text, expected),
+        Err(_refused) => false,
+    }
+}
+
 /// A text of too many bytes is read to its end for the faults that are judged before its limits.
 #[test]
-fn bytes_past_the_limit_are_judged(rt: HostRuntime) -> Result<(), Fail> {
-    let wide = far_behind(rt.alloc(), 1_048_600, "$\u{e9}")?;
-    let bad = far_behind(rt.alloc(), 1_048_600, "}$")?;
-    let wrong = far_behind(rt.alloc(), 1_048_600, "}")?;
-    let twice = far_behind(rt.alloc(), 1_048_600, "fn main(t){return t;}")?;
-    assert_eq!(rt;
-        parse(rt.alloc(), &wide).err(),
-        Some(SyntaxFault::NotAscii(1_048_622))
-    );
-    assert_eq!(rt;
-        parse(rt.alloc(), &bad).err(),
-        Some(SyntaxFault::Token(1_048_622))
-    );
-    assert_eq!(rt;
-        parse(rt.alloc(), &wrong).err(),
-        Some(SyntaxFault::Grammar(1_048_621))
-    );
-    assert_eq!(rt;
-        parse(rt.alloc(), &twice).err(),
-        Some(SyntaxFault::Limit(1_048_576))
-    );
-    Ok(())
+fn bytes_past_the_limit_are_judged(rt: HostRuntime) {
+    for &(behind, expected) in BEHIND.iter() {
+        assert!(rt; is_judged(rt.alloc(), behind, expected));
+    }
 }

@@ -103,12 +103,12 @@ fn lists(alloc: Global) -> Result<Items<Items<Lock>>, AllocError> {
 
 fn list(alloc: Global) -> Result<Items<Lock>, AllocError> {
     let mut list = Items::new(alloc);
-    list.push(lock())?;
+    list.push(cell_lock(Base::Reg(1)))?;
     Ok(list)
 }
 
-fn lock() -> Lock {
-    let base = Base::Reg(1);
+/// The lock for writing the cell whose address is the base.
+fn cell_lock(base: Base) -> Lock {
     let path = Path::new();
     Lock::Expr(Expr { base, path }, Effect::Write)
 }

@@ -11,15 +11,21 @@ pub const CELL: Cell = Cell {
 };
 
 /// What a thread holds at the root, at the global's class and at the global's cell.
-#[derive(Clone, Copy, PartialEq)]
+#[derive(Clone, Copy)]
 pub struct Locks {
     pub root: Mode,
     pub class: Mode,
     pub leaf: Mode,
 }
 
+impl Locks {
+    fn is(self, other: Locks) -> bool {
+        self.root == other.root && self.class == other.class && self.leaf == other.leaf
+    }
+}
+
 /// What is told of a thread: of its registers the first two.
-#[derive(Clone, Copy, PartialEq)]
+#[derive(Clone, Copy)]
 pub struct ThreadSeen {
     pub status: Status,
     pub pc: Option<u32>,
@@ -28,12 +34,38 @@ pub struct ThreadSeen {
     pub locks: Locks,
 }
 
+impl ThreadSeen {
+    fn is(self, other: ThreadSeen) -> bool {
+        self.status == other.status
+            && self.pc == other.pc
+            && self.regs.0 == other.regs.0
+            && self.regs.1 == other.regs.1
+            && self.depth == other.depth
+            && self.locks.is(other.locks)
+    }
+}
+
+/// Whether the same is told of two threads, or neither is there.
+pub fn is_same_thread(one: Option<ThreadSeen>, other: Option<ThreadSeen>) -> bool {
+    match (one, other) {
+        (Some(one), Some(other)) => one.is(other),
+        (None, None) => true,
+        _ => false,
+    }
+}
+
 /// What is told of an object and its first cell.
-#[derive(Clone, Copy, PartialEq)]
+#[derive(Clone, Copy)]
 pub struct ObjectSeen {
     pub class: Option<u32>,
     pub size: Option<u32>,
     pub value: Option<Value>,
+}
+
+impl ObjectSeen {
+    pub fn is(self, other: ObjectSeen) -> bool {
+        self.class == other.class && self.size == other.size && self.value == other.value
+    }
 }
 
 /// What is told of thread t, if it is there.
@@ -70,15 +102,17 @@ pub fn see_held(machine: &Machine<'_>, t: u32, node: Node) -> Mode {
     machine.held(t, node)
 }
 
+/// The value of the first cell of the object.
+fn first_cell(machine: &Machine<'_>, object: u16) -> Option<Value> {
+    machine.cell(Cell { object, offset: 0 })
+}
+
 /// What is told of an object and its first cell.
 pub fn see_object(machine: &Machine<'_>, number: u16) -> ObjectSeen {
-    let cell = Cell {
-        object: number,
-        offset: 0,
-    };
+    let object = u32::from(number);
     ObjectSeen {
-        class: machine.class(u32::from(number)),
-        size: machine.size(u32::from(number)),
-        value: machine.cell(cell),
+        class: machine.class(object),
+        size: machine.size(object),
+        value: first_cell(machine, number),
     }
 }

@@ -1,6 +1,6 @@
-//! What the calls of a lowering tell. The program is that of `lowering_memory`, whose code is printed there; what is wanted
+//! What the calls of a lowering tell. The program is that of `memory`, whose code is printed there; what is wanted
 //! was read off that code by hand.
-use crate::lowering_memory::EACH_GROWTH;
+use crate::memory::EACH_GROWTH;
 use asl_lower::{Lowering, lower};
 use asl_syntax::parse;
 use std::alloc::Global;
