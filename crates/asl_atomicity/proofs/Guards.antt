@@ -19,6 +19,7 @@ use Rattle.asl_atomicity.specs.Serial.{heard, IsGuarded, ListCovered}
 use Rattle.asl_atomicity.specs.Swapping.{EntriesUnseen}
 use Rattle.asl_atomicity.proofs.Uniform.{ObjectsEdit, Same, Stored, Made, put, Acquired, edit, uniform, place_at}
 use Rattle.asl_atomicity.proofs.Unseen.{WroteBy, covered_kept}
+use Rattle.asl_atomicity.proofs.Reaching.{is_reached}
 use Rattle.asl_atomicity.proofs.Entries.{request_same, still_free}
 use Rattle.asl_atomicity.proofs.Swaps.{stepped, same_here, not_new, no_depth, wrote_by}
 
@@ -67,7 +68,7 @@ entries_unseen image count guarded s u t stands apart counts inside =
           let can = can_grant-tells h u r (granted image s u b list runs at depth counts) in
           let lawful = lawful_grant h u r sound.lawful (outside_here image s u b (here_of image s u b sound runs) depth) (request_asks_modes o b.top.regs (locks_of image list)) (request_is_rooted o b.top.regs (locks_of image list)) can in
           ap (λ (w : Stepped). request_of w.state.objects b.top.regs (locks_of image list)) first
-          ∙ request_kept o h t u b.top.regs (locks_of image list) p.on_objects apart lawful (guarded s u list b stands.1 (record { runs = runs; at = at; depth = depth })) wp (λ cells class e. not_new image a.top.pc fa.0 fa.1 inside.makes_none (p.makes cells class e));
+          ∙ request_kept o h t u b.top.regs (locks_of image list) p.on_objects apart lawful (guarded s u list b (is_reached image count s stands.1.0 stands.1.1) (record { runs = runs; at = at; depth = depth })) wp (λ cells class e. not_new image a.top.pc fa.0 fa.1 inside.makes_none (p.makes cells class e));
       free = λ b list runs at depth.
           let r = request_of o b.top.regs (locks_of image list) in
           let is = granted image s u b list runs at depth counts in

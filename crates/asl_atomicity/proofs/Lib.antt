@@ -5,4 +5,6 @@ pub mod Stores
 pub mod Unseen
 pub mod Swaps
 pub mod Entries
+pub mod Reaching
 pub mod Guards
+pub mod Atomicity

@@ -1,7 +1,7 @@
 -- Runs whose sections do not interleave, and images whose entries are guarded (docs/ATOMICITY.md). That two-phase sections have
 -- serial runs is K. P. Eswaran, J. N. Gray, R. A. Lorie, I. L. Traiger, "The Notions of Consistency and Predicate Locks in a
 -- Database System" (1976); lists that are evaluated at the entry are this project's.
-use Rattle.std.specs.Prelude.{◌≡◌, ◌≢◌, ◌<◌, ◌==◌, ◌⊎◌, ◌++◌, ℕ, List, [], ◌∷◌, Option, None, Some, slice_get, option_and_then, if◌then◌else◌}
+use Rattle.std.specs.Prelude.{◌≡◌, ◌≢◌, ◌<◌, ◌==◌, ◌⊎◌, ◌++◌, ℕ, List, [], ◌∷◌, Option, None, Some, All, slice_get, option_and_then, if◌then◌else◌}
 use Rattle.asl_code.specs.declared.image.Image.{Image}
 use Rattle.asl_code.specs.declared.instr.Instr.TheVariants as instr
 use Rattle.asl_code.specs.declared.value.Value.{Value}
@@ -16,7 +16,7 @@ use Rattle.asl_lock_forest.specs.Holding.{Holding, Covers, grant}
 use Rattle.asl_machine.specs.declared.reply.Reply.{Reply}
 use Rattle.asl_machine.specs.declared.reply.Reply.TheVariants as reply
 use Rattle.asl_machine.specs.State.{Object, Activity, Running, State, class_of, depth_at}
-use Rattle.asl_machine.specs.Run.{start_of, state_after}
+use Rattle.asl_machine.specs.Run.{IsReached, start_of, state_after}
 use Rattle.asl_machine.specs.Request.{heap_of, request_of, locks_of}
 use Rattle.asl_machine.specs.Twin.{step_of}
 
@@ -79,17 +79,17 @@ ListCovered h thread objects regs (lock.Expr e effect ∷ locks) = ReadsCovered 
 ListCovered h thread objects regs (lock.Root effect ∷ locks) = ListCovered h thread objects regs locks
 ListCovered h thread objects regs (lock.Class class effect ∷ locks) = ListCovered h thread objects regs locks
 
--- some schedule leads so many threads from their start to the state
-abbrev pub InRun : Image → ℕ → State → Type 0
-InRun image count s = (schedule : List ℕ) × (s ≡ state_after image (start_of image count) schedule)
-
 -- the thread stands outside all sections before an `acq` with this list
 pub record IsAtEntry (image : Image) (s : State) (thread list : ℕ) (a : Activity) : Type 0 where
   pub runs : slice_get s.threads thread ≡ Some (Running a)
   pub at : slice_get image.code a.top.pc ≡ Some (instr.Acquire list)
   pub depth : a.depth ≡ 0
 
--- in each state of a run, who is granted the list of an entry covers what its expressions read
+-- in each reached state, who is granted the list of an entry covers what its expressions read
 abbrev pub IsGuarded : Image → ℕ → Type 0
-IsGuarded image count = (s : State) (thread list : ℕ) (a : Activity) → InRun image count s → IsAtEntry image s thread list a →
+IsGuarded image count = (s : State) (thread list : ℕ) (a : Activity) → IsReached image count s → IsAtEntry image s thread list a →
     ListCovered (grant s.holding thread (request_of s.objects a.top.regs (locks_of image list))) thread s.objects a.top.regs (locks_of image list)
+
+-- any run of so many threads that makes no object inside a section has a serial one
+abbrev pub HasSerialRuns : Image → ℕ → Type 0
+HasSerialRuns image count = (schedule : List ℕ) → All (λ t. t < count) schedule → MakesOutside image (start_of image count) schedule → HasSerial image count schedule

@@ -7,12 +7,17 @@ use Rattle.asl_machine.specs.State.{Activity, Running, State}
 use Rattle.asl_machine.specs.Request.{request_of, locks_of}
 use Rattle.asl_machine.specs.Sound.{IsSound}
 use Rattle.asl_machine.specs.Twin.{step_of}
-use Rattle.asl_atomicity.specs.Serial.{heard, InRun, IsInside}
+use Rattle.asl_machine.specs.Run.{start_of, state_after}
+use Rattle.asl_atomicity.specs.Serial.{heard, IsInside}
 
 -- every thread of a list is another one
 abbrev pub AreOthers : ℕ → List ℕ → Type 0
 AreOthers t [] = Unit {0}
 AreOthers t (u ∷ us) = (u ≢ t) × AreOthers t us
+
+-- some schedule, of threads that are there and others, leads so many threads from their start to the state
+abbrev pub InRun : Image → ℕ → State → Type 0
+InRun image count s = (schedule : List ℕ) × (s ≡ state_after image (start_of image count) schedule)
 
 -- a sound state of a run
 abbrev pub Stands : Image → ℕ → State → Type 0

@@ -9,3 +9,4 @@ pub mod Needing
 pub mod Refusing
 pub mod Sounding
 pub mod Alike
+pub mod Guarding
