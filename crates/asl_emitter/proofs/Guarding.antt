@@ -21,7 +21,7 @@ use Rattle.asl_lower.specs.Region.{InBody}
 use Rattle.asl_lower.specs.Regions.{Inside}
 use Rattle.asl_lower.proofs.Owner.{from_mapped}
 use Rattle.asl_lower.proofs.Inside.{told as section_told}
-use Rattle.asl_points_to.specs.Classes.{Classed}
+use Rattle.asl_points_to.specs.Classes.{Classed, AreClasses}
 use Rattle.asl_lock_expr.specs.Expression.{base_cell, walked, path_cell}
 use Rattle.asl_lock_expr.specs.Links.{IsOne, on, prefixes, dereferenced, class_lock}
 use Rattle.asl_lock_expr.specs.ClassOf.{class_of}
@@ -40,7 +40,12 @@ use Rattle.asl_soundness.proofs.Standing.{lowered_at}
 use Rattle.asl_soundness.proofs.Entering.{granted_protects}
 use Rattle.asl_soundness.proofs.Sections.{Ready, own_view, stands, layout, body}
 use Rattle.asl_soundness.proofs.Soundness.{reached_good}
-use Rattle.asl_atomicity.specs.Serial.{IsAtEntry, IsGuarded, ListCovered, ReadsCovered}
+use Rattle.asl_atomicity.specs.Serial.{HasSerialRuns, IsAtEntry, IsGuarded, ListCovered, ReadsCovered}
+use Rattle.asl_atomicity.proofs.Atomicity.{serial_runs}
+use Rattle.asl_emitter.proofs.Sounding.{inferred_analysed}
+use Rattle.asl_emitter.proofs.Verifying.{inferred_fits}
+use Rattle.asl_lower.specs.Kept.{IsKept}
+use Rattle.asl_lock_expr.specs.ClassOf.{TellsStores}
 use Rattle.asl_emitter.specs.Lists.{Locks, as_class, IsFitted}
 use Rattle.asl_emitter.specs.Inferred.{IsInferred}
 use Rattle.asl_emitter.proofs.Fits.{fitted_all}
@@ -134,3 +139,8 @@ module _ (l : Lowered) (c : Classed) (stores : ℕ → ℕ → Bool) (longest : 
           (o : Option (List Lock)) → slice_get image.lists list ≡ o → ListCovered (grant s.holding t (request_of s.objects a.top.regs (unwrap_or o []))) t s.objects a.top.regs (unwrap_or o [])
       by_list s t list a q entry section there starts None e = tt
       by_list s t list a q entry section there starts (Some locks) e = list_covered s t list a q entry section there starts locks e locks (λ n o. o)
+
+-- each run of an inferred image has a serial one
+pub inferred_serial : (l : Lowered) (c : Classed) (stores : ℕ → ℕ → Bool) (longest : ℕ) (image : Image) → IsKept l → AreClasses l c → c.count ≤ 1024 → TellsStores l c stores → IsInferred l c stores longest image → (count : ℕ) → HasSerialRuns image count
+inferred_serial l c stores longest image kept are few tells m count =
+    serial_runs image count (inferred_fits l c stores longest image kept are few m) (inferred_guarded l c stores longest image (inferred_analysed l c stores longest image kept are few tells m) m count)

@@ -7,6 +7,7 @@ use Rattle.asl_lower.specs.Kept.{IsKept}
 use Rattle.asl_points_to.specs.Classes.{Classed, AreClasses}
 use Rattle.asl_lock_expr.specs.ClassOf.{TellsStores}
 use Rattle.asl_backward_flow.specs.Needed.{Needed}
+use Rattle.asl_soundness.specs.Analysed.{IsAnalysed}
 use Rattle.asl_soundness.specs.Coded.{IsImageOf}
 use Rattle.asl_soundness.specs.Safe.{StandOver, NeverUnprotected}
 use Rattle.asl_soundness.proofs.Soundness.{sound_program}
@@ -21,8 +22,9 @@ stand_over l c stores longest image kept are m n s list a there at needed =
     fitted_covers c s.function 64 (Needed l c stores longest (Inside n) (suc s.acquire)) list (m.lists n s list there at) a needed
     (needed_class l c stores longest kept are n (suc s.acquire) s a there needed)
 
-pub inferred_sound : (l : Lowered) (c : Classed) (stores : ℕ → ℕ → Bool) (longest : ℕ) (image : Image) → IsKept l → AreClasses l c → c.count ≤ 1024 → TellsStores l c stores → IsInferred l c stores longest image → NeverUnprotected image
-inferred_sound l c stores longest image kept are few tells m =
+-- an inferred image is analysed: what is needed in it is a closed family, and its lists stand over it
+pub inferred_analysed : (l : Lowered) (c : Classed) (stores : ℕ → ℕ → Bool) (longest : ℕ) (image : Image) → IsKept l → AreClasses l c → c.count ≤ 1024 → TellsStores l c stores → IsInferred l c stores longest image → IsAnalysed l c stores longest (Needed l c stores longest) image
+inferred_analysed l c stores longest image kept are few tells m =
     let made : IsImageOf l c image = record {
       fits = inferred_fits l c stores longest image kept are few m;
       legal = are.least.legal;
@@ -31,5 +33,8 @@ inferred_sound l c stores longest image kept are few tells m =
       globals = m.globals;
       code = m.code;
     } in
-    sound_program l c stores longest (Needed l c stores longest) image
-    (needed_analysed l c stores longest image kept made (λ f x may. (tells f x).1 may) (stand_over l c stores longest image kept are m))
+    needed_analysed l c stores longest image kept made (λ f x may. (tells f x).1 may) (stand_over l c stores longest image kept are m)
+
+pub inferred_sound : (l : Lowered) (c : Classed) (stores : ℕ → ℕ → Bool) (longest : ℕ) (image : Image) → IsKept l → AreClasses l c → c.count ≤ 1024 → TellsStores l c stores → IsInferred l c stores longest image → NeverUnprotected image
+inferred_sound l c stores longest image kept are few tells m =
+    sound_program l c stores longest (Needed l c stores longest) image (inferred_analysed l c stores longest image kept are few tells m)

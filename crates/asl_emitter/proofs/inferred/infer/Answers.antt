@@ -47,3 +47,6 @@ returns-in_err-program-clause-refused c =
 
 pub returns-clause-sound : goal.returns-clause-sound
 returns-clause-sound c = c.in_ok-program.ensures.sound
+
+pub returns-clause-atomic : goal.returns-clause-atomic
+returns-clause-atomic c = c.in_ok-program.ensures.atomic

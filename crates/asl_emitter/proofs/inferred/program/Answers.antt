@@ -1,6 +1,9 @@
-use Rattle.std.proofs.Common.{◌≡◌, true, false, sym, subst}
+use Rattle.std.proofs.Common.{◌≡◌, ℕ, true, false, sym, subst}
 use Rattle.asl_code.specs.Verified.{applies}
 use Rattle.asl_code.proofs.FitsBack.{verified_from_facts}
+use Rattle.asl_code.specs.declared.image.Image.{Image}
+use Rattle.asl_atomicity.specs.Serial.{HasSerialRuns}
+use Rattle.asl_emitter.proofs.Guarding.{inferred_serial}
 use Rattle.asl_soundness.specs.Safe.{NeverUnprotected}
 use Rattle.asl_emitter.proofs.Making.{made_inferred}
 use Rattle.asl_emitter.proofs.Verifying.{inferred_fits}
@@ -30,3 +33,13 @@ returns-clause-sound c =
     let image = c.in_ok-image.image in
     let inferred = made_inferred l k flow.stores c.args.k c.args.flow.now image flow.tells made.made in
     subst NeverUnprotected (sym c.in-Ok.ensures.program) (inferred_sound l k flow.stores c.args.k image made.kept c.requires.classes c.requires.few flow.written inferred)
+
+pub returns-clause-atomic : goal.returns-clause-atomic
+returns-clause-atomic c =
+    let l = c.args.lowering.now in
+    let k = c.args.classes.now in
+    let flow = c.requires.flow in
+    let made = c.in_ok-image.ensures in
+    let image = c.in_ok-image.image in
+    let inferred = made_inferred l k flow.stores c.args.k c.args.flow.now image flow.tells made.made in
+    subst (λ (i : Image). (count : ℕ) → HasSerialRuns i count) (sym c.in-Ok.ensures.program) (inferred_serial l k flow.stores c.args.k image made.kept c.requires.classes c.requires.few flow.written inferred)
