@@ -8,12 +8,6 @@ mod classes_memory;
 #[cfg(test)]
 mod expressions;
 #[cfg(test)]
-mod flowing;
-#[cfg(test)]
-mod flowing_many;
-#[cfg(test)]
-mod flowing_memory;
-#[cfg(test)]
 mod linking;
 #[cfg(test)]
 mod linking_memory;

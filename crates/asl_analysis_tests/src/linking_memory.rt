@@ -10,21 +10,21 @@ use asl_syntax::{Ast, SyntaxFault, parse};
 use std::alloc::{AllocError, Global};
 use std::test::Fail;
 
-pub fn parse_again(alloc: Global) -> Result<Ast, SyntaxFault> {
+fn parse_again(alloc: Global) -> Result<Ast, SyntaxFault> {
     match parse(alloc, CALL.as_bytes()) {
         Err(SyntaxFault::OutOfMemory) => parse(alloc, CALL.as_bytes()),
         answer => answer,
     }
 }
 
-pub fn lower_again(alloc: Global, ast: &Ast) -> Result<Lowering, LowerFault> {
+fn lower_again(alloc: Global, ast: &Ast) -> Result<Lowering, LowerFault> {
     match lower(alloc, ast) {
         Err(LowerFault::OutOfMemory) => lower(alloc, ast),
         answer => answer,
     }
 }
 
-pub fn classes_again(alloc: Global, lowering: &Lowering) -> Result<Classes, ClassesFault> {
+fn classes_again(alloc: Global, lowering: &Lowering) -> Result<Classes, ClassesFault> {
     match classes(alloc, lowering) {
         Err(ClassesFault::OutOfMemory) => classes(alloc, lowering),
         answer => answer,
@@ -58,7 +58,7 @@ fn links_again(
     }
 }
 
-pub fn spelled_again(alloc: Global, locks: &[Lock]) -> Result<String, AllocError> {
+fn spelled_again(alloc: Global, locks: &[Lock]) -> Result<String, AllocError> {
     match spelled(alloc, locks) {
         Err(_error) => spelled(alloc, locks),
         Ok(text) => Ok(text),

@@ -16,3 +16,4 @@ mod Grouping
 mod Listing
 pub mod Basing
 pub mod Ending
+pub mod Alike

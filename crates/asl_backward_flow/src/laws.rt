@@ -5,6 +5,7 @@ ghost use Rattle.asl_lower.specs.Lowered.{Lowered};
 ghost use Rattle.asl_lower.specs.Kept.{IsKept};
 ghost use Rattle.asl_lower.specs.Regions.{Region, IsIn, IsEnd};
 ghost use Rattle.asl_points_to.specs.Classes.{Classed, AreClasses};
+ghost use Rattle.asl_lock_expr.specs.ClassOf.{TellsStores};
 ghost use Rattle.asl_backward_flow.specs.Needed.{Needed};
 ghost use Rattle.asl_backward_flow.specs.Closed.{IsClosed};
 ghost use Rattle.asl_backward_flow.specs.Based.{IsLockOf};
@@ -29,4 +30,10 @@ pub fn nothing_is_needed_outside_a_region()
 pub fn what_needed_locks_name_is_there()
     ensures { (l : Lowered) (c : Classed) (stores : ℕ → ℕ → Bool) (longest : ℕ) → IsKept l → AreClasses l c
         → (r : Region) (pc : ℕ) (n : Lock) → Needed l c stores longest r pc n → (f q : ℕ) → IsIn l r f q → IsLockOf l c longest f n }
+{}
+
+/// What is needed depends on the classes that functions may store to, and not on how a test tells them.
+pub fn needed_locks_depend_on_written_classes_alone()
+    ensures { (l : Lowered) (c : Classed) (stores others : ℕ → ℕ → Bool) (longest : ℕ) → TellsStores l c stores → TellsStores l c others
+        → (r : Region) (pc : ℕ) (n : Lock) → Needed l c stores longest r pc n → Needed l c others longest r pc n }
 {}

@@ -17,8 +17,8 @@ mod step;
 pub use analysis::needed;
 pub use fault::FlowFault;
 pub use laws::{
-    nothing_is_needed_outside_a_region, the_needed_locks_are_the_least_closed_family,
-    what_needed_locks_name_is_there,
+    needed_locks_depend_on_written_classes_alone, nothing_is_needed_outside_a_region,
+    the_needed_locks_are_the_least_closed_family, what_needed_locks_name_is_there,
 };
 pub use parts::Flow;
 pub use region::Region;

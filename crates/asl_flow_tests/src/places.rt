@@ -12,7 +12,7 @@ use std::test::Fail;
 const WALK: &str =
     "global h; fn main(t) { n = new 2; p = &h; atomic { y = *p; g = &n[1]; *g = y; *p = n; } atomic { x = *p; while x { f = &x[1]; x = *f; } } return t; }";
 
-const CALL: &str =
+pub const CALL: &str =
     "global h; global c; fn put(q, v) { *q = v; return v; } fn main(t) { n = new 1; p = &h; atomic { r = put(p, n); x = *p; *x = t; s = &c; *s = t; } return t; }";
 
 const CALLS_IN_A_RING: &str =
