@@ -14,12 +14,12 @@ IsFault text (Line number) = IsBadLine (lines_of text) number
 IsFault text (Verify cause) = (image : Image) × Spells text image × IsAnswer image cause
 IsFault text OutOfMemory = Unit {0}
 
--- The text is assembled as a program of this image (docs/ASSEMBLY.md)
-abbrev pub IsAssembled : List ℕ → Image → Type 0
-IsAssembled text image = Spells text image × IsVerified image
+-- The text spells this image, which is a program's (docs/ASSEMBLY.md)
+abbrev pub IsProgramText : List ℕ → Image → Type 0
+IsProgramText text image = Spells text image × IsVerified image
 
 -- The outcome of the text, where memory is there: the program that it is assembled as, or the error that it is refused
 -- with (docs/ASSEMBLY.md, docs/LIMITS.md)
 abbrev pub IsOutcome : List ℕ → Result Image AsmFault → Type 0
-IsOutcome text (Ok image) = IsAssembled text image
+IsOutcome text (Ok image) = IsProgramText text image
 IsOutcome text (Err fault) = IsFault text fault × (fault ≢ OutOfMemory)

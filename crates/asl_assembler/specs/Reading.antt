@@ -1,5 +1,5 @@
--- What the readers of src/ compute, as functions on lists: how a text is read (docs/ASSEMBLY.md). No public contract cites
--- them; the lemmas of proofs/ tie them to the definitions of specs/Words and specs/Text, which contracts cite.
+-- Machinery of the proofs, not of the promise: how a text is read, computed on lists (docs/ASSEMBLY.md). The
+-- lemmas of proofs/ lead from here to the definitions of specs/Words and specs/Text, which public calls cite.
 use Rattle.std.specs.Prelude.{◌≡◌, ℕ, ℤ, pos, neg_ℤ, ◌+◌, ◌-◌, ◌*◌, ◌^◌, Bool, true, false, not, ◌&&◌, ◌==◌, nat_lt, nat_le, List, [], ◌∷◌, ◌++◌, length, Option, Some, None, Result, Ok, Err, if◌then◌else◌, codes}
 use Rattle.std.specs.Option.{option_map}
 use Rattle.std.specs.Char.{is_ascii_digit}

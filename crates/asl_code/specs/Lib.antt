@@ -1,7 +1,8 @@
+pub mod Spelling
 pub mod Bodies
+pub mod Verified
 pub mod Fits
+-- Machinery of the proofs, not of the promise:
 pub mod Lines
 pub mod Reading
 pub mod ReadingValue
-pub mod Spelling
-pub mod Verified

@@ -1,5 +1,5 @@
--- What the verifier looks for in the code, one line of its table after the other (docs/LIMITS.md, "Rules of an image").
--- Private functions cite this; what the verifier answers is in specs/Verified.
+-- Machinery of the proofs, not of the promise: what the verifier looks for in the code, one line of its table
+-- after the other (docs/LIMITS.md, "Rules of an image"). What the verifier answers is in specs/Verified.
 use Rattle.std.specs.Prelude.{◌≡◌, ℕ, ◌≤◌, Bool, true, false, Option, MatchOption}
 use Rattle.asl_code.specs.Bodies.{Body}
 use Rattle.asl_code.specs.Verified.{has_target, has_registers, has_operands, has_list_bases, fails_at}

@@ -21,18 +21,14 @@ IsFault bytes (Trailing at) = (at < length bytes) × ((image : Image) × SpellsI
 IsFault bytes (Verify cause) = (image : Image) × SpellsImage image bytes × IsAnswer image cause
 IsFault bytes OutOfMemory = Unit {0}
 
--- the bytes are those that a program of this image is stored as (docs/BYTES.md, "Images")
-abbrev pub IsStored : Image → List ℕ → Type 0
-IsStored image bytes = IsVerified image × SpellsImage image bytes
-
--- the bytes are loaded as a program of this image (docs/BYTES.md, "Images")
-abbrev pub IsLoaded : List ℕ → Image → Type 0
-IsLoaded bytes image = SpellsImage image bytes × IsVerified image
+-- the bytes spell this image, which is a program's: they are loaded as it, and it is stored as they (docs/BYTES.md, "Images")
+abbrev pub IsProgramImage : List ℕ → Image → Type 0
+IsProgramImage bytes image = SpellsImage image bytes × IsVerified image
 
 -- The outcome of the bytes, where memory is there: the program that they are loaded as, or the refusal that they meet
 -- (docs/BYTES.md, "Images").
 abbrev pub IsOutcome : List ℕ → Result Image LoadFault → Type 0
-IsOutcome bytes (Ok image) = IsLoaded bytes image
+IsOutcome bytes (Ok image) = IsProgramImage bytes image
 IsOutcome bytes (Err fault) = IsFault bytes fault × (fault ≢ OutOfMemory)
 
 -- any bytes have an outcome (docs/BYTES.md, "Images")
@@ -47,8 +43,8 @@ OutcomeIsOne =
 
 -- to load what was stored gives the program back (docs/BYTES.md, "Images")
 abbrev pub LoadUndoesStore : Type 0
-LoadUndoesStore = (image other : Image) (bytes : List ℕ) → IsStored image bytes → IsLoaded bytes other → other ≡ image
+LoadUndoesStore = (image other : Image) (bytes : List ℕ) → IsProgramImage bytes image → IsProgramImage bytes other → other ≡ image
 
 -- to store what was loaded gives the bytes back (docs/BYTES.md, "Images")
 abbrev pub StoreUndoesLoad : Type 0
-StoreUndoesLoad = (bytes others : List ℕ) (image : Image) → IsLoaded bytes image → IsStored image others → others ≡ bytes
+StoreUndoesLoad = (bytes others : List ℕ) (image : Image) → IsProgramImage bytes image → IsProgramImage others image → others ≡ bytes

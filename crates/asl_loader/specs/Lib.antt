@@ -1,4 +1,5 @@
 pub mod Bytes
 pub mod Faults
+-- Machinery of the proofs, not of the promise:
 pub mod Reading
 pub mod Writing

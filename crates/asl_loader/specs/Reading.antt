@@ -1,6 +1,6 @@
--- Reading an image from front to back, to the first field that is cut or bad: what the readers of src/ compute
--- (docs/BYTES.md, "Images"). No public contract cites it; the lemmas of proofs/ lead from here to the relations of
--- specs/Bytes and specs/Faults, which contracts cite.
+-- Machinery of the proofs, not of the promise: reading an image from front to back, to the first field that is
+-- cut or bad, computed (docs/BYTES.md, "Images"). The lemmas of proofs/ lead from here to the relations of specs/Bytes and
+-- specs/Faults, which public calls cite.
 use Rattle.std.specs.Prelude.{◌≡◌, ℕ, zero, suc, ◌-◌, Bool, nat_lt, ◌==◌, if◌then◌else◌, List, [], ◌∷◌, length, take, drop, Result, Ok, Err}
 use Rattle.std.specs.Int.{Width, w16, w32, byte_len, from_be_bytes}
 use Rattle.asl_code.specs.declared.image.Function.{Function}

@@ -1,4 +1,5 @@
--- What the writers of src/ add to the bytes before (docs/BYTES.md, "Images"). No public contract cites it.
+-- Machinery of the proofs, not of the promise: what the writers of src/ add to the bytes before (docs/BYTES.md,
+-- "Images").
 use Rattle.std.specs.Prelude.{◌≡◌, ℕ, ◌<◌, ◌^◌, List, ◌++◌, length}
 use Rattle.std.specs.List.{flat_map, AllByRecursion}
 use Rattle.asl_code.specs.declared.image.Image.{Image}
