@@ -8,7 +8,7 @@ use asl_code::{Function, Image, Instr, Items, Lock};
 use std::alloc::{AllocError, Global};
 
 /// Which line comes next, and what is open there.
-#[derive(Debug, Drop)]
+#[derive(Drop)]
 pub(crate) enum Place {
     /// `version`
     Version,

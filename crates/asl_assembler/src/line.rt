@@ -12,7 +12,7 @@ use crate::words::{next_word, no_word_in};
 use asl_code::{Base, Expr, Instr, Lock, Path};
 
 /// What a line says by itself.
-#[derive(Debug, Drop)]
+#[derive(Drop)]
 pub(crate) enum Line {
     /// `version 1`
     Version,

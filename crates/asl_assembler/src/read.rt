@@ -9,7 +9,7 @@ use asl_code::{Image, Items};
 use std::alloc::{AllocError, Global};
 
 /// Why a text spells no image.
-#[derive(Clone, Copy, Debug, PartialEq, Eq)]
+#[derive(Clone, Copy)]
 pub(crate) enum ReadFault {
     /// The line of this number, from 1, is not as its place asks, or the text ends too early before it.
     Line(usize),

@@ -32,7 +32,7 @@ pub enum LoadFault {
 }
 
 /// What stops the reading of an image.
-#[derive(Clone, Copy, Debug, PartialEq, Eq)]
+#[derive(Clone, Copy)]
 pub enum Stop {
     /// The bytes end within a field.
     Short,
@@ -41,7 +41,7 @@ pub enum Stop {
 }
 
 /// Why a reader gave up.
-#[derive(Debug, Drop)]
+#[derive(Drop)]
 pub enum ReadError {
     /// Memory was refused.
     Memory,
