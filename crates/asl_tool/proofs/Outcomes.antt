@@ -40,7 +40,7 @@ use Rattle.asl_tool.proofs.Records.{RunOutcome, run_one, some_run}
 use Rattle.asl_tool.proofs.RunFiles.{files_have_an_outcome, file_outcome_is_one}
 use Rattle.asl_tool.proofs.Talks.{talk_one, some_talk}
 use Rattle.asl_tool.proofs.Stored.{stored}
-use Rattle.asl_tool.specs.Outcome.{IsWantOfMemory, IsOutcome}
+use Rattle.asl_tool.specs.Outcome.{IsWantOfMemory, IsOutcome, IsSettled}
 
 -- what the laws of texts and of bytes say
 abbrev pub TextsAreOne : Type 0
@@ -134,6 +134,8 @@ step_is n schedule record_it input (Ok output) x = (Ok x.image, x.program, (Ok x
 step_is n schedule record_it input (Err (fault.Program cause)) x = (Err cause, (x.0, x.1), refl)
 step_is n schedule record_it input (Err (fault.File cause)) x = absurd x.0
 step_is n schedule record_it input (Err (fault.Journal cause)) x = (Ok x.0.image, x.0.program, (Err cause, refl, (x.0.refused, no_memory_run cause x.1)))
+step_is n schedule record_it input (Err (fault.Source cause)) x = absurd x.0
+step_is n schedule record_it input (Err (fault.Infer cause)) x = absurd x.0
 step_is n schedule record_it input (Err fault.OutOfMemory) x = absurd (x.1 tt)
 
 -- ---- `replay`
@@ -185,6 +187,8 @@ replay_is input (Ok output) x = (Ok (x.image, x.log), x.run, (Ok x.log, ap Ok x.
 replay_is input (Err (fault.Program cause)) x = absurd x.0
 replay_is input (Err (fault.File cause)) x = (Err cause, (x.0, no_memory_file cause x.1), refl)
 replay_is input (Err (fault.Journal cause)) x = (Ok (x.0.image, x.0.log), x.0.run, (Err cause, refl, (x.0.refused, no_memory_run cause x.1)))
+replay_is input (Err (fault.Source cause)) x = absurd x.0
+replay_is input (Err (fault.Infer cause)) x = absurd x.0
 replay_is input (Err fault.OutOfMemory) x = absurd (x.1 tt)
 
 replays_one : (input : List ℕ) (o p : Result (List ℕ) CommandFault) → All (λ b. b < 256) input → HasReplayForm input o → HasReplayForm input p → o ≡ p
@@ -226,6 +230,8 @@ debug_is words input (Ok output) x = (Ok (x.image, x.log), x.run, (Ok output, re
 debug_is words input (Err (fault.Program cause)) x = absurd x.0
 debug_is words input (Err (fault.File cause)) x = (Err cause, (x.0, no_memory_file cause x.1), refl)
 debug_is words input (Err (fault.Journal cause)) x = (Ok (x.0.image, x.0.log), x.0.run, (Err cause, refl, (x.0.refused, no_memory_run cause x.1)))
+debug_is words input (Err (fault.Source cause)) x = absurd x.0
+debug_is words input (Err (fault.Infer cause)) x = absurd x.0
 debug_is words input (Err fault.OutOfMemory) x = absurd (x.1 tt)
 
 debugs_one : (words : List DebugWord) (input : List ℕ) (o p : Result (List ℕ) CommandFault) → All (λ b. b < 256) input → HasDebugForm words input o → HasDebugForm words input p → o ≡ p
@@ -252,6 +258,8 @@ text_is input (Err (fault.Program (program.Text cause))) x = (Err cause, (x.0, n
 text_is input (Err (fault.Program (program.Image cause))) x = absurd x.0
 text_is input (Err (fault.File cause)) x = absurd x.0
 text_is input (Err (fault.Journal cause)) x = absurd x.0
+text_is input (Err (fault.Source cause)) x = absurd x.0
+text_is input (Err (fault.Infer cause)) x = absurd x.0
 text_is input (Err fault.OutOfMemory) x = absurd (x.1 tt)
 
 text_one : TextsAreOne → (input : List ℕ) (o p : Result (List ℕ) CommandFault) → IsTextOutcome input o → IsTextOutcome input p → o ≡ p
@@ -278,6 +286,8 @@ image_is input (Err (fault.Program (program.Image cause))) x = (Err cause, (x.0,
 image_is input (Err (fault.Program (program.Text cause))) x = absurd x.0
 image_is input (Err (fault.File cause)) x = absurd x.0
 image_is input (Err (fault.Journal cause)) x = absurd x.0
+image_is input (Err (fault.Source cause)) x = absurd x.0
+image_is input (Err (fault.Infer cause)) x = absurd x.0
 image_is input (Err fault.OutOfMemory) x = absurd (x.1 tt)
 
 image_one : BytesAreOne → (input : List ℕ) (o p : Result (List ℕ) CommandFault) → All (λ b. b < 256) input → IsImageOutcome input o → IsImageOutcome input p → o ≡ p
@@ -295,17 +305,18 @@ cases : (c : Command) (input : List ℕ) (o : Result (List ℕ) CommandFault) �
 cases c input (Ok output) x = x
 cases c input (Err f) x = x
 
-pub one_outcome : TextsAreOne → BytesAreOne → (c : Command) (input : List ℕ) (o p : Result (List ℕ) CommandFault) → All (λ b. b < 256) input → IsOutcome c input o → IsOutcome c input p → o ≡ p
-one_outcome texts bytes (command.Step n schedule record_it) input o p all x y =
+pub one_outcome : TextsAreOne → BytesAreOne → (c : Command) (input : List ℕ) (o p : Result (List ℕ) CommandFault) → IsSettled c → All (λ b. b < 256) input → IsOutcome c input o → IsOutcome c input p → o ≡ p
+one_outcome texts bytes (command.Step n schedule record_it) input o p settled all x y =
     let c = command.Step n schedule record_it in
     step_one texts bytes n schedule.items record_it input o p all (step_is n schedule.items record_it input o (cases c input o x)) (step_is n schedule.items record_it input p (cases c input p y))
-one_outcome texts bytes command.Assemble input o p all x y =
+one_outcome texts bytes command.Assemble input o p settled all x y =
     text_one texts input o p (text_is input o (cases command.Assemble input o x)) (text_is input p (cases command.Assemble input p y))
-one_outcome texts bytes command.Disassemble input o p all x y =
+one_outcome texts bytes command.Disassemble input o p settled all x y =
     image_one bytes input o p all (image_is input o (cases command.Disassemble input o x)) (image_is input p (cases command.Disassemble input p y))
-one_outcome texts bytes command.Replay input o p all x y =
+one_outcome texts bytes (command.Compile longest as_text) input o p settled all x y = absurd settled
+one_outcome texts bytes command.Replay input o p settled all x y =
     replays_one input o p all (replay_is input o (cases command.Replay input o x)) (replay_is input p (cases command.Replay input p y))
-one_outcome texts bytes (command.Debug words) input o p all x y =
+one_outcome texts bytes (command.Debug words) input o p settled all x y =
     let c = command.Debug words in
     debugs_one words.items input o p all (debug_is words.items input o (cases c input o x)) (debug_is words.items input p (cases c input p y))
 
@@ -395,24 +406,25 @@ uncased : (c : Command) (input : List ℕ) (o : Result (List ℕ) CommandFault) 
 uncased c input (Ok output) x = x
 uncased c input (Err f) x = x
 
-pub some_outcome : TextsHaveOne → BytesHaveOne → (c : Command) (input : List ℕ) → All (λ b. b < 256) input → (o : Result (List ℕ) CommandFault) × IsOutcome c input o
-some_outcome texts bytes (command.Step n schedule record_it) input all =
+pub some_outcome : TextsHaveOne → BytesHaveOne → (c : Command) (input : List ℕ) → IsSettled c → All (λ b. b < 256) input → (o : Result (List ℕ) CommandFault) × IsOutcome c input o
+some_outcome texts bytes (command.Step n schedule record_it) input settled all =
     let q = some_program texts bytes input all in
     let o = some_step n schedule.items record_it input q.0 q.1 in
     (o.0, uncased (command.Step n schedule record_it) input o.0 o.1)
-some_outcome texts bytes command.Assemble input all =
+some_outcome texts bytes command.Assemble input settled all =
     let r = texts input in
     let o = some_image input r.0 r.1 in
     (o.0, uncased command.Assemble input o.0 o.1)
-some_outcome texts bytes command.Disassemble input all =
+some_outcome texts bytes command.Disassemble input settled all =
     let r = bytes input all in
     let o = some_text input r.0 r.1 in
     (o.0, uncased command.Disassemble input o.0 o.1)
-some_outcome texts bytes command.Replay input all =
+some_outcome texts bytes command.Replay input settled all =
     let q = files_have_an_outcome input all in
     let o = some_replay input q.0 q.1 in
     (o.0, uncased command.Replay input o.0 o.1)
-some_outcome texts bytes (command.Debug words) input all =
+some_outcome texts bytes (command.Debug words) input settled all =
     let q = files_have_an_outcome input all in
     let o = some_debug words.items input q.0 q.1 in
     (o.0, uncased (command.Debug words) input o.0 o.1)
+some_outcome texts bytes (command.Compile longest as_text) input settled all = absurd settled

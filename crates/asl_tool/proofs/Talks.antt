@@ -189,18 +189,21 @@ last_from : (s : Session) (until : ℕ) → 0 < s.position → IsNoneFrom s unti
 last_from s zero some h = (0, none_found s some h)
 last_from s (suc until) some h =
     elim (dec_stop s until) [
-      | inl stop ↦ (until, record {
+      | inl stop ↦ (
+        until,
+        record {
           earlier = omega (arith, h.within);
           none_between = λ j low high. h.none_between j (omega (arith, low)) high;
           stops = inl stop;
-        })
+        },
+      )
       | inr away ↦ last_from s until some (record {
-          within = omega (arith, h.within);
-          none_between = λ j low high. elim (cases_lt j (suc until)) [
-            | inl before ↦ (let same : until ≡ j = omega (arith, low, before) in subst (λ (n : ℕ). IsStop s n → ⊥) same away)
-            | inr past ↦ h.none_between j past high
-          ];
-        })
+        within = omega (arith, h.within);
+        none_between = λ j low high. elim (cases_lt j (suc until)) [
+          | inl before ↦ (let same : until ≡ j = omega (arith, low, before) in subst (λ (n : ℕ). IsStop s n → ⊥) same away)
+          | inr past ↦ h.none_between j past high
+        ];
+      })
     ]
 
 -- an answer, and the position to which it leads

@@ -11,6 +11,7 @@ use Rattle.asl_tool.specs.declared.command.Command.TheVariants as command
 use Rattle.asl_tool.specs.declared.command.CommandFault.{CommandFault}
 use Rattle.asl_tool.specs.declared.command.CommandFault.TheVariants as fault
 use Rattle.asl_tool.specs.Program.{IsProgramText, IsProgramImage, IsNoProgram}
+use Rattle.asl_tool.specs.Compile.{IsCompiled, IsRefusedSource}
 use Rattle.asl_tool.specs.Debug.{IsDebugged}
 use Rattle.asl_tool.specs.Replay.{IsReplayed, HasRefusedReplay}
 use Rattle.asl_tool.specs.RunFile.{IsFileFault}
@@ -33,6 +34,7 @@ abbrev pub IsOutput : Command → List ℕ → List ℕ → Type 0
 IsOutput (command.Step threads schedule record_it) input output = IsStepped input threads schedule.items record_it output
 IsOutput command.Assemble input image = IsAssembled input image
 IsOutput command.Disassemble input text = IsDisassembled input text
+IsOutput (command.Compile longest as_text) input output = IsCompiled input longest as_text output
 IsOutput command.Replay input text = IsReplayed input text
 IsOutput (command.Debug words) input text = IsDebugged input words.items text
 
@@ -67,5 +69,6 @@ abbrev pub IsRefused : Command → List ℕ → CommandFault → Type 0
 IsRefused (command.Step threads schedule record_it) input f = IsRefusedStep input threads schedule.items f
 IsRefused command.Assemble input f = IsRefusedText input f
 IsRefused command.Disassemble input f = IsRefusedImage input f
+IsRefused (command.Compile longest as_text) input f = IsRefusedSource input longest f
 IsRefused command.Replay input f = IsRefusedReplay input f
 IsRefused (command.Debug words) input f = IsRefusedReplay input f

@@ -6,6 +6,7 @@ pub mod Step
 pub mod Replay
 pub mod View
 pub mod Debug
+pub mod Compile
 pub mod Command
 pub mod Outcome
 pub mod Tool

@@ -2,10 +2,13 @@
 use Rattle.std.specs.Prelude.{ℕ, List, Result, Ok, Err}
 use Rattle.asl_assembler.specs.declared.assembly.AsmFault.TheVariants as asm
 use Rattle.asl_loader.specs.declared.fault.LoadFault.TheVariants as load
+use Rattle.asl_syntax.specs.declared.fault.SyntaxFault.TheVariants as syntax
+use Rattle.asl_emitter.specs.declared.fault.InferFault.TheVariants as infer
 use Rattle.asl_journal.specs.declared.fault.JournalFault.TheVariants as journal
 use Rattle.asl_tool.specs.declared.program.ProgramFault.TheVariants as program
 use Rattle.asl_tool.specs.declared.run_file.FileFault.TheVariants as file
 use Rattle.asl_tool.specs.declared.command.Command.{Command}
+use Rattle.asl_tool.specs.declared.command.Command.TheVariants as command
 use Rattle.asl_tool.specs.declared.command.CommandFault.{CommandFault}
 use Rattle.asl_tool.specs.declared.command.CommandFault.TheVariants as fault
 use Rattle.asl_tool.specs.Command.{IsOutput, IsRefused}
@@ -14,6 +17,8 @@ use Rattle.asl_tool.specs.Command.{IsOutput, IsRefused}
 abbrev pub IsWantOfMemory : CommandFault → Type 0
 IsWantOfMemory (fault.Program (program.Text asm.OutOfMemory)) = Unit {0}
 IsWantOfMemory (fault.Program (program.Image load.OutOfMemory)) = Unit {0}
+IsWantOfMemory (fault.Source syntax.OutOfMemory) = Unit {0}
+IsWantOfMemory (fault.Infer infer.OutOfMemory) = Unit {0}
 IsWantOfMemory (fault.File file.OutOfMemory) = Unit {0}
 IsWantOfMemory (fault.Journal journal.OutOfMemory) = Unit {0}
 IsWantOfMemory fault.OutOfMemory = Unit {0}
@@ -23,3 +28,9 @@ IsWantOfMemory f = ⊥
 abbrev pub IsOutcome : Command → List ℕ → Result (List ℕ) CommandFault → Type 0
 IsOutcome command input (Ok output) = IsOutput command input output
 IsOutcome command input (Err f) = IsRefused command input f × (IsWantOfMemory f → ⊥)
+
+-- the input alone settles the command's outcome: not that of `compile`, which names any one of the regions that need too many
+-- locks
+abbrev pub IsSettled : Command → Type 0
+IsSettled (command.Compile longest as_text) = ⊥
+IsSettled c = Unit {0}

@@ -5,6 +5,7 @@ ghost use Rattle.asl_tool.specs.Replay.{IsReplayed};
 ghost use Rattle.asl_tool.specs.Step.{IsStepped, written};
 ghost use Rattle.asl_tool.specs.Command.{IsAssembled, IsDisassembled, IsOutput, IsRefused, IsRefusedStep, IsRefusedText, IsRefusedImage, IsRefusedReplay};
 
+use crate::compiling::{Longest, compiled};
 use crate::debugging::{DebugWord, debugged_text};
 use crate::program::{ProgramFault, read_program};
 use crate::replaying::replayed_text;
@@ -12,8 +13,10 @@ use crate::run_file::{FileFault, get_run, put_run};
 use crate::step::{lines_of, record_run};
 use asl_assembler::{assemble, disassemble};
 use asl_code::Program;
+use asl_emitter::InferFault;
 use asl_journal::{Journal, JournalFault};
 use asl_loader::{load, store};
+use asl_syntax::SyntaxFault;
 use std::alloc::{AllocError, Global};
 use thiserror::Error;
 
@@ -33,6 +36,13 @@ pub enum Command {
     Assemble,
     /// `dis`: the canonical text of the input, which is an image.
     Disassemble,
+    /// `compile`: the program that is inferred for the input, which is a source.
+    Compile {
+        /// How many operations a path of an inferred lock has at most.
+        longest: Longest,
+        /// Whether the canonical text is written, in place of the image.
+        text: bool,
+    },
     /// `replay`: whether the input, a run file, is a run of its program.
     Replay,
     /// `debug`: what a debugger over the input, a run file, answers to the words.
@@ -48,6 +58,12 @@ pub enum CommandFault {
     /// The input is no program.
     #[error(transparent)]
     Program(ProgramFault),
+    /// The input is no source.
+    #[error(transparent)]
+    Source(SyntaxFault),
+    /// No program is inferred for the source.
+    #[error(transparent)]
+    Infer(InferFault),
     /// The input is no run file.
     #[error(transparent)]
     File(FileFault),
@@ -73,6 +89,7 @@ pub fn output_of(alloc: Global, command: &Command, input: &[u8]) -> Result<Vec<u
         } => stepped(alloc, *threads, schedule.as_slice(), *record, input),
         Command::Assemble => assembled(alloc, input),
         Command::Disassemble => disassembled(alloc, input),
+        Command::Compile { longest, text } => compiled(alloc, longest, *text, input),
         Command::Replay => replayed(alloc, input),
         Command::Debug { words } => debugged(alloc, words.as_slice(), input),
     }

@@ -2,19 +2,19 @@
 ghost use Rattle.std.specs.Prelude.{◌≡◌, ◌<◌, ℕ, List, All, Result};
 ghost use Rattle.asl_tool.specs.declared.command.Command.{Command};
 ghost use Rattle.asl_tool.specs.declared.command.CommandFault.{CommandFault};
-ghost use Rattle.asl_tool.specs.Outcome.{IsOutcome};
+ghost use Rattle.asl_tool.specs.Outcome.{IsOutcome, IsSettled};
 ghost use Rattle.asl_tool.specs.RunFile.{RunOfSpellingIsOne, SpellingOfRunIsOne, FilesHaveAnOutcome, FileOutcomeIsOne};
 
 use asl_assembler::laws::texts_have_one_outcome;
 use asl_loader::laws::bytes_have_one_outcome;
 
 /// A command has exactly one outcome for the bytes of an input: one output, or one refusal. Want of memory says nothing of
-/// them.
+/// them. `compile` is left out: where several regions need too many locks, it names any of them.
 pub fn commands_have_one_outcome()
-    ensures some { (command : Command) (input : List ℕ) → All (λ b. b < 256) input
+    ensures some { (command : Command) (input : List ℕ) → IsSettled command → All (λ b. b < 256) input
         → (outcome : Result (List ℕ) CommandFault) × IsOutcome command input outcome }
     ensures one { (command : Command) (input : List ℕ) (outcome other : Result (List ℕ) CommandFault)
-        → All (λ b. b < 256) input → IsOutcome command input outcome → IsOutcome command input other
+        → IsSettled command → All (λ b. b < 256) input → IsOutcome command input outcome → IsOutcome command input other
         → outcome ≡ other }
 {
     texts_have_one_outcome();

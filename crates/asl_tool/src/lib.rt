@@ -2,9 +2,8 @@
 #![tactic(auto)]
 
 mod command;
+mod compiling;
 mod debugging;
-#[cfg(test)]
-mod fakes;
 pub mod laws;
 mod program;
 mod replaying;
@@ -17,11 +16,10 @@ mod view;
 mod words;
 
 pub use command::{Command, CommandFault, output_of};
+pub use compiling::Longest;
 pub use debugging::{Answer, DebugWord, Move};
 pub use program::{ProgramFault, read_program};
 pub use run_file::{FileFault, get_run, put_run};
-pub use streams::{ReadFault, WriteFault};
+pub use streams::{ReadFault, WriteFault, read_whole, write_whole};
 pub use tool::{ToolFault, perform, tool_alone};
-
-#[cfg(test)]
-mod tests;
+pub use words::{Invocation, read_words};

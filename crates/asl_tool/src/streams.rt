@@ -81,6 +81,3 @@ fn write_some<W: Write>(writer: &mut W, bytes: &[u8]) -> Result<usize, WriteFaul
         Err(_) => Err(WriteFault),
     }
 }
-
-#[cfg(test)]
-mod tests;

@@ -145,6 +145,3 @@ fn status_of<E: Write>(done: Result<(), ToolFault>, errors: &mut E) -> u8
         }
     }
 }
-
-#[cfg(test)]
-mod tests;

@@ -2,6 +2,7 @@
 ghost use Rattle.std.specs.Prelude.{◌≡◌, ◌<◌, ◌^◌, IfSome};
 
 use crate::command::Command;
+use crate::compiling::Longest;
 use crate::debugging::{DebugWord, Move};
 use clap::error::ErrorKind;
 use clap::{Arg, ArgAction, ArgMatches, Error};
@@ -21,6 +22,10 @@ pub enum Invocation {
 const STEP_HELP: &str =
     "Reads a program, an image or assembly text, from standard input, makes a machine of N threads, \
     steps the threads in the given order, and writes one line a step: its number, its thread and the reply";
+
+const COMPILE_HELP: &str =
+    "Reads a source from standard input, infers the locks of its sections, and writes the program's image; no run of it \
+    faults for want of a lock";
 
 const REPLAY_HELP: &str =
     "Reads a run file from standard input, makes the steps of its journal again, and writes how many events came again";
@@ -42,6 +47,7 @@ pub fn read_words(alloc: Global, words: &[String]) -> Result<Invocation, AllocEr
             Some(("step", step)) => read_step(alloc, step),
             Some(("asm", _)) => Ok(Invocation::Run(Command::Assemble)),
             Some(("dis", _)) => Ok(Invocation::Run(Command::Disassemble)),
+            Some(("compile", compile)) => read_compile(alloc, compile),
             Some(("replay", _)) => Ok(Invocation::Run(Command::Replay)),
             Some(("debug", debug)) => read_debug(alloc, debug),
             _ => wrong_usage(alloc, "a command is missing"),
@@ -57,12 +63,43 @@ fn command<'a>(alloc: Global) -> Result<clap::Command<'a>, AllocError> {
         .bin_name("asl")?
         .subcommand_required(true)
         .disable_help_subcommand(true)
+        .subcommand(compile_command(alloc)?)?
         .subcommand(bare_command(alloc, "asm", "asl asm", ASM_HELP)?)?
         .subcommand(bare_command(alloc, "dis", "asl dis", DIS_HELP)?)?
         .subcommand(step_command(alloc)?)?
         .subcommand(bare_command(alloc, "replay", "asl replay", REPLAY_HELP)?)?
         .subcommand(debug_command(alloc)?)?;
     Ok(command)
+}
+
+fn compile_command<'a>(alloc: Global) -> Result<clap::Command<'a>, AllocError> {
+    let longest = Arg::new(alloc, "k")
+        .long("k")
+        .value_name("K")
+        .help("How many operations a path of a lock has at most, 0 to 8; 3 where it is not given")
+        .action(ArgAction::Set);
+    let text = Arg::new(alloc, "text")
+        .long("text")
+        .help("Writes the canonical assembly text, in place of the image")
+        .action(ArgAction::SetTrue);
+    let command = clap::Command::new(alloc, "compile")
+        .about(COMPILE_HELP)
+        .bin_name("asl compile")?
+        .arg(longest)?
+        .arg(text)?;
+    Ok(command)
+}
+
+fn read_compile(alloc: Global, matches: &ArgMatches<'_>) -> Result<Invocation, AllocError> {
+    let longest = match matches.get_str("k") {
+        Some(word) => match length(word) {
+            Some(longest) => longest,
+            None => return not_a_length(alloc, word),
+        },
+        None => Longest::usual(),
+    };
+    let text = matches.get_flag("text");
+    Ok(Invocation::Run(Command::Compile { longest, text }))
 }
 
 /// A command that takes no more words.
@@ -202,8 +239,13 @@ fn read_step(alloc: Global, matches: &ArgMatches<'_>) -> Result<Invocation, Allo
     }))
 }
 
+/// The length of paths that the digits spell, if it is one.
+fn length(word: &str) -> Option<Longest> {
+    Longest::of(number(word)?)
+}
+
 /// The number that the digits spell, if they are only digits, at least one, and the number is below 2^32.
-pub fn number(word: &str) -> Option<u32> {
+fn number(word: &str) -> Option<u32> {
     let digits = word.as_bytes();
     if digits.is_empty() {
         return None;
@@ -220,6 +262,11 @@ pub fn number(word: &str) -> Option<u32> {
 
 fn not_a_number(alloc: Global, word: &str) -> Result<Invocation, AllocError> {
     let text = format!(in alloc; "error: '{word}' is no number from 0 to 4294967295\n")?;
+    Ok(Invocation::WrongUsage(text))
+}
+
+fn not_a_length(alloc: Global, word: &str) -> Result<Invocation, AllocError> {
+    let text = format!(in alloc; "error: '{word}' is no number from 0 to 8\n")?;
     Ok(Invocation::WrongUsage(text))
 }
 
@@ -242,6 +289,3 @@ fn refused(alloc: Global, error: &Error) -> Result<Invocation, AllocError> {
         _ => Ok(Invocation::WrongUsage(error.to_string(alloc)?)),
     }
 }
-
-#[cfg(test)]
-mod tests;

@@ -1,0 +1,48 @@
+-- What the command `compile` answers (docs/ANALYSIS.md, "The inferred image"; docs/SOURCE.md).
+use Rattle.std.specs.Prelude.{◌≡◌, ℕ, Bool, true, false, List}
+use Rattle.asl_code.specs.declared.image.Image.{Image}
+use Rattle.asl_code.specs.Verified.{IsVerified}
+use Rattle.asl_syntax.specs.Tree.{Item}
+use Rattle.asl_syntax.specs.Parsed.{Parses}
+use Rattle.asl_syntax.specs.Fault as syntax
+use Rattle.asl_emitter.specs.declared.fault.InferFault.{InferFault}
+use Rattle.asl_emitter.specs.Inferred.{IsInferredFor}
+use Rattle.asl_emitter.specs.Refused.{IsAccepted, IsRefused}
+use Rattle.asl_soundness.specs.Safe.{NeverUnprotected}
+use Rattle.asl_assembler.specs.Canonical.{canonical_text}
+use Rattle.asl_loader.specs.Bytes.{SpellsImage}
+use Rattle.asl_tool.specs.declared.command.CommandFault.{CommandFault}
+use Rattle.asl_tool.specs.declared.command.CommandFault.TheVariants as fault
+
+-- the source is a program's, and this image is inferred for it, with paths of at most so many operations; no run of the
+-- image faults for want of a lock
+pub record IsProgramFor (source : List ℕ) (longest : ℕ) (image : Image) : Type 0 where
+  pub tree : List Item
+  pub parsed : Parses source tree
+  pub accepted : IsAccepted tree longest
+  pub inferred : IsInferredFor tree longest image
+  pub safe : NeverUnprotected image
+
+-- what is written of a program: its image, or its canonical text
+abbrev pub IsProgramWritten : Bool → Image → List ℕ → Type 0
+IsProgramWritten false image output = IsVerified image × SpellsImage image output
+IsProgramWritten true image output = IsVerified image × (output ≡ canonical_text image)
+
+-- the output is what is written of the program that is inferred for the source
+pub record IsCompiled (source : List ℕ) (longest : ℕ) (as_text : Bool) (output : List ℕ) : Type 0 where
+  pub image : Image
+  pub program : IsProgramFor source longest image
+  pub written : IsProgramWritten as_text image output
+
+-- the source is a program's, for which no image is inferred
+pub record HasRefusedTree (source : List ℕ) (longest : ℕ) (cause : InferFault) : Type 0 where
+  pub tree : List Item
+  pub parsed : Parses source tree
+  pub refused : IsRefused tree longest cause
+
+-- what each refusal of `compile` says of the source
+abbrev pub IsRefusedSource : List ℕ → ℕ → CommandFault → Type 0
+IsRefusedSource source longest (fault.Source cause) = syntax.IsFault source cause
+IsRefusedSource source longest (fault.Infer cause) = HasRefusedTree source longest cause
+IsRefusedSource source longest fault.OutOfMemory = Unit {0}
+IsRefusedSource source longest f = ⊥
