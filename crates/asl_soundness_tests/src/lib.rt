@@ -6,4 +6,6 @@ mod orders;
 #[cfg(test)]
 mod running;
 #[cfg(test)]
+mod serial;
+#[cfg(test)]
 mod sources;

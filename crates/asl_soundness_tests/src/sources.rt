@@ -27,3 +27,7 @@ pub const BARE_AND_INNER: &str =
 /// Pushes and walks again and again.
 pub const ENDLESS: &str =
     "global h; fn main(t) { one = 1; p = &h; while one { n = new 2; atomic { y = *p; g = &n[1]; *g = y; *p = n; } atomic { x = *p; while x { f = &x[0]; *f = t; f = &x[1]; x = *f; } } } return t; }";
+
+/// Moves one from a global to another, again and again.
+pub const TRANSFER: &str =
+    "global a; global b; fn main(t) { one = 1; p = &a; q = &b; while one { atomic { x = *p; y = x - one; *p = y; z = *q; w = z + one; *q = w; out w; } } return t; }";
