@@ -1,7 +1,7 @@
 pub mod Lists
 pub mod Inferred
 pub mod Refused
--- machinery of the proofs
+-- Machinery of the proofs, not of the promise:
 pub mod Faults
 pub mod Parts
 pub mod There
