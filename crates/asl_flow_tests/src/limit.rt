@@ -55,10 +55,8 @@ fn one_lock_more_than_4_096_is_too_many(rt: HostRuntime) -> Result<(), Fail> {
     for (loads, anew) in [(4096, false), (4095, true)] {
         match flow(rt.alloc(), loads, anew)? {
             Err(fault) => {
-                assert!(rt;
-                    fault == FlowFault::TooManyLocks(Region::Section(0)),
-                    "{fault}"
-                )
+                let text = format!(in rt.alloc(); "{fault}")?;
+                assert!(rt; text.as_str() == "TooManyLocks(Section(0))", "{text}");
             }
             Ok(_flow) => assert!(rt; false, "a flow of {loads} loads"),
         }
