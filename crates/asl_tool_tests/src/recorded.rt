@@ -1,0 +1,162 @@
+//! Recorded runs: their files, replay, and the debugger's words.
+use asl_tool::tool_alone;
+use std::alloc::{AllocError, Global};
+use std::process::Abort;
+use std::test::Fail;
+
+const COUNTER: &str =
+    "version 1\nclasses 1\nglobal 0\nentry 0\nfn 1 5\nglob r1, g0\nacq 0\nload r2, r1\n\
+    int r3, 1\nadd r4, r2, r3\nstore r1, r4\nrel\nret r0\nlist\nexpr r1 write\n";
+
+/// The run file of the counter's threads, stepped 0, 0, 1, 1: the image of 94 bytes behind its length, and the journal.
+const FILE: [u8; 117] =
+    *b"\x00\x00\x00\x5eASLM\x00\x01\x00\x01\x00\x01\x00\x00\x00\x01\x01\x05\x00\x08\x00\x00\x00\x08\
+    \x08\x01\x00\x00\x00\x00\x00\x00\x12\x00\x00\x00\x00\x00\x00\x00\
+    \x0a\x02\x01\x00\x00\x00\x00\x00\x01\x03\x00\x00\x00\x00\x00\x01\
+    \x04\x04\x02\x03\x00\x00\x00\x00\x0b\x01\x04\x00\x00\x00\x00\x00\
+    \x13\x00\x00\x00\x00\x00\x00\x00\x10\x00\x00\x00\x00\x00\x00\x00\
+    \x00\x01\x00\x01\x02\x01\x01\x00\
+    ASLJ\x00\x01\x02\x00\x00\x00\x04\x00\x00\x00\x00\x01\x00\x01\x02";
+
+/// The words of a line, which stand between single spaces.
+fn split(alloc: Global, line: &str) -> Result<Vec<String>, AllocError> {
+    let mut words = Vec::new(alloc);
+    for word in line.split(' ') {
+        words.push(String::from_str(alloc, word)?)?;
+    }
+    Ok(words)
+}
+
+/// Runs the words on bytes, and compares the status and what was written.
+fn expect(
+    rt: &(impl Abort + AllocGlobal),
+    line: &str,
+    input: &[u8],
+    status: u8,
+    output: &[u8],
+    said: &str,
+) -> Result<(), Fail> {
+    let alloc = rt.alloc();
+    let words = split(alloc, line)?;
+    let mut writer = Vec::new(alloc);
+    let mut errors = Vec::new(alloc);
+    let mut reader = input;
+    let got = tool_alone(
+        alloc,
+        words.as_slice(),
+        &mut reader,
+        &mut writer,
+        &mut errors,
+    );
+    assert!(rt; got == Some(status), "{line}: the status");
+    assert!(rt; writer.as_slice() == output, "{line}: the output");
+    assert!(rt; errors.as_slice() == said.as_bytes(), "{line}: the errors");
+    Ok(())
+}
+
+#[test]
+fn a_run_is_recorded(rt: HostRuntime) -> Result<(), Fail> {
+    let words = "step --threads 2 --record 0 0 1 1";
+    expect(&rt, words, COUNTER.as_bytes(), 0, FILE.as_slice(), "")
+}
+
+#[test]
+fn a_recorded_run_comes_again(rt: HostRuntime) -> Result<(), Fail> {
+    expect(&rt, "replay", FILE.as_slice(), 0, b"same 4\n", "")
+}
+
+/// A byte of the file, its new value, and what is said of the file then.
+const CHANGES: [(usize, u8, &str); 16] = [
+    (0, 1, "asl: Truncated(117)\n"),
+    (3, 0x72, "asl: Truncated(117)\n"),
+    (3, 0x71, "asl: Image(Trailing(94))\n"),
+    (3, 0x5d, "asl: Image(Truncated(93))\n"),
+    (4, 0, "asl: Image(Magic)\n"),
+    (9, 2, "asl: Image(Version)\n"),
+    (28, 1, "asl: Image(BadField(24))\n"),
+    (21, 7, "asl: Image(Verify(FunctionRange))\n"),
+    (98, 0, "asl: Journal(Magic)\n"),
+    (103, 2, "asl: Journal(Version)\n"),
+    (104, 0, "asl: Journal(BadField(6))\n"),
+    (108, 5, "asl: Journal(Truncated(19))\n"),
+    (108, 3, "asl: Journal(Trailing(17))\n"),
+    (109, 2, "asl: Journal(BadField(11))\n"),
+    (116, 5, "asl: Journal(BadField(18))\n"),
+    (116, 0, "asl: Differs(3)\n"),
+];
+
+/// The file with one byte changed.
+fn changed(alloc: Global, at: usize, value: u8) -> Result<Vec<u8>, AllocError> {
+    let mut bytes = FILE.to_vec(alloc)?;
+    if at < bytes.len() {
+        bytes[at] = value;
+    }
+    Ok(bytes)
+}
+
+#[test]
+fn changed_files_are_refused(rt: HostRuntime) -> Result<(), Fail> {
+    for (at, value, said) in CHANGES {
+        let bytes = changed(rt.alloc(), at, value)?;
+        expect(&rt, "replay", bytes.as_slice(), 1, b"", said)?;
+        expect(&rt, "debug view", bytes.as_slice(), 1, b"", said)?;
+    }
+    Ok(())
+}
+
+/// What is said of the file's first n bytes.
+fn cut(alloc: Global, n: usize) -> Result<String, AllocError> {
+    if n < 98 {
+        format!(in alloc; "asl: Truncated({n})\n")
+    } else {
+        let left = n - 98;
+        format!(in alloc; "asl: Journal(Truncated({left}))\n")
+    }
+}
+
+#[test]
+fn cut_files_are_refused(rt: HostRuntime) -> Result<(), Fail> {
+    for n in 0..FILE.len() {
+        let said = cut(rt.alloc(), n)?;
+        expect(&rt, "replay", &FILE[..n], 1, b"", said.as_str())?;
+    }
+    Ok(())
+}
+
+/// The words of a debugger over the counter's run, and what it answers.
+const TALKS: [(&str, &str); 9] = [
+    (
+        "debug goto 4 back back view",
+        "at 4\nat 3\nat 2\nthread 0 pc 2 depth 1\nreg 0 0 int 0\nreg 0 1 addr 0.0\nreg 0 2 int 0\nreg 0 3 int 0\n\
+        reg 0 4 int 0\nthread 1 pc 0 depth 0\nreg 1 0 int 1\nreg 1 1 int 0\nreg 1 2 int 0\nreg 1 3 int 0\n\
+        reg 1 4 int 0\ncell 0.0 int 0\nheld 0 root IX\nheld 0 class 0 IX\nheld 0 leaf 0.0 X\n",
+    ),
+    ("debug back", "refused AtStart\n"),
+    ("debug prev", "refused AtStart\n"),
+    ("debug goto 5", "refused NoSuchStep\n"),
+    (
+        "debug goto 4 forward next",
+        "at 4\nrefused AtEnd\nrefused AtEnd\n",
+    ),
+    (
+        "debug break 1 next next next prev prev prev",
+        "break 1\nat 1\nat 3\nat 4\nat 3\nat 1\nat 0\n",
+    ),
+    ("debug next prev", "at 4\nat 0\n"),
+    (
+        "debug break 1 break 00 clear 1 next next next",
+        "break 1\nbreak 0\nclear 1\nat 2\nat 4\nrefused AtEnd\n",
+    ),
+    (
+        "debug forward forward goto 9 back",
+        "at 1\nat 2\nrefused NoSuchStep\nat 1\n",
+    ),
+];
+
+#[test]
+fn the_debugger_answers(rt: HostRuntime) -> Result<(), Fail> {
+    for (words, answers) in TALKS {
+        expect(&rt, words, FILE.as_slice(), 0, answers.as_bytes(), "")?;
+    }
+    Ok(())
+}
