@@ -1,0 +1,7 @@
+//! Tests of the debugger, over its public calls.
+#![tactic(auto)]
+
+#[cfg(test)]
+mod moves;
+#[cfg(test)]
+mod runs;
