@@ -24,7 +24,7 @@ leads_on image count s [] n = record { schedule = []; there = All-nil (λ t. t <
 leads_on image count s (t ∷ ts) n =
     let rest = leads_on image count (step_of image s t).state ts (step_count image s t ∙ n) in
     elim (cases_lt t count) [
-      inl lt ↦ record { schedule = t ∷ rest.schedule; there = All-cons (λ t. t < count) t rest.schedule lt rest.there; leads = rest.leads }
+      | inl lt ↦ record { schedule = t ∷ rest.schedule; there = All-cons (λ t. t < count) t rest.schedule lt rest.there; leads = rest.leads }
       | inr past ↦ record { schedule = rest.schedule; there = rest.there; leads = rest.leads ∙ ap (λ z. state_after image z rest.schedule) (no_step image s t (omega (arith, past, n))) }
     ]
 

@@ -9,5 +9,4 @@ ghost use Rattle.asl_atomicity.specs.Serial.{HasSerialRuns, IsGuarded};
 /// is the same (`docs/ATOMICITY.md`).
 pub fn runs_have_serial_ones()
     ensures { (image : Image) (count : ℕ) → FitsImage image → IsGuarded image count → HasSerialRuns image count }
-{
-}
+{}

@@ -137,13 +137,15 @@ fn outcome<R: Threads + Wait + Sync, G: Gate>(
 fn two_workers_meet_and_count_to_two(rt: HostRuntime) -> Result<(), Fail> {
     let gate = Meeting::new();
     let ran = outcome(&rt, rt.alloc(), (2, 2, 10_000), &gate);
-    assert!(rt; ran == Some(Ok(Told {
-        events: 16,
-        tickets: 16,
-        receipts: [8, 8],
-        counter: Some(Value::Int(2)),
-        ended: 2,
-    })));
+    assert!(rt;
+        ran == Some(Ok(Told {
+            events: 16,
+            tickets: 16,
+            receipts: [8, 8],
+            counter: Some(Value::Int(2)),
+            ended: 2,
+        }))
+    );
     assert!(rt; gate.lost.load(Ordering::SeqCst) == 0);
     Ok(())
 }
@@ -151,13 +153,15 @@ fn two_workers_meet_and_count_to_two(rt: HostRuntime) -> Result<(), Fail> {
 #[test]
 fn one_thread_of_eight_workers_is_stepped_by_the_first(rt: HostRuntime) -> Result<(), Fail> {
     let ran = outcome(&rt, rt.alloc(), (1, 8, 10_000), &Open);
-    assert!(rt; ran == Some(Ok(Told {
-        events: 8,
-        tickets: 8,
-        receipts: [8, 0],
-        counter: Some(Value::Int(1)),
-        ended: 1,
-    })));
+    assert!(rt;
+        ran == Some(Ok(Told {
+            events: 8,
+            tickets: 8,
+            receipts: [8, 0],
+            counter: Some(Value::Int(1)),
+            ended: 1,
+        }))
+    );
     Ok(())
 }
 
@@ -176,7 +180,13 @@ fn a_run_stops_at_its_limit(rt: HostRuntime) -> Result<(), Fail> {
 
 #[test]
 fn what_no_run_has_is_refused(rt: HostRuntime) -> Result<(), Fail> {
-    for asked in [(2, 0, 10), (2, 9, 10), (0, 2, 10), (65, 2, 10), (2, 2, 16_777_217)] {
+    for asked in [
+        (2, 0, 10),
+        (2, 9, 10),
+        (0, 2, 10),
+        (65, 2, 10),
+        (2, 2, 16_777_217),
+    ] {
         let ran = outcome(&rt, rt.alloc(), asked, &Open);
         assert!(rt; ran == Some(Err(RunFault::BadCount)));
     }
