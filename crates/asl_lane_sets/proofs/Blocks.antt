@@ -1,0 +1,92 @@
+-- Words block by block.
+use Rattle.std.proofs.Common.{◌≡◌, ◌↔◌, ℕ, ◌+◌, ◌-◌, ◌*◌, ◌/◌, ◌%◌, ◌<◌, ◌≤◌, false, IsTrue, List, length, get_or, bit_or, refl, sym, ap, ◌∙◌, inl, inr, arith}
+use Rattle.std.proofs.lemmas.Bool.{cases_lt}
+use Rattle.std.proofs.lemmas.Bool.Decides.{eqb_tells}
+use Rattle.std.proofs.lemmas.List.{get_or_past}
+use Rattle.std.proofs.lemmas.Simd.{get_or-chunk, length-chunk}
+use lib.Lanes.{chunk}
+use Rattle.asl_lane_sets.specs.Packed.{AreJoined, Differ, JoinsAt, JoinedBelow}
+
+pub same_words : (a b : List ℕ) → ¬ Differ a b → (k : ℕ) → get_or a k 0 ≡ get_or b k 0
+same_words a b never k = elim (eqb_tells (get_or a k 0) (get_or b k 0)) [
+  | inl same ↦ same.1
+  | inr other ↦ absurd (never (record { place = k; different = other.1 }))
+]
+
+pub begin : (old from : List ℕ) → JoinedBelow 0 old from old
+begin old from = record { count = refl; below = λ k lt. absurd (omega arith); above = λ k le. refl }
+
+pub begin_same : (old : List ℕ) → IsTrue false ↔ Differ old old
+begin_same old = (λ e. absurd cc, λ d. absurd (d.different refl))
+
+module _ (old from now new : List ℕ) (block at : ℕ) (is_at : at ≡ block * 4) (so : JoinedBelow (4 * block) old from now) (joins : JoinsAt at now from new) where
+  pub more : JoinedBelow (4 * (block + 1)) old from new
+  more = record {
+    count = joins.count ∙ so.count;
+    below = λ k lt. elim (cases_lt k at) [
+      | inl low ↦ joins.below k low ∙ so.below k (omega arith)
+      | inr high ↦ joins.here k high (omega arith) ∙ ap (λ n. bit_or n (get_or from k 0)) (so.above k (omega arith))
+    ];
+    above = λ k le. joins.above k (omega arith) ∙ so.above k (omega arith);
+  }
+
+  pub grew_now : Differ now new → Differ old new
+  grew_now d = elim (cases_lt d.place at) [
+    | inl low ↦ absurd (d.different (sym (joins.below d.place low)))
+    | inr high ↦ record { place = d.place; different = λ e. d.different (so.above d.place (omega arith) ∙ e) }
+  ]
+
+pub grew_before : (old now new : List ℕ) → ¬ Differ now new → Differ old now ↔ Differ old new
+grew_before old now new never = (
+  λ d. record { place = d.place; different = λ e. d.different (e ∙ sym (same_words now new never d.place)) },
+  λ d. record { place = d.place; different = λ e. d.different (e ∙ same_words now new never d.place) },
+)
+
+pub joined_all : (old from new : List ℕ) (block : ℕ) → length old ≡ length from → length old % 4 ≡ 0 → length old / 4 ≤ block → JoinedBelow (4 * block) old from new → AreJoined old from new
+joined_all old from new block same whole end so = (
+  so.count,
+  λ k. elim (cases_lt k (4 * block)) [
+    | inl below ↦ so.below k below
+    | inr past ↦
+        let in_old = get_or_past old k 0 (omega arith) in
+        let in_from = get_or_past from k 0 (omega arith) in
+        so.above k past ∙ rw (in_old, in_from)
+  ],
+)
+
+-- a comparison of four words of each
+pub none_added : (high low four : List ℕ) (block at : ℕ) → at ≡ block * 4 → at + 4 ≤ length high → at + 4 ≤ length low → AreJoined (chunk at 4 high) (chunk at 4 low) four → ¬ Differ (chunk at 4 high) four
+    → ((k : ℕ) → k < 4 * block → get_or high k 0 ≡ bit_or (get_or high k 0) (get_or low k 0)) → (k : ℕ) → k < 4 * (block + 1) → get_or high k 0 ≡ bit_or (get_or high k 0) (get_or low k 0)
+none_added high low four block at is_at room also joins never so k lt = elim (cases_lt k at) [
+  | inl below ↦ so k (omega arith)
+  | inr past ↦
+      let j : (j : ℕ) × (at + j ≡ k) × (j < 4) = (k - at, omega arith, omega arith) in
+      let of_high : get_or (chunk at 4 high) j.0 0 ≡ get_or high k 0 = get_or-chunk at 4 high j.0 0 j.2 ∙ ap (λ n. get_or high n 0) j.1 in
+      let of_low : get_or (chunk at 4 low) j.0 0 ≡ get_or low k 0 = get_or-chunk at 4 low j.0 0 j.2 ∙ ap (λ n. get_or low n 0) j.1 in
+      sym of_high ∙ same_words (chunk at 4 high) four never j.0 ∙ joins.1 j.0 ∙ ap (λ n. bit_or n (get_or (chunk at 4 low) j.0 0)) of_high ∙ ap (λ n. bit_or (get_or high k 0) n) of_low
+]
+
+pub some_added : (high low four : List ℕ) (at : ℕ) → at + 4 ≤ length high → at + 4 ≤ length low → AreJoined (chunk at 4 high) (chunk at 4 low) four → Differ (chunk at 4 high) four → ¬ AreJoined high low high
+some_added high low four at room also joins d all = elim (cases_lt d.place 4) [
+  | inl within ↦
+      let of_high = get_or-chunk at 4 high d.place 0 within in
+      let of_low = get_or-chunk at 4 low d.place 0 within in
+      d.different (of_high ∙ all.1 (at + d.place) ∙ ap (λ n. bit_or n (get_or low (at + d.place) 0)) (sym of_high) ∙ ap (λ n. bit_or (get_or (chunk at 4 high) d.place 0) n) (sym of_low) ∙ sym (joins.1 d.place))
+  | inr past ↦
+      let long = length-chunk at 4 high room in
+      let count = joins.0 in
+      d.different (get_or_past (chunk at 4 high) d.place 0 (omega (arith, long)) ∙ sym (get_or_past four d.place 0 (omega (arith, long, count))))
+]
+
+pub within_all : (high low : List ℕ) (block : ℕ) → length low ≡ length high → length low % 4 ≡ 0 → length low / 4 ≤ block
+    → ((k : ℕ) → k < 4 * block → get_or high k 0 ≡ bit_or (get_or high k 0) (get_or low k 0)) → AreJoined high low high
+within_all high low block same whole end so = (
+  refl,
+  λ k. elim (cases_lt k (4 * block)) [
+    | inl below ↦ so k below
+    | inr past ↦
+        let in_high = get_or_past high k 0 (omega arith) in
+        let in_low = get_or_past low k 0 (omega arith) in
+        rw (in_high, in_low)
+  ],
+)

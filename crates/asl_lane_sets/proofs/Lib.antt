@@ -1,0 +1,4 @@
+pub mod Lanes
+pub mod Blocks
+pub mod Numbers
+pub mod Members

@@ -1,0 +1,259 @@
+-- The numbers of a set, by the bits of its words.
+use Rattle.std.proofs.Common.{IsTrue, subst, ◌++◌, take, drop, bit_and, ◌≡◌, ◌⊎◌, ⊎_elim, ◌↔◌, ℕ, zero, suc, ◌+◌, ◌*◌, ◌/◌, ◌%◌, ◌^◌, ◌<◌, Bool, true, false, List, [], ◌∷◌, Some, map, length, get_or, replicate, slice_set, bit_or, refl, sym, ap, ◌∙◌, inl, inr, arith, w64, eqb, eqb-true, eq-eqb, length-set}
+use Rattle.std.specs.Int.{bit_at}
+use Rattle.std.specs.List.{range_with_len}
+use Rattle.std.proofs.lemmas.Bool.{cases_lt, false_from_ne_true}
+use Rattle.std.proofs.lemmas.Bool.Decides.{eqb_tells}
+use Rattle.std.proofs.lemmas.List.{get_or_past, get_or-set_same, get_or-set_other, get_or-replicate}
+use Rattle.std.proofs.lemmas.List.FromFn.{length-map-range_with_len, get_or-map-range_with_len}
+use Rattle.std.proofs.lemmas.Option.{slice_get-get_or, slice_get_within, same_Some}
+use Rattle.std.proofs.lemmas.Grind.{get_or_default_zero}
+use Rattle.std.proofs.lemmas.Nat.Bits.{shr_and_one, bit_at-zero, bit_at_or, bit_at-lt, bit_at_above, bit_at_set_same, bit_at_set_other, same_from_bits}
+use Rattle.std.proofs.Math.Seq.{take-append_seam}
+use Rattle.asl_lane_sets.specs.NumberSet.{IsIn}
+use Rattle.asl_lane_sets.specs.Packed.{AreWords, has_bit, is_set, told, IsPacked, AreJoined, Differ}
+
+pub has_tells : (word bit : ℕ) → (has_bit word bit ≡ true) ↔ (bit_at word bit ≡ 1)
+has_tells word bit = (λ e. eqb-true _ _ e, λ e. eq-eqb _ _ e)
+
+pub length_told : (len : ℕ) (words : List ℕ) → length (told len words) ≡ len
+length_told len words = length-map-range_with_len (is_set words) 0 len
+
+-- which numbers are in the set that words tell
+pub in_told : (len : ℕ) (words : List ℕ) → IsPacked len words → (k : ℕ) → IsIn (told len words) k ↔ (is_set words k ≡ true)
+in_told len words packed k = (
+  λ is.
+      let below : k < len = omega (arith, slice_get_within (told len words) k true is, length_told len words) in
+      sym (get_or-map-range_with_len (is_set words) 0 len k k false below (omega arith)) ∙ same_Some _ _ (sym (slice_get-get_or (told len words) k false (omega (arith, length_told len words))) ∙ is),
+  λ set. elim (cases_lt k len) [
+    | inl below ↦ slice_get-get_or (told len words) k false (omega (arith, length_told len words)) ∙ ap Some (get_or-map-range_with_len (is_set words) 0 len k k false below (omega arith) ∙ set)
+    | inr past ↦ let clear = packed.clear k past in let never : false ≡ true = sym clear ∙ set in cc
+  ],
+)
+
+-- no word has a bit at first
+pub none_set : (count k : ℕ) → is_set (replicate count 0) k ≡ false
+none_set count k =
+    let word : get_or (replicate count 0) (k / 64) 0 ≡ 0 = elim (cases_lt (k / 64) count) [
+      | inl below ↦ get_or-replicate count (k / 64) 0 0 below
+      | inr past ↦ get_or_past (replicate count 0) (k / 64) 0 (omega (arith, length_zeros count))
+    ] in
+    ap (λ w. has_bit w (k % 64)) word ∙ ap (λ b. eqb b 1) (bit_at-zero (k % 64))
+  where
+    length_zeros : (n : ℕ) → length (replicate {A = ℕ} n 0) ≡ n
+    length_zeros zero = refl
+    length_zeros (suc n) = ap suc (length_zeros n)
+
+pub told_none : (len count : ℕ) → told len (replicate count 0) ≡ replicate len false
+told_none len count = from 0 len
+  where
+    from : (a n : ℕ) → map (is_set (replicate count 0)) (range_with_len a n) ≡ replicate n false
+    from a zero = refl
+    from a (suc n) = rw (none_set count a) (ap (λ xs. false ∷ xs) (from (a + 1) n))
+
+-- one bit more
+module _ (words : List ℕ) (number : ℕ) (there : number / 64 < length words) where
+  abbrev added : List ℕ
+  added = slice_set words (number / 64) (bit_or (get_or words (number / 64) 0) (1 * 2 ^ (number % 64) % 2 ^ 64))
+
+  pub set_added : (k : ℕ) → (is_set added k ≡ true) ↔ ((is_set words k ≡ true) ⊎ (k ≡ number))
+  set_added k = elim (eqb_tells (k / 64) (number / 64)) [
+    | inl same ↦
+        let place = same.1 in
+        let word : get_or added (k / 64) 0 ≡ bit_or (get_or words (number / 64) 0) (1 * 2 ^ (number % 64) % 2 ^ 64) =
+        ap (λ n. get_or added n 0) place ∙ get_or-set_same words (number / 64) _ 0 there in
+        elim (eqb_tells (k % 64) (number % 64)) [
+          | inl bit ↦
+              let at = bit.1 in
+              let one : bit_at (get_or added (k / 64) 0) (k % 64) ≡ 1 =
+              ap (λ n. bit_at (get_or added (k / 64) 0) n) at ∙ ap (λ w. bit_at w (number % 64)) word ∙ bit_at_set_same w64 (get_or words (number / 64) 0) (number % 64) (omega arith) in
+              (λ _. inr (omega arith), λ _. (has_tells _ (k % 64)).1 one)
+          | inr bit ↦
+              let still : bit_at (get_or added (k / 64) 0) (k % 64) ≡ bit_at (get_or words (k / 64) 0) (k % 64) =
+              ap (λ w. bit_at w (k % 64)) word ∙ bit_at_set_other w64 (get_or words (number / 64) 0) (number % 64) (omega arith) (k % 64) bit.1 ∙ ap (λ n. bit_at (get_or words n 0) (k % 64)) (sym place) in
+              (λ e. inl (ap (λ b. eqb b 1) (sym still) ∙ e), λ h. ⊎_elim (λ e. ap (λ b. eqb b 1) still ∙ e) (λ e. absurd (bit.1 (ap (λ n. n % 64) e))) h)
+        ]
+    | inr other ↦
+        let still : get_or added (k / 64) 0 ≡ get_or words (k / 64) 0 = get_or-set_other words (number / 64) (k / 64) _ 0 other.1 in
+        (λ e. inl (ap (λ w. has_bit w (k % 64)) (sym still) ∙ e), λ h. ⊎_elim (λ e. ap (λ w. has_bit w (k % 64)) still ∙ e) (λ e. absurd (other.1 (ap (λ n. n / 64) e))) h)
+  ]
+
+  pub packed_added : (len : ℕ) → number < len → IsPacked len words → IsPacked len added
+  packed_added len within packed = record {
+    fits = packed.fits;
+    count = length-set words (number / 64) _ ∙ packed.count;
+    clear = λ k past. false_from_ne_true _ (λ e.
+        ⊎_elim (λ (old : is_set words k ≡ true). let clear = packed.clear k past in let never : false ≡ true = sym clear ∙ old in cc) (λ (same : k ≡ number). absurd (omega arith)) ((set_added k).0 e));
+  }
+
+  pub in_added : (len : ℕ) → number < len → IsPacked len words → (k : ℕ) → IsIn (told len added) k ↔ (IsIn (told len words) k ⊎ (k ≡ number))
+  in_added len within packed k =
+      let now = in_told len added (packed_added len within packed) k in
+      let before = in_told len words packed k in (
+        λ is. ⊎_elim (λ old. inl (before.1 old)) (λ same. inr same) ((set_added k).0 (now.0 is)),
+        λ is. now.1 ((set_added k).1 (⊎_elim (λ old. inl (before.0 old)) (λ same. inr same) is)),
+      )
+
+-- the bits of either word
+pub bit_of_either : (a b i : ℕ) → (has_bit (bit_or a b) i ≡ true) ↔ ((has_bit a i ≡ true) ⊎ (has_bit b i ≡ true))
+bit_of_either a b i =
+    let of_either = bit_at_or a b i in
+    let small_a = bit_at-lt a i in
+    let small_b = bit_at-lt b i in (
+      λ e.
+          let one = (has_tells (bit_or a b) i).0 e in
+          elim (eqb_tells (bit_at a i) 1) [ inl is ↦ inl is.0 | inr isnt ↦ let other = isnt.1 in inr ((has_tells b i).1 (omega arith)) ],
+      λ h. (has_tells (bit_or a b) i).1 (⊎_elim (λ (e : has_bit a i ≡ true). let one = (has_tells a i).0 e in omega arith) (λ (e : has_bit b i ≡ true). let one = (has_tells b i).0 e in omega arith) h),
+    )
+
+module _ (a b c : List ℕ) (joins : AreJoined a b c) where
+  pub set_joined : (k : ℕ) → (is_set c k ≡ true) ↔ ((is_set a k ≡ true) ⊎ (is_set b k ≡ true))
+  set_joined k =
+      let is : is_set c k ≡ has_bit (bit_or (get_or a (k / 64) 0) (get_or b (k / 64) 0)) (k % 64) = ap (λ w. has_bit w (k % 64)) (joins.1 (k / 64)) in
+      let each = bit_of_either (get_or a (k / 64) 0) (get_or b (k / 64) 0) (k % 64) in
+      (λ e. each.0 (sym is ∙ e), λ h. is ∙ each.1 h)
+
+  pub packed_joined : (len : ℕ) → IsPacked len a → IsPacked len b → IsPacked len c
+  packed_joined len pa pb = record {
+    fits = pa.fits;
+    count = joins.0 ∙ pa.count;
+    clear = λ k past. false_from_ne_true _ (λ e.
+        ⊎_elim (λ (x : is_set a k ≡ true). let clear = pa.clear k past in let never : false ≡ true = sym clear ∙ x in cc) (λ (x : is_set b k ≡ true). let clear = pb.clear k past in let never : false ≡ true = sym clear ∙ x in cc) ((set_joined k).0 e));
+  }
+
+  pub in_joined : (len : ℕ) → IsPacked len a → IsPacked len b → (k : ℕ) → IsIn (told len c) k ↔ (IsIn (told len a) k ⊎ IsIn (told len b) k)
+  in_joined len pa pb k =
+      let now = in_told len c (packed_joined len pa pb) k in
+      let of_a = in_told len a pa k in
+      let of_b = in_told len b pb k in (
+        λ is. ⊎_elim (λ x. inl (of_a.1 x)) (λ x. inr (of_b.1 x)) ((set_joined k).0 (now.0 is)),
+        λ is. now.1 ((set_joined k).1 (⊎_elim (λ x. inl (of_a.0 x)) (λ x. inr (of_b.0 x)) is)),
+      )
+
+-- words whose bits are all those of others add nothing
+module _ (a b : List ℕ) (fits_a : (i : ℕ) → get_or a i 0 < 2 ^ 64) (fits_b : (i : ℕ) → get_or b i 0 < 2 ^ 64) where
+  pub nothing_added : ((k : ℕ) → is_set b k ≡ true → is_set a k ≡ true) → (place : ℕ) → get_or a place 0 ≡ bit_or (get_or a place 0) (get_or b place 0)
+  nothing_added within place = sym (same_from_bits _ _ (λ i. elim (cases_lt i 64) [
+    | inl below ↦
+        let number : (64 * place + i) / 64 ≡ place = omega arith in
+        let bit : (64 * place + i) % 64 ≡ i = omega arith in
+        let told_a : is_set a (64 * place + i) ≡ has_bit (get_or a place 0) i = ap (λ n. has_bit (get_or a n 0) ((64 * place + i) % 64)) number ∙ ap (has_bit (get_or a place 0)) bit in
+        let told_b : is_set b (64 * place + i) ≡ has_bit (get_or b place 0) i = ap (λ n. has_bit (get_or b n 0) ((64 * place + i) % 64)) number ∙ ap (has_bit (get_or b place 0)) bit in
+        let of_either = bit_at_or (get_or a place 0) (get_or b place 0) i in
+        let small_a = bit_at-lt (get_or a place 0) i in
+        let small_b = bit_at-lt (get_or b place 0) i in
+        elim (eqb_tells (bit_at (get_or b place 0) i) 1) [
+          | inl is ↦
+              let also = (has_tells (get_or a place 0) i).0 (sym told_a ∙ within (64 * place + i) (told_b ∙ is.0)) in omega arith
+          | inr isnt ↦ let other = isnt.1 in omega arith
+        ]
+    | inr past ↦
+        let of_either = bit_at_or (get_or a place 0) (get_or b place 0) i in
+        let none_a = bit_at_above (get_or a place 0) 64 i (fits_a place) past in
+        let none_b = bit_at_above (get_or b place 0) 64 i (fits_b place) past in
+        omega arith
+  ]))
+
+-- each number of one set is one of another, or some is not
+pub new_or_none : (old from : List Bool) → ((k : ℕ) → IsIn from k → IsIn old k) ⊎ ((k : ℕ) × IsIn from k × ¬ IsIn old k)
+new_or_none old [] = inl (λ k is. absurd (nothing k is))
+  where
+    nothing : (k : ℕ) → IsIn [] k → ⊥
+    nothing k is = cc
+new_or_none [] (true ∷ from) = inr (0, refl, λ is. cc)
+new_or_none [] (false ∷ from) = ⊎_elim
+    (λ all. inl (λ k. elim k as (λ n. IsIn (false ∷ from) n → IsIn [] n) [ zero ↦ λ is. cc | suc n ↦ λ is. absurd (empty n (all n is)) ]))
+    (λ some. inr (suc some.0, some.1, λ is. cc))
+    (new_or_none [] from)
+  where
+    empty : (k : ℕ) → IsIn [] k → ⊥
+    empty k is = cc
+new_or_none (false ∷ old) (true ∷ from) = inr (0, refl, λ is. cc)
+new_or_none (true ∷ old) (x ∷ from) = ⊎_elim
+    (λ all. inl (λ k. elim k as (λ n. IsIn (x ∷ from) n → IsIn (true ∷ old) n) [ zero ↦ λ is. refl | suc n ↦ all n ]))
+    (λ some. inr (suc some.0, some.1, some.2))
+    (new_or_none old from)
+new_or_none (false ∷ old) (false ∷ from) = ⊎_elim
+    (λ all. inl (λ k. elim k as (λ n. IsIn (false ∷ from) n → IsIn (false ∷ old) n) [ zero ↦ λ is. cc | suc n ↦ all n ]))
+    (λ some. inr (suc some.0, some.1, some.2))
+    (new_or_none old from)
+
+module _ (len : ℕ) (a b : List ℕ) (fits_a : (i : ℕ) → get_or a i 0 < 2 ^ 64) (fits_b : (i : ℕ) → get_or b i 0 < 2 ^ 64) (pa : IsPacked len a) (pb : IsPacked len b) where
+  within_words : ((k : ℕ) → IsIn (told len b) k → IsIn (told len a) k) → (place : ℕ) → get_or a place 0 ≡ bit_or (get_or a place 0) (get_or b place 0)
+  within_words all = nothing_added a b fits_a fits_b (λ k is. (in_told len a pa k).0 (all k ((in_told len b pb k).1 is)))
+
+  -- one set is within another where joining adds nothing to its words
+  pub within_told : AreJoined a b a ↔ ((k : ℕ) → IsIn (told len b) k → IsIn (told len a) k)
+  within_told = (
+    λ joins k is. (in_joined a b a joins len pa pb k).1 (inr is),
+    λ all. (refl, within_words all),
+  )
+
+  -- words that change gain a number
+  pub grown_told : (c : List ℕ) → AreJoined a b c → Differ a c ↔ ((k : ℕ) × IsIn (told len b) k × ¬ IsIn (told len a) k)
+  grown_told c joins = (
+    λ d. ⊎_elim (λ all. absurd (d.different (within_words all d.place ∙ sym (joins.1 d.place)))) (λ some. some) (new_or_none (told len a) (told len b)),
+    λ some. record {
+      place = some.0 / 64;
+      different = λ e.
+          let is : is_set c some.0 ≡ true = (set_joined a b c joins some.0).1 (inr ((in_told len b pb some.0).0 some.1)) in
+          some.2 ((in_told len a pa some.0).1 (ap (λ w. has_bit w (some.0 % 64)) e ∙ is));
+    },
+  )
+
+-- the test of a bit
+pub has_told : (words : List ℕ) (number word : ℕ) → word ≡ get_or words (number / 64) 0 → eqb (bit_and (word / 2 ^ (number % 64)) 1) 1 ≡ is_set words number
+has_told words number word is = ap (λ b. eqb b 1) (shr_and_one word (number % 64)) ∙ ap (λ w. has_bit w (number % 64)) is
+
+pub word_read : (words : List ℕ) (place word : ℕ) → place < length words → word ≡ get_or words place word → word ≡ get_or words place 0
+word_read words place word there is = is ∙ get_or_default_zero words place word there
+
+-- the word of a number that is below the length
+pub word_there : (len : ℕ) (words : List ℕ) (number : ℕ) → IsPacked len words → number < len → number / 64 < length words
+word_there len words number packed below = let count = packed.count in omega (arith, count, below)
+
+-- words that are written back
+pub written_back : (new old : List ℕ) (n : ℕ) → length new ≡ n → take n (new ++ drop (length new) old) ≡ new
+written_back new old n long = ap (λ k. take k (new ++ drop (length new) old)) (sym long) ∙ take-append_seam new (drop (length new) old)
+
+-- the same of two sets by their fields, where a and b are the words that calls were given, and xs and ys the values
+module _ (len other : ℕ) (same : len ≡ other) (va vb a b : List ℕ) where
+  pub within_told_by : (xs ys : List Bool) → IsPacked len va → IsPacked other vb → a ≡ va → b ≡ vb → told len va ≡ xs → told other vb ≡ ys → AreWords a → AreWords b
+      → (result : Bool) → (IsTrue result ↔ AreJoined b a b) → IsTrue result ↔ ((k : ℕ) → IsIn xs k → IsIn ys k)
+  within_told_by xs ys pa pb is_a is_b xs_is ys_is fits_a fits_b result tells =
+      let qa : IsPacked len a = subst (IsPacked len) (sym is_a) pa in
+      let qb : IsPacked len b = subst (IsPacked len) (sym is_b) (subst (λ n. IsPacked n vb) (sym same) pb) in
+      let of_a : told len a ≡ xs = ap (told len) is_a ∙ xs_is in
+      let of_b : told len b ≡ ys = ap (λ n. told n b) same ∙ ap (told other) is_b ∙ ys_is in
+      let all = within_told len b a fits_b fits_a qb qa in (
+        λ e k is. subst (λ s. IsIn s k) of_b (all.0 (tells.0 e) k (subst (λ s. IsIn s k) (sym of_a) is)),
+        λ h. tells.1 (all.1 (λ k is. subst (λ s. IsIn s k) (sym of_b) (h k (subst (λ s. IsIn s k) of_a is)))),
+      )
+
+  module _ (c : List ℕ) where
+    pub merged_packed : IsPacked len va → IsPacked other vb → a ≡ va → b ≡ vb → AreJoined a b c → IsPacked len c
+    merged_packed pa pb is_a is_b joins =
+        packed_joined a b c joins len (subst (IsPacked len) (sym is_a) pa) (subst (IsPacked len) (sym is_b) (subst (λ n. IsPacked n vb) (sym same) pb))
+
+    module _ (xs ys : List Bool) (pa : IsPacked len va) (pb : IsPacked other vb) (is_a : a ≡ va) (is_b : b ≡ vb) (joins : AreJoined a b c) (xs_is : told len va ≡ xs) (ys_is : told other vb ≡ ys) where
+      qa : IsPacked len a
+      qa = subst (IsPacked len) (sym is_a) pa
+
+      qb : IsPacked len b
+      qb = subst (IsPacked len) (sym is_b) (subst (λ n. IsPacked n vb) (sym same) pb)
+
+      of_a : told len a ≡ xs
+      of_a = ap (told len) is_a ∙ xs_is
+
+      of_b : told len b ≡ ys
+      of_b = ap (λ n. told n b) same ∙ ap (told other) is_b ∙ ys_is
+
+      pub merged_in : (k : ℕ) → IsIn (told len c) k ↔ (IsIn xs k ⊎ IsIn ys k)
+      merged_in k = subst (λ s. IsIn (told len c) k ↔ (IsIn s k ⊎ IsIn ys k)) of_a (subst (λ s. IsIn (told len c) k ↔ (IsIn (told len a) k ⊎ IsIn s k)) of_b (in_joined a b c joins len qa qb k))
+
+      pub merged_grew : AreWords a → AreWords b → (result : Bool) → (IsTrue result ↔ Differ a c) → IsTrue result ↔ ((k : ℕ) × IsIn ys k × ¬ IsIn xs k)
+      merged_grew fits_a fits_b result tells =
+          let grown = grown_told len a b fits_a fits_b qa qb c joins in (
+            λ e. let some = grown.0 (tells.0 e) in (some.0, subst (λ s. IsIn s some.0) of_b some.1, λ is. some.2 (subst (λ s. IsIn s some.0) (sym of_a) is)),
+            λ some. tells.1 (grown.1 (some.0, subst (λ s. IsIn s some.0) (sym of_b) some.1, λ is. some.2 (subst (λ s. IsIn s some.0) of_a is))),
+          )

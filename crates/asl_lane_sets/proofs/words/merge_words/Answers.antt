@@ -1,0 +1,31 @@
+use Rattle.std.proofs.Common.{◌*◌, ◌∙◌, refl, sym, arith}
+use Rattle.asl_lane_sets.proofs.Blocks.{begin, begin_same, more, grew_now, grew_before, joined_all}
+use Rattle.asl_lane_sets.proofs.words.merge_words.Goals as goal
+use Rattle.asl_lane_sets.proofs.words.merge_words.Goals.{then-merge_lanes, else-merge_lanes}
+
+pub loop-block-init : goal.loop-block-init
+loop-block-init c = record { joined = begin c.args.into.now c.args.from.now; words = λ k. (c.type_inv.into k).fits; grew = begin_same c.args.into.now }
+
+pub loop-block-preserved : goal.loop-block-preserved
+loop-block-preserved c = record {
+  joined = more c.args.into.now c.args.from.now c.loop-block.into c.merge_lanes.new.into c.loop-block.block (c.loop-block.block * 4) refl c.loop-block.invariant.joined c.merge_lanes.ensures.joined;
+  words = c.loop-block.invariant.words;
+  grew = elim c.if-merge_lanes.branch [
+    | then-merge_lanes w ↦
+        let d = grew_now c.args.into.now c.args.from.now c.loop-block.into c.merge_lanes.new.into c.loop-block.block (c.loop-block.block * 4) refl c.loop-block.invariant.joined c.merge_lanes.ensures.joined
+        (c.merge_lanes.ensures.grew.0 w.if-merge_lanes.true) in
+        (λ e. d, λ e. w.grew-is)
+    | else-merge_lanes w ↦
+        let same = grew_before c.args.into.now c.loop-block.into c.merge_lanes.new.into (λ d. let told = c.merge_lanes.ensures.grew.1 d in let isnt = w.if-merge_lanes.false in cc) in
+        (λ e. same.0 (c.loop-block.invariant.grew.0 (sym w.grew-is ∙ e)), λ d. w.grew-is ∙ c.loop-block.invariant.grew.1 (same.1 d))
+  ];
+}
+
+pub returns-clause-joined : goal.returns-clause-joined
+returns-clause-joined c = let end = c.loop-block-test.false in joined_all _ _ _ c.loop-block.block c.requires.same_length c.requires.blocks (omega (arith, end)) c.loop-block.invariant.joined
+
+pub returns-clause-grew : goal.returns-clause-grew
+returns-clause-grew c = c.loop-block.invariant.grew
+
+pub returns-clause-words : goal.returns-clause-words
+returns-clause-words c = (c.loop-block.invariant.words, λ k. (c.type_inv.from k).fits)

@@ -1,0 +1,3 @@
+pub mod NumberSet
+-- machinery of the proofs
+pub mod Packed

@@ -1,0 +1,109 @@
+//! A set of numbers below its length.
+ghost use Rattle.std.specs.Prelude.{◌≡◌, ◌<◌, ◌≤◌, ◌⊎◌, ◌↔◌, ◌++◌, ◌+◌, ◌^◌, ℕ, IsTrue, length, false, replicate, IfOk, OnOk};
+ghost use Rattle.std.specs.List.{Contains};
+ghost use Rattle.asl_lane_sets.specs.NumberSet.{IsIn, IsRising, members_of};
+ghost use Rattle.asl_lane_sets.specs.Packed.{ones};
+
+use crate::words::{BLOCK, LANES, WORD, are_within, merge_words};
+use std::alloc::{AllocError, Global};
+use std::marker::Model;
+
+/// A set of numbers below its length, which is given when it is made and stays.
+///
+/// Contracts see it as the list that says of each number below the length whether it is one of the set.
+#[derive(Drop)]
+pub struct Bits {
+    len: usize,
+    words: Vec<u64>,
+}
+
+impl Model for Bits {
+    ghost use Rattle.std.specs.Prelude.{List, Bool};
+    ghost use Rattle.asl_lane_sets.specs.Packed.{told, IsPacked};
+
+    ghost Value = { List Bool };
+
+    ghost view = { λ b. told b.len b.words.items };
+
+    ghost invariant = { λ b. IsPacked b.len b.words.items };
+}
+
+impl Bits {
+    /// The empty set of numbers below `len`. A length of 0 takes no memory.
+    pub fn with_len(alloc: Global, len: usize) -> Result<Bits, AllocError>
+        ensures { IfOk result (λ set. set ≡ replicate len false) }
+    {
+        let words = vec![in alloc; 0; len.div_ceil(BLOCK) * LANES]?;
+        Ok(Bits { len, words })
+    }
+
+    /// The length, below which the set's numbers are.
+    pub fn len(&self) -> usize
+        ensures { result ≡ length self.now }
+    {
+        self.len
+    }
+
+    /// Adds a number.
+    pub fn add(&mut self, number: usize)
+        requires { number < length self.old }
+        ensures length { length self.new ≡ length self.old }
+        ensures numbers { (k : ℕ) → IsIn self.new k ↔ (IsIn self.old k ⊎ (k ≡ number)) }
+    {
+        self.words[number / WORD] |= 1 << (number % WORD);
+    }
+
+    /// Whether a number is one of the set.
+    pub fn has(&self, number: usize) -> bool
+        requires { number < length self.now }
+        ensures { IsTrue result ↔ IsIn self.now number }
+    {
+        self.words[number / WORD] >> (number % WORD) & 1 == 1
+    }
+
+    /// Adds the numbers of another set, and tells whether there were new ones among them.
+    pub fn merge(&mut self, other: &Bits) -> bool
+        requires { length self.old ≡ length other.now }
+        ensures length { length self.new ≡ length self.old }
+        ensures numbers { (k : ℕ) → IsIn self.new k ↔ (IsIn self.old k ⊎ IsIn other.now k) }
+        ensures grew { IsTrue result ↔ ((k : ℕ) × IsIn other.now k × ¬ IsIn self.old k) }
+    {
+        merge_words(&mut self.words, &other.words)
+    }
+
+    /// Whether each number of the set is one of another.
+    pub fn within(&self, other: &Bits) -> bool
+        requires { length self.now ≡ length other.now }
+        ensures { IsTrue result ↔ ((k : ℕ) → IsIn self.now k → IsIn other.now k) }
+    {
+        are_within(&self.words, &other.words)
+    }
+
+    /// The numbers of the set, rising.
+    pub fn members(&self, alloc: Global) -> Result<Vec<usize>, AllocError>
+        ensures numbers { IfOk result (λ members. (k : ℕ) → Contains members.items k ↔ IsIn self.now k) }
+        ensures rising { IfOk result (λ members. IsRising members.items) }
+        ensures listed { IfOk result (λ members. members.items ≡ members_of self.now) }
+    {
+        let mut members = Vec::new(alloc);
+        for (place, word) in self.words.iter().enumerate() {
+            if *word != 0 {
+                add_members(*word, place * WORD, &mut members)?;
+            }
+        }
+        Ok(members)
+    }
+}
+
+/// Adds the numbers that the bits of a word stand for, where the lowest bit stands for `first`.
+fn add_members(word: u64, first: usize, members: &mut Vec<usize>) -> Result<(), AllocError>
+    requires { first + 64 ≤ 2 ^ 64 }
+    ensures { OnOk result (members.new.items ≡ members.old.items ++ ones word first 64) }
+{
+    for bit in 0..WORD {
+        if word >> bit & 1 == 1 {
+            members.push(first + bit)?;
+        }
+    }
+    Ok(())
+}

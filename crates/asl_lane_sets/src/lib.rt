@@ -1,0 +1,7 @@
+//! Sets of numbers below a length, kept as bits that are merged and compared by lanes.
+#![tactic(auto)]
+
+mod bits;
+mod words;
+
+pub use bits::Bits;

@@ -1,0 +1,75 @@
+//! Words of 64 bits, four at a time.
+ghost use Rattle.std.specs.Prelude.{◌≡◌, ◌≢◌, ◌<◌, ◌≤◌, ◌+◌, ◌%◌, ◌↔◌, ℕ, IsTrue, length, slice_index, bit_or};
+ghost use Rattle.asl_lane_sets.specs.Packed.{AreWords, AreJoined, Differ, JoinsAt};
+
+use std::simd::prelude::*;
+
+/// The bits of a word.
+pub const WORD: usize = 64;
+
+/// The words that are worked on at a time.
+pub const LANES: usize = 4;
+
+/// The bits of so many words.
+pub const BLOCK: usize = 256;
+
+/// Joins each word of `from` to the word at its place in `into`, and tells whether one changed.
+pub fn merge_words(into: &mut [u64], from: &[u64]) -> bool
+    requires same_length { length into.old ≡ length from.now }
+    requires blocks { length into.old % 4 ≡ 0 }
+    ensures joined { AreJoined into.old from.now into.new }
+    ensures grew { IsTrue result ↔ Differ into.old into.new }
+    ensures words { AreWords into.old × AreWords from.now }
+{
+    let mut grew = false;
+    for block in 0..into.len() / LANES {
+        if merge_lanes(into, from, block * LANES) {
+            grew = true;
+        }
+    }
+    grew
+}
+
+/// Whether each bit of `low` is one of `high`.
+pub fn are_within(low: &[u64], high: &[u64]) -> bool
+    requires same_length { length low.now ≡ length high.now }
+    requires blocks { length low.now % 4 ≡ 0 }
+    ensures within { IsTrue result ↔ AreJoined high.now low.now high.now }
+    ensures words { AreWords low.now × AreWords high.now }
+{
+    for block in 0..low.len() / LANES {
+        let at = block * LANES;
+        let above = u64x4::from_slice(&high[at..]);
+        if differ(above, joined(above, u64x4::from_slice(&low[at..]))) {
+            return false;
+        }
+    }
+    true
+}
+
+/// Joins the words of `from` from a place on to those of `into`, and tells whether one changed.
+fn merge_lanes(into: &mut [u64], from: &[u64], at: usize) -> bool
+    requires into_long { at + 4 ≤ length into.old }
+    requires from_long { at + 4 ≤ length from.now }
+    ensures joined { JoinsAt at into.old from.now into.new }
+    ensures grew { IsTrue result ↔ Differ into.old into.new }
+{
+    let before = u64x4::from_slice(&into[at..]);
+    let after = joined(before, u64x4::from_slice(&from[at..]));
+    after.copy_to_slice(&mut into[at..]);
+    differ(before, after)
+}
+
+/// The bits of either.
+fn joined(a: u64x4, b: u64x4) -> u64x4
+    ensures { AreJoined a b result }
+{
+    a | b
+}
+
+/// Whether the lanes differ somewhere.
+fn differ(a: u64x4, b: u64x4) -> bool
+    ensures { IsTrue result ↔ Differ a b }
+{
+    a.simd_ne(b).to_bitmask() != 0
+}
