@@ -1,5 +1,5 @@
 -- The test for a grant tells whether the request can be granted, and a request that cannot has a witness.
-use Rattle.std.proofs.Common.{◌≡◌, ◌≢◌, ℕ, Bool, true, false, ◌||◌, ◌&&◌, ◌==◌, List, [], ◌∷◌, None, Some, unwrap_or, refl, ap, sym, subst, ◌∙◌, inl, inr}
+use Rattle.std.proofs.Common.{◌≡◌, ◌≢◌, ℕ, Bool, true, false, ◌||◌, ◌&&◌, List, [], ◌∷◌, None, Some, unwrap_or, refl, ap, sym, subst, ◌∙◌, inl, inr}
 use Rattle.std.specs.Prelude.{is_some}
 use Rattle.std.specs.FinMap as map
 use Rattle.std.specs.List.{list_all, list_any}
@@ -10,12 +10,10 @@ use Rattle.asl_mode_lanes.specs.declared.mode.Mode.TheVariants.{NL}
 use Rattle.asl_mode_lanes.specs.Mode.{is_compatible, AreCompatible}
 use Rattle.asl_mode_lanes.proofs.ModeLaws.{compatible-NL}
 use Rattle.asl_lock_forest.specs.declared.node.Node.{Node}
-use Rattle.asl_lock_forest.specs.declared.entries.Entry.{Entry}
 use Rattle.asl_lock_forest.specs.Keys.{Key, key, key_cmp}
 use Rattle.asl_lock_forest.specs.Holding.{Holding, held, Request, asked, CanGrant, goes_with, can_grant}
 use Rattle.asl_lock_forest.specs.Request.{IsRefused}
-use Rattle.asl_lock_forest.specs.Entries.{key_of, holding_of}
-use Rattle.asl_lock_forest.proofs.Laws.{tell_keys, get_insert_other}
+use Rattle.asl_lock_forest.proofs.Laws.{tell_keys}
 
 -- who is in the way keeps the request from being granted
 pub refused_cannot : (h : Holding) (t : ℕ) (request : Request) → IsRefused h t request → CanGrant h t request → ⊥
@@ -101,20 +99,3 @@ module _ (h : Holding) (t : ℕ) (request : Request) where
         | true ↦ λ e. grants (can_grant-tells e)
         | false ↦ λ e. refl
       ] refl
-
-found_goes_with : (h : Holding) (t : ℕ) (request : Request) (es : List Entry) → list_all (λ e. goes_with h t request (key_of e)) es ≡ true →
-    (u : ℕ) (n : Node) → u ≢ t → map.get (holding_of es) (key u n) ≢ None → AreCompatible (asked request n) (held h u n)
-found_goes_with h t request [] all u n apart some = absurd (some (map.get-empty key_cmp (key u n)))
-found_goes_with h t request (e ∷ es) all u n apart some = elim (tell_keys (key u n) (key_of e)) [
-  | inl here ↦ subst (λ k. k.thread ≢ t → AreCompatible (asked request k.node) (held h k.thread k.node)) (sym here.1) (goes_there h t request (key_of e) (and_parts _ _ all).0) apart
-  | inr there ↦ found_goes_with h t request es (and_parts (goes_with h t request (key_of e)) _ all).1 u n apart
-      (λ none. some (get_insert_other (holding_of es) (key_of e) e.mode (key u n) there.1 ∙ none))
-]
-
--- where the test holds of all entries, the request can be granted
-pub granted_by : (es : List Entry) (t : ℕ) (request : Request) → list_all (λ e. goes_with (holding_of es) t request (key_of e)) es ≡ true → CanGrant (holding_of es) t request
-granted_by es t request all u n apart =
-    elim (map.get (holding_of es) (key u n)) as (λ o. map.get (holding_of es) (key u n) ≡ o → AreCompatible (asked request n) (held (holding_of es) u n)) [
-      | None ↦ λ none. goes_unheld (holding_of es) t request u n none
-      | Some m ↦ λ some. found_goes_with (holding_of es) t request es all u n apart (λ none. let no = sym some ∙ none in cc)
-    ] refl

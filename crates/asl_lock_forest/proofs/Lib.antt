@@ -5,5 +5,7 @@ pub mod NinePairs
 pub mod KeyLaws
 pub mod Swaps
 pub mod Grantable
-mod EntryLaws
-mod ForestLaws
+mod LeafLaws
+mod ListLaws
+mod RowsLaws
+mod SoundLaws

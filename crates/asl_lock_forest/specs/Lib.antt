@@ -4,4 +4,7 @@ pub mod Holding
 pub mod Request
 pub mod Held
 -- Machinery of the proofs, not of the promise:
-pub mod Entries
+pub mod Lists
+pub mod Leaves
+pub mod Rows
+pub mod Sound

@@ -1,5 +1,5 @@
 //! The forest: who holds which node in which mode, with all that is asked granted at once or nothing of it.
-ghost use Rattle.std.specs.Prelude.{◌≡◌, ◌≢◌, ℕ, ◌↔◌, ◌<◌, ◌≤◌, false, IsTrue, IfOk, OnOk, OnErr, if◌then◌else◌};
+ghost use Rattle.std.specs.Prelude.{◌≡◌, ◌≢◌, ℕ, ◌↔◌, ◌<◌, ◌≤◌, false, IsTrue, IfOk, OnOk, OnErr, if◌then◌else◌, map, length, replicate, [], slice_set, List, slice_index_or};
 ghost use Rattle.asl_mode_lanes.specs.Mode.{is_at_most};
 ghost use Rattle.asl_lock_forest.specs.Node.{IsThere};
 ghost use Rattle.asl_lock_forest.specs.Holding.{
@@ -21,7 +21,7 @@ ghost use Rattle.asl_lock_forest.specs.Request.{
 };
 
 use crate::Node;
-use crate::entries::{Entry, add_all, can_grant, mode_in, remove_all};
+use crate::rows::Rows;
 use asl_code::{Cell, Effect};
 use asl_mode_lanes::Mode;
 use std::alloc::{AllocError, Global};
@@ -35,20 +35,23 @@ use std::marker::Model;
 pub struct Forest {
     classes: u32,
     threads: u32,
-    entries: Vec<Entry>,
+    rows: Rows,
+    held: Vec<Vec<(Node, Mode)>>,
 }
 
 impl Model for Forest {
-    ghost use Rattle.asl_lock_forest.specs.Held.{Held, coded_held, IsForest};
-    ghost use Rattle.asl_lock_forest.specs.Entries.{holding_of};
+    ghost use Rattle.asl_lock_forest.specs.Held.{Held, coded_held};
+    ghost use Rattle.std.specs.Prelude.{map};
+    ghost use Rattle.asl_lock_forest.specs.Lists.{holding_of};
+    ghost use Rattle.asl_lock_forest.specs.Sound.{IsSound};
 
     ghost Value = { Held };
 
     ghost coded = { coded_held };
 
-    ghost view = { λ f. record { classes = f.classes; threads = f.threads; holding = holding_of f.entries.items } };
+    ghost view = { λ f. record { classes = f.classes; threads = f.threads; holding = holding_of (map (λ v. v.items) f.held.items) } };
 
-    ghost invariant = { λ f. IsForest (record { classes = f.classes; threads = f.threads; holding = holding_of f.entries.items }) };
+    ghost invariant = { λ f. IsSound f.classes f.threads f.rows (map (λ v. v.items) f.held.items) };
 }
 
 impl Forest {
@@ -67,7 +70,8 @@ impl Forest {
         Ok(Forest {
             classes,
             threads,
-            entries: Vec::new(alloc),
+            rows: Rows::new(alloc, classes)?,
+            held: no_lists(alloc, threads)?,
         })
     }
 
@@ -78,7 +82,8 @@ impl Forest {
         Ok(Forest {
             classes: self.classes,
             threads: self.threads,
-            entries: self.entries.as_slice().to_vec(alloc)?,
+            rows: self.rows.try_copy(alloc)?,
+            held: same_lists(alloc, self.held.as_slice())?,
         })
     }
 
@@ -106,10 +111,12 @@ impl Forest {
         ensures others { (other : ℕ) → other ≢ thread → HoldsNothing self.old.holding other → HoldsNothing self.new.holding other }
         ensures lawful { IsForest self.new }
     {
-        if !can_grant(self.entries.as_slice(), thread, request) {
+        self.rows.leaves.reserve(request.len())?;
+        if !self.rows.can_grant(thread, request) {
             return Ok(false);
         }
-        add_all(&mut self.entries, alloc, thread, request)?;
+        note(&mut self.held, thread, request)?;
+        self.rows.grant(thread, request);
         Ok(true)
     }
 
@@ -123,7 +130,9 @@ impl Forest {
         ensures threads { self.new.threads ≡ self.old.threads }
         ensures lawful { IsForest self.new }
     {
-        remove_all(&mut self.entries, thread);
+        self.rows
+            .release(thread, self.held[thread as usize].as_slice());
+        forget(&mut self.held, thread);
     }
 
     /// The mode in which the thread holds the node.
@@ -133,7 +142,7 @@ impl Forest {
         ensures value { result ≡ held self.now.holding thread node }
         ensures lawful { IsForest self.now }
     {
-        mode_in(self.entries.as_slice(), thread, node)
+        self.rows.mode(thread, node)
     }
 
     /// Whether the thread covers the cell, of an object of the class, for the effect: by what it holds at the
@@ -144,10 +153,19 @@ impl Forest {
         ensures covered { IsTrue result ↔ Covers self.now.holding thread cell class effect }
         ensures lawful { IsForest self.now }
     {
-        let entries = self.entries.as_slice();
-        allows(mode_in(entries, thread, Node::Leaf(cell, class)), effect)
-            || allows(mode_in(entries, thread, Node::Class(class)), effect)
-            || allows(mode_in(entries, thread, Node::Root), effect)
+        self.reaches(thread, Node::Root, effect)
+            || self.reaches(thread, Node::Class(class), effect)
+            || self.reaches(thread, Node::Leaf(cell, class), effect)
+    }
+
+    /// Whether what the thread holds at the node covers what is below it for the effect.
+    fn reaches(&self, thread: u32, node: Node, effect: Effect) -> bool
+        requires thread_there { thread < self.now.threads }
+        requires class_there { IsThere self.now.classes node }
+        ensures told { result ≡ is_at_most (covering_mode effect) (held self.now.holding thread node) }
+        ensures lawful { IsForest self.now }
+    {
+        allows(self.mode(thread, node), effect)
     }
 }
 
@@ -159,4 +177,51 @@ fn allows(mode: Mode, effect: Effect) -> bool
         Effect::Read => matches!(mode, Mode::S | Mode::SIX | Mode::X),
         Effect::Write => matches!(mode, Mode::X),
     }
+}
+
+/// A list for each thread, with nothing in it.
+fn no_lists(alloc: Global, threads: u32) -> Result<Vec<Vec<(Node, Mode)>>, AllocError>
+    ensures { IfOk result (λ held. map (λ v. v.items) held.items ≡ replicate threads []) }
+{
+    let mut held = Vec::with_capacity(alloc, threads as usize)?;
+    for made in 0..threads {
+        held.push(Vec::new(alloc))?;
+    }
+    Ok(held)
+}
+
+/// The same lists.
+fn same_lists(
+    alloc: Global,
+    held: &[Vec<(Node, Mode)>],
+) -> Result<Vec<Vec<(Node, Mode)>>, AllocError>
+    ensures { IfOk result (λ copy. map (λ v. v.items) copy.items ≡ map (λ v. v.items) held.now) }
+{
+    let mut copy = Vec::with_capacity(alloc, held.len())?;
+    for own in held {
+        copy.push(own.as_slice().to_vec(alloc)?)?;
+    }
+    Ok(copy)
+}
+
+/// Writes what the thread asks into its list, which has nothing in it.
+fn note(
+    held: &mut Vec<Vec<(Node, Mode)>>,
+    thread: u32,
+    request: &[(Node, Mode)],
+) -> Result<(), AllocError>
+    requires there { thread < length held.old.items }
+    requires empty { slice_index_or (map (λ v. v.items) held.old.items) thread [] ≡ [] }
+    ensures ok { OnOk result (map (λ v. v.items) held.new.items ≡ slice_set (map (λ v. v.items) held.old.items) thread request.now) }
+    ensures err { OnErr result (map (λ v. v.items) held.new.items ≡ map (λ v. v.items) held.old.items) }
+{
+    held[thread as usize].extend_from_slice(request)
+}
+
+/// Empties the thread's list, and keeps its room.
+fn forget(held: &mut Vec<Vec<(Node, Mode)>>, thread: u32)
+    requires { thread < length held.old.items }
+    ensures { map (λ v. v.items) held.new.items ≡ slice_set (map (λ v. v.items) held.old.items) thread [] }
+{
+    held[thread as usize].clear();
 }

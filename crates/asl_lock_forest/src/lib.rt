@@ -1,10 +1,11 @@
 //! Multiple-granularity locks: a tree of nodes, and who holds which mode at which node.
 #![tactic(auto)]
 
-mod entries;
 mod forest;
 mod holding_laws;
+mod leaves;
 mod node;
+mod rows;
 
 pub use forest::Forest;
 pub use holding_laws::{

@@ -5,6 +5,7 @@ use Rattle.asl_mode_lanes.specs.declared.mode.Mode.{Mode}
 use Rattle.asl_mode_lanes.specs.declared.mode.Mode.TheVariants.{NL, IS, IX, S, SIX, X}
 use Rattle.asl_mode_lanes.specs.Mode.{is_at_most, AtMost, is_compatible, AreCompatible, IsJoin, join_of, code_of, codes_clash}
 use Rattle.asl_mode_lanes.specs.Row.{mode_of}
+use Rattle.asl_mode_lanes.specs.Clash.{against, clashes}
 
 -- a test holds of each mode
 abbrev each : (Mode → Bool) → Bool
@@ -212,3 +213,7 @@ code_of-join_of a b = eqb-true _ _ (each_pair (λ x y. code_of (join_of x y) == 
 pub is_compatible-codes_clash : (a b : Mode) → is_compatible a b ≡ not (codes_clash (code_of a) (code_of b))
 is_compatible-codes_clash a b =
     same_test _ _ (each_pair (λ x y. both_or_none (is_compatible x y) (not (codes_clash (code_of x) (code_of y)))) refl a b)
+
+-- a code has a bit against a mode exactly where its own mode does not go with it
+pub clashes-is_compatible : (a want : Mode) → clashes (against want) (code_of a) ≡ not (is_compatible a want)
+clashes-is_compatible a want = same_test _ _ (each_pair (λ x y. both_or_none (clashes (against y) (code_of x)) (not (is_compatible x y))) refl a want)

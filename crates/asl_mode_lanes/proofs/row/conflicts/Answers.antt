@@ -1,24 +1,43 @@
--- One place more: the mask gains its bit exactly where the thread there is in the way.
-use Rattle.std.proofs.Common.{◌↔◌, ℕ, ◌+◌, ◌<◌, IsBitSet, arith, subst, sym}
-use Rattle.asl_mode_lanes.specs.Row.{IsConflict}
-use Rattle.asl_mode_lanes.proofs.Masks.{mask_more-set, mask_more-same}
+use Rattle.std.proofs.Common.{◌≡◌, ◌+◌, ◌*◌, not, arith, ap, ◌∙◌, take, map}
+use Rattle.std.proofs.lemmas.Bool.{ne_eqb, eq-eqb}
+use Rattle.std.specs.Simd.Lanes.{mask_l}
+use Rattle.asl_mode_lanes.specs.Clash.{clashes}
+use Rattle.asl_mode_lanes.proofs.Masks.{chunk_step, tail_set, tail_same}
+use Rattle.asl_mode_lanes.proofs.RowCodes.{in_the_way}
 use Rattle.asl_mode_lanes.proofs.row.conflicts.Goals as goal
-use Rattle.asl_mode_lanes.proofs.row.conflicts.Goals.{then-t-own+then-excludes, else-t-own, else-t-own-via-then-t-own+else-excludes, else-t-own-via-else-t-own}
+use Rattle.asl_mode_lanes.proofs.row.conflicts.Goals.{then-row-t-ne0, else-row-t-ne0}
+
+pub overflow_add-mask : goal.overflow_add-mask
+overflow_add-mask c = record {
+  fits = (chunk_step (clashes c.clashing_bits-bits.result) c.args.row.now (c.loop-k.k * 16) 16 c.loop-k.mask c.clashing_lanes.result
+      (omega arith) (omega arith) c.loop-k.invariant c.clashing_lanes.ensures).1;
+}
+
+pub loop-k-preserved : goal.loop-k-preserved
+loop-k-preserved c =
+    let next : c.loop-k.k * 16 + 16 ≡ (c.loop-k.k + 1) * 16 = omega arith in
+    (chunk_step (clashes c.clashing_bits-bits.result) c.args.row.now (c.loop-k.k * 16) 16 c.loop-k.mask c.clashing_lanes.result
+    (omega arith) (omega arith) c.loop-k.invariant c.clashing_lanes.ensures).0
+    ∙ ap (λ n. mask_l (map (clashes c.clashing_bits-bits.result) (take n c.args.row.now))) next
+
+pub overflow_add-mask-then-row-t-ne0 : goal.overflow_add-mask-then-row-t-ne0
+overflow_add-mask-then-row-t-ne0 c = record {
+  fits = (tail_set (clashes c.clashing_bits-bits.result) c.args.row.now c.loop-t.t c.loop-t.mask (omega arith) (omega arith) c.loop-t.invariant
+      (ap not (ne_eqb _ 0 c.if-row-t-ne0.true))).1;
+}
 
 pub loop-t-preserved : goal.loop-t-preserved
-loop-t-preserved c =
-    let Is : ℕ → Type 0 = λ k. IsConflict c.args.row.now c.args.own c.args.want k in
-    let Told : ℕ → Type 0 = λ mask. (k : ℕ) → IsBitSet mask k ↔ (Is k × (k < c.loop-t.t + 1)) in
-    elim c.if-t-own.branch [
-      | then-t-own+then-excludes w ↦
-          subst Told (sym w.mask-is)
-          (mask_more-set Is c.loop-t.mask c.loop-t.t (omega arith) c.loop-t.invariant
-          (record { there = omega arith; other = w.if-t-own.true; excludes = w.excludes.ensures.0 w.if-excludes.true }))
-      | else-t-own w ↦
-          subst Told (sym w.mask-is)
-          (mask_more-same Is c.loop-t.mask c.loop-t.t c.loop-t.invariant
-          (λ is. elim w.else-t-own.branch [
-            | else-t-own-via-then-t-own+else-excludes v ↦ let told = v.excludes.ensures.1 is.excludes in let no = v.if-excludes.false in cc
-            | else-t-own-via-else-t-own v ↦ is.other v.if-t-own.false
-          ]))
-    ]
+loop-t-preserved c = elim c.if-row-t-ne0.branch [
+  | then-row-t-ne0 w ↦
+      w.mask-is
+      ∙ (tail_set (clashes c.clashing_bits-bits.result) c.args.row.now c.loop-t.t c.loop-t.mask (omega arith) (omega arith) c.loop-t.invariant
+      (ap not (ne_eqb _ 0 w.if-row-t-ne0.true))).0
+  | else-row-t-ne0 w ↦
+      w.mask-is
+      ∙ tail_same (clashes c.clashing_bits-bits.result) c.args.row.now c.loop-t.t c.loop-t.mask (omega arith) c.loop-t.invariant
+      (ap not (eq-eqb _ 0 w.if-row-t-ne0.false))
+]
+
+pub returns : goal.returns
+returns c = in_the_way c.args.row.now c.args.own c.args.want c.loop-t.t c.loop-t.mask c.clashing_bits-bits.result c.without.result
+    c.requires.codes c.clashing_bits-bits.ensures (omega arith) c.loop-t.invariant c.without.ensures

@@ -1,21 +1,21 @@
-use Rattle.std.proofs.Common.{length, arith, inl, inr, ◌∙◌}
-use Rattle.std.proofs.lemmas.List.{get_or-set_other}
-use Rattle.std.proofs.lemmas.List.Elements.{All-set}
-use Rattle.std.proofs.lemmas.Bool.{cases_lt}
-use Rattle.asl_mode_lanes.specs.Row.{IsCode}
-use Rattle.asl_mode_lanes.proofs.Rows.{joined_more, joined_past, IsCode-code_of}
+use Rattle.std.proofs.Common.{◌≡◌, ◌+◌, ◌*◌, arith, subst}
+use Rattle.asl_mode_lanes.proofs.Rows.{Joined, chunk_joined, code_joined}
+use Rattle.asl_mode_lanes.proofs.RowCodes.{joined_codes, joined_modes}
 use Rattle.asl_mode_lanes.proofs.row.join_rows.Goals as goal
 
+pub loop-k-preserved : goal.loop-k-preserved
+loop-k-preserved c =
+    let next : c.loop-k.k * 16 + 16 ≡ (c.loop-k.k + 1) * 16 = omega arith in
+    subst (Joined c.args.into.now _ c.args.from.now) next
+    (chunk_joined c.args.into.now c.loop-k.into _ c.args.from.now (c.loop-k.k * 16) c.loop-k.invariant c.join_lanes.ensures.joined c.join_lanes.ensures.len)
+
 pub loop-t-preserved : goal.loop-t-preserved
-loop-t-preserved c = record {
-  codes = All-set IsCode c.loop-t.into c.loop-t.t c.join_codes.result (IsCode-code_of _ _ c.join_codes.ensures) c.loop-t.invariant.codes;
-  joined = joined_more c.args.into.now c.loop-t.into c.args.from.now c.loop-t.t c.join_codes.result (omega arith)
-      c.loop-t.invariant.joined (c.loop-t.invariant.ahead c.loop-t.t (omega arith)) c.join_codes.ensures;
-  ahead = λ k past. get_or-set_other c.loop-t.into c.loop-t.t k c.join_codes.result 0 (λ same. absurd (omega arith)) ∙ c.loop-t.invariant.ahead k (omega arith);
-}
+loop-t-preserved c = code_joined c.args.into.now c.loop-t.into c.args.from.now c.loop-t.t c.loop-t.invariant (omega arith)
+
+pub returns-clause-codes : goal.returns-clause-codes
+returns-clause-codes c k d there =
+    joined_codes c.args.into.now c.loop-t.into c.args.from.now c.loop-t.t c.loop-t.invariant (omega arith) c.requires.same_length c.requires.into_codes c.requires.from_codes k d there
 
 pub returns-clause-joined : goal.returns-clause-joined
-returns-clause-joined c k = elim (cases_lt k (length c.args.into.now)) [
-  | inl below ↦ c.loop-t.invariant.joined k (omega arith)
-  | inr past ↦ joined_past c.args.into.now c.loop-t.into c.args.from.now k (omega arith) past (omega arith)
-]
+returns-clause-joined c t =
+    joined_modes c.args.into.now c.loop-t.into c.args.from.now c.loop-t.t c.loop-t.invariant (omega arith) c.requires.same_length c.requires.into_codes c.requires.from_codes t

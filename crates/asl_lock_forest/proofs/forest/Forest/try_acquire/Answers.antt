@@ -1,56 +1,68 @@
-use Rattle.std.proofs.Common.{◌≡◌, ◌<◌, ap, sym, refl, ◌∙◌, subst, true}
-use Rattle.std.specs.List.{list_all}
-use Rattle.asl_lock_forest.specs.Held.{Held, IsForest}
-use Rattle.asl_lock_forest.specs.Entries.{holding_of, key_of}
-use Rattle.asl_lock_forest.specs.Holding.{HoldsNothing, grant, goes_with}
+use Rattle.std.proofs.Common.{◌≡◌, ◌<◌, map, ap, sym, subst, refl, ◌∙◌, arith}
+use Rattle.asl_lock_forest.specs.Held.{Held}
+use Rattle.asl_lock_forest.specs.Holding.{HoldsNothing, CanGrant, grant}
 use Rattle.asl_lock_forest.specs.Request.{IsRefused, IsOfClasses}
+use Rattle.asl_lock_forest.specs.Lists.{holding_of}
+use Rattle.asl_lock_forest.specs.Sound.{IsSound}
 use Rattle.asl_lock_forest.proofs.Laws.{nothing_kept_grant}
-use Rattle.asl_lock_forest.proofs.EntryLaws.{entries_granted}
 use Rattle.asl_lock_forest.proofs.Grantable.{refused_cannot}
-use Rattle.asl_lock_forest.proofs.ForestLaws.{forest_grant, refused_at, granted_at, over}
+use Rattle.asl_lock_forest.proofs.ListLaws.{lists_granted, unnamed_list}
+use Rattle.asl_lock_forest.proofs.SoundLaws.{sound_reserved, sound_grant, free_can, blocked_refused, nothing_named}
 use Rattle.asl_lock_forest.proofs.forest.Forest.try_acquire.Goals as goal
 
-refused : (c : goal.Then-not-can_grant) → IsRefused c.args.self.now.holding c.args.thread c.args.request.now
-refused c =
-    refused_at c.args.self.now.holding c.args.thread c.args.request.now c.self.inside.entries.items c.as_slice.result.now
-    c.as_slice.ensures.value (ap (λ (f : Held). f.holding) c.self.view_is) (sym c.can_grant.ensures ∙ c.if-not-can_grant.true)
+pub invariant_of-self : goal.invariant_of-self
+invariant_of-self c = sound_reserved c.self.invariant c.reserve.ensures.kept c.reserve.ensures.same
 
-pub returns-then-not-can_grant-clause-granted : goal.returns-then-not-can_grant-clause-granted
-returns-then-not-can_grant-clause-granted c = (λ h. cc, λ can. absurd (refused_cannot _ _ _ (refused c) can))
+pub invariant_of-self-then-not-can_grant : goal.invariant_of-self-then-not-can_grant
+invariant_of-self-then-not-can_grant c = sound_reserved c.self.invariant c.reserve.ensures.kept c.reserve.ensures.same
+
+pub can_grant-requires-clause-kept : goal.can_grant-requires-clause-kept
+can_grant-requires-clause-kept c = (sound_reserved c.self.invariant c.reserve.ensures.kept c.reserve.ensures.same).kept
+
+pub grant-requires-clause-kept : goal.grant-requires-clause-kept
+grant-requires-clause-kept c = (sound_reserved c.self.invariant c.reserve.ensures.kept c.reserve.ensures.same).kept
+
+pub note-requires-clause-empty : goal.note-requires-clause-empty
+note-requires-clause-empty c =
+    nothing_named _ (unnamed_list _ c.args.thread (subst (λ (f : Held). HoldsNothing f.holding c.args.thread) (sym c.self.view_is) c.requires.nothing_held))
+
+pub invariant_of-self-in_err-note : goal.invariant_of-self-in_err-note
+invariant_of-self-in_err-note c =
+    subst (IsSound _ _ _) (sym c.in_err-note.ensures.err) (sound_reserved c.self.invariant c.reserve.ensures.kept c.reserve.ensures.same)
 
 pub returns-then-not-can_grant-clause-refused : goal.returns-then-not-can_grant-clause-refused
-returns-then-not-can_grant-clause-refused c _ = refused c
+returns-then-not-can_grant-clause-refused c _ =
+    subst (λ (f : Held). IsRefused f.holding c.args.thread c.args.request.now) c.self.view_is
+    (blocked_refused (sound_reserved c.self.invariant c.reserve.ensures.kept c.reserve.ensures.same) c.args.thread c.args.request.now
+    (c.can_grant.ensures.blocked c.if-not-can_grant.true))
 
--- the thread holds nothing by the entries before
-nothing_before : (c : goal.In_ok-add_all) → HoldsNothing (holding_of c.self.inside.entries.items) c.args.thread
-nothing_before c = subst (λ (f : Held). HoldsNothing f.holding c.args.thread) (sym c.self.view_is) c.requires.nothing_held
-
--- the entries with those of the request are a forest's
-kept : (c : goal.In_ok-add_all) → IsForest (over c.self.inside.classes c.self.inside.threads c.add_all.new.entries.items)
-kept c =
-    let there : c.args.thread < c.self.inside.threads = subst (λ (f : Held). c.args.thread < f.threads) (sym c.self.view_is) c.requires.thread_there in
-    let classes_there : IsOfClasses c.self.inside.classes c.args.request.now =
-    subst (λ (f : Held). IsOfClasses f.classes c.args.request.now) (sym c.self.view_is) c.requires.classes_there in
-    let all : list_all (λ e. goes_with (holding_of c.self.inside.entries.items) c.args.thread c.args.request.now (key_of e)) c.self.inside.entries.items ≡ true =
-    subst (λ xs. list_all (λ e. goes_with (holding_of xs) c.args.thread c.args.request.now (key_of e)) xs ≡ true) c.as_slice.ensures.value
-    (sym c.can_grant.ensures ∙ c.if-not-can_grant.false) in
-    forest_grant c.self.inside.classes c.self.inside.threads c.self.inside.entries.items c.add_all.new.entries.items c.args.thread c.args.request.now
-    c.in_ok-add_all.ensures.ok c.self.invariant (nothing_before c) there c.requires.modes c.requires.parents classes_there all
-
-pub invariant_of-self-2 : goal.invariant_of-self-2
-invariant_of-self-2 c = kept c
+pub returns-then-not-can_grant-clause-granted : goal.returns-then-not-can_grant-clause-granted
+returns-then-not-can_grant-clause-granted c =
+    (λ h. cc, λ can. absurd (refused_cannot _ _ _ (returns-then-not-can_grant-clause-refused c refl) can))
 
 pub returns-clause-granted : goal.returns-clause-granted
 returns-clause-granted c = (
-  λ _. granted_at c.args.self.now.holding c.args.thread c.args.request.now c.self.inside.entries.items c.as_slice.result.now
-      c.as_slice.ensures.value (ap (λ (f : Held). f.holding) c.self.view_is) (sym c.can_grant.ensures ∙ c.if-not-can_grant.false),
+  λ _. subst (λ (f : Held). CanGrant f.holding c.args.thread c.args.request.now) c.self.view_is
+      (free_can (sound_reserved c.self.invariant c.reserve.ensures.kept c.reserve.ensures.same) c.args.thread c.args.request.now
+      (c.can_grant.ensures.free c.if-not-can_grant.false)),
   λ can. refl,
 )
 
-granted : (c : goal.In_ok-add_all) → holding_of c.add_all.new.entries.items ≡ grant c.args.self.now.holding c.args.thread c.args.request.now
+pub invariant_of-self-2 : goal.invariant_of-self-2
+invariant_of-self-2 c =
+    sound_grant (sound_reserved c.self.invariant c.reserve.ensures.kept c.reserve.ensures.same) c.args.thread c.args.request.now c.grant.new.self _
+    (subst (λ (f : Held). c.args.thread < f.threads) (sym c.self.view_is) c.requires.thread_there)
+    (subst (λ (f : Held). HoldsNothing f.holding c.args.thread) (sym c.self.view_is) c.requires.nothing_held)
+    c.requires.modes c.requires.parents (subst (λ (f : Held). IsOfClasses f.classes c.args.request.now) (sym c.self.view_is) c.requires.classes_there)
+    (c.can_grant.ensures.free c.if-not-can_grant.false) c.grant.ensures c.in_ok-note.ensures.ok
+
+granted : (c : goal.After-grant) → holding_of (map (λ v. v.items) c.note.new.held.items) ≡ grant c.args.self.now.holding c.args.thread c.args.request.now
 granted c =
-    ap holding_of c.in_ok-add_all.ensures.ok
-    ∙ entries_granted c.self.inside.entries.items c.args.thread c.args.request.now (nothing_before c)
+    let count = c.self.invariant.lists_there in
+    let within : c.args.thread < c.self.inside.threads = subst (λ (f : Held). c.args.thread < f.threads) (sym c.self.view_is) c.requires.thread_there in
+    ap holding_of c.in_ok-note.ensures.ok
+    ∙ lists_granted (map (λ v. v.items) c.self.inside.held.items) c.args.thread c.args.request.now (omega (arith, count, within))
+    (subst (λ (f : Held). HoldsNothing f.holding c.args.thread) (sym c.self.view_is) c.requires.nothing_held)
     ∙ ap (λ (f : Held). grant f.holding c.args.thread c.args.request.now) c.self.view_is
 
 pub returns-clause-holding : goal.returns-clause-holding
@@ -58,8 +70,7 @@ returns-clause-holding c = granted c
 
 pub returns-clause-others : goal.returns-clause-others
 returns-clause-others c other apart nothing =
-    subst (λ h. HoldsNothing h other) (sym (granted c))
-    (nothing_kept_grant c.args.self.now.holding c.args.thread c.args.request.now other apart nothing)
+    subst (λ h. HoldsNothing h other) (sym (granted c)) (nothing_kept_grant c.args.self.now.holding c.args.thread c.args.request.now other apart nothing)
 
 pub returns-clause-lawful : goal.returns-clause-lawful
-returns-clause-lawful c = kept c
+returns-clause-lawful c = (invariant_of-self-2 c).forest
