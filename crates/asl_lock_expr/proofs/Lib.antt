@@ -6,3 +6,4 @@ pub mod Derived
 pub mod Storings
 pub mod Leaves
 pub mod Walks
+pub mod Sets

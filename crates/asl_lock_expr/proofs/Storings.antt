@@ -35,7 +35,7 @@ in_either (x ∷ xs) ys n (inl e) = inl (inl e)
 in_either (x ∷ xs) ys n (inr i) = elim (in_either xs ys n i) [ inl p ↦ inl (inr p) | inr q ↦ inr q ]
 
 -- the test of a list tells what is in it
-in_from_test : (xs : List ℕ) (n : ℕ) → list_any (λ x. x == n) xs ≡ true → IsIn xs n
+pub in_from_test : (xs : List ℕ) (n : ℕ) → list_any (λ x. x == n) xs ≡ true → IsIn xs n
 in_from_test [] n e = cc
 in_from_test (x ∷ xs) n e =
     elim (eqb_tells x n) [
@@ -43,7 +43,7 @@ in_from_test (x ∷ xs) n e =
       | inr other ↦ inr (in_from_test xs n (ap (λ b. b || list_any (λ y. y == n) xs) (sym other.0) ∙ e))
     ]
 
-in_to_test : (xs : List ℕ) (n : ℕ) → IsIn xs n → list_any (λ x. x == n) xs ≡ true
+pub in_to_test : (xs : List ℕ) (n : ℕ) → IsIn xs n → list_any (λ x. x == n) xs ≡ true
 in_to_test [] n i = absurd i
 in_to_test (x ∷ xs) n i =
     elim (eqb_tells x n) [

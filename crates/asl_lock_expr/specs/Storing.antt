@@ -62,3 +62,7 @@ pub record MarksAll (functions : List ℕ) (old new : List Bool) (waits now : Li
   pub waits_kept : (f : ℕ) → IsIn waits f → IsIn now f
   pub waits_only : (f : ℕ) → IsIn now f → IsIn waits f ⊎ IsMarked new f
   pub measure : unmarked new + length now ≡ unmarked old + length waits
+
+-- the lengths are above the number
+abbrev pub AreOver : ℕ → List ℕ → Type 0
+AreOver number lengths = (n len : ℕ) → slice_get lengths n ≡ Some len → number < len

@@ -1,11 +1,13 @@
 //! The classes that each function may store to, found by its stores and its calls.
-ghost use Rattle.std.specs.Prelude.{◌≡◌, ◌<◌, ◌≤◌, ◌⊎◌, ◌↔◌, ℕ, true, false, slice_get, OnOk, IfOk, length, replicate};
+ghost use Rattle.std.specs.Prelude.{◌≡◌, ◌<◌, ◌≤◌, ◌⊎◌, ◌↔◌, ℕ, true, false, slice_get, OnOk, IfOk, length, map, replicate, vec_len};
+ghost use Rattle.asl_lane_sets.specs.NumberSet.{members_of};
 ghost use Rattle.asl_lock_expr.specs.ClassOf.{TellsStores};
 ghost use Rattle.asl_lock_expr.specs.Stores.{stores};
-ghost use Rattle.asl_lock_expr.specs.Storing.{IsMarked, IsIn, row, stored_class, called, AreListed, Reaches, MarksAll};
+ghost use Rattle.asl_lock_expr.specs.Storing.{IsMarked, IsIn, AreOver, row, stored_class, called, AreListed, Reaches, MarksAll};
 
 use crate::written::Writes;
 use asl_code::{Instr, Items};
+use asl_lane_sets::Bits;
 use asl_lower::Lowering;
 use asl_points_to::Classes;
 use std::alloc::{AllocError, Global};
@@ -17,12 +19,23 @@ pub fn writes(alloc: Global, lowering: &Lowering, classes: &Classes) -> Result<W
     let own = own_stores(alloc, lowering, classes)?;
     let callers = callers(alloc, lowering)?;
     let count = lowering.functions().len();
-    let mut lists = Vec::new(alloc);
+    let mut sets = empty_sets(alloc, count, own.len())?;
     for (class, stored) in own.iter().enumerate() {
         let marks = storing(alloc, count, &callers, stored.as_slice())?;
-        add_class(alloc, &mut lists, &marks, class as u16)?;
+        add_class(&mut sets, &marks, class);
     }
-    Ok(Writes::from_lists(lists))
+    Ok(Writes::from_sets(sets))
+}
+
+/// So many empty sets of numbers below a length.
+fn empty_sets(alloc: Global, count: usize, len: usize) -> Result<Vec<Bits>, AllocError>
+    ensures { IfOk result (λ sets. sets.items ≡ replicate count (replicate len false)) }
+{
+    let mut sets = Vec::new(alloc);
+    for _ in 0..count {
+        sets.push(Bits::with_len(alloc, len)?)?;
+    }
+    Ok(sets)
 }
 
 /// For each class the functions with a store of their own to it.
@@ -186,20 +199,26 @@ fn is_free(marks: &[bool], function: u16) -> bool
     }
 }
 
-/// Adds the class to the list of each function with a mark.
-fn add_class(
-    alloc: Global,
-    lists: &mut Vec<Items<u16>>,
-    marks: &[bool],
-    class: u16,
-) -> Result<(), AllocError>
-    requires { length marks.now ≤ 65536 }
-    ensures { OnOk result ((f x : ℕ) → IsIn (row lists.new.items f) x ↔ (IsIn (row lists.old.items f) x ⊎ (IsMarked marks.now f × (x ≡ class)))) }
+/// Adds the class to the set of each function with a mark.
+fn add_class(sets: &mut Vec<Bits>, marks: &[bool], class: usize)
+    requires there { length marks.now ≤ vec_len sets.old }
+    requires below { AreOver class (map length sets.old.items) }
+    ensures lengths { map length sets.new.items ≡ map length sets.old.items }
+    ensures classes { (f x : ℕ) → IsIn (row (map members_of sets.new.items) f) x ↔ (IsIn (row (map members_of sets.old.items) f) x ⊎ (IsMarked marks.now f × (x ≡ class))) }
 {
     for (function, marked) in marks.iter().enumerate() {
         if *marked {
-            add_at(alloc, lists, function as u16, class)?;
+            add_to(sets, function, class);
         }
     }
-    Ok(())
+}
+
+/// Adds a class to the set of a function.
+fn add_to(sets: &mut Vec<Bits>, function: usize, class: usize)
+    requires there { function < vec_len sets.old }
+    requires below { AreOver class (map length sets.old.items) }
+    ensures lengths { map length sets.new.items ≡ map length sets.old.items }
+    ensures classes { (f x : ℕ) → IsIn (row (map members_of sets.new.items) f) x ↔ (IsIn (row (map members_of sets.old.items) f) x ⊎ ((f ≡ function) × (x ≡ class))) }
+{
+    sets[function].add(class);
 }

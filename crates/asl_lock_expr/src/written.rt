@@ -1,22 +1,24 @@
-//! The classes that each function may store to, as lists.
-ghost use Rattle.std.specs.Prelude.{◌≡◌};
+//! The classes that each function may store to, as sets.
+ghost use Rattle.std.specs.Prelude.{◌≡◌, ◌↔◌, IsTrue, map};
+ghost use Rattle.asl_lane_sets.specs.NumberSet.{IsIn, members_of};
 ghost use Rattle.asl_lock_expr.specs.Stores.{stores};
 
-use asl_code::Items;
+use asl_lane_sets::Bits;
 use std::marker::Model;
 
 /// The classes that each function may store to, itself or by its calls (`docs/ANALYSIS.md`, "Written classes").
 #[derive(Drop)]
 pub struct Writes {
-    functions: Vec<Items<u16>>,
+    functions: Vec<Bits>,
 }
 
 impl Model for Writes {
-    ghost use Rattle.std.specs.Prelude.{List, ℕ};
+    ghost use Rattle.std.specs.Prelude.{List, map, ℕ};
+    ghost use Rattle.asl_lane_sets.specs.NumberSet.{members_of};
 
     ghost Value = { List (List ℕ) };
 
-    ghost view = { λ w. w.functions.items };
+    ghost view = { λ w. map members_of w.functions.items };
 }
 
 impl Writes {
@@ -25,17 +27,24 @@ impl Writes {
         ensures { result ≡ stores self.now function class }
     {
         match self.functions.get(usize::from(function)) {
-            Some(classes) => classes.as_slice().contains(&class),
+            Some(classes) => has_class(classes, usize::from(class)),
             None => false,
         }
     }
 }
 
 impl Writes {
-    /// The lists, one a function.
-    pub(crate) fn from_lists(functions: Vec<Items<u16>>) -> Writes
-        ensures { result ≡ functions.items }
+    /// The sets, one a function.
+    pub(crate) fn from_sets(functions: Vec<Bits>) -> Writes
+        ensures { result ≡ map members_of functions.items }
     {
         Writes { functions }
     }
+}
+
+/// Whether the class is one of the set; none from the set's length on is.
+fn has_class(classes: &Bits, class: usize) -> bool
+    ensures { IsTrue result ↔ IsIn classes.now class }
+{
+    class < classes.len() && classes.has(class)
 }
