@@ -11,6 +11,7 @@ pub mod Holds
 pub mod Slices
 pub mod Laid
 pub mod Emits
+pub mod Numbered
 pub mod Numbering
 pub mod Marks
 pub mod Depths

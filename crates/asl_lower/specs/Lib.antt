@@ -10,6 +10,7 @@ pub mod Facts
 pub mod Regions
 -- Machinery of the proofs, not of the promise:
 pub mod NamesView
+pub mod Numbered
 pub mod OutputView
 pub mod ScopeView
 pub mod Layout

@@ -7,9 +7,11 @@ ghost use Rattle.asl_lower.specs.Names.{function_names, number_of};
 ghost use Rattle.asl_lower.specs.Layout.{lowering_of};
 ghost use Rattle.asl_lower.specs.Refused.{HasRoom};
 ghost use Rattle.asl_lower.specs.Kept.{lowered_of};
+ghost use Rattle.asl_lower.specs.Numbered.{AreNumbered};
 
 use crate::functions::emit_functions;
 use crate::names::function_number;
+use crate::numbers::Numbers;
 use crate::output::Output;
 use asl_code::Function;
 use asl_syntax::Name;
@@ -67,14 +69,15 @@ pub fn main_number(items: &[Item]) -> usize
 }
 
 /// The code of a program of few registers and few instructions.
-pub fn make_draft(alloc: Global, items: &[Item]) -> Result<Draft, AllocError>
+pub fn make_draft(alloc: Global, items: &[Item], numbers: &Numbers<'_>) -> Result<Draft, AllocError>
+    requires numbered { AreNumbered numbers.now (map item_of items.now) }
     requires few_globals { length (globals_of (map item_of items.now)) ≤ 1024 }
     requires few_functions { length (functions_of (map item_of items.now)) ≤ 256 }
     requires room { HasRoom (map item_of items.now) }
     ensures { IfOk result (λ d. lowered_of d ≡ lowering_of (map item_of items.now)) }
 {
     let mut out = Output::new(alloc);
-    let functions = emit_functions(alloc, &mut out, items)?;
+    let functions = emit_functions(alloc, &mut out, items, numbers)?;
     let globals = count_globals(items) as u16;
     let main = main_number(items) as u16;
     Ok(Draft {

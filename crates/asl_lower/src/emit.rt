@@ -30,7 +30,7 @@ fn operator_instr(operator: Operator, to: u8, left: u8, right: u8) -> Instr
 }
 
 /// The first argument register of a call, 0 where there are no arguments.
-fn first_argument(scope: &Scope<'_>, arguments: &[Name]) -> u8
+fn first_argument(scope: &Scope<'_, '_>, arguments: &[Name]) -> u8
     ensures { result ≡ first_argument (scope_view scope.now) arguments.now }
 {
     if arguments.is_empty() {
@@ -43,7 +43,7 @@ fn first_argument(scope: &Scope<'_>, arguments: &[Name]) -> u8
 /// Emits a `mov` of each argument to the registers from `first` on.
 fn emit_moves(
     out: &mut Output,
-    scope: &Scope<'_>,
+    scope: &Scope<'_, '_>,
     arguments: &[Name],
     first: u8,
 ) -> Result<(), AllocError>
@@ -63,7 +63,7 @@ fn emit_moves(
 /// Emits a call.
 fn emit_call(
     out: &mut Output,
-    scope: &Scope<'_>,
+    scope: &Scope<'_, '_>,
     to: u8,
     name: &Name,
     arguments: &[Name],
@@ -86,7 +86,7 @@ fn emit_call(
 /// Emits the code that puts a value into a register.
 pub fn emit_value(
     out: &mut Output,
-    scope: &Scope<'_>,
+    scope: &Scope<'_, '_>,
     to: u8,
     value: &Value,
 ) -> Result<(), AllocError>

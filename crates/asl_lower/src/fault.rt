@@ -1,3 +1,5 @@
+//! Why a program is not lowered.
+
 use std::alloc::AllocError;
 use thiserror::Error;
 

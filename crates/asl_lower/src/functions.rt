@@ -5,6 +5,7 @@ ghost use Rattle.asl_syntax.specs.View.{item_of, function_of};
 ghost use Rattle.asl_syntax.specs.Tree.{globals_of, functions_of};
 ghost use Rattle.asl_lower.specs.Names.{locals_of, registers_of, scope_of};
 ghost use Rattle.asl_lower.specs.NamesView.{names_of};
+ghost use Rattle.asl_lower.specs.Numbered.{AreNumbered};
 ghost use Rattle.asl_lower.specs.Place.{past_function, past_functions};
 ghost use Rattle.asl_lower.specs.Lowered.{entry_of};
 ghost use Rattle.asl_lower.specs.Layout.{block_sections, function_code, functions_code, functions_sections, functions_table};
@@ -12,6 +13,7 @@ ghost use Rattle.asl_lower.specs.OutputView.{Adds, place_of};
 ghost use Rattle.asl_lower.specs.Refused.{first_crowded};
 
 use crate::locals::{Locals, MOST, TooMany, add_block, block_arguments};
+use crate::numbers::Numbers;
 use crate::output::Output;
 use crate::scope::Scope;
 use crate::statements::emit_block;
@@ -68,9 +70,11 @@ pub fn first_crowded(items: &[Item]) -> Option<u16>
 fn emit_function(
     out: &mut Output,
     items: &[Item],
+    numbers: &Numbers<'_>,
     number: u16,
     function: &Function,
 ) -> Result<Entry, AllocError>
+    requires numbered { AreNumbered numbers.now (map item_of items.now) }
     requires few_globals { length (globals_of (map item_of items.now)) ≤ 1024 }
     requires few_functions { length (functions_of (map item_of items.now)) ≤ 256 }
     requires few_registers { registers_of (function_of function.now) ≤ 64 }
@@ -86,6 +90,7 @@ fn emit_function(
         function: number,
         locals: locals.as_slice(),
         items,
+        numbers,
     };
     emit_block(out, &scope, &function.body)?;
     let from = scope.register(&function.returned);
@@ -101,7 +106,9 @@ pub fn emit_functions(
     alloc: Global,
     out: &mut Output,
     items: &[Item],
+    numbers: &Numbers<'_>,
 ) -> Result<Vec<Entry>, AllocError>
+    requires numbered { AreNumbered numbers.now (map item_of items.now) }
     requires few_globals { length (globals_of (map item_of items.now)) ≤ 1024 }
     requires few_functions { length (functions_of (map item_of items.now)) ≤ 256 }
     requires few_registers { first_crowded 0 (functions_of (map item_of items.now)) ≡ None }
@@ -113,7 +120,7 @@ pub fn emit_functions(
     let mut number = 0;
     for item in items {
         if let Item::Function(function) = item {
-            let entry = emit_function(out, items, number, function)?;
+            let entry = emit_function(out, items, numbers, number, function)?;
             table.push(entry)?;
             number += 1;
         }

@@ -9,6 +9,7 @@ mod laws;
 mod locals;
 mod lowering;
 mod names;
+mod numbers;
 mod output;
 mod outside;
 mod program;

@@ -8,21 +8,23 @@ ghost use Rattle.asl_lower.specs.Region.{IsBare, IsBareAccess, IsFirstBareAccess
 ghost use Rattle.asl_lower.specs.Facts.{HasLayout};
 ghost use Rattle.asl_lower.specs.Layout.{lowering_of};
 ghost use Rattle.asl_lower.specs.Size.{value_size, stmt_size, block_size, else_size};
+ghost use Rattle.asl_lower.specs.Numbered.{AreNumbered};
 ghost use Rattle.asl_lower.specs.Reach.{Outside, IsMarked, KeepsMarks, AreFollowed, Reached};
 ghost use Rattle.asl_lower.specs.Outside.{value_access, stmt_access, block_access, else_access, stmt_callees, block_callees, MarksThese};
 
 use crate::draft::main_number;
-use crate::names::function_number;
+use crate::numbers::Numbers;
 use crate::reach::{MOST, Marks, next_function};
 use crate::size::{block_size, value_size};
 use asl_syntax::Name;
 use asl_syntax::tree::{Function, Item, Statement, Value};
 
 /// Marks a function that is called.
-fn mark_callee(items: &[Item], marks: &mut Marks, name: &Name)
+fn mark_callee(items: &[Item], numbers: &Numbers<'_>, marks: &mut Marks, name: &Name)
+    requires { AreNumbered numbers.now (map item_of items.now) }
     ensures { MarksThese (number_of (function_names (functions_of (map item_of items.now))) name.now ∷ []) marks.old marks.new }
 {
-    let callee = function_number(items, name);
+    let callee = numbers.function(items, name);
     if callee < MOST {
         marks[callee] = true;
     }
@@ -30,26 +32,28 @@ fn mark_callee(items: &[Item], marks: &mut Marks, name: &Name)
 
 /// Marks the functions that statements call outside sections.
 #[cycle(callees)]
-fn mark_block(items: &[Item], marks: &mut Marks, block: &[Statement])
+fn mark_block(items: &[Item], numbers: &Numbers<'_>, marks: &mut Marks, block: &[Statement])
+    requires { AreNumbered numbers.now (map item_of items.now) }
     ensures { MarksThese (block_callees (function_names (functions_of (map item_of items.now))) (block_of block.now)) marks.old marks.new }
 {
     for statement in block {
-        mark_statement(items, marks, statement);
+        mark_statement(items, numbers, marks, statement);
     }
 }
 
 /// Marks the functions that a statement calls outside sections.
 #[cycle(callees)]
-fn mark_statement(items: &[Item], marks: &mut Marks, statement: &Statement)
+fn mark_statement(items: &[Item], numbers: &Numbers<'_>, marks: &mut Marks, statement: &Statement)
+    requires { AreNumbered numbers.now (map item_of items.now) }
     ensures { MarksThese (stmt_callees (function_names (functions_of (map item_of items.now))) (statement_of statement.now)) marks.old marks.new }
 {
     match statement {
-        Statement::Assign(_, Value::Call(name, _)) => mark_callee(items, marks, name),
+        Statement::Assign(_, Value::Call(name, _)) => mark_callee(items, numbers, marks, name),
         Statement::If(_, first, second) => {
-            mark_block(items, marks, first);
-            mark_block(items, marks, second);
+            mark_block(items, numbers, marks, first);
+            mark_block(items, numbers, marks, second);
         }
-        Statement::While(_, body) => mark_block(items, marks, body),
+        Statement::While(_, body) => mark_block(items, numbers, marks, body),
         Statement::Assign(_, _) => {}
         Statement::Store(_, _) => {}
         Statement::Out(_) => {}
@@ -89,8 +93,9 @@ fn count_functions(items: &[Item]) -> usize
 }
 
 /// Marks all that calls outside sections lead to from the functions with a mark.
-fn follow_calls(items: &[Item], marks: &mut Marks)
-    requires { HasLayout (lowering_of (map item_of items.now)) }
+fn follow_calls(items: &[Item], numbers: &Numbers<'_>, marks: &mut Marks)
+    requires numbered { AreNumbered numbers.now (map item_of items.now) }
+    requires layout { HasLayout (lowering_of (map item_of items.now)) }
     ensures kept { KeepsMarks marks.old marks.new }
     ensures followed { AreFollowed (lowering_of (map item_of items.now)) Outside marks.new }
     ensures only { (function : ℕ) → IsMarked marks.new function → Reached (lowering_of (map item_of items.now)) Outside marks.old function }
@@ -100,19 +105,20 @@ fn follow_calls(items: &[Item], marks: &mut Marks)
     while let Some(number) = next_function(count, marks, &followed) {
         followed[number] = true;
         if let Some(function) = function_at(items, number) {
-            mark_block(items, marks, &function.body);
+            mark_block(items, numbers, marks, &function.body);
         }
     }
 }
 
 /// Which functions are bare.
-fn bare_functions(items: &[Item]) -> Marks
-    requires { HasLayout (lowering_of (map item_of items.now)) }
+fn bare_functions(items: &[Item], numbers: &Numbers<'_>) -> Marks
+    requires numbered { AreNumbered numbers.now (map item_of items.now) }
+    requires layout { HasLayout (lowering_of (map item_of items.now)) }
     ensures { (function : ℕ) → IsMarked result function ↔ IsBare (lowering_of (map item_of items.now)) function }
 {
     let mut marks = [false; MOST];
     marks[main_number(items)] = true;
-    follow_calls(items, &mut marks);
+    follow_calls(items, numbers, &mut marks);
     marks
 }
 
@@ -190,14 +196,15 @@ fn pass_value(pc: usize, value: &Value) -> Result<usize, Access>
 }
 
 /// The lowest access of a bare function outside its sections, as the function and the pc.
-pub fn first_bare_access(items: &[Item]) -> Option<(u16, u16)>
+pub fn first_bare_access(items: &[Item], numbers: &Numbers<'_>) -> Option<(u16, u16)>
+    requires numbered { AreNumbered numbers.now (map item_of items.now) }
     requires layout { HasLayout (lowering_of (map item_of items.now)) }
     requires few { length (lowering_of (map item_of items.now)).code ≤ 65535 }
     ensures { MatchOption result
         ((function pc : ℕ) → ¬ IsBareAccess (lowering_of (map item_of items.now)) function pc)
         (λ at. IsFirstBareAccess (lowering_of (map item_of items.now)) at.0 at.1) }
 {
-    let bare = bare_functions(items);
+    let bare = bare_functions(items, numbers);
     let mut number = 0;
     let mut start = 0;
     for item in items {

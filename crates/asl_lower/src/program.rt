@@ -13,6 +13,7 @@ use crate::draft::make_draft;
 use crate::fault::LowerFault;
 use crate::functions::first_crowded;
 use crate::lowering::Lowering;
+use crate::numbers::Numbers;
 use crate::outside::first_bare_access;
 use crate::size::has_few_instructions;
 use asl_syntax::Ast;
@@ -35,10 +36,11 @@ fn lower_items(alloc: Global, items: &[Item]) -> Result<Lowering, LowerFault>
     if !has_few_instructions(items) {
         return Err(LowerFault::CodeSize);
     }
-    if let Some((function, pc)) = first_bare_access(items) {
+    let numbers = Numbers::of(alloc, items);
+    if let Some((function, pc)) = first_bare_access(items, &numbers) {
         return Err(LowerFault::AccessOutsideSection(function, pc));
     }
-    let draft = make_draft(alloc, items)?;
+    let draft = make_draft(alloc, items, &numbers)?;
     Ok(Lowering::new(draft))
 }
 

@@ -3,23 +3,27 @@
 ghost use Rattle.std.specs.Prelude.{◌≡◌, ◌<◌, ◌≤◌, length, map};
 ghost use Rattle.asl_syntax.specs.Tree.{globals_of, functions_of};
 ghost use Rattle.asl_syntax.specs.View.{item_of};
+ghost use Rattle.asl_lower.specs.Numbered.{AreNumbered};
 
-use crate::names::{function_number, global_number, number_of};
+use crate::names::number_of;
+use crate::numbers::Numbers;
 use asl_syntax::Name;
 use asl_syntax::tree::Item;
 
-/// A function's number and its locals, among the items of its program.
+/// A function's number and its locals, among the items of its program and their numbers.
 #[derive(Clone, Copy)]
-pub struct Scope<'a> {
+pub struct Scope<'a, 'n> {
     pub function: u16,
     pub locals: &'a [&'a [u8]],
     pub items: &'a [Item],
+    pub numbers: &'a Numbers<'n>,
     ghost few_locals: { length locals.now ≤ 64 },
     ghost few_globals: { length (globals_of (map item_of items.now)) ≤ 1024 },
+    ghost numbered: { AreNumbered numbers.now (map item_of items.now) },
     ghost few_functions: { length (functions_of (map item_of items.now)) ≤ 256 },
 }
 
-impl Scope<'_> {
+impl Scope<'_, '_> {
     ghost use Rattle.asl_lower.specs.Names.{register, global_number, function_number};
     ghost use Rattle.asl_lower.specs.ScopeView.{scope_view};
 
@@ -34,13 +38,13 @@ impl Scope<'_> {
     pub fn global(&self, name: &Name) -> u16
         ensures { result ≡ global_number (scope_view self.now) name.now }
     {
-        global_number(self.items, name) as u16
+        self.numbers.global(self.items, name) as u16
     }
 
     /// The number of a function.
     pub fn callee(&self, name: &Name) -> u16
         ensures { result ≡ function_number (scope_view self.now) name.now }
     {
-        function_number(self.items, name) as u16
+        self.numbers.function(self.items, name) as u16
     }
 }

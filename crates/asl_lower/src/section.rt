@@ -1,3 +1,5 @@
+//! Sections, by the places of their first and last instructions.
+
 /// A section: the code of an `atomic` statement, with the places of its first and its last instruction.
 #[derive(Clone, Copy, Debug, PartialEq, Eq)]
 pub struct Section {

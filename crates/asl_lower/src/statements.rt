@@ -19,7 +19,7 @@ use std::alloc::AllocError;
 #[cycle(emit)]
 pub fn emit_block(
     out: &mut Output,
-    scope: &Scope<'_>,
+    scope: &Scope<'_, '_>,
     block: &[Statement],
 ) -> Result<(), AllocError>
     requires few { length scope.now.locals.now + block_arguments (block_of block.now) ≤ 64 }
@@ -36,7 +36,7 @@ pub fn emit_block(
 #[cycle(emit)]
 fn emit_statement(
     out: &mut Output,
-    scope: &Scope<'_>,
+    scope: &Scope<'_, '_>,
     statement: &Statement,
 ) -> Result<(), AllocError>
     requires few { length scope.now.locals.now + stmt_arguments (statement_of statement.now) ≤ 64 }

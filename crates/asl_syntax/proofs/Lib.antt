@@ -10,6 +10,7 @@ pub mod Spaced
 pub mod Decimals
 pub mod Respelled
 pub mod Narrow
+pub mod Listed
 pub mod Leaner
 pub mod Named
 pub mod Within

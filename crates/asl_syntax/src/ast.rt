@@ -1,3 +1,5 @@
+//! Trees that a text spells without breaking a rule.
+
 ghost use Rattle.asl_syntax.specs.View.{items_of};
 ghost use Rattle.asl_syntax.specs.Parsed.{IsParsed};
 

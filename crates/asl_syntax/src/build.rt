@@ -1,6 +1,6 @@
 //! Building the tree of a text that the grammar and the limits allow.
 
-ghost use Rattle.std.specs.Prelude.{◌≡◌, ℤ, ◌≤◌, map, reverse, length, IfOk};
+ghost use Rattle.std.specs.Prelude.{◌≡◌, ℤ, ◌≤◌, [], ◌∷◌, ◌++◌, map, reverse, length, IfOk};
 ghost use Rattle.asl_grammar.specs.Written.{Literal};
 ghost use Rattle.asl_grammar.specs.Automaton.{ItemStart, EmitCall, Begin, Close, Finish};
 ghost use Rattle.asl_grammar.specs.Lex.{number_value, tokens_of};
@@ -106,14 +106,22 @@ fn no_part(alloc: Global) -> Part
     }
 }
 
+/// Adds a statement.
+fn push(block: &mut Vec<Statement>, statement: Statement) -> Result<(), AllocError>
+    ensures { IfOk result (λ _. map statement_of block.new.items ≡ map statement_of block.old.items ++ statement_of statement ∷ []) }
+{
+    block.push(statement)?;
+    Ok(())
+}
+
 /// Takes the `if` that waits as a statement without `else`.
 fn settle(alloc: Global, part: &mut Part) -> Result<(), AllocError>
     ensures { IfOk result (λ _. part_of part.new ≡ settle_part (part_of part.old)) }
 {
-    if let Some((name, body)) = part.pending.take() {
-        part.done.push(Statement::If(name, body, Vec::new(alloc)))?;
+    match part.pending.take() {
+        None => Ok(()),
+        Some((name, body)) => push(&mut part.done, Statement::If(name, body, Vec::new(alloc))),
     }
-    Ok(())
 }
 
 /// The header of a block that opens where perhaps an `if` waits.
@@ -148,9 +156,9 @@ fn shut(frame: Frame, body: Vec<Statement>) -> Result<Part, AllocError>
                 pending: Some((name, body)),
             });
         }
-        Header::Else(name, first) => outer.push(Statement::If(name, first, body))?,
-        Header::While(name) => outer.push(Statement::While(name, body))?,
-        Header::Atomic => outer.push(Statement::Atomic(body))?,
+        Header::Else(name, first) => push(&mut outer, Statement::If(name, first, body))?,
+        Header::While(name) => push(&mut outer, Statement::While(name, body))?,
+        Header::Atomic => push(&mut outer, Statement::Atomic(body))?,
     }
     Ok(Part {
         done: outer,
@@ -217,8 +225,7 @@ impl Builder {
     fn put(&mut self, statement: Statement) -> Result<(), AllocError>
         ensures { IfOk result (λ _. stack_of self.new ≡ put (statement_of statement) (stack_of self.old)) }
     {
-        self.top.done.push(statement)?;
-        Ok(())
+        push(&mut self.top.done, statement)
     }
 
     /// Opens a block.

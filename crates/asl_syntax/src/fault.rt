@@ -1,3 +1,5 @@
+//! Why a text is no program.
+
 use crate::name::Name;
 use std::alloc::AllocError;
 use thiserror::Error;

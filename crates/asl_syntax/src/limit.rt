@@ -5,6 +5,7 @@ ghost use Rattle.std.specs.Option.{option_map, ForSome};
 ghost use Rattle.asl_grammar.specs.Lex.{number_value, tokens_of};
 ghost use Rattle.asl_grammar.specs.View.{token_of};
 ghost use Rattle.asl_syntax.specs.Limit.{number_over, tally_of, byte_over, first_place, first_limit};
+ghost use Rattle.asl_syntax.specs.Reached.{IsReach};
 ghost use Rattle.asl_syntax.specs.Tallied.{functions_after, globals_after, atomics_after, braces_after, head_after, over_from};
 
 use asl_grammar::lexer::{Found, Tokens};
@@ -173,19 +174,35 @@ impl<'t> Counts<'t> {
     }
 }
 
-/// The place of the first token of `text` that goes past a limit.
-fn first_over(text: &[u8]) -> Option<usize>
-    ensures { result ≡ over_from (tally_of []) (tokens_of text.now) }
+/// How far a text is tokens within the limits.
+#[derive(Clone, Copy)]
+pub enum Extent {
+    /// To its end.
+    End,
+    /// To a place where neither a blank nor a token stands.
+    Bad(usize),
+    /// To a token that goes past a limit.
+    Over(usize),
+}
+
+/// Reads a text up to its end, a place where no token stands, or the first token that goes past a limit.
+pub fn reach(text: &[u8]) -> Extent
+    ensures { IsReach text.now result }
 {
     let mut tokens = Tokens::new(text);
     let mut counts = Counts::new();
-    'reading: while let Found::Token(spot) = tokens.next() {
-        if counts.is_over(spot.token) {
-            return Some(spot.at);
+    'reading: loop {
+        match tokens.next() {
+            Found::Token(spot) => {
+                if counts.is_over(spot.token) {
+                    return Extent::Over(spot.at);
+                }
+                counts = counts.noted(spot.token);
+            }
+            Found::End => return Extent::End,
+            Found::Bad(at) => return Extent::Bad(at),
         }
-        counts = counts.noted(spot.token);
     }
-    None
 }
 
 /// The first byte of a text of `len` bytes that is too many.
@@ -210,9 +227,10 @@ fn first_place(one: Option<usize>, other: Option<usize>) -> Option<usize>
     }
 }
 
-/// The first place of `text` where a limit is passed.
-pub fn first_limit(text: &[u8]) -> Option<usize>
+/// The first place of `text` where a limit is passed, where `over` is that of a token.
+pub fn first_limit(text: &[u8], over: Option<usize>) -> Option<usize>
+    requires { over ≡ over_from (tally_of []) (tokens_of text.now) }
     ensures { result ≡ first_limit text.now }
 {
-    first_place(first_over(text), byte_over(text.len()))
+    first_place(over, byte_over(text.len()))
 }

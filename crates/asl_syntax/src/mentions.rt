@@ -1,9 +1,9 @@
 //! The names of a program in the order of the text, each with what it does where it stands.
 
-ghost use Rattle.std.specs.Prelude.{◌≡◌, ◌++◌, map, IfOk};
+ghost use Rattle.std.specs.Prelude.{◌≡◌, [], ◌∷◌, ◌++◌, map, IfOk};
 ghost use Rattle.asl_syntax.specs.Mentions.{UsesLocal, DeclaresParameter, value_mentions, block_mentions, statement_mentions, function_mentions, item_mentions, mentions};
 ghost use Rattle.asl_syntax.specs.View.{value_of, statement_of, block_of, function_of, item_of};
-ghost use Rattle.asl_syntax.specs.MentionView.{mentions_of};
+ghost use Rattle.asl_syntax.specs.MentionView.{mention_of, mentions_of};
 
 use crate::name::Name;
 use crate::tree::{Function, Item, Statement, Value};
@@ -22,12 +22,20 @@ pub enum Mention<'a> {
     Call(&'a Name, usize),
 }
 
+/// Adds a name.
+fn push<'a>(out: &mut Vec<Mention<'a>>, mention: Mention<'a>) -> Result<(), AllocError>
+    ensures { IfOk result (λ _. mentions_of out.new.items ≡ mentions_of out.old.items ++ mention_of mention.entry ∷ []) }
+{
+    out.push(mention)?;
+    Ok(())
+}
+
 /// The names of arguments.
 fn push_locals<'a>(out: &mut Vec<Mention<'a>>, names: &'a [Name]) -> Result<(), AllocError>
     ensures { IfOk result (λ _. mentions_of out.new.items ≡ mentions_of out.old.items ++ map UsesLocal names.now) }
 {
     for name in names {
-        out.push(Mention::Local(name))?;
+        push(out, Mention::Local(name))?;
     }
     Ok(())
 }
@@ -37,7 +45,7 @@ fn push_parameters<'a>(out: &mut Vec<Mention<'a>>, names: &'a [Name]) -> Result<
     ensures { IfOk result (λ _. mentions_of out.new.items ≡ mentions_of out.old.items ++ map DeclaresParameter names.now) }
 {
     for name in names {
-        out.push(Mention::Parameter(name))?;
+        push(out, Mention::Parameter(name))?;
     }
     Ok(())
 }

@@ -1,3 +1,5 @@
+//! Names of the source.
+
 ghost use Rattle.std.specs.Prelude.{◌≡◌, ◌≤◌, length};
 ghost use Rattle.std.specs.Option.{SomeIff};
 

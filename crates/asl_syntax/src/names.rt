@@ -1,6 +1,7 @@
 //! The rules of names.
 
-ghost use Rattle.std.specs.Prelude.{◌≡◌, ℕ, List, map, length, is_some, if◌then◌else◌, IfOk};
+ghost use Rattle.std.specs.Prelude.{◌≡◌, ℕ, List, map, length, is_some, if◌then◌else◌, Some, None, IfOk};
+ghost use Rattle.std.specs.List.{list_any};
 ghost use Rattle.std.specs.Option.{option_copied};
 ghost use Rattle.asl_syntax.specs.MentionView.{mention_of, mentions_of};
 ghost use Rattle.asl_syntax.specs.Rules.{no_count, with_count, no_name, with_name, first_twice, declared_in, names_in, unknown_use, first_unknown_use, unknown_in_function, first_unknown, parameter_counts, is_wrong_call, wrong_call_from, name_places, places_with, is_main, has_main};
@@ -134,6 +135,13 @@ fn names_in<'a>(
     Ok(known)
 }
 
+/// The name, if it is not known.
+fn missing<'a>(known: &Known<'_>, name: &'a Name) -> Option<&'a Name>
+    ensures { option_copied result ≡ (if names_known known.now name.now then None else Some name.now) }
+{
+    if known.has(name) { None } else { Some(name) }
+}
+
 /// A used name that its name space does not have.
 fn unknown_use<'a>(
     globals: &Known<'_>,
@@ -144,9 +152,9 @@ fn unknown_use<'a>(
     ensures { option_copied result ≡ unknown_use (names_known globals.now) (names_known functions.now) (names_known locals.now) (mention_of mention.entry) }
 {
     match mention {
-        Mention::Local(x) => { if locals.has(x) { None } else { Some(x) } }
-        Mention::GlobalUse(x) => { if globals.has(x) { None } else { Some(x) } }
-        Mention::Call(x, _) => { if functions.has(x) { None } else { Some(x) } }
+        Mention::Local(x) => missing(locals, x),
+        Mention::GlobalUse(x) => missing(globals, x),
+        Mention::Call(x, _) => missing(functions, x),
         _ => None,
     }
 }
@@ -231,10 +239,26 @@ fn next_name(tokens: &mut Tokens<'_>) -> Option<usize>
     None
 }
 
-/// The place of the first wrong call, where the mentions are those of the name tokens of `text` one by one.
+/// Whether a mention is a wrong call.
+fn has_wrong_call(counts: &Known<'_>, mentions: &[Mention<'_>]) -> bool
+    ensures { result ≡ list_any (is_wrong_call (counts_in counts.now)) (mentions_of mentions.now) }
+{
+    for mention in mentions {
+        if is_wrong_call(counts, *mention) {
+            return true;
+        }
+    }
+    false
+}
+
+/// The place of the first wrong call, where the mentions are those of the name tokens of `text` one by one. The text is
+/// read only where there is one.
 pub fn wrong_call(counts: &Known<'_>, mentions: &[Mention<'_>], text: &[u8]) -> Option<usize>
     ensures { result ≡ wrong_call_from (counts_in counts.now) (mentions_of mentions.now) (name_places (tokens_of text.now)) }
 {
+    if !has_wrong_call(counts, mentions) {
+        return None;
+    }
     let mut tokens = Tokens::new(text);
     for mention in mentions {
         let at = next_name(&mut tokens)?;

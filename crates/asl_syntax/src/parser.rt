@@ -1,10 +1,13 @@
-ghost use Rattle.std.specs.Prelude.{◌≡◌, IfOk, IfErr, OnOk, map, None};
+//! From a text to its tree, or to its first fault.
+
+ghost use Rattle.std.specs.Prelude.{◌≡◌, [], IfOk, IfErr, OnOk, map, None};
 ghost use Rattle.asl_grammar.specs.Lex.{tokens_of};
 ghost use Rattle.asl_grammar.specs.Grammar.{IsProgram, bare};
 ghost use Rattle.asl_syntax.specs.View.{items_of, item_of};
 ghost use Rattle.asl_syntax.specs.AstView.{tree_of};
 ghost use Rattle.asl_syntax.specs.Spelled.{Spells};
-ghost use Rattle.asl_syntax.specs.Limit.{first_limit};
+ghost use Rattle.asl_syntax.specs.Limit.{first_limit, tally_of};
+ghost use Rattle.asl_syntax.specs.Tallied.{over_from};
 ghost use Rattle.asl_syntax.specs.Parsed.{first_wide, IsLexed, IsSpelled, Parses};
 ghost use Rattle.asl_syntax.specs.Fault.{IsFault};
 ghost use Rattle.asl_syntax.specs.Checked.{IsWritten};
@@ -12,7 +15,7 @@ ghost use Rattle.asl_syntax.specs.Checked.{IsWritten};
 use crate::ast::Ast;
 use crate::build::build;
 use crate::fault::SyntaxFault;
-use crate::limit::first_limit;
+use crate::limit::{Extent, first_limit, reach};
 use crate::mentions::mentions;
 use crate::names::{first_twice, has_main, parameter_counts, unknown, wrong_call};
 use crate::tree::Item;
@@ -27,30 +30,36 @@ fn first_wide(text: &[u8]) -> Option<usize>
     text.iter().position(|b| *b >= 128)
 }
 
-/// Whether the text is blanks and tokens throughout.
-fn check_tokens(text: &[u8]) -> Result<(), SyntaxFault>
+/// Whether the text is blanks and tokens throughout; if so, the place of the first token that goes past a limit.
+fn check_tokens(text: &[u8]) -> Result<Option<usize>, SyntaxFault>
     ensures ok { OnOk result (IsLexed text.now) }
+    ensures over { IfOk result (λ over. over ≡ over_from (tally_of []) (tokens_of text.now)) }
     ensures err { IfErr result (IsFault text.now) }
 {
     if let Some(at) = first_wide(text) {
         return Err(SyntaxFault::NotAscii(at));
     }
-    if let Some(at) = first_bad(text) {
-        return Err(SyntaxFault::Token(at));
+    match reach(text) {
+        Extent::End => Ok(None),
+        Extent::Bad(at) => Err(SyntaxFault::Token(at)),
+        Extent::Over(over) => match first_bad(text) {
+            Some(at) => Err(SyntaxFault::Token(at)),
+            None => Ok(Some(over)),
+        },
     }
-    Ok(())
 }
 
-/// Whether the tokens are a program within the limits.
-fn check_grammar(alloc: Global, text: &[u8]) -> Result<(), SyntaxFault>
-    requires { IsLexed text.now }
+/// Whether the tokens are a program within the limits, where `over` is the place of the first token that goes past one.
+fn check_grammar(alloc: Global, text: &[u8], over: Option<usize>) -> Result<(), SyntaxFault>
+    requires lexed { IsLexed text.now }
+    requires over { over ≡ over_from (tally_of []) (tokens_of text.now) }
     ensures ok { OnOk result (IsWritten text.now) }
     ensures err { IfErr result (IsFault text.now) }
 {
     if let Some(at) = first_fault(alloc, text)? {
         return Err(SyntaxFault::Grammar(at));
     }
-    if let Some(at) = first_limit(text) {
+    if let Some(at) = first_limit(text, over) {
         return Err(SyntaxFault::Limit(at));
     }
     Ok(())
@@ -97,8 +106,8 @@ pub fn parse(alloc: Global, text: &[u8]) -> Result<Ast, SyntaxFault>
     ensures ok { IfOk result (λ a. Parses text.now (tree_of a)) }
     ensures err { IfErr result (IsFault text.now) }
 {
-    check_tokens(text)?;
-    check_grammar(alloc, text)?;
+    let over = check_tokens(text)?;
+    check_grammar(alloc, text, over)?;
     let items = make_items(alloc, text)?;
     check_names(alloc, &items, text)?;
     Ok(Ast::new(items))

@@ -33,3 +33,11 @@ mark_statement-returns-in-If t c =
     let j = marks_join (block_callees names (block_of c.deref.result.now)) (block_callees names (block_of c.deref-in-If.result.now)) c.args.marks.now c.mark_block.new.marks c.mark_block-in-If.new.marks c.mark_block.ensures c.mark_block-in-If.ensures in
     let P : List ℕ → Type 0 = λ xs. MarksThese xs c.args.marks.now c.mark_block-in-If.new.marks in
     subst P (ap₂ (λ (xs : List ℕ) (ys : List ℕ). xs ++ ys) a b ∙ ap (stmt_callees names) (sym e)) j
+
+pub mark_statement-mark_block-requires : goal.mark_statement-mark_block-requires
+mark_statement-mark_block-requires t c =
+    (search (rules, the_lemmas, fold-roll-Statement, fold_out-Statement), c.requires)
+
+pub mark_statement-mark_block-requires-in-If : goal.mark_statement-mark_block-requires-in-If
+mark_statement-mark_block-requires-in-If t c =
+    (search (rules, the_lemmas, fold-roll-Statement, fold_out-Statement), c.requires)

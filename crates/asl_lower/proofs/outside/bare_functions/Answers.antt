@@ -11,13 +11,13 @@ use Rattle.asl_lower.proofs.outside.bare_functions.Goals as goal
 pub bounds-marks-main_number : goal.bounds-marks-main_number
 bounds-marks-main_number c =
     let l = lowering_of (map item_of c.args.items.now) in
-    omega (arith, slice_get_within l.functions l.main c.requires.main.function c.requires.main.in_table, c.requires.limits.few_functions, c.main_number.ensures.number)
+    omega (arith, slice_get_within l.functions l.main c.requires.layout.main.function c.requires.layout.main.in_table, c.requires.layout.limits.few_functions, c.main_number.ensures.number)
 
 pub returns : goal.returns
 returns c f =
     let l = lowering_of (map item_of c.args.items.now) in
-    let m = c.requires.main in
-    let low : c.main_number.result < length (replicate 256 false) = omega (arith, slice_get_within l.functions l.main m.function m.in_table, c.requires.limits.few_functions, c.main_number.ensures.number, length-replicate 256 false) in
+    let m = c.requires.layout.main in
+    let low : c.main_number.result < length (replicate 256 false) = omega (arith, slice_get_within l.functions l.main m.function m.in_table, c.requires.layout.limits.few_functions, c.main_number.ensures.number, length-replicate 256 false) in
     let P : ℕ → Type 0 = λ n. IsMarked c.follow_calls.new.marks n in
     let main : IsMarked c.follow_calls.new.marks l.main = subst P c.main_number.ensures.number (c.follow_calls.ensures.kept c.main_number.result (set_here (replicate 256 false) c.main_number.result low)) in (
       λ h. bare_from_reached l (slice_set (replicate 256 false) c.main_number.result true) (λ g k. only_one 256 c.main_number.result g k ∙ c.main_number.ensures.number) f (c.follow_calls.ensures.only f h),

@@ -29,6 +29,7 @@ pub first_bare_access-requires : goal.first_bare_access-requires
 first_bare_access-requires c =
     let is = map item_of c.args.items.now in
     record {
+      numbered = c.of-numbers.ensures;
       layout = emitted_layout is (lowering_of is) c.requires.parsed (lowering_of_is_lowering is);
       few = omega (arith, (lowering_of_is_lowering is).code, c.has_few_instructions.ensures.0 c.if-not-has_few_instructions.false);
     }

@@ -8,5 +8,5 @@ pub returns : goal.returns
 returns c =
     let text = c.args.text.now in
     c.first_place.ensures
-    ∙ ap (λ o. first_place o c.byte_over.result) (c.first_over.ensures ∙ over_is_limit (tokens_of text) [])
+    ∙ ap (λ o. first_place o c.byte_over.result) (c.requires ∙ over_is_limit (tokens_of text) [])
     ∙ ap (first_place (limit_from [] (tokens_of text))) c.byte_over.ensures
