@@ -8,3 +8,13 @@ pub mod Entries
 pub mod Reaching
 pub mod Guards
 pub mod Atomicity
+pub mod Renaming
+pub mod RenamedObjects
+pub mod RenamedSteps
+pub mod Renamings
+pub mod Staying
+pub mod Growing
+pub mod Crossing
+pub mod Making
+pub mod Inserting
+pub mod UpTo

@@ -1,12 +1,12 @@
 -- Steps of threads that are not there change nothing: what any schedule leads to, one of threads that are there does.
-use Rattle.std.proofs.Common.{◌≡◌, ℕ, ◌<◌, ◌≤◌, List, [], ◌∷◌, None, length, slice_get, refl, ap, sym, ◌∙◌, subst, inl, inr, All, arith}
+use Rattle.std.proofs.Common.{◌≡◌, ℕ, ◌<◌, ◌≤◌, List, [], ◌∷◌, length, refl, ap, ◌∙◌, inl, inr, All, arith}
 use Rattle.std.proofs.lemmas.Bool.{cases_lt}
 use Rattle.std.proofs.lemmas.Option.{slice_get_past}
 use Rattle.std.proofs.lemmas.List.Elements.{All-nil, All-cons}
 use Rattle.asl_code.specs.declared.image.Image.{Image}
 use Rattle.asl_machine.specs.State.{State}
 use Rattle.asl_machine.specs.Run.{IsReached, start_of, state_after}
-use Rattle.asl_machine.specs.Twin.{Stepped, step_of, step_at}
+use Rattle.asl_machine.specs.Twin.{step_of, step_at}
 use Rattle.asl_machine.proofs.Reached.{step_count}
 use Rattle.asl_machine.proofs.Soundness.{length-first_threads}
 

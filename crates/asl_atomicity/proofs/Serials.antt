@@ -26,57 +26,57 @@ use Rattle.asl_atomicity.proofs.Moves.{others_stay, state_parts, step_stands, in
 
 -- ---- runs in two parts
 
-told_parts : (image : Image) (a b : List ℕ) (s : State) (x : ℕ) → told image s x (a ++ b) ≡ told image s x a ++ told image (state_after image s a) x b
+pub told_parts : (image : Image) (a b : List ℕ) (s : State) (x : ℕ) → told image s x (a ++ b) ≡ told image s x a ++ told image (state_after image s a) x b
 told_parts image [] b s x = refl
 told_parts image (t ∷ a) b s x =
     ap (λ z. (if t == x then heard (step_of image s t).reply else []) ++ z) (told_parts image a b (step_of image s t).state x)
     ∙ sym (append_assoc (if t == x then heard (step_of image s t).reply else []) _ _)
 
-counts_split : (image : Image) (a b : List ℕ) (s : State) → AllCount image s (a ++ b) → AllCount image s a × AllCount image (state_after image s a) b
+pub counts_split : (image : Image) (a b : List ℕ) (s : State) → AllCount image s (a ++ b) → AllCount image s a × AllCount image (state_after image s a) b
 counts_split image [] b s c = (tt, c)
 counts_split image (t ∷ a) b s c = let rest = counts_split image a b (step_of image s t).state c.1 in ((c.0, rest.0), rest.1)
 
-counts_join : (image : Image) (a b : List ℕ) (s : State) → AllCount image s a → AllCount image (state_after image s a) b → AllCount image s (a ++ b)
+pub counts_join : (image : Image) (a b : List ℕ) (s : State) → AllCount image s a → AllCount image (state_after image s a) b → AllCount image s (a ++ b)
 counts_join image [] b s c d = d
 counts_join image (t ∷ a) b s c d = (c.0, counts_join image a b (step_of image s t).state c.1 d)
 
-abbrev last_of : Option ℕ → List ℕ → Option ℕ
+abbrev pub last_of : Option ℕ → List ℕ → Option ℕ
 last_of before [] = before
 last_of before (t ∷ ts) = last_of (Some t) ts
 
-last_end : (before : Option ℕ) (a : List ℕ) (t : ℕ) → last_of before (a ++ t ∷ []) ≡ Some t
+pub last_end : (before : Option ℕ) (a : List ℕ) (t : ℕ) → last_of before (a ++ t ∷ []) ≡ Some t
 last_end before [] t = refl
 last_end before (u ∷ a) t = last_end (Some u) a t
 
-serial_split : (image : Image) (a b : List ℕ) (s : State) (before : Option ℕ) → IsSerial image s before (a ++ b) → IsSerial image s before a × IsSerial image (state_after image s a) (last_of before a) b
+pub serial_split : (image : Image) (a b : List ℕ) (s : State) (before : Option ℕ) → IsSerial image s before (a ++ b) → IsSerial image s before a × IsSerial image (state_after image s a) (last_of before a) b
 serial_split image [] b s before c = (tt, c)
 serial_split image (t ∷ a) b s before c = let rest = serial_split image a b (step_of image s t).state (Some t) c.1 in ((c.0, rest.0), rest.1)
 
-serial_join : (image : Image) (a b : List ℕ) (s : State) (before : Option ℕ) → IsSerial image s before a → IsSerial image (state_after image s a) (last_of before a) b → IsSerial image s before (a ++ b)
+pub serial_join : (image : Image) (a b : List ℕ) (s : State) (before : Option ℕ) → IsSerial image s before a → IsSerial image (state_after image s a) (last_of before a) b → IsSerial image s before (a ++ b)
 serial_join image [] b s before c d = d
 serial_join image (t ∷ a) b s before c d = (c.0, serial_join image a b (step_of image s t).state (Some t) c.1 d)
 
-run_stands : (image : Image) (count : ℕ) (a : List ℕ) (s : State) → Stands image count s → Stands image count (state_after image s a)
+pub run_stands : (image : Image) (count : ℕ) (a : List ℕ) (s : State) → Stands image count s → Stands image count (state_after image s a)
 run_stands image count [] s sound = sound
 run_stands image count (t ∷ a) s sound = run_stands image count a (step_of image s t).state (step_stands image count s t sound)
 
-run_length : (image : Image) (a : List ℕ) (s : State) → length (state_after image s a).threads ≡ length s.threads
+pub run_length : (image : Image) (a : List ℕ) (s : State) → length (state_after image s a).threads ≡ length s.threads
 run_length image [] s = refl
 run_length image (t ∷ a) s = run_length image a (step_of image s t).state ∙ step_count image s t
 
-stays : (image : Image) (t : ℕ) (us : List ℕ) (s : State) → AreOthers t us → slice_get (state_after image s us).threads t ≡ slice_get s.threads t
+pub stays : (image : Image) (t : ℕ) (us : List ℕ) (s : State) → AreOthers t us → slice_get (state_after image s us).threads t ≡ slice_get s.threads t
 stays image t [] s others = refl
 stays image t (u ∷ us) s others = stays image t us (step_of image s u).state others.1 ∙ others_stay image s u t (λ e. others.0 (sym e))
 
 -- ---- the last step of a thread
 
-record LastAt (t : ℕ) (ts : List ℕ) : Type 0 where
-  front : List ℕ
-  back : List ℕ
-  is : ts ≡ (front ++ t ∷ []) ++ back
-  others : AreOthers t back
+pub record LastAt (t : ℕ) (ts : List ℕ) : Type 0 where
+  pub front : List ℕ
+  pub back : List ℕ
+  pub is : ts ≡ (front ++ t ∷ []) ++ back
+  pub others : AreOthers t back
 
-find_last : (t : ℕ) (ts : List ℕ) → LastAt t ts ⊎ AreOthers t ts
+pub find_last : (t : ℕ) (ts : List ℕ) → LastAt t ts ⊎ AreOthers t ts
 find_last t [] = inr tt
 find_last t (u ∷ us) = elim (find_last t us) [
   | inl at ↦ inl (record { front = u ∷ at.front; back = at.back; is = ap (λ z. u ∷ z) at.is; others = at.others })
@@ -117,23 +117,23 @@ unheard_step image s t (Some (Running a)) r n h e = unheard_line (record { image
 unheard_step image s t (Some (Done v)) r n h e = h.1
 unheard_step image s t (Some (Failed f)) r n h e = h.1
 
-unheard : (image : Image) (s : State) (t : ℕ) → IsSound image s → t < length s.threads → heard (step_of image s t).reply ≡ [] → (step_of image s t).state ≡ s
+pub unheard : (image : Image) (s : State) (t : ℕ) → IsSound image s → t < length s.threads → heard (step_of image s t).reply ≡ [] → (step_of image s t).state ≡ s
 unheard image s t sound there e = unheard_step image s t (slice_get s.threads t) (step_of image s t).reply (step_of image s t).state (step_is image s t sound there) e
 
-tell_heard : (r : Reply) → (heard r ≡ []) ⊎ (heard r ≢ [])
+pub tell_heard : (r : Reply) → (heard r ≡ []) ⊎ (heard r ≢ [])
 tell_heard reply.Blocked = inl refl
 tell_heard reply.Ended = inl refl
 tell_heard reply.Ran = inr (λ e. cc)
 tell_heard (reply.Out v) = inr (λ e. cc)
 tell_heard (reply.Fault f) = inr (λ e. cc)
 
-quiet : (b : Bool) (rs : List Reply) → rs ≡ [] → (if b then rs else []) ++ [] ≡ []
+pub quiet : (b : Bool) (rs : List Reply) → rs ≡ [] → (if b then rs else []) ++ [] ≡ []
 quiet true rs e = append-nil rs ∙ e
 quiet false rs e = refl
 
 -- ---- the start
 
-abbrev slot_depth : Option Thread → ℕ
+abbrev pub slot_depth : Option Thread → ℕ
 slot_depth o = option_map_or (λ (a : Activity). a.depth) (option_and_then activity_of o) 0
 
 start_depth : (image : Image) (n t : ℕ) (thread : Thread) → slice_get (first_threads image n) t ≡ Some thread → slot_depth (Some thread) ≡ 0
@@ -249,7 +249,7 @@ module _ (image : Image) (count : ℕ) (swap : CanSwap image count) (s : State) 
       subst From (append_assoc done (t ∷ []) rest)
       (all_steps rest (done ++ t ∷ []) fresh (All-tail (λ t. t < length s.threads) t rest there) (subst (λ z. MakesOutside image z rest) (sym (state_parts image done (t ∷ []) s)) m.1) (one_step done t fresh (All-head (λ t. t < length s.threads) t rest there) f m.0))
 
-start_outside : (image : Image) (n u : ℕ) → depth_at (start_of image n).threads u ≡ 0
+pub start_outside : (image : Image) (n u : ℕ) → depth_at (start_of image n).threads u ≡ 0
 start_outside image n u =
     elim (slice_get (first_threads image n) u) as (λ o. slice_get (first_threads image n) u ≡ o → slot_depth o ≡ 0) [
       | None ↦ λ e. refl

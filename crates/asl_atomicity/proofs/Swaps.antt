@@ -16,13 +16,13 @@ use Rattle.asl_machine.specs.Sound.{IsSound}
 use Rattle.asl_machine.proofs.Lists.{get_other}
 use Rattle.asl_machine.proofs.Heaps.{length-written}
 use Rattle.asl_machine.proofs.Soundness.{here_of, instr_here}
-use Rattle.asl_atomicity.specs.Serial.{heard, IsInside}
-use Rattle.asl_atomicity.specs.Swapping.{CanSwap, EntryUnseen, EntriesUnseen}
+use Rattle.asl_atomicity.specs.Serial.{heard}
+use Rattle.asl_atomicity.specs.Swapping.{CanSwap, InSection, EntryUnseen, EntriesUnseen}
 use Rattle.asl_atomicity.proofs.Uniform.{ObjectsEdit, Same, Stored, Made, put, edit, edits_commute, IsNew, Unseen, Uniform, uniform, place_at}
 use Rattle.asl_atomicity.proofs.Stores.{IsThere, AreApart, puts_commute, set_set}
 use Rattle.asl_atomicity.proofs.Unseen.{WroteBy, ok_covers, register_points, moved_kept, target_kept, value_kept}
 
-abbrev of_turn : State → ℕ → Turn → Stepped
+abbrev pub of_turn : State → ℕ → Turn → Stepped
 of_turn z x turn = record { reply = turn.reply; state = after z x turn.thread turn.objects turn.holding }
 
 abbrev state_with : List Object → Holding → List Thread → State
@@ -39,9 +39,11 @@ pub same_here : (image : Image) (x : ℕ) (a : Activity) (i : Instr) (objects : 
 same_here image x a i objects h = record { moved = λ r p. refl; target = λ r e. refl; value = λ r. refl; number = λ n. refl; request = λ l e z. refl; free = λ l e z. refl }
 
 -- what is written by two threads is apart
-edits_apart : (objects : List Object) (h : Holding) (x y : ℕ) (e d : ObjectsEdit) → x ≢ y → IsLawful h → WroteBy objects h x e → WroteBy objects h y d → ((cells class : ℕ) → e ≢ Made cells class) → AreApart e d
+edits_apart : (objects : List Object) (h : Holding) (x y : ℕ) (e d : ObjectsEdit) → x ≢ y → IsLawful h → WroteBy objects h x e → WroteBy objects h y d → ((cells class others other : ℕ) → e ≡ Made cells class → d ≡ Made others other → ⊥) → AreApart e d
 edits_apart objects h x y Same d apart lawful p q none = tt
-edits_apart objects h x y (Made cells class) d apart lawful p q none = absurd (none cells class refl)
+edits_apart objects h x y (Made cells class) Same apart lawful p q none = tt
+edits_apart objects h x y (Made cells class) (Stored w r) apart lawful p q none = tt
+edits_apart objects h x y (Made cells class) (Made others other) apart lawful p q none = absurd (none cells class others other refl refl)
 edits_apart objects h x y (Stored v (Err f)) d apart lawful p q none = tt
 edits_apart objects h x y (Stored v (Ok c)) Same apart lawful p q none = tt
 edits_apart objects h x y (Stored v (Ok c)) (Made cells class) apart lawful p q none = tt
@@ -76,8 +78,9 @@ pub wrote_by : (image : Image) (x : ℕ) (a : Activity) (i : Instr) (objects : L
 wrote_by image x a i objects h m points v c e =
     let w = m.wrote v c e in ok_covers h objects x a.depth Write (register_of a.top w.0) c (register_points objects a.top w.0 points) w.1
 
-module _ (image : Image) (s : State) (u t : ℕ) (sound : IsSound image s) (apart : u ≢ t) (inside : IsInside image s t) (entry : EntryUnseen image s u t) (b : Activity) (runs : slice_get s.threads u ≡ Some (Running b)) where
-  swapped :
+module _ (image : Image) (s : State) (u t : ℕ) (sound : IsSound image s) (apart : u ≢ t) (inside : InSection s t) (entry : EntryUnseen image s u t) (b : Activity) (runs : slice_get s.threads u ≡ Some (Running b))
+    (one_makes : (i j : Instr) → slice_get image.code inside.activity.top.pc ≡ Some i → slice_get image.code b.top.pc ≡ Some j → IsNew i → IsNew j → ⊥) where
+  pub swapped :
       let one = step_of image (step_of image s u).state t in
       let first = step_of image s t in
       let other = step_of image first.state u in
@@ -94,7 +97,7 @@ module _ (image : Image) (s : State) (u t : ℕ) (sound : IsSound image s) (apar
       let q = uniform image u b fb.0 o h in
       let wp = wrote_by image t a fa.0 o h p ha.placed.points in
       let wq = wrote_by image u b fb.0 o h q hb.placed.points in
-      let makes_none : (cells class : ℕ) → p.on_objects ≢ Made cells class = λ cells class e. not_new image a.top.pc fa.0 fa.1 inside.makes_none (p.makes cells class e) in
+      let makes_one : IsNew fa.0 → IsNew fb.0 → ⊥ = one_makes fa.0 fb.0 fa.1 fb.1 in
       let st = after s t p.thread (put p.on_objects o) (edit p.on_holding t h) in
       let su = after s u q.thread (put q.on_objects o) (edit q.on_holding u h) in
       let first = stepped image s t a fa.0 o h p inside.runs fa.1 (same_here image t a fa.0 o h) in
@@ -104,7 +107,7 @@ module _ (image : Image) (s : State) (u t : ℕ) (sound : IsSound image s) (apar
         moved = λ r places. moved_kept o h t u q.on_objects q.on_holding back sound.lawful wq places (register_of a.top r) (register_points o a.top r ha.placed.points);
         target = λ r e. target_kept o h t u q.on_objects q.on_holding back sound.lawful wq a.depth e (register_of a.top r) (register_points o a.top r ha.placed.points);
         value = λ r. value_kept o h t u q.on_objects q.on_holding back sound.lawful wq a.depth (register_of a.top r) (register_points o a.top r ha.placed.points);
-        number = λ k. absurd (not_new image a.top.pc fa.0 fa.1 inside.makes_none k);
+        number = λ k. same_number o q.on_objects (λ cells class e. makes_one k (q.makes cells class e));
         request = λ list is z. absurd (no_depth a.depth z inside.inside);
         free = λ list is z. absurd (no_depth a.depth z inside.inside);
       } in
@@ -112,7 +115,7 @@ module _ (image : Image) (s : State) (u t : ℕ) (sound : IsSound image s) (apar
         moved = λ r places. moved_kept o h u t p.on_objects p.on_holding apart sound.lawful wp places (register_of b.top r) (register_points o b.top r hb.placed.points);
         target = λ r e. target_kept o h u t p.on_objects p.on_holding apart sound.lawful wp b.depth e (register_of b.top r) (register_points o b.top r hb.placed.points);
         value = λ r. value_kept o h u t p.on_objects p.on_holding apart sound.lawful wp b.depth (register_of b.top r) (register_points o b.top r hb.placed.points);
-        number = λ k. same_number o p.on_objects makes_none;
+        number = λ k. same_number o p.on_objects (λ cells class e. makes_one (p.makes cells class e) k);
         request = λ list is z. ap (λ (w : Stepped). request_of w.state.objects b.top.regs (locks_of image list)) (sym first) ∙ entry.request b list runs (fb.1 ∙ ap (λ w. Some w) is) z;
         free = λ list is z. ap (λ (w : Stepped). can_grant w.state.holding u (request_of o b.top.regs (locks_of image list))) (sym first) ∙ entry.free b list runs (fb.1 ∙ ap (λ w. Some w) is) z;
       } in
@@ -120,7 +123,7 @@ module _ (image : Image) (s : State) (u t : ℕ) (sound : IsSound image s) (apar
       let fourth = stepped image st u b fb.0 o h q (get_other s.threads t u p.thread apart ∙ runs) fb.1 seen_u in
       let one = ap (λ (w : Stepped). step_of image w.state t) second ∙ third in
       let two = ap (λ (w : Stepped). step_of image w.state u) first ∙ fourth in
-      let objects : put p.on_objects (put q.on_objects o) ≡ put q.on_objects (put p.on_objects o) = puts_commute o p.on_objects q.on_objects (edit_there o h t p.on_objects wp) (edit_there o h u q.on_objects wq) (edits_apart o h t u p.on_objects q.on_objects back sound.lawful wp wq makes_none) in
+      let objects : put p.on_objects (put q.on_objects o) ≡ put q.on_objects (put p.on_objects o) = puts_commute o p.on_objects q.on_objects (edit_there o h t p.on_objects wp) (edit_there o h u q.on_objects wq) (edits_apart o h t u p.on_objects q.on_objects back sound.lawful wp wq (λ cells class others other e d. makes_one (p.makes cells class e) (q.makes others other d))) in
       let holding : edit p.on_holding t (edit q.on_holding u h) ≡ edit q.on_holding u (edit p.on_holding t h) = edits_commute p.on_holding q.on_holding t u h apart in
       let threads : set (set s.threads u q.thread) t p.thread ≡ set (set s.threads t p.thread) u q.thread = set_set s.threads u t q.thread p.thread apart in
       let end : after su t p.thread (put p.on_objects (put q.on_objects o)) (edit p.on_holding t (edit q.on_holding u h)) ≡ after st u q.thread (put q.on_objects (put p.on_objects o)) (edit q.on_holding u (edit p.on_holding t h)) =
@@ -135,6 +138,9 @@ module _ (image : Image) (s : State) (u t : ℕ) (sound : IsSound image s) (apar
 pub can_swap : (image : Image) (count : ℕ) → EntriesUnseen image count → CanSwap image count
 can_swap image count unseen s u t sound apart counts inside = by_thread (slice_get s.threads u) refl
   where
+    stands : InSection s t
+    stands = record { activity = inside.activity; runs = inside.runs; inside = inside.inside }
+
     by_thread : (o : Option Thread) → slice_get s.threads u ≡ o →
         let one = step_of image (step_of image s u).state t in
         let first = step_of image s t in
@@ -143,4 +149,5 @@ can_swap image count unseen s u t sound apart counts inside = by_thread (slice_g
     by_thread None e = absurd (counts (ap (λ o. heard (step_at image s u o).reply) e))
     by_thread (Some (Done v)) e = absurd (counts (ap (λ o. heard (step_at image s u o).reply) e))
     by_thread (Some (Failed f)) e = absurd (counts (ap (λ o. heard (step_at image s u o).reply) e))
-    by_thread (Some (Running b)) e = swapped image s u t sound.0 apart inside (unseen s u t sound apart counts inside) b e
+    by_thread (Some (Running b)) e =
+        swapped image s u t sound.0 apart stands (unseen s u t sound apart counts stands) b e (λ i j at other new also. not_new image inside.activity.top.pc i at inside.makes_none new)

@@ -1,5 +1,5 @@
 -- Machinery of the proofs, not of the promise: neighbouring steps that change places.
-use Rattle.std.specs.Prelude.{◌≡◌, ◌≢◌, ℕ, List, [], ◌∷◌, Some, slice_get}
+use Rattle.std.specs.Prelude.{◌≡◌, ◌≢◌, ◌<◌, ℕ, List, [], ◌∷◌, Some, slice_get}
 use Rattle.asl_code.specs.declared.image.Image.{Image}
 use Rattle.asl_code.specs.declared.instr.Instr.TheVariants as instr
 use Rattle.asl_lock_forest.specs.Holding.{can_grant}
@@ -23,6 +23,12 @@ InRun image count s = (schedule : List ℕ) × (s ≡ state_after image (start_o
 abbrev pub Stands : Image → ℕ → State → Type 0
 Stands image count s = IsSound image s × InRun image count s
 
+-- the thread runs and is inside a section
+pub record InSection (s : State) (thread : ℕ) : Type 0 where
+  pub activity : Activity
+  pub runs : slice_get s.threads thread ≡ Some (Running activity)
+  pub inside : 0 < activity.depth
+
 -- two neighbouring steps can change places, where the later one is inside a section
 abbrev pub CanSwap : Image → ℕ → Type 0
 CanSwap image count = (s : State) (u t : ℕ) → Stands image count s → u ≢ t → heard (step_of image s u).reply ≢ [] → IsInside image s t →
@@ -40,4 +46,4 @@ pub record EntryUnseen (image : Image) (s : State) (u t : ℕ) : Type 0 where
 
 -- no step inside a section changes what another thread that enters one asks for, or is given
 abbrev pub EntriesUnseen : Image → ℕ → Type 0
-EntriesUnseen image count = (s : State) (u t : ℕ) → Stands image count s → u ≢ t → heard (step_of image s u).reply ≢ [] → IsInside image s t → EntryUnseen image s u t
+EntriesUnseen image count = (s : State) (u t : ℕ) → Stands image count s → u ≢ t → heard (step_of image s u).reply ≢ [] → InSection s t → EntryUnseen image s u t

@@ -42,6 +42,8 @@ use Rattle.asl_soundness.proofs.Sections.{Ready, own_view, stands, layout, body}
 use Rattle.asl_soundness.proofs.Soundness.{reached_good}
 use Rattle.asl_atomicity.specs.Serial.{HasSerialRuns, IsAtEntry, IsGuarded, ListCovered, ReadsCovered}
 use Rattle.asl_atomicity.proofs.Atomicity.{serial_runs}
+use Rattle.asl_atomicity.proofs.UpTo.{serial_runs_up_to}
+use Rattle.asl_atomicity.specs.Renamed.{HasSerialRunsUpTo}
 use Rattle.asl_emitter.proofs.Sounding.{inferred_analysed}
 use Rattle.asl_emitter.proofs.Verifying.{inferred_fits}
 use Rattle.asl_lower.specs.Kept.{IsKept}
@@ -144,3 +146,8 @@ module _ (l : Lowered) (c : Classed) (stores : ℕ → ℕ → Bool) (longest : 
 pub inferred_serial : (l : Lowered) (c : Classed) (stores : ℕ → ℕ → Bool) (longest : ℕ) (image : Image) → IsKept l → AreClasses l c → c.count ≤ 1024 → TellsStores l c stores → IsInferred l c stores longest image → (count : ℕ) → HasSerialRuns image count
 inferred_serial l c stores longest image kept are few tells m count =
     serial_runs image count (inferred_fits l c stores longest image kept are few m) (inferred_guarded l c stores longest image (inferred_analysed l c stores longest image kept are few tells m) m count)
+
+-- the same up to the numbers of objects, where sections make some
+pub inferred_serial_up_to : (l : Lowered) (c : Classed) (stores : ℕ → ℕ → Bool) (longest : ℕ) (image : Image) → IsKept l → AreClasses l c → c.count ≤ 1024 → TellsStores l c stores → IsInferred l c stores longest image → (count : ℕ) → HasSerialRunsUpTo image count
+inferred_serial_up_to l c stores longest image kept are few tells m count =
+    serial_runs_up_to image count (inferred_fits l c stores longest image kept are few m) (inferred_guarded l c stores longest image (inferred_analysed l c stores longest image kept are few tells m) m count)

@@ -6,6 +6,7 @@ ghost use Rattle.asl_points_to.specs.Classes.{AreClasses};
 ghost use Rattle.asl_backward_flow.specs.Flows.{IsFlow};
 ghost use Rattle.asl_soundness.specs.Safe.{NeverUnprotected};
 ghost use Rattle.asl_atomicity.specs.Serial.{HasSerialRuns};
+ghost use Rattle.asl_atomicity.specs.Renamed.{HasSerialRunsUpTo};
 ghost use Rattle.asl_emitter.specs.Inferred.{IsInferredFor};
 ghost use Rattle.asl_emitter.specs.Refused.{IsAccepted, IsRefused};
 ghost use Rattle.asl_emitter.specs.Parts.{IsMade};
@@ -21,14 +22,16 @@ use std::alloc::{AllocError, Global};
 
 /// The program of a tree whose sections ask for the locks that they need, where paths have at most `k` operations
 /// (`docs/ANALYSIS.md`, "The inferred image"). With any number of threads, and in any order of their steps, it never faults for
-/// want of a lock, for a section that was not entered, or for one left open; and each run in which no section makes an object
-/// ends as one whose sections do not interleave (`docs/SOUNDNESS.md`, `docs/ATOMICITY.md`).
+/// want of a lock, for a section that was not entered, or for one left open; and each run ends as one whose sections do
+/// not interleave: exactly where no section makes an object, and up to the numbers of objects where none of them runs out of these
+/// (`docs/SOUNDNESS.md`, `docs/ATOMICITY.md`).
 pub fn infer(alloc: Global, ast: &Ast, k: u32) -> Result<Program, InferFault>
     requires { k ≤ 8 }
     ensures inferred { IfOk result (IsInferredFor (tree_of ast.now) k) }
     ensures accepted { IfOk result (λ _. IsAccepted (tree_of ast.now) k) }
     ensures sound { IfOk result NeverUnprotected }
     ensures atomic { IfOk result (λ program. (count : ℕ) → HasSerialRuns program count) }
+    ensures atomic_up_to_numbers { IfOk result (λ program. (count : ℕ) → HasSerialRunsUpTo program count) }
     ensures refused { IfErr result (IsRefused (tree_of ast.now) k) }
 {
     let lowering = lower(alloc, ast)?;
@@ -51,6 +54,7 @@ fn program(
     ensures made { IfOk result (IsMade lowering.now classes.now flow.now) }
     ensures sound { IfOk result NeverUnprotected }
     ensures atomic { IfOk result (λ program. (count : ℕ) → HasSerialRuns program count) }
+    ensures atomic_up_to_numbers { IfOk result (λ program. (count : ℕ) → HasSerialRunsUpTo program count) }
 {
     let image = image(alloc, lowering, classes, flow)?;
     match Program::verify(image) {

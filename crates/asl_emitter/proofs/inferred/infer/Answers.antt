@@ -50,3 +50,6 @@ returns-clause-sound c = c.in_ok-program.ensures.sound
 
 pub returns-clause-atomic : goal.returns-clause-atomic
 returns-clause-atomic c = c.in_ok-program.ensures.atomic
+
+pub returns-clause-atomic_up_to_numbers : goal.returns-clause-atomic_up_to_numbers
+returns-clause-atomic_up_to_numbers c = c.in_ok-program.ensures.atomic_up_to_numbers

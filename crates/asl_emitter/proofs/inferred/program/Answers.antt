@@ -3,7 +3,8 @@ use Rattle.asl_code.specs.Verified.{applies}
 use Rattle.asl_code.proofs.FitsBack.{verified_from_facts}
 use Rattle.asl_code.specs.declared.image.Image.{Image}
 use Rattle.asl_atomicity.specs.Serial.{HasSerialRuns}
-use Rattle.asl_emitter.proofs.Guarding.{inferred_serial}
+use Rattle.asl_atomicity.specs.Renamed.{HasSerialRunsUpTo}
+use Rattle.asl_emitter.proofs.Guarding.{inferred_serial, inferred_serial_up_to}
 use Rattle.asl_soundness.specs.Safe.{NeverUnprotected}
 use Rattle.asl_emitter.proofs.Making.{made_inferred}
 use Rattle.asl_emitter.proofs.Verifying.{inferred_fits}
@@ -43,3 +44,13 @@ returns-clause-atomic c =
     let image = c.in_ok-image.image in
     let inferred = made_inferred l k flow.stores c.args.k c.args.flow.now image flow.tells made.made in
     subst (λ (i : Image). (count : ℕ) → HasSerialRuns i count) (sym c.in-Ok.ensures.program) (inferred_serial l k flow.stores c.args.k image made.kept c.requires.classes c.requires.few flow.written inferred)
+
+pub returns-clause-atomic_up_to_numbers : goal.returns-clause-atomic_up_to_numbers
+returns-clause-atomic_up_to_numbers c =
+    let l = c.args.lowering.now in
+    let k = c.args.classes.now in
+    let flow = c.requires.flow in
+    let made = c.in_ok-image.ensures in
+    let image = c.in_ok-image.image in
+    let inferred = made_inferred l k flow.stores c.args.k c.args.flow.now image flow.tells made.made in
+    subst (λ (i : Image). (count : ℕ) → HasSerialRunsUpTo i count) (sym c.in-Ok.ensures.program) (inferred_serial_up_to l k flow.stores c.args.k image made.kept c.requires.classes c.requires.few flow.written inferred)

@@ -1,0 +1,291 @@
+-- What other numbers for objects leave as it is: values, cells, nodes, requests and what is held.
+use Rattle.std.proofs.Common.{◌≡◌, ℕ, ◌+◌, ◌==◌, ◌<◌, ◌++◌, ◌&&◌, ◌||◌, Bool, true, false, List, [], ◌∷◌, Option, Some, None, length, slice_get, unwrap_or, refl, ap, sym, ◌∙◌, subst, inl, inr}
+use Rattle.std.specs.Prelude.{if◌then◌else◌, map as each, option_map, option_and_then, nat_lt, All}
+use Rattle.std.proofs.lemmas.List.Elements.{All-head, All-tail}
+use Rattle.std.specs.Option.{option_map_or}
+use Rattle.std.specs.FinMap as map
+use Rattle.std.proofs.lemmas.Bool.Decides.{eqb_tells}
+use Rattle.std.proofs.lemmas.Option.{slice_get-map}
+use Rattle.std.proofs.lemmas.List.{map-append, length-map}
+use Rattle.asl_code.specs.declared.value.Value.{Value}
+use Rattle.asl_code.specs.declared.value.Value.TheVariants.{Int, Null, Addr}
+use Rattle.asl_code.specs.declared.value.Cell.{Cell}
+use Rattle.asl_code.specs.declared.value.Effect.{Effect}
+use Rattle.asl_code.specs.declared.lock.Base.{Base}
+use Rattle.asl_code.specs.declared.lock.Base.TheVariants.{Reg, Global}
+use Rattle.asl_code.specs.declared.lock.Lock.{Lock}
+use Rattle.asl_code.specs.declared.lock.Lock.TheVariants as lock
+use Rattle.asl_code.specs.declared.path.Op.{Op}
+use Rattle.asl_code.specs.declared.path.Op.TheVariants.{Deref, Off}
+use Rattle.asl_code.specs.declared.image.Image.{Image}
+use Rattle.asl_code.specs.declared.image.Function.{Function}
+use Rattle.asl_code.specs.Fits.{FitsLock, FitsBase}
+use Rattle.asl_mode_lanes.specs.declared.mode.Mode.{Mode}
+use Rattle.asl_mode_lanes.specs.declared.mode.Mode.TheVariants.{NL}
+use Rattle.asl_mode_lanes.specs.Mode.{AreCompatible, is_at_most, join_of}
+use Rattle.asl_lock_forest.specs.declared.node.Node.{Node}
+use Rattle.asl_lock_forest.specs.declared.node.Node.TheVariants.{Root, Class, Leaf}
+use Rattle.asl_lock_forest.specs.Node.{same_node}
+use Rattle.asl_lock_forest.specs.Keys.{key}
+use Rattle.asl_lock_forest.specs.Holding.{Holding, Request, held, asked, grant, release, CanGrant, can_grant, covering_mode, is_covered}
+use Rattle.asl_lock_forest.specs.Request.{names}
+use Rattle.asl_lock_forest.proofs.Laws.{tell_nodes, get_release_own, get_release_other, get_grant_own, get_grant_other}
+use Rattle.asl_lock_forest.proofs.Grantable.{CanGrant-tested, can_grant-tells}
+use Rattle.asl_lock_expr.specs.Expression.{cell_of, pointed, base_cell, moved, walked, path_cell, cell_denoted}
+use Rattle.asl_machine.specs.State.{Object, cell_at, size_of, class_of}
+use Rattle.asl_machine.specs.Request.{heap_of, leaf_asks, cell_asks, asks_of, all_asks, joined_with, joined_all, request_of}
+use Rattle.asl_machine.specs.Cover.{cover}
+use Rattle.asl_machine.specs.Access.{is_protected}
+use Rattle.asl_atomicity.specs.Renamed.{Renaming, value_by, cell_by, node_by, object_by}
+
+-- ---- tests
+
+pub same_test : (a b c d : ℕ) → (a ≡ b → c ≡ d) → (c ≡ d → a ≡ b) → (a == b) ≡ (c == d)
+same_test a b c d to from = elim (eqb_tells a b) [
+  | inl same ↦ elim (eqb_tells c d) [ inl also ↦ same.0 ∙ sym also.0 | inr apart ↦ absurd (apart.1 (to same.1)) ]
+  | inr apart ↦ elim (eqb_tells c d) [ inl same ↦ absurd (apart.1 (from same.1)) | inr away ↦ apart.0 ∙ sym away.0 ]
+]
+
+same_bool : (a b : Bool) → (a ≡ true → b ≡ true) → (b ≡ true → a ≡ true) → a ≡ b
+same_bool true b to from = sym (to refl)
+same_bool false true to from = from refl
+same_bool false false to from = refl
+
+-- a request with other numbers
+abbrev pub request_by : (ℕ → ℕ) → Request → Request
+request_by f = each (λ (ask : Node × Mode). (node_by f ask.0, ask.1))
+
+-- objects with other numbers
+abbrev pub ObjectsBy : (ℕ → ℕ) → List Object → List Object → Type 0
+ObjectsBy f one other = (n : ℕ) → slice_get other (f n) ≡ option_map (object_by f) (slice_get one n)
+
+-- a holding with other numbers
+abbrev pub HoldingBy : (ℕ → ℕ) → Holding → Holding → Type 0
+HoldingBy f h g = (thread : ℕ) (node : Node) → map.get g (key thread (node_by f node)) ≡ map.get h (key thread node)
+
+-- the bases of the locks are registers, and globals that are there
+abbrev pub HasGlobals : ℕ → List Lock → Type 0
+HasGlobals globals [] = Unit {0}
+HasGlobals globals (lock.Root effect ∷ ls) = HasGlobals globals ls
+HasGlobals globals (lock.Class class effect ∷ ls) = HasGlobals globals ls
+HasGlobals globals (lock.Expr e effect ∷ ls) = ((g : ℕ) → e.base ≡ Global g → g < globals) × HasGlobals globals ls
+
+pub has_globals : (image : Image) (n : ℕ) (function : Function) (ls : List Lock) → All (FitsLock image function) ls → HasGlobals (length image.globals) ls
+has_globals image n function [] all = tt
+has_globals image n function (lock.Root effect ∷ ls) all = has_globals image n function ls (All-tail (FitsLock image function) (lock.Root effect) ls all)
+has_globals image n function (lock.Class class effect ∷ ls) all = has_globals image n function ls (All-tail (FitsLock image function) (lock.Class class effect) ls all)
+has_globals image n function (lock.Expr e effect ∷ ls) all = (
+  λ k is. subst (λ b. FitsBase image function b) is (All-head (FitsLock image function) (lock.Expr e effect) ls all),
+  has_globals image n function ls (All-tail (FitsLock image function) (lock.Expr e effect) ls all),
+)
+
+-- ---- values and cells
+
+pub pointed_by : (f : ℕ → ℕ) (v : Value) → pointed (value_by f v) ≡ option_map (cell_by f) (pointed v)
+pointed_by f (Int n) = refl
+pointed_by f Null = refl
+pointed_by f (Addr o i) = refl
+
+pub register_by : (f : ℕ → ℕ) (regs : List Value) (r : ℕ) → unwrap_or (slice_get (each (value_by f) regs) r) Null ≡ value_by f (unwrap_or (slice_get regs r) Null)
+register_by f regs r = ap (λ o. unwrap_or o Null) (slice_get-map (value_by f) regs r) ∙ by_option (slice_get regs r)
+  where
+    by_option : (o : Option Value) → unwrap_or (option_map (value_by f) o) Null ≡ value_by f (unwrap_or o Null)
+    by_option None = refl
+    by_option (Some v) = refl
+
+-- ---- nodes
+
+module _ (p : Renaming) where
+  pub new_back : (a b : ℕ) → p.new a ≡ p.new b → a ≡ b
+  new_back a b e = sym (p.into a) ∙ ap p.old e ∙ p.into b
+
+  node_back : (a b : Node) → node_by p.new a ≡ node_by p.new b → a ≡ b
+  node_back Root Root e = refl
+  node_back Root (Class d) e = cc
+  node_back Root (Leaf y d) e = cc
+  node_back (Class c) Root e = cc
+  node_back (Class c) (Class d) e = (let k : c ≡ d = cc in ap Class k)
+  node_back (Class c) (Leaf y d) e = cc
+  node_back (Leaf x c) Root e = cc
+  node_back (Leaf x c) (Class d) e = cc
+  node_back (Leaf x c) (Leaf y d) e =
+      let cells : cell_by p.new x ≡ cell_by p.new y = cc in
+      let object : x.object ≡ y.object = new_back x.object y.object (ap (λ (z : Cell). z.object) cells) in
+      let offset : x.offset ≡ y.offset = ap (λ (z : Cell). z.offset) cells in
+      let class : c ≡ d = cc in
+      λ i. Leaf (record { object = object i; offset = offset i }) (class i)
+
+  pub node_onto : (n : Node) → node_by p.new (node_by p.old n) ≡ n
+  node_onto Root = refl
+  node_onto (Class c) = refl
+  node_onto (Leaf x c) = ap (λ o. Leaf (record { object = o; offset = x.offset }) c) (p.onto x.object)
+
+  same_node_by : (a b : Node) → same_node (node_by p.new a) (node_by p.new b) ≡ same_node a b
+  same_node_by a b = elim (tell_nodes a b) [
+    | inl same ↦ elim (tell_nodes (node_by p.new a) (node_by p.new b)) [ inl also ↦ also.0 ∙ sym same.0 | inr apart ↦ absurd (apart.1 (ap (node_by p.new) same.1)) ]
+    | inr apart ↦ elim (tell_nodes (node_by p.new a) (node_by p.new b)) [ inl same ↦ absurd (apart.1 (node_back a b same.1)) | inr away ↦ away.0 ∙ sym apart.0 ]
+  ]
+
+  -- ---- requests
+
+  names_by : (r : Request) (n : Node) → names (request_by p.new r) (node_by p.new n) ≡ names r n
+  names_by [] n = refl
+  names_by (ask ∷ r) n = ap (λ b. b || names (request_by p.new r) (node_by p.new n)) (same_node_by ask.0 n) ∙ ap (λ b. same_node ask.0 n || b) (names_by r n)
+
+  pub asked_by : (r : Request) (n : Node) → asked (request_by p.new r) (node_by p.new n) ≡ asked r n
+  asked_by [] n = refl
+  asked_by (ask ∷ r) n = ap (λ b. if b then ask.1 else asked (request_by p.new r) (node_by p.new n)) (same_node_by ask.0 n) ∙ ap (λ m. if same_node ask.0 n then ask.1 else m) (asked_by r n)
+
+  joined_with_by : (r : Request) (n : Node) (m : Mode) → joined_with (request_by p.new r) (node_by p.new n) m ≡ request_by p.new (joined_with r n m)
+  joined_with_by [] n m = refl
+  joined_with_by (ask ∷ r) n m =
+      ap (λ b. if b then (node_by p.new ask.0, join_of ask.1 m) ∷ request_by p.new r else (node_by p.new ask.0, ask.1) ∷ joined_with (request_by p.new r) (node_by p.new n) m) (same_node_by ask.0 n)
+      ∙ by_test (joined_with_by r n m) (same_node ask.0 n)
+    where
+      by_test : joined_with (request_by p.new r) (node_by p.new n) m ≡ request_by p.new (joined_with r n m) → (b : Bool) → (if b then (node_by p.new ask.0, join_of ask.1 m) ∷ request_by p.new r else (node_by p.new ask.0, ask.1) ∷ joined_with (request_by p.new r) (node_by p.new n) m)
+          ≡ request_by p.new (if b then (ask.0, join_of ask.1 m) ∷ r else ask ∷ joined_with r n m)
+      by_test rest true = refl
+      by_test rest false = ap (λ z. (node_by p.new ask.0, ask.1) ∷ z) rest
+
+  joined_all_by : (asks r : Request) → joined_all (request_by p.new r) (request_by p.new asks) ≡ request_by p.new (joined_all r asks)
+  joined_all_by [] r = refl
+  joined_all_by (ask ∷ asks) r = ap (λ z. joined_all z (request_by p.new asks)) (joined_with_by r ask.0 ask.1) ∙ joined_all_by asks (joined_with r ask.0 ask.1)
+
+  -- ---- holdings
+
+  module _ (h g : Holding) (same : HoldingBy p.new h g) where
+    pub held_by : (t : ℕ) (n : Node) → held g t (node_by p.new n) ≡ held h t n
+    held_by t n = ap (λ o. unwrap_or o NL) (same t n)
+
+    pub release_by : (t : ℕ) → HoldingBy p.new (release h t) (release g t)
+    release_by t u n = elim (eqb_tells u t) [
+      | inl own ↦ get_release_own g t (key u (node_by p.new n)) own.1 ∙ sym (get_release_own h t (key u n) own.1)
+      | inr other ↦ get_release_other g t (key u (node_by p.new n)) other.1 ∙ same u n ∙ sym (get_release_other h t (key u n) other.1)
+    ]
+
+    pub grant_by : (t : ℕ) (r : Request) → HoldingBy p.new (grant h t r) (grant g t (request_by p.new r))
+    grant_by t r u n = elim (eqb_tells u t) [
+      | inl own ↦ subst (λ z. map.get (grant g z (request_by p.new r)) (key u (node_by p.new n)) ≡ map.get (grant h z r) (key u n)) own.1 (granted u n)
+      | inr other ↦ get_grant_other g t (request_by p.new r) (key u (node_by p.new n)) other.1 ∙ same u n ∙ sym (get_grant_other h t r (key u n) other.1)
+    ]
+      where
+        granted : (u : ℕ) (n : Node) → map.get (grant g u (request_by p.new r)) (key u (node_by p.new n)) ≡ map.get (grant h u r) (key u n)
+        granted u n =
+            get_grant_own g u (request_by p.new r) (node_by p.new n)
+            ∙ ap (λ b. if b then Some (asked (request_by p.new r) (node_by p.new n)) else map.get g (key u (node_by p.new n))) (names_by r n)
+            ∙ ap (λ m. if names r n then Some m else map.get g (key u (node_by p.new n))) (asked_by r n)
+            ∙ ap (λ o. if names r n then Some (asked r n) else o) (same u n)
+            ∙ sym (get_grant_own h u r n)
+
+    can_there : (t : ℕ) (r : Request) → CanGrant h t r → CanGrant g t (request_by p.new r)
+    can_there t r can other node apart =
+        let n = node_by p.old node in
+        subst (λ z. AreCompatible (asked (request_by p.new r) z) (held g other z)) (node_onto node)
+        (subst (λ m. AreCompatible m (held g other (node_by p.new n))) (sym (asked_by r n)) (subst (λ m. AreCompatible (asked r n) m) (sym (held_by other n)) (can other n apart)))
+
+    can_back : (t : ℕ) (r : Request) → CanGrant g t (request_by p.new r) → CanGrant h t r
+    can_back t r can other n apart =
+        subst (λ m. AreCompatible m (held h other n)) (asked_by r n) (subst (λ m. AreCompatible (asked (request_by p.new r) (node_by p.new n)) m) (held_by other n) (can other (node_by p.new n) apart))
+
+    pub can_grant_by : (t : ℕ) (r : Request) → can_grant g t (request_by p.new r) ≡ can_grant h t r
+    can_grant_by t r =
+        same_bool (can_grant g t (request_by p.new r)) (can_grant h t r)
+        (λ e. CanGrant-tested h t r (can_back t r (can_grant-tells g t (request_by p.new r) e)))
+        (λ e. CanGrant-tested g t (request_by p.new r) (can_there t r (can_grant-tells h t r e)))
+
+    pub covered_by : (t : ℕ) (c : Cell) (class : ℕ) (effect : Effect) → is_covered g t (cell_by p.new c) class effect ≡ is_covered h t c class effect
+    covered_by t c class effect =
+        ap (λ m. is_at_most (covering_mode effect) m || is_at_most (covering_mode effect) (held g t (Class class)) || is_at_most (covering_mode effect) (held g t Root)) (held_by t (Leaf c class))
+        ∙ ap (λ m. is_at_most (covering_mode effect) (held h t (Leaf c class)) || is_at_most (covering_mode effect) m || is_at_most (covering_mode effect) (held g t Root)) (held_by t (Class class))
+        ∙ ap (λ m. is_at_most (covering_mode effect) (held h t (Leaf c class)) || is_at_most (covering_mode effect) (held h t (Class class)) || is_at_most (covering_mode effect) m) (held_by t Root)
+
+  -- ---- objects
+
+  module _ (one other : List Object) (same : ObjectsBy p.new one other) where
+    pub cell_at_by : (c : Cell) → cell_at other (cell_by p.new c) ≡ option_map (value_by p.new) (cell_at one c)
+    cell_at_by c = ap (option_and_then (λ (o : Object). slice_get o.cells c.offset)) (same c.object) ∙ by_option (slice_get one c.object)
+      where
+        by_option : (o : Option Object) → option_and_then (λ (q : Object). slice_get q.cells c.offset) (option_map (object_by p.new) o) ≡ option_map (value_by p.new) (option_and_then (λ (q : Object). slice_get q.cells c.offset) o)
+        by_option None = refl
+        by_option (Some q) = slice_get-map (value_by p.new) q.cells c.offset
+
+    pub size_of_by : (n : ℕ) → size_of other (p.new n) ≡ size_of one n
+    size_of_by n = ap (option_map (λ (o : Object). length o.cells)) (same n) ∙ by_option (slice_get one n)
+      where
+        by_option : (o : Option Object) → option_map (λ (q : Object). length q.cells) (option_map (object_by p.new) o) ≡ option_map (λ (q : Object). length q.cells) o
+        by_option None = refl
+        by_option (Some q) = ap Some (length-map q.cells (value_by p.new))
+
+    pub class_of_by : (n : ℕ) → class_of other (p.new n) ≡ class_of one n
+    class_of_by n = ap (option_map (λ (o : Object). o.class)) (same n) ∙ by_option (slice_get one n)
+      where
+        by_option : (o : Option Object) → option_map (λ (q : Object). q.class) (option_map (object_by p.new) o) ≡ option_map (λ (q : Object). q.class) o
+        by_option None = refl
+        by_option (Some q) = refl
+
+    pub moved_by : (places : ℕ) (c : Cell) → moved (heap_of other) places (cell_by p.new c) ≡ option_map (cell_by p.new) (moved (heap_of one) places c)
+    moved_by places c = ap (option_and_then (λ size. if nat_lt (c.offset + places) size then Some (cell_of (p.new c.object) (c.offset + places)) else None)) (size_of_by c.object) ∙ by_option (size_of one c.object)
+      where
+        by_test : (b : Bool) → (if b then Some (cell_of (p.new c.object) (c.offset + places)) else None) ≡ option_map (cell_by p.new) (if b then Some (cell_of c.object (c.offset + places)) else None)
+        by_test true = refl
+        by_test false = refl
+
+        by_option : (o : Option ℕ) → option_and_then (λ size. if nat_lt (c.offset + places) size then Some (cell_of (p.new c.object) (c.offset + places)) else None) o
+            ≡ option_map (cell_by p.new) (option_and_then (λ size. if nat_lt (c.offset + places) size then Some (cell_of c.object (c.offset + places)) else None) o)
+        by_option None = refl
+        by_option (Some size) = by_test (nat_lt (c.offset + places) size)
+
+    walked_by : (op : Op) (o : Option Cell) → option_and_then (walked (heap_of other) op) (option_map (cell_by p.new) o) ≡ option_map (cell_by p.new) (option_and_then (walked (heap_of one) op) o)
+    walked_by op None = refl
+    walked_by (Off places) (Some c) = moved_by places c
+    walked_by Deref (Some c) = ap (option_and_then pointed) (cell_at_by c) ∙ by_option (cell_at one c)
+      where
+        by_option : (o : Option Value) → option_and_then pointed (option_map (value_by p.new) o) ≡ option_map (cell_by p.new) (option_and_then pointed o)
+        by_option None = refl
+        by_option (Some v) = pointed_by p.new v
+
+    path_cell_by : (ops : List Op) (o : Option Cell) → path_cell (heap_of other) ops (option_map (cell_by p.new) o) ≡ option_map (cell_by p.new) (path_cell (heap_of one) ops o)
+    path_cell_by [] o = refl
+    path_cell_by (op ∷ ops) o = ap (path_cell (heap_of other) ops) (walked_by op o) ∙ path_cell_by ops (option_and_then (walked (heap_of one) op) o)
+
+    cell_asks_by : (effect : Effect) (o : Option Cell) → cell_asks other effect (option_map (cell_by p.new) o) ≡ request_by p.new (cell_asks one effect o)
+    cell_asks_by effect None = refl
+    cell_asks_by effect (Some c) = ap (λ z. option_map_or (leaf_asks (cell_by p.new c) effect) z []) (class_of_by c.object) ∙ by_option (class_of one c.object)
+      where
+        by_option : (o : Option ℕ) → option_map_or (leaf_asks (cell_by p.new c) effect) o [] ≡ request_by p.new (option_map_or (leaf_asks c effect) o [])
+        by_option None = refl
+        by_option (Some class) = refl
+
+    module _ (globals : ℕ) (fixed : (n : ℕ) → n < globals → p.new n ≡ n) (regs : List Value) where
+      base_by : (b : Base) → ((g : ℕ) → b ≡ Global g → g < globals) → base_cell (each (value_by p.new) regs) b ≡ option_map (cell_by p.new) (base_cell regs b)
+      base_by (Reg r) there = ap (option_and_then pointed) (slice_get-map (value_by p.new) regs r) ∙ by_option (slice_get regs r)
+        where
+          by_option : (o : Option Value) → option_and_then pointed (option_map (value_by p.new) o) ≡ option_map (cell_by p.new) (option_and_then pointed o)
+          by_option None = refl
+          by_option (Some v) = pointed_by p.new v
+      base_by (Global g) there = ap (λ z. Some (cell_of z 0)) (sym (fixed g (there g refl)))
+
+      all_asks_by : (ls : List Lock) → HasGlobals globals ls → all_asks other (each (value_by p.new) regs) ls ≡ request_by p.new (all_asks one regs ls)
+      all_asks_by [] there = refl
+      all_asks_by (lock.Root effect ∷ ls) there =
+          ap (λ z. asks_of one regs (lock.Root effect) ++ z) (all_asks_by ls there)
+      all_asks_by (lock.Class class effect ∷ ls) there =
+          ap (λ z. asks_of one regs (lock.Class class effect) ++ z) (all_asks_by ls there)
+      all_asks_by (lock.Expr e effect ∷ ls) there =
+          ap (λ z. cell_asks other effect (path_cell (heap_of other) e.path z) ++ all_asks other (each (value_by p.new) regs) ls) (base_by e.base there.0)
+          ∙ ap (λ z. cell_asks other effect z ++ all_asks other (each (value_by p.new) regs) ls) (path_cell_by e.path (base_cell regs e.base))
+          ∙ ap (λ z. z ++ all_asks other (each (value_by p.new) regs) ls) (cell_asks_by effect (cell_denoted (heap_of one) regs e))
+          ∙ ap (λ z. request_by p.new (asks_of one regs (lock.Expr e effect)) ++ z) (all_asks_by ls there.1)
+          ∙ sym (map-append (λ (ask : Node × Mode). (node_by p.new ask.0, ask.1)) (asks_of one regs (lock.Expr e effect)) (all_asks one regs ls))
+
+      pub request_of_by : (ls : List Lock) → HasGlobals globals ls → request_of other (each (value_by p.new) regs) ls ≡ request_by p.new (request_of one regs ls)
+      request_of_by ls there = ap (joined_all []) (all_asks_by ls there) ∙ joined_all_by (all_asks one regs ls) []
+
+    pub protected_by : (h g : Holding) → HoldingBy p.new h g → (t depth : ℕ) (effect : Effect) (c : Cell) → is_protected (cover g) other t depth effect (cell_by p.new c) ≡ is_protected (cover h) one t depth effect c
+    protected_by h g holds t depth effect c =
+        ap (λ o. nat_lt 0 depth && option_map_or (λ class. is_covered g t (cell_by p.new c) class effect) o false) (class_of_by c.object)
+        ∙ by_option (class_of one c.object)
+      where
+        by_option : (o : Option ℕ) → (nat_lt 0 depth && option_map_or (λ class. is_covered g t (cell_by p.new c) class effect) o false) ≡ (nat_lt 0 depth && option_map_or (λ class. is_covered h t c class effect) o false)
+        by_option None = refl
+        by_option (Some class) = ap (λ b. nat_lt 0 depth && b) (covered_by h g holds t c class effect)

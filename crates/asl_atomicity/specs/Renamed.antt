@@ -1,0 +1,98 @@
+-- States and replies that are the same but for the numbers of objects, and runs with serial ones up to these numbers
+-- (docs/ATOMICITY.md, "Objects made in sections").
+use Rattle.std.specs.Prelude.{◌≡◌, ◌≢◌, ◌<◌, ◌≤◌, ◌⊎◌, ℕ, List, [], ◌∷◌, map as each, length, All, None, slice_get, option_map}
+use Rattle.std.specs.FinMap as map
+use Rattle.asl_code.specs.declared.image.Image.{Image}
+use Rattle.asl_code.specs.declared.value.Value.{Value}
+use Rattle.asl_code.specs.declared.value.Value.TheVariants.{Int, Null, Addr}
+use Rattle.asl_code.specs.declared.value.Cell.{Cell}
+use Rattle.asl_lock_forest.specs.declared.node.Node.{Node}
+use Rattle.asl_lock_forest.specs.declared.node.Node.TheVariants.{Root, Class, Leaf}
+use Rattle.asl_lock_forest.specs.Keys.{key}
+use Rattle.asl_machine.specs.declared.fault.Fault.{Fault}
+use Rattle.asl_machine.specs.declared.fault.Fault.TheVariants as fault
+use Rattle.asl_machine.specs.declared.reply.Reply.{Reply}
+use Rattle.asl_machine.specs.declared.reply.Reply.TheVariants as reply
+use Rattle.asl_machine.specs.State.{Object, Frame, Activity, Thread, Running, Done, Failed, State, depth_at}
+use Rattle.asl_machine.specs.Run.{start_of, state_after}
+use Rattle.asl_machine.specs.Twin.{step_of}
+use Rattle.asl_atomicity.specs.Serial.{told, AllCount, IsSerial}
+
+-- other numbers for objects: each number has one, and is that of one
+pub record Renaming : Type 0 where
+  pub new : ℕ → ℕ
+  pub old : ℕ → ℕ
+  pub onto : (n : ℕ) → new (old n) ≡ n
+  pub into : (n : ℕ) → old (new n) ≡ n
+
+-- values, cells and nodes with other numbers for objects
+abbrev pub value_by : (ℕ → ℕ) → Value → Value
+value_by f (Int number) = Int number
+value_by f Null = Null
+value_by f (Addr object offset) = Addr (f object) offset
+
+abbrev pub cell_by : (ℕ → ℕ) → Cell → Cell
+cell_by f cell = record { object = f cell.object; offset = cell.offset }
+
+abbrev pub node_by : (ℕ → ℕ) → Node → Node
+node_by f Root = Root
+node_by f (Class class) = Class class
+node_by f (Leaf cell class) = Leaf (cell_by f cell) class
+
+-- so faults and replies
+abbrev pub fault_by : (ℕ → ℕ) → Fault → Fault
+fault_by f (fault.Unprotected cell effect) = fault.Unprotected (cell_by f cell) effect
+fault_by f other = other
+
+abbrev pub reply_by : (ℕ → ℕ) → Reply → Reply
+reply_by f (reply.Out value) = reply.Out (value_by f value)
+reply_by f (reply.Fault why) = reply.Fault (fault_by f why)
+reply_by f other = other
+
+-- so objects, frames and threads
+abbrev pub object_by : (ℕ → ℕ) → Object → Object
+object_by f object = record { class = object.class; cells = each (value_by f) object.cells }
+
+abbrev pub frame_by : (ℕ → ℕ) → Frame → Frame
+frame_by f frame = record { function = frame.function; pc = frame.pc; regs = each (value_by f) frame.regs; result = frame.result }
+
+abbrev pub activity_by : (ℕ → ℕ) → Activity → Activity
+activity_by f a = record { depth = a.depth; top = frame_by f a.top; below = each (frame_by f) a.below }
+
+abbrev pub thread_by : (ℕ → ℕ) → Thread → Thread
+thread_by f (Running activity) = Running (activity_by f activity)
+thread_by f (Done value) = Done (value_by f value)
+thread_by f (Failed why) = Failed (fault_by f why)
+
+-- the second state is the first with other numbers for objects
+pub record IsRenamed (f : ℕ → ℕ) (one other : State) : Type 0 where
+  pub count : length other.objects ≡ length one.objects
+  pub objects : (n : ℕ) → slice_get other.objects (f n) ≡ option_map (object_by f) (slice_get one.objects n)
+  pub holding : (thread : ℕ) (node : Node) → map.get other.holding (key thread (node_by f node)) ≡ map.get one.holding (key thread node)
+  pub threads : other.threads ≡ each (thread_by f) one.threads
+
+-- only objects below the count that are no globals have other numbers
+pub record Keeps (f : ℕ → ℕ) (shared count : ℕ) : Type 0 where
+  pub globals : (n : ℕ) → n < shared → f n ≡ n
+  pub later : (n : ℕ) → count ≤ n → f n ≡ n
+
+-- the schedule has a serial one, in which every step counts, that leads to the same state and tells each thread the same, but
+-- for the numbers of the objects that are no globals
+pub record HasSerialUpTo (image : Image) (count : ℕ) (schedule : List ℕ) : Type 0 where
+  pub serial : List ℕ
+  pub counts : AllCount image (start_of image count) serial
+  pub is_serial : IsSerial image (start_of image count) None serial
+  pub renaming : Renaming
+  pub keeps : Keeps renaming.new (length image.globals) (length (state_after image (start_of image count) schedule).objects)
+  pub state : IsRenamed renaming.new (state_after image (start_of image count) schedule) (state_after image (start_of image count) serial)
+  pub replies : (thread : ℕ) → told image (start_of image count) thread serial ≡ each (reply_by renaming.new) (told image (start_of image count) thread schedule)
+
+-- no step of the run finds that there is no room for an object, inside a section
+abbrev pub FindsRoomInside : Image → State → List ℕ → Type 0
+FindsRoomInside image s [] = Unit {0}
+FindsRoomInside image s (t ∷ ts) = ((depth_at s.threads t ≡ 0) ⊎ ((step_of image s t).reply ≢ reply.Fault fault.Full)) × FindsRoomInside image (step_of image s t).state ts
+
+-- any run of so many threads in which no section runs out of objects has a serial one, up to the numbers of objects
+abbrev pub HasSerialRunsUpTo : Image → ℕ → Type 0
+HasSerialRunsUpTo image count =
+    (schedule : List ℕ) → All (λ t. t < count) schedule → FindsRoomInside image (start_of image count) schedule → HasSerialUpTo image count schedule
