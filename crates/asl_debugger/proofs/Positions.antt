@@ -1,20 +1,20 @@
 -- Positions of a journal, and runs between them.
-use Rattle.std.proofs.Common.{◌≡◌, ◌≢◌, ℕ, zero, suc, ◌+◌, ◌-◌, ◌<◌, ◌≤◌, List, [], ◌∷◌, ◌++◌, length, take, drop, get_or, Some, refl, ap, sym, subst, ◌∙◌, arith}
-use Rattle.std.specs.Prelude.{slice_get}
+use Rattle.std.proofs.Common.{◌≡◌, ℕ, zero, suc, ◌+◌, ◌-◌, ◌<◌, ◌≤◌, List, [], ◌∷◌, ◌++◌, length, take, drop, get_or, Some, refl, ap, sym, subst, ◌∙◌, arith}
 use Rattle.std.proofs.lemmas.List.{take_more, take-append-drop, drop-take, length-take, length-drop, get_or-drop, get_or-take}
 use Rattle.std.proofs.lemmas.List.Elements.{All-take, All-map, All-get_or}
 use Rattle.std.proofs.lemmas.Option.{slice_get-get_or, slice_get_within, get_or_from_slice_get}
 use Rattle.asl_code.specs.declared.image.Image.{Image}
 use Rattle.asl_machine.specs.State.{State}
 use Rattle.asl_machine.specs.View.{Configuration}
-use Rattle.asl_machine.specs.Run.{start_of, state_after, IsReached}
+use Rattle.asl_machine.specs.Run.{start_of, state_after}
 use Rattle.asl_machine.specs.Twin.{step_of}
 use Rattle.asl_machine.proofs.Reached.{reached_count}
 use Rattle.asl_journal.specs.declared.event.Event.{Event}
 use Rattle.asl_journal.specs.Journal.{Log, IsLog, AreThere, GoesBy, IsJournal, schedule_of}
 use Rattle.asl_journal.specs.Replay.{DiffersAt}
-use Rattle.asl_journal.proofs.Runs.{state_events, state_snoc, goes_append, goes_front, goes_back, prefix_is_journal}
+use Rattle.asl_journal.proofs.Runs.{state_events, state_snoc, goes_append, goes_back, prefix_is_journal}
 use Rattle.asl_debugger.specs.Session.{state_before, machine_before}
+use Rattle.asl_debugger.specs.Kept.{IsKept}
 
 -- a state of a run has the threads of its start
 pub count_at : (image : Image) (log : Log) (k : ℕ) → AreThere log.threads log.events → length (state_before image log k).threads ≡ log.threads
@@ -106,3 +106,16 @@ thread_there image log k machine at is i d lt =
 
 pub threads_of : (image : Image) (log : Log) (k : ℕ) (s : State) → s ≡ state_before image log k → IsLog log → length s.threads ≡ log.threads
 threads_of image log k s at is = ap (λ (u : State). length u.threads) at ∙ count_at image log k is.there
+
+-- a debugger that shows another position of its journal keeps what it keeps
+pub kept_at : (log : Log) (spacing : ℕ) (checkpoints : List Configuration) (old new : Configuration) (position k : ℕ) → IsKept old.image log spacing checkpoints old position → k ≤ length log.events →
+    new ≡ machine_before old.image log k → IsKept new.image log spacing checkpoints new k
+kept_at log spacing checkpoints old new position k kept within shown = subst (λ (m : Configuration). IsKept m.image log spacing checkpoints m k) (sym shown) (record {
+  is_log = kept.is_log;
+  journal = kept.journal;
+  spaced = kept.spaced;
+  shown = refl;
+  within = within;
+  each = kept.each;
+  enough = kept.enough;
+})

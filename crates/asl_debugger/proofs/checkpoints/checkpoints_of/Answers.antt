@@ -1,10 +1,7 @@
-use Rattle.std.proofs.Common.{◌≡◌, ◌<◌, ◌-◌, ◌+◌, ◌++◌, ◌∷◌, [], ℕ, Some, List, length, arith, refl, subst, sym, ap, ◌∙◌}
+use Rattle.std.proofs.Common.{◌≡◌, ◌<◌, ◌-◌, ◌++◌, ◌∷◌, [], Some, length, arith, refl, ap}
 use Rattle.std.specs.Prelude.{slice_get}
 use Rattle.std.proofs.lemmas.Option.{slice_get_read}
 use Rattle.std.proofs.lemmas.Result.{err_from_is_err_and}
-use Rattle.asl_machine.specs.View.{Configuration}
-use Rattle.asl_debugger.specs.Kept.{AreSoFar}
-use Rattle.asl_debugger.specs.Session.{machine_before}
 use Rattle.asl_debugger.proofs.Marks.{last_is, some_checkpoint, so_far_next, so_far_start, all_followed}
 use Rattle.asl_debugger.proofs.checkpoints.checkpoints_of.Goals as goal
 
@@ -68,3 +65,6 @@ returns-clause-journal c =
     let e = last_is c.args.program.now c.args.journal.now c.args.spacing c.loop-here.here items c.index-last-2.result.now c.requires c.loop-here.invariant at in
     let h = rw (e, c.events-events.ensures.events) at c.in_ok-_end.ensures.goes in
     all_followed c.args.program.now c.args.journal.now c.events-events.ensures.log (h c.loop-here.invariant.goes)
+
+pub loop-here-init : goal.loop-here-init
+loop-here-init c = rw (c.in_ok-push.ensures.items, c.new-checkpoints.ensures.items) (so_far_start c.args.program.now c.args.journal.now c.args.spacing c.in_ok-first_machine.field-0 c.in_ok-first_machine.ensures.machine)

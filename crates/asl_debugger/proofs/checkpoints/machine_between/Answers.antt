@@ -1,11 +1,10 @@
-use Rattle.std.proofs.Common.{◌≡◌, ◌<◌, ◌-◌, List, length, take, drop, ap, sym, subst, ◌∙◌, arith}
+use Rattle.std.proofs.Common.{◌<◌, ◌-◌, List, take, drop, ap, ◌∙◌}
 use Rattle.std.proofs.lemmas.List.Elements.{All-take, All-drop}
 use Rattle.asl_machine.specs.Run.{state_after}
 use Rattle.asl_machine.specs.State.{State}
 use Rattle.asl_machine.specs.View.{Configuration}
 use Rattle.asl_journal.specs.declared.event.Event.{Event}
-use Rattle.asl_journal.specs.Journal.{AreThere, GoesBy, schedule_of}
-use Rattle.asl_journal.specs.Replay.{DiffersAt}
+use Rattle.asl_journal.specs.Journal.{schedule_of}
 use Rattle.asl_journal.proofs.Replays.{no_difference}
 use Rattle.asl_debugger.specs.Session.{state_before}
 use Rattle.asl_debugger.proofs.Positions.{threads_of, state_between, goes_between, goes_from, differs_between, is_at}

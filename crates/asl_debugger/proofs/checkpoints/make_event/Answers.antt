@@ -1,4 +1,4 @@
-use Rattle.std.proofs.Common.{ℕ, List, ◌∙◌, ap, get_or}
+use Rattle.std.proofs.Common.{List, ◌∙◌, ap, get_or}
 use Rattle.asl_machine.specs.declared.reply.Reply.TheVariants.{Ran}
 use Rattle.asl_journal.specs.declared.event.Event.{Event}
 use Rattle.asl_debugger.proofs.Positions.{made}

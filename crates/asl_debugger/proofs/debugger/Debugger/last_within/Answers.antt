@@ -1,7 +1,7 @@
-use Rattle.std.proofs.Common.{◌≡◌, ◌<◌, ◌≤◌, ◌+◌, length, arith, refl, sym, subst, ap, ◌∙◌}
+use Rattle.std.proofs.Common.{arith}
 use Rattle.asl_machine.specs.declared.reply.Reply.TheVariants.{Ran}
 use Rattle.asl_journal.specs.declared.event.Event.{Event}
-use Rattle.asl_debugger.specs.Session.{Session, machine_before}
+use Rattle.asl_debugger.specs.Session.{Session}
 use Rattle.asl_debugger.proofs.Positions.{thread_there}
 use Rattle.asl_debugger.proofs.Halts.{is_stop, is_no_stop, found_here, found_not_here}
 use Rattle.asl_debugger.proofs.debugger.Debugger.last_within.Goals as goal

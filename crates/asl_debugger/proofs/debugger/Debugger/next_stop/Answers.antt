@@ -1,9 +1,9 @@
-use Rattle.std.proofs.Common.{◌≡◌, ◌<◌, ◌≤◌, ◌+◌, inl, inr, length, arith, refl, sym, subst, ap, ◌∙◌}
+use Rattle.std.proofs.Common.{◌<◌, inl, inr, length, arith, ap}
 use Rattle.asl_machine.specs.declared.reply.Reply.TheVariants.{Ran}
 use Rattle.asl_journal.specs.declared.event.Event.{Event}
-use Rattle.asl_debugger.specs.Session.{Session, machine_before}
+use Rattle.asl_debugger.specs.Session.{Session}
 use Rattle.asl_debugger.proofs.Positions.{thread_there}
-use Rattle.asl_debugger.proofs.Halts.{is_stop, is_no_stop, searching_next, searching_start, found_next}
+use Rattle.asl_debugger.proofs.Halts.{is_stop, is_no_stop, searching_next, found_next}
 use Rattle.asl_debugger.proofs.debugger.Debugger.next_stop.Goals as goal
 use Rattle.asl_debugger.proofs.debugger.Debugger.next_stop.Goals.{else-loop-position-test, then-loop-position-test+then-is_at_break}
 

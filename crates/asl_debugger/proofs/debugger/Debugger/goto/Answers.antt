@@ -1,0 +1,10 @@
+use Rattle.std.proofs.Common.{◌≤◌, length, rules, arith}
+use Rattle.asl_debugger.proofs.Positions.{kept_at}
+use Rattle.asl_debugger.proofs.debugger.Debugger.goto.Goals as goal
+
+pub invariant_of-self : goal.invariant_of-self
+invariant_of-self c =
+    let inside = c.self.inside in
+    let within : c.args.k ≤ length inside.journal.events = search (rules, arith) in
+    let shown = rw (← c.self.view_is) at c.in_ok-machine.ensures.machine in
+    kept_at inside.journal inside.spacing inside.checkpoints.items inside.machine c.in_ok-machine.machine inside.position c.args.k c.self.invariant within shown
