@@ -22,8 +22,8 @@ use Rattle.asl_journal.proofs.Replays.{one_difference, no_difference}
 use Rattle.asl_machine.specs.Run.{start_of}
 use Rattle.asl_tool.specs.declared.program.ProgramFault.{ProgramFault}
 use Rattle.asl_tool.specs.declared.program.ProgramFault.TheVariants as program
-use Rattle.asl_tool.specs.declared.command.Command.{Command}
-use Rattle.asl_tool.specs.declared.command.Command.TheVariants as command
+use Rattle.asl_words.specs.declared.command.Command.{Command}
+use Rattle.asl_words.specs.declared.command.Command.TheVariants as command
 use Rattle.asl_tool.specs.declared.command.CommandFault.{CommandFault}
 use Rattle.asl_tool.specs.declared.command.CommandFault.TheVariants as fault
 use Rattle.asl_tool.specs.Program.{BeginsAsImage, IsProgram, IsNoProgram}
@@ -31,7 +31,7 @@ use Rattle.asl_tool.specs.declared.run_file.FileFault.{FileFault}
 use Rattle.asl_tool.specs.declared.run_file.FileFault.TheVariants as file
 use Rattle.asl_tool.specs.RunFile.{SpellsRun, IsFileOutcome, FilesHaveAnOutcome, FileOutcomeIsOne}
 use Rattle.asl_tool.specs.Step.{IsStepped, written}
-use Rattle.asl_tool.specs.declared.debugging.DebugWord.{DebugWord}
+use Rattle.asl_words.specs.declared.debug_word.DebugWord.{DebugWord}
 use Rattle.asl_tool.specs.Debug.{IsDebugged, IsTalk, opened}
 use Rattle.asl_tool.specs.Replay.{IsReplayed, same_text}
 use Rattle.asl_tool.specs.Command.{IsAssembled, IsDisassembled, IsOutput, IsRefused, IsRefusedStep, IsRefusedText, IsRefusedImage, IsRefusedReplay}
@@ -136,6 +136,7 @@ step_is n schedule record_it input (Err (fault.File cause)) x = absurd x.0
 step_is n schedule record_it input (Err (fault.Journal cause)) x = (Ok x.0.image, x.0.program, (Err cause, refl, (x.0.refused, no_memory_run cause x.1)))
 step_is n schedule record_it input (Err (fault.Source cause)) x = absurd x.0
 step_is n schedule record_it input (Err (fault.Infer cause)) x = absurd x.0
+step_is n schedule record_it input (Err (fault.Run cause)) x = absurd x.0
 step_is n schedule record_it input (Err fault.OutOfMemory) x = absurd (x.1 tt)
 
 -- ---- `replay`
@@ -189,6 +190,7 @@ replay_is input (Err (fault.File cause)) x = (Err cause, (x.0, no_memory_file ca
 replay_is input (Err (fault.Journal cause)) x = (Ok (x.0.image, x.0.log), x.0.run, (Err cause, refl, (x.0.refused, no_memory_run cause x.1)))
 replay_is input (Err (fault.Source cause)) x = absurd x.0
 replay_is input (Err (fault.Infer cause)) x = absurd x.0
+replay_is input (Err (fault.Run cause)) x = absurd x.0
 replay_is input (Err fault.OutOfMemory) x = absurd (x.1 tt)
 
 replays_one : (input : List ℕ) (o p : Result (List ℕ) CommandFault) → All (λ b. b < 256) input → HasReplayForm input o → HasReplayForm input p → o ≡ p
@@ -232,6 +234,7 @@ debug_is words input (Err (fault.File cause)) x = (Err cause, (x.0, no_memory_fi
 debug_is words input (Err (fault.Journal cause)) x = (Ok (x.0.image, x.0.log), x.0.run, (Err cause, refl, (x.0.refused, no_memory_run cause x.1)))
 debug_is words input (Err (fault.Source cause)) x = absurd x.0
 debug_is words input (Err (fault.Infer cause)) x = absurd x.0
+debug_is words input (Err (fault.Run cause)) x = absurd x.0
 debug_is words input (Err fault.OutOfMemory) x = absurd (x.1 tt)
 
 debugs_one : (words : List DebugWord) (input : List ℕ) (o p : Result (List ℕ) CommandFault) → All (λ b. b < 256) input → HasDebugForm words input o → HasDebugForm words input p → o ≡ p
@@ -260,6 +263,7 @@ text_is input (Err (fault.File cause)) x = absurd x.0
 text_is input (Err (fault.Journal cause)) x = absurd x.0
 text_is input (Err (fault.Source cause)) x = absurd x.0
 text_is input (Err (fault.Infer cause)) x = absurd x.0
+text_is input (Err (fault.Run cause)) x = absurd x.0
 text_is input (Err fault.OutOfMemory) x = absurd (x.1 tt)
 
 text_one : TextsAreOne → (input : List ℕ) (o p : Result (List ℕ) CommandFault) → IsTextOutcome input o → IsTextOutcome input p → o ≡ p
@@ -288,6 +292,7 @@ image_is input (Err (fault.File cause)) x = absurd x.0
 image_is input (Err (fault.Journal cause)) x = absurd x.0
 image_is input (Err (fault.Source cause)) x = absurd x.0
 image_is input (Err (fault.Infer cause)) x = absurd x.0
+image_is input (Err (fault.Run cause)) x = absurd x.0
 image_is input (Err fault.OutOfMemory) x = absurd (x.1 tt)
 
 image_one : BytesAreOne → (input : List ℕ) (o p : Result (List ℕ) CommandFault) → All (λ b. b < 256) input → IsImageOutcome input o → IsImageOutcome input p → o ≡ p

@@ -13,7 +13,7 @@ use Rattle.asl_journal.specs.declared.event.Event.{Event}
 use Rattle.asl_journal.specs.Journal.{IsJournal, schedule_of, state_at}
 use Rattle.asl_journal.proofs.Runs.{prefix_is_journal}
 use Rattle.asl_debugger.specs.Session.{Session, machine_before, state_before}
-use Rattle.asl_tool.specs.declared.debugging.DebugWord.{DebugWord}
+use Rattle.asl_words.specs.declared.debug_word.DebugWord.{DebugWord}
 use Rattle.asl_tool.specs.Debug.{IsOpened, IsTalk, Follows}
 use Rattle.asl_tool.specs.View.{HasNumbers}
 

@@ -13,10 +13,10 @@ use Rattle.asl_debugger.proofs.Places.{without_place}
 use Rattle.asl_debugger.proofs.Halts.{IsSearching, searching_start, searching_next, found_next, IsNoneFrom, none_from_start, none_found}
 use Rattle.asl_tool.specs.declared.debugging.Answer.{Answer}
 use Rattle.asl_tool.specs.declared.debugging.Answer.TheVariants.{At, AtEnd, AtStart, NoSuchStep}
-use Rattle.asl_tool.specs.declared.debugging.DebugWord.{DebugWord}
-use Rattle.asl_tool.specs.declared.debugging.DebugWord.TheVariants as word
-use Rattle.asl_tool.specs.declared.debugging.Move.{Move}
-use Rattle.asl_tool.specs.declared.debugging.Move.TheVariants as step
+use Rattle.asl_words.specs.declared.debug_word.DebugWord.{DebugWord}
+use Rattle.asl_words.specs.declared.debug_word.DebugWord.TheVariants as word
+use Rattle.asl_words.specs.declared.debug_word.Move.{Move}
+use Rattle.asl_words.specs.declared.debug_word.Move.TheVariants as step
 use Rattle.asl_tool.specs.Debug.{IsAnswer, IsTalk, Says, arrived, answer_text}
 use Rattle.asl_tool.specs.View.{view_text}
 

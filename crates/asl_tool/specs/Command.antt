@@ -6,8 +6,8 @@ use Rattle.asl_assembler.specs.Faults as text
 use Rattle.asl_loader.specs.Bytes.{SpellsImage}
 use Rattle.asl_loader.specs.Faults as bytes
 use Rattle.asl_tool.specs.declared.program.ProgramFault.TheVariants as program
-use Rattle.asl_tool.specs.declared.command.Command.{Command}
-use Rattle.asl_tool.specs.declared.command.Command.TheVariants as command
+use Rattle.asl_words.specs.declared.command.Command.{Command}
+use Rattle.asl_words.specs.declared.command.Command.TheVariants as command
 use Rattle.asl_tool.specs.declared.command.CommandFault.{CommandFault}
 use Rattle.asl_tool.specs.declared.command.CommandFault.TheVariants as fault
 use Rattle.asl_tool.specs.Program.{IsProgramText, IsProgramImage, IsNoProgram}

@@ -10,10 +10,10 @@ use Rattle.asl_debugger.specs.declared.fault.DebugFault.{DebugFault}
 use Rattle.asl_debugger.specs.declared.fault.DebugFault.TheVariants as fault
 use Rattle.asl_tool.specs.declared.debugging.Answer.{Answer}
 use Rattle.asl_tool.specs.declared.debugging.Answer.TheVariants.{At, AtEnd, AtStart, NoSuchStep}
-use Rattle.asl_tool.specs.declared.debugging.DebugWord.{DebugWord}
-use Rattle.asl_tool.specs.declared.debugging.DebugWord.TheVariants as word
-use Rattle.asl_tool.specs.declared.debugging.Move.{Move}
-use Rattle.asl_tool.specs.declared.debugging.Move.TheVariants as step
+use Rattle.asl_words.specs.declared.debug_word.DebugWord.{DebugWord}
+use Rattle.asl_words.specs.declared.debug_word.DebugWord.TheVariants as word
+use Rattle.asl_words.specs.declared.debug_word.Move.{Move}
+use Rattle.asl_words.specs.declared.debug_word.Move.TheVariants as step
 use Rattle.asl_tool.specs.RunFile.{SpellsRun}
 use Rattle.asl_tool.specs.View.{view_text}
 

@@ -9,4 +9,5 @@ pub mod Debug
 pub mod Compile
 pub mod Command
 pub mod Outcome
+pub mod Work
 pub mod Tool

@@ -5,10 +5,11 @@ use Rattle.asl_loader.specs.declared.fault.LoadFault.TheVariants as load
 use Rattle.asl_syntax.specs.declared.fault.SyntaxFault.TheVariants as syntax
 use Rattle.asl_emitter.specs.declared.fault.InferFault.TheVariants as infer
 use Rattle.asl_journal.specs.declared.fault.JournalFault.TheVariants as journal
+use Rattle.asl_runner.specs.declared.fault.RunFault.TheVariants as run
 use Rattle.asl_tool.specs.declared.program.ProgramFault.TheVariants as program
 use Rattle.asl_tool.specs.declared.run_file.FileFault.TheVariants as file
-use Rattle.asl_tool.specs.declared.command.Command.{Command}
-use Rattle.asl_tool.specs.declared.command.Command.TheVariants as command
+use Rattle.asl_words.specs.declared.command.Command.{Command}
+use Rattle.asl_words.specs.declared.command.Command.TheVariants as command
 use Rattle.asl_tool.specs.declared.command.CommandFault.{CommandFault}
 use Rattle.asl_tool.specs.declared.command.CommandFault.TheVariants as fault
 use Rattle.asl_tool.specs.Command.{IsOutput, IsRefused}
@@ -21,6 +22,7 @@ IsWantOfMemory (fault.Source syntax.OutOfMemory) = Unit {0}
 IsWantOfMemory (fault.Infer infer.OutOfMemory) = Unit {0}
 IsWantOfMemory (fault.File file.OutOfMemory) = Unit {0}
 IsWantOfMemory (fault.Journal journal.OutOfMemory) = Unit {0}
+IsWantOfMemory (fault.Run run.OutOfMemory) = Unit {0}
 IsWantOfMemory fault.OutOfMemory = Unit {0}
 IsWantOfMemory f = ⊥
 

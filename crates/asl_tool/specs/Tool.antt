@@ -1,72 +1,105 @@
--- What a run of the program leaves in the writer, by what the reader had (docs/LIMITS.md, "Refusals of the program asl").
-use Rattle.std.specs.Prelude.{◌≡◌, ◌≤◌, ◌⊎◌, ℕ, List, [], Option, IfSome, length}
+-- What a run of the program leaves in the writer, by what the words ask for and what the reader had (docs/LIMITS.md,
+-- "Refusals of the program asl").
+use Rattle.std.specs.Prelude.{◌≡◌, ◌≤◌, ◌⊎◌, ℕ, List, [], Option, None, Some, IfSome, length}
 use Rattle.std.specs.Io.KnownBytes.{Appends}
-use Rattle.asl_tool.specs.declared.command.Command.{Command}
+use Rattle.asl_words.specs.declared.command.Command.{Command}
+use Rattle.asl_words.specs.declared.command.Team.{Team}
+use Rattle.asl_words.specs.declared.command.Invocation.{Invocation}
+use Rattle.asl_words.specs.declared.command.Invocation.TheVariants.{Run, Work, Help, WrongUsage}
+use Rattle.asl_words.specs.Words.{AsksFor}
 use Rattle.asl_tool.specs.declared.command.CommandFault.{CommandFault}
 use Rattle.asl_tool.specs.declared.streams.TheConstants.{MOST_INPUT}
-use Rattle.asl_tool.specs.declared.tool.ToolFault.{ToolFault}
-use Rattle.asl_tool.specs.declared.tool.ToolFault.TheVariants as fault
+use Rattle.asl_tool.specs.declared.performing.ToolFault.{ToolFault}
+use Rattle.asl_tool.specs.declared.performing.ToolFault.TheVariants as fault
 use Rattle.asl_tool.specs.Streams.{AppendsPart, IsReadFault}
 use Rattle.asl_tool.specs.Command.{IsOutput, IsRefused}
+use Rattle.asl_tool.specs.Work.{IsWorkOutput, IsRefusedWork}
+
+-- what a command makes of an input, and why it may refuse to
+pub record Promise : Type 1 where
+  pub output : List ℕ → List ℕ → Type 0
+  pub refusal : List ℕ → CommandFault → Type 0
+
+-- the promise of a command that waits for nobody
+abbrev pub of_command : Command → Promise
+of_command command = record { output = IsOutput command; refusal = IsRefused command }
+
+-- the promise of the command `run`
+abbrev pub of_team : Team → Promise
+of_team team = record { output = IsWorkOutput team; refusal = IsRefusedWork team }
 
 -- the input is all that the reader had, where that is known, and no longer than an input may be
 abbrev pub IsWhole : Option (List ℕ) → List ℕ → Type 0
 IsWhole known input = IfSome known (λ bytes. input ≡ bytes) × (length input ≤ MOST_INPUT)
 
 -- the writer got the command's output for the input
-pub record WritesOutput (known old new : Option (List ℕ)) (command : Command) : Type 0 where
+pub record WritesOutput (known old new : Option (List ℕ)) (promise : Promise) : Type 0 where
   pub input : List ℕ
   pub output : List ℕ
   pub whole : IsWhole known input
-  pub made : IsOutput command input output
+  pub made : promise.output input output
   pub written : Appends old new output
 
 -- the writer got a first part of the command's output for the input
-pub record WritesPart (known old new : Option (List ℕ)) (command : Command) : Type 0 where
+pub record WritesPart (known old new : Option (List ℕ)) (promise : Promise) : Type 0 where
   pub input : List ℕ
   pub output : List ℕ
   pub whole : IsWhole known input
-  pub made : IsOutput command input output
+  pub made : promise.output input output
   pub part : AppendsPart old new output
 
 -- the input is refused, and the writer got nothing
-pub record RefusesInput (known old new : Option (List ℕ)) (command : Command) (cause : CommandFault) : Type 0 where
+pub record RefusesInput (known old new : Option (List ℕ)) (promise : Promise) (cause : CommandFault) : Type 0 where
   pub input : List ℕ
   pub whole : IsWhole known input
-  pub refused : IsRefused command input cause
+  pub refused : promise.refusal input cause
   pub nothing : Appends old new []
 
 -- what each fault leaves: only one of the writer leaves anything in it
-abbrev pub Refuses : Option (List ℕ) → Option (List ℕ) → Option (List ℕ) → Command → ToolFault → Type 0
-Refuses known old new command (fault.Read cause) = IsReadFault known cause × Appends old new []
-Refuses known old new command (fault.Command cause) = RefusesInput known old new command cause
-Refuses known old new command (fault.Write cause) = WritesPart known old new command
-Refuses known old new command fault.OutOfMemory = Appends old new []
+abbrev pub Refuses : Option (List ℕ) → Option (List ℕ) → Option (List ℕ) → Promise → ToolFault → Type 0
+Refuses known old new promise (fault.Read cause) = IsReadFault known cause × Appends old new []
+Refuses known old new promise (fault.Command cause) = RefusesInput known old new promise cause
+Refuses known old new promise (fault.Write cause) = WritesPart known old new promise
+Refuses known old new promise fault.OutOfMemory = Appends old new []
 
 -- the status of a command, with what the writer got: 0 with the output, 1 with a refusal
-abbrev pub IsCommandStatus : Option (List ℕ) → Option (List ℕ) → Option (List ℕ) → Command → ℕ → Type 0
-IsCommandStatus known old new command status =
-    ((status ≡ 0) × WritesOutput known old new command)
-    ⊎ ((status ≡ 1) × ((f : ToolFault) × Refuses known old new command f))
+abbrev pub IsCommandStatus : Option (List ℕ) → Option (List ℕ) → Option (List ℕ) → Promise → ℕ → Type 0
+IsCommandStatus known old new promise status =
+    ((status ≡ 0) × WritesOutput known old new promise)
+    ⊎ ((status ≡ 1) × ((f : ToolFault) × Refuses known old new promise f))
 
 -- the status of a text that is shown: 0 with the text, 1 with a first part of it
 abbrev pub IsTextStatus : Option (List ℕ) → Option (List ℕ) → List ℕ → ℕ → Type 0
 IsTextStatus old new text status = ((status ≡ 0) × Appends old new text) ⊎ ((status ≡ 1) × AppendsPart old new text)
 
--- what the words can ask for: a command, to show help, or nothing that is legal; or there is no memory to judge them
-pub data Asked : Type 0 where
-  Runs : (command : Command) → Asked
-  Help : (text : List ℕ) → Asked
-  WrongUsage : Asked
-  NoMemory : Asked
+-- what the words ask for, or that there was no memory to judge them
+abbrev pub IsAsked : List (List ℕ) → Option Invocation → Type 0
+IsAsked words (Some invocation) = AsksFor words invocation
+IsAsked words None = Unit {0}
 
--- the status of what was asked, with what the writer got: 2 is for wrong usage alone
-abbrev pub IsStatus : Option (List ℕ) → Option (List ℕ) → Option (List ℕ) → ℕ → Asked → Type 0
-IsStatus known old new status (Runs command) = IsCommandStatus known old new command status
-IsStatus known old new status (Help text) = IsTextStatus old new text status
-IsStatus known old new status WrongUsage = (status ≡ 2) × Appends old new []
-IsStatus known old new status NoMemory = (status ≡ 1) × Appends old new []
+-- the status of what was asked, with what the writer got: 2 is for wrong usage alone. Unless a command was asked for, the
+-- reader is as it was (`unread`)
+abbrev pub IsStatus : Type 0 → Option (List ℕ) → Option (List ℕ) → Option (List ℕ) → ℕ → Option Invocation → Type 0
+IsStatus unread known old new status (Some (Run command)) = IsCommandStatus known old new (of_command command) status
+IsStatus unread known old new status (Some (Work team)) = IsCommandStatus known old new (of_team team) status
+IsStatus unread known old new status (Some (Help text)) = unread × IsTextStatus old new text.bytes.items status
+IsStatus unread known old new status (Some (WrongUsage text)) = unread × ((status ≡ 2) × Appends old new [])
+IsStatus unread known old new status None = unread × ((status ≡ 1) × Appends old new [])
 
--- the status is that of something that the words can ask for
-abbrev pub EndsWith : Option (List ℕ) → Option (List ℕ) → Option (List ℕ) → ℕ → Type 0
-EndsWith known old new status = (asked : Asked) × IsStatus known old new status asked
+-- the status is that of what the words ask for
+abbrev pub EndsWith : List (List ℕ) → Type 0 → Option (List ℕ) → Option (List ℕ) → Option (List ℕ) → ℕ → Type 0
+EndsWith words unread known old new status = (asked : Option Invocation) × IsAsked words asked × IsStatus unread known old new status asked
+
+-- not the command `run`
+abbrev pub IsNoWork : Option Invocation → Type 0
+IsNoWork (Some (Work team)) = ⊥
+IsNoWork asked = Unit {0}
+
+-- the same where the words do not ask for `run`
+abbrev pub EndsAlone : List (List ℕ) → Type 0 → Option (List ℕ) → Option (List ℕ) → Option (List ℕ) → ℕ → Type 0
+EndsAlone words unread known old new status =
+    (asked : Option Invocation) × IsNoWork asked × IsAsked words asked × IsStatus unread known old new status asked
+
+-- the words ask for `run`
+abbrev pub AsksForWork : List (List ℕ) → Type 0
+AsksForWork words = (team : Team) × AsksFor words (Work team)

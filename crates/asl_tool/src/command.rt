@@ -5,8 +5,8 @@ ghost use Rattle.asl_tool.specs.Replay.{IsReplayed};
 ghost use Rattle.asl_tool.specs.Step.{IsStepped, written};
 ghost use Rattle.asl_tool.specs.Command.{IsAssembled, IsDisassembled, IsOutput, IsRefused, IsRefusedStep, IsRefusedText, IsRefusedImage, IsRefusedReplay};
 
-use crate::compiling::{Longest, compiled};
-use crate::debugging::{DebugWord, debugged_text};
+use crate::compiling::compiled;
+use crate::debugging::debugged_text;
 use crate::program::{ProgramFault, read_program};
 use crate::replaying::replayed_text;
 use crate::run_file::{FileFault, get_run, put_run};
@@ -16,41 +16,11 @@ use asl_code::Program;
 use asl_emitter::InferFault;
 use asl_journal::{Journal, JournalFault};
 use asl_loader::{load, store};
+use asl_runner::RunFault;
 use asl_syntax::SyntaxFault;
+use asl_words::{Command, DebugWord};
 use std::alloc::{AllocError, Global};
 use thiserror::Error;
-
-/// What is made of an input.
-#[derive(Debug, Drop)]
-pub enum Command {
-    /// `step`: the lines of the replies of the input's program, or its run file.
-    Step {
-        /// How many threads the machine has.
-        threads: u32,
-        /// The thread of each step.
-        schedule: Vec<u32>,
-        /// Whether the run file is written, in place of the lines.
-        record: bool,
-    },
-    /// `asm`: the image of the input, which is assembly text.
-    Assemble,
-    /// `dis`: the canonical text of the input, which is an image.
-    Disassemble,
-    /// `compile`: the program that is inferred for the input, which is a source.
-    Compile {
-        /// How many operations a path of an inferred lock has at most.
-        longest: Longest,
-        /// Whether the canonical text is written, in place of the image.
-        text: bool,
-    },
-    /// `replay`: whether the input, a run file, is a run of its program.
-    Replay,
-    /// `debug`: what a debugger over the input, a run file, answers to the words.
-    Debug {
-        /// What it is asked, one after the other.
-        words: Vec<DebugWord>,
-    },
-}
 
 /// Why a command gives no output. Where several apply, the first is answered.
 #[derive(Debug, Drop, Error)]
@@ -71,6 +41,9 @@ pub enum CommandFault {
     /// none of the program, or memory ran out.
     #[error(transparent)]
     Journal(JournalFault),
+    /// The workers' run has no good end.
+    #[error(transparent)]
+    Run(RunFault),
     /// Memory ran out.
     #[error("OutOfMemory")]
     OutOfMemory,
@@ -121,7 +94,7 @@ fn stepped(
 }
 
 /// What is written of a journal: the run file, or the lines of its events.
-fn written(
+pub fn written(
     alloc: Global,
     program: &Program,
     journal: &Journal,

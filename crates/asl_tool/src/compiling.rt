@@ -1,5 +1,5 @@
 //! The command `compile`: from a source to the program that is inferred for it.
-ghost use Rattle.std.specs.Prelude.{◌≡◌, ◌≤◌, ◌<◌, IfOk, IfErr, IfSome, IfNone};
+ghost use Rattle.std.specs.Prelude.{IfOk, IfErr};
 ghost use Rattle.asl_syntax.specs.AstView.{tree_of};
 ghost use Rattle.asl_tool.specs.Compile.{IsCompiled, IsProgramFor, IsProgramWritten, IsRefusedSource};
 
@@ -9,53 +9,8 @@ use asl_code::Program;
 use asl_emitter::infer;
 use asl_loader::store;
 use asl_syntax::parse;
+use asl_words::Longest;
 use std::alloc::{AllocError, Global};
-use std::marker::Model;
-
-/// How many operations a path of an inferred lock has at most: 0 to 8.
-#[derive(Debug, Drop)]
-pub struct Longest {
-    operations: u32,
-}
-
-impl Model for Longest {
-    ghost use Rattle.std.specs.Prelude.{◌≤◌, ℕ};
-
-    ghost Value = { ℕ };
-
-    ghost view = { λ longest. longest.operations };
-
-    ghost invariant = { λ longest. longest.operations ≤ 8 };
-}
-
-impl Longest {
-    /// What is taken where nothing else is asked for.
-    pub const fn usual() -> Longest
-        ensures { result ≡ 3 }
-    {
-        Longest { operations: 3 }
-    }
-
-    /// So many operations, if a path may have so many.
-    pub fn of(operations: u32) -> Option<Longest>
-        ensures some { IfSome result (λ longest. longest ≡ operations) }
-        ensures none { IfNone result (8 < operations) }
-    {
-        if operations <= 8 {
-            Some(Longest { operations })
-        } else {
-            None
-        }
-    }
-
-    /// How many operations.
-    pub fn operations(&self) -> u32
-        ensures value { result ≡ self.now }
-        ensures few { result ≤ 8 }
-    {
-        self.operations
-    }
-}
 
 /// The program that is inferred for the source, as its image or as its text.
 pub fn compiled(

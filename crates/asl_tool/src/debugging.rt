@@ -10,38 +10,11 @@ use crate::view::push_view;
 use asl_code::Program;
 use asl_debugger::{DebugFault, Debugger};
 use asl_journal::{Journal, JournalFault};
+use asl_words::{DebugWord, Move};
 use std::alloc::{AllocError, Global};
 
-/// A move of the debugger.
-#[derive(Clone, Copy, Debug, PartialEq, Eq)]
-pub enum Move {
-    /// `goto K`: to position K.
-    Goto(u32),
-    /// `forward`: to the next position.
-    Forward,
-    /// `back`: to the position before.
-    Back,
-    /// `next`: to the next stop.
-    Next,
-    /// `prev`: to the stop before.
-    Previous,
-}
-
-/// What a word of the command `debug` asks for.
-#[derive(Clone, Copy, Debug, PartialEq, Eq)]
-pub enum DebugWord {
-    /// A move.
-    Move(Move),
-    /// `break P`: makes the place P a breakpoint.
-    Break(u32),
-    /// `clear P`: makes it none.
-    Clear(u32),
-    /// `view`: shows the machine.
-    View,
-}
-
 /// What a move answers.
-#[derive(Clone, Copy, Debug, PartialEq, Eq)]
+#[derive(Clone, Copy)]
 pub enum Answer {
     /// The debugger is at this position now.
     At(u32),

@@ -1,6 +1,6 @@
 //! Laws of the commands, as functions that do nothing: what each ensures is the law.
 ghost use Rattle.std.specs.Prelude.{◌≡◌, ◌<◌, ℕ, List, All, Result};
-ghost use Rattle.asl_tool.specs.declared.command.Command.{Command};
+ghost use Rattle.asl_words.specs.declared.command.Command.{Command};
 ghost use Rattle.asl_tool.specs.declared.command.CommandFault.{CommandFault};
 ghost use Rattle.asl_tool.specs.Outcome.{IsOutcome, IsSettled};
 ghost use Rattle.asl_tool.specs.RunFile.{RunOfSpellingIsOne, SpellingOfRunIsOne, FilesHaveAnOutcome, FileOutcomeIsOne};

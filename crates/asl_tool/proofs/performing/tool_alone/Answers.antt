@@ -1,0 +1,24 @@
+use Rattle.std.proofs.Common.{rules, ◌≡◌, List, [], ℕ, Some, map, string_bytes, refl, subst}
+use Rattle.std.specs.Io.KnownBytes.{Appends}
+use Rattle.asl_words.specs.Words.{AsksFor}
+use Rattle.asl_words.specs.declared.command.Invocation.TheVariants.{Run, Help, WrongUsage}
+use Rattle.asl_tool.specs.Tool.{IsTextStatus}
+use Rattle.asl_tool.proofs.performing.tool_alone.Goals as goal
+
+pub returns-in-Ok-Run-clause-status : goal.returns-in-Ok-Run-clause-status
+returns-in-Ok-Run-clause-status g c =
+    let asks = subst (AsksFor (map string_bytes c.args.words.now)) c.in-Ok-Run.field-0-is c.in-Ok-Run.ensures in
+    (Some (Run c.in-Ok-Run.command), tt, asks, c.performed.ensures.status)
+
+pub returns-in-Ok-Help-clause-status : goal.returns-in-Ok-Help-clause-status
+returns-in-Ok-Help-clause-status g c =
+    let asks = subst (AsksFor (map string_bytes c.args.words.now)) c.in-Ok-Help.field-0-is c.in-Ok-Help.ensures in
+    let same : c.as_str.result.now ≡ c.in-Ok-Help.text.bytes.items = search rules in
+    let status = subst (λ (t : List ℕ). IsTextStatus (g.W.Write.contents c.args.writer.now) (g.W.Write.contents c.shown.new.writer) t c.shown.result) same c.shown.ensures.status in
+    (Some (Help c.in-Ok-Help.text), tt, asks, (refl, status))
+
+pub returns-in-Ok-WrongUsage-clause-status : goal.returns-in-Ok-WrongUsage-clause-status
+returns-in-Ok-WrongUsage-clause-status g c =
+    let asks = subst (AsksFor (map string_bytes c.args.words.now)) c.in-Ok-WrongUsage.field-0-is c.in-Ok-WrongUsage.ensures in
+    let nothing : Appends (g.W.Write.contents c.args.writer.now) (g.W.Write.contents c.args.writer.now) [] = search rules in
+    (Some (WrongUsage c.in-Ok-WrongUsage.text), tt, asks, (refl, (c.wrong_usage.ensures, nothing)))

@@ -1,0 +1,47 @@
+-- What the command `run` answers: the output of any journal that workers may leave (docs/WORKERS.md, "The command run").
+use Rattle.std.specs.Prelude.{◌≡◌, ◌≤◌, ◌⊎◌, ℕ, List, Option, length}
+use Rattle.asl_code.specs.declared.image.Image.{Image}
+use Rattle.asl_journal.specs.Journal.{Log, IsJournal, state_at}
+use Rattle.asl_runner.specs.History.{HaveEnded, IsAsked}
+use Rattle.asl_runner.specs.Refused.{IsRefusal}
+use Rattle.asl_runner.specs.declared.fault.RunFault.{RunFault}
+use Rattle.asl_runner.specs.declared.report.Report.{Report}
+use Rattle.asl_words.specs.declared.command.Team.{Team}
+use Rattle.asl_tool.specs.declared.command.CommandFault.{CommandFault}
+use Rattle.asl_tool.specs.declared.command.CommandFault.TheVariants as fault
+use Rattle.asl_tool.specs.Program.{IsProgram, IsNoProgram}
+use Rattle.asl_tool.specs.Step.{written}
+
+-- the journal is one that the workers may leave of the program: it has at most so many events as the limit says, and either
+-- each thread has ended or there are exactly so many
+pub record IsWorked (image : Image) (team : Team) (log : Log) : Type 0 where
+  pub threads_are : log.threads ≡ team.threads
+  pub journal : IsJournal image team.threads log.events
+  pub short : length log.events ≤ team.limit
+  pub end : HaveEnded (state_at image team.threads log.events) team.threads ⊎ (length log.events ≡ team.limit)
+
+-- the input is a program, and the output is what is written of a journal that the workers may leave of it
+pub record IsWorkOutput (team : Team) (input output : List ℕ) : Type 0 where
+  pub image : Image
+  pub log : Log
+  pub program : IsProgram input image
+  pub asked : IsAsked team.threads team.workers team.limit
+  pub worked : IsWorked image team log
+  pub output_is : output ≡ written team.record image log
+
+-- the workers' run of the program is refused
+abbrev pub IsRefusedRunOf : Image → Team → RunFault → Type 0
+IsRefusedRunOf image team cause = (report : Option Report) × IsRefusal image team.threads team.workers team.limit cause report
+
+-- the input is a program, whose run by the workers is refused
+pub record HasRefusedWork (team : Team) (input : List ℕ) (cause : RunFault) : Type 0 where
+  pub image : Image
+  pub program : IsProgram input image
+  pub refused : IsRefusedRunOf image team cause
+
+-- what each refusal of `run` says of the input; of want of memory nothing is said
+abbrev pub IsRefusedWork : Team → List ℕ → CommandFault → Type 0
+IsRefusedWork team input (fault.Program cause) = IsNoProgram input cause
+IsRefusedWork team input (fault.Run cause) = HasRefusedWork team input cause
+IsRefusedWork team input fault.OutOfMemory = Unit {0}
+IsRefusedWork team input f = ⊥

@@ -1,0 +1,4 @@
+mod Values
+mod Numbers
+mod Talks
+mod Asked

@@ -1,0 +1,73 @@
+-- The commands of the program `asl` and their arguments, in the terms in which `clap` says what words make of them
+-- (docs/LIMITS.md, "The commands of the program asl").
+use Rattle.std.specs.Prelude.{true, [], Some, codes}
+use Rattle.clap.specs.Words.{App, Rule, Text, new_app, new_rule, with_rule, with_subcommand}
+use Rattle.clap.specs.Lexer.{usize_max}
+use Rattle.clap.specs.declared.builder.action.ArgAction.TheVariants.{Set, SetTrue, Append}
+
+-- `--NAME VALUE`
+abbrev pub value_rule : Text → Rule
+value_rule name = record (new_rule name) { long = Some name; action = Some Set; value_names = 1 }
+
+-- `--NAME VALUE`, which must be given
+abbrev pub needed_rule : Text → Rule
+needed_rule name = record (value_rule name) { required = true }
+
+-- `--NAME`
+abbrev pub flag_rule : Text → Rule
+flag_rule name = record (new_rule name) { long = Some name; action = Some SetTrue }
+
+-- words of no option, of which there must be one or more
+abbrev pub words_rule : Text → Rule
+words_rule name = record (new_rule name) {
+  action = Some Append;
+  value_names = 1;
+  range = Some (record { start_inclusive = 1; end_inclusive = usize_max });
+  required = true;
+}
+
+-- `compile [--k K] [--text]`
+abbrev pub compile_app : App
+compile_app = with_rule (with_rule (new_app (codes "compile")) (value_rule (codes "k"))) (flag_rule (codes "text"))
+
+-- `asm`
+abbrev pub asm_app : App
+asm_app = new_app (codes "asm")
+
+-- `dis`
+abbrev pub dis_app : App
+dis_app = new_app (codes "dis")
+
+-- `replay`
+abbrev pub replay_app : App
+replay_app = new_app (codes "replay")
+
+-- `step --threads N [--record] T..`
+abbrev pub step_app : App
+step_app =
+    with_rule (with_rule (with_rule (new_app (codes "step")) (needed_rule (codes "threads"))) (flag_rule (codes "record")))
+    (words_rule (codes "schedule"))
+
+-- `run --threads N --workers W --limit L [--record]`
+abbrev pub run_app : App
+run_app =
+    with_rule (with_rule (with_rule (with_rule (new_app (codes "run")) (needed_rule (codes "threads"))) (needed_rule (codes "workers")))
+    (needed_rule (codes "limit"))) (flag_rule (codes "record"))
+
+-- `debug WORD..`
+abbrev pub debug_app : App
+debug_app = with_rule (new_app (codes "debug")) (words_rule (codes "words"))
+
+-- the program's words are those behind its own name, and name a command
+abbrev pub bare_app : App
+bare_app = record {
+  top = record (new_app (codes "asl")).top { no_binary_name = true; subcommand_required = true; disable_help_subcommand = true };
+  subs = [];
+}
+
+-- the program
+abbrev pub asl_app : App
+asl_app =
+    with_subcommand (with_subcommand (with_subcommand (with_subcommand (with_subcommand (with_subcommand (with_subcommand bare_app
+    compile_app.top) asm_app.top) dis_app.top) step_app.top) run_app.top) replay_app.top)
+    debug_app.top

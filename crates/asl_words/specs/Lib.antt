@@ -1,0 +1,6 @@
+pub mod Number
+pub mod Arguments
+pub mod Words
+-- Machinery of the proofs, not of the promise:
+pub mod Building
+pub mod Reading

@@ -1,0 +1,26 @@
+-- Machinery of the proofs, not of the promise: what private functions answer (src/number.rt, src/reading.rt).
+use Rattle.std.specs.Prelude.{◌≡◌, ◌≢◌, ℕ, List}
+use Rattle.clap.specs.Words.{Text}
+use Rattle.clap.specs.declared.error.kind.ErrorKind.{ErrorKind}
+use Rattle.clap.specs.declared.error.kind.ErrorKind.TheVariants as kinds
+use Rattle.asl_words.specs.declared.command.Invocation.{Invocation}
+use Rattle.asl_words.specs.declared.command.Invocation.TheVariants.{Help, WrongUsage}
+use Rattle.asl_words.specs.declared.number.NumbersFault.{NumbersFault}
+use Rattle.asl_words.specs.declared.number.NumbersFault.TheVariants as fault
+use Rattle.asl_words.specs.Number.{AreNumbers}
+
+-- the words are no legal use
+abbrev pub IsWrongUsage : Invocation → Type 0
+IsWrongUsage (WrongUsage text) = Unit {0}
+IsWrongUsage i = ⊥
+
+-- what is made of an error of this kind
+abbrev pub IsRefusal : ErrorKind → Invocation → Type 0
+IsRefusal kind (Help text) = kind ≡ kinds.DisplayHelp
+IsRefusal kind (WrongUsage text) = kind ≢ kinds.DisplayHelp
+IsRefusal kind i = ⊥
+
+-- why texts are no numbers; of want of memory nothing is said
+abbrev pub IsNumbersFault : List Text → NumbersFault → Type 0
+IsNumbersFault texts (fault.NoNumber word) = (numbers : List ℕ) → AreNumbers texts numbers → ⊥
+IsNumbersFault texts fault.OutOfMemory = Unit {0}

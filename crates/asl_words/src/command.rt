@@ -1,0 +1,61 @@
+//! What the words of a command line ask for.
+use crate::debug_word::DebugWord;
+use crate::longest::Longest;
+
+/// What is made of an input by one thread.
+#[derive(Drop)]
+pub enum Command {
+    /// `step`: the lines of the replies of the input's program, or its run file.
+    Step {
+        /// How many threads the machine has.
+        threads: u32,
+        /// The thread of each step.
+        schedule: Vec<u32>,
+        /// Whether the run file is written, in place of the lines.
+        record: bool,
+    },
+    /// `asm`: the image of the input, which is assembly text.
+    Assemble,
+    /// `dis`: the canonical text of the input, which is an image.
+    Disassemble,
+    /// `compile`: the program that is inferred for the input, which is a source.
+    Compile {
+        /// How many operations a path of an inferred lock has at most.
+        longest: Longest,
+        /// Whether the canonical text is written, in place of the image.
+        text: bool,
+    },
+    /// `replay`: whether the input, a run file, is a run of its program.
+    Replay,
+    /// `debug`: what a debugger over the input, a run file, answers to the words.
+    Debug {
+        /// What it is asked, one after the other.
+        words: Vec<DebugWord>,
+    },
+}
+
+/// What the command `run` is asked for: workers that step the input's program.
+#[derive(Clone, Copy)]
+pub struct Team {
+    /// How many threads the machine has.
+    pub threads: u32,
+    /// How many workers step them.
+    pub workers: u32,
+    /// How many steps they make at most.
+    pub limit: u32,
+    /// Whether the run file is written, in place of the lines.
+    pub record: bool,
+}
+
+/// What the words of a command line ask for.
+#[derive(Drop)]
+pub enum Invocation {
+    /// The words name a command that waits for nobody.
+    Run(Command),
+    /// The words are those of the command `run`.
+    Work(Team),
+    /// The words ask for help: the text to show.
+    Help(String),
+    /// The words are no legal use: the text that says why.
+    WrongUsage(String),
+}

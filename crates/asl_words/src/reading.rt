@@ -1,0 +1,236 @@
+//! Reads the words of a command line.
+ghost use Rattle.std.specs.Prelude.{◌≡◌, ◌≤◌, ◌≢◌, ℕ, map, IfOk, IfErr, MatchOption, string_bytes, codes};
+ghost use Rattle.clap.specs.Words.{found_of, kind_of, rows_of, subcommand_rows_of};
+ghost use Rattle.asl_words.specs.Words.{AreDebugWords, AreNoNumbersAt, AsksFor, IsFlagAt, IsLengthAt, IsNoLengthAt, IsNoNumberAt, IsNumberAt, IsReading, IsTaken, words_at};
+ghost use Rattle.asl_words.specs.Number.{AreNumbers, IsNumber};
+ghost use Rattle.asl_words.specs.Reading.{IsNumbersFault, IsRefusal, IsWrongUsage};
+
+use crate::arguments::program;
+use crate::command::{Command, Invocation, Team};
+use crate::debug_word::DebugWord;
+use crate::longest::Longest;
+use crate::number::{NumbersFault, number, numbers};
+use crate::talk::{TalkFault, debug_words};
+use clap::error::ErrorKind;
+use clap::{ArgMatches, Error};
+use std::alloc::{AllocError, Global};
+
+/// What a number must be.
+const A_NUMBER: &str = "no number from 0 to 4294967295";
+/// What a length of paths must be.
+const A_LENGTH: &str = "no number from 0 to 8";
+/// Where usage is explained.
+const HELP_IS_THERE: &str = "For more information, try '--help'.\n";
+/// What a word of the debugger must be.
+const A_WORD: &str = "none of goto, forward, back, next, prev, break, clear, view";
+
+/// Judges the words, which are those after the program's name. Only memory can fail.
+pub fn read_words(alloc: Global, words: &[String]) -> Result<Invocation, AllocError>
+    ensures { IfOk result (AsksFor (map string_bytes words.now)) }
+{
+    match program(alloc)?.try_get_matches_from(words) {
+        Ok(matches) => read_matches(alloc, &matches),
+        Err(error) => refused(alloc, &error),
+    }
+}
+
+/// What words ask for that were taken.
+fn read_matches(alloc: Global, matches: &ArgMatches<'_>) -> Result<Invocation, AllocError>
+    ensures { IfOk result (IsTaken (subcommand_rows_of matches.now)) }
+{
+    match matches.subcommand() {
+        Some((name, values)) => read_command(alloc, name, values),
+        None => wrong_usage(alloc, "'asl' requires a command but one was not provided"),
+    }
+}
+
+/// What a command asks for.
+fn read_command(
+    alloc: Global,
+    name: &str,
+    values: &ArgMatches<'_>,
+) -> Result<Invocation, AllocError>
+    ensures { IfOk result (IsReading name.now (rows_of (found_of values.now))) }
+{
+    match name {
+        "step" => read_step(alloc, values),
+        "asm" => Ok(Invocation::Run(Command::Assemble)),
+        "dis" => Ok(Invocation::Run(Command::Disassemble)),
+        "compile" => read_compile(alloc, values),
+        "replay" => Ok(Invocation::Run(Command::Replay)),
+        "debug" => read_debug(alloc, values),
+        "run" => read_run(alloc, values),
+        _ => wrong_usage(alloc, "the command is unknown"),
+    }
+}
+
+fn read_step(alloc: Global, values: &ArgMatches<'_>) -> Result<Invocation, AllocError>
+    ensures { IfOk result (IsReading (codes "step") (rows_of (found_of values.now))) }
+{
+    let threads = match number_at(values, "threads") {
+        Ok(threads) => threads,
+        Err(word) => return invalid(alloc, word, "--threads <N>", A_NUMBER),
+    };
+    let record = flag_at(values, "record");
+    match numbers_at(alloc, values, "schedule") {
+        Ok(schedule) => Ok(Invocation::Run(Command::Step {
+            threads,
+            schedule,
+            record,
+        })),
+        Err(NumbersFault::NoNumber(word)) => invalid(alloc, word, "<T>...", A_NUMBER),
+        Err(NumbersFault::OutOfMemory) => Err(AllocError),
+    }
+}
+
+fn read_run(alloc: Global, values: &ArgMatches<'_>) -> Result<Invocation, AllocError>
+    ensures { IfOk result (IsReading (codes "run") (rows_of (found_of values.now))) }
+{
+    let threads = match number_at(values, "threads") {
+        Ok(threads) => threads,
+        Err(word) => return invalid(alloc, word, "--threads <N>", A_NUMBER),
+    };
+    let workers = match number_at(values, "workers") {
+        Ok(workers) => workers,
+        Err(word) => return invalid(alloc, word, "--workers <W>", A_NUMBER),
+    };
+    let limit = match number_at(values, "limit") {
+        Ok(limit) => limit,
+        Err(word) => return invalid(alloc, word, "--limit <L>", A_NUMBER),
+    };
+    let record = flag_at(values, "record");
+    Ok(Invocation::Work(Team {
+        threads,
+        workers,
+        limit,
+        record,
+    }))
+}
+
+fn read_compile(alloc: Global, values: &ArgMatches<'_>) -> Result<Invocation, AllocError>
+    ensures { IfOk result (IsReading (codes "compile") (rows_of (found_of values.now))) }
+{
+    match longest_at(values) {
+        Ok(longest) => {
+            let text = flag_at(values, "text");
+            Ok(Invocation::Run(Command::Compile { longest, text }))
+        }
+        Err(word) => invalid(alloc, word, "--k <K>", A_LENGTH),
+    }
+}
+
+/// Whether the flag was given.
+fn flag_at(values: &ArgMatches<'_>, name: &str) -> bool
+    ensures { IsFlagAt name.now (rows_of (found_of values.now)) result }
+{
+    values.get_flag(name)
+}
+
+/// The number that is the argument's value, or the value that is none.
+fn number_at<'a>(values: &ArgMatches<'a>, name: &str) -> Result<u32, &'a str>
+    ensures ok { IfOk result (IsNumberAt name.now (rows_of (found_of values.now))) }
+    ensures err { IfErr result (λ _. IsNoNumberAt name.now (rows_of (found_of values.now))) }
+{
+    match values.get_str(name) {
+        Some(word) => match number(word) {
+            Some(number) => Ok(number),
+            None => Err(word),
+        },
+        None => Err(""),
+    }
+}
+
+/// The value of `--k`, or the value that is none.
+fn longest_at<'a>(values: &ArgMatches<'a>) -> Result<Longest, &'a str>
+    ensures ok { IfOk result (λ longest. IsLengthAt (rows_of (found_of values.now)) longest) }
+    ensures err { IfErr result (λ _. IsNoLengthAt (rows_of (found_of values.now))) }
+{
+    match values.get_str("k") {
+        Some(word) => match length(word) {
+            Some(longest) => Ok(longest),
+            None => Err(word),
+        },
+        None => Ok(Longest::usual()),
+    }
+}
+
+/// The length of paths that the word is, if it is one.
+fn length(word: &str) -> Option<Longest>
+    ensures { MatchOption result ((n : ℕ) → n ≤ 8 → IsNumber word.now n → ⊥) (λ longest. IsNumber word.now longest) }
+{
+    match number(word) {
+        Some(number) => Longest::of(number),
+        None => None,
+    }
+}
+
+/// The numbers that are the argument's words.
+fn numbers_at<'a>(
+    alloc: Global,
+    values: &ArgMatches<'a>,
+    name: &str,
+) -> Result<Vec<u32>, NumbersFault<'a>>
+    ensures ok { IfOk result (λ numbers. AreNumbers (words_at name.now (rows_of (found_of values.now))) numbers.items) }
+    ensures err { IfErr result (IsNumbersFault (words_at name.now (rows_of (found_of values.now)))) }
+{
+    match values.get_strs(name) {
+        Some(words) => numbers(alloc, words),
+        None => Ok(Vec::new(alloc)),
+    }
+}
+
+fn read_debug(alloc: Global, values: &ArgMatches<'_>) -> Result<Invocation, AllocError>
+    ensures { IfOk result (IsReading (codes "debug") (rows_of (found_of values.now))) }
+{
+    match debug_words_at(alloc, values) {
+        Ok(words) => Ok(Invocation::Run(Command::Debug { words })),
+        Err(TalkFault::NoWord(word)) => invalid(alloc, word, "<WORD>...", A_WORD),
+        Err(TalkFault::NoNumber(word)) => invalid(alloc, word, "<WORD>...", A_NUMBER),
+        Err(TalkFault::NumberMissing) => {
+            wrong_usage(alloc, "a number is required behind the last '<WORD>...'")
+        }
+        Err(TalkFault::OutOfMemory) => Err(AllocError),
+    }
+}
+
+/// What the words ask the debugger for.
+fn debug_words_at<'a>(
+    alloc: Global,
+    values: &ArgMatches<'a>,
+) -> Result<Vec<DebugWord>, TalkFault<'a>>
+    ensures { IfOk result (λ words. AreDebugWords (words_at (codes "words") (rows_of (found_of values.now))) words.items) }
+{
+    match values.get_strs("words") {
+        Some(words) => debug_words(alloc, words),
+        None => Ok(Vec::new(alloc)),
+    }
+}
+
+/// Says that the argument's value is none.
+fn invalid(alloc: Global, word: &str, argument: &str, why: &str) -> Result<Invocation, AllocError>
+    ensures { IfOk result IsWrongUsage }
+{
+    let text = format!(in alloc;
+        "error: invalid value '{word}' for '{argument}': {why}\n\n{HELP_IS_THERE}"
+    )?;
+    Ok(Invocation::WrongUsage(text))
+}
+
+/// Says why the words are no legal use.
+fn wrong_usage(alloc: Global, why: &str) -> Result<Invocation, AllocError>
+    ensures { IfOk result IsWrongUsage }
+{
+    let text = format!(in alloc; "error: {why}\n\n{HELP_IS_THERE}")?;
+    Ok(Invocation::WrongUsage(text))
+}
+
+/// What words ask for that were not taken.
+fn refused(alloc: Global, error: &Error) -> Result<Invocation, AllocError>
+    ensures { IfOk result (λ invocation. (kind_of error.now ≢ ErrorKind.OutOfMemory) × IsRefusal (kind_of error.now) invocation) }
+{
+    match error.kind() {
+        ErrorKind::OutOfMemory => Err(AllocError),
+        ErrorKind::DisplayHelp => Ok(Invocation::Help(error.to_string(alloc)?)),
+        _ => Ok(Invocation::WrongUsage(error.to_string(alloc)?)),
+    }
+}
