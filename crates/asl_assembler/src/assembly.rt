@@ -1,3 +1,5 @@
+//! From a text to a program: reading the text, then judging the image that it spells.
+
 ghost use Rattle.std.specs.Prelude.{◌≡◌, ◌⊎◌, Err, IfOk, IfErr, Ok};
 ghost use Rattle.asl_code.specs.Verified.{IsVerified};
 ghost use Rattle.asl_code.specs.declared.image.Image.{Image};

@@ -1,3 +1,5 @@
+//! Taking one line after the other into the image that a text spells so far.
+
 ghost use Rattle.std.specs.Prelude.{◌≡◌, IfOk};
 ghost use Rattle.asl_assembler.specs.Words.{words_of};
 ghost use Rattle.asl_assembler.specs.Reading.{longer, next, finished, step_line, paired, open_of, kept};

@@ -1,3 +1,5 @@
+//! The words that have a meaning of their own.
+
 ghost use Rattle.std.specs.Prelude.{◌≡◌};
 ghost use Rattle.asl_assembler.specs.Reading.{keyword_of, first_named, directives, setters, others};
 

@@ -1,3 +1,5 @@
+//! What a line says by itself: its keyword, and the operands behind it.
+
 ghost use Rattle.std.specs.Prelude.{◌≡◌, []};
 ghost use Rattle.asl_assembler.specs.Words.{words_of};
 ghost use Rattle.asl_assembler.specs.Reading.{instr_of, with_numbers_of, expr_of, path_of, line_of, meaning_of, lock_with};

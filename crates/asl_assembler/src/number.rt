@@ -1,3 +1,5 @@
+//! Numbers in words: decimal digits, alone or behind a mark.
+
 ghost use Rattle.std.specs.Prelude.{◌≡◌};
 ghost use Rattle.std.specs.Option.{option_map, option_copied};
 ghost use Rattle.asl_assembler.specs.Reading.{decimal_of, number_of, after_mark, marked_of, integer_of};

@@ -1,3 +1,5 @@
+//! The operands of a line: registers, globals, numbers, effects and the parts of lock expressions.
+
 ghost use Rattle.std.specs.Prelude.{◌≡◌};
 ghost use Rattle.asl_assembler.specs.Words.{words_of};
 ghost use Rattle.asl_assembler.specs.Reading.{one, two, three, number_of, register_of, global_of, integer_of, effect_of, base_of, op_of, registers_2, registers_3};

@@ -1,3 +1,5 @@
+//! Why bytes are no program.
+
 ghost use Rattle.std.specs.Prelude.{◌≡◌};
 ghost use Rattle.asl_loader.specs.declared.fault.ReadError.TheVariants.{Memory};
 

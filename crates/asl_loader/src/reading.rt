@@ -1,3 +1,5 @@
+//! Reading the fields of an image from the front of bytes.
+
 ghost use Rattle.std.specs.Prelude.{◌≡◌, ◌≤◌, ◌<◌, length, take, IfOk};
 ghost use Rattle.std.specs.Int.{w16, w32};
 ghost use Rattle.asl_code.specs.declared.value.Effect.{Effect};

@@ -1,3 +1,5 @@
+//! Writing a program as bytes, field by field.
+
 ghost use Rattle.std.specs.Prelude.{◌≡◌, ◌<◌, ◌^◌, ℕ, List, [], ◌∷◌, length, IfOk, OnOk};
 ghost use Rattle.std.specs.List.{AllByRecursion};
 ghost use Rattle.asl_code.specs.declared.image.Function.{Function};
