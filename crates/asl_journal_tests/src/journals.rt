@@ -1,148 +1,218 @@
 //! Journals as values, machines that write theirs down, and replay.
-use crate::programs::{COUNTER, WAITING, journal_of, program, recorded, shows_same};
-use asl_code::{Cell, Value};
+use crate::programs::{COUNTER, LOOP, WAITING, journal_of, program, recorded, shows_same};
+use asl_code::{Cell, Program, Value};
 use asl_journal::{Event, Journal, JournalFault, Journaled, Receipt, replay};
 use asl_machine::Reply;
 use std::alloc::Global;
-use std::test::Fail;
 
 const RAN: Event = Event {
     thread: 0,
     reply: Reply::Ran,
 };
 
-/// The refusal of so many threads and one event of this thread.
-fn refusal(alloc: Global, n: u32, thread: u8) -> Result<Option<JournalFault>, Fail> {
+/// What so many threads and one event of this thread meet: nothing where they are a journal, else the refusal and how many
+/// events come back.
+fn met(alloc: Global, n: u32, thread: u8) -> Option<Option<(JournalFault, usize)>> {
     let mut events = Vec::new(alloc);
-    events.push(Event { thread, ..RAN })?;
+    events.push(Event { thread, ..RAN }).ok()?;
     match Journal::of(n, events) {
-        Ok(_journal) => Ok(None),
-        Err((fault, events)) if events.len() == 1 => Ok(Some(fault)),
-        Err(_other) => Err(Fail::from("the event is gone")),
+        Ok(_journal) => Some(None),
+        Err((fault, events)) => Some(Some((fault, events.len()))),
     }
 }
 
+static STRANGERS: [(u32, u8, Option<JournalFault>); 5] = [
+    (0, 0, Some(JournalFault::BadCount)),
+    (1, 0, None),
+    (1, 1, Some(JournalFault::BadThread)),
+    (64, 63, None),
+    (65, 0, Some(JournalFault::BadCount)),
+];
+
 #[test]
-fn events_of_strangers_are_no_journal(rt: HostRuntime) -> Result<(), Fail> {
-    let table = [
-        (0, 0, Some(JournalFault::BadCount)),
-        (1, 0, None),
-        (1, 1, Some(JournalFault::BadThread)),
-        (64, 63, None),
-        (65, 0, Some(JournalFault::BadCount)),
-    ];
-    for (n, thread, wanted) in table {
-        let found = refusal(rt.alloc(), n, thread)?;
-        assert!(rt; found == wanted, "{n} threads");
+fn events_of_strangers_are_no_journal(rt: HostRuntime) {
+    for (n, thread, fault) in STRANGERS.iter() {
+        let wanted = fault.map(|fault| (fault, 1));
+        assert!(rt; met(rt.alloc(), *n, *thread) == Some(wanted), "{n} threads");
     }
-    Ok(())
+}
+
+/// The refusal of one event too many, and how many come back.
+fn too_many(alloc: Global) -> Option<(JournalFault, usize)> {
+    let events = vec![in alloc; RAN; 16_777_217].ok()?;
+    let (fault, events) = Journal::of(1, events).err()?;
+    Some((fault, events.len()))
 }
 
 #[test]
-fn one_event_too_many_is_no_journal(rt: HostRuntime) -> Result<(), Fail> {
-    let events = vec![in rt.alloc(); RAN; 16_777_217]?;
-    let refused = Journal::of(1, events).err().ok_or("a journal")?;
-    assert!(rt; refused.0 == JournalFault::JournalFull);
-    assert!(rt; refused.1.len() == 16_777_217);
-    Ok(())
+fn one_event_too_many_is_no_journal(rt: HostRuntime) {
+    assert!(rt; too_many(rt.alloc()) == Some((JournalFault::JournalFull, 16_777_217)));
 }
 
-#[test]
-fn receipts_are_the_events(rt: HostRuntime) -> Result<(), Fail> {
-    let program = program(rt.alloc(), COUNTER).ok_or("no program")?;
-    let mut journaled = Journaled::start(rt.alloc(), &program, 2)?;
-    let replies = [Reply::Ran, Reply::Ran, Reply::Ran, Reply::Blocked];
-    for (index, reply) in replies.iter().enumerate() {
-        let thread = WAITING[index];
-        let receipt = journaled.step(rt.alloc(), u32::from(thread))?;
-        let wanted = Receipt {
-            index: index as u32,
-            thread,
-            reply: *reply,
-            ended: false,
-        };
-        assert!(rt; receipt == wanted, "event {index}");
+/// Steps thread 0 so often.
+fn step_on(alloc: Global, journaled: &mut Journaled<'_>, steps: u32) -> Option<()> {
+    for _ in 0..steps {
+        journaled.step(alloc, 0).ok()?;
     }
-    assert!(rt; journaled.step(rt.alloc(), 2).err() == Some(JournalFault::BadThread));
-    assert!(rt; journaled.events().len() == 4);
-    Ok(())
+    Some(())
+}
+
+/// What the machine says of a step behind the last event for which a journal has room, and how many events there are.
+fn behind_the_last(alloc: Global, program: &Program) -> Option<(JournalFault, usize)> {
+    let mut journaled = Journaled::start(alloc, program, 1).ok()?;
+    step_on(alloc, &mut journaled, 16_777_216)?;
+    let fault = journaled.step(alloc, 0).err()?;
+    Some((fault, journaled.events().len()))
 }
 
 #[test]
-fn a_thread_ends_and_stays_so(rt: HostRuntime) -> Result<(), Fail> {
-    let program = program(rt.alloc(), COUNTER).ok_or("no program")?;
-    let mut journaled = Journaled::start(rt.alloc(), &program, 1)?;
-    for index in 0..9 {
-        let receipt = journaled.step(rt.alloc(), 0)?;
-        assert!(rt; receipt.ended == (index >= 7), "event {index}");
-        assert!(rt;
-            (receipt.reply == Reply::Ended) == (index == 8),
-            "event {index}"
-        );
+fn a_full_journal_takes_no_step(rt: HostRuntime) {
+    if let Some(program) = program(rt.alloc(), LOOP) {
+        let found = behind_the_last(rt.alloc(), &program);
+        assert!(rt; found == Some((JournalFault::JournalFull, 16_777_216)));
+    } else {
+        assert!(rt; false);
+    }
+}
+
+static REPLIES: [Reply; 4] = [Reply::Ran, Reply::Ran, Reply::Ran, Reply::Blocked];
+
+/// The receipt of the counter's step of this number.
+fn receipt(index: u32) -> Option<Receipt> {
+    Some(Receipt {
+        index,
+        thread: *WAITING.get(index as usize)?,
+        reply: *REPLIES.get(index as usize)?,
+        ended: false,
+    })
+}
+
+/// Whether the counter's steps answer their receipts, and a step of a thread that is not there is none.
+fn are_receipts(alloc: Global, program: &Program) -> Option<bool> {
+    let mut journaled = Journaled::start(alloc, program, 2).ok()?;
+    for index in 0..4u32 {
+        let wanted = receipt(index)?;
+        if journaled.step(alloc, u32::from(wanted.thread)).ok()? != wanted {
+            return Some(false);
+        }
+    }
+    let stranger = journaled.step(alloc, 2).err();
+    Some(stranger == Some(JournalFault::BadThread) && journaled.events().len() == 4)
+}
+
+#[test]
+fn receipts_are_the_events(rt: HostRuntime) {
+    if let Some(program) = program(rt.alloc(), COUNTER) {
+        assert!(rt; are_receipts(rt.alloc(), &program) == Some(true));
+    } else {
+        assert!(rt; false);
+    }
+}
+
+/// Whether the counter's thread ends at its eighth step, replies so at its ninth, and leaves the counter at 1.
+fn ends(alloc: Global, program: &Program) -> Option<bool> {
+    let mut journaled = Journaled::start(alloc, program, 1).ok()?;
+    for index in 0..9u32 {
+        let receipt = journaled.step(alloc, 0).ok()?;
+        if receipt.ended != (index >= 7) || (receipt.reply == Reply::Ended) != (index == 8) {
+            return Some(false);
+        }
     }
     let global = Cell {
         object: 0,
         offset: 0,
     };
-    assert!(rt; journaled.machine().cell(global) == Some(Value::Int(1)));
-    Ok(())
+    Some(journaled.machine().cell(global) == Some(Value::Int(1)))
 }
 
 #[test]
-fn room_is_made_for_what_is_asked(rt: HostRuntime) -> Result<(), Fail> {
-    let program = program(rt.alloc(), COUNTER).ok_or("no program")?;
-    let mut journaled = Journaled::start(rt.alloc(), &program, 2)?;
-    journaled.reserve(4)?;
+fn a_thread_ends_and_stays_so(rt: HostRuntime) {
+    if let Some(program) = program(rt.alloc(), COUNTER) {
+        assert!(rt; ends(rt.alloc(), &program) == Some(true));
+    } else {
+        assert!(rt; false);
+    }
+}
+
+/// How much room there is behind a reservation, and behind a step more.
+fn rooms(alloc: Global, program: &Program) -> Option<(u32, u32)> {
+    let mut journaled = Journaled::start(alloc, program, 2).ok()?;
+    journaled.reserve(4).ok()?;
     let spare = journaled.spare();
-    assert!(rt; spare >= 4);
-    journaled.step(rt.alloc(), 0)?;
-    assert!(rt; journaled.spare() + 1 >= spare);
-    Ok(())
+    journaled.step(alloc, 0).ok()?;
+    Some((spare, journaled.spare()))
 }
 
 #[test]
-fn replay_leads_where_the_run_led(rt: HostRuntime) -> Result<(), Fail> {
-    let program = program(rt.alloc(), COUNTER).ok_or("no program")?;
-    let mut journaled = Journaled::start(rt.alloc(), &program, 2)?;
+fn room_is_made_for_what_is_asked(rt: HostRuntime) {
+    let program = program(rt.alloc(), COUNTER);
+    let rooms = match &program {
+        Some(program) => rooms(rt.alloc(), program),
+        None => None,
+    };
+    match rooms {
+        Some((spare, left)) => assert!(rt; spare >= 4 && left.saturating_add(1) >= spare),
+        None => assert!(rt; false),
+    }
+}
+
+/// Whether replay leads where the counter's run led.
+fn is_replayed(alloc: Global, program: &Program) -> Option<bool> {
+    let mut journaled = Journaled::start(alloc, program, 2).ok()?;
     for thread in WAITING {
-        journaled.step(rt.alloc(), u32::from(thread))?;
+        journaled.step(alloc, u32::from(thread)).ok()?;
     }
     let (journal, machine) = journaled.into_parts();
-    let replayed = replay(rt.alloc(), &program, &journal)?;
-    assert!(rt; shows_same(&replayed, &machine));
-    Ok(())
+    let replayed = replay(alloc, program, &journal).ok()?;
+    Some(shows_same(&replayed, &machine))
 }
 
-/// The counter's journal, in which the event at this place replies that it ran.
-fn changed(alloc: Global, place: usize) -> Option<Journal> {
-    let (_program, journal) = recorded(alloc, COUNTER, &WAITING)?;
+#[test]
+fn replay_leads_where_the_run_led(rt: HostRuntime) {
+    if let Some(program) = program(rt.alloc(), COUNTER) {
+        assert!(rt; is_replayed(rt.alloc(), &program) == Some(true));
+    } else {
+        assert!(rt; false);
+    }
+}
+
+/// The refusal of the counter's journal in which the event at this place replies something else.
+fn refused_at(alloc: Global, place: usize) -> Option<JournalFault> {
+    let (program, journal) = recorded(alloc, COUNTER, &WAITING)?;
     let mut events = journal.into_events();
     if place < events.len() {
         events[place].reply = Reply::Out(Value::Null);
     }
-    Journal::of(2, events).ok()
+    let journal = Journal::of(2, events).ok()?;
+    replay(alloc, &program, &journal).err()
 }
 
 #[test]
-fn the_first_event_that_differs_is_named(rt: HostRuntime) -> Result<(), Fail> {
-    let program = program(rt.alloc(), COUNTER).ok_or("no program")?;
-    for place in 0..4 {
-        let journal = changed(rt.alloc(), place).ok_or("no journal")?;
-        let fault = replay(rt.alloc(), &program, &journal).err();
+fn the_first_event_that_differs_is_named(rt: HostRuntime) {
+    for place in 0..4u32 {
+        let fault = refused_at(rt.alloc(), place as usize);
         assert!(rt;
-            fault == Some(JournalFault::Differs(place as u32)),
+            fault == Some(JournalFault::Differs(place)),
             "event {place}"
         );
     }
-    Ok(())
+}
+
+/// The last event of the counter's journal.
+fn last_event(alloc: Global, program: &Program) -> Option<Event> {
+    let journal = journal_of(alloc, program, &WAITING)?;
+    journal.events().last().copied()
 }
 
 #[test]
-fn a_blocked_step_is_an_event(rt: HostRuntime) -> Result<(), Fail> {
-    let program = program(rt.alloc(), COUNTER).ok_or("no program")?;
-    let journal = journal_of(rt.alloc(), &program, &WAITING).ok_or("no journal")?;
-    let last = journal.events().last().copied().ok_or("no event")?;
-    assert!(rt; last.thread == 1);
-    assert!(rt; last.reply == Reply::Blocked);
-    Ok(())
+fn a_blocked_step_is_an_event(rt: HostRuntime) {
+    let wanted = Event {
+        thread: 1,
+        reply: Reply::Blocked,
+    };
+    if let Some(program) = program(rt.alloc(), COUNTER) {
+        assert!(rt; last_event(rt.alloc(), &program) == Some(wanted));
+    } else {
+        assert!(rt; false);
+    }
 }

@@ -1,4 +1,4 @@
-//! Tests of journals and of the debugger, over their public calls.
+//! Tests of journals, over their public calls.
 #![tactic(auto)]
 
 #[cfg(test)]

@@ -12,9 +12,8 @@ use std::alloc::Global;
 pub const COUNTER: &[u8] =
     b"version 1\nclasses 1\nglobal 0\nentry 0\nfn 1 5\nglob r1, g0\nacq 0\nload r2, r1\nint r3, 1\nadd r4, r2, r3\nstore r1, r4\nrel\nret r0\nlist\nexpr r1 write\n";
 
-/// A sum to which each thread adds its number again and again.
-pub const SUM: &[u8] =
-    b"version 1\nclasses 1\nglobal 0\nentry 0\nfn 1 5\nglob r1, g0\nacq 0\nload r2, r1\nadd r2, r2, r0\nout r2\nstore r1, r2\nrel\njmp 1\nlist\nexpr r1 write\n";
+/// A loop that does nothing.
+pub const LOOP: &[u8] = b"version 1\nclasses 0\nentry 0\nfn 1 1\njmp 0\n";
 
 /// The schedule of the counter in which thread 1 waits for thread 0.
 pub const WAITING: [u8; 4] = [0, 0, 1, 1];
@@ -39,19 +38,6 @@ pub fn recorded(alloc: Global, text: &[u8], schedule: &[u8]) -> Option<(Program,
     let program = program(alloc, text)?;
     let journal = journal_of(alloc, &program, schedule)?;
     Some((program, journal))
-}
-
-/// A schedule of two threads, so many steps in no order.
-pub fn mixed(alloc: Global, steps: u16) -> Option<Vec<u8>> {
-    let mut schedule = Vec::new(alloc);
-    let mut number: u32 = 1;
-    for _ in 0..steps {
-        number = number.wrapping_mul(1_103_515_245).wrapping_add(12_345);
-        schedule
-            .push(if number % 65_536 < 30_000 { 0 } else { 1 })
-            .ok()?;
-    }
-    Some(schedule)
 }
 
 /// Whether the machines show the same of thread t.

@@ -1,5 +1,5 @@
 //! Runs by workers: who steps what, in which order, and what is left.
-use asl_assembler::assemble;
+use asl_assembler::{AsmFault, assemble};
 use asl_code::{Cell, Program, Value};
 use asl_journal::Receipt;
 use asl_runner::{Gate, Report, RunFault, run};
@@ -27,28 +27,45 @@ impl Gate for Open {
     fn after(&self, _worker: u8, _call: u64, _receipt: &Receipt) {}
 }
 
-/// Both workers wait in their first call until they see each other; the second call of worker 1 waits for the eighth
-/// answer to worker 0.
+/// Each worker waits in its first call until all workers are in theirs; the second call of each but the first waits for
+/// the eighth answer to the worker before it. So a run of one thread of the system for all workers never passes.
 #[derive(Drop)]
-struct Meeting {
-    first: AtomicU64,
-    second: AtomicU64,
-    answered: AtomicU64,
+pub struct Relay {
+    workers: usize,
+    looks: u64,
+    met: [AtomicU64; 8],
+    answered: [AtomicU64; 8],
     lost: AtomicU64,
 }
 
-impl Meeting {
-    fn new() -> Meeting {
-        Meeting {
-            first: AtomicU64::new(0),
-            second: AtomicU64::new(0),
-            answered: AtomicU64::new(0),
+/// Eight words at 0.
+fn words() -> [AtomicU64; 8] {
+    [
+        AtomicU64::new(0),
+        AtomicU64::new(0),
+        AtomicU64::new(0),
+        AtomicU64::new(0),
+        AtomicU64::new(0),
+        AtomicU64::new(0),
+        AtomicU64::new(0),
+        AtomicU64::new(0),
+    ]
+}
+
+impl Relay {
+    /// A gate for so many workers, which gives up after so many looks.
+    pub fn new(workers: usize, looks: u64) -> Relay {
+        Relay {
+            workers,
+            looks,
+            met: words(),
+            answered: words(),
             lost: AtomicU64::new(0),
         }
     }
 
     fn wait_for(&self, word: &AtomicU64, least: u64) {
-        for _ in 0..LOOKS {
+        for _ in 0..self.looks {
             if word.load(Ordering::SeqCst) >= least {
                 return;
             }
@@ -56,39 +73,45 @@ impl Meeting {
         }
         self.lost.store(1, Ordering::SeqCst);
     }
+
+    fn wait_for_all(&self) {
+        for word in self.met.iter().take(self.workers) {
+            self.wait_for(word, 1);
+        }
+    }
 }
 
-impl Gate for Meeting {
+impl Gate for Relay {
     fn before(&self, worker: u8, call: u64) {
-        let (mine, other) = match worker {
-            0 => (&self.first, &self.second),
-            _ => (&self.second, &self.first),
-        };
-        mine.store(call, Ordering::SeqCst);
-        if call == 1 {
-            self.wait_for(other, 1);
+        if let Some(word) = self.met.get(usize::from(worker)) {
+            word.store(call, Ordering::SeqCst);
         }
-        if call == 2 && worker == 1 {
-            self.wait_for(&self.answered, 8);
+        if call == 1 {
+            self.wait_for_all();
+        }
+        if call == 2 && worker > 0 {
+            if let Some(word) = self.answered.get(usize::from(worker - 1)) {
+                self.wait_for(word, 8);
+            }
         }
     }
 
     fn after(&self, worker: u8, call: u64, _receipt: &Receipt) {
-        if worker == 0 {
-            self.answered.store(call, Ordering::SeqCst);
+        if let Some(word) = self.answered.get(usize::from(worker)) {
+            word.store(call, Ordering::SeqCst);
         }
     }
 }
 
-/// What a report says in numbers: events, tickets, receipts of the first two workers, what the counter is at, and how many
-/// threads have ended.
+/// What a report says in numbers: events, tickets, receipts of each worker, what the counter is at, and how many threads
+/// have ended.
 #[derive(Clone, Copy, Debug, PartialEq, Eq)]
-struct Told {
-    events: usize,
-    tickets: u64,
-    receipts: [usize; 2],
-    counter: Option<Value>,
-    ended: u32,
+pub struct Told {
+    pub events: usize,
+    pub tickets: u64,
+    pub receipts: [usize; 8],
+    pub counter: Option<Value>,
+    pub ended: u32,
 }
 
 fn summary_of(report: &Report<'_>) -> Told {
@@ -101,7 +124,7 @@ fn summary_of(report: &Report<'_>) -> Told {
     Told {
         events: report.journal.events().len(),
         tickets: report.tickets,
-        receipts: [receipts(report, 0), receipts(report, 1)],
+        receipts: receipts(report),
         counter: report.machine.cell(Cell {
             object: 0,
             offset: 0,
@@ -110,54 +133,84 @@ fn summary_of(report: &Report<'_>) -> Told {
     }
 }
 
-fn receipts(report: &Report<'_>, worker: usize) -> usize {
-    match report.receipts.get(worker) {
-        Some(receipts) => receipts.len(),
-        None => 0,
+/// How many receipts each worker has.
+fn receipts(report: &Report<'_>) -> [usize; 8] {
+    let mut counts = [0; 8];
+    for (count, mine) in counts.iter_mut().zip(report.receipts.iter()) {
+        *count = mine.len();
+    }
+    counts
+}
+
+/// The counter's program, at the second call if the first wants memory.
+pub fn counter(alloc: Global) -> Option<Program> {
+    match assemble(alloc, COUNTER) {
+        Err(AsmFault::OutOfMemory) => assemble(alloc, COUNTER).ok(),
+        answer => answer.ok(),
     }
 }
 
 /// What a run of the counter comes to: a report, or a fault without one.
-fn outcome<R: Threads + Wait + Sync, G: Gate>(
+pub fn outcome<R: Threads + Wait + Sync, G: Gate>(
     rt: &R,
     alloc: Global,
+    program: &Program,
     asked: (u32, u32, u64),
     gate: &G,
 ) -> Option<Result<Told, RunFault>> {
-    let program = assemble(alloc, COUNTER).ok()?;
     let (n, workers, limit) = asked;
-    match run(rt, alloc, &program, n, workers, limit, gate) {
+    match run(rt, alloc, program, n, workers, limit, gate) {
         Ok(report) => Some(Ok(summary_of(&report))),
         Err((fault, None)) => Some(Err(fault)),
         Err((_, Some(_))) => None,
     }
 }
 
+/// What two threads of two workers come to.
+pub const TWO: Told = Told {
+    events: 16,
+    tickets: 16,
+    receipts: [8, 8, 0, 0, 0, 0, 0, 0],
+    counter: Some(Value::Int(2)),
+    ended: 2,
+};
+
 #[test]
 fn two_workers_meet_and_count_to_two(rt: HostRuntime) -> Result<(), Fail> {
-    let gate = Meeting::new();
-    let ran = outcome(&rt, rt.alloc(), (2, 2, 10_000), &gate);
-    assert!(rt;
-        ran == Some(Ok(Told {
-            events: 16,
-            tickets: 16,
-            receipts: [8, 8],
-            counter: Some(Value::Int(2)),
-            ended: 2,
-        }))
-    );
+    let program = counter(rt.alloc()).ok_or("no program")?;
+    let gate = Relay::new(2, LOOKS);
+    let ran = outcome(&rt, rt.alloc(), &program, (2, 2, 10_000), &gate);
+    assert!(rt; ran == Some(Ok(TWO)));
+    assert!(rt; gate.lost.load(Ordering::SeqCst) == 0);
+    Ok(())
+}
+
+#[test]
+fn eight_workers_meet_and_count_to_eight(rt: HostRuntime) -> Result<(), Fail> {
+    let program = counter(rt.alloc()).ok_or("no program")?;
+    let gate = Relay::new(8, LOOKS);
+    let ran = outcome(&rt, rt.alloc(), &program, (8, 8, 10_000), &gate);
+    let told = Told {
+        events: 64,
+        tickets: 64,
+        receipts: [8; 8],
+        counter: Some(Value::Int(8)),
+        ended: 8,
+    };
+    assert!(rt; ran == Some(Ok(told)));
     assert!(rt; gate.lost.load(Ordering::SeqCst) == 0);
     Ok(())
 }
 
 #[test]
 fn one_thread_of_eight_workers_is_stepped_by_the_first(rt: HostRuntime) -> Result<(), Fail> {
-    let ran = outcome(&rt, rt.alloc(), (1, 8, 10_000), &Open);
+    let program = counter(rt.alloc()).ok_or("no program")?;
+    let ran = outcome(&rt, rt.alloc(), &program, (1, 8, 10_000), &Open);
     assert!(rt;
         ran == Some(Ok(Told {
             events: 8,
             tickets: 8,
-            receipts: [8, 0],
+            receipts: [8, 0, 0, 0, 0, 0, 0, 0],
             counter: Some(Value::Int(1)),
             ended: 1,
         }))
@@ -167,8 +220,9 @@ fn one_thread_of_eight_workers_is_stepped_by_the_first(rt: HostRuntime) -> Resul
 
 #[test]
 fn a_run_stops_at_its_limit(rt: HostRuntime) -> Result<(), Fail> {
+    let program = counter(rt.alloc()).ok_or("no program")?;
     for limit in [0, 3] {
-        let ran = outcome(&rt, rt.alloc(), (2, 2, limit), &Open);
+        let ran = outcome(&rt, rt.alloc(), &program, (2, 2, limit), &Open);
         let numbers = match ran {
             Some(Ok(told)) => Some((told.events, told.tickets, told.ended)),
             _ => None,
@@ -180,6 +234,7 @@ fn a_run_stops_at_its_limit(rt: HostRuntime) -> Result<(), Fail> {
 
 #[test]
 fn what_no_run_has_is_refused(rt: HostRuntime) -> Result<(), Fail> {
+    let program = counter(rt.alloc()).ok_or("no program")?;
     for asked in [
         (2, 0, 10),
         (2, 9, 10),
@@ -187,7 +242,7 @@ fn what_no_run_has_is_refused(rt: HostRuntime) -> Result<(), Fail> {
         (65, 2, 10),
         (2, 2, 16_777_217),
     ] {
-        let ran = outcome(&rt, rt.alloc(), asked, &Open);
+        let ran = outcome(&rt, rt.alloc(), &program, asked, &Open);
         assert!(rt; ran == Some(Err(RunFault::BadCount)));
     }
     Ok(())

@@ -1,7 +1,7 @@
 //! Runs of inferred programs and the serial runs that end as they do: each step inside a section is put right behind the last
 //! step of its thread, every other one at the end.
 use crate::orders::{Order, next_number, thread_of};
-use crate::sources::{CALL, TRANSFER, WALK_AND_STORE};
+use crate::sources::{BANK, CALL, MOVE, TRANSFER, WALK_AND_STORE};
 use asl_code::{Cell, Program};
 use asl_emitter::infer;
 use asl_machine::{Machine, Reply};
@@ -152,7 +152,7 @@ fn moved_in_all(alloc: Global, source: &str) -> Option<u32> {
 
 #[test]
 fn runs_end_as_their_serial_runs(rt: HostRuntime) -> Result<(), Fail> {
-    for source in [WALK_AND_STORE, CALL, TRANSFER] {
+    for source in [WALK_AND_STORE, CALL, TRANSFER, MOVE, BANK] {
         assert!(rt; moved_in_all(rt.alloc(), source) > Some(0), "{source}");
     }
     Ok(())

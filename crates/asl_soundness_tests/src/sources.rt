@@ -31,3 +31,11 @@ pub const ENDLESS: &str =
 /// Moves one from a global to another, again and again.
 pub const TRANSFER: &str =
     "global a; global b; fn main(t) { one = 1; p = &a; q = &b; while one { atomic { x = *p; y = x - one; *p = y; z = *q; w = z + one; *q = w; out w; } } return t; }";
+
+/// Moves one list behind another, each way.
+pub const MOVE: &str =
+    "global left; global right; fn push(list) { n = new 2; atomic { h = *list; f = &n[1]; *f = h; *list = n; } return n; } fn move(from, to) { nothing = null; atomic { x = *to; y = *from; *from = nothing; if x { f = &x[1]; m = *f; while m { f = &m[1]; m = *f; } *f = y; } else { *to = y; } } return from; } fn main(t) { a = &left; b = &right; n = push(a); n = push(b); n = push(a); one = 1; odd = t == one; if odd { r = move(a, b); } else { r = move(b, a); } return t; }";
+
+/// Transfers between two accounts, which the first section makes.
+pub const BANK: &str =
+    "global first; global second; fn open() { zero = 0; hundred = 100; p = &first; q = &second; atomic { x = *p; if x { } else { a = new 2; *a = hundred; *p = a; b = new 2; *b = hundred; *q = b; } } return zero; } fn transfer(from, to, amount) { done = 0; atomic { f = *from; g = *to; x = *f; low = x < amount; if low { } else { x = x - amount; *f = x; y = *g; y = y + amount; *g = y; done = 1; } } return done; } fn main(t) { p = &first; q = &second; r = open(); ten = 10; if t { r = transfer(q, p, ten); } else { r = transfer(p, q, ten); } out r; atomic { f = *p; g = *q; x = *f; y = *g; sum = x + y; } out sum; return sum; }";
