@@ -7,7 +7,8 @@ mod values;
 use asl_tool::laws::{
     commands_have_one_outcome, run_and_bytes_are_one, run_files_have_one_outcome,
 };
-use asl_tool::{Command, output_of};
+use asl_tool::output_of;
+use asl_words::Command;
 use std::alloc::{AllocError, Global};
 use std::process::Abort;
 use std::test::Fail;

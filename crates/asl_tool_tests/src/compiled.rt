@@ -68,7 +68,7 @@ const CASES: [(&str, &str, u8, &str); 12] = [
         "compile --k 9",
         COUNTER,
         2,
-        "error: '9' is no number from 0 to 8\n",
+        "error: invalid value '9' for '--k <K>': no number from 0 to 8\n\nFor more information, try '--help'.\n",
     ),
 ];
 

@@ -15,3 +15,5 @@ mod recorded;
 mod streams;
 #[cfg(test)]
 mod words;
+#[cfg(test)]
+mod workers;

@@ -1,5 +1,5 @@
 //! Which words parse, and as what.
-use asl_tool::{Command, DebugWord, Invocation, Move, read_words};
+use asl_words::{Command, DebugWord, Invocation, Move, read_words};
 use std::alloc::{AllocError, Global};
 use std::process::Abort;
 use std::test::Fail;
@@ -8,6 +8,7 @@ use std::test::Fail;
 enum Wanted {
     Step(u32, &'static [u32]),
     Record(u32, &'static [u32]),
+    Work(u32, u32, u32, bool),
     Replay,
     Compile(u32, bool),
     Debug(&'static [DebugWord]),
@@ -50,6 +51,12 @@ fn is_as_wanted(got: &Invocation, wanted: &Wanted) -> bool {
             ),
             Wanted::Record(count, order),
         ) => { threads == count && schedule.as_slice() == *order && *record }
+        (Invocation::Work(team), Wanted::Work(threads, workers, limit, record)) => {
+            team.threads == *threads
+                && team.workers == *workers
+                && team.limit == *limit
+                && team.record == *record
+        }
         (Invocation::Run(Command::Replay), Wanted::Replay) => true,
         (Invocation::Run(Command::Compile { longest, text }), Wanted::Compile(k, is_text)) => {
             longest.operations() == *k && text == is_text
@@ -144,7 +151,6 @@ fn wrong_commands(rt: HostRuntime) -> Result<(), Fail> {
             ("asm --threads 1", Wanted::WrongUsage),
             ("dis 0", Wanted::WrongUsage),
             ("asm -", Wanted::WrongUsage),
-            ("run --threads 1 --workers 1 --limit 5", Wanted::WrongUsage),
             ("--threads 1 step 0", Wanted::WrongUsage),
             ("--version", Wanted::WrongUsage),
             ("-- step --threads 1 0", Wanted::WrongUsage),
@@ -198,6 +204,43 @@ fn wrong_numbers(rt: HostRuntime) -> Result<(), Fail> {
             ("step --threads 1 0 1a", Wanted::WrongUsage),
             ("step --threads 1 0  1", Wanted::WrongUsage),
             ("step --threads 0x10 0", Wanted::WrongUsage),
+        ],
+    )
+}
+
+#[test]
+fn runs(rt: HostRuntime) -> Result<(), Fail> {
+    check(
+        &rt,
+        &[
+            (
+                "run --threads 1 --workers 2 --limit 3",
+                Wanted::Work(1, 2, 3, false),
+            ),
+            (
+                "run --limit=0 --record --workers=99 --threads 0",
+                Wanted::Work(0, 99, 0, true),
+            ),
+            (
+                "run --threads 64 --workers 8 --limit 4294967295",
+                Wanted::Work(64, 8, 4294967295, false),
+            ),
+            ("run --help", Wanted::Help),
+            ("run", Wanted::WrongUsage),
+            ("run --threads 1 --workers 1", Wanted::WrongUsage),
+            ("run --threads 1 --limit 1", Wanted::WrongUsage),
+            ("run --workers 1 --limit 1", Wanted::WrongUsage),
+            ("run --threads 1 --workers 1 --limit x", Wanted::WrongUsage),
+            ("run --threads x --workers 1 --limit 1", Wanted::WrongUsage),
+            ("run --threads 1 --workers +1 --limit 1", Wanted::WrongUsage),
+            (
+                "run --threads 1 --workers 1 --limit 4294967296",
+                Wanted::WrongUsage,
+            ),
+            (
+                "run --threads 1 --workers 1 --limit 1 0",
+                Wanted::WrongUsage,
+            ),
         ],
     )
 }

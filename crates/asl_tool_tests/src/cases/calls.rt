@@ -1,6 +1,7 @@
 //! Calls, frames and the ends of threads, and how much of each there may be.
 use super::{Case, HEAD, expect_cases, lines};
-use asl_tool::{Command, output_of};
+use asl_tool::output_of;
+use asl_words::Command;
 use std::alloc::{AllocError, Global};
 use std::process::Abort;
 use std::test::Fail;
