@@ -45,12 +45,42 @@ fail() {
   exit 1
 }
 
+# links_to VIEW NAME PART..: parts of a crate as links in a view
+links_to() {
+  local view=$1 name=$2 part
+  shift 2
+  mkdir -p "$view/crates/$name/out"
+  for part in "$@"; do
+    [ ! -d "$root/crates/$name/$part" ] || cp -al "$root/crates/$name/$part" "$view/crates/$name/$part"
+  done
+}
+
+# what a view has made of its crate goes to the crate's own folder, from an interrupted build as well
+take_back() {
+  [ -d "$1/crates/$2/out" ] || return 0
+  rm -rf "$root/crates/$2/out"
+  mv "$1/crates/$2/out" "$root/crates/$2/out"
+  rm -rf "$1"
+}
+
+# prove NAME JOBS BUILT..: proves a crate in a view, a folder with links to what is built already: rt lets nobody else work in
+# the crates that a run stands on, so in one folder crates that share a lower one would wait for each other
 prove() {
-  (cd "$root/crates/$1" && exec rt lib --jobs "$2") >"$root/crates/asl/out/build-$1.log" 2>&1 </dev/null
+  local name=$1 jobs=$2 low view=$root/crates/asl/out/views/$1 status=0
+  shift 2
+  take_back "$view" "$name"
+  links_to "$view" "$name" src specs proofs
+  for low in "$@"; do links_to "$view" "$low" src specs proofs out/rlib; done
+  for low in "$@" "$name"; do grep -E "^$low[ :]" "$root/crates.txt"; done >"$view/crates.txt"
+  [ ! -d "$root/crates/$name/out" ] || { rmdir "$view/crates/$name/out"; mv "$root/crates/$name/out" "$view/crates/$name/out"; }
+  (cd "$view/crates/$name" && exec rt lib --jobs "$jobs") >"$root/crates/asl/out/build-$name.log" 2>&1 </dev/null || status=$?
+  take_back "$view" "$name"
+  return $status
 }
 
 build_libraries() {
   local -A waits_for=() builds=()
+  local -a built=()
   local most busy total ended=0 name below pid left began=$SECONDS
   while read -r name below; do waits_for[$name]=$below; done < <(crates_below)
   total=$((${#waits_for[@]} + 1))
@@ -63,7 +93,7 @@ build_libraries() {
       [ ${#builds[@]} -lt "$most" ] || break
       [ -z "${waits_for[$name]// /}" ] || continue
       unset "waits_for[$name]"
-      prove "$name" "$(((most + busy - 1) / busy))" &
+      prove "$name" "$(((most + busy - 1) / busy))" "${built[@]}" &
       builds[$!]=$name
     done
     [ ${#builds[@]} -gt 0 ] || { echo "asl: crates.txt has crates that stand on one another" >&2; exit 1; }
@@ -75,6 +105,7 @@ build_libraries() {
     name=${builds[$pid]}
     unset "builds[$pid]"
     ended=$((ended + 1))
+    built+=("$name")
     echo "asl: $ended of $total: $name, $((SECONDS - began)) s" >&2
     cat "$root/crates/asl/out/build-$name.log" >>"$log"
     rm -f "$root/crates/asl/out/build-$name.log"
