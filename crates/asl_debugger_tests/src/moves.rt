@@ -1,60 +1,35 @@
 //! Moves, stops and refusals.
-use crate::runs::{SCHEDULE, counter, journal_of, replayed, shows_same};
+use crate::runs::{SCHEDULE, counter, is_shown, journal_of, opened};
 use asl_code::Program;
 use asl_debugger::{DebugFault, Debugger};
 use asl_journal::Journal;
 use asl_machine::Reply;
 use std::alloc::Global;
-use std::process::Abort;
-use std::test::Fail;
 
 /// How far the events between two checkpoints are apart.
-const SPACINGS: [u32; 5] = [1, 2, 3, 5, 100];
+static SPACINGS: [u32; 5] = [1, 2, 3, 5, 100];
 
-/// The whole journal.
-fn whole(alloc: Global, program: &Program) -> Option<Journal> {
-    journal_of(alloc, program, SCHEDULE.len())
-}
-
-/// Goes to the position, and compares the view with a new replay.
-fn expect_at(
-    rt: &(impl Abort + AllocGlobal),
-    program: &Program,
-    debugger: &mut Debugger<'_>,
-    position: u32,
-) -> Result<(), Fail> {
-    let moved = debugger.goto(rt.alloc(), position);
-    assert!(rt; moved.is_ok() && debugger.position() == position);
-    let machine = replayed(rt.alloc(), program, position as usize).ok_or("no machine")?;
-    assert!(rt;
-        shows_same(debugger.view(), &machine),
-        "position {position}"
-    );
-    Ok(())
-}
-
-/// Goes from each position to each other.
-fn expect_all(rt: &(impl Abort + AllocGlobal), spacing: u32) -> Result<(), Fail> {
-    let program = counter(rt.alloc()).ok_or("no program")?;
-    let journal = whole(rt.alloc(), &program).ok_or("no journal")?;
-    let Ok(mut debugger) = Debugger::open(rt.alloc(), &program, journal, spacing.max(1)) else {
-        return Err(Fail::from("refused"));
-    };
+/// Whether each position is shown behind each other.
+fn are_shown(alloc: Global, spacing: u32) -> Option<bool> {
+    let program = counter(alloc)?;
+    let mut debugger = opened(alloc, &program, &SCHEDULE, spacing)?;
     for from in 0..=18 {
         for to in 0..=18 {
-            expect_at(rt, &program, &mut debugger, from)?;
-            expect_at(rt, &program, &mut debugger, to)?;
+            for position in [from, to] {
+                if !is_shown(alloc, &program, &SCHEDULE, &mut debugger, position)? {
+                    return Some(false);
+                }
+            }
         }
     }
-    Ok(())
+    Some(true)
 }
 
 #[test]
-fn each_position_shows_its_state(rt: HostRuntime) -> Result<(), Fail> {
-    for spacing in SPACINGS {
-        expect_all(&rt, spacing)?;
+fn each_position_shows_its_state(rt: HostRuntime) {
+    for spacing in SPACINGS.iter() {
+        assert!(rt; are_shown(rt.alloc(), *spacing) == Some(true), "{spacing}");
     }
-    Ok(())
 }
 
 /// A call that moves.
@@ -67,18 +42,8 @@ enum Move {
     Previous,
 }
 
-fn make(alloc: Global, debugger: &mut Debugger<'_>, step: Move) -> Result<(), DebugFault> {
-    match step {
-        Move::Goto(k) => debugger.goto(alloc, k),
-        Move::Forward => debugger.forward(alloc),
-        Move::Back => debugger.back(alloc),
-        Move::Next => debugger.forward_to_break(alloc),
-        Move::Previous => debugger.back_to_break(alloc),
-    }
-}
-
-/// The moves in order, why each is refused, if it is, and the position behind it. The places 1 and 6 are breakpoints.
-const MOVES: [(Move, Option<DebugFault>, u32); 16] = [
+/// The moves in order, why each is refused, if it is, and the position behind it. The places 1 and 1000 are breakpoints.
+static MOVES: [(Move, Option<DebugFault>, u32); 16] = [
     (Move::Back, Some(DebugFault::AtStart), 0),
     (Move::Previous, Some(DebugFault::AtStart), 0),
     (Move::Goto(19), Some(DebugFault::NoSuchStep), 0),
@@ -97,47 +62,64 @@ const MOVES: [(Move, Option<DebugFault>, u32); 16] = [
     (Move::Goto(4294967295), Some(DebugFault::NoSuchStep), 0),
 ];
 
-fn expect_moves(rt: &(impl Abort + AllocGlobal), debugger: &mut Debugger<'_>) -> Result<(), Fail> {
-    for (step, fault, position) in MOVES {
-        let moved = make(rt.alloc(), debugger, step).err();
-        assert!(rt; moved == fault, "to {position}");
-        assert!(rt; debugger.position() == position, "{position}");
+/// Why the move is refused, if it is.
+fn refusal(alloc: Global, debugger: &mut Debugger<'_>, step: Move) -> Option<DebugFault> {
+    let moved = match step {
+        Move::Goto(position) => debugger.goto(alloc, position),
+        Move::Forward => debugger.forward(alloc),
+        Move::Back => debugger.back(alloc),
+        Move::Next => debugger.forward_to_break(alloc),
+        Move::Previous => debugger.back_to_break(alloc),
+    };
+    moved.err()
+}
+
+/// Makes the places 1, 7 and 1000 breakpoints, and 7 none again.
+fn put_breaks(debugger: &mut Debugger<'_>) -> Option<()> {
+    for place in [1, 7, 1000] {
+        debugger.break_at(place).ok()?;
     }
-    Ok(())
+    debugger.clear(7);
+    Some(())
+}
+
+/// How many moves go where they say, up to the first that doesn't.
+fn right_moves(alloc: Global, spacing: u32) -> Option<usize> {
+    let program = counter(alloc)?;
+    let mut debugger = opened(alloc, &program, &SCHEDULE, spacing)?;
+    put_breaks(&mut debugger)?;
+    for (number, (step, fault, position)) in MOVES.iter().enumerate() {
+        let refused = refusal(alloc, &mut debugger, *step);
+        if refused != *fault || debugger.position() != *position {
+            return Some(number);
+        }
+    }
+    Some(MOVES.len())
 }
 
 #[test]
-fn moves_go_where_they_say(rt: HostRuntime) -> Result<(), Fail> {
-    let program = counter(rt.alloc()).ok_or("no program")?;
-    for spacing in SPACINGS {
-        let journal = whole(rt.alloc(), &program).ok_or("no journal")?;
-        let Ok(mut debugger) = Debugger::open(rt.alloc(), &program, journal, spacing.max(1)) else {
-            return Err(Fail::from("refused"));
-        };
-        debugger.break_at(1)?;
-        debugger.break_at(7)?;
-        debugger.break_at(1000)?;
-        debugger.clear(7);
-        expect_moves(&rt, &mut debugger)?;
+fn moves_go_where_they_say(rt: HostRuntime) {
+    for spacing in SPACINGS.iter() {
+        assert!(rt; right_moves(rt.alloc(), *spacing) == Some(16), "{spacing}");
     }
-    Ok(())
+}
+
+/// The journal with another reply of its event 3.
+fn differing(alloc: Global, program: &Program) -> Option<Journal> {
+    let mut events = journal_of(alloc, program, &SCHEDULE)?.into_events();
+    events.get_mut(3)?.reply = Reply::Ran;
+    Journal::of(2, events).ok()
+}
+
+/// Why the journal is refused, and how many events come back.
+fn returned(alloc: Global) -> Option<(DebugFault, usize)> {
+    let program = counter(alloc)?;
+    let journal = differing(alloc, &program)?;
+    let (fault, journal) = Debugger::open(alloc, &program, journal, 2).err()?;
+    Some((fault, journal.events().len()))
 }
 
 #[test]
-fn a_journal_that_differs_comes_back(rt: HostRuntime) -> Result<(), Fail> {
-    let program = counter(rt.alloc()).ok_or("no program")?;
-    let journal = whole(rt.alloc(), &program).ok_or("no journal")?;
-    let mut events = journal.into_events();
-    if events.len() > 3 {
-        events[3].reply = Reply::Ran;
-    }
-    let Ok(journal) = Journal::of(2, events) else {
-        return Err(Fail::from("no journal"));
-    };
-    let Err((fault, journal)) = Debugger::open(rt.alloc(), &program, journal, 2) else {
-        return Err(Fail::from("opened"));
-    };
-    assert!(rt; fault == DebugFault::Differs(3));
-    assert!(rt; journal.events().len() == 18);
-    Ok(())
+fn a_journal_that_differs_comes_back(rt: HostRuntime) {
+    assert!(rt; returned(rt.alloc()) == Some((DebugFault::Differs(3), 18)));
 }

@@ -1,67 +1,134 @@
-//! A program, its journal, and what machines show.
-ghost use Rattle.std.specs.Prelude.{◌<◌, length};
-
+//! Programs and their journals, a debugger over one, and what machines show.
 use asl_assembler::assemble;
-use asl_code::{Cell, Program};
+use asl_code::{Cell, Program, Value};
+use asl_debugger::Debugger;
 use asl_journal::{Journal, Journaled, replay};
 use asl_lock_forest::Node;
-use asl_machine::Machine;
+use asl_machine::{Machine, Status};
+use asl_mode_lanes::Mode;
 use std::alloc::Global;
 
 /// A counter that each thread counts up once.
-const COUNTER: &[u8] =
+static COUNTER: &[u8] =
     b"version 1\nclasses 1\nglobal 0\nentry 0\nfn 1 5\nglob r1, g0\nacq 0\nload r2, r1\nint r3, 1\nadd r4, r2, r3\nstore r1, r4\nrel\nret r0\nlist\nexpr r1 write\n";
 
+/// A sum to which each thread adds its number again and again.
+static SUM: &[u8] =
+    b"version 1\nclasses 1\nglobal 0\nentry 0\nfn 1 5\nglob r1, g0\nacq 0\nload r2, r1\nadd r2, r2, r0\nout r2\nstore r1, r2\nrel\njmp 1\nlist\nexpr r1 write\n";
+
 /// A schedule in which thread 1 waits for thread 0, and both end.
-pub const SCHEDULE: [u8; 18] = [0, 0, 1, 1, 0, 0, 0, 0, 1, 0, 1, 0, 1, 1, 1, 1, 1, 1];
+pub static SCHEDULE: [u8; 18] = [0, 0, 1, 1, 0, 0, 0, 0, 1, 0, 1, 0, 1, 1, 1, 1, 1, 1];
 
 /// The counter.
 pub fn counter(alloc: Global) -> Option<Program> {
     assemble(alloc, COUNTER).ok()
 }
 
-/// The journal of the counter's two threads over the first steps of the schedule, so many.
-pub fn journal_of(alloc: Global, program: &Program, steps: usize) -> Option<Journal> {
+/// The sum.
+pub fn sum(alloc: Global) -> Option<Program> {
+    assemble(alloc, SUM).ok()
+}
+
+/// The number behind this one in a row of numbers in no order.
+pub fn following(number: u32) -> u32 {
+    number.wrapping_mul(1_103_515_245).wrapping_add(12_345)
+}
+
+/// A schedule of two threads, so many steps in no order.
+pub fn mixed(alloc: Global, steps: u16) -> Option<Vec<u8>> {
+    let mut schedule = Vec::new(alloc);
+    let mut number = 1;
+    for _ in 0..steps {
+        number = following(number);
+        schedule.push(u8::from(number % 65_536 >= 30_000)).ok()?;
+    }
+    Some(schedule)
+}
+
+/// The journal of the program's two threads over the schedule.
+pub fn journal_of(alloc: Global, program: &Program, schedule: &[u8]) -> Option<Journal> {
     let mut journaled = Journaled::start(alloc, program, 2).ok()?;
-    for thread in SCHEDULE.iter().take(steps) {
+    for thread in schedule {
         journaled.step(alloc, u32::from(*thread)).ok()?;
     }
     let (journal, _machine) = journaled.into_parts();
     Some(journal)
 }
 
-/// The machine behind so many steps, by a new replay.
-pub fn replayed<'p>(alloc: Global, program: &'p Program, steps: usize) -> Option<Machine<'p>> {
-    let journal = journal_of(alloc, program, steps)?;
+/// A debugger at the start of the program's journal over the schedule.
+pub fn opened<'p>(
+    alloc: Global,
+    program: &'p Program,
+    schedule: &[u8],
+    spacing: u32,
+) -> Option<Debugger<'p>> {
+    let journal = journal_of(alloc, program, schedule)?;
+    Debugger::open(alloc, program, journal, spacing.max(1)).ok()
+}
+
+/// The machine behind so many steps of the schedule, by a new replay.
+fn replayed<'p>(
+    alloc: Global,
+    program: &'p Program,
+    schedule: &[u8],
+    steps: u32,
+) -> Option<Machine<'p>> {
+    let (first, _rest) = schedule.split_at_checked(steps as usize)?;
+    let journal = journal_of(alloc, program, first)?;
     replay(alloc, program, &journal).ok()
 }
 
+/// Whether the debugger goes to the position, and shows there what a new replay leads to.
+pub fn is_shown(
+    alloc: Global,
+    program: &Program,
+    schedule: &[u8],
+    debugger: &mut Debugger<'_>,
+    position: u32,
+) -> Option<bool> {
+    debugger.goto(alloc, position).ok()?;
+    let machine = replayed(alloc, program, schedule, position)?;
+    Some(debugger.position() == position && shows_same(debugger.view(), &machine))
+}
+
+/// Whether thread t runs, where it is, and how deep in sections.
+fn place(machine: &Machine<'_>, t: u32) -> Option<(Status, Option<u32>, u32)> {
+    if t >= machine.threads() {
+        return None;
+    }
+    Some((machine.status(t), machine.pc(t), machine.depth(t)))
+}
+
+/// What thread t holds at the root and at the only class.
+fn holding(machine: &Machine<'_>, t: u32) -> Option<(Mode, Mode)> {
+    if t >= machine.threads() {
+        return None;
+    }
+    Some((machine.held(t, Node::Root), machine.held(t, Node::Class(0))))
+}
+
+/// What a register of thread t has.
+fn register(machine: &Machine<'_>, t: u32, register: u32) -> Option<Value> {
+    if t >= machine.threads() {
+        return None;
+    }
+    machine.reg(t, register)
+}
+
 /// Whether the machines show the same of thread t.
-fn shows_thread(left: &Machine<'_>, right: &Machine<'_>, t: u32) -> bool
-    requires left { t < length left.now.state.threads }
-    requires right { t < length right.now.state.threads }
-{
-    let place = left.status(t) == right.status(t)
-        && left.pc(t) == right.pc(t)
-        && left.depth(t) == right.depth(t);
-    let locks = left.held(t, Node::Root) == right.held(t, Node::Root)
-        && left.held(t, Node::Class(0)) == right.held(t, Node::Class(0));
-    place && locks && (0..5).all(|register| left.reg(t, register) == right.reg(t, register))
+fn shows_thread(left: &Machine<'_>, right: &Machine<'_>, t: u32) -> bool {
+    place(left, t) == place(right, t)
+        && holding(left, t) == holding(right, t)
+        && (0..5).all(|number| register(left, t, number) == register(right, t, number))
 }
 
 /// Whether the machines show the same of their threads, their locks, and the global.
-pub fn shows_same(left: &Machine<'_>, right: &Machine<'_>) -> bool {
+fn shows_same(left: &Machine<'_>, right: &Machine<'_>) -> bool {
     let global = Cell {
         object: 0,
         offset: 0,
     };
-    if left.threads() != right.threads() {
-        return false;
-    }
-    for t in 0..left.threads() {
-        if !shows_thread(left, right, t) {
-            return false;
-        }
-    }
-    left.cell(global) == right.cell(global)
+    left.threads() == right.threads()
+        && (0..left.threads()).all(|t| shows_thread(left, right, t))
+        && left.cell(global) == right.cell(global)
 }
