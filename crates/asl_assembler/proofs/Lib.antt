@@ -7,6 +7,7 @@ pub mod Instrs
 pub mod Meanings
 pub mod Listings
 pub mod Texts
+pub mod Turns
 pub mod Outcomes
 pub mod Writes
 pub mod Prints

@@ -30,12 +30,12 @@ one_fault text OutOfMemory g is also = absurd (is.1 refl)
 one_fault text f OutOfMemory is also = absurd (also.1 refl)
 
 not_refused : (text : List ℕ) (i : Image) (f : AsmFault) → IsOutcome text (Ok i) → IsOutcome text (Err f) → ⊥
-not_refused text i (Line n) is also = not_both (lines_of text) i n is.0 also.0
-not_refused text i (Verify b) is also = no_cause text i also.0.0 b is.0 is.1 also.0.1 also.0.2
+not_refused text i (Line n) is also = not_both (lines_of text) i n is.spelled also.0
+not_refused text i (Verify b) is also = no_cause text i also.0.0 b is.spelled is.verified also.0.1 also.0.2
 not_refused text i OutOfMemory is also = also.1 refl
 
 pub outcome_is_one : (text : List ℕ) (outcome other : Result Image AsmFault) → IsOutcome text outcome → IsOutcome text other → outcome ≡ other
-outcome_is_one text (Ok i) (Ok j) is also = ap (λ (x : Image). Ok x) (one_image text i j is.0 also.0)
+outcome_is_one text (Ok i) (Ok j) is also = ap (λ (x : Image). Ok x) (one_image text i j is.spelled also.spelled)
 outcome_is_one text (Ok i) (Err g) is also = absurd (not_refused text i g is also)
 outcome_is_one text (Err f) (Ok j) is also = absurd (not_refused text j f also is)
 outcome_is_one text (Err f) (Err g) is also = ap (λ (x : AsmFault). Err x) (one_fault text f g is also)
@@ -43,7 +43,7 @@ outcome_is_one text (Err f) (Err g) is also = ap (λ (x : AsmFault). Err x) (one
 judged_image : (text : List ℕ) (i : Image) → Spells text i → (outcome : Result Image AsmFault) × IsOutcome text outcome
 judged_image text i spells =
     elim (some_answer i) [
-      | inl verified ↦ (Ok i, (spells, verified))
+      | inl verified ↦ (Ok i, record { spelled = spells; verified = verified })
       | inr broken_by ↦ (Err (Verify broken_by.0), ((i, spells, broken_by.1), λ e. absurd cc))
     ]
 

@@ -8,15 +8,17 @@ use Rattle.asl_assembler.specs.declared.assembly.AsmFault.{AsmFault}
 use Rattle.asl_assembler.specs.declared.assembly.AsmFault.TheVariants.{Line, Verify, OutOfMemory}
 
 -- The text is refused with this error: its first line that is not as its place asks, or, where all lines are right, the
--- first rule that the image which they spell breaks. Want of memory says nothing of the text (docs/LIMITS.md)
+-- first rule that the image which they spell breaks. Want of memory hides no line: the text spells an image
+-- (docs/LIMITS.md)
 abbrev pub IsFault : List ℕ → AsmFault → Type 0
 IsFault text (Line number) = IsBadLine (lines_of text) number
 IsFault text (Verify cause) = (image : Image) × Spells text image × IsAnswer image cause
-IsFault text OutOfMemory = Unit {0}
+IsFault text OutOfMemory = (image : Image) × Spells text image
 
 -- The text spells this image, which is a program's (docs/ASSEMBLY.md)
-abbrev pub IsProgramText : List ℕ → Image → Type 0
-IsProgramText text image = Spells text image × IsVerified image
+pub record IsProgramText (text : List ℕ) (image : Image) : Type 0 where
+  pub spelled : Spells text image
+  pub verified : IsVerified image
 
 -- The outcome of the text, where memory is there: the program that it is assembled as, or the error that it is refused
 -- with (docs/ASSEMBLY.md, docs/LIMITS.md)

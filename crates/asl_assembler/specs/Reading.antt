@@ -22,6 +22,8 @@ use Rattle.asl_assembler.specs.declared.line.Line.{Line}
 use Rattle.asl_assembler.specs.declared.line.Line.TheVariants as line
 use Rattle.asl_assembler.specs.declared.draft.Place.{Place}
 use Rattle.asl_assembler.specs.declared.draft.Place.TheVariants as place
+use Rattle.asl_assembler.specs.declared.order.Turn.{Turn}
+use Rattle.asl_assembler.specs.declared.order.Turn.TheVariants as turn
 use Rattle.asl_assembler.specs.declared.read.ReadFault.{ReadFault}
 use Rattle.asl_assembler.specs.declared.read.ReadFault.TheVariants as fault
 use Rattle.asl_assembler.specs.Words.{name_of, words_of, is_separator}
@@ -329,3 +331,47 @@ abbrev pub Answers : Result Image ReadFault → Result Image ℕ → Type 0
 Answers (Ok image) answer = answer ≡ Ok image
 Answers (Err (fault.Line n)) answer = answer ≡ Err n
 Answers (Err fault.OutOfMemory) answer = Unit {0}
+
+-- which line comes next at a place, without what is open there
+abbrev pub turn_of : Place → Turn
+turn_of place.Version = turn.Version
+turn_of place.Classes = turn.Classes
+turn_of place.Globals = turn.Globals
+turn_of place.Functions = turn.Functions
+turn_of (place.Body f) = turn.Body
+turn_of (place.Locks locks) = turn.Locks
+
+-- which line comes behind one that opens a function or a list
+abbrev pub turn_opened : Line → Option Turn
+turn_opened (line.Function params regs) = Some turn.Body
+turn_opened line.List = Some turn.Locks
+turn_opened _ = None
+
+-- which line comes behind this one, if it may stand here
+unfoldable pub turn_behind : Turn → Line → Option Turn
+turn_behind turn.Version line.Version = Some turn.Classes
+turn_behind turn.Classes (line.Classes n) = Some turn.Globals
+turn_behind turn.Globals (line.Global c) = Some turn.Globals
+turn_behind turn.Globals (line.Entry f) = Some turn.Functions
+turn_behind turn.Functions l = turn_opened l
+turn_behind turn.Body (line.Instruction x) = Some turn.Body
+turn_behind turn.Body l = turn_opened l
+turn_behind turn.Locks (line.Lock l) = Some turn.Locks
+turn_behind turn.Locks line.List = Some turn.Locks
+turn_behind _ _ = None
+
+-- the same of words: none change nothing
+abbrev pub turn_words : Turn → List (List ℕ) → Option Turn
+turn_words t [] = Some t
+turn_words t (word ∷ words) = meaning_of (word ∷ words) >>= turn_behind t
+
+-- the same of a line of bytes
+unfoldable pub turn_line : Turn → List ℕ → Option Turn
+turn_line t l = turn_words t (words_of l)
+
+-- whether a text may end here
+abbrev pub may_end : Turn → Bool
+may_end turn.Functions = true
+may_end turn.Body = true
+may_end turn.Locks = true
+may_end _ = false

@@ -6,6 +6,7 @@ ghost use Rattle.asl_code.specs.declared.image.Image.{Image};
 ghost use Rattle.asl_assembler.specs.Faults.{IsFault};
 ghost use Rattle.asl_assembler.specs.Text.{Spells};
 
+use crate::order::wrong_line;
 use crate::read::{ReadFault, read};
 use asl_code::{Program, VerifyFault};
 use std::alloc::Global;
@@ -21,7 +22,7 @@ pub enum AsmFault {
     /// All lines are right, and the image that they spell is not verified.
     #[error("Verify({0})")]
     Verify(VerifyFault),
-    /// Memory ran out.
+    /// The text spells an image, and memory ran out.
     #[error("OutOfMemory")]
     OutOfMemory,
 }
@@ -39,7 +40,10 @@ pub fn assemble(alloc: Global, text: &[u8]) -> Result<Program, AsmFault>
     let image = match read(alloc, text) {
         Ok(image) => image,
         Err(ReadFault::Line(number)) => return Err(AsmFault::Line(number)),
-        Err(ReadFault::OutOfMemory) => return Err(AsmFault::OutOfMemory),
+        Err(ReadFault::OutOfMemory) => match wrong_line(text) {
+            Some(number) => return Err(AsmFault::Line(number)),
+            None => return Err(AsmFault::OutOfMemory),
+        },
     };
     match Program::verify(image) {
         Ok(program) => Ok(program),

@@ -9,6 +9,7 @@ pub mod laws;
 mod line;
 mod number;
 mod operand;
+mod order;
 mod print;
 mod read;
 mod words;

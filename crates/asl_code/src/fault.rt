@@ -1,3 +1,5 @@
+//! Why an image is no program.
+
 use thiserror::Error;
 
 /// Why an image is no program, in the order in which the verifier looks (`docs/LIMITS.md`, "Rules of an image").

@@ -1,9 +1,11 @@
+//! Images: what a text or a file says of a program, not judged yet.
+
 use crate::instr::Instr;
 use crate::items::Items;
 use crate::lock::Lock;
 
 /// A function of an image. Its body follows the bodies of the functions before it.
-#[derive(Clone, Copy, Debug, PartialEq, Eq)]
+#[derive(Clone, Copy, PartialEq, Eq)]
 pub struct Function {
     /// How many parameters it has; they are its first registers.
     pub params: u8,
@@ -14,7 +16,7 @@ pub struct Function {
 }
 
 /// What a text or a file says, before anything of it is judged.
-#[derive(Debug, Drop)]
+#[derive(Drop)]
 pub struct Image {
     /// The version of the format.
     pub version: u32,

@@ -1,7 +1,9 @@
+//! The instructions of the machine.
+
 /// An instruction, a variant for each row of the instruction table (`docs/INSTRUCTIONS.md`).
 ///
 /// Registers are numbered from 0 in their function's frame. Jump targets are places in the whole code from 0.
-#[derive(Clone, Copy, Debug, PartialEq, Eq)]
+#[derive(Clone, Copy, PartialEq, Eq)]
 pub enum Instr {
     /// `int`: `to` becomes the integer `value`.
     SetInt { to: u8, value: i32 },

@@ -1,3 +1,5 @@
+//! The eight bytes of an instruction, written and read back.
+
 ghost use Rattle.std.specs.Prelude.{◌≡◌, ◌≤◌, IfOk, IfErr, IsSomeAnd};
 ghost use Rattle.std.specs.Option.{option_map};
 ghost use Rattle.asl_code.specs.declared.instr.Instr.{Instr};

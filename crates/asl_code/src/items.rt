@@ -1,10 +1,12 @@
+//! Lists on the heap.
+
 ghost use Rattle.std.specs.Prelude.{◌≡◌, [], ◌∷◌, ◌++◌, length, is_ok, IfErr, if◌then◌else◌};
 
 use std::alloc::{AllocFailed, Global};
 use std::marker::Model;
 
 /// A list on the heap. Contracts see its items in order, and equality is of the items.
-#[derive(Debug, Drop)]
+#[derive(Drop)]
 pub struct Items<T> {
     items: Vec<T>,
 }

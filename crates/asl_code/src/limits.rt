@@ -1,3 +1,5 @@
+//! The version of the format, and how many there are at the most of each part of an image.
+
 /// The version of the format that the verifier takes.
 pub const VERSION: u32 = 1;
 /// The most classes.

@@ -1,8 +1,10 @@
+//! Locks: what a section asks for at its entry.
+
 use crate::path::Path;
 use crate::value::Effect;
 
 /// Where the evaluation of an expression begins.
-#[derive(Clone, Copy, Debug, PartialEq, Eq, PartialOrd, Ord, Hash)]
+#[derive(Clone, Copy, PartialEq, Eq, PartialOrd, Ord, Hash)]
 pub enum Base {
     /// The address in a register of the frame.
     Reg(u8),
@@ -11,7 +13,7 @@ pub enum Base {
 }
 
 /// A lock expression: a base, and the path that goes on from it.
-#[derive(Clone, Debug, Drop, PartialEq, Eq, PartialOrd, Ord, Hash)]
+#[derive(Clone, Drop, PartialEq, Eq, PartialOrd, Ord, Hash)]
 pub struct Expr {
     /// Where the evaluation begins.
     pub base: Base,
@@ -20,7 +22,7 @@ pub struct Expr {
 }
 
 /// A lock that a section asks for at its entry, with the effect that it must cover.
-#[derive(Clone, Debug, Drop, PartialEq, Eq, PartialOrd, Ord, Hash)]
+#[derive(Clone, Drop, PartialEq, Eq, PartialOrd, Ord, Hash)]
 pub enum Lock {
     /// The root: every cell.
     Root(Effect),

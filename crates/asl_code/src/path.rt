@@ -1,10 +1,12 @@
+//! The paths of lock expressions.
+
 ghost use Rattle.std.specs.Prelude.{◌≡◌, ◌<◌, ◌≤◌, [], ◌∷◌, ◌++◌, length};
 
 use arrayvec::ArrayVec;
 use std::marker::Model;
 
 /// One operation of a path.
-#[derive(Clone, Copy, Debug, PartialEq, Eq, PartialOrd, Ord, Hash)]
+#[derive(Clone, Copy, PartialEq, Eq, PartialOrd, Ord, Hash)]
 pub enum Op {
     /// `*`: reads the cell, which must hold an address.
     Deref,
@@ -24,7 +26,7 @@ impl Default for Op {
 }
 
 /// The operations of a lock expression from its base on, eight at the most. Contracts see the list of them.
-#[derive(Clone, Debug, Drop, PartialEq, Eq, PartialOrd, Ord, Hash)]
+#[derive(Clone, Drop, PartialEq, Eq, PartialOrd, Ord, Hash)]
 pub struct Path {
     ops: ArrayVec<Op, 8>,
 }

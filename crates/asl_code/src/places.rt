@@ -1,3 +1,5 @@
+//! The rules of an image that judge each instruction at its place.
+
 ghost use Rattle.std.specs.Prelude.{◌≡◌, ◌+◌, ◌&&◌, nat_le, nat_lt, IsTrue, not, position};
 ghost use Rattle.std.specs.List.{list_all};
 ghost use Rattle.asl_code.specs.Bodies.{Body};

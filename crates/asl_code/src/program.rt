@@ -1,3 +1,5 @@
+//! Programs: the images that are verified.
+
 ghost use Rattle.std.specs.Prelude.{◌≡◌, OnOk, IfOk, IfErr};
 
 use crate::fault::VerifyFault;
@@ -9,7 +11,7 @@ use crate::verify::first_fault;
 use std::marker::Model;
 
 /// A verified image. Contracts see the image.
-#[derive(Debug, Drop)]
+#[derive(Drop)]
 pub struct Program {
     image: Image,
 }

@@ -1,5 +1,7 @@
+//! Values, cells, and the effects of accesses on cells.
+
 /// A value of a register or of a cell.
-#[derive(Clone, Copy, Debug, PartialEq, Eq, PartialOrd, Ord)]
+#[derive(Clone, Copy, Debug, PartialEq, Eq)]
 pub enum Value {
     /// A 32-bit integer in two's complement.
     Int(i32),
@@ -10,7 +12,7 @@ pub enum Value {
 }
 
 /// A cell of the heap: the object's number, and the place in the object from 0.
-#[derive(Clone, Copy, Debug, PartialEq, Eq, PartialOrd, Ord)]
+#[derive(Clone, Copy, Debug, PartialEq, Eq)]
 pub struct Cell {
     /// The object's number, globals first.
     pub object: u16,

@@ -1,3 +1,5 @@
+//! The bytes of a value, written and read back.
+
 ghost use Rattle.std.specs.Prelude.{◌≡◌, ◌↔◌, ℕ, List, ◌++◌, length, IfOk};
 ghost use Rattle.asl_code.specs.declared.value.Value.{Value};
 ghost use Rattle.asl_code.specs.Spelling.{SpellsValue, TakesValue, BeginsValue, ValueOfSpellingIsOne, SpellingOfValueIsOne};

@@ -1,3 +1,5 @@
+//! Judging an image, rule after rule.
+
 ghost use Rattle.std.specs.Prelude.{◌≡◌, ◌≤◌, nat_lt, length, IsTrue, MatchOption};
 ghost use Rattle.std.specs.List.{list_all};
 ghost use Rattle.asl_code.specs.Bodies.{total_len};

@@ -1,3 +1,5 @@
+//! Why a debugger refused a call.
+
 use asl_journal::JournalFault;
 use asl_machine::MachineFault;
 use std::alloc::{AllocError, AllocFailed};

@@ -1,3 +1,5 @@
+//! The events of a journal, and what writing one down answers.
+
 use asl_machine::Reply;
 use std::mem::size_of;
 

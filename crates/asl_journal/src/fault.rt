@@ -1,3 +1,5 @@
+//! Why a call on journals, or the reading of one, was refused.
+
 ghost use Rattle.std.specs.Prelude.{◌≡◌};
 ghost use Rattle.asl_journal.specs.declared.fault.ReadError.TheVariants.{Memory};
 

@@ -1,3 +1,5 @@
+//! How many threads and events a journal has at the most.
+
 /// How many threads a journal has at most (`docs/LIMITS.md`).
 pub const MOST_THREADS: u32 = 64;
 

@@ -94,15 +94,18 @@ whole_refused bytes f fit e = whole_refused_from bytes (image_at bytes) f fit re
 
 -- what the reader of all the bytes answered
 abbrev pub IsWhole : List ℕ → Result Image LoadFault → Type 0
-IsWhole bytes r = (r ≡ Err OutOfMemory) ⊎ (r ≡ whole_of bytes)
+IsWhole bytes r = ((r ≡ Err OutOfMemory) × ((i : Image) × (whole_of bytes ≡ Ok i))) ⊎ (r ≡ whole_of bytes)
 
 pub found_is : (bytes : List ℕ) (i : Image) → AreBytes bytes → IsWhole bytes (Ok i) → SpellsImage i bytes
-found_is bytes i fit w = elim w [ inl out ↦ let both : answered i ≡ refused OutOfMemory = out in absurd cc | inr e ↦ whole_found bytes i fit (sym e) ]
+found_is bytes i fit w = elim w [ inl out ↦ let both : answered i ≡ refused OutOfMemory = out.0 in absurd cc | inr e ↦ whole_found bytes i fit (sym e) ]
 
 pub refused_is : (bytes : List ℕ) (f : LoadFault) → AreBytes bytes → IsWhole bytes (Err f) → IsFault bytes f
 refused_is bytes f fit w =
     elim w [
-      | inl out ↦ let both : refused f ≡ refused OutOfMemory = out in let same : OutOfMemory ≡ f = cc in subst (IsFault bytes) same tt
+      | inl out ↦
+          let both : refused f ≡ refused OutOfMemory = out.0 in
+          let same : OutOfMemory ≡ f = cc in
+          subst (IsFault bytes) same (out.1.0, whole_found bytes out.1.0 fit out.1.1)
       | inr e ↦ (whole_refused bytes f fit (sym e)).0
     ]
 
@@ -110,14 +113,14 @@ refused_is bytes f fit w =
 pub only_is : (bytes : List ℕ) (i j : Image) → IsWhole bytes (Ok i) → SpellsImage j bytes → i ≡ j
 only_is bytes i j w s =
     elim w [
-      | inl out ↦ let both : answered i ≡ refused OutOfMemory = out in absurd cc
+      | inl out ↦ let both : answered i ≡ refused OutOfMemory = out.0 in absurd cc
       | inr e ↦ let both : answered i ≡ answered j = e ∙ whole_again bytes j s in cc
     ]
 
 pub only_memory : (bytes : List ℕ) (f : LoadFault) (j : Image) → IsWhole bytes (Err f) → SpellsImage j bytes → f ≡ OutOfMemory
 only_memory bytes f j w s =
     elim w [
-      | inl out ↦ let both : refused f ≡ refused OutOfMemory = out in cc
+      | inl out ↦ let both : refused f ≡ refused OutOfMemory = out.0 in cc
       | inr e ↦ let both : refused f ≡ answered j = e ∙ whole_again bytes j s in absurd cc
     ]
 

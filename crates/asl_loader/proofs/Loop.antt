@@ -1,10 +1,8 @@
 -- Reading items one after the other, as a loop does.
-use Rattle.std.proofs.Common.{◌≡◌, ℕ, suc, ◌-◌, ◌+◌, ◌≤◌, ◌<◌, List, [], ◌∷◌, ◌++◌, Result, Ok, Err, refl, sym, ap, ◌∙◌, append_assoc, arith}
+use Rattle.std.proofs.Common.{◌≡◌, ℕ, suc, ◌-◌, ◌+◌, ◌≤◌, ◌<◌, List, [], ◌∷◌, ◌++◌, Option, Some, Result, Ok, Err, refl, sym, ap, ◌∙◌, append_assoc, arith}
 use Rattle.std.proofs.lemmas.List.{append-nil}
 use Rattle.asl_loader.specs.declared.fault.Stop.{Stop}
-use Rattle.asl_loader.specs.declared.fault.ReadError.{ReadError}
-use Rattle.asl_loader.specs.declared.fault.ReadError.TheVariants as errors
-use Rattle.asl_loader.specs.Reading.{◌>>=◌, Fails, items_at}
+use Rattle.asl_loader.specs.Reading.{◌>>=◌, IsKept, items_at}
 
 -- what was read before, and what is still read
 abbrev pub with_front : {X : Type 0} → List X → Result (List X × List ℕ) Stop → Result (List X × List ℕ) Stop
@@ -23,11 +21,10 @@ module _ (X : Type 0) (item : List ℕ → Result (X × List ℕ) Stop) where
       let one : with_front front (items_at item (count - i) bytes) ≡ with_front (front ++ n ∷ []) (items_at item (count - (i + 1)) after) = rw (k, h) (regroup front n (items_at item (count - (i + 1)) after)) in
       sym one ∙ so_far
 
-  pub ends : (e : ReadError) (front : List X) (count i : ℕ) (bytes : List ℕ) (total : Result (List X × List ℕ) Stop) → i < count → Fails e (item bytes)
-      → with_front front (items_at item (count - i) bytes) ≡ total → Fails e total
+  pub ends : (f : Stop) (front : List X) (count i : ℕ) (bytes : List ℕ) (total : Result (List X × List ℕ) Stop) → i < count → item bytes ≡ Err f
+      → with_front front (items_at item (count - i) bytes) ≡ total → total ≡ Err f
   unfolding items_at
-  ends errors.Memory front count i bytes total lt h so_far = tt
-  ends (errors.Stop f) front count i bytes total lt h so_far =
+  ends f front count i bytes total lt h so_far =
       let k : count - i ≡ suc (count - (i + 1)) = omega arith in
       let one : with_front front (items_at item (count - i) bytes) ≡ Err f = rw (k, h) refl in
       sym so_far ∙ one
@@ -38,3 +35,36 @@ module _ (X : Type 0) (item : List ℕ → Result (X × List ℕ) Stop) where
       let k : count - i ≡ 0 = omega arith in
       let one : with_front front (items_at item (count - i) bytes) ≡ Ok (front, bytes) = rw k (ap (λ (ns : List X). Ok (ns, bytes)) (append-nil front)) in
       sym so_far ∙ one
+
+-- what was read before, of which what found memory is kept, and what is still read
+pub record Kept (X : Type 0) (item : List ℕ → Result (X × List ℕ) Stop) (kept : Option (List X)) (count i : ℕ) (bytes : List ℕ) (total : Result (List X × List ℕ) Stop) : Type 0 where
+  pub front : List X
+  pub is : IsKept kept front
+  pub so_far : with_front front (items_at item (count - i) bytes) ≡ total
+
+nothing_before : {X : Type 0} (read : Result (List X × List ℕ) Stop) → with_front [] read ≡ read
+nothing_before (Ok x) = refl
+nothing_before (Err f) = refl
+
+module _ (X : Type 0) (item : List ℕ → Result (X × List ℕ) Stop) where
+  pub kept_first : (new : List X) (count : ℕ) (bytes : List ℕ) → new ≡ [] → Kept X item (Some new) count 0 bytes (items_at item count bytes)
+  kept_first new count bytes none =
+      let all : count - 0 ≡ count = omega arith in
+      record { front = []; is = none; so_far = rw all (nothing_before (items_at item count bytes)) }
+
+  pub kept_more : (kept more : Option (List X)) (count i : ℕ) (bytes : List ℕ) (n : X) (after : List ℕ) (total : Result (List X × List ℕ) Stop)
+      → Kept X item kept count i bytes total → i < count → item bytes ≡ Ok (n, after)
+      → ((front : List X) → IsKept kept front → IsKept more (front ++ n ∷ [])) → Kept X item more count (i + 1) after total
+  kept_more kept more count i bytes n after total k lt h push = record {
+    front = k.front ++ n ∷ [];
+    is = push k.front k.is;
+    so_far = goes_on X item k.front count i bytes n after total lt h k.so_far;
+  }
+
+  pub kept_all : (kept : Option (List X)) (count i : ℕ) (bytes : List ℕ) (total : Result (List X × List ℕ) Stop)
+      → Kept X item kept count i bytes total → count ≤ i → (whole : List X) × IsKept kept whole × (total ≡ Ok (whole, bytes))
+  kept_all kept count i bytes total k le = (k.front, k.is, is_done X item k.front count i bytes total le k.so_far)
+
+  pub kept_ends : (f : Stop) (kept : Option (List X)) (count i : ℕ) (bytes : List ℕ) (total : Result (List X × List ℕ) Stop)
+      → Kept X item kept count i bytes total → i < count → item bytes ≡ Err f → total ≡ Err f
+  kept_ends f kept count i bytes total k lt h = ends X item f k.front count i bytes total lt h k.so_far

@@ -88,7 +88,7 @@ settled_fault bytes (Verify cause) fit is known = broken is.0 cause (whole_again
 settled_fault bytes OutOfMemory fit is known = absurd (known refl)
 
 settled : (bytes : List ℕ) (outcome : Result Image LoadFault) → AreBytes bytes → IsOutcome bytes outcome → Settled bytes outcome
-settled bytes (Ok i) fit is = loaded i (whole_again bytes i is.0) is.1 refl
+settled bytes (Ok i) fit is = loaded i (whole_again bytes i is.spelled) is.verified refl
 settled bytes (Err f) fit is = settled_fault bytes f fit is.0 is.1
 
 answered : Image → Result Image LoadFault
@@ -128,7 +128,7 @@ outcome_is_one bytes outcome other all is also =
 judged_image : (bytes : List ℕ) (i : Image) → SpellsImage i bytes → (outcome : Result Image LoadFault) × IsOutcome bytes outcome
 judged_image bytes i spells =
     elim (some_answer i) [
-      | inl verified ↦ (Ok i, (spells, verified))
+      | inl verified ↦ (Ok i, record { spelled = spells; verified = verified })
       | inr broken_by ↦ (Err (Verify broken_by.0), ((i, spells, broken_by.1), λ e. absurd cc))
     ]
 

@@ -11,7 +11,8 @@ abbrev pub IsBadImageByte : List ℕ → ℕ → Type 0
 IsBadImageByte bytes at = HasBadByte Image IsImage image_fields bytes at
 
 -- The fault is the first thing that is wrong with the bytes, from front to back. The field at byte 0 is the letters, and
--- the one at byte 4 the version. Want of memory says nothing of the bytes (docs/BYTES.md, "Images").
+-- the one at byte 4 the version. Want of memory hides none but what the verifier finds: the bytes spell an image
+-- (docs/BYTES.md, "Images").
 abbrev pub IsFault : List ℕ → LoadFault → Type 0
 IsFault bytes Magic = IsBadImageByte bytes 0
 IsFault bytes Version = IsBadImageByte bytes 4
@@ -19,11 +20,12 @@ IsFault bytes (Truncated at) = (at ≡ length bytes) × EndsWithin Image IsImage
 IsFault bytes (BadField at) = (at ≢ 0) × (at ≢ 4) × IsBadImageByte bytes at
 IsFault bytes (Trailing at) = (at < length bytes) × ((image : Image) × SpellsImage image (take at bytes))
 IsFault bytes (Verify cause) = (image : Image) × SpellsImage image bytes × IsAnswer image cause
-IsFault bytes OutOfMemory = Unit {0}
+IsFault bytes OutOfMemory = (image : Image) × SpellsImage image bytes
 
 -- the bytes spell this image, which is a program's: they are loaded as it, and it is stored as they (docs/BYTES.md, "Images")
-abbrev pub IsProgramImage : List ℕ → Image → Type 0
-IsProgramImage bytes image = SpellsImage image bytes × IsVerified image
+pub record IsProgramImage (bytes : List ℕ) (image : Image) : Type 0 where
+  pub spelled : SpellsImage image bytes
+  pub verified : IsVerified image
 
 -- The outcome of the bytes, where memory is there: the program that they are loaded as, or the refusal that they meet
 -- (docs/BYTES.md, "Images").

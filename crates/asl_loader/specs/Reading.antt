@@ -1,7 +1,7 @@
 -- Machinery of the proofs, not of the promise: reading an image from front to back, to the first field that is
 -- cut or bad, computed (docs/BYTES.md, "Images"). The lemmas of proofs/ lead from here to the relations of specs/Bytes and
 -- specs/Faults, which public calls cite.
-use Rattle.std.specs.Prelude.{◌≡◌, ℕ, zero, suc, ◌-◌, Bool, nat_lt, ◌==◌, if◌then◌else◌, List, [], ◌∷◌, length, take, drop, Result, Ok, Err}
+use Rattle.std.specs.Prelude.{◌≡◌, ℕ, zero, suc, ◌-◌, Bool, nat_lt, ◌==◌, if◌then◌else◌, List, [], ◌∷◌, length, take, drop, Option, Some, None, Result, Ok, Err}
 use Rattle.std.specs.Int.{Width, w16, w32, byte_len, from_be_bytes}
 use Rattle.asl_code.specs.declared.image.Function.{Function}
 use Rattle.asl_code.specs.declared.image.Image.{Image}
@@ -19,8 +19,6 @@ use Rattle.asl_loader.specs.declared.fault.LoadFault.{LoadFault}
 use Rattle.asl_loader.specs.declared.fault.LoadFault.TheVariants.{Magic, Version, Truncated, BadField, Trailing}
 use Rattle.asl_loader.specs.declared.fault.Stop.{Stop}
 use Rattle.asl_loader.specs.declared.fault.Stop.TheVariants.{Short, Bad}
-use Rattle.asl_loader.specs.declared.fault.ReadError.{ReadError}
-use Rattle.asl_loader.specs.declared.fault.ReadError.TheVariants as errors
 
 -- A reader answers a value and the bytes after it, or what stopped it. One goes on where the other ended.
 infixl 10 ◌>>=◌
@@ -28,15 +26,20 @@ abbrev pub ◌>>=◌ : {A B : Type 0} → Result A Stop → (A → Result B Stop
 (Ok x) >>= f = f x
 (Err e) >>= f = Err e
 
--- what a function returned, seen by view, is what reading gives, unless memory ran out
-abbrev pub Fails : {Y : Type 0} → ReadError → Result Y Stop → Type 0
-Fails errors.Memory read = Unit {0}
-Fails (errors.Stop stop) read = read ≡ Err stop
-
--- the same of what was read
-abbrev pub Gives : {X Y : Type 0} → (X → Y) → Result X ReadError → Result Y Stop → Type 0
+-- what a function returned, seen by view, is what reading gives
+abbrev pub Gives : {X Y : Type 0} → (X → Y) → Result X Stop → Result Y Stop → Type 0
 Gives view (Ok x) read = read ≡ Ok (view x)
-Gives view (Err e) read = Fails e read
+Gives view (Err stop) read = read ≡ Err stop
+
+-- what was kept of a thing that was read is the thing: all of it, or nothing where memory was refused
+abbrev pub IsKept : {X : Type 0} → Option X → X → Type 0
+IsKept None x = Unit {0}
+IsKept (Some kept) x = kept ≡ x
+
+-- what a function returned is what reading gives, of which it kept what it found memory for
+abbrev pub Keeps : {X Y : Type 0} → (X → Option Y) → (X → List ℕ) → Result X Stop → Result (Y × List ℕ) Stop → Type 0
+Keeps {Y = Y} kept rest (Ok x) read = (whole : Y) × IsKept (kept x) whole × (read ≡ Ok (whole, rest x))
+Keeps kept rest (Err stop) read = read ≡ Err stop
 
 -- a byte
 unfoldable pub byte_at : List ℕ → Result (ℕ × List ℕ) Stop

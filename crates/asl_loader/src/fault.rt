@@ -1,10 +1,6 @@
 //! Why bytes are no program.
 
-ghost use Rattle.std.specs.Prelude.{◌≡◌};
-ghost use Rattle.asl_loader.specs.declared.fault.ReadError.TheVariants.{Memory};
-
 use asl_code::VerifyFault;
-use std::alloc::{AllocError, AllocFailed};
 use thiserror::Error;
 
 /// Why bytes are those of no program: the first thing that is wrong, from front to back (`docs/BYTES.md`, "Images").
@@ -28,7 +24,7 @@ pub enum LoadFault {
     /// The bytes spell an image that is no program.
     #[error("Verify({0})")]
     Verify(VerifyFault),
-    /// Memory was refused.
+    /// The bytes spell an image, and memory was refused.
     #[error("OutOfMemory")]
     OutOfMemory,
 }
@@ -40,29 +36,4 @@ pub enum Stop {
     Short,
     /// A field is bad, with so many bytes left from its first bad byte on.
     Bad(usize),
-}
-
-/// Why a reader gave up.
-#[derive(Drop)]
-pub enum ReadError {
-    /// Memory was refused.
-    Memory,
-    /// The bytes are those of no image.
-    Stop(Stop),
-}
-
-impl From<AllocError> for ReadError {
-    ghost from_gives = { λ _ e. e ≡ Memory };
-
-    fn from(_e: AllocError) -> ReadError {
-        ReadError::Memory
-    }
-}
-
-impl<T: Drop> From<AllocFailed<T>> for ReadError {
-    ghost from_gives = { λ _ e. e ≡ Memory };
-
-    fn from(_e: AllocFailed<T>) -> ReadError {
-        ReadError::Memory
-    }
 }

@@ -7,7 +7,7 @@ ghost use Rattle.asl_loader.specs.Bytes.{SpellsImage};
 ghost use Rattle.asl_loader.specs.Faults.{IsFault};
 ghost use Rattle.asl_loader.specs.Reading.{bad_fault, whole_of};
 
-use crate::fault::{LoadFault, ReadError, Stop};
+use crate::fault::{LoadFault, Stop};
 use crate::reading::image_at;
 use asl_code::{Image, Program};
 use std::alloc::Global;
@@ -32,14 +32,14 @@ pub fn load(alloc: Global, bytes: &[u8]) -> Result<Program, LoadFault>
 /// The image of all the bytes, before it is judged.
 #[tactic(auto, unfolding(crate::specs::Reading::whole_of))]
 fn whole_of(alloc: Global, bytes: &[u8]) -> Result<Image, LoadFault>
-    ensures { (result ≡ Err LoadFault.OutOfMemory) ⊎ (result ≡ whole_of bytes.now) }
+    ensures { ((result ≡ Err LoadFault.OutOfMemory) × ((image : Image) × (whole_of bytes.now ≡ Ok image)))
+        ⊎ (result ≡ whole_of bytes.now) }
 {
     match image_at(alloc, bytes) {
-        Ok((image, [])) => Ok(image),
+        Ok((image, [])) => image.ok_or(LoadFault::OutOfMemory),
         Ok((_image, rest)) => Err(LoadFault::Trailing(bytes.len() - rest.len())),
-        Err(ReadError::Memory) => Err(LoadFault::OutOfMemory),
-        Err(ReadError::Stop(Stop::Short)) => Err(LoadFault::Truncated(bytes.len())),
-        Err(ReadError::Stop(Stop::Bad(left))) => Err(bad_fault(bytes.len() - left)),
+        Err(Stop::Short) => Err(LoadFault::Truncated(bytes.len())),
+        Err(Stop::Bad(left)) => Err(bad_fault(bytes.len() - left)),
     }
 }
 

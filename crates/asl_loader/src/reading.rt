@@ -1,57 +1,55 @@
-//! Reading the fields of an image from the front of bytes.
+//! Reading the fields of an image from the front of bytes. Where memory is refused the reading goes on and keeps nothing,
+//! so that want of memory hides nothing that is wrong with the bytes.
 
-ghost use Rattle.std.specs.Prelude.{◌≡◌, ◌≤◌, ◌<◌, length, take, IfOk};
+ghost use Rattle.std.specs.Prelude.{◌≡◌, ◌≤◌, ◌<◌, ℕ, List, [], ◌∷◌, ◌++◌, length, take, IfOk};
 ghost use Rattle.std.specs.Int.{w16, w32};
+ghost use Rattle.asl_code.specs.declared.image.Function.{Function};
+ghost use Rattle.asl_code.specs.declared.instr.Instr.{Instr};
+ghost use Rattle.asl_code.specs.declared.lock.Lock.{Lock};
 ghost use Rattle.asl_code.specs.declared.value.Effect.{Effect};
-ghost use Rattle.asl_loader.specs.Reading.{Gives, byte_at, number_at, below_at, magic_at, version_at, instr_at};
+ghost use Rattle.asl_loader.specs.Reading.{Gives, Keeps, IsKept, byte_at, number_at, below_at, magic_at, version_at, instr_at};
 ghost use Rattle.asl_loader.specs.Reading.{function_at, effect_at, op_at, items_at, counted_at, path_at, expr_at, lock_of};
 ghost use Rattle.asl_loader.specs.Reading.{lock_at, list_at, image_at};
 
-use crate::fault::{ReadError, Stop};
+use crate::fault::Stop;
 use asl_code::{Base, Effect, Expr, Function, Image, Instr, Items, Lock, Op, Path, get_instr};
 use std::alloc::Global;
 
 /// The four letters at the front of an image, as a number.
 const MAGIC: u32 = 0x4153_4c4d;
 
-fn short() -> ReadError
-    ensures { result ≡ ReadError.Stop Stop.Short }
-{
-    ReadError::Stop(Stop::Short)
-}
-
 /// The field at the front of the bytes is bad.
-fn bad(bytes: &[u8]) -> ReadError
-    ensures { result ≡ ReadError.Stop (Stop.Bad (length bytes.now)) }
+fn bad(bytes: &[u8]) -> Stop
+    ensures { result ≡ Stop.Bad (length bytes.now) }
 {
-    ReadError::Stop(Stop::Bad(bytes.len()))
+    Stop::Bad(bytes.len())
 }
 
 #[tactic(auto, unfolding(crate::specs::Reading::byte_at))]
-fn byte_at(bytes: &[u8]) -> Result<(u8, &[u8]), ReadError>
+fn byte_at(bytes: &[u8]) -> Result<(u8, &[u8]), Stop>
     ensures { Gives (λ x. (x.0, x.1.now)) result (byte_at bytes.now) }
 {
     match bytes {
-        [] => Err(short()),
+        [] => Err(Stop::Short),
         [first, rest @ ..] => Ok((*first, rest)),
     }
 }
 
-fn two_at(bytes: &[u8]) -> Result<(u16, &[u8]), ReadError>
+fn two_at(bytes: &[u8]) -> Result<(u16, &[u8]), Stop>
     ensures { Gives (λ x. (x.0, x.1.now)) result (number_at w16 bytes.now) }
 {
     if bytes.len() < 2 {
-        return Err(short());
+        return Err(Stop::Short);
     }
     let (front, rest) = bytes.split_at(2);
     Ok((u16::from_be_bytes([front[0], front[1]]), rest))
 }
 
-fn four_at(bytes: &[u8]) -> Result<(u32, &[u8]), ReadError>
+fn four_at(bytes: &[u8]) -> Result<(u32, &[u8]), Stop>
     ensures { Gives (λ x. (x.0, x.1.now)) result (number_at w32 bytes.now) }
 {
     if bytes.len() < 4 {
-        return Err(short());
+        return Err(Stop::Short);
     }
     let (front, rest) = bytes.split_at(4);
     let number = u32::from_be_bytes([front[0], front[1], front[2], front[3]]);
@@ -60,7 +58,7 @@ fn four_at(bytes: &[u8]) -> Result<(u32, &[u8]), ReadError>
 
 /// A byte below the limit.
 #[tactic(auto, unfolding(crate::specs::Reading::below_at))]
-fn below_at(limit: u8, bytes: &[u8]) -> Result<(u8, &[u8]), ReadError>
+fn below_at(limit: u8, bytes: &[u8]) -> Result<(u8, &[u8]), Stop>
     ensures read { Gives (λ x. (x.0, x.1.now)) result (below_at limit bytes.now) }
     ensures below { IfOk result (λ x. x.0 < limit) }
 {
@@ -73,7 +71,7 @@ fn below_at(limit: u8, bytes: &[u8]) -> Result<(u8, &[u8]), ReadError>
 }
 
 #[tactic(auto, unfolding(crate::specs::Reading::magic_at))]
-fn magic_at(bytes: &[u8]) -> Result<(u32, &[u8]), ReadError>
+fn magic_at(bytes: &[u8]) -> Result<(u32, &[u8]), Stop>
     ensures { Gives (λ x. (x.0, x.1.now)) result (magic_at bytes.now) }
 {
     let (magic, rest) = four_at(bytes)?;
@@ -85,7 +83,7 @@ fn magic_at(bytes: &[u8]) -> Result<(u32, &[u8]), ReadError>
 }
 
 #[tactic(auto, unfolding(crate::specs::Reading::version_at))]
-fn version_at(bytes: &[u8]) -> Result<(u16, &[u8]), ReadError>
+fn version_at(bytes: &[u8]) -> Result<(u16, &[u8]), Stop>
     ensures { Gives (λ x. (x.0, x.1.now)) result (version_at bytes.now) }
 {
     let (version, rest) = two_at(bytes)?;
@@ -96,15 +94,15 @@ fn version_at(bytes: &[u8]) -> Result<(u16, &[u8]), ReadError>
     }
 }
 
-fn instr_at(bytes: &[u8]) -> Result<(Instr, &[u8]), ReadError>
+fn instr_at(bytes: &[u8]) -> Result<(Instr, &[u8]), Stop>
     ensures { Gives (λ x. (x.0, x.1.now)) result (instr_at bytes.now) }
 {
     if bytes.len() < 8 {
-        return Err(short());
+        return Err(Stop::Short);
     }
     match get_instr(&eight_of(bytes)) {
         Ok(instr) => Ok((instr, &bytes[8..])),
-        Err(place) => Err(ReadError::Stop(Stop::Bad(bytes.len() - place))),
+        Err(place) => Err(Stop::Bad(bytes.len() - place)),
     }
 }
 
@@ -119,7 +117,7 @@ fn eight_of(bytes: &[u8]) -> [u8; 8]
 }
 
 #[tactic(auto, unfolding(crate::specs::Reading::function_at))]
-fn function_at(bytes: &[u8]) -> Result<(Function, &[u8]), ReadError>
+fn function_at(bytes: &[u8]) -> Result<(Function, &[u8]), Stop>
     ensures { Gives (λ x. (x.0, x.1.now)) result (function_at bytes.now) }
 {
     let (params, rest) = byte_at(bytes)?;
@@ -130,7 +128,7 @@ fn function_at(bytes: &[u8]) -> Result<(Function, &[u8]), ReadError>
 }
 
 #[tactic(auto, unfolding(crate::specs::Reading::effect_at))]
-fn effect_at(bytes: &[u8]) -> Result<(Effect, &[u8]), ReadError>
+fn effect_at(bytes: &[u8]) -> Result<(Effect, &[u8]), Stop>
     ensures { Gives (λ x. (x.0, x.1.now)) result (effect_at bytes.now) }
 {
     let (effect, rest) = below_at(2, bytes)?;
@@ -142,7 +140,7 @@ fn effect_at(bytes: &[u8]) -> Result<(Effect, &[u8]), ReadError>
 }
 
 #[tactic(auto, unfolding(crate::specs::Reading::op_at))]
-fn op_at(bytes: &[u8]) -> Result<(Op, &[u8]), ReadError>
+fn op_at(bytes: &[u8]) -> Result<(Op, &[u8]), Stop>
     ensures { Gives (λ x. (x.0, x.1.now)) result (op_at bytes.now) }
 {
     let (kind, rest) = below_at(2, bytes)?;
@@ -153,7 +151,7 @@ fn op_at(bytes: &[u8]) -> Result<(Op, &[u8]), ReadError>
     Ok((Op::Off(offset), rest))
 }
 
-fn ops_of(count: u8, bytes: &[u8]) -> Result<(Path, &[u8]), ReadError>
+fn ops_of(count: u8, bytes: &[u8]) -> Result<(Path, &[u8]), Stop>
     requires { count ≤ 8 }
     ensures { Gives (λ x. (x.0, x.1.now)) result (items_at op_at count bytes.now) }
 {
@@ -168,7 +166,7 @@ fn ops_of(count: u8, bytes: &[u8]) -> Result<(Path, &[u8]), ReadError>
 }
 
 #[tactic(auto, unfolding(crate::specs::Reading::path_at))]
-fn path_at(bytes: &[u8]) -> Result<(Path, &[u8]), ReadError>
+fn path_at(bytes: &[u8]) -> Result<(Path, &[u8]), Stop>
     ensures { Gives (λ x. (x.0, x.1.now)) result (path_at bytes.now) }
 {
     let (count, rest) = below_at(9, bytes)?;
@@ -176,7 +174,7 @@ fn path_at(bytes: &[u8]) -> Result<(Path, &[u8]), ReadError>
 }
 
 #[tactic(auto, unfolding(crate::specs::Reading::expr_at))]
-fn expr_at(base: Base, effect: Effect, bytes: &[u8]) -> Result<(Lock, &[u8]), ReadError>
+fn expr_at(base: Base, effect: Effect, bytes: &[u8]) -> Result<(Lock, &[u8]), Stop>
     ensures { Gives (λ x. (x.0, x.1.now)) result (expr_at base effect bytes.now) }
 {
     let (path, rest) = path_at(bytes)?;
@@ -185,7 +183,7 @@ fn expr_at(base: Base, effect: Effect, bytes: &[u8]) -> Result<(Lock, &[u8]), Re
 
 /// The rest of a lock, behind its kind and its effect.
 #[tactic(auto, unfolding(crate::specs::Reading::lock_of))]
-fn lock_of(kind: u8, effect: Effect, bytes: &[u8]) -> Result<(Lock, &[u8]), ReadError>
+fn lock_of(kind: u8, effect: Effect, bytes: &[u8]) -> Result<(Lock, &[u8]), Stop>
     ensures { Gives (λ x. (x.0, x.1.now)) result (lock_of kind effect bytes.now) }
 {
     match kind {
@@ -206,7 +204,7 @@ fn lock_of(kind: u8, effect: Effect, bytes: &[u8]) -> Result<(Lock, &[u8]), Read
 }
 
 #[tactic(auto, unfolding(crate::specs::Reading::lock_at))]
-fn lock_at(bytes: &[u8]) -> Result<(Lock, &[u8]), ReadError>
+fn lock_at(bytes: &[u8]) -> Result<(Lock, &[u8]), Stop>
     ensures { Gives (λ x. (x.0, x.1.now)) result (lock_at bytes.now) }
 {
     let (kind, rest) = below_at(4, bytes)?;
@@ -214,14 +212,25 @@ fn lock_at(bytes: &[u8]) -> Result<(Lock, &[u8]), ReadError>
     lock_of(kind, effect, rest)
 }
 
-fn classes_of(alloc: Global, count: u16, bytes: &[u8]) -> Result<(Items<u16>, &[u8]), ReadError>
-    ensures { Gives (λ x. (x.0, x.1.now)) result (items_at (number_at w16) count bytes.now) }
+/// The items with one more, as long as there is memory for all.
+fn with_item<T: Drop>(kept: Option<Items<T>>, item: T) -> Option<Items<T>>
+    ensures { (front : List T) → IsKept kept front → IsKept result (front ++ item ∷ []) }
 {
-    let mut classes = Items::new(alloc);
+    let mut items = kept?;
+    match items.push(item) {
+        Ok(()) => Some(items),
+        Err(_refused) => None,
+    }
+}
+
+fn classes_of(alloc: Global, count: u16, bytes: &[u8]) -> Result<(Option<Items<u16>>, &[u8]), Stop>
+    ensures { Keeps (λ x. x.0) (λ x. x.1.now) result (items_at (number_at w16) count bytes.now) }
+{
+    let mut classes = Some(Items::new(alloc));
     let mut rest = bytes;
     for _ in 0..count {
         let (class, after) = two_at(rest)?;
-        classes.push(class)?;
+        classes = with_item(classes, class);
         rest = after;
     }
     Ok((classes, rest))
@@ -231,65 +240,77 @@ fn functions_of(
     alloc: Global,
     count: u16,
     bytes: &[u8],
-) -> Result<(Items<Function>, &[u8]), ReadError>
-    ensures { Gives (λ x. (x.0, x.1.now)) result (items_at function_at count bytes.now) }
+) -> Result<(Option<Items<Function>>, &[u8]), Stop>
+    ensures { Keeps (λ x. x.0) (λ x. x.1.now) result (items_at function_at count bytes.now) }
 {
-    let mut functions = Items::new(alloc);
+    let mut functions = Some(Items::new(alloc));
     let mut rest = bytes;
     for _ in 0..count {
         let (function, after) = function_at(rest)?;
-        functions.push(function)?;
+        functions = with_item(functions, function);
         rest = after;
     }
     Ok((functions, rest))
 }
 
-fn code_of(alloc: Global, count: u16, bytes: &[u8]) -> Result<(Items<Instr>, &[u8]), ReadError>
-    ensures { Gives (λ x. (x.0, x.1.now)) result (items_at instr_at count bytes.now) }
+fn code_of(alloc: Global, count: u16, bytes: &[u8]) -> Result<(Option<Items<Instr>>, &[u8]), Stop>
+    ensures { Keeps (λ x. x.0) (λ x. x.1.now) result (items_at instr_at count bytes.now) }
 {
-    let mut code = Items::new(alloc);
+    let mut code = Some(Items::new(alloc));
     let mut rest = bytes;
     for _ in 0..count {
         let (instr, after) = instr_at(rest)?;
-        code.push(instr)?;
+        code = with_item(code, instr);
         rest = after;
     }
     Ok((code, rest))
 }
 
-fn locks_of(alloc: Global, count: u16, bytes: &[u8]) -> Result<(Items<Lock>, &[u8]), ReadError>
-    ensures { Gives (λ x. (x.0, x.1.now)) result (items_at lock_at count bytes.now) }
+fn locks_of(alloc: Global, count: u16, bytes: &[u8]) -> Result<(Option<Items<Lock>>, &[u8]), Stop>
+    ensures { Keeps (λ x. x.0) (λ x. x.1.now) result (items_at lock_at count bytes.now) }
 {
-    let mut locks = Items::new(alloc);
+    let mut locks = Some(Items::new(alloc));
     let mut rest = bytes;
     for _ in 0..count {
         let (lock, after) = lock_at(rest)?;
-        locks.push(lock)?;
+        locks = with_item(locks, lock);
         rest = after;
     }
     Ok((locks, rest))
 }
 
 #[tactic(auto, unfolding(crate::specs::Reading::list_at, crate::specs::Reading::counted_at))]
-fn list_at(alloc: Global, bytes: &[u8]) -> Result<(Items<Lock>, &[u8]), ReadError>
-    ensures { Gives (λ x. (x.0, x.1.now)) result (list_at bytes.now) }
+fn list_at(alloc: Global, bytes: &[u8]) -> Result<(Option<Items<Lock>>, &[u8]), Stop>
+    ensures { Keeps (λ x. x.0) (λ x. x.1.now) result (list_at bytes.now) }
 {
     let (count, rest) = two_at(bytes)?;
     locks_of(alloc, count, rest)
+}
+
+/// The lists with one more, as long as there is memory for all.
+fn with_list(
+    kept: Option<Items<Items<Lock>>>,
+    list: Option<Items<Lock>>,
+) -> Option<Items<Items<Lock>>>
+    ensures { (front : List (List Lock)) (whole : List Lock) → IsKept kept front → IsKept list whole
+        → IsKept result (front ++ whole ∷ []) }
+{
+    let list = list?;
+    with_item(kept, list)
 }
 
 fn lists_of(
     alloc: Global,
     count: u16,
     bytes: &[u8],
-) -> Result<(Items<Items<Lock>>, &[u8]), ReadError>
-    ensures { Gives (λ x. (x.0, x.1.now)) result (items_at list_at count bytes.now) }
+) -> Result<(Option<Items<Items<Lock>>>, &[u8]), Stop>
+    ensures { Keeps (λ x. x.0) (λ x. x.1.now) result (items_at list_at count bytes.now) }
 {
-    let mut lists = Items::new(alloc);
+    let mut lists = Some(Items::new(alloc));
     let mut rest = bytes;
     for _ in 0..count {
         let (list, after) = list_at(alloc, rest)?;
-        lists.push(list)?;
+        lists = with_list(lists, list);
         rest = after;
     }
     Ok((lists, rest))
@@ -297,8 +318,8 @@ fn lists_of(
 
 /// The image at the front of the bytes, and the bytes after it.
 #[tactic(auto, unfolding(crate::specs::Reading::image_at, crate::specs::Reading::counted_at))]
-pub(crate) fn image_at(alloc: Global, bytes: &[u8]) -> Result<(Image, &[u8]), ReadError>
-    ensures { Gives (λ x. (x.0, x.1.now)) result (image_at bytes.now) }
+pub(crate) fn image_at(alloc: Global, bytes: &[u8]) -> Result<(Option<Image>, &[u8]), Stop>
+    ensures { Keeps (λ x. x.0) (λ x. x.1.now) result (image_at bytes.now) }
 {
     let (_magic, rest) = magic_at(bytes)?;
     let (version, rest) = version_at(rest)?;
@@ -312,14 +333,31 @@ pub(crate) fn image_at(alloc: Global, bytes: &[u8]) -> Result<(Image, &[u8]), Re
     let (code, rest) = code_of(alloc, count, rest)?;
     let (count, rest) = two_at(rest)?;
     let (lists, rest) = lists_of(alloc, count, rest)?;
-    let image = Image {
+    let image = image_of(version, classes, globals, functions, start, code, lists);
+    Ok((image, rest))
+}
+
+/// The image of its parts, as long as each was kept.
+fn image_of(
+    version: u16,
+    classes: u16,
+    globals: Option<Items<u16>>,
+    functions: Option<Items<Function>>,
+    start: u16,
+    code: Option<Items<Instr>>,
+    lists: Option<Items<Items<Lock>>>,
+) -> Option<Image>
+    ensures { (g : List ℕ) (f : List Function) (c : List Instr) (l : List (List Lock))
+        → IsKept globals g → IsKept functions f → IsKept code c → IsKept lists l
+        → IsKept result (record { version = version; classes = classes; globals = g; functions = f; start = start; code = c; lists = l }) }
+{
+    Some(Image {
         version: u32::from(version),
         classes: u32::from(classes),
-        globals,
-        functions,
+        globals: globals?,
+        functions: functions?,
         start,
-        code,
-        lists,
-    };
-    Ok((image, rest))
+        code: code?,
+        lists: lists?,
+    })
 }

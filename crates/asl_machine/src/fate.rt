@@ -1,3 +1,5 @@
+//! What an instruction makes of its thread.
+
 use crate::fault::Fault;
 use asl_code::Value;
 

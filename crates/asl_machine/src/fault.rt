@@ -1,3 +1,5 @@
+//! Why a thread failed, and why a machine refused a call.
+
 use asl_code::{Cell, Effect};
 use std::alloc::AllocError;
 use std::convert::From;

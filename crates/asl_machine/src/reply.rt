@@ -1,3 +1,5 @@
+//! What a step answers, and how a thread stands.
+
 use crate::fault::Fault;
 use asl_code::Value;
 

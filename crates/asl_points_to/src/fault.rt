@@ -1,3 +1,5 @@
+//! Why a program has no classes.
+
 use std::alloc::AllocError;
 use thiserror::Error;
 

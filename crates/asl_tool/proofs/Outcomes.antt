@@ -85,12 +85,12 @@ no_memory_text : (f : AsmFault) → (IsWantOfMemory (fault.Program (program.Text
 no_memory_text f tells e = tells (subst (λ (g : AsmFault). IsWantOfMemory (fault.Program (program.Text g))) (sym e) tt)
 
 as_bytes : (input : List ℕ) (o : Result Image ProgramFault) → BeginsAsImage input → ProgramOutcome input o → (r : Result Image LoadFault) × (o ≡ from_bytes r) × bytes.IsOutcome input r
-as_bytes input (Ok image) y p = let k = p.as_image y in (Ok image, refl, (k.spelled, k.verified))
+as_bytes input (Ok image) y p = let k = p.as_image y in (Ok image, refl, k)
 as_bytes input (Err (program.Image f)) y p = (Err f, refl, (p.0.1, no_memory_image f p.1))
 as_bytes input (Err (program.Text f)) y p = absurd (p.0.0 y)
 
 as_text : (input : List ℕ) (o : Result Image ProgramFault) → (BeginsAsImage input → ⊥) → ProgramOutcome input o → (r : Result Image AsmFault) × (o ≡ from_text r) × text.IsOutcome input r
-as_text input (Ok image) n p = let k = p.as_text n in (Ok image, refl, (k.spelled, k.verified))
+as_text input (Ok image) n p = let k = p.as_text n in (Ok image, refl, k)
 as_text input (Err (program.Image f)) n p = absurd (n p.0.0)
 as_text input (Err (program.Text f)) n p = (Err f, refl, (p.0.1, no_memory_text f p.1))
 
@@ -256,7 +256,7 @@ text_form_one (Ok image) o p x y = x.1 ∙ ap Ok (x.2.spelled ∙ sym y.2.spelle
 text_form_one (Err f) o p x y = x ∙ sym y
 
 text_is : (input : List ℕ) (o : Result (List ℕ) CommandFault) → MatchResult o (λ output. IsAssembled input output) (λ f. IsRefusedText input f × (IsWantOfMemory f → ⊥)) → IsTextOutcome input o
-text_is input (Ok output) x = (Ok x.image, (x.program.spelled, x.program.verified), (output, refl, x.spelled))
+text_is input (Ok output) x = (Ok x.image, x.program, (output, refl, x.spelled))
 text_is input (Err (fault.Program (program.Text cause))) x = (Err cause, (x.0, no_memory_text cause x.1), refl)
 text_is input (Err (fault.Program (program.Image cause))) x = absurd x.0
 text_is input (Err (fault.File cause)) x = absurd x.0
@@ -285,7 +285,7 @@ image_form_one (Ok image) o p x y = x ∙ sym y
 image_form_one (Err f) o p x y = x ∙ sym y
 
 image_is : (input : List ℕ) (o : Result (List ℕ) CommandFault) → MatchResult o (λ output. IsDisassembled input output) (λ f. IsRefusedImage input f × (IsWantOfMemory f → ⊥)) → IsImageOutcome input o
-image_is input (Ok output) x = (Ok x.image, (x.program.spelled, x.program.verified), ap Ok x.canonical)
+image_is input (Ok output) x = (Ok x.image, x.program, ap Ok x.canonical)
 image_is input (Err (fault.Program (program.Image cause))) x = (Err cause, (x.0, no_memory_image cause x.1), refl)
 image_is input (Err (fault.Program (program.Text cause))) x = absurd x.0
 image_is input (Err (fault.File cause)) x = absurd x.0
@@ -350,11 +350,11 @@ want_file file.OutOfMemory w = refl
 want_file f w = absurd w
 
 by_bytes : (input : List ℕ) (r : Result Image LoadFault) → BeginsAsImage input → bytes.IsOutcome input r → ProgramOutcome input (from_bytes r)
-by_bytes input (Ok image) y x = record { as_image = λ _. record { spelled = x.0; verified = x.1 }; as_text = λ n. absurd (n y) }
+by_bytes input (Ok image) y x = record { as_image = λ _. x; as_text = λ n. absurd (n y) }
 by_bytes input (Err f) y x = ((y, x.0), λ w. x.1 (want_image f w))
 
 by_text : (input : List ℕ) (r : Result Image AsmFault) → (BeginsAsImage input → ⊥) → text.IsOutcome input r → ProgramOutcome input (from_text r)
-by_text input (Ok image) n x = record { as_image = λ y. absurd (n y); as_text = λ _. record { spelled = x.0; verified = x.1 } }
+by_text input (Ok image) n x = record { as_image = λ y. absurd (n y); as_text = λ _. x }
 by_text input (Err f) n x = ((n, x.0), λ w. x.1 (want_text f w))
 
 some_program : TextsHaveOne → BytesHaveOne → (input : List ℕ) → All (λ b. b < 256) input → (q : Result Image ProgramFault) × ProgramOutcome input q
@@ -398,13 +398,13 @@ some_debug words input (Err f) x = (Err (fault.File f), (x.0, λ w. x.1 (want_fi
 some_image : (input : List ℕ) (r : Result Image AsmFault) → text.IsOutcome input r
     → (o : Result (List ℕ) CommandFault) × MatchResult o (λ output. IsAssembled input output) (λ f. IsRefusedText input f × (IsWantOfMemory f → ⊥))
 some_image input (Ok image) x =
-    let b = stored input image x.0 x.1 in
-    (Ok b.0, record { image = image; program = record { spelled = x.0; verified = x.1 }; spelled = b.1 })
+    let b = stored input image x.spelled x.verified in
+    (Ok b.0, record { image = image; program = x; spelled = b.1 })
 some_image input (Err f) x = (Err (fault.Program (program.Text f)), (x.0, λ w. x.1 (want_text f w)))
 
 some_text : (input : List ℕ) (r : Result Image LoadFault) → bytes.IsOutcome input r
     → (o : Result (List ℕ) CommandFault) × MatchResult o (λ output. IsDisassembled input output) (λ f. IsRefusedImage input f × (IsWantOfMemory f → ⊥))
-some_text input (Ok image) x = (Ok (canonical_text image), record { image = image; program = record { spelled = x.0; verified = x.1 }; canonical = refl })
+some_text input (Ok image) x = (Ok (canonical_text image), record { image = image; program = x; canonical = refl })
 some_text input (Err f) x = (Err (fault.Program (program.Image f)), (x.0, λ w. x.1 (want_image f w)))
 
 uncased : (c : Command) (input : List ℕ) (o : Result (List ℕ) CommandFault) → Cases c input o → IsOutcome c input o

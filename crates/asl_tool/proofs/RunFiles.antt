@@ -20,7 +20,7 @@ use Rattle.asl_journal.specs.Bytes.{SpellsLog}
 use Rattle.asl_journal.specs.Faults as log_faults
 use Rattle.asl_journal.proofs.Logs.{log_is_one}
 use Rattle.asl_journal.proofs.Outcomes as logs
-use Rattle.asl_tool.specs.Program.{IsProgramImage}
+use Rattle.asl_loader.specs.Faults.{IsProgramImage}
 use Rattle.asl_tool.specs.declared.run_file.FileFault.{FileFault}
 use Rattle.asl_tool.specs.declared.run_file.FileFault.TheVariants as fault
 use Rattle.asl_tool.specs.RunFile.{file_of, HasParts, HasNoParts, SpellsRun, IsFileFault, IsPartFault, IsLogFault, IsFileOutcome, RunOfSpellingIsOne, SpellingOfRunIsOne, FilesHaveAnOutcome, FileOutcomeIsOne}
@@ -144,7 +144,7 @@ formed : (bytes first second : List ℕ) (o : Run) → HasParts bytes first seco
 formed bytes first second (Ok run) h x =
     let same = parts_one bytes x.first x.second first second x.parts h in
     let p = program_at x.first first run.0 same.0 x.program in
-    (Ok run.0, (p.spelled, p.verified), (Ok run.1, subst (λ (t : List ℕ). SpellsLog run.1 t) same.1 x.journal, refl))
+    (Ok run.0, p, (Ok run.1, subst (λ (t : List ℕ). SpellsLog run.1 t) same.1 x.journal, refl))
 formed bytes first second (Err (fault.Truncated at)) h x = absurd (x.0.1 first second h)
 formed bytes first second (Err (fault.Image f)) h x =
     let k = x.0 in
@@ -154,7 +154,7 @@ formed bytes first second (Err (fault.Journal f)) h x =
     let k = x.0 in
     let same = parts_one bytes k.first k.second first second k.parts h in
     let p = program_at k.first first k.image same.0 k.program in
-    (Ok k.image, (p.spelled, p.verified), (Err f, (subst (λ (t : List ℕ). log_faults.IsBytesFault t f) same.1 k.refused.0, k.refused.1), refl))
+    (Ok k.image, p, (Err f, (subst (λ (t : List ℕ). log_faults.IsBytesFault t f) same.1 k.refused.0, k.refused.1), refl))
 formed bytes first second (Err fault.OutOfMemory) h x = absurd (x.1 refl)
 
 unformed : (bytes : List ℕ) (o : Run) → HasNoParts bytes → IsFileOutcome bytes o → o ≡ Err (fault.Truncated (length bytes))
@@ -183,7 +183,7 @@ some_journal bytes first second image (Err f) h p x = (record { image = image; f
 some_image : (bytes first second : List ℕ) (r : Result Image LoadFault) → HasParts bytes first second → All (λ b. b < 256) second → image_faults.IsOutcome first r → (o : Run) × IsFileOutcome bytes o
 some_image bytes first second (Ok image) h all x =
     let q = logs.some_outcome second all in
-    (of_log image q.0, some_journal bytes first second image q.0 h (record { spelled = x.0; verified = x.1 }) q.1)
+    (of_log image q.0, some_journal bytes first second image q.0 h x q.1)
 some_image bytes first second (Err f) h all x =
     (Err (fault.Image f), (record { first = first; second = second; parts = h; refused = (x.0, x.1) }, λ e. cc))
 
@@ -201,13 +201,13 @@ pub part_fault : (bytes first second : List ℕ) (f : FileFault) → HasParts by
 part_fault bytes first second (fault.Truncated at) h x = absurd x
 part_fault bytes first second (fault.Image f) h x = record { first = first; second = second; parts = h; refused = x }
 part_fault bytes first second (fault.Journal f) h x = absurd x
-part_fault bytes first second fault.OutOfMemory h x = tt
+part_fault bytes first second fault.OutOfMemory h x = record { first = first; second = second; parts = h; memory = x }
 
 pub log_fault : (bytes first second : List ℕ) (image : Image) (f : FileFault) → HasParts bytes first second → IsProgramImage first image → IsLogFault second f → IsFileFault bytes f
 log_fault bytes first second image (fault.Truncated at) h p x = absurd x
 log_fault bytes first second image (fault.Image f) h p x = absurd x
 log_fault bytes first second image (fault.Journal f) h p x = record { image = image; first = first; second = second; parts = h; program = p; refused = x }
-log_fault bytes first second image fault.OutOfMemory h p x = tt
+log_fault bytes first second image fault.OutOfMemory h p x = record { first = first; second = second; parts = h; memory = (image, p.spelled) }
 
 refused_or_memory : (bytes : List ℕ) (f : FileFault) → AreBytes bytes → IsFileFault bytes f → (image : Image) (log : Log) → SpellsRun image log bytes
     → (◌≡◌ {A = Run} (Err f) (Ok (image, log))) ⊎ (◌≡◌ {A = Run} (Err f) (Err fault.OutOfMemory))

@@ -2,15 +2,17 @@
 use Rattle.std.specs.Prelude.{◌≡◌, ℕ, List}
 use Rattle.asl_code.specs.declared.image.Image.{Image}
 use Rattle.asl_assembler.specs.Canonical.{canonical_text}
+use Rattle.asl_assembler.specs.Faults.{IsProgramText}
 use Rattle.asl_assembler.specs.Faults as text
 use Rattle.asl_loader.specs.Bytes.{SpellsImage}
+use Rattle.asl_loader.specs.Faults.{IsProgramImage}
 use Rattle.asl_loader.specs.Faults as bytes
 use Rattle.asl_tool.specs.declared.program.ProgramFault.TheVariants as program
 use Rattle.asl_words.specs.declared.command.Command.{Command}
 use Rattle.asl_words.specs.declared.command.Command.TheVariants as command
 use Rattle.asl_tool.specs.declared.command.CommandFault.{CommandFault}
 use Rattle.asl_tool.specs.declared.command.CommandFault.TheVariants as fault
-use Rattle.asl_tool.specs.Program.{IsProgramText, IsProgramImage, IsNoProgram}
+use Rattle.asl_tool.specs.Program.{IsNoProgram}
 use Rattle.asl_tool.specs.Compile.{IsCompiled, IsRefusedSource}
 use Rattle.asl_tool.specs.Debug.{IsDebugged}
 use Rattle.asl_tool.specs.Replay.{IsReplayed, HasRefusedReplay}

@@ -1,23 +1,12 @@
 -- Which program an input is (docs/BYTES.md, docs/ASSEMBLY.md), and what is wrong with one that is none.
 use Rattle.std.specs.Prelude.{◌≡◌, ℕ, List, take, codes}
 use Rattle.asl_code.specs.declared.image.Image.{Image}
-use Rattle.asl_code.specs.Verified.{IsVerified}
-use Rattle.asl_assembler.specs.Text.{Spells}
+use Rattle.asl_assembler.specs.Faults.{IsProgramText}
 use Rattle.asl_assembler.specs.Faults as text
-use Rattle.asl_loader.specs.Bytes.{SpellsImage}
+use Rattle.asl_loader.specs.Faults.{IsProgramImage}
 use Rattle.asl_loader.specs.Faults as bytes
 use Rattle.asl_tool.specs.declared.program.ProgramFault.{ProgramFault}
 use Rattle.asl_tool.specs.declared.program.ProgramFault.TheVariants as fault
-
--- the text spells this image, which is a program
-pub record IsProgramText (text : List ℕ) (image : Image) : Type 0 where
-  pub spelled : Spells text image
-  pub verified : IsVerified image
-
--- the bytes spell this image, which is a program
-pub record IsProgramImage (bytes : List ℕ) (image : Image) : Type 0 where
-  pub spelled : SpellsImage image bytes
-  pub verified : IsVerified image
 
 -- the input begins with the letters of an image
 abbrev pub BeginsAsImage : List ℕ → Type 0

@@ -5,6 +5,7 @@ use Rattle.asl_code.specs.declared.image.Image.{Image}
 use Rattle.asl_loader.specs.declared.fault.LoadFault.{LoadFault}
 use Rattle.asl_loader.specs.declared.fault.LoadFault.TheVariants as load
 use Rattle.asl_loader.specs.Bytes.{text_of, image_fields}
+use Rattle.asl_loader.specs.Faults.{IsProgramImage}
 use Rattle.asl_loader.specs.Faults as image_faults
 use Rattle.asl_journal.specs.declared.fault.JournalFault.{JournalFault}
 use Rattle.asl_journal.specs.declared.fault.JournalFault.TheVariants as journal
@@ -13,7 +14,6 @@ use Rattle.asl_journal.specs.Bytes.{log_fields, SpellsLog}
 use Rattle.asl_journal.specs.Faults as log_faults
 use Rattle.asl_tool.specs.declared.run_file.FileFault.{FileFault}
 use Rattle.asl_tool.specs.declared.run_file.FileFault.TheVariants as fault
-use Rattle.asl_tool.specs.Program.{IsProgramImage}
 
 -- a file of two parts: the first one's length in four bytes, and both (docs/JOURNAL.md, Run files)
 abbrev pub file_of : List ℕ → List ℕ → List ℕ
@@ -44,7 +44,7 @@ pub record SpellsRun (image : Image) (log : Log) (bytes : List ℕ) : Type 0 whe
 -- what each refusal of the image's part says of it (docs/JOURNAL.md, Run files)
 abbrev pub IsPartFault : List ℕ → FileFault → Type 0
 IsPartFault first (fault.Image cause) = image_faults.IsFault first cause × (cause ≢ load.OutOfMemory)
-IsPartFault first fault.OutOfMemory = Unit {0}
+IsPartFault first fault.OutOfMemory = image_faults.IsFault first load.OutOfMemory
 IsPartFault first f = ⊥
 
 -- what each refusal of the journal's part says of it (docs/JOURNAL.md, Run files)
@@ -69,13 +69,20 @@ pub record HasBadJournal (bytes : List ℕ) (cause : JournalFault) : Type 0 wher
   pub program : IsProgramImage first image
   pub refused : IsLogFault second (fault.Journal cause)
 
+-- the image's part spells an image, of a program or not (docs/JOURNAL.md, Run files)
+pub record HasImage (bytes : List ℕ) : Type 0 where
+  pub first : List ℕ
+  pub second : List ℕ
+  pub parts : HasParts bytes first second
+  pub memory : IsPartFault first fault.OutOfMemory
+
 -- what each refusal says of the bytes: they end before the image does, or a part of them is refused, the image's first;
--- of want of memory nothing is said (docs/JOURNAL.md, Run files)
+-- want of memory hides neither bytes that end too early nor an image's part that spells none (docs/JOURNAL.md, Run files)
 abbrev pub IsFileFault : List ℕ → FileFault → Type 0
 IsFileFault bytes (fault.Truncated at) = (at ≡ length bytes) × HasNoParts bytes
 IsFileFault bytes (fault.Image cause) = HasBadImage bytes cause
 IsFileFault bytes (fault.Journal cause) = HasBadJournal bytes cause
-IsFileFault bytes fault.OutOfMemory = Unit {0}
+IsFileFault bytes fault.OutOfMemory = HasImage bytes
 
 -- the outcome of the bytes, where memory is there: the run that they spell, or the refusal that they meet
 -- (docs/JOURNAL.md, Run files)

@@ -5,7 +5,7 @@ ghost use Rattle.asl_code.specs.declared.image.Image.{Image};
 ghost use Rattle.asl_loader.specs.Bytes.{SpellsImage};
 ghost use Rattle.asl_journal.specs.Journal.{Log};
 ghost use Rattle.asl_journal.specs.Bytes.{SpellsLog};
-ghost use Rattle.asl_tool.specs.Program.{IsProgramImage};
+ghost use Rattle.asl_loader.specs.Faults.{IsProgramImage};
 ghost use Rattle.asl_tool.specs.RunFile.{HasParts, HasNoParts, SpellsRun, IsFileFault, IsPartFault, IsLogFault};
 
 use asl_code::Program;

@@ -39,3 +39,8 @@ returns-clause-only c = λ image spelled verified.
 
 pub returns-clause-refused : goal.returns-clause-refused
 returns-clause-refused c = (c.in-Ok.image, image_spelled c.args.text.now c.in-Ok.image c.in-Ok.ensures, c.in-Err.ensures.fault)
+
+pub returns-in-Some-clause-only : goal.returns-in-Some-clause-only
+returns-in-Some-clause-only c =
+    let text = c.args.text.now in
+    λ image spelled verified. absurd (not_both (lines_of text) image c.in-Some.number spelled c.in-Some.ensures)

@@ -3,9 +3,9 @@ use Rattle.asl_loader.proofs.Loads.{rest_within, left_within}
 use Rattle.asl_loader.proofs.loading.whole_of.Goals as goal
 
 pub overflow_sub-result : goal.overflow_sub-result
-overflow_sub-result c = rest_within c.args.bytes.now c.in-Ok._image c.in-Ok.rest.now (λ i. omega (arith, c.type_inv.bytes i)) c.in-Ok.ensures
+overflow_sub-result c = rest_within c.args.bytes.now c.in-Ok.ensures.0 c.in-Ok.rest.now (λ i. omega (arith, c.type_inv.bytes i)) c.in-Ok.ensures.2
 
 pub overflow_sub-bytes : goal.overflow_sub-bytes
 overflow_sub-bytes c =
-    let stopped = rw (c.in-Err-Stop-Bad.field-0-is, c.in-Err-Stop-Bad.field-0-0-is) at c.in-Err-Stop-Bad.ensures in
-    left_within c.args.bytes.now c.in-Err-Stop-Bad.left (λ i. omega (arith, c.type_inv.bytes i)) stopped
+    let stopped = rw c.in-Err-Bad.field-0-is at c.in-Err-Bad.ensures in
+    left_within c.args.bytes.now c.in-Err-Bad.left (λ i. omega (arith, c.type_inv.bytes i)) stopped

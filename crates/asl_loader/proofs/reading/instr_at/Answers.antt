@@ -5,7 +5,7 @@ use Rattle.asl_loader.proofs.Eight.{instr_at-short, gives_ok, gives_err}
 use Rattle.asl_loader.proofs.reading.instr_at.Goals as goal
 
 pub returns-then-bytes-lt8 : goal.returns-then-bytes-lt8
-returns-then-bytes-lt8 c = rw c.short.ensures (instr_at-short c.args.bytes.now c.if-bytes-lt8.true)
+returns-then-bytes-lt8 c = (instr_at-short c.args.bytes.now c.if-bytes-lt8.true)
 
 pub returns-in-Ok : goal.returns-in-Ok
 returns-in-Ok c =

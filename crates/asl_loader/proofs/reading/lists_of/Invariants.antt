@@ -1,7 +1,8 @@
-use Rattle.std.proofs.Common.{◌≡◌, ◌-◌}
+use Rattle.std.proofs.Common.{List}
+use Rattle.asl_code.specs.declared.lock.Lock.{Lock}
 use Rattle.asl_loader.specs.Reading.{items_at, list_at}
-use Rattle.asl_loader.proofs.Loop.{with_front}
+use Rattle.asl_loader.proofs.Loop.{Kept}
 use Rattle.asl_loader.proofs.reading.lists_of.Given as goal
 
 abbrev pub invariant-loop : goal.invariant-loop
-invariant-loop l = with_front l.lists (items_at list_at (l.count - l.counter) l.rest) ≡ items_at list_at l.count l.bytes
+invariant-loop l = Kept (List Lock) list_at l.lists l.count l.counter l.rest (items_at list_at l.count l.bytes)
