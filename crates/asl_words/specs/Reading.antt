@@ -1,5 +1,5 @@
 -- Machinery of the proofs, not of the promise: what private functions answer (src/number.rt, src/reading.rt).
-use Rattle.std.specs.Prelude.{◌≡◌, ◌≢◌, ℕ, List}
+use Rattle.std.specs.Prelude.{◌≡◌, ◌≢◌, ℕ, List, [], ◌∷◌}
 use Rattle.clap.specs.Words.{Text}
 use Rattle.clap.specs.declared.error.kind.ErrorKind.{ErrorKind}
 use Rattle.clap.specs.declared.error.kind.ErrorKind.TheVariants as kinds
@@ -7,7 +7,11 @@ use Rattle.asl_words.specs.declared.command.Invocation.{Invocation}
 use Rattle.asl_words.specs.declared.command.Invocation.TheVariants.{Help, WrongUsage}
 use Rattle.asl_words.specs.declared.number.NumbersFault.{NumbersFault}
 use Rattle.asl_words.specs.declared.number.NumbersFault.TheVariants as fault
+use Rattle.asl_words.specs.declared.debug_word.DebugWord.{DebugWord}
+use Rattle.asl_words.specs.declared.talk.TalkFault.{TalkFault}
+use Rattle.asl_words.specs.declared.talk.TalkFault.TheVariants as talk
 use Rattle.asl_words.specs.Number.{AreNumbers}
+use Rattle.asl_words.specs.Words.{AreDebugWords, IsDebugWord}
 
 -- the words are no legal use
 abbrev pub IsWrongUsage : Invocation → Type 0
@@ -24,3 +28,18 @@ IsRefusal kind i = ⊥
 abbrev pub IsNumbersFault : List Text → NumbersFault → Type 0
 IsNumbersFault texts (fault.NoNumber word) = (numbers : List ℕ) → AreNumbers texts numbers → ⊥
 IsNumbersFault texts fault.OutOfMemory = Unit {0}
+
+-- the word asks the debugger for nothing where it stands alone
+abbrev pub IsNoBareWord : Text → Type 0
+IsNoBareWord name = (asked : DebugWord) → IsDebugWord (name ∷ []) asked → ⊥
+
+-- the word asks the debugger for nothing with another behind it
+abbrev pub IsNoNumberedWord : Text → Type 0
+IsNoNumberedWord name = (asked : DebugWord) (text : Text) → IsDebugWord (name ∷ text ∷ []) asked → ⊥
+
+-- why texts ask the debugger for nothing; of want of memory nothing is said
+abbrev pub IsTalkFault : List Text → TalkFault → Type 0
+IsTalkFault texts (talk.NoWord word) = (words : List DebugWord) → AreDebugWords texts words → ⊥
+IsTalkFault texts (talk.NoNumber word) = (words : List DebugWord) → AreDebugWords texts words → ⊥
+IsTalkFault texts talk.NumberMissing = (words : List DebugWord) → AreDebugWords texts words → ⊥
+IsTalkFault texts talk.OutOfMemory = Unit {0}

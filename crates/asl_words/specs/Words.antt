@@ -89,18 +89,22 @@ AreNoNumbersAt name rows = (numbers : List ℕ) → AreNumbers (words_at name ro
 abbrev pub IsNoLengthAt : List Row → Type 0
 IsNoLengthAt rows = (longest : ℕ) → longest ≤ 8 → IsLengthAt rows longest → ⊥
 
+-- the words ask the debugger for nothing
+abbrev pub AskNothing : List Row → Type 0
+AskNothing rows = (words : List DebugWord) → AreDebugWords (words_at (codes "words") rows) words → ⊥
+
 -- the name is none of the program's commands
 abbrev pub IsUnknown : Text → Type 0
 IsUnknown name = All (λ known. name ≢ known)
     (codes "step" ∷ codes "asm" ∷ codes "dis" ∷ codes "compile" ∷ codes "replay" ∷ codes "debug" ∷ codes "run" ∷ [])
 
--- the command has this name, and one of its values is none; of `debug` it is not said which
+-- the command has this name, and one of its values is none
 abbrev pub IsMisused : Text → List Row → Type 0
 IsMisused name rows =
     ((name ≡ codes "step") × (IsNoNumberAt (codes "threads") rows ⊎ AreNoNumbersAt (codes "schedule") rows))
     ⊎ (((name ≡ codes "compile") × IsNoLengthAt rows)
     ⊎ (((name ≡ codes "run") × (IsNoNumberAt (codes "threads") rows ⊎ (IsNoNumberAt (codes "workers") rows ⊎ IsNoNumberAt (codes "limit") rows)))
-    ⊎ ((name ≡ codes "debug") ⊎ IsUnknown name)))
+    ⊎ (((name ≡ codes "debug") × AskNothing rows) ⊎ IsUnknown name)))
 
 -- what the command of this name with these values asks for
 abbrev pub IsReading : Text → List Row → Invocation → Type 0

@@ -3,7 +3,7 @@ ghost use Rattle.std.specs.Prelude.{◌≡◌, ◌≤◌, ◌≢◌, ℕ, map, I
 ghost use Rattle.clap.specs.Words.{found_of, kind_of, rows_of, subcommand_rows_of};
 ghost use Rattle.asl_words.specs.Words.{AreDebugWords, AreNoNumbersAt, AsksFor, IsFlagAt, IsLengthAt, IsNoLengthAt, IsNoNumberAt, IsNumberAt, IsReading, IsTaken, words_at};
 ghost use Rattle.asl_words.specs.Number.{AreNumbers, IsNumber};
-ghost use Rattle.asl_words.specs.Reading.{IsNumbersFault, IsRefusal, IsWrongUsage};
+ghost use Rattle.asl_words.specs.Reading.{IsNumbersFault, IsRefusal, IsTalkFault, IsWrongUsage};
 
 use crate::arguments::program;
 use crate::command::{Command, Invocation, Team};
@@ -198,7 +198,8 @@ fn debug_words_at<'a>(
     alloc: Global,
     values: &ArgMatches<'a>,
 ) -> Result<Vec<DebugWord>, TalkFault<'a>>
-    ensures { IfOk result (λ words. AreDebugWords (words_at (codes "words") (rows_of (found_of values.now))) words.items) }
+    ensures ok { IfOk result (λ words. AreDebugWords (words_at (codes "words") (rows_of (found_of values.now))) words.items) }
+    ensures err { IfErr result (IsTalkFault (words_at (codes "words") (rows_of (found_of values.now)))) }
 {
     match values.get_strs("words") {
         Some(words) => debug_words(alloc, words),

@@ -1,8 +1,9 @@
 //! Reads the words of the command `debug`.
-ghost use Rattle.std.specs.Prelude.{◌≡◌, ◌<◌, ◌≤◌, ℕ, List, [], ◌∷◌, length, take, IfOk, IfSome};
+ghost use Rattle.std.specs.Prelude.{◌≡◌, ◌<◌, ◌≤◌, ℕ, List, [], ◌∷◌, false, length, take, IfOk, IfErr, MatchOption};
 ghost use Rattle.clap.specs.Walk.{texts};
 ghost use Rattle.asl_words.specs.Number.{IsNumber};
 ghost use Rattle.asl_words.specs.Words.{AreDebugWords, IsDebugWord};
+ghost use Rattle.asl_words.specs.Reading.{IsTalkFault, IsNoBareWord, IsNoNumberedWord};
 
 use crate::debug_word::{DebugWord, Move};
 use crate::number::number;
@@ -22,7 +23,8 @@ pub enum TalkFault<'a> {
 
 /// What these words ask the debugger for, one after the other.
 pub fn debug_words<'a>(alloc: Global, all: &[&'a str]) -> Result<Vec<DebugWord>, TalkFault<'a>>
-    ensures { IfOk result (λ words. AreDebugWords (texts all.now) words.items) }
+    ensures ok { IfOk result (λ words. AreDebugWords (texts all.now) words.items) }
+    ensures err { IfErr result (IsTalkFault (texts all.now)) }
 {
     let mut words = Vec::new(alloc);
     let mut done = 0;
@@ -41,6 +43,7 @@ fn front_word<'a>(all: &[&'a str]) -> Result<(DebugWord, usize), TalkFault<'a>>
     requires { 0 < length all.now }
     ensures some { IfOk result (λ front. (0 < front.1) × (front.1 ≤ length all.now)) }
     ensures front { IfOk result (λ front. IsDebugWord (take front.1 (texts all.now)) front.0) }
+    ensures err { IfErr result (IsTalkFault (texts all.now)) }
 {
     let name = all[0];
     if let Some(word) = bare_word(name) {
@@ -63,7 +66,7 @@ fn front_word<'a>(all: &[&'a str]) -> Result<(DebugWord, usize), TalkFault<'a>>
 
 /// What a word asks for that stands alone, if it is one.
 fn bare_word(word: &str) -> Option<DebugWord>
-    ensures { IfSome result (IsDebugWord (word.now ∷ [])) }
+    ensures { MatchOption result (IsNoBareWord word.now) (IsDebugWord (word.now ∷ [])) }
 {
     match word {
         "forward" => Some(DebugWord::Move(Move::Forward)),
@@ -76,13 +79,15 @@ fn bare_word(word: &str) -> Option<DebugWord>
 }
 
 /// Whether a number follows the word.
-fn takes_number(word: &str) -> bool {
+fn takes_number(word: &str) -> bool
+    ensures { result ≡ false → IsNoNumberedWord word.now }
+{
     matches!(word, "goto" | "break" | "clear")
 }
 
 /// What a word asks for with the number behind it, if it is one that takes a number.
 fn numbered_word(word: &str, number: u32) -> Option<DebugWord>
-    ensures { IfSome result (λ asked. (text : List ℕ) → IsNumber text number → IsDebugWord (word.now ∷ text ∷ []) asked) }
+    ensures { MatchOption result (IsNoNumberedWord word.now) (λ asked. (text : List ℕ) → IsNumber text number → IsDebugWord (word.now ∷ text ∷ []) asked) }
 {
     match word {
         "goto" => Some(DebugWord::Move(Move::Goto(number))),
