@@ -1,0 +1,7 @@
+//! Refused memory in the inference: each call that may want memory goes through one harness, `asl_refusals`.
+#![tactic(auto)]
+
+#[cfg(test)]
+mod analysis;
+#[cfg(test)]
+mod lists;
