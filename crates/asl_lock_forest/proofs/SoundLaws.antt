@@ -10,7 +10,7 @@ use Rattle.asl_lock_forest.specs.Holding.{no_holding}
 use Rattle.asl_lock_forest.specs.Leaves.{zeros, width, IsWhole, IsKept, SameLeaves}
 use Rattle.asl_lock_forest.specs.declared.leaves.Leaves.{Leaves}
 use Rattle.asl_lock_forest.specs.declared.node.Node.TheVariants.{Root, Class, Leaf}
-use Rattle.asl_lock_forest.specs.Request.{IsRefused}
+use Rattle.asl_lock_forest.specs.Request.{IsRefused, GoesWithOthers, IsKeptFrom}
 use Rattle.asl_lock_forest.specs.Rows.{Blocks}
 use Rattle.asl_mode_lanes.specs.Mode.{is_compatible}
 use Rattle.std.specs.declared.result.Result.{Result}
@@ -107,12 +107,12 @@ module _ {classes threads : ℕ} {rows : Rows} {lists : List Request} (sound : I
 
   pub sound_grant : (t : ℕ) (request : Request) (new : Rows) (now : List Request) → t < threads → HoldsNothing (holding_of lists) t
       → IsTrue (asks_modes request) → IsTrue (asks_parents request) → IsOfClasses classes request
-      → All (λ ask. IsFree rows t ask.0 ask.1) request → Grants rows t request new → now ≡ slice_set lists t request
+      → CanGrant (holding_of lists) t request → Grants rows t request new → now ≡ slice_set lists t request
       → IsSound classes threads new now
   sound_grant t request new now there nothing modes parents of_classes free grants is = record {
     forest = of_holding classes threads (holding_of now) _ (ap holding_of is ∙ lists_granted lists t request (let n = sound.lists_there in omega (arith, there, n)) nothing)
         (record {
-          lawful = lawful_grant (holding_of lists) t request sound.forest.lawful nothing modes (IsRooted-asked request parents) (free_can t request free);
+          lawful = lawful_grant (holding_of lists) t request sound.forest.lawful nothing modes (IsRooted-asked request parents) free;
           within = within_grant classes threads (holding_of lists) t request sound.forest.within there of_classes;
         });
     kept = grants.kept;
@@ -154,6 +154,29 @@ nothing_named (ask ∷ others) none =
     let no : true ≡ false = sym (named_at (ask ∷ others) 0 ask (omega arith)) ∙ none ask.0 in
     cc
 
+clash_sym : (a b : Mode) → is_compatible b a ≡ false → is_compatible a b ≡ false
+clash_sym a b clash = elim (is_compatible a b) as (λ v. is_compatible a b ≡ v → v ≡ false) [
+  | true ↦ λ yes. let no : true ≡ false = sym (compatible_sym a b yes) ∙ clash in cc
+  | false ↦ λ _. refl
+] refl
+
+-- a node that is free is free of what others hold there
+pub free_goes : {classes threads : ℕ} {rows : Rows} {lists : List Request} → IsSound classes threads rows lists → (t : ℕ) (node : Node) (want : Mode)
+    → IsFree rows t node want → GoesWithOthers (holding_of lists) t node want
+free_goes sound t node want free other apart =
+    subst (λ m. AreCompatible want m) (mode_held sound other node) (compatible_sym _ _ (free other apart))
+
+-- who blocks a node keeps the thread from it
+pub blocked_kept : {classes threads : ℕ} {rows : Rows} {lists : List Request} → IsSound classes threads rows lists → (t : ℕ) (node : Node) (want : Mode)
+    → Blocks rows t node want → IsKeptFrom (holding_of lists) t node want
+blocked_kept {lists} sound t node want blocked =
+    let other = blocked.0 in (
+      other,
+      blocked.1,
+      clash_sym want (held (holding_of lists) other node)
+          (subst (λ m. is_compatible m want ≡ false) (mode_held sound other node) blocked.2),
+    )
+
 -- who blocks a node is in the way there
 pub blocked_refused : {classes threads : ℕ} {rows : Rows} {lists : List Request} → IsSound classes threads rows lists → (t : ℕ) (request : Request)
     → (node : Node) × Blocks rows t node (asked request node) → IsRefused (holding_of lists) t request
@@ -168,12 +191,6 @@ blocked_refused {lists} sound t request blocked =
             (subst (λ m. is_compatible m (asked request node) ≡ false) (mode_held sound other node) blocked.1.2);
       },
     )
-  where
-    clash_sym : (a b : Mode) → is_compatible b a ≡ false → is_compatible a b ≡ false
-    clash_sym a b clash = elim (is_compatible a b) as (λ v. is_compatible a b ≡ v → v ≡ false) [
-      | true ↦ λ yes. let no : true ≡ false = sym (compatible_sym a b yes) ∙ clash in cc
-      | false ↦ λ _. refl
-    ] refl
 
 -- where nothing is held
 abbrev no_asks : Request

@@ -1,9 +1,10 @@
 //! The forest: who holds which node in which mode, with all that is asked granted at once or nothing of it.
 ghost use Rattle.std.specs.Prelude.{◌≡◌, ◌≢◌, ℕ, ◌↔◌, ◌<◌, ◌≤◌, false, IsTrue, IfOk, OnOk, OnErr, if◌then◌else◌, map, length, replicate, [], slice_set, List, slice_index_or};
 ghost use Rattle.asl_mode_lanes.specs.Mode.{is_at_most};
-ghost use Rattle.asl_lock_forest.specs.Node.{IsThere};
+ghost use Rattle.asl_lock_forest.specs.Node.{IsThere, same_node};
 ghost use Rattle.asl_lock_forest.specs.Holding.{
   held,
+  asked,
   no_holding,
   HoldsNothing,
   grant,
@@ -18,6 +19,8 @@ ghost use Rattle.asl_lock_forest.specs.Request.{
   asks_parents,
   IsOfClasses,
   IsRefused,
+  GoesWithOthers,
+  IsKeptFrom,
 };
 
 use crate::Node;
@@ -26,6 +29,9 @@ use asl_code::{Cell, Effect};
 use asl_mode_lanes::Mode;
 use std::alloc::{AllocError, Global};
 use std::marker::Model;
+
+/// A list of at most so many nodes is read before the rows are.
+const FEW: usize = 8;
 
 /// The lock tree over a number of classes, and what a number of threads hold in it.
 ///
@@ -111,13 +117,42 @@ impl Forest {
         ensures others { (other : ℕ) → other ≢ thread → HoldsNothing self.old.holding other → HoldsNothing self.new.holding other }
         ensures lawful { IsForest self.new }
     {
-        self.rows.leaves.reserve(request.len())?;
         if !self.rows.can_grant(thread, request) {
             return Ok(false);
         }
+        self.grant(thread, request)?;
+        Ok(true)
+    }
+
+    /// Whether no other thread keeps this one from the mode at the node.
+    pub fn is_free(&self, thread: u32, node: Node, want: Mode) -> bool
+        requires class_there { IsThere self.now.classes node }
+        ensures free { IsTrue result → GoesWithOthers self.now.holding thread node want }
+        ensures refused { result ≡ false → IsKeptFrom self.now.holding thread node want }
+    {
+        self.rows.is_free(thread, node, want)
+    }
+
+    /// Grants all that is asked, where no other thread is in the way.
+    pub fn grant(&mut self, thread: u32, request: &[(Node, Mode)]) -> Result<(), AllocError>
+        requires thread_there { thread < self.old.threads }
+        requires nothing_held { HoldsNothing self.old.holding thread }
+        requires distinct { IsTrue (names_once request.now) }
+        requires modes { IsTrue (asks_modes request.now) }
+        requires parents { IsTrue (asks_parents request.now) }
+        requires classes_there { IsOfClasses self.old.classes request.now }
+        requires free { CanGrant self.old.holding thread request.now }
+        ensures holding { OnOk result (self.new.holding ≡ grant self.old.holding thread request.now) }
+        ensures classes { self.new.classes ≡ self.old.classes }
+        ensures threads { self.new.threads ≡ self.old.threads }
+        ensures err { OnErr result (self.new ≡ self.old) }
+        ensures others { (other : ℕ) → other ≢ thread → HoldsNothing self.old.holding other → HoldsNothing self.new.holding other }
+        ensures lawful { IsForest self.new }
+    {
+        self.rows.leaves.reserve(request.len())?;
         note(&mut self.held, thread, request)?;
         self.rows.grant(thread, request);
-        Ok(true)
+        Ok(())
     }
 
     /// Takes away all that the thread holds.
@@ -142,7 +177,12 @@ impl Forest {
         ensures value { result ≡ held self.now.holding thread node }
         ensures lawful { IsForest self.now }
     {
-        self.rows.mode(thread, node)
+        let own = self.held[thread as usize].as_slice();
+        if own.len() <= FEW {
+            listed(own, node)
+        } else {
+            self.rows.mode(thread, node)
+        }
     }
 
     /// Whether the thread covers the cell, of an object of the class, for the effect: by what it holds at the
@@ -153,9 +193,9 @@ impl Forest {
         ensures covered { IsTrue result ↔ Covers self.now.holding thread cell class effect }
         ensures lawful { IsForest self.now }
     {
-        self.reaches(thread, Node::Root, effect)
+        self.reaches(thread, Node::Leaf(cell, class), effect)
             || self.reaches(thread, Node::Class(class), effect)
-            || self.reaches(thread, Node::Leaf(cell, class), effect)
+            || self.reaches(thread, Node::Root, effect)
     }
 
     /// Whether what the thread holds at the node covers what is below it for the effect.
@@ -177,6 +217,25 @@ fn allows(mode: Mode, effect: Effect) -> bool
         Effect::Read => matches!(mode, Mode::S | Mode::SIX | Mode::X),
         Effect::Write => matches!(mode, Mode::X),
     }
+}
+
+/// The mode that the list has at the node.
+fn listed(own: &[(Node, Mode)], node: Node) -> Mode
+    ensures { result ≡ asked own.now node }
+{
+    for ask in own {
+        if same(ask.0, node) {
+            return ask.1;
+        }
+    }
+    Mode::NL
+}
+
+/// Whether the nodes are the same.
+fn same(a: Node, b: Node) -> bool
+    ensures { result ≡ same_node a b }
+{
+    a == b
 }
 
 /// A list for each thread, with nothing in it.

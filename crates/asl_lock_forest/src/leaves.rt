@@ -3,9 +3,11 @@ ghost use Rattle.std.specs.Prelude.{◌≡◌, ◌≢◌, ℕ, ◌<◌, ◌+◌,
 ghost use Rattle.asl_mode_lanes.specs.Row.{IsCode};
 ghost use Rattle.asl_lock_forest.specs.Leaves.{Leaf, key_of_leaf, leaf_row, IsKept, HasRoom, SameLeaves, IsBare, zeros, width};
 
+use crate::leaf_hash::LeafHasher;
 use indexmap::IndexMap;
 use slab::Slab;
 use std::alloc::{AllocError, Global};
+use std::hash::BuildHasherDefault;
 
 /// How many threads a row has a code for: the most threads of a forest.
 const WIDTH: usize = 64;
@@ -16,6 +18,9 @@ pub type Row = [u8; WIDTH];
 /// The row of a node that nobody holds.
 pub const NOBODY: Row = [0; WIDTH];
 
+/// The key of each leaf's row, by object, place and class.
+pub type Index = IndexMap<(u16, u8, u16), usize, BuildHasherDefault<LeafHasher>>;
+
 /// The rows of leaves: each row in a slab, under the key that the index has for the leaf.
 ///
 /// A leaf that is not in the index has a row of zeros.
@@ -24,7 +29,7 @@ pub struct Leaves {
     /// The rows, none of zeros alone.
     pub rows: Slab<Row>,
     /// The key of each leaf's row, by object, place and class.
-    pub index: IndexMap<(u16, u8, u16), usize>,
+    pub index: Index,
 }
 
 impl Leaves {
@@ -35,7 +40,7 @@ impl Leaves {
     {
         Leaves {
             rows: Slab::new(alloc),
-            index: IndexMap::new(alloc),
+            index: IndexMap::with_hasher(alloc, BuildHasherDefault::new()),
         }
     }
 
@@ -70,13 +75,13 @@ impl Leaves {
     }
 
     /// The leaf's row.
-    pub fn row(&self, leaf: (u16, u8, u16)) -> Row
+    pub fn row(&self, leaf: (u16, u8, u16)) -> &Row
         requires { IsKept self.now }
-        ensures { result ≡ leaf_row self.now leaf }
+        ensures { result.now ≡ leaf_row self.now leaf }
     {
         match self.key(leaf) {
-            Some(key) => self.rows[key],
-            None => NOBODY,
+            Some(key) => &self.rows[key],
+            None => &NOBODY,
         }
     }
 

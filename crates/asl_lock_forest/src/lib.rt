@@ -3,6 +3,7 @@
 
 mod forest;
 mod holding_laws;
+mod leaf_hash;
 mod leaves;
 mod node;
 mod rows;

@@ -62,14 +62,14 @@ impl Rows {
     }
 
     /// The node's row.
-    pub fn row(&self, node: Node) -> Row
+    pub fn row(&self, node: Node) -> &Row
         requires kept { AreKept self.now }
         requires there { IsThere (length self.now.classes.items) node }
-        ensures { result ≡ row_of self.now node }
+        ensures { result.now ≡ row_of self.now node }
     {
         match node {
-            Node::Root => self.root,
-            Node::Class(class) => self.classes[class as usize],
+            Node::Root => &self.root,
+            Node::Class(class) => &self.classes[class as usize],
             Node::Leaf(cell, class) => self.leaves.row((cell.object, cell.offset, class)),
         }
     }
@@ -86,14 +86,14 @@ impl Rows {
     }
 
     /// Whether no other thread keeps this one from the mode at the node.
-    fn is_free(&self, thread: u32, node: Node, want: Mode) -> bool
+    pub fn is_free(&self, thread: u32, node: Node, want: Mode) -> bool
         requires kept { AreKept self.now }
         requires there { IsThere (length self.now.classes.items) node }
         ensures free { result ≡ true → IsFree self.now thread node want }
         ensures blocked { result ≡ false → Blocks self.now thread node want }
     {
         let row = self.row(node);
-        conflicts(&row, thread as usize, want) == 0
+        conflicts(row, thread as usize, want) == 0
     }
 
     /// Whether no other thread keeps this one from anything that it asks.

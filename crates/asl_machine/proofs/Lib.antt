@@ -1,7 +1,7 @@
 pub mod Joins
 pub mod RequestLaws
-pub mod Grants
 pub mod Asks
+pub mod Asking
 pub mod Lists
 pub mod Heaps
 pub mod Frames

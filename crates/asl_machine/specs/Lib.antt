@@ -12,3 +12,4 @@ pub mod View
 pub mod World
 -- Machinery of the proofs, not of the promise:
 pub mod Ready
+pub mod Asking

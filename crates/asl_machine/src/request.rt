@@ -1,81 +1,132 @@
 //! What a section asks for at its entry.
-ghost use Rattle.std.specs.Prelude.{◌≡◌, IsTrue, ◌↔◌, IfOk, OnOk, position};
-ghost use Rattle.asl_lock_forest.specs.Node.{same_node};
-ghost use Rattle.asl_lock_forest.specs.Holding.{covering_mode};
-ghost use Rattle.asl_machine.specs.Request.{upper_mode, asks_of, cell_asks, leaf_asks, joined_with, joined_all, request_of};
+ghost use Rattle.std.specs.Prelude.{◌≡◌, IsTrue, false, All, IfOk, IfSome, OnOk, is_some, position};
+ghost use Rattle.asl_lock_forest.specs.Node.{same_node, IsThere};
+ghost use Rattle.asl_lock_forest.specs.Holding.{covering_mode, can_grant};
+ghost use Rattle.asl_machine.specs.Access.{AreOfClasses};
+ghost use Rattle.asl_machine.specs.Request.{LockOfClass, asks_of, upper_mode, effect_of, joined_with, joined_all, request_of};
+ghost use Rattle.asl_machine.specs.Asking.{leaf_of, node_of, asks_at, AreFree, IsHeldUp};
 
 use crate::heap::Heap;
 use asl_code::{Cell, Effect, Lock, Value};
 use asl_lock_expr::eval;
-use asl_lock_forest::Node;
+use asl_lock_forest::{Forest, Node};
 use asl_mode_lanes::{Mode, join};
 use std::alloc::{AllocError, Global};
 
-/// The request of the locks in these registers and this heap: at each node the join of what the locks ask there.
+/// The request of the locks in these registers and this heap: at each node the join of what the locks ask there. None where
+/// another thread is in the way of one of them, as soon as that is seen.
 pub fn request(
     alloc: Global,
     locks: &[Lock],
     regs: &[Value],
     heap: &Heap,
-) -> Result<Vec<(Node, Mode)>, AllocError>
-    ensures { IfOk result (λ request. request.items ≡ request_of heap.now regs.now locks.now) }
+    forest: &Forest,
+    t: u32,
+) -> Result<Option<Vec<(Node, Mode)>>, AllocError>
+    requires locks { All (LockOfClass forest.now.classes) locks.now }
+    requires classes { AreOfClasses forest.now.classes heap.now }
+    ensures request { IfOk result (λ r. IfSome r (λ request. request.items ≡ request_of heap.now regs.now locks.now)) }
+    ensures free { IfOk result (λ r. is_some r ≡ can_grant forest.now.holding t (request_of heap.now regs.now locks.now)) }
 {
     let mut request = Vec::new(alloc);
     for lock in locks {
-        add_lock(&mut request, lock, regs, heap)?;
+        if !add_lock(&mut request, lock, regs, heap, forest, t)? {
+            return Ok(None);
+        }
     }
-    Ok(request)
+    Ok(Some(request))
 }
 
-/// Adds what the lock asks.
+/// Adds what the lock asks, unless another thread is in the way: whether none is.
 fn add_lock(
     request: &mut Vec<(Node, Mode)>,
     lock: &Lock,
     regs: &[Value],
     heap: &Heap,
-) -> Result<(), AllocError>
-    ensures { OnOk result (request.new.items ≡ joined_all request.old.items (asks_of heap.now regs.now lock.now)) }
+    forest: &Forest,
+    t: u32,
+) -> Result<bool, AllocError>
+    requires of_class { LockOfClass forest.now.classes lock.now }
+    requires classes { AreOfClasses forest.now.classes heap.now }
+    ensures added { IfOk result (λ free. IsTrue free → request.new.items ≡ joined_all request.old.items (asks_of heap.now regs.now lock.now)) }
+    ensures free { IfOk result (λ free. IsTrue free → AreFree forest.now.holding t (asks_of heap.now regs.now lock.now)) }
+    ensures kept { IfOk result (λ free. free ≡ false → IsHeldUp forest.now.holding t (asks_of heap.now regs.now lock.now)) }
+{
+    let Some(node) = node_of(lock, regs, heap) else {
+        return Ok(true);
+    };
+    let effect = effect_of(lock);
+    if !is_free(forest, t, node, effect) {
+        return Ok(false);
+    }
+    add_all(request, node, effect)?;
+    Ok(true)
+}
+
+/// The lock's own node, if it has one.
+fn node_of(lock: &Lock, regs: &[Value], heap: &Heap) -> Option<Node>
+    ensures { result ≡ node_of heap.now regs.now lock.now }
 {
     match lock {
-        Lock::Root(effect) => add(request, Node::Root, own(*effect)),
-        Lock::Class(class, effect) => {
-            add(request, Node::Root, upper(*effect))?;
-            add(request, Node::Class(*class), own(*effect))
+        Lock::Root(_) => Some(Node::Root),
+        Lock::Class(class, _) => Some(Node::Class(*class)),
+        Lock::Expr(expr, _) => leaf_of(eval(expr, regs, heap), heap),
+    }
+}
+
+/// The leaf of the cell that an expression denotes.
+fn leaf_of(cell: Option<Cell>, heap: &Heap) -> Option<Node>
+    ensures { result ≡ leaf_of heap.now cell }
+{
+    let cell = cell?;
+    let class = heap.class(usize::from(cell.object))?;
+    Some(Node::Leaf(cell, class))
+}
+
+/// What the lock is for.
+fn effect_of(lock: &Lock) -> Effect
+    ensures { result ≡ effect_of lock.now }
+{
+    match lock {
+        Lock::Root(effect) | Lock::Class(_, effect) | Lock::Expr(_, effect) => *effect,
+    }
+}
+
+/// Whether no other thread keeps thread t from what a lock on the node asks.
+fn is_free(forest: &Forest, t: u32, node: Node, effect: Effect) -> bool
+    requires { IsThere forest.now.classes node }
+    ensures free { IsTrue result → AreFree forest.now.holding t (asks_at effect node) }
+    ensures kept { result ≡ false → IsHeldUp forest.now.holding t (asks_at effect node) }
+{
+    match node {
+        Node::Root => forest.is_free(t, node, own(effect)),
+        Node::Class(_) => {
+            forest.is_free(t, node, own(effect)) && forest.is_free(t, Node::Root, upper(effect))
         }
-        Lock::Expr(expr, effect) => add_cell(request, eval(expr, regs, heap), *effect, heap),
+        Node::Leaf(_, class) => {
+            forest.is_free(t, node, own(effect))
+                && forest.is_free(t, Node::Class(class), upper(effect))
+                && forest.is_free(t, Node::Root, upper(effect))
+        }
     }
 }
 
-/// Adds what a lock on the cell that an expression denotes asks.
-fn add_cell(
-    request: &mut Vec<(Node, Mode)>,
-    cell: Option<Cell>,
-    effect: Effect,
-    heap: &Heap,
-) -> Result<(), AllocError>
-    ensures { OnOk result (request.new.items ≡ joined_all request.old.items (cell_asks heap.now effect cell)) }
+/// Adds what a lock on the node asks.
+fn add_all(request: &mut Vec<(Node, Mode)>, node: Node, effect: Effect) -> Result<(), AllocError>
+    ensures { OnOk result (request.new.items ≡ joined_all request.old.items (asks_at effect node)) }
 {
-    match cell {
-        Some(cell) => match heap.class(usize::from(cell.object)) {
-            Some(class) => add_leaf(request, cell, effect, class),
-            None => Ok(()),
-        },
-        None => Ok(()),
+    match node {
+        Node::Root => add(request, node, own(effect)),
+        Node::Class(_) => {
+            add(request, Node::Root, upper(effect))?;
+            add(request, node, own(effect))
+        }
+        Node::Leaf(_, class) => {
+            add(request, Node::Root, upper(effect))?;
+            add(request, Node::Class(class), upper(effect))?;
+            add(request, node, own(effect))
+        }
     }
-}
-
-/// Adds what a lock on a cell of an object of the class asks.
-fn add_leaf(
-    request: &mut Vec<(Node, Mode)>,
-    cell: Cell,
-    effect: Effect,
-    class: u16,
-) -> Result<(), AllocError>
-    ensures { OnOk result (request.new.items ≡ joined_all request.old.items (leaf_asks cell effect class)) }
-{
-    add(request, Node::Root, upper(effect))?;
-    add(request, Node::Class(class), upper(effect))?;
-    add(request, Node::Leaf(cell, class), own(effect))
 }
 
 /// Adds one ask: it joins what is asked at its node already.

@@ -1,7 +1,6 @@
 //! How a thread enters sections, with their locks, and leaves them.
-ghost use Rattle.std.specs.Prelude.{◌≡◌, ◌<◌, ◌+◌, ◌-◌, ◌^◌, IfOk, OnErr, IsTrue, All, if◌then◌else◌, length};
-ghost use Rattle.asl_lock_forest.specs.Holding.{HoldsNothing, can_grant, grant};
-ghost use Rattle.asl_lock_forest.specs.Request.{names_once, asks_modes, asks_parents, IsOfClasses};
+ghost use Rattle.std.specs.Prelude.{◌≡◌, ◌<◌, ◌+◌, ◌-◌, ◌^◌, IfOk, OnErr, All, length};
+ghost use Rattle.asl_lock_forest.specs.Holding.{HoldsNothing, can_grant};
 ghost use Rattle.asl_machine.specs.Access.{AreOfClasses};
 ghost use Rattle.asl_machine.specs.Request.{LockOfClass, request_of, locks_of};
 ghost use Rattle.asl_machine.specs.Twin.{release_fate, activity_moved, activity_left, holding_released, acquire_fate, holding_acquired};
@@ -13,8 +12,7 @@ use crate::frame::Activity;
 use crate::heap::Heap;
 use crate::request::request;
 use asl_code::Lock;
-use asl_lock_forest::{Forest, Node};
-use asl_mode_lanes::Mode;
+use asl_lock_forest::Forest;
 use std::alloc::{AllocError, Global};
 
 /// Enters a section with the locks of a list. The outermost asks for them, and waits where others hold them.
@@ -115,33 +113,12 @@ fn enter(
     ensures err { OnErr result (activity.new ≡ activity.old) }
     ensures err_forest { OnErr result (forest.new ≡ forest.old) }
 {
-    let request = request(alloc, locks, activity.regs(), heap)?;
-    if ask(alloc, forest, t, request.as_slice())? {
-        activity.enter();
-        Ok(Fate::GoesOn)
-    } else {
-        Ok(Fate::Waits)
+    match request(alloc, locks, activity.regs(), heap, forest, t)? {
+        Some(request) => {
+            forest.grant(t, request.as_slice())?;
+            activity.enter();
+            Ok(Fate::GoesOn)
+        }
+        None => Ok(Fate::Waits),
     }
-}
-
-/// Asks the forest for the request: whether it was granted.
-fn ask(
-    alloc: Global,
-    forest: &mut Forest,
-    t: u32,
-    request: &[(Node, Mode)],
-) -> Result<bool, AllocError>
-    requires thread { t < forest.old.threads }
-    requires nothing { HoldsNothing forest.old.holding t }
-    requires distinct { IsTrue (names_once request.now) }
-    requires modes { IsTrue (asks_modes request.now) }
-    requires parents { IsTrue (asks_parents request.now) }
-    requires classes { IsOfClasses forest.old.classes request.now }
-    ensures granted { IfOk result (λ all. all ≡ can_grant forest.old.holding t request.now) }
-    ensures holding { IfOk result (λ all. forest.new.holding ≡ (if all then grant forest.old.holding t request.now else forest.old.holding)) }
-    ensures classes { forest.new.classes ≡ forest.old.classes }
-    ensures threads { forest.new.threads ≡ forest.old.threads }
-    ensures err { OnErr result (forest.new ≡ forest.old) }
-{
-    forest.try_acquire(alloc, t, request)
 }

@@ -1,7 +1,10 @@
 use Rattle.std.proofs.Common.{◌≡◌, drop}
+use Rattle.asl_lock_forest.specs.Holding.{CanGrant}
 use Rattle.asl_machine.specs.Request.{joined_all, all_asks, request_of}
 use Rattle.asl_machine.proofs.request.request.Given as goal
 
 abbrev pub invariant-loop-lock : goal.invariant-loop-lock
-invariant-loop-lock l =
-    joined_all l.request.items (all_asks l.heap l.regs (drop l.lock-index l.locks)) ≡ request_of l.heap l.regs l.locks
+invariant-loop-lock l = record {
+  joined : joined_all l.request.items (all_asks l.heap l.regs (drop l.lock-index l.locks)) ≡ request_of l.heap l.regs l.locks;
+  free : CanGrant l.forest.holding l.t l.request.items;
+}

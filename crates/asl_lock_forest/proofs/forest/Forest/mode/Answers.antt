@@ -1,11 +1,26 @@
-use Rattle.std.proofs.Common.{ap, ◌∙◌}
+use Rattle.std.proofs.Common.{◌≡◌, ◌<◌, [], map, slice_index_or, ap, sym, subst, ◌∙◌, arith}
+use Rattle.std.proofs.lemmas.List.{get_or-map, length-map}
 use Rattle.asl_lock_forest.specs.Held.{Held}
-use Rattle.asl_lock_forest.specs.Holding.{held}
+use Rattle.asl_lock_forest.specs.Holding.{held, asked}
+use Rattle.asl_lock_forest.proofs.ListLaws.{held_lists}
 use Rattle.asl_lock_forest.proofs.SoundLaws.{mode_held}
 use Rattle.asl_lock_forest.proofs.forest.Forest.mode.Goals as goal
 
-pub returns-clause-value : goal.returns-clause-value
-returns-clause-value c =
+pub returns-then-own-le-FEW-clause-value : goal.returns-then-own-le-FEW-clause-value
+returns-then-own-le-FEW-clause-value c =
+    let within : c.args.thread < c.self.inside.threads = subst (λ (f : Held). c.args.thread < f.threads) (sym c.self.view_is) c.requires.thread_there in
+    let count = c.self.invariant.lists_there in
+    let same = length-map c.self.inside.held.items (λ v. v.items) in
+    let own : c.as_slice-own.result.now ≡ slice_index_or (map (λ v. v.items) c.self.inside.held.items) c.args.thread [] =
+    c.as_slice-own.ensures.value ∙ ap (λ v. v.items) c.index.ensures
+    ∙ sym (get_or-map (λ v. v.items) c.self.inside.held.items c.args.thread _ [] (omega (arith, within, count, same))) in
+    c.listed.ensures
+    ∙ ap (λ l. asked l c.args.node) own
+    ∙ sym (held_lists (map (λ v. v.items) c.self.inside.held.items) c.args.thread c.args.node)
+    ∙ ap (λ (f : Held). held f.holding c.args.thread c.args.node) c.self.view_is
+
+pub returns-else-own-le-FEW-clause-value : goal.returns-else-own-le-FEW-clause-value
+returns-else-own-le-FEW-clause-value c =
     c.mode.ensures
     ∙ mode_held c.self.invariant c.args.thread c.args.node
     ∙ ap (λ (f : Held). held f.holding c.args.thread c.args.node) c.self.view_is

@@ -1,40 +1,20 @@
-use Rattle.std.proofs.Common.{◌≡◌, ◌<◌, map, ap, sym, subst, refl, ◌∙◌, arith}
+use Rattle.std.proofs.Common.{refl, subst}
 use Rattle.asl_lock_forest.specs.Held.{Held}
-use Rattle.asl_lock_forest.specs.Holding.{HoldsNothing, CanGrant, grant}
-use Rattle.asl_lock_forest.specs.Request.{IsRefused, IsOfClasses}
-use Rattle.asl_lock_forest.specs.Lists.{holding_of}
-use Rattle.asl_lock_forest.specs.Sound.{IsSound}
-use Rattle.asl_lock_forest.proofs.Laws.{nothing_kept_grant}
+use Rattle.asl_lock_forest.specs.Holding.{CanGrant}
+use Rattle.asl_lock_forest.specs.Request.{IsRefused}
 use Rattle.asl_lock_forest.proofs.Grantable.{refused_cannot}
-use Rattle.asl_lock_forest.proofs.ListLaws.{lists_granted, unnamed_list}
-use Rattle.asl_lock_forest.proofs.SoundLaws.{sound_reserved, sound_grant, free_can, blocked_refused, nothing_named}
+use Rattle.asl_lock_forest.proofs.SoundLaws.{free_can, blocked_refused}
 use Rattle.asl_lock_forest.proofs.forest.Forest.try_acquire.Goals as goal
 
-pub invariant_of-self : goal.invariant_of-self
-invariant_of-self c = sound_reserved c.self.invariant c.reserve.ensures.kept c.reserve.ensures.same
-
-pub invariant_of-self-then-not-can_grant : goal.invariant_of-self-then-not-can_grant
-invariant_of-self-then-not-can_grant c = sound_reserved c.self.invariant c.reserve.ensures.kept c.reserve.ensures.same
-
-pub can_grant-requires-clause-kept : goal.can_grant-requires-clause-kept
-can_grant-requires-clause-kept c = (sound_reserved c.self.invariant c.reserve.ensures.kept c.reserve.ensures.same).kept
-
-pub grant-requires-clause-kept : goal.grant-requires-clause-kept
-grant-requires-clause-kept c = (sound_reserved c.self.invariant c.reserve.ensures.kept c.reserve.ensures.same).kept
-
-pub note-requires-clause-empty : goal.note-requires-clause-empty
-note-requires-clause-empty c =
-    nothing_named _ (unnamed_list _ c.args.thread (subst (λ (f : Held). HoldsNothing f.holding c.args.thread) (sym c.self.view_is) c.requires.nothing_held))
-
-pub invariant_of-self-in_err-note : goal.invariant_of-self-in_err-note
-invariant_of-self-in_err-note c =
-    subst (IsSound _ _ _) (sym c.in_err-note.ensures.err) (sound_reserved c.self.invariant c.reserve.ensures.kept c.reserve.ensures.same)
+pub grant-requires-clause-free : goal.grant-requires-clause-free
+grant-requires-clause-free c =
+    subst (λ (f : Held). CanGrant f.holding c.args.thread c.args.request.now) c.self.view_is
+    (free_can c.self.invariant c.args.thread c.args.request.now (c.can_grant.ensures.free c.if-not-can_grant.false))
 
 pub returns-then-not-can_grant-clause-refused : goal.returns-then-not-can_grant-clause-refused
 returns-then-not-can_grant-clause-refused c _ =
     subst (λ (f : Held). IsRefused f.holding c.args.thread c.args.request.now) c.self.view_is
-    (blocked_refused (sound_reserved c.self.invariant c.reserve.ensures.kept c.reserve.ensures.same) c.args.thread c.args.request.now
-    (c.can_grant.ensures.blocked c.if-not-can_grant.true))
+    (blocked_refused c.self.invariant c.args.thread c.args.request.now (c.can_grant.ensures.blocked c.if-not-can_grant.true))
 
 pub returns-then-not-can_grant-clause-granted : goal.returns-then-not-can_grant-clause-granted
 returns-then-not-can_grant-clause-granted c =
@@ -43,34 +23,6 @@ returns-then-not-can_grant-clause-granted c =
 pub returns-clause-granted : goal.returns-clause-granted
 returns-clause-granted c = (
   λ _. subst (λ (f : Held). CanGrant f.holding c.args.thread c.args.request.now) c.self.view_is
-      (free_can (sound_reserved c.self.invariant c.reserve.ensures.kept c.reserve.ensures.same) c.args.thread c.args.request.now
-      (c.can_grant.ensures.free c.if-not-can_grant.false)),
+      (free_can c.self.invariant c.args.thread c.args.request.now (c.can_grant.ensures.free c.if-not-can_grant.false)),
   λ can. refl,
 )
-
-pub invariant_of-self-2 : goal.invariant_of-self-2
-invariant_of-self-2 c =
-    sound_grant (sound_reserved c.self.invariant c.reserve.ensures.kept c.reserve.ensures.same) c.args.thread c.args.request.now c.grant.new.self _
-    (subst (λ (f : Held). c.args.thread < f.threads) (sym c.self.view_is) c.requires.thread_there)
-    (subst (λ (f : Held). HoldsNothing f.holding c.args.thread) (sym c.self.view_is) c.requires.nothing_held)
-    c.requires.modes c.requires.parents (subst (λ (f : Held). IsOfClasses f.classes c.args.request.now) (sym c.self.view_is) c.requires.classes_there)
-    (c.can_grant.ensures.free c.if-not-can_grant.false) c.grant.ensures c.in_ok-note.ensures.ok
-
-granted : (c : goal.After-grant) → holding_of (map (λ v. v.items) c.note.new.held.items) ≡ grant c.args.self.now.holding c.args.thread c.args.request.now
-granted c =
-    let count = c.self.invariant.lists_there in
-    let within : c.args.thread < c.self.inside.threads = subst (λ (f : Held). c.args.thread < f.threads) (sym c.self.view_is) c.requires.thread_there in
-    ap holding_of c.in_ok-note.ensures.ok
-    ∙ lists_granted (map (λ v. v.items) c.self.inside.held.items) c.args.thread c.args.request.now (omega (arith, count, within))
-    (subst (λ (f : Held). HoldsNothing f.holding c.args.thread) (sym c.self.view_is) c.requires.nothing_held)
-    ∙ ap (λ (f : Held). grant f.holding c.args.thread c.args.request.now) c.self.view_is
-
-pub returns-clause-holding : goal.returns-clause-holding
-returns-clause-holding c = granted c
-
-pub returns-clause-others : goal.returns-clause-others
-returns-clause-others c other apart nothing =
-    subst (λ h. HoldsNothing h other) (sym (granted c)) (nothing_kept_grant c.args.self.now.holding c.args.thread c.args.request.now other apart nothing)
-
-pub returns-clause-lawful : goal.returns-clause-lawful
-returns-clause-lawful c = (invariant_of-self-2 c).forest
