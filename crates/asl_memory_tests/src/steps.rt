@@ -1,0 +1,123 @@
+//! Machines that write down their steps, and replay.
+use crate::readers::{CELL, Seen, told_of};
+use crate::samples::{COUNTER, OBJECTS, SCHEDULE, STACK, program};
+use asl_code::{Program, Value};
+use asl_journal::{Journal, JournalFault, Journaled, Receipt, replay};
+use asl_machine::{Fault, Machine, Reply};
+use asl_refusals::{answered, changed};
+use std::alloc::Global;
+
+/// What is told of a machine that writes down its steps: the events, the room for more, and what the machine tells.
+fn told(journaled: &Journaled<'_>) -> (usize, u32, Seen) {
+    (
+        journaled.events().len(),
+        journaled.spare(),
+        told_of(journaled.machine()),
+    )
+}
+
+/// What is told where a growth of the events' room alone may have come through.
+fn told_but_for_room(journaled: &Journaled<'_>) -> (usize, Seen) {
+    (journaled.events().len(), told_of(journaled.machine()))
+}
+
+fn started<'p>(alloc: Global, given: (&'p Program, u32)) -> Result<Journaled<'p>, JournalFault> {
+    Journaled::start(alloc, given.0, given.1)
+}
+
+/// A machine that starts.
+fn start(alloc: Global, program: &Program, n: u32) -> Option<Journaled<'_>> {
+    answered(alloc, JournalFault::OutOfMemory, started, (program, n))
+}
+
+fn stepped(alloc: Global, journaled: &mut Journaled<'_>, t: u32) -> Result<Receipt, JournalFault> {
+    journaled.step(alloc, t)
+}
+
+/// A step.
+fn step(alloc: Global, journaled: &mut Journaled<'_>, t: u32) -> Option<Receipt> {
+    changed(
+        alloc,
+        JournalFault::OutOfMemory,
+        journaled,
+        told_but_for_room,
+        stepped,
+        t,
+    )
+}
+
+fn reserved(_: Global, journaled: &mut Journaled<'_>, m: u32) -> Result<(), JournalFault> {
+    journaled.reserve(m)
+}
+
+/// Room for events.
+fn reserve(alloc: Global, journaled: &mut Journaled<'_>, m: u32) -> Option<()> {
+    changed(
+        alloc,
+        JournalFault::OutOfMemory,
+        journaled,
+        told,
+        reserved,
+        m,
+    )
+}
+
+/// The last of so many replies of thread 0.
+fn last_reply(alloc: Global, text: &[u8], steps: u32) -> Option<Reply> {
+    let program = program(alloc, text)?;
+    let mut journaled = start(alloc, &program, 1)?;
+    let mut last = None;
+    for _ in 0..steps {
+        last = Some(step(alloc, &mut journaled, 0)?.reply);
+    }
+    last
+}
+
+#[test]
+fn frames_are_made(rt: HostRuntime) {
+    let last = last_reply(rt.alloc(), STACK, 512);
+    assert!(rt; last == Some(Reply::Fault(Fault::Stack)));
+}
+
+#[test]
+fn objects_are_made(rt: HostRuntime) {
+    let last = last_reply(rt.alloc(), OBJECTS, 100);
+    assert!(rt; last == Some(Reply::Ran));
+}
+
+/// The journal of the counter's two threads over the schedule, with room made ahead for some events.
+pub fn journal(alloc: Global, program: &Program, ahead: u32) -> Option<Journal> {
+    let mut journaled = start(alloc, program, 2)?;
+    reserve(alloc, &mut journaled, ahead)?;
+    for thread in SCHEDULE.iter() {
+        step(alloc, &mut journaled, u32::from(*thread))?;
+    }
+    Some(journaled.into_parts().0)
+}
+
+fn replayed<'p>(
+    alloc: Global,
+    given: (&'p Program, &Journal),
+) -> Result<Machine<'p>, JournalFault> {
+    replay(alloc, given.0, given.1)
+}
+
+/// What the counter's cell holds behind a replay of its threads.
+fn counted(alloc: Global, ahead: u32) -> Option<Value> {
+    let program = program(alloc, COUNTER)?;
+    let journal = journal(alloc, &program, ahead)?;
+    let machine = answered(
+        alloc,
+        JournalFault::OutOfMemory,
+        replayed,
+        (&program, &journal),
+    )?;
+    machine.cell(CELL)
+}
+
+#[test]
+fn a_run_is_replayed(rt: HostRuntime) {
+    for ahead in [0, 7] {
+        assert!(rt; counted(rt.alloc(), ahead) == Some(Value::Int(2)));
+    }
+}
