@@ -2,7 +2,7 @@ pub mod Needed
 pub mod Closed
 pub mod Flows
 pub mod Based
--- machinery of the proofs
+-- Machinery of the proofs, not of the promise:
 pub mod Found
 pub mod Spans
 pub mod Graph

@@ -1,4 +1,4 @@
--- What a debugger keeps of its fields. Machinery of the type: contracts speak of sessions.
+-- Machinery of the proofs, not of the promise: what a debugger keeps of its fields; contracts speak of sessions.
 use Rattle.std.specs.Prelude.{◌≡◌, ◌<◌, ◌≤◌, ◌+◌, ◌*◌, ℕ, List, length, take, slice_get, Some}
 use Rattle.asl_code.specs.declared.image.Image.{Image}
 use Rattle.asl_machine.specs.View.{Configuration}

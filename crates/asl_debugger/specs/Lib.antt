@@ -1,5 +1,6 @@
 pub mod Breaks
-pub mod Kept
 pub mod Opening
-pub mod Search
 pub mod Session
+-- Machinery of the proofs, not of the promise:
+pub mod Kept
+pub mod Search

@@ -1,4 +1,5 @@
--- A search for the last stop within a stretch of a journal. Machinery of private functions.
+-- Machinery of the proofs, not of the promise: the last stop within a stretch of a journal, for private
+-- functions.
 use Rattle.std.specs.Prelude.{◌<◌, ◌≤◌, ℕ, Option, None, Some}
 use Rattle.asl_debugger.specs.Session.{Session, IsStop}
 

@@ -2,6 +2,7 @@ pub mod Bytes
 pub mod Fault
 pub mod Faults
 pub mod Journal
-pub mod Reading
 pub mod Recorded
 pub mod Replay
+-- Machinery of the proofs, not of the promise:
+pub mod Reading

@@ -1,6 +1,6 @@
--- Reading a journal from front to back, to the first field that is cut or bad: what the readers of src/ compute
--- (docs/JOURNAL.md, "Bytes"). No public contract cites it; the lemmas of proofs/ lead from here to the relations of
--- specs/Bytes and specs/Faults, which contracts cite.
+-- Machinery of the proofs, not of the promise: reading a journal from front to back, to the first field that is
+-- cut or bad, as the readers of src/ compute it (docs/JOURNAL.md, "Bytes"). The lemmas of proofs/ lead from here to the
+-- relations of specs/Bytes and specs/Faults, which contracts cite.
 use Rattle.std.specs.Prelude.{◌≡◌, ℕ, zero, suc, ◌-◌, Bool, nat_lt, nat_le, ◌==◌, ◌&&◌, if◌then◌else◌, List, length, Result, Ok, Err}
 use Rattle.std.specs.Int.{w16, w32, cast_signed}
 use Rattle.asl_code.specs.declared.value.Value.{Value}

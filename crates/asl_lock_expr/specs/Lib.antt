@@ -1,9 +1,10 @@
 pub mod Expression
 pub mod ClassOf
 pub mod Links
-pub mod Stores
 pub mod LinksView
-pub mod Storing
+pub mod Stores
 pub mod Order
-pub mod Placing
 pub mod Agrees
+-- Machinery of the proofs, not of the promise:
+pub mod Storing
+pub mod Placing

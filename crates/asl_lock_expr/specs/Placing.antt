@@ -1,4 +1,4 @@
--- A lock put at its place in a list in order; private to src/order.rt.
+-- Machinery of the proofs, not of the promise: a lock put at its place in a list in order (src/order.rt).
 use Rattle.std.specs.Prelude.{List, [], ◌∷◌}
 use Rattle.std.specs.declared.cmp.Ordering.{Ordering}
 use Rattle.std.specs.declared.cmp.Ordering.TheVariants.{Less, Equal, Greater}

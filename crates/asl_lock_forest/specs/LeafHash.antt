@@ -1,4 +1,5 @@
--- The hash of a leaf: a round of FNV-1a for each byte (docs/LOCKS.md, "Lawful holdings").
+-- Machinery of the proofs, not of the promise: the hash of a leaf, a round of FNV-1a for each byte
+-- (docs/LOCKS.md, "Lawful holdings").
 use Rattle.std.specs.Prelude.{ℕ, ◌*◌, ◌%◌, ◌^◌, List, fold, bit_xor}
 use Rattle.asl_lock_forest.specs.declared.leaf_hash.LeafHasher.{LeafHasher}
 

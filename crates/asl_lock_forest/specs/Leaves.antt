@@ -1,4 +1,5 @@
--- The rows of leaves: what a slab and an index of its keys tell of each leaf (docs/LOCKS.md, "Lawful holdings").
+-- Machinery of the proofs, not of the promise: the rows of leaves, what a slab and an index of its keys tell of
+-- each leaf (docs/LOCKS.md, "Lawful holdings").
 use Rattle.std.specs.Prelude.{ℕ, Bool, ◌≡◌, ◌≢◌, ◌≤◌, ◌&&◌, nat_eq, List, replicate, length, Option, None, Some, unwrap_or}
 use Rattle.slab.specs.Slab as slab
 use Rattle.indexmap.specs.IndexMap as index

@@ -1,4 +1,5 @@
--- What the threads hold, by a list of each thread's own nodes and modes (docs/LOCKS.md, "Lawful holdings").
+-- Machinery of the proofs, not of the promise: what the threads hold, by a list of each thread's own nodes and
+-- modes (docs/LOCKS.md, "Lawful holdings").
 use Rattle.std.specs.Prelude.{ℕ, ◌+◌, List, [], ◌∷◌}
 use Rattle.asl_lock_forest.specs.Holding.{Holding, no_holding, Request, grant}
 

@@ -1,4 +1,5 @@
--- The rows of codes as what each thread holds at each node (docs/LOCKS.md, "Lawful holdings").
+-- Machinery of the proofs, not of the promise: the rows of codes as what each thread holds at each node
+-- (docs/LOCKS.md, "Lawful holdings").
 use Rattle.std.specs.Prelude.{ℕ, ◌≡◌, ◌≢◌, false, List, length, slice_index_or, slice_set}
 use Rattle.asl_mode_lanes.specs.declared.mode.Mode.{Mode}
 use Rattle.asl_mode_lanes.specs.declared.mode.Mode.TheVariants.{NL}

@@ -1,4 +1,5 @@
--- What the fields of every forest keep (docs/LOCKS.md, "Lawful holdings").
+-- Machinery of the proofs, not of the promise: what the fields of every forest keep (docs/LOCKS.md, "Lawful
+-- holdings").
 use Rattle.std.specs.Prelude.{ℕ, ◌≡◌, ◌≤◌, List, [], length, slice_index_or}
 use Rattle.asl_mode_lanes.specs.Row.{mode_at}
 use Rattle.asl_lock_forest.specs.declared.node.Node.{Node}

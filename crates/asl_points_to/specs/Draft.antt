@@ -1,5 +1,6 @@
--- The classes as src/draft.rt finds them, step by step: which members have been put into one class, and to which members
--- registers and cells point; private. What contracts of the crate's calls cite is specs/Classes.
+-- Machinery of the proofs, not of the promise: the classes as src/draft.rt finds them, step by step: which
+-- members have been put into one class, and to which members registers and cells point. What contracts of the crate's calls
+-- cite is specs/Classes.
 use Rattle.std.specs.Prelude.{◌≡◌, ◌≢◌, ◌+◌, ◌<◌, ◌≤◌, ◌⊎◌, ℕ, suc, if◌then◌else◌, List, [], ◌∷◌, length, Option, None, Some, is_some, MatchOption, slice_get, slice_index, option_and_then}
 use Rattle.asl_points_to.specs.declared.flow.Place.{Place}
 use Rattle.asl_points_to.specs.declared.flow.Flow.{Flow}

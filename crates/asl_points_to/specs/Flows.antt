@@ -1,4 +1,4 @@
--- The flows of instructions, as src/flows.rt lists them; private.
+-- Machinery of the proofs, not of the promise: the flows of instructions, as src/flows.rt lists them.
 use Rattle.std.specs.Prelude.{◌≡◌, ◌+◌, ◌<◌, ℕ, zero, suc, List, [], ◌∷◌, ◌++◌, length, Option, None, Some, slice_get}
 use Rattle.std.specs.List.{All}
 use Rattle.asl_code.specs.declared.instr.Instr.{Instr}
