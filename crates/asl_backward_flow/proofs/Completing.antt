@@ -1,6 +1,5 @@
 -- All that is needed is found: what is found is a closed family.
-use Rattle.std.proofs.Common.{◌≡◌, ⊎_elim, ℕ, ◌≤◌, arith, List, [], Some, length, slice_get, replicate, unwrap_or, refl, ap, sym, subst, ◌∙◌, inl, inr, zero, suc}
-use Rattle.std.proofs.lemmas.Option.{slice_get_within}
+use Rattle.std.proofs.Common.{◌≡◌, ⊎_elim, ℕ, ◌≤◌, arith, List, [], ◌∷◌, Some, length, slice_get, unwrap_or, refl, ap, sym, subst, ◌∙◌, inl, inr}
 use Rattle.asl_code.specs.declared.image.Function as entry
 use Rattle.asl_code.specs.declared.instr.Instr.{Instr}
 use Rattle.asl_code.specs.declared.instr.Instr.TheVariants as instr
@@ -16,8 +15,8 @@ use Rattle.asl_backward_flow.specs.declared.found.Fact.{Fact}
 use Rattle.asl_backward_flow.specs.declared.span.Span.{Span}
 use Rattle.asl_backward_flow.specs.Needed.{Needed, Accessed, Linked, Entered, Before, region_of}
 use Rattle.asl_backward_flow.specs.Closed.{Family, IsClosed}
-use Rattle.asl_backward_flow.specs.Found.{Table, HasFact, IsName, IsBlank, fact}
-use Rattle.asl_backward_flow.specs.Follows.{Read, IsRead, IsReady, seen, IsAtPoint, IsSeed, Follows, Added, Stopped, IsFollowed, Overflows, IsAll}
+use Rattle.asl_backward_flow.specs.Found.{Table, HasFact, IsName, IsBlank, locks_of}
+use Rattle.asl_backward_flow.specs.Follows.{Read, IsRead, IsReady, HasAll, seen, IsAtPoint, IsSeed, Follows, Added, Stopped, IsFollowed, Overflows, IsAll}
 use Rattle.asl_backward_flow.proofs.Leasts.{needed_inside, needed_least}
 use Rattle.asl_backward_flow.proofs.Sound.{seed_needed}
 
@@ -29,7 +28,7 @@ body_named : (x : code.Region) (g : ℕ) → region_of x ≡ Body g → x ≡ va
 body_named (variant.Body h) g e = ap variant.Body (ap number_of e)
 body_named (variant.Section n) g e = absurd cc
 
-module _ (r : Read) (read : IsRead r) (t : Table) (so : IsFollowed r t (length t.facts)) where
+module _ (r : Read) (read : IsRead r) (t : Table) (so : IsFollowed r t []) where
   abbrev Is : Region → ℕ → Lock → Type 0
   Is region q m = Needed r.lowered r.classes r.stores r.longest region q m
 
@@ -38,7 +37,10 @@ module _ (r : Read) (read : IsRead r) (t : Table) (so : IsFollowed r t (length t
   FoundToo region q m = Is region q m × ((p : ℕ) (s : Span) → slice_get r.spans p ≡ Some s → region_of s.region ≡ region → HasFact t p q m)
 
   follow : (p q : ℕ) (m : Lock) (x y : ℕ) (n : Lock) → HasFact t p q m → Follows r p q m x y n → HasFact t x y n
-  follow p q m x y n has f = so.closed has.1.0 (fact p q has.0) m (slice_get_within t.facts has.1.0 _ has.1.1) has.1.1 has.2 x y n f
+  follow p q m x y n has f = ⊎_elim (λ w. absurd (none w.0 _ w.1)) (λ (all : HasAll t (Follows r p q m)). all x y n f) (so.closed p q has.0 m has.1 has.2)
+    where
+      none : (k : ℕ) (g : Fact) → slice_get {X = Fact} [] k ≡ Some g → ⊥
+      none k g e = cc
 
   point : (region : Region) (f pc p : ℕ) (s : Span) → IsIn r.lowered region f pc → slice_get r.spans p ≡ Some s → region_of s.region ≡ region → (f ≡ s.function) × IsAtPoint r p pc
   point region f pc p s isin there e = let at = (read.spans.each p s there).points f pc (subst (λ x. IsIn r.lowered x f pc) (sym e) isin) in (at.0, (s, there, at.1, at.2))
@@ -112,61 +114,54 @@ module _ (r : Read) (read : IsRead r) (t : Table) (so : IsFollowed r t (length t
     full = λ p q m n. (needed_least r.lowered r.classes r.stores r.longest FoundToo found_closed (region_of n.0.region) q m n.2).1 p n.0 n.1 refl;
   }
 
-nothing_blank : (count p n : ℕ) (m : Lock) → slice_get (unwrap_or (slice_get (replicate {A = List Lock} count []) p) []) n ≡ Some m → ⊥
-nothing_blank zero p n m e = cc
-nothing_blank (suc count) zero n m e = cc
-nothing_blank (suc count) (suc p) n m e = nothing_blank count p n m e
+no_name : (t : Table) (spans : List Span) → IsBlank t spans → (p : ℕ) (m : Lock) → IsName t p m → ⊥
+no_name t spans blank p m at = blank.locks p at.0 m at.1
 
-no_name : (t : Table) (count : ℕ) → IsBlank t count → (p : ℕ) (m : Lock) → IsName t p m → ⊥
-no_name t count blank p m at = nothing_blank count p at.0 m (ap (λ l. slice_get (unwrap_or (slice_get l p) []) at.0) (sym blank.locks) ∙ at.1)
+no_fact : (t : Table) (spans : List Span) → IsBlank t spans → (p q : ℕ) (m : Lock) → HasFact t p q m → ⊥
+no_fact t spans blank p q m has = blank.sets p q has.0 has.1
 
-no_fact : (t : Table) (count : ℕ) → IsBlank t count → (p q : ℕ) (m : Lock) → HasFact t p q m → ⊥
-no_fact t count blank p q m has = no_name t count blank p m (has.0, has.2)
+few_names : (l : List Lock) → ((n : ℕ) (m : Lock) → slice_get l n ≡ Some m → ⊥) → length l ≤ 4096
+few_names [] none = omega arith
+few_names (m ∷ l) none = absurd (none 0 m refl)
 
-few_blank : (count p : ℕ) → length (unwrap_or (slice_get (replicate {A = List Lock} count []) p) []) ≤ 4096
-few_blank zero p = omega arith
-few_blank (suc count) zero = omega arith
-few_blank (suc count) (suc p) = few_blank count p
-
-many_blank : (count : ℕ) → length (replicate {A = List Lock} count []) ≡ count
-many_blank zero = refl
-many_blank (suc count) = ap suc (many_blank count)
-
-pub blank_ready : (r : Read) (t : Table) (count : ℕ) → count ≡ length r.spans → IsBlank t count → IsReady r t
-blank_ready r t count same blank = record {
-  count = ap length blank.locks ∙ many_blank count ∙ same;
+pub blank_ready : (r : Read) (t : Table) → IsBlank t r.spans → IsReady r t
+blank_ready r t blank = record {
+  regions = blank.regions;
+  count = blank.count;
+  points = λ p q at. blank.points p q at.0 at.1 at.2 at.3;
   whole = record {
-    valid = λ n f at. absurd (none n f (ap (λ fs. slice_get fs n) (sym blank.facts) ∙ at));
-    apart = λ p m n a at_m at_n. absurd (no_name t count blank p a (m, at_m));
-    few = λ p. subst (λ l. length (unwrap_or (slice_get l p) []) ≤ 4096) (sym blank.locks) (few_blank count p);
+    named = λ p q n h. absurd (blank.sets p q n h);
+    listed = λ f at. absurd (none at.0 f (ap (λ l. slice_get l at.0) (sym blank.list) ∙ at.1));
+    apart = λ p m n a at_m at_n. absurd (blank.locks p m a at_m);
+    few = λ p. few_names (locks_of t p) (blank.locks p);
   };
 }
   where
     none : (n : ℕ) (f : Fact) → slice_get {X = Fact} [] n ≡ Some f → ⊥
     none n f e = cc
 
--- with the seeds alone nothing is followed yet
-pub followed_begin : (r : Read) (t new : Table) (count : ℕ) → IsRead r → IsBlank t count → Added r t new (IsSeed r) → IsFollowed r new 0
-followed_begin r t new count read blank x = record {
+-- with the seeds alone all that is found waits
+pub followed_begin : (r : Read) (t new : Table) → IsRead r → IsBlank t r.spans → Added r t new (IsSeed r) → IsFollowed r new new.list
+followed_begin r t new read blank x = record {
   ready = x.ready;
-  sound = λ p q m h. ⊎_elim (λ o. absurd (no_fact t count blank p q m o)) (λ k. seed_needed r read p q m k) (x.adds.only.facts p q m h);
-  names = λ p m h. ⊎_elim (λ o. absurd (no_name t count blank p m o)) (λ k. (k.0, seed_needed r read p k.0 m k.1)) (x.adds.only.names p m h);
+  sound = λ p q m h. ⊎_elim (λ o. absurd (no_fact t r.spans blank p q m o)) (λ k. seed_needed r read p q m k) (x.adds.only.facts p q m h);
+  names = λ p m h. ⊎_elim (λ o. absurd (no_name t r.spans blank p m o)) (λ k. (k.0, seed_needed r read p k.0 m k.1)) (x.adds.only.names p m h);
   seeds = x.has;
-  closed = λ j f m lt. absurd (omega (arith, lt));
+  closed = λ p q n m h e. ⊎_elim (λ was. absurd (blank.sets p q n was)) (λ l. inl l) (x.lists.fresh p q n h);
 }
 
-pub seeds_over : (r : Read) (t new : Table) (count : ℕ) (fault : AddFault) → IsRead r → IsBlank t count → Stopped t new (IsSeed r) fault → (x : Table) × Overflows r x fault
-seeds_over r t new count fault read blank x = (
+pub seeds_over : (r : Read) (t new : Table) (fault : AddFault) → IsRead r → IsBlank t r.spans → Stopped t new (IsSeed r) fault → (x : Table) × Overflows r x fault
+seeds_over r t new fault read blank x = (
   new,
   record {
     over = x.over;
-    names = λ p m h. ⊎_elim (λ o. absurd (no_name t count blank p m o)) (λ k. (k.0, seed_needed r read p k.0 m k.1)) (x.adds.only.names p m h);
+    names = λ p m h. ⊎_elim (λ o. absurd (no_name t r.spans blank p m o)) (λ k. (k.0, seed_needed r read p k.0 m k.1)) (x.adds.only.names p m h);
   },
 )
 
 -- a growth was refused before anything was found
 pub refused_at_first : (r : Read) (fault : AddFault) → fault ≡ OutOfMemory → (t : Table) × Overflows r t fault
-refused_at_first r fault is = subst (λ f. (t : Table) × Overflows r t f) (sym is) (record { locks = []; facts = [] }, record { over = tt; names = λ p m h. absurd (none p h.0 m h.1) })
+refused_at_first r fault is = subst (λ f. (t : Table) × Overflows r t f) (sym is) (record { regions = []; firsts = []; locks = []; sets = []; list = [] }, record { over = tt; names = λ p m h. absurd (none p h.0 m h.1) })
   where
     none : (p n : ℕ) (m : Lock) → slice_get (unwrap_or (slice_get {X = List Lock} [] p) []) n ≡ Some m → ⊥
     none p n m e = cc

@@ -1,5 +1,7 @@
 mod Sets
 mod Tables
+mod Marks
+mod Blanks
 mod Steps
 mod SpanLaws
 mod Rows
@@ -12,7 +14,6 @@ mod Sound
 mod Closing
 mod Completing
 mod Tellings
-mod Grouping
 mod Listing
 pub mod Basing
 pub mod Ending

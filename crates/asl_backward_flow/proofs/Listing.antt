@@ -1,15 +1,19 @@
 -- Lists of what the places of a list say, one after the other.
-use Rattle.std.proofs.Common.{◌≡◌, ◌↔◌, ◌⊎◌, ⊎_elim, ℕ, zero, suc, ◌+◌, ◌<◌, ◌≤◌, List, [], ◌∷◌, Some, length, map, slice_get, inl, inr, ap, sym, subst, ◌∙◌, arith}
-use Rattle.std.proofs.lemmas.Option.{slice_get_within}
+use Rattle.std.proofs.Common.{◌≡◌, ◌↔◌, ◌⊎◌, ⊎_elim, ℕ, zero, suc, ◌+◌, ◌<◌, ◌≤◌, List, [], ◌∷◌, ◌++◌, Bool, true, false, Some, Result, Ok, Err, OnOk, length, map, slice_get, inl, inr, refl, ap, sym, subst, ◌∙◌, arith}
+use Rattle.std.specs.List.{Contains}
+use Rattle.std.proofs.lemmas.Option.{slice_get_within, slice_get-get_or, get_or_from_slice_get}
 use Rattle.asl_code.specs.declared.lock.Lock.{Lock}
 use Rattle.asl_lower.specs.Regions.{Region, Body, Inside}
 use Rattle.asl_lock_expr.specs.Links.{IsOne}
 use Rattle.asl_lock_expr.specs.Order.{AreInOrder}
 use Rattle.asl_backward_flow.specs.declared.region.Region as code
 use Rattle.asl_backward_flow.specs.declared.region.Region.TheVariants as variant
+use Rattle.asl_backward_flow.specs.declared.part.Part as code_part
 use Rattle.asl_backward_flow.specs.Needed.{Part, IsOfPart, IsTold, region_of}
-use Rattle.asl_backward_flow.specs.Parts.{IsNeedAt, IsToldAt, ListsBelow}
-use Rattle.asl_backward_flow.proofs.Sets.{some_same}
+use Rattle.asl_backward_flow.specs.Found.{IsAt, IsNamed, list_at}
+use Rattle.asl_backward_flow.specs.Parts.{part, needs_from, IsNumbered, IsToldAt, ListsBelow}
+use Rattle.asl_lane_sets.specs.NumberSet.{IsIn, members_from, members_of}
+use Rattle.asl_backward_flow.proofs.Sets.{some_same, at_front}
 use Rattle.asl_backward_flow.proofs.SpanLaws.{below_or_at}
 
 module _ (each : ℕ → Lock → Type 0) (first : List Lock) where
@@ -29,32 +33,157 @@ module _ (each : ℕ → Lock → Type 0) (first : List Lock) where
   pub lists_skip : (i : ℕ) (now : List Lock) → ListsBelow each i first now → ((m : Lock) → each i m → ⊥) → ListsBelow each (i + 1) first now
   lists_skip i now so none = lists_more i now now so (λ m. (λ h. inl h, λ h. ⊎_elim (λ o. o) (λ e. absurd (none m e)) h))
 
--- a need of the part
-pub need_here : (p : Part) (pc i x n : ℕ) → slice_get p.needs i ≡ Some (x, n) → x ≡ pc → (now new : List Lock) → ((m : Lock) → IsOne new m ↔ (IsOne now m ⊎ (slice_get p.locks n ≡ Some m)))
-    → (m : Lock) → IsOne new m ↔ (IsOne now m ⊎ IsNeedAt p pc i m)
-need_here p pc i x n at same now new step m = (
-  λ h. ⊎_elim (λ o. inl o) (λ e. inr (n, at ∙ ap (λ y. Some (y, n)) same, e)) ((step m).0 h),
+-- what stands in a list that is made from another
+pub mapped_at : {X Y : Type 0} (f : X → Y) (xs : List X) (n : ℕ) (x : X) → slice_get xs n ≡ Some x → slice_get (map f xs) n ≡ Some (f x)
+mapped_at f [] n x e = absurd cc
+mapped_at f (y ∷ xs) zero x e = ap (λ z. Some (f z)) (some_same e)
+mapped_at f (y ∷ xs) (suc n) x e = mapped_at f xs n x e
+
+-- the lock of one more number
+pub number_more : (locks : List Lock) (numbers : List ℕ) (i n : ℕ) → slice_get numbers i ≡ Some n → (now new : List Lock) → ((m : Lock) → IsOne new m ↔ (IsOne now m ⊎ (slice_get locks n ≡ Some m)))
+    → (m : Lock) → IsOne new m ↔ (IsOne now m ⊎ IsNumbered locks numbers i m)
+number_more locks numbers i n at now new step m = (
+  λ h. ⊎_elim (λ o. inl o) (λ e. inr (n, at, e)) ((step m).0 h),
+  λ h. ⊎_elim (λ o. (step m).1 (inl o)) (λ (k : IsNumbered locks numbers i m). (step m).1 (inr (ap (slice_get locks) (some_same (sym at ∙ k.1)) ∙ k.2))) h,
+)
+
+-- the locks of all numbers of a set
+pub numbers_all : (locks : List Lock) (numbers : List ℕ) (set : List Bool) (end : ℕ) (first new : List Lock) → ((k : ℕ) → Contains numbers k ↔ IsIn set k) → length numbers ≤ end → ListsBelow (IsNumbered locks numbers) end first new
+    → (m : Lock) → IsOne new m ↔ (IsOne first m ⊎ IsNamed locks set m)
+numbers_all locks numbers set end first new tells le so m = (
   λ h.
-      ⊎_elim (λ o. (step m).1 (inl o))
-      (λ (k : IsNeedAt p pc i m).
-      let number : k.0 ≡ n = ap (λ (y : ℕ × ℕ). y.1) (some_same (sym k.1 ∙ at)) in
-      (step m).1 (inr (ap (λ j. slice_get p.locks j) (sym number) ∙ k.2)))
+      ⊎_elim
+      (λ o. inl o)
+      (λ k.
+      let n = k.2.0 in
+      let there = k.2.1 in
+      inr (n, (tells n).0 (k.0, slice_get_within numbers k.0 n there, get_or_from_slice_get numbers k.0 n n there), k.2.2))
+      ((so m).0 h),
+  λ h.
+      ⊎_elim
+      (λ o. (so m).1 (inl o))
+      (λ (k : IsNamed locks set m).
+      let c = (tells k.0).1 k.1 in
+      let lt = c.1 in
+      (so m).1 (inr (c.0, omega (arith, lt, le), (k.0, slice_get-get_or numbers c.0 k.0 c.1 ∙ ap Some c.2, k.2))))
       h,
 )
 
-pub need_elsewhere : (p : Part) (pc i x n : ℕ) → slice_get p.needs i ≡ Some (x, n) → ¬ (x ≡ pc) → (m : Lock) → IsNeedAt p pc i m → ⊥
-need_elsewhere p pc i x n at not m k = not (ap (λ (y : ℕ × ℕ). y.0) (some_same (sym at ∙ k.1)))
+-- the members of a set, from a number on
+members_at : (set : List Bool) (first n i : ℕ) → slice_get (members_from first set) i ≡ Some n → (k : ℕ) × (n ≡ first + k) × IsIn set k
+members_at [] first n i e = absurd (nothing i e)
+  where
+    nothing : (k : ℕ) → slice_get {X = ℕ} [] k ≡ Some n → ⊥
+    nothing k h = cc
+members_at (true ∷ set) first n zero e = let is : first ≡ n = some_same e in (0, omega (arith, is), refl)
+members_at (true ∷ set) first n (suc i) e = let r = members_at set (first + 1) n i e in let is = r.1 in (suc r.0, omega (arith, is), r.2)
+members_at (false ∷ set) first n i e = let r = members_at set (first + 1) n i e in let is = r.1 in (suc r.0, omega (arith, is), r.2)
 
-pub needs_all : (p : Part) (pc end : ℕ) (first locks : List Lock) → length p.needs ≤ end → ListsBelow (IsNeedAt p pc) end first locks → (m : Lock) → IsOne locks m ↔ (IsOne first m ⊎ IsOfPart p pc m)
-needs_all p pc end first locks le so m = (
-  λ h. ⊎_elim (λ o. inl o) (λ k. inr (k.2.0, k.0, k.2.1, k.2.2)) ((so m).0 h),
+at_members : (set : List Bool) (first k n : ℕ) → n ≡ first + k → IsIn set k → IsAt (members_from first set) n
+at_members [] first k n is h = absurd (nothing k h)
+  where
+    nothing : (i : ℕ) → slice_get {X = Bool} [] i ≡ Some true → ⊥
+    nothing i e = cc
+at_members (true ∷ set) first zero n is h = let same : first ≡ n = omega (arith, is) in (0, ap Some same)
+at_members (true ∷ set) first (suc k) n is h = let r = at_members set (first + 1) k n (omega (arith, is)) h in (suc r.0, r.1)
+at_members (false ∷ set) first zero n is h = absurd (differ h)
+  where
+    differ : Some false ≡ Some true → ⊥
+    differ e = cc
+at_members (false ∷ set) first (suc k) n is h = let r = at_members set (first + 1) k n (omega (arith, is)) h in (r.0, r.1)
+
+module _ {A : Type 0} where
+  at_either : (xs ys : List A) (x : A) (i : ℕ) → slice_get (xs ++ ys) i ≡ Some x → IsAt xs x ⊎ IsAt ys x
+  at_either [] ys x i e = inr (i, e)
+  at_either (y ∷ xs) ys x zero e = inl (0, e)
+  at_either (y ∷ xs) ys x (suc i) e = ⊎_elim (λ o. inl (suc o.0, o.1)) (λ o. inr o) (at_either xs ys x i e)
+
+  at_right : (xs ys : List A) (x : A) → IsAt ys x → IsAt (xs ++ ys) x
+  at_right [] ys x h = h
+  at_right (y ∷ xs) ys x h = let r = at_right xs ys x h in (suc r.0, r.1)
+
+pairs_at : (pc : ℕ) (ns : List ℕ) (q n i : ℕ) → slice_get {X = ℕ × ℕ} (map (λ j. (pc, j)) ns) i ≡ Some (q, n) → (q ≡ pc) × IsAt ns n
+pairs_at pc [] q n i e = absurd (nothing i e)
+  where
+    nothing : (k : ℕ) → slice_get {X = ℕ × ℕ} [] k ≡ Some (q, n) → ⊥
+    nothing k h = cc
+pairs_at pc (x ∷ ns) q n zero e =
+    let is : (pc, x) ≡ (q, n) = some_same e in
+    let number : x ≡ n = ap (λ (y : ℕ × ℕ). y.1) is in
+    (sym (ap (λ (y : ℕ × ℕ). y.0) is), (0, ap Some number))
+pairs_at pc (x ∷ ns) q n (suc i) e = let r = pairs_at pc ns q n i e in (r.0, (suc r.1.0, r.1.1))
+
+-- the needs that sets tell
+needs_at : (sets : List (List Bool)) (first q n i : ℕ) → slice_get {X = ℕ × ℕ} (needs_from first sets) i ≡ Some (q, n) → (k : ℕ) × (q ≡ first + k) × IsIn (list_at sets k) n
+needs_at [] first q n i e = absurd (nothing i e)
+  where
+    nothing : (k : ℕ) → slice_get {X = ℕ × ℕ} [] k ≡ Some (q, n) → ⊥
+    nothing k h = cc
+needs_at (set ∷ sets) first q n i e =
+    ⊎_elim
+    (λ o.
+    let pair = pairs_at first (members_of set) q n o.0 o.1 in
+    let m = members_at set 0 n pair.1.0 pair.1.1 in
+    let is = m.1 in
+    let same : m.0 ≡ n = omega (arith, is) in
+    let pc = pair.0 in
+    (0, omega (arith, pc), subst (IsIn set) same m.2))
+    (λ o. let r = needs_at sets (first + 1) q n o.0 o.1 in let is = r.1 in (suc r.0, omega (arith, is), r.2))
+    (at_either (map (λ j. (first, j)) (members_of set)) (needs_from (first + 1) sets) (q, n) i e)
+
+at_needs : (sets : List (List Bool)) (first k n q : ℕ) → q ≡ first + k → IsIn (list_at sets k) n → IsAt (needs_from first sets) (q, n)
+at_needs [] first k n q is h = absurd (nothing n h)
+  where
+    nothing : (i : ℕ) → slice_get {X = Bool} [] i ≡ Some true → ⊥
+    nothing i e = cc
+at_needs (set ∷ sets) first zero n q is h =
+    let m = at_members set 0 n n (omega arith) h in
+    let same : first ≡ q = omega (arith, is) in
+    let pair = mapped_at (λ j. (first, j)) (members_of set) m.0 n m.1 in
+    (m.0, at_front (map (λ j. (first, j)) (members_of set)) (needs_from (first + 1) sets) m.0 (first, n) pair ∙ ap (λ x. Some (x, n)) same)
+at_needs (set ∷ sets) first (suc k) n q is h = at_right (map (λ j. (first, j)) (members_of set)) (needs_from (first + 1) sets) (q, n) (at_needs sets (first + 1) k n q (omega (arith, is)) h)
+
+-- what a region needs at a pc is what the set of the pc says
+pub of_part : (d : code_part.Part) (q : ℕ) (m : Lock) → IsOfPart (part d) q m → (k : ℕ) × (q ≡ d.first + k) × IsNamed d.locks.keys (list_at d.needs.items k) m
+of_part d q m h = let at = needs_at d.needs.items d.first q h.0 h.1 h.2 in (at.0, at.1, (h.0, at.2, h.3))
+
+pub part_of : (d : code_part.Part) (k : ℕ) (m : Lock) → IsNamed d.locks.keys (list_at d.needs.items k) m → IsOfPart (part d) (d.first + k) m
+part_of d k m h = let at = at_needs d.needs.items d.first k h.0 (d.first + k) refl h.1 in (h.0, at.0, at.1, h.2)
+
+-- the set of a pc, which may be empty
+pub part_locks : (d : code_part.Part) (q k : ℕ) (set : List Bool) (now new : List Lock) → q ≡ d.first + k → list_at d.needs.items k ≡ set → ((m : Lock) → IsOne new m ↔ (IsOne now m ⊎ IsNamed d.locks.keys set m))
+    → (m : Lock) → IsOne new m ↔ (IsOne now m ⊎ IsOfPart (part d) q m)
+part_locks d q k set now new at is step m = (
+  λ h. ⊎_elim (λ o. inl o) (λ e. inr (subst (λ x. IsOfPart (part d) x m) (sym at) (part_of d k m (subst (λ s. IsNamed d.locks.keys s m) (sym is) e)))) ((step m).0 h),
   λ h.
-      ⊎_elim (λ o. (so m).1 (inl o))
-      (λ (k : IsOfPart p pc m).
-      let lt = slice_get_within p.needs k.1 _ k.2 in
-      (so m).1 (inr (k.1, omega (arith, lt, le), (k.0, k.2, k.3))))
+      ⊎_elim
+      (λ o. (step m).1 (inl o))
+      (λ e.
+      let of = of_part d q m e in
+      let place = of.1 in
+      let same : of.0 ≡ k = omega (arith, place, at) in
+      (step m).1 (inr (subst (λ s. IsNamed d.locks.keys s m) is (subst (λ j. IsNamed d.locks.keys (list_at d.needs.items j) m) same of.2))))
       h,
 )
+
+pub part_locks_ok : {E : Type 0} (d : code_part.Part) (q k : ℕ) (set : List Bool) (now new : List Lock) → q ≡ d.first + k → list_at d.needs.items k ≡ set → (result : Result Unit E)
+    → OnOk result ((m : Lock) → IsOne new m ↔ (IsOne now m ⊎ IsNamed d.locks.keys set m)) → OnOk result ((m : Lock) → IsOne new m ↔ (IsOne now m ⊎ IsOfPart (part d) q m))
+part_locks_ok d q k set now new at is (Ok u) step = part_locks d q k set now new at is step
+part_locks_ok d q k set now new at is (Err e) step = tt
+
+-- no set is at the pc
+pub part_none : (d : code_part.Part) (q : ℕ) (now : List Lock) → ((k : ℕ) → q ≡ d.first + k → list_at d.needs.items k ≡ []) → (m : Lock) → IsOne now m ↔ (IsOne now m ⊎ IsOfPart (part d) q m)
+part_none d q now none m = (
+  λ h. inl h,
+  λ h.
+      ⊎_elim
+      (λ o. o)
+      (λ e. let of = of_part d q m e in absurd (nothing of.2.0 (subst (λ s. IsIn s of.2.0) (none of.0 of.1) of.2.1)))
+      h,
+)
+  where
+    nothing : (i : ℕ) → IsIn [] i → ⊥
+    nothing i e = cc
 
 -- a part of the region
 pub part_here : (parts : List Part) (r : Region) (pc i : ℕ) (p : Part) → slice_get parts i ≡ Some p → p.region ≡ r → (now new : List Lock) → ((m : Lock) → IsOne new m ↔ (IsOne now m ⊎ IsOfPart p pc m))
@@ -74,12 +203,6 @@ parts_all parts r pc end locks le so m = (
       let lt = slice_get_within parts k.0 k.1 k.2 in
       (so m).1 (inr (k.0, omega (arith, lt, le), (k.1, k.2, k.3, k.4))),
 )
-
--- what stands in a list that is made from another
-pub mapped_at : {X Y : Type 0} (f : X → Y) (xs : List X) (n : ℕ) (x : X) → slice_get xs n ≡ Some x → slice_get (map f xs) n ≡ Some (f x)
-mapped_at f [] n x e = absurd cc
-mapped_at f (y ∷ xs) zero x e = ap (λ z. Some (f z)) (some_same e)
-mapped_at f (y ∷ xs) (suc n) x e = mapped_at f xs n x e
 
 -- a list that is another
 pub listed_same : (each : ℕ → Lock → Type 0) (first : List Lock) (i : ℕ) (new locks : List Lock) → new ≡ locks → AreInOrder locks → ListsBelow each i first locks

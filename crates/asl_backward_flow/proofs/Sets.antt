@@ -6,8 +6,7 @@ use Rattle.std.proofs.lemmas.Map.Keys.{apart_from_distinct}
 use Rattle.std.proofs.lemmas.Bool.{cases_lt}
 use Rattle.indexmap.specs.IndexSet.{insert_key}
 use Rattle.asl_code.specs.declared.lock.Lock.{Lock}
-use Rattle.asl_backward_flow.specs.declared.found.Fact.{Fact}
-use Rattle.asl_backward_flow.specs.Found.{Numbers, Holds}
+use Rattle.asl_backward_flow.specs.Found.{Numbers}
 
 module _ {A : Type 0} where
   pub some_same : {x y : A} → Some x ≡ Some y → x ≡ y
@@ -79,16 +78,4 @@ same_numbers eq itself old new lock is distinct = record {
   only = λ n m e. inl (ap (λ l. slice_get l n) (sym is) ∙ e);
   apart = distinct_apart eq itself new distinct;
   longer = subst (λ l. length l ≤ length old + 1) (sym is) (omega arith);
-}
-
-pub made_holds : (eq : Fact → Fact → Bool) (old new : List Fact) (f : Fact) → new ≡ insert_key eq old f → Holds old new f
-made_holds eq old new f is = record {
-  kept = λ n g e. ap (λ l. slice_get l n) is ∙ insert_kept eq old f n g e;
-  only = λ n g e. insert_only eq old f n g (ap (λ l. slice_get l n) (sym is) ∙ e);
-}
-
-pub same_holds : (old new : List Fact) (f : Fact) → new ≡ old → Holds old new f
-same_holds old new f is = record {
-  kept = λ n g e. ap (λ l. slice_get l n) is ∙ e;
-  only = λ n g e. inl (ap (λ l. slice_get l n) (sym is) ∙ e);
 }

@@ -3,20 +3,32 @@ use Rattle.std.proofs.Common.{◌≡◌, ⊎_elim, ℕ, ◌<◌, List, [], ◌�
 use Rattle.asl_code.specs.declared.lock.Lock.{Lock}
 use Rattle.asl_lock_expr.specs.Links.{IsOne}
 use Rattle.asl_lock_expr.proofs.Ones.{one_left, one_right, one_either}
-use Rattle.asl_backward_flow.specs.Found.{Table, HasFact, IsWhole, Grows, Adds, AddsSome}
+use Rattle.asl_backward_flow.specs.Found.{Table, HasFact, HasPoint, IsWhole, Grows, Adds, Lists, AddsSome}
 
 pub grows_same : (t : Table) → Grows t t
-grows_same t = record { parts = refl; names = λ p n m e. e; facts = λ n f e. e }
+grows_same t = record { regions = refl; parts = refl; names = λ p n m e. e; points = λ p q h. h; facts = λ p q n h. h }
 
 pub grows_on : (a b c : Table) → Grows a b → Grows b c → Grows a c
 grows_on a b c x y = record {
+  regions = y.regions ∙ x.regions;
   parts = y.parts ∙ x.parts;
   names = λ p n m e. y.names p n m (x.names p n m e);
-  facts = λ n f e. y.facts n f (x.facts n f e);
+  points = λ p q h. y.points p q (x.points p q h);
+  facts = λ p q n h. y.facts p q n (x.facts p q n h);
 }
 
 pub has_still : (a b : Table) → Grows a b → (p q : ℕ) (m : Lock) → HasFact a p q m → HasFact b p q m
-has_still a b g p q m has = (has.0, (has.1.0, g.facts has.1.0 _ has.1.1), g.names p has.0 m has.2)
+has_still a b g p q m has = (has.0, g.facts p q has.0 has.1, g.names p has.0 m has.2)
+
+pub lists_same : (t : Table) → Lists t t
+lists_same t = record { stay = λ f h. h; fresh = λ p q n h. inl h; less = omega arith }
+
+pub lists_on : (a b c : Table) → Lists a b → Lists b c → Lists a c
+lists_on a b c x y = record {
+  stay = λ f h. y.stay f (x.stay f h);
+  fresh = λ p q n h. ⊎_elim (λ k. ⊎_elim (λ o. inl o) (λ l. inr (y.stay _ l)) (x.fresh p q n k)) (λ l. inr l) (y.fresh p q n h);
+  less = let one = x.less in let two = y.less in omega (arith, one, two);
+}
 
 pub adds_same : (t : Table) (these : ℕ → ℕ → Lock → Type 0) → Adds t t these
 adds_same t these = record { grows = grows_same t; only = record { facts = λ p q m h. inl h; names = λ p m h. inl h } }
@@ -34,20 +46,22 @@ adds_on a b c these those all left right x y = record {
   };
 }
 
-pub adds_some_begin : (t : Table) (p q : ℕ) (all : List Lock) → p < length t.locks → IsWhole t → AddsSome t t p q all all
-adds_some_begin t p q all there whole = record { there = there; whole = whole; adds = adds_same t _; rest = λ m h. h; has = λ m h. inl h }
+pub adds_some_begin : (t : Table) (p q : ℕ) (all : List Lock) → p < length t.locks → HasPoint t p q → IsWhole t → AddsSome t t p q all all
+adds_some_begin t p q all there point whole = record { there = there; point = point; whole = whole; adds = adds_same t _; lists = lists_same t; of = λ m h. h; has = λ m h. inl h }
 
 -- one more is taken from the end, and added
 pub adds_some_more : (initial now new : Table) (p q : ℕ) (all left rest : List Lock) (lock : Lock) → AddsSome initial now p q all left → left ≡ rest ++ lock ∷ []
-    → Adds now new (λ r s m. (r ≡ p) × (s ≡ q) × (m ≡ lock)) → IsWhole new → HasFact new p q lock → AddsSome initial new p q all rest
-adds_some_more initial now new p q all left rest lock so is adds whole has =
+    → Adds now new (λ r s m. (r ≡ p) × (s ≡ q) × (m ≡ lock)) → IsWhole new → HasFact new p q lock → Lists now new → AddsSome initial new p q all rest
+adds_some_more initial now new p q all left rest lock so is adds whole has lists =
     let in_left : IsOne left lock = subst (λ l. IsOne l lock) (sym is) (one_right rest (lock ∷ []) lock (inl refl)) in
-    let of_all = so.rest lock in_left in
+    let of_all = so.of lock in_left in
     record {
       there = subst (λ n. p < n) (sym adds.grows.parts) so.there;
+      point = adds.grows.points p q so.point;
+      lists = lists_on initial now new so.lists lists;
       whole = whole;
       adds = adds_on initial now new _ _ _ (λ r s m h. h) (λ r s m h. (h.0, h.1, subst (IsOne all) (sym h.2) of_all)) so.adds adds;
-      rest = λ m h. so.rest m (subst (λ l. IsOne l m) (sym is) (one_left rest (lock ∷ []) m h));
+      of = λ m h. so.of m (subst (λ l. IsOne l m) (sym is) (one_left rest (lock ∷ []) m h));
       has = λ m h.
           ⊎_elim
           (λ (k : IsOne left m).
@@ -65,7 +79,7 @@ pub adds_some_refused : (initial now new : Table) (p q : ℕ) (all left rest : L
     → Adds now new (λ r s m. (r ≡ p) × (s ≡ q) × (m ≡ lock)) → Adds initial new (λ r s m. (r ≡ p) × (s ≡ q) × IsOne all m)
 adds_some_refused initial now new p q all left rest lock so is adds =
     let in_left : IsOne left lock = subst (λ l. IsOne l lock) (sym is) (one_right rest (lock ∷ []) lock (inl refl)) in
-    adds_on initial now new _ _ _ (λ r s m h. h) (λ r s m h. (h.0, h.1, subst (IsOne all) (sym h.2) (so.rest lock in_left))) so.adds adds
+    adds_on initial now new _ _ _ (λ r s m h. h) (λ r s m h. (h.0, h.1, subst (IsOne all) (sym h.2) (so.of lock in_left))) so.adds adds
 
 pub adds_some_all : (initial now : Table) (p q : ℕ) (all left : List Lock) → AddsSome initial now p q all left → length left ≡ 0 → (m : Lock) → IsOne all m → HasFact now p q m
 adds_some_all initial now p q all [] so none m h = ⊎_elim (λ k. absurd k) (λ f. f) (so.has m h)

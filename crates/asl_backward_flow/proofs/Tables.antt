@@ -1,165 +1,317 @@
 -- What one addition does to what is found.
-use Rattle.std.proofs.Common.{◌≡◌, ◌≢◌, ◌⊎◌, ⊎_elim, ℕ, zero, suc, ◌<◌, ◌≤◌, List, [], ◌∷◌, Some, length, map, slice_get, slice_set, unwrap_or, inl, inr, refl, ap, sym, subst, ap₂, get_or, length-set, ◌∙◌, arith}
+use Rattle.std.proofs.Common.{◌≡◌, ◌≢◌, ◌⊎◌, ⊎_elim, if◌then◌else◌, ℕ, zero, suc, ◌+◌, ◌<◌, ◌≤◌, Bool, true, false, List, [], ◌∷◌, ◌++◌, Some, length, map, slice_get, slice_set, unwrap_or, inl, inr, refl, ap, sym, subst, get_or, length-set, length-append, ◌∙◌, arith}
+use Rattle.std.specs.List.{sum_by}
 use Rattle.std.proofs.lemmas.Bool.Decides.{eqb_tells}
 use Rattle.std.proofs.lemmas.List.{length-map}
+use Rattle.std.proofs.lemmas.List.Sums.{sum_by-set}
 use Rattle.asl_code.specs.declared.lock.Lock.{Lock}
+use Rattle.asl_lane_sets.specs.NumberSet.{IsIn}
+use Rattle.asl_backward_flow.specs.declared.part.Part.{Part}
 use Rattle.asl_backward_flow.specs.declared.found.Fact.{Fact}
-use Rattle.asl_backward_flow.specs.Found.{IsAt, AreApart, fact, HasFact, IsWhole, Grows, Only, Adds, Numbers, Holds}
-use Rattle.asl_backward_flow.proofs.Sets.{some_same}
+use Rattle.asl_backward_flow.specs.Found.{Table, table_of, IsAt, AreApart, list_at, locks_of, first_of, sets_of, fact, HasPoint, Has, HasFact, IsWhole, Adds, Lists, Numbers, IsMarked, free_in}
+use Rattle.asl_backward_flow.proofs.Sets.{some_same, at_front, at_push, at_last}
 
--- the list of a region in lists of which one is replaced
-abbrev pub list_at : List (List Lock) → ℕ → List Lock
-list_at lists q = unwrap_or (slice_get lists q) []
+module _ {A : Type 0} where
+  pub list_here : (lists : List (List A)) (p : ℕ) (new : List A) → p < length lists → list_at (slice_set lists p new) p ≡ new
+  list_here [] p new h = absurd (omega arith)
+  list_here (l ∷ ls) zero new h = refl
+  list_here (l ∷ ls) (suc p) new h = list_here ls p new (omega arith)
 
-pub list_here : (lists : List (List Lock)) (p : ℕ) (new : List Lock) → p < length lists → list_at (slice_set lists p new) p ≡ new
-list_here [] p new h = absurd (omega arith)
-list_here (l ∷ ls) zero new h = refl
-list_here (l ∷ ls) (suc p) new h = list_here ls p new (omega arith)
+  pub list_else : (lists : List (List A)) (p q : ℕ) (new : List A) → q ≢ p → list_at (slice_set lists p new) q ≡ list_at lists q
+  list_else [] p q new h = refl
+  list_else (l ∷ ls) zero zero new h = absurd (h refl)
+  list_else (l ∷ ls) zero (suc q) new h = refl
+  list_else (l ∷ ls) (suc p) zero new h = refl
+  list_else (l ∷ ls) (suc p) (suc q) new h = list_else ls p q new (λ e. h (ap suc e))
 
-pub list_else : (lists : List (List Lock)) (p q : ℕ) (new : List Lock) → q ≢ p → list_at (slice_set lists p new) q ≡ list_at lists q
-list_else [] p q new h = refl
-list_else (l ∷ ls) zero zero new h = absurd (h refl)
-list_else (l ∷ ls) zero (suc q) new h = refl
-list_else (l ∷ ls) (suc p) zero new h = refl
-list_else (l ∷ ls) (suc p) (suc q) new h = list_else ls p q new (λ e. h (ap suc e))
+  -- a fact of each list from one of the list before
+  pub list_each : (lists : List (List A)) (p : ℕ) (new : List A) → p < length lists → (P : ℕ → List A → Type 0) → P p new → ((q : ℕ) → q ≢ p → P q (list_at lists q)) → (q : ℕ) → P q (list_at (slice_set lists p new) q)
+  list_each lists p new there P here rest q =
+      ⊎_elim
+      (λ t. subst (λ r. P r (list_at (slice_set lists p new) r)) (sym t.1) (subst (P p) (sym (list_here lists p new there)) here))
+      (λ t. subst (P q) (sym (list_else lists p q new t.1)) (rest q t.1))
+      (eqb_tells q p)
+
+  pub list_of : {X : Type 0} (keys : X → List A) (items : List X) (p : ℕ) (d : X) → p < length items → list_at (map keys items) p ≡ keys (get_or items p d)
+  list_of keys [] p d h = absurd (omega arith)
+  list_of keys (x ∷ xs) zero d h = refl
+  list_of keys (x ∷ xs) (suc p) d h = list_of keys xs p d (omega arith)
 
 pub map_set : {A B : Type 0} (f : A → B) (xs : List A) (n : ℕ) (y : A) → map f (slice_set xs n y) ≡ slice_set (map f xs) n (f y)
 map_set f [] n y = refl
 map_set f (x ∷ xs) zero y = refl
 map_set f (x ∷ xs) (suc n) y = ap (λ ys. f x ∷ ys) (map_set f xs n y)
 
-module _ (lists : List (List Lock)) (p : ℕ) (there : p < length lists) (new : List Lock) (lock : Lock) (h : Numbers (list_at lists p) new lock) where
-  abbrev after : List (List Lock)
-  after = slice_set lists p new
+map_same : {A B : Type 0} (f : A → B) (xs : List A) (n : ℕ) (y : A) → f y ≡ f (get_or xs n y) → map f (slice_set xs n y) ≡ map f xs
+map_same f [] n y e = refl
+map_same f (x ∷ xs) zero y e = ap (λ z. z ∷ map f xs) e
+map_same f (x ∷ xs) (suc n) y e = ap (λ ys. f x ∷ ys) (map_same f xs n y e)
 
-  -- a fact of each list of `after` from one of the list before
-  each : (P : ℕ → List Lock → Type 0) → P p new → ((q : ℕ) → q ≢ p → P q (list_at lists q)) → (q : ℕ) → P q (list_at after q)
-  each P here else q =
-      ⊎_elim
-      (λ t. subst (λ r. P r (list_at after r)) (sym t.1) (subst (P p) (sym (list_here lists p new there)) here))
-      (λ t. subst (P q) (sym (list_else lists p q new t.1)) (else q t.1))
-      (eqb_tells q p)
+-- one region has these locks and these sets now, and all else stays
+pub record Step (old new : Table) (p : ℕ) (keys : List Lock) (sets : List (List Bool)) : Type 0 where
+  pub regions : new.regions ≡ old.regions
+  pub firsts : new.firsts ≡ old.firsts
+  pub there : p < length old.locks
+  pub too : p < length old.sets
+  pub locks_are : new.locks ≡ slice_set old.locks p keys
+  pub sets_are : new.sets ≡ slice_set old.sets p sets
 
-  pub names_kept : (q n : ℕ) (m : Lock) → slice_get (list_at lists q) n ≡ Some m → slice_get (list_at after q) n ≡ Some m
-  names_kept q = each (λ r l. (n : ℕ) (m : Lock) → slice_get (list_at lists r) n ≡ Some m → slice_get l n ≡ Some m) h.kept (λ r no n m e. e) q
-
-  pub names_only : (q n : ℕ) (m : Lock) → slice_get (list_at after q) n ≡ Some m → slice_get (list_at lists q) n ≡ Some m ⊎ ((q ≡ p) × (m ≡ lock))
-  names_only q =
-      each (λ r l. (n : ℕ) (m : Lock) → slice_get l n ≡ Some m → slice_get (list_at lists r) n ≡ Some m ⊎ ((r ≡ p) × (m ≡ lock)))
-      (λ n m e. ⊎_elim (λ x. inl x) (λ x. inr (refl, x)) (h.only n m e)) (λ r no n m e. inl e) q
-
-  pub names_apart : ((q : ℕ) → AreApart (list_at lists q)) → (q : ℕ) → AreApart (list_at after q)
-  names_apart old q = each (λ r l. AreApart l) h.apart (λ r no. old r) q
-
-  pub names_few : ((q : ℕ) → length (list_at lists q) ≤ 4096) → length new ≤ 4096 → (q : ℕ) → length (list_at after q) ≤ 4096
-  names_few old here q = each (λ r l. length l ≤ 4096) here (λ r no. old r) q
-
-  -- no fact is put in
-  pub named_grows : (facts : List Fact) → Grows (record { locks = lists; facts = facts }) (record { locks = after; facts = facts })
-  named_grows facts = record { parts = length-set lists p new; names = names_kept; facts = λ n f e. e }
-
-  -- a fact with a lock that it names keeps its lock
-  still : (facts : List Fact) → IsWhole (record { locks = lists; facts = facts }) → (q pc n : ℕ) (m : Lock) → IsAt facts (fact q pc n)
-      → slice_get (list_at after q) n ≡ Some m → HasFact (record { locks = lists; facts = facts }) q pc m
-  still facts whole q pc n m at e =
-      let was = whole.valid at.0 (fact q pc n) at.1 in
-      let same : was.0 ≡ m = some_same (sym (names_kept q n was.0 was.1) ∙ e) in
-      (n, at, was.1 ∙ ap Some same)
-
-  pub named_only : (facts : List Fact) (pc : ℕ) → IsWhole (record { locks = lists; facts = facts })
-      → Only (record { locks = lists; facts = facts }) (record { locks = after; facts = facts }) (λ q r m. (q ≡ p) × (r ≡ pc) × (m ≡ lock))
-  named_only facts pc whole = record {
-    facts = λ q r m has. inl (still facts whole q r has.0 m has.1 has.2);
-    names = λ q m at. ⊎_elim (λ x. inl (at.0, x)) (λ x. inr (pc, (x.0, refl, x.1))) (names_only q at.0 m at.1);
-  }
-
-  module _ (facts facts_after : List Fact) (pc number : ℕ) (held : Holds facts facts_after (fact p pc number)) (stored : slice_get new number ≡ Some lock) where
-    pub added_grows : Grows (record { locks = lists; facts = facts }) (record { locks = after; facts = facts_after })
-    added_grows = record { parts = length-set lists p new; names = names_kept; facts = held.kept }
-
-    here_stored : slice_get (list_at after p) number ≡ Some lock
-    here_stored = ap (λ l. slice_get l number) (list_here lists p new there) ∙ stored
-
-    pub added_only : IsWhole (record { locks = lists; facts = facts })
-        → Only (record { locks = lists; facts = facts }) (record { locks = after; facts = facts_after }) (λ q r m. (q ≡ p) × (r ≡ pc) × (m ≡ lock))
-    added_only whole = record {
-      facts = λ q r m has.
-          ⊎_elim
-          (λ old. inl (still facts whole q r has.0 m (has.1.0, old) has.2))
-          (λ (is : fact q r has.0 ≡ fact p pc number).
-          let part : q ≡ p = ap (λ (f : Fact). f.part) is in
-          let at_pc : r ≡ pc = ap (λ (f : Fact). f.pc) is in
-          let of : has.0 ≡ number = ap (λ (f : Fact). f.lock) is in
-          let found : slice_get (list_at after p) number ≡ Some m = ap₂ (λ s n. slice_get (list_at after s) n) (sym part) (sym of) ∙ has.2 in
-          inr (part, at_pc, some_same (sym found ∙ here_stored)))
-          (held.only has.1.0 (fact q r has.0) has.1.1);
-      names = λ q m at. ⊎_elim (λ x. inl (at.0, x)) (λ x. inr (pc, (x.0, refl, x.1))) (names_only q at.0 m at.1);
-    }
-
-    pub added_whole : IsWhole (record { locks = lists; facts = facts }) → length new ≤ 4096 → IsWhole (record { locks = after; facts = facts_after })
-    added_whole whole few = record {
-      valid = λ n f at.
-          ⊎_elim
-          (λ old. let was = whole.valid n f old in (was.0, names_kept f.part f.lock was.0 was.1))
-          (λ (is : f ≡ fact p pc number).
-          (lock, ap₂ (λ s k. slice_get (list_at after s) k) (ap (λ (g : Fact). g.part) is) (ap (λ (g : Fact). g.lock) is) ∙ here_stored))
-          (held.only n f at);
-      apart = names_apart whole.apart;
-      few = names_few whole.few few;
-    }
-
-    pub added_has : IsAt facts_after (fact p pc number) → HasFact (record { locks = after; facts = facts_after }) p pc lock
-    added_has at = (number, at, here_stored)
-
--- one of the lists was replaced
-pub record Change (lists now : List (List Lock)) (p : ℕ) (old new : List Lock) : Type 0 where
-  pub there : p < length lists
-  pub was : list_at lists p ≡ old
-  pub is : now ≡ slice_set lists p new
-
-module _ (lists now : List (List Lock)) (p : ℕ) (old new : List Lock) (lock : Lock) (change : Change lists now p old new) (numbers : Numbers old new lock) where
-  named : Numbers (list_at lists p) new lock
-  named = subst (λ l. Numbers l new lock) (sym change.was) numbers
-
-  pub adds_name : (facts : List Fact) (pc : ℕ) → IsWhole (record { locks = lists; facts = facts })
-      → Adds (record { locks = lists; facts = facts }) (record { locks = now; facts = facts }) (λ q r m. (q ≡ p) × (r ≡ pc) × (m ≡ lock))
-  adds_name facts pc whole =
-      subst (λ l. Adds (record { locks = lists; facts = facts }) (record { locks = l; facts = facts }) (λ q r m. (q ≡ p) × (r ≡ pc) × (m ≡ lock))) (sym change.is)
-      (record { grows = named_grows lists p change.there new lock named facts; only = named_only lists p change.there new lock named facts pc whole })
-
-  pub is_over : (facts : List Fact) → 4096 < length new → (4096 < length (list_at now p)) × AreApart (list_at now p)
-  is_over facts over =
-      let here : new ≡ list_at now p = sym (ap (λ l. list_at l p) change.is ∙ list_here lists p new change.there) in
-      (subst (λ l. 4096 < length l) here over, subst AreApart here numbers.apart)
-
-  module _ (facts facts_after : List Fact) (pc number : ℕ) (held : Holds facts facts_after (fact p pc number)) (stored : slice_get new number ≡ Some lock) where
-    pub adds_fact : IsWhole (record { locks = lists; facts = facts })
-        → Adds (record { locks = lists; facts = facts }) (record { locks = now; facts = facts_after }) (λ q r m. (q ≡ p) × (r ≡ pc) × (m ≡ lock))
-    adds_fact whole =
-        subst (λ l. Adds (record { locks = lists; facts = facts }) (record { locks = l; facts = facts_after }) (λ q r m. (q ≡ p) × (r ≡ pc) × (m ≡ lock))) (sym change.is)
-        (record {
-          grows = added_grows lists p change.there new lock named facts facts_after pc number held stored;
-          only = added_only lists p change.there new lock named facts facts_after pc number held stored whole;
-        })
-
-    pub whole_fact : IsWhole (record { locks = lists; facts = facts }) → length new ≤ 4096 → IsWhole (record { locks = now; facts = facts_after })
-    whole_fact whole few =
-        subst (λ l. IsWhole (record { locks = l; facts = facts_after })) (sym change.is) (added_whole lists p change.there new lock named facts facts_after pc number held stored whole few)
-
-    pub has_fact : IsAt facts_after (fact p pc number) → HasFact (record { locks = now; facts = facts_after }) p pc lock
-    has_fact at =
-        subst (λ l. HasFact (record { locks = l; facts = facts_after }) p pc lock) (sym change.is) (added_has lists p change.there new lock named facts facts_after pc number held stored at)
-
-pub list_of : {X : Type 0} (keys : X → List Lock) (items : List X) (p : ℕ) (d : X) → p < length items → list_at (map keys items) p ≡ keys (get_or items p d)
-list_of keys [] p d h = absurd (omega arith)
-list_of keys (x ∷ xs) zero d h = refl
-list_of keys (x ∷ xs) (suc p) d h = list_of keys xs p d (omega arith)
-
--- a set of locks in a list of sets was replaced
-pub change_of : {X : Type 0} (keys : X → List Lock) (items : List X) (p q : ℕ) (x new : X) → q ≡ p → p < length items → x ≡ get_or items q x
-    → Change (map keys items) (map keys (slice_set items q new)) p (keys x) (keys new)
-change_of keys items p q x new same there is = record {
-  there = subst (λ n. p < n) (sym (length-map items keys)) there;
-  was = list_of keys items p x there ∙ ap keys (ap (λ n. get_or items n x) (sym same) ∙ sym is);
-  is = map_set keys items q new ∙ ap (λ n. slice_set (map keys items) n (keys new)) same;
+pub step_of : (parts : List Part) (p q : ℕ) (x y : Part) (list more : List Fact) → q ≡ p → p < length parts → x ≡ get_or parts q x → y.region ≡ x.region → y.first ≡ x.first
+    → Step (table_of parts list) (table_of (slice_set parts q y) more) p y.locks.keys y.needs.items
+step_of parts p q x y list more same there is region first = record {
+  regions = map_same (λ (z : Part). z.region) parts q y (region ∙ ap (λ (z : Part). z.region) old);
+  firsts = map_same (λ (z : Part). z.first) parts q y (first ∙ ap (λ (z : Part). z.first) old);
+  there = subst (λ n. p < n) (sym (length-map parts (λ (z : Part). z.locks.keys))) there;
+  too = subst (λ n. p < n) (sym (length-map parts (λ (z : Part). z.needs.items))) there;
+  locks_are = map_set (λ (z : Part). z.locks.keys) parts q y ∙ ap (λ n. slice_set (map (λ (z : Part). z.locks.keys) parts) n y.locks.keys) same;
+  sets_are = map_set (λ (z : Part). z.needs.items) parts q y ∙ ap (λ n. slice_set (map (λ (z : Part). z.needs.items) parts) n y.needs.items) same;
 }
+  where
+    within : q < length parts
+    within = omega (arith, same, there)
+
+    one : (xs : List Part) (n : ℕ) (c d : Part) → n < length xs → get_or xs n c ≡ get_or xs n d
+    one [] n c d lt = absurd (omega arith)
+    one (z ∷ xs) zero c d lt = refl
+    one (z ∷ xs) (suc n) c d lt = one xs n c d (omega arith)
+
+    old : x ≡ get_or parts q y
+    old = is ∙ one parts q x y within
+
+-- the locks and the sets of a region before it is changed
+pub locks_before : (parts : List Part) (p q : ℕ) (x : Part) (list : List Fact) → q ≡ p → p < length parts → x ≡ get_or parts q x → locks_of (table_of parts list) p ≡ x.locks.keys
+locks_before parts p q x list same there is = list_of (λ (z : Part). z.locks.keys) parts p x there ∙ ap (λ (z : Part). z.locks.keys) (ap (λ n. get_or parts n x) (sym same) ∙ sym is)
+
+pub sets_before : (parts : List Part) (p q : ℕ) (x : Part) (list : List Fact) → q ≡ p → p < length parts → x ≡ get_or parts q x → sets_of (table_of parts list) p ≡ x.needs.items
+sets_before parts p q x list same there is = list_of (λ (z : Part). z.needs.items) parts p x there ∙ ap (λ (z : Part). z.needs.items) (ap (λ n. get_or parts n x) (sym same) ∙ sym is)
+
+pub first_before : (parts : List Part) (p q : ℕ) (x : Part) (list : List Fact) → q ≡ p → p < length parts → x ≡ get_or parts q x → first_of (table_of parts list) p ≡ x.first
+first_before parts p q x list same there is = first_at parts p there ∙ ap (λ (z : Part). z.first) (ap (λ n. get_or parts n x) (sym same) ∙ sym is)
+  where
+    first_at : (xs : List Part) (n : ℕ) → n < length xs → unwrap_or (slice_get (map (λ (z : Part). z.first) xs) n) 0 ≡ (get_or xs n x).first
+    first_at [] n lt = absurd (omega arith)
+    first_at (z ∷ xs) zero lt = refl
+    first_at (z ∷ xs) (suc n) lt = first_at xs n (omega arith)
+
+module _ (old new : Table) (p : ℕ) (keys : List Lock) (sets : List (List Bool)) (s : Step old new p keys sets) (lock : Lock) (numbers : Numbers (locks_of old p) keys lock) where
+  locks_each : (P : ℕ → List Lock → Type 0) → P p keys → ((q : ℕ) → q ≢ p → P q (locks_of old q)) → (q : ℕ) → P q (locks_of new q)
+  locks_each P here rest q = subst (λ l. P q (list_at l q)) (sym s.locks_are) (list_each old.locks p keys s.there P here rest q)
+
+  sets_each : (P : ℕ → List (List Bool) → Type 0) → P p sets → ((q : ℕ) → q ≢ p → P q (sets_of old q)) → (q : ℕ) → P q (sets_of new q)
+  sets_each P here rest q = subst (λ l. P q (list_at l q)) (sym s.sets_are) (list_each old.sets p sets s.too P here rest q)
+
+  names_kept : (q n : ℕ) (m : Lock) → slice_get (locks_of old q) n ≡ Some m → slice_get (locks_of new q) n ≡ Some m
+  names_kept q = locks_each (λ r l. (n : ℕ) (m : Lock) → slice_get (locks_of old r) n ≡ Some m → slice_get l n ≡ Some m) numbers.kept (λ r no n m e. e) q
+
+  names_only : (q n : ℕ) (m : Lock) → slice_get (locks_of new q) n ≡ Some m → slice_get (locks_of old q) n ≡ Some m ⊎ ((q ≡ p) × (m ≡ lock))
+  names_only q =
+      locks_each (λ r l. (n : ℕ) (m : Lock) → slice_get l n ≡ Some m → slice_get (locks_of old r) n ≡ Some m ⊎ ((r ≡ p) × (m ≡ lock)))
+      (λ n m e. ⊎_elim (λ x. inl x) (λ x. inr (refl, x)) (numbers.only n m e)) (λ r no n m e. inl e) q
+
+  names_apart : ((q : ℕ) → AreApart (locks_of old q)) → (q : ℕ) → AreApart (locks_of new q)
+  names_apart was q = locks_each (λ r l. AreApart l) numbers.apart (λ r no. was r) q
+
+  names_few : ((q : ℕ) → length (locks_of old q) ≤ 4096) → length keys ≤ 4096 → (q : ℕ) → length (locks_of new q) ≤ 4096
+  names_few was here q = locks_each (λ r l. length l ≤ 4096) here (λ r no. was r) q
+
+  keys_here : locks_of new p ≡ keys
+  keys_here = ap (λ l. list_at l p) s.locks_are ∙ list_here old.locks p keys s.there
+
+  pub is_over : 4096 < length keys → (4096 < length (locks_of new p)) × AreApart (locks_of new p)
+  is_over over = (subst (λ l. 4096 < length l) (sym keys_here) over, subst AreApart (sym keys_here) numbers.apart)
+
+  first_same : (q : ℕ) → first_of new q ≡ first_of old q
+  first_same q = ap (λ l. unwrap_or (slice_get l q) 0) s.firsts
+
+  -- with sets that have what they had, and these
+  module _ (count : length sets ≡ length (sets_of old p)) (kept : (k n : ℕ) → IsIn (list_at (sets_of old p) k) n → IsIn (list_at sets k) n) (More : ℕ → ℕ → Type 0)
+      (only : (k n : ℕ) → IsIn (list_at sets k) n → IsIn (list_at (sets_of old p) k) n ⊎ More k n) where
+    pub has_kept : (q r n : ℕ) → Has old q r n → Has new q r n
+    has_kept q r n h = (
+      h.0,
+      h.1 ∙ ap (λ f. f + h.0) (sym (first_same q)),
+      sets_each (λ x l. (k i : ℕ) → IsIn (list_at (sets_of old x) k) i → IsIn (list_at l k) i) kept (λ x no k i e. e) q h.0 n h.2,
+    )
+
+    points_kept : (q r : ℕ) → HasPoint old q r → HasPoint new q r
+    points_kept q r h =
+        let as_many = sets_each (λ x l. length l ≡ length (sets_of old x)) count (λ x no. refl) q in
+        (h.0, h.1 ∙ ap (λ f. f + h.0) (sym (first_same q)), subst (λ n. h.0 < n) (sym as_many) h.2)
+
+    pub has_only : (q r n : ℕ) → Has new q r n → Has old q r n ⊎ ((q ≡ p) × (k : ℕ) × (r ≡ first_of old p + k) × More k n)
+    has_only q r n h =
+        let place : r ≡ first_of old q + h.0 = h.1 ∙ ap (λ f. f + h.0) (first_same q) in
+        ⊎_elim
+        (λ e. inl (h.0, place, e))
+        (λ e. inr (e.0, h.0, place ∙ ap (λ x. first_of old x + h.0) e.0, e.1))
+        (sets_each (λ x l. (k i : ℕ) → IsIn (list_at l k) i → IsIn (list_at (sets_of old x) k) i ⊎ ((x ≡ p) × More k i))
+        (λ k i e. ⊎_elim (λ y. inl y) (λ y. inr (refl, y)) (only k i e)) (λ x no k i e. inl e) q h.0 n h.2)
+
+    -- these are the numbers of the lock at the pc
+    pub adds_here : (pc : ℕ) → IsWhole old → ((k n : ℕ) → More k n → (pc ≡ first_of old p + k) × (slice_get keys n ≡ Some lock)) → Adds old new (λ q r m. (q ≡ p) × (r ≡ pc) × (m ≡ lock))
+    adds_here pc whole named = record {
+      grows = record { regions = s.regions; parts = ap length s.locks_are ∙ length-set old.locks p keys; names = names_kept; points = points_kept; facts = has_kept };
+      only = record {
+        facts = λ q r m has.
+            ⊎_elim
+            (λ was.
+            let name = whole.named q r has.0 was in
+            let same : name.0 ≡ m = some_same (sym (names_kept q has.0 name.0 name.1) ∙ has.2) in
+            inl (has.0, was, name.1 ∙ ap Some same))
+            (λ e.
+            let of = named e.1 has.0 e.3 in
+            let found : slice_get keys has.0 ≡ Some m = ap (λ l. slice_get l has.0) (sym keys_here ∙ ap (λ x. locks_of new x) (sym e.0)) ∙ has.2 in
+            inr (e.0, e.2 ∙ sym of.0, some_same (sym found ∙ of.1)))
+            (has_only q r has.0 has.1);
+        names = λ q m h. ⊎_elim (λ x. inl (h.0, x)) (λ x. inr (pc, (x.0, refl, x.1))) (names_only q h.0 m h.1);
+      };
+    }
+
+-- sets that stay
+module _ (old new : Table) (p : ℕ) (keys : List Lock) (sets : List (List Bool)) (s : Step old new p keys sets) (lock : Lock) (numbers : Numbers (locks_of old p) keys lock) (same : sets ≡ sets_of old p) where
+  pub adds_name : (pc : ℕ) → IsWhole old → Adds old new (λ q r m. (q ≡ p) × (r ≡ pc) × (m ≡ lock))
+  adds_name pc whole =
+      adds_here old new p keys sets s lock numbers (ap length same) (λ k n e. subst (λ l. IsIn (list_at l k) n) (sym same) e) (λ k n. ⊥)
+      (λ k n e. inl (subst (λ l. IsIn (list_at l k) n) same e)) pc whole (λ k n e. absurd e)
+
+-- the number of the lock comes into a set
+module _ (old new : Table) (p : ℕ) (keys : List Lock) (sets : List (List Bool)) (s : Step old new p keys sets) (lock : Lock) (numbers : Numbers (locks_of old p) keys lock)
+    (place number : ℕ) (is_new : Bool) (marked : IsMarked (sets_of old p) sets place number is_new) (pc : ℕ) (at_place : pc ≡ first_of old p + place) (stored : slice_get keys number ≡ Some lock) where
+  abbrev More : ℕ → ℕ → Type 0
+  More k n = (k ≡ place) × (n ≡ number)
+
+  kept : (k n : ℕ) → IsIn (list_at (sets_of old p) k) n → IsIn (list_at sets k) n
+  kept k n e =
+      ⊎_elim
+      (λ t. subst (λ j. IsIn (list_at sets j) n) (sym t.1) ((marked.here n).1 (inl (subst (λ j. IsIn (list_at (sets_of old p) j) n) t.1 e))))
+      (λ t. subst (λ l. IsIn l n) (sym (marked.rest k t.1)) e)
+      (eqb_tells k place)
+
+  only : (k n : ℕ) → IsIn (list_at sets k) n → IsIn (list_at (sets_of old p) k) n ⊎ More k n
+  only k n e =
+      ⊎_elim
+      (λ t. ⊎_elim (λ was. inl (subst (λ j. IsIn (list_at (sets_of old p) j) n) (sym t.1) was)) (λ is. inr (t.1, is)) ((marked.here n).0 (subst (λ j. IsIn (list_at sets j) n) t.1 e)))
+      (λ t. inl (subst (λ l. IsIn l n) (marked.rest k t.1) e))
+      (eqb_tells k place)
+
+  still : (q r n : ℕ) → Has old q r n → Has new q r n
+  still = has_kept old new p keys sets s lock numbers marked.count kept More only
+
+  pub adds_fact : IsWhole old → Adds old new (λ q r m. (q ≡ p) × (r ≡ pc) × (m ≡ lock))
+  adds_fact whole =
+      adds_here old new p keys sets s lock numbers marked.count kept More only pc whole
+      (λ k n e. (at_place ∙ ap (λ j. first_of old p + j) (sym e.0), ap (slice_get keys) e.1 ∙ stored))
+
+  has_number : Has new p pc number
+  has_number = (
+    place,
+    at_place ∙ ap (λ f. f + place) (sym (first_same old new p keys sets s lock numbers p)),
+    subst (λ l. IsIn (list_at l place) number) (sym (ap (λ l. list_at l p) s.sets_are ∙ list_here old.sets p sets s.too)) ((marked.here number).1 (inr refl)),
+  )
+
+  pub has_fact : HasFact new p pc lock
+  has_fact = (number, has_number, ap (λ l. slice_get l number) (keys_here old new p keys sets s lock numbers) ∙ stored)
+
+  -- the fact is listed if it is new
+  module _ (listed : new.list ≡ (if is_new then old.list ++ fact p pc number ∷ [] else old.list)) where
+    on_list : (b : Bool) → new.list ≡ (if b then old.list ++ fact p pc number ∷ [] else old.list) → (f : Fact) → IsAt new.list f → IsAt old.list f ⊎ (f ≡ fact p pc number)
+    on_list true is f h = ⊎_elim (λ e. inl (h.0, e)) (λ e. inr e) (at_push old.list (fact p pc number) h.0 f (ap (λ l. slice_get l h.0) (sym is) ∙ h.1))
+    on_list false is f h = inl (h.0, ap (λ l. slice_get l h.0) (sym is) ∙ h.1)
+
+    pub whole_fact : IsWhole old → length keys ≤ 4096 → IsWhole new
+    whole_fact whole few = record {
+      named = λ q r n h.
+          ⊎_elim
+          (λ was. let name = whole.named q r n was in (name.0, names_kept old new p keys sets s lock numbers q n name.0 name.1))
+          (λ e. (lock, ap (λ x. slice_get (locks_of new x) n) e.0 ∙ ap (λ l. slice_get l n) (keys_here old new p keys sets s lock numbers) ∙ ap (slice_get keys) e.3.1 ∙ stored))
+          (has_only old new p keys sets s lock numbers marked.count kept More only q r n h);
+      listed = λ f h.
+          ⊎_elim
+          (λ was. still f.part f.pc f.lock (whole.listed f was))
+          (λ (e : f ≡ fact p pc number). subst (λ (g : Fact). Has new g.part g.pc g.lock) (sym e) has_number)
+          (on_list is_new listed f h);
+      apart = names_apart old new p keys sets s lock numbers whole.apart;
+      few = names_few old new p keys sets s lock numbers whole.few few;
+    }
+
+    stays : (b : Bool) → new.list ≡ (if b then old.list ++ fact p pc number ∷ [] else old.list) → (f : Fact) → IsAt old.list f → IsAt new.list f
+    stays true is f h = (h.0, ap (λ l. slice_get l h.0) is ∙ at_front old.list (fact p pc number ∷ []) h.0 f h.1)
+    stays false is f h = (h.0, ap (λ l. slice_get l h.0) is ∙ h.1)
+
+    here : (b : Bool) → new.list ≡ (if b then old.list ++ fact p pc number ∷ [] else old.list) → (b ≡ true) ⊎ IsIn (list_at (sets_of old p) place) number → Has old p pc number ⊎ IsAt new.list (fact p pc number)
+    here b is (inr was) = inl (place, at_place, was)
+    here true is (inl e) = inr (length old.list, ap (λ l. slice_get l (length old.list)) is ∙ at_last old.list (fact p pc number))
+    here false is (inl e) = absurd cc
+
+    longer : (b : Bool) → new.list ≡ (if b then old.list ++ fact p pc number ∷ [] else old.list) → length new.list ≡ length old.list + (if b then 1 else 0)
+    longer true is = ap length is ∙ length-append old.list (fact p pc number ∷ [])
+    longer false is = ap length is ∙ omega arith
+
+    pub lists_fact : Lists old new
+    lists_fact = record {
+      stay = stays is_new listed;
+      fresh = λ q r n h.
+          ⊎_elim
+          (λ was. inl was)
+          (λ e.
+          let pc_is : r ≡ pc = e.2 ∙ ap (λ k. first_of old p + k) e.3.0 ∙ sym at_place in
+          let fact_is : fact p pc number ≡ fact q r n = ap (λ x. fact x pc number) (sym e.0) ∙ ap (λ x. fact q x number) (sym pc_is) ∙ ap (λ x. fact q r x) (sym e.3.1) in
+          ⊎_elim
+          (λ was. inl (subst (λ (f : Fact). Has old f.part f.pc f.lock) fact_is was))
+          (λ on. inr (subst (λ f. IsAt new.list f) fact_is on))
+          (here is_new listed marked.fresh))
+          (has_only old new p keys sets s lock numbers marked.count kept More only q r n h);
+      less =
+          let count = longer is_new listed in
+          let low = marked.less in
+          let sums : sum_by free_in new.sets + free_in (get_or old.sets p sets) ≡ sum_by free_in old.sets + free_in sets = ap (λ l. sum_by free_in l + free_in (get_or old.sets p sets)) s.sets_are ∙ sum_by-set free_in old.sets p sets sets s.too in
+          let was : free_in (sets_of old p) ≡ free_in (get_or old.sets p sets) = ap free_in (get_here old.sets p s.too) in
+          omega (arith, count, low, sums, was);
+    }
+      where
+        get_here : (lists : List (List (List Bool))) (n : ℕ) → n < length lists → list_at lists n ≡ get_or lists n sets
+        get_here [] n lt = absurd (omega arith)
+        get_here (l ∷ ls) zero lt = refl
+        get_here (l ∷ ls) (suc n) lt = get_here ls n (omega arith)
+
+-- one region has one more lock, perhaps, and its number in a set, perhaps
+module _ (parts : List Part) (p q : ℕ) (x y : Part) (list more : List Fact) (same : q ≡ p) (there : p < length parts) (is : x ≡ get_or parts q x) (region : y.region ≡ x.region) (first : y.first ≡ x.first)
+    (lock : Lock) (numbers : Numbers x.locks.keys y.locks.keys lock) where
+  abbrev before : Table
+  before = table_of parts list
+
+  abbrev after : Table
+  after = table_of (slice_set parts q y) more
+
+  step : Step before after p y.locks.keys y.needs.items
+  step = step_of parts p q x y list more same there is region first
+
+  numbered : Numbers (locks_of before p) y.locks.keys lock
+  numbered = subst (λ l. Numbers l y.locks.keys lock) (sym (locks_before parts p q x list same there is)) numbers
+
+  pub part_adds : (pc : ℕ) → IsWhole before → y.needs.items ≡ x.needs.items → Adds before after (λ r s m. (r ≡ p) × (s ≡ pc) × (m ≡ lock))
+  part_adds pc whole kept = adds_name before after p y.locks.keys y.needs.items step lock numbered (kept ∙ sym (sets_before parts p q x list same there is)) pc whole
+
+  pub part_over : 4096 < length y.locks.keys → (4096 < length (locks_of after p)) × AreApart (locks_of after p)
+  part_over over = is_over before after p y.locks.keys y.needs.items step lock numbered over
+
+  module _ (place number : ℕ) (is_new : Bool) (marked : IsMarked x.needs.items y.needs.items place number is_new) (pc : ℕ) (at_place : pc ≡ x.first + place) (stored : slice_get y.locks.keys number ≡ Some lock)
+      (whole : IsWhole before) where
+    mark : IsMarked (sets_of before p) y.needs.items place number is_new
+    mark = subst (λ l. IsMarked l y.needs.items place number is_new) (sym (sets_before parts p q x list same there is)) marked
+
+    pc_is : pc ≡ first_of before p + place
+    pc_is = at_place ∙ ap (λ n. n + place) (sym (first_before parts p q x list same there is))
+
+    pub mark_adds : Adds before after (λ r s m. (r ≡ p) × (s ≡ pc) × (m ≡ lock))
+    mark_adds = adds_fact before after p y.locks.keys y.needs.items step lock numbered place number is_new mark pc pc_is stored whole
+
+    pub mark_has : HasFact after p pc lock
+    mark_has = has_fact before after p y.locks.keys y.needs.items step lock numbered place number is_new mark pc pc_is stored
+
+    module _ (listed : more ≡ (if is_new then list ++ fact p pc number ∷ [] else list)) where
+      pub mark_whole : length y.locks.keys ≤ 4096 → IsWhole after
+      mark_whole few = whole_fact before after p y.locks.keys y.needs.items step lock numbered place number is_new mark pc pc_is stored listed whole few
+
+      pub mark_lists : Lists before after
+      mark_lists = lists_fact before after p y.locks.keys y.needs.items step lock numbered place number is_new mark pc pc_is stored listed

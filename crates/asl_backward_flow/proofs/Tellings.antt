@@ -1,5 +1,5 @@
 -- Parts tell what is found.
-use Rattle.std.proofs.Common.{◌≡◌, ◌≢◌, ◌⊎◌, ⊎_elim, ℕ, ◌<◌, ◌≤◌, List, [], Some, length, slice_get, get_or, ap, sym, subst, ◌∙◌, inl, inr, arith, Result, Ok, Err, IfOk}
+use Rattle.std.proofs.Common.{◌≡◌, ◌≢◌, ◌⊎◌, ⊎_elim, ℕ, ◌+◌, ◌<◌, ◌≤◌, List, [], Some, length, map, slice_get, unwrap_or, get_or, ap, sym, subst, ◌∙◌, inl, inr, arith, Result, Ok, Err, IfOk}
 use Rattle.std.specs.List.{AllPairs}
 use Rattle.std.proofs.lemmas.Option.{slice_get_within, slice_get-get_or}
 use Rattle.indexmap.proofs.IndexTableLemmas.Probe.{pigeonhole}
@@ -12,15 +12,24 @@ use Rattle.asl_lock_expr.specs.ClassOf.{TellsStores}
 use Rattle.asl_backward_flow.specs.declared.fault.FlowFault.{FlowFault}
 use Rattle.asl_backward_flow.specs.Flows.{IsFlow}
 use Rattle.asl_backward_flow.specs.declared.span.Span.{Span}
+use Rattle.asl_backward_flow.specs.declared.part.Part as code
+use Rattle.asl_backward_flow.specs.declared.found.Fact.{Fact}
+use Rattle.asl_lane_sets.specs.NumberSet.{IsIn}
+use Rattle.std.proofs.lemmas.List.{length-map}
 use Rattle.asl_backward_flow.specs.declared.found.AddFault.TheVariants.{Many}
-use Rattle.asl_backward_flow.specs.Needed.{Needed, Part, IsTold, TellsNeeded, NeedsMany, region_of}
-use Rattle.asl_backward_flow.specs.Found.{Table, AreApart, IsName, HasFact, locks_of}
+use Rattle.asl_backward_flow.specs.Needed.{Needed, Part, IsOfPart, IsTold, TellsNeeded, NeedsMany, region_of}
+use Rattle.asl_backward_flow.specs.Found.{Table, table_of, list_at, AreApart, IsName, HasFact, locks_of, sets_of, first_of}
 use Rattle.asl_backward_flow.specs.Follows.{Read, IsRead, IsAll, Overflows}
-use Rattle.asl_backward_flow.specs.Parts.{HasRegion, AreParts, TellsAll}
+use Rattle.asl_backward_flow.specs.Parts.{part, TellsAll}
 use Rattle.asl_backward_flow.proofs.Leasts.{needed_inside}
+use Rattle.asl_backward_flow.proofs.Blanks.{mapped, unmapped, some_there}
+use Rattle.asl_backward_flow.proofs.Listing.{of_part, part_of}
 use Rattle.asl_backward_flow.proofs.Sets.{some_same}
 
-module _ (r : Read) (read : IsRead r) (t : Table) (all : IsAll r t) where
+module _ (r : Read) (read : IsRead r) (items : List code.Part) (list : List Fact) (all : IsAll r (table_of items list)) where
+  abbrev t : Table
+  t = table_of items list
+
   abbrev Is : Region → ℕ → Lock → Type 0
   Is region q m = Needed r.lowered r.classes r.stores r.longest region q m
 
@@ -31,36 +40,49 @@ module _ (r : Read) (read : IsRead r) (t : Table) (all : IsAll r t) where
       let span = read.spans.all region inside.0 q inside.1 in
       (span.0, span.1, span.2, span.3, all.full span.0 q m (span.1, span.2, subst (λ x. Is x q m) (sym span.3) n))
 
-  module _ (parts : List Part) (are : AreParts r.spans t parts) where
-    told_needed : (region : Region) (q : ℕ) (m : Lock) → IsTold parts region q m → Is region q m
-    told_needed region q m told =
-        let k = told.0 in
-        let p : Part = told.1 in
-        let each = are.each k p told.2 in
-        let of : HasRegion r.spans t.locks k p = each.0 in
-        let n = told.4.0 in
-        let at = each.1.only q n (told.4.1, told.4.2) in
-        let named : slice_get (locks_of t k) n ≡ Some m = ap (λ l. slice_get l n) (sym of.locks) ∙ told.4.3 in
-        let need = all.sound k q m (n, at, named) in
-        let same : need.0 ≡ of.span = some_same (sym need.1 ∙ of.there) in
-        subst (λ x. Is x q m) (ap (λ (s : Span). region_of s.region) same ∙ sym of.region ∙ told.3) need.2
+  -- the region with a number has the name of the span with this number
+  same_region : (k : ℕ) (d : code.Part) (s : Span) → slice_get items k ≡ Some d → slice_get r.spans k ≡ Some s → d.region ≡ s.region
+  same_region k d s at there =
+      some_same (sym (mapped (λ (z : code.Part). z.region) items k d at) ∙ ap (λ l. slice_get l k) all.ready.regions ∙ mapped (λ (x : Span). x.region) r.spans k s there)
 
-    needed_told : (region : Region) (q : ℕ) (m : Lock) → Is region q m → IsTold parts region q m
-    needed_told region q m n =
-        let f = found_at region q m n in
-        let k = f.0 in
-        let has = f.4 in
-        let within : k < length parts = subst (λ x. k < x) (sym are.count) (slice_get_within r.spans k f.1 f.2) in
-        let p : Part = get_or parts k (record { region = region; locks = []; needs = [] }) in
-        let there : slice_get parts k ≡ Some p = slice_get-get_or parts k (record { region = region; locks = []; needs = [] }) within in
-        let each = are.each k p there in
-        let of : HasRegion r.spans t.locks k p = each.0 in
-        let same : of.span ≡ f.1 = some_same (sym of.there ∙ f.2) in
-        let at = each.1.all has.1.0 q has.0 (slice_get_within t.facts has.1.0 _ has.1.1) has.1.1 in
-        (k, p, there, of.region ∙ ap (λ (s : Span). region_of s.region) same ∙ f.3, (has.0, at.0, at.1, ap (λ l. slice_get l has.0) of.locks ∙ has.2))
+  first_at : (k : ℕ) (d : code.Part) → slice_get items k ≡ Some d → first_of t k ≡ d.first
+  first_at k d at = ap (λ o. unwrap_or o 0) (mapped (λ (z : code.Part). z.first) items k d at)
 
-    tells : TellsNeeded r.lowered r.classes r.stores r.longest parts
-    tells region q m = (λ h. told_needed region q m h, λ h. needed_told region q m h)
+  sets_at : (k : ℕ) (d : code.Part) → slice_get items k ≡ Some d → sets_of t k ≡ d.needs.items
+  sets_at k d at = ap (λ o. unwrap_or o []) (mapped (λ (z : code.Part). z.needs.items) items k d at)
+
+  locks_at : (k : ℕ) (d : code.Part) → slice_get items k ≡ Some d → locks_of t k ≡ d.locks.keys
+  locks_at k d at = ap (λ o. unwrap_or o []) (mapped (λ (z : code.Part). z.locks.keys) items k d at)
+
+  told_needed : (region : Region) (q : ℕ) (m : Lock) → IsTold (map part items) region q m → Is region q m
+  told_needed region q m told =
+      let k = told.0 in
+      let d = unmapped part items k told.1 told.2 in
+      let of = of_part d.0 q m (subst (λ (x : Part). IsOfPart x q m) (sym d.2) told.4) in
+      let place : q ≡ first_of t k + of.0 = of.1 ∙ ap (λ n. n + of.0) (sym (first_at k d.0 d.1)) in
+      let in_set : IsIn (list_at (sets_of t k) of.0) of.2.0 = subst (λ l. IsIn (list_at l of.0) of.2.0) (sym (sets_at k d.0 d.1)) of.2.1 in
+      let named : slice_get (locks_of t k) of.2.0 ≡ Some m = ap (λ l. slice_get l of.2.0) (locks_at k d.0 d.1) ∙ of.2.2 in
+      let need = all.sound k q m (of.2.0, (of.0, place, in_set), named) in
+      let name : region_of need.0.region ≡ region = ap region_of (sym (same_region k d.0 need.0 d.1 need.1)) ∙ ap (λ (x : Part). x.region) d.2 ∙ told.3 in
+      subst (λ x. Is x q m) name need.2
+
+  needed_told : (region : Region) (q : ℕ) (m : Lock) → Is region q m → IsTold (map part items) region q m
+  needed_told region q m n =
+      let f = found_at region q m n in
+      let k = f.0 in
+      let has = f.4 in
+      let count = all.ready.count in
+      let within = slice_get_within r.spans k f.1 f.2 in
+      let d = some_there items k (let same = length-map items (λ (z : code.Part). z.locks.keys) in omega (arith, count, within, same)) in
+      let at = has.1 in
+      let in_set : IsIn (list_at d.0.needs.items at.0) has.0 = subst (λ l. IsIn (list_at l at.0) has.0) (sets_at k d.0 d.1) at.2 in
+      let named : slice_get d.0.locks.keys has.0 ≡ Some m = ap (λ l. slice_get l has.0) (sym (locks_at k d.0 d.1)) ∙ has.2 in
+      let of = part_of d.0 at.0 m (has.0, in_set, named) in
+      let place : d.0.first + at.0 ≡ q = sym (at.1 ∙ ap (λ i. i + at.0) (first_at k d.0 d.1)) in
+      (k, part d.0, mapped part items k d.0 d.1, ap region_of (same_region k d.0 f.1 d.1 f.2) ∙ f.3, subst (λ x. IsOfPart (part d.0) x m) place of)
+
+  tells : TellsNeeded r.lowered r.classes r.stores r.longest (map part items)
+  tells region q m = (λ h. told_needed region q m h, λ h. needed_told region q m h)
 
   -- a region that needs locks has a number, under which all that it needs are found
   module _ (region : Region) (many : NeedsMany r.lowered r.classes r.stores r.longest region) (d : Lock) where
@@ -97,9 +119,9 @@ module _ (r : Read) (read : IsRead r) (t : Table) (all : IsAll r t) where
         (cases_lt i j)) in
         let over = many.many in let few = all.ready.whole.few first.0 in omega (arith, holds, over, few)
 
-  pub tells_all : (parts : List Part) → AreParts r.spans t parts → TellsAll r parts
-  tells_all parts are = record {
-    tells = tells parts are;
+  pub tells_all : TellsAll r (map part items)
+  tells_all = record {
+    tells = tells;
     few = λ region many. not_many region many (root.Root write.Write);
   }
 

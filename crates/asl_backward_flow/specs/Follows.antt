@@ -14,7 +14,7 @@ use Rattle.asl_backward_flow.specs.declared.span.Span.{Span}
 use Rattle.asl_backward_flow.specs.declared.program.Program.{Program}
 use Rattle.asl_backward_flow.specs.declared.found.Fact.{Fact}
 use Rattle.asl_backward_flow.specs.declared.found.AddFault.{AddFault}
-use Rattle.asl_backward_flow.specs.Found.{Table, HasFact, IsName, IsWhole, IsOver, Adds, locks_of}
+use Rattle.asl_backward_flow.specs.Found.{Table, Has, HasPoint, HasFact, IsAt, IsName, IsWhole, IsOver, Adds, Lists, fact, locks_of}
 use Rattle.asl_backward_flow.specs.Graph.{HasRows, IsEdge, IsCall}
 use Rattle.asl_backward_flow.specs.Needed.{Needed, view, region_of}
 use Rattle.asl_backward_flow.specs.Spans.{AreSpans}
@@ -134,7 +134,9 @@ NeededAt r p q m = (s : Span) × (slice_get r.spans p ≡ Some s) × Needed r.lo
 
 -- a whole table of all regions
 pub record IsReady (r : Read) (t : Table) : Type 0 where
+  pub regions : t.regions ≡ map (λ s. s.region) r.spans
   pub count : length t.locks ≡ length r.spans
+  pub points : (part pc : ℕ) → IsAtPoint r part pc → HasPoint t part pc
   pub whole : IsWhole t
 
 -- these are added, and nothing else
@@ -142,6 +144,7 @@ pub record Added (r : Read) (old new : Table) (these : ℕ → ℕ → Lock → 
   pub ready : IsReady r new
   pub has : HasAll new these
   pub adds : Adds old new these
+  pub lists : Lists old new
 
 -- some of these are added, and nothing else, until a region has too many locks or a growth is refused
 pub record Stopped (old new : Table) (these : ℕ → ℕ → Lock → Type 0) (fault : AddFault) : Type 0 where
@@ -152,15 +155,16 @@ pub record Stopped (old new : Table) (these : ℕ → ℕ → Lock → Type 0) (
 pub record AddedBelow (r : Read) (initial now : Table) (each : ℕ → ℕ → ℕ → Lock → Type 0) (k : ℕ) : Type 0 where
   pub ready : IsReady r now
   pub adds : Adds initial now (λ p q m. (j : ℕ) × each j p q m)
+  pub lists : Lists initial now
   pub has : (j : ℕ) → j < k → HasAll now (each j)
 
--- the seeds are there, what follows from the facts below a number too, and all is needed
-pub record IsFollowed (r : Read) (t : Table) (next : ℕ) : Type 0 where
+-- the seeds are there, what follows from each fact that does not wait too, and all is needed
+pub record IsFollowed (r : Read) (t : Table) (waiting : List Fact) : Type 0 where
   pub ready : IsReady r t
   pub sound : (p q : ℕ) (m : Lock) → HasFact t p q m → NeededAt r p q m
   pub names : (p : ℕ) (m : Lock) → IsName t p m → (q : ℕ) × NeededAt r p q m
   pub seeds : HasAll t (IsSeed r)
-  pub closed : (j : ℕ) (f : Fact) (m : Lock) → j < next → slice_get t.facts j ≡ Some f → slice_get (locks_of t f.part) f.lock ≡ Some m → HasAll t (Follows r f.part f.pc m)
+  pub closed : (p q n : ℕ) (m : Lock) → Has t p q n → slice_get (locks_of t p) n ≡ Some m → IsAt waiting (fact p q n) ⊎ HasAll t (Follows r p q m)
 
 -- a region has too many locks, each needed somewhere
 pub record Overflows (r : Read) (t : Table) (fault : AddFault) : Type 0 where

@@ -1,24 +1,36 @@
--- Machinery of the proofs, not of the promise: what has been found so far (src/found.rt).
-use Rattle.std.specs.Prelude.{◌≡◌, ◌⊎◌, ◌+◌, ◌<◌, ◌≤◌, ℕ, List, [], Some, map, length, slice_get, unwrap_or, replicate}
+-- Machinery of the proofs, not of the promise: what has been found so far (src/part.rt, src/found.rt).
+use Rattle.std.specs.Prelude.{◌≡◌, ◌≢◌, ◌⊎◌, ◌↔◌, ◌+◌, ◌-◌, ◌<◌, ◌≤◌, ℕ, zero, suc, Bool, true, false, if◌then◌else◌, List, [], Some, map, length, slice_get, unwrap_or, replicate, sum_by}
 use Rattle.asl_code.specs.declared.lock.Lock.{Lock}
+use Rattle.asl_lane_sets.specs.NumberSet.{IsIn}
 use Rattle.asl_lock_expr.specs.Links.{IsOne}
+use Rattle.asl_backward_flow.specs.declared.region.Region.{Region}
+use Rattle.asl_backward_flow.specs.declared.span.Span.{Span}
+use Rattle.asl_backward_flow.specs.declared.part.Part.{Part}
 use Rattle.asl_backward_flow.specs.declared.found.Fact.{Fact}
 use Rattle.asl_backward_flow.specs.declared.found.Found.{Found}
 use Rattle.asl_backward_flow.specs.declared.found.AddFault.{AddFault}
 use Rattle.asl_backward_flow.specs.declared.found.AddFault.TheVariants.{Many, OutOfMemory}
 
--- the locks of each region, and the facts
+-- of each region its name, its first pc, its locks, and for each of its points the set of the numbers of those that are needed
+-- there; and the facts that are not followed yet
 pub record Table : Type 0 where
+  pub regions : List Region
+  pub firsts : List ℕ
   pub locks : List (List Lock)
-  pub facts : List Fact
+  pub sets : List (List (List Bool))
+  pub list : List Fact
+
+abbrev pub table_of : List Part → List Fact → Table
+table_of parts list = record {
+  regions = map (λ (p : Part). p.region) parts;
+  firsts = map (λ (p : Part). p.first) parts;
+  locks = map (λ (p : Part). p.locks.keys) parts;
+  sets = map (λ (p : Part). p.needs.items) parts;
+  list = list;
+}
 
 abbrev pub table : Found → Table
-table f = record { locks = map (λ s. s.keys) f.locks.items; facts = f.facts.keys }
-
--- nothing is found of so many regions
-pub record IsBlank (t : Table) (count : ℕ) : Type 0 where
-  pub locks : t.locks ≡ replicate count []
-  pub facts : t.facts ≡ []
+table f = table_of f.parts.items f.list.items
 
 -- the value stands somewhere in the list
 abbrev pub IsAt : {A : Type 0} → List A → A → Type 0
@@ -28,24 +40,46 @@ IsAt xs x = (n : ℕ) × (slice_get xs n ≡ Some x)
 abbrev pub AreApart : List Lock → Type 0
 AreApart locks = (m n : ℕ) (a : Lock) → slice_get locks m ≡ Some a → slice_get locks n ≡ Some a → m ≡ n
 
--- the locks of a region
+-- the list, or the set, at a place; an empty one past the end
+abbrev pub list_at : {A : Type 0} → List (List A) → ℕ → List A
+list_at lists k = unwrap_or (slice_get lists k) []
+
+-- the locks of a region, its first pc, and its sets
 abbrev pub locks_of : Table → ℕ → List Lock
-locks_of t part = unwrap_or (slice_get t.locks part) []
+locks_of t part = list_at t.locks part
+
+abbrev pub first_of : Table → ℕ → ℕ
+first_of t part = unwrap_or (slice_get t.firsts part) 0
+
+abbrev pub sets_of : Table → ℕ → List (List Bool)
+sets_of t part = list_at t.sets part
 
 abbrev pub fact : ℕ → ℕ → ℕ → Fact
 fact part pc number = record { part = part; pc = pc; lock = number }
 
--- it is found that the region needs the lock at the pc
+-- the pc is one of the region
+abbrev pub HasPoint : Table → ℕ → ℕ → Type 0
+HasPoint t part pc = (k : ℕ) × (pc ≡ first_of t part + k) × (k < length (sets_of t part))
+
+-- it is found that the region needs the lock with the number there
+abbrev pub Has : Table → ℕ → ℕ → ℕ → Type 0
+Has t part pc number = (k : ℕ) × (pc ≡ first_of t part + k) × IsIn (list_at (sets_of t part) k) number
+
 abbrev pub HasFact : Table → ℕ → ℕ → Lock → Type 0
-HasFact t part pc lock = (n : ℕ) × IsAt t.facts (fact part pc n) × (slice_get (locks_of t part) n ≡ Some lock)
+HasFact t part pc lock = (n : ℕ) × Has t part pc n × (slice_get (locks_of t part) n ≡ Some lock)
 
 -- the lock has a number in the region
 abbrev pub IsName : Table → ℕ → Lock → Type 0
 IsName t part lock = IsAt (locks_of t part) lock
 
--- the number of each fact is that of a lock, no lock has two numbers, and no region has too many
+-- the lock is one of those whose numbers are in the set
+abbrev pub IsNamed : List Lock → List Bool → Lock → Type 0
+IsNamed locks set lock = (n : ℕ) × IsIn set n × (slice_get locks n ≡ Some lock)
+
+-- each number that is found is that of a lock, what is listed is found, no lock has two numbers, and no region has too many
 pub record IsWhole (t : Table) : Type 0 where
-  pub valid : (n : ℕ) (f : Fact) → slice_get t.facts n ≡ Some f → (m : Lock) × (slice_get (locks_of t f.part) f.lock ≡ Some m)
+  pub named : (part pc n : ℕ) → Has t part pc n → (m : Lock) × (slice_get (locks_of t part) n ≡ Some m)
+  pub listed : (f : Fact) → IsAt t.list f → Has t f.part f.pc f.lock
   pub apart : (part : ℕ) → AreApart (locks_of t part)
   pub few : (part : ℕ) → length (locks_of t part) ≤ 4096
 
@@ -54,11 +88,29 @@ abbrev pub IsOver : Table → AddFault → Type 0
 IsOver t (Many part) = (4096 < length (locks_of t part)) × AreApart (locks_of t part)
 IsOver t OutOfMemory = Unit {0}
 
+-- a span's region, with nothing found yet
+pub record IsBlankPart (s : Span) (p : Part) : Type 0 where
+  pub region : p.region ≡ s.region
+  pub first : p.first ≡ s.first
+  pub locks : p.locks.keys ≡ []
+  pub sets : p.needs.items ≡ replicate (s.end - s.first) []
+
+-- nothing is found of the regions
+pub record IsBlank (t : Table) (spans : List Span) : Type 0 where
+  pub regions : t.regions ≡ map (λ s. s.region) spans
+  pub count : length t.locks ≡ length spans
+  pub locks : (part n : ℕ) (m : Lock) → slice_get (locks_of t part) n ≡ Some m → ⊥
+  pub sets : (part pc n : ℕ) → Has t part pc n → ⊥
+  pub points : (part pc : ℕ) (s : Span) → slice_get spans part ≡ Some s → s.first ≤ pc → pc < s.end → HasPoint t part pc
+  pub list : t.list ≡ []
+
 -- all that was found is found still, under its number
 pub record Grows (old new : Table) : Type 0 where
+  pub regions : new.regions ≡ old.regions
   pub parts : length new.locks ≡ length old.locks
   pub names : (part n : ℕ) (m : Lock) → slice_get (locks_of old part) n ≡ Some m → slice_get (locks_of new part) n ≡ Some m
-  pub facts : (n : ℕ) (f : Fact) → slice_get old.facts n ≡ Some f → slice_get new.facts n ≡ Some f
+  pub points : (part pc : ℕ) → HasPoint old part pc → HasPoint new part pc
+  pub facts : (part pc n : ℕ) → Has old part pc n → Has new part pc n
 
 -- a list of locks in which one more may have got a number
 pub record Numbers (old new : List Lock) (lock : Lock) : Type 0 where
@@ -67,10 +119,21 @@ pub record Numbers (old new : List Lock) (lock : Lock) : Type 0 where
   pub apart : AreApart new
   pub longer : length new ≤ length old + 1
 
--- a list of facts in which one more may stand
-pub record Holds (old new : List Fact) (f : Fact) : Type 0 where
-  pub kept : (n : ℕ) (g : Fact) → slice_get old n ≡ Some g → slice_get new n ≡ Some g
-  pub only : (n : ℕ) (g : Fact) → slice_get new n ≡ Some g → slice_get old n ≡ Some g ⊎ (g ≡ f)
+-- how many numbers below one are not in the set
+unfoldable pub free : ℕ → List Bool → ℕ
+free zero set = 0
+free (suc n) set = (if unwrap_or (slice_get set n) false then 0 else 1) + free n set
+
+abbrev pub free_in : List (List Bool) → ℕ
+free_in sets = sum_by (free 4096) sets
+
+-- sets in which the one at a place has a number, and whether that is new there
+pub record IsMarked (old new : List (List Bool)) (place number : ℕ) (is_new : Bool) : Type 0 where
+  pub count : length new ≡ length old
+  pub rest : (k : ℕ) → k ≢ place → list_at new k ≡ list_at old k
+  pub here : (n : ℕ) → IsIn (list_at new place) n ↔ (IsIn (list_at old place) n ⊎ (n ≡ number))
+  pub fresh : (is_new ≡ true) ⊎ IsIn (list_at old place) number
+  pub less : free_in new + (if is_new then 1 else 0) ≤ free_in old
 
 -- nothing is found but what was found, and these
 pub record Only (old new : Table) (these : ℕ → ℕ → Lock → Type 0) : Type 0 where
@@ -82,10 +145,22 @@ pub record Adds (old new : Table) (these : ℕ → ℕ → Lock → Type 0) : Ty
   pub grows : Grows old new
   pub only : Only old new these
 
+-- the steps that are left at most: each takes a fact off the list, and each fact comes on it once
+abbrev pub left : Table → ℕ
+left t = sum_by free_in t.sets + length t.list
+
+-- what is listed stays so, and what is new is listed
+pub record Lists (old new : Table) : Type 0 where
+  pub stay : (f : Fact) → IsAt old.list f → IsAt new.list f
+  pub fresh : (part pc n : ℕ) → Has new part pc n → Has old part pc n ⊎ IsAt new.list (fact part pc n)
+  pub less : left new ≤ left old
+
 -- how far the locks of a list have been added at a pc of a region
-pub record AddsSome (initial now : Table) (part pc : ℕ) (all left : List Lock) : Type 0 where
+pub record AddsSome (initial now : Table) (part pc : ℕ) (all rest : List Lock) : Type 0 where
   pub there : part < length now.locks
+  pub point : HasPoint now part pc
   pub whole : IsWhole now
   pub adds : Adds initial now (λ p q m. (p ≡ part) × (q ≡ pc) × IsOne all m)
-  pub rest : (m : Lock) → IsOne left m → IsOne all m
-  pub has : (m : Lock) → IsOne all m → IsOne left m ⊎ HasFact now part pc m
+  pub lists : Lists initial now
+  pub of : (m : Lock) → IsOne rest m → IsOne all m
+  pub has : (m : Lock) → IsOne all m → IsOne rest m ⊎ HasFact now part pc m

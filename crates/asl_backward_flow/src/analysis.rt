@@ -9,7 +9,7 @@ use crate::fault::FlowFault;
 use crate::flow::follow_all;
 use crate::found::{AddFault, Found};
 use crate::graph::{callers, predecessors};
-use crate::parts::{Flow, parts};
+use crate::parts::{Flow, flow_of};
 use crate::program::Program;
 use crate::span::spans;
 use crate::step::add_seeds;
@@ -53,7 +53,7 @@ fn flow(alloc: Global, program: &Program) -> Result<Flow, FlowFault>
     ensures err { IfErr result (HasMany (read program.now)) }
 {
     match find(alloc, program) {
-        Ok(found) => Ok(parts(alloc, program.spans, found)?),
+        Ok(found) => Ok(flow_of(found.parts)),
         Err(fault) => Err(named(program, fault)),
     }
 }
@@ -75,7 +75,7 @@ fn find(alloc: Global, program: &Program) -> Result<Found, AddFault>
     ensures ok { IfOk result (λ found. IsAll (read program.now) (table found)) }
     ensures err { IfErr result (λ fault. (t : Table) × Overflows (read program.now) t fault) }
 {
-    let mut found = Found::new(alloc, program.spans.len())?;
+    let mut found = Found::new(alloc, program.spans)?;
     add_seeds(alloc, program, &mut found)?;
     follow_all(alloc, program, &mut found)?;
     Ok(found)

@@ -1,43 +1,37 @@
-//! The facts that follow from the seeds, found one after the other.
-ghost use Rattle.std.specs.Prelude.{◌≡◌, ◌<◌, ◌+◌, ◌≤◌, length, OnOk, IfErr};
-ghost use Rattle.asl_backward_flow.specs.Found.{table};
+//! What follows from the seeds, found one after the other.
+ghost use Rattle.std.specs.Prelude.{◌≡◌, ◌≤◌, ◌∷◌, [], OnOk, IfErr};
+ghost use Rattle.asl_backward_flow.specs.Found.{table, Has, left};
 ghost use Rattle.asl_backward_flow.specs.Follows.{read, IsRead, IsFollowed, Overflows};
 
 use crate::copy::copied;
-use crate::found::{AddFault, Found};
+use crate::found::{AddFault, Fact, Found};
 use crate::program::Program;
 use crate::step::add_following;
 use std::alloc::Global;
 
-/// Adds what follows from the fact at a place.
-fn follow_next(
-    alloc: Global,
-    program: &Program,
-    next: usize,
-    found: &mut Found,
-) -> Result<(), AddFault>
+/// Adds what follows from a fact that was taken off the list.
+fn follow(alloc: Global, program: &Program, fact: Fact, found: &mut Found) -> Result<(), AddFault>
     requires program { IsRead (read program.now) }
-    requires followed { IsFollowed (read program.now) (table found.old) next }
-    requires there { next < length (table found.old).facts }
-    ensures ok { OnOk result (IsFollowed (read program.now) (table found.new) (next + 1)) }
+    requires there { Has (table found.old) fact.part fact.pc fact.lock }
+    requires followed { IsFollowed (read program.now) (table found.old) (fact ∷ (table found.old).list) }
+    ensures ok { OnOk result (IsFollowed (read program.now) (table found.new) (table found.new).list) }
+    ensures less { OnOk result (left (table found.new) ≤ left (table found.old)) }
     ensures err { IfErr result (Overflows (read program.now) (table found.new)) }
 {
-    let fact = found.facts.as_slice()[next];
-    let lock = copied(&found.locks[usize::from(fact.part)].as_slice()[usize::from(fact.lock)]);
+    let locks = found.parts[usize::from(fact.part)].locks.as_slice();
+    let lock = copied(&locks[usize::from(fact.lock)]);
     add_following(alloc, program, fact.part, fact.pc, &lock, found)
 }
 
-/// Adds what follows from each fact, those that are added on the way too.
+/// Adds what follows from each fact on the list, also from those that are put on it on the way.
 pub fn follow_all(alloc: Global, program: &Program, found: &mut Found) -> Result<(), AddFault>
     requires program { IsRead (read program.now) }
-    requires followed { IsFollowed (read program.now) (table found.old) 0 }
-    ensures ok { OnOk result (IsFollowed (read program.now) (table found.new) (length (table found.new).facts)) }
+    requires followed { IsFollowed (read program.now) (table found.old) (table found.old).list }
+    ensures ok { OnOk result (IsFollowed (read program.now) (table found.new) []) }
     ensures err { IfErr result (Overflows (read program.now) (table found.new)) }
 {
-    let mut next = 0;
-    while next < found.facts.len() {
-        follow_next(alloc, program, next, found)?;
-        next += 1;
+    while let Some(fact) = found.list.pop_front() {
+        follow(alloc, program, fact, found)?;
     }
     Ok(())
 }

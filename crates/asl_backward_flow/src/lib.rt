@@ -8,6 +8,7 @@ mod flow;
 mod found;
 mod graph;
 mod laws;
+mod part;
 mod parts;
 mod program;
 mod region;

@@ -3,7 +3,7 @@ ghost use Rattle.std.specs.Prelude.{◌≡◌, ◌<◌, ◌↔◌, length, OnOk,
 ghost use Rattle.asl_lock_expr.specs.Links.{IsOne};
 ghost use Rattle.asl_lock_expr.specs.LinksView.{seen as seen_by};
 ghost use Rattle.asl_backward_flow.specs.Found.{table};
-ghost use Rattle.asl_backward_flow.specs.Follows.{read, seen, IsRead, IsReady, IsAccessed, IsLinked, IsEntered, At, IsSeed, IsSeedIn, IsPrefix, IsBack, IsCalledAt, IsAtCall, IsEntry, Follows, Added, Stopped};
+ghost use Rattle.asl_backward_flow.specs.Follows.{read, seen, IsRead, IsReady, IsAtPoint, IsAccessed, IsLinked, IsEntered, At, IsSeed, IsSeedIn, IsPrefix, IsBack, IsCalledAt, IsAtCall, IsEntry, Follows, Added, Stopped};
 
 use crate::found::{AddFault, Found};
 use crate::program::Program;
@@ -67,6 +67,7 @@ fn add_seeds_at(
 ) -> Result<(), AddFault>
     requires program { IsRead (read program.now) }
     requires ready { IsReady (read program.now) (table found.old) }
+    requires point { IsAtPoint (read program.now) part pc }
     requires there { part < length program.now.spans.now }
     requires code { pc < length program.now.lowering.now.code }
     ensures ok { OnOk result (Added (read program.now) (table found.old) (table found.new) (At part pc (IsAccessed (read program.now) part pc))) }
@@ -79,7 +80,7 @@ fn add_seeds_at(
         &program.lowering.code()[usize::from(pc)],
         &mut locks,
     )?;
-    found.add_all(part, pc, locks)
+    found.add_all(alloc, part, pc, locks)
 }
 
 /// Adds what follows from a lock that is needed at a point.
@@ -93,6 +94,7 @@ pub fn add_following(
 ) -> Result<(), AddFault>
     requires program { IsRead (read program.now) }
     requires ready { IsReady (read program.now) (table found.old) }
+    requires point { IsAtPoint (read program.now) part pc }
     requires there { part < length program.now.spans.now }
     requires code { pc < length program.now.lowering.now.code }
     ensures ok { OnOk result (Added (read program.now) (table found.old) (table found.new) (Follows (read program.now) part pc lock.now)) }
@@ -113,13 +115,14 @@ fn add_prefixes(
     found: &mut Found,
 ) -> Result<(), AddFault>
     requires ready { IsReady (read program.now) (table found.old) }
+    requires point { IsAtPoint (read program.now) part pc }
     requires there { part < length program.now.spans.now }
     ensures ok { OnOk result (Added (read program.now) (table found.old) (table found.new) (IsPrefix part pc lock.now)) }
     ensures err { IfErr result (Stopped (table found.old) (table found.new) (IsPrefix part pc lock.now)) }
 {
     let mut locks = Vec::new(alloc);
     add_dereferenced(lock, &mut locks)?;
-    found.add_all(part, pc, locks)
+    found.add_all(alloc, part, pc, locks)
 }
 
 /// Adds what the lock becomes over each instruction of the region from which control goes on to the pc.
@@ -160,6 +163,7 @@ fn add_linked(
 ) -> Result<(), AddFault>
     requires program { IsRead (read program.now) }
     requires ready { IsReady (read program.now) (table found.old) }
+    requires point { IsAtPoint (read program.now) part pc }
     requires there { part < length program.now.spans.now }
     requires code { pc < length program.now.lowering.now.code }
     ensures ok { OnOk result (Added (read program.now) (table found.old) (table found.new) (At part pc (IsLinked (read program.now) part pc lock.now))) }
@@ -173,7 +177,7 @@ fn add_linked(
         lock,
         &mut locks,
     )?;
-    found.add_all(part, pc, locks)
+    found.add_all(alloc, part, pc, locks)
 }
 
 /// Where the pc is the entry of a body, adds what the lock becomes at each call of its function.
@@ -254,13 +258,14 @@ fn add_entered_in(
 ) -> Result<(), AddFault>
     requires program { IsRead (read program.now) }
     requires ready { IsReady (read program.now) (table found.old) }
+    requires point { IsAtPoint (read program.now) part pc }
     requires there { part < length program.now.spans.now }
     requires code { pc < length program.now.lowering.now.code }
     ensures ok { OnOk result (Added (read program.now) (table found.old) (table found.new) (At part pc (IsEntered (read program.now) part pc lock.now))) }
     ensures err { IfErr result (Stopped (table found.old) (table found.new) (At part pc (IsEntered (read program.now) part pc lock.now))) }
 {
     let locks = entered(alloc, program, part, pc, lock)?;
-    found.add_all(part, pc, locks)
+    found.add_all(alloc, part, pc, locks)
 }
 
 /// What the lock at the entry of a callee becomes at its call; nothing where no call is.

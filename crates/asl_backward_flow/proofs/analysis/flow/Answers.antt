@@ -1,8 +1,9 @@
-use Rattle.asl_backward_flow.specs.Found.{table}
+use Rattle.std.proofs.Common.{sym, subst}
 use Rattle.asl_backward_flow.specs.Follows.{read}
+use Rattle.asl_backward_flow.specs.Parts.{TellsAll}
 use Rattle.asl_backward_flow.proofs.Tellings.{tells_all}
 use Rattle.asl_backward_flow.proofs.analysis.flow.Goals as goal
 
-pub returns-in_ok-parts-in-Ok-clause-ok : goal.returns-in_ok-parts-in-Ok-clause-ok
-returns-in_ok-parts-in-Ok-clause-ok c =
-    tells_all (read c.args.program.now) c.requires (table c.in-Ok.found) c.in-Ok.ensures.ok c.in_ok-parts-in-Ok.field-0 c.in_ok-parts-in-Ok.ensures
+pub returns-in-Ok-clause-ok : goal.returns-in-Ok-clause-ok
+returns-in-Ok-clause-ok c =
+    subst (TellsAll (read c.args.program.now)) (sym c.flow_of.ensures) (tells_all (read c.args.program.now) c.requires c.in-Ok.found.parts.items c.in-Ok.found.list.items c.in-Ok.ensures.ok)

@@ -1,11 +1,7 @@
-use Rattle.std.proofs.Common.{arith}
-use Rattle.asl_backward_flow.specs.Found.{table}
 use Rattle.asl_backward_flow.specs.Follows.{read}
-use Rattle.asl_backward_flow.proofs.Closing.{followed_end}
+use Rattle.asl_backward_flow.proofs.Closing.{taken_followed}
 use Rattle.asl_backward_flow.proofs.flow.follow_all.Goals as goal
 
-pub returns-clause-ok : goal.returns-clause-ok
-returns-clause-ok c =
-    let end = c.loop-next-test.false in
-    let len = c.len.ensures.len in
-    followed_end (read c.args.program.now) (table c.loop-next.found) c.loop-next.next (omega (arith, end, len)) c.loop-next.invariant
+pub follow-requires-clause-followed : goal.follow-requires-clause-followed
+follow-requires-clause-followed c =
+    taken_followed (read c.args.program.now) c.loop-fact.found.parts.items c.loop-fact.found.list.items c.pop_front.new.self.items c.in-Some.fact c.in-Some.ensures.items c.loop-fact.invariant

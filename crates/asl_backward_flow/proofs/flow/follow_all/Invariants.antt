@@ -1,10 +1,9 @@
-use Rattle.std.proofs.Common.{◌-◌}
-use Rattle.asl_backward_flow.specs.Found.{table}
+use Rattle.asl_backward_flow.specs.Found.{table, left}
 use Rattle.asl_backward_flow.specs.Follows.{read, IsFollowed}
 use Rattle.asl_backward_flow.proofs.flow.follow_all.Given as goal
 
-abbrev pub invariant-loop-next : goal.invariant-loop-next
-invariant-loop-next l = IsFollowed (read l.program) (table l.found) l.next
+abbrev pub invariant-loop-fact : goal.invariant-loop-fact
+invariant-loop-fact l = IsFollowed (read l.program) (table l.found) (table l.found).list
 
-abbrev pub decreases-loop-next : goal.decreases-loop-next
-decreases-loop-next l = 9223372036854775808 - l.next
+abbrev pub decreases-loop-fact : goal.decreases-loop-fact
+decreases-loop-fact l = left (table l.found)

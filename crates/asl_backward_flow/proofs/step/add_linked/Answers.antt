@@ -12,7 +12,7 @@ returns-clause-ok c =
     (stands_at c.args.program.now.lowering.now.code c.code.result.now c.from-2.result c.args.pc _ c.code.ensures.code c.from-2.ensures c.requires.code)
     _ c.view.ensures c.args.lock.now _ _ c.new-locks.ensures.items c.in_ok-add_links.ensures in
     added_list (read c.args.program.now) (table c.args.found.now) (table c.add_all.new.self) c.args.part c.args.pc _ _ (λ m. (is m).0) (λ m. (is m).1) c.requires.ready
-    c.add_all.result c.add_all.ensures.whole c.add_all.ensures.has c.add_all.ensures.adds
+    c.add_all.result c.add_all.ensures.whole c.add_all.ensures.has c.add_all.ensures.lists c.add_all.ensures.adds
 
 pub returns-clause-err : goal.returns-clause-err
 returns-clause-err c =

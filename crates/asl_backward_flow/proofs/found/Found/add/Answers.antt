@@ -1,38 +1,92 @@
-use Rattle.std.proofs.Common.{rules, arith}
-use Rattle.asl_backward_flow.proofs.Tables.{change_of, adds_name, adds_fact, whole_fact, has_fact, is_over}
+use Rattle.std.proofs.Common.{rules, refl, arith, ap, length}
+use Rattle.asl_backward_flow.proofs.Tables.{sets_before, first_before, part_adds, part_over, mark_adds, mark_has, mark_whole, mark_lists}
 use Rattle.asl_backward_flow.proofs.found.Found.add.Goals as goal
 
 pub returns-in_err-number-clause-adds : goal.returns-in_err-number-clause-adds
 returns-in_err-number-clause-adds c =
-    let change = change_of (λ s. s.keys) c.args.self.now.locks.items c.args.part c.from.result c.index_mut-locks.result.now c.number.new.locks (search (rules, c.from.ensures)) (omega (arith, c.requires.there)) c.index_mut-locks.ensures.value in
-    adds_name _ _ c.args.part _ _ c.args.lock change c.in_err-number.ensures.numbers c.args.self.now.facts.keys c.args.pc c.requires.whole
+    part_adds c.args.self.now.parts.items c.args.part c.from.result c.index_mut-region.result.now
+    (record { region = c.index_mut-region.result.now.region; first = c.index_mut-region.result.now.first; locks = c.number.new.locks; needs = c.index_mut-region.result.now.needs })
+    c.args.self.now.list.items c.args.self.now.list.items (search (rules, c.from.ensures)) (omega (arith, c.requires.there)) c.index_mut-region.ensures.value
+    refl refl c.args.lock c.in_err-number.ensures.numbers c.args.pc c.requires.whole refl
 
 pub returns-then-len-gt-MOST-clause-adds : goal.returns-then-len-gt-MOST-clause-adds
 returns-then-len-gt-MOST-clause-adds c =
-    let change = change_of (λ s. s.keys) c.args.self.now.locks.items c.args.part c.from.result c.index_mut-locks.result.now c.number.new.locks (search (rules, c.from.ensures)) (omega (arith, c.requires.there)) c.index_mut-locks.ensures.value in
-    adds_name _ _ c.args.part _ _ c.args.lock change c.in_ok-number.ensures.numbers c.args.self.now.facts.keys c.args.pc c.requires.whole
+    part_adds c.args.self.now.parts.items c.args.part c.from.result c.index_mut-region.result.now
+    (record { region = c.index_mut-region.result.now.region; first = c.index_mut-region.result.now.first; locks = c.number.new.locks; needs = c.index_mut-region.result.now.needs })
+    c.args.self.now.list.items c.args.self.now.list.items (search (rules, c.from.ensures)) (omega (arith, c.requires.there)) c.index_mut-region.ensures.value
+    refl refl c.args.lock c.in_ok-number.ensures.numbers c.args.pc c.requires.whole refl
 
 pub returns-then-len-gt-MOST-clause-over : goal.returns-then-len-gt-MOST-clause-over
 returns-then-len-gt-MOST-clause-over c =
-    let change = change_of (λ s. s.keys) c.args.self.now.locks.items c.args.part c.from.result c.index_mut-locks.result.now c.number.new.locks (search (rules, c.from.ensures)) (omega (arith, c.requires.there)) c.index_mut-locks.ensures.value in
-    let many = c.if-len-gt-MOST.true in let len = c.len.ensures.len in is_over _ _ c.args.part _ _ c.args.lock change c.in_ok-number.ensures.numbers c.args.self.now.facts.keys (omega arith)
+    part_over c.args.self.now.parts.items c.args.part c.from.result c.index_mut-region.result.now
+    (record { region = c.index_mut-region.result.now.region; first = c.index_mut-region.result.now.first; locks = c.number.new.locks; needs = c.index_mut-region.result.now.needs })
+    c.args.self.now.list.items c.args.self.now.list.items (search (rules, c.from.ensures)) (omega (arith, c.requires.there)) c.index_mut-region.ensures.value
+    refl refl c.args.lock c.in_ok-number.ensures.numbers (let many = c.if-len-gt-MOST.true in let len = c.len.ensures.len in omega arith)
 
-pub returns-in_err-insert-clause-adds : goal.returns-in_err-insert-clause-adds
-returns-in_err-insert-clause-adds c =
-    let change = change_of (λ s. s.keys) c.args.self.now.locks.items c.args.part c.from.result c.index_mut-locks.result.now c.number.new.locks (search (rules, c.from.ensures)) (omega (arith, c.requires.there)) c.index_mut-locks.ensures.value in
-    adds_fact _ _ c.args.part _ _ c.args.lock change c.in_ok-number.ensures.numbers c.args.self.now.facts.keys c.insert.new.facts.keys c.args.pc c.in_ok-number.number c.in_err-insert.ensures.holds c.in_ok-number.ensures.stored c.requires.whole
+pub overflow_sub-pc : goal.overflow_sub-pc
+overflow_sub-pc c =
+    let point = c.requires.point.1 in
+    let first = first_before c.args.self.now.parts.items c.args.part c.from.result c.index_mut-region.result.now c.args.self.now.list.items (search (rules, c.from.ensures)) (omega (arith, c.requires.there)) c.index_mut-region.ensures.value in
+    omega (arith, point, first)
+
+pub mark-requires-clause-there : goal.mark-requires-clause-there
+mark-requires-clause-there c =
+    let point = c.requires.point.1 in
+    let first = first_before c.args.self.now.parts.items c.args.part c.from.result c.index_mut-region.result.now c.args.self.now.list.items (search (rules, c.from.ensures)) (omega (arith, c.requires.there)) c.index_mut-region.ensures.value in
+    let place = c.from-place.ensures in
+    let lt = c.requires.point.2 in
+    let count = ap length (sets_before c.args.self.now.parts.items c.args.part c.from.result c.index_mut-region.result.now c.args.self.now.list.items (search (rules, c.from.ensures)) (omega (arith, c.requires.there)) c.index_mut-region.ensures.value) in
+    omega (arith, point, first, place, lt, count)
+
+pub returns-in_err-is_new-clause-adds : goal.returns-in_err-is_new-clause-adds
+returns-in_err-is_new-clause-adds c =
+    part_adds c.args.self.now.parts.items c.args.part c.from.result c.index_mut-region.result.now
+    (record { region = c.index_mut-region.result.now.region; first = c.index_mut-region.result.now.first; locks = c.number.new.locks; needs = c.mark.new.sets })
+    c.args.self.now.list.items c.args.self.now.list.items (search (rules, c.from.ensures)) (omega (arith, c.requires.there)) c.index_mut-region.ensures.value
+    refl refl c.args.lock c.in_ok-number.ensures.numbers c.args.pc c.requires.whole c.in_err-is_new.ensures.err
+
+pub returns-in_err-put-clause-adds : goal.returns-in_err-put-clause-adds
+returns-in_err-put-clause-adds c =
+    mark_adds c.args.self.now.parts.items c.args.part c.from.result c.index_mut-region.result.now
+    (record { region = c.index_mut-region.result.now.region; first = c.index_mut-region.result.now.first; locks = c.number.new.locks; needs = c.mark.new.sets })
+    c.args.self.now.list.items c.put.new.list.items (search (rules, c.from.ensures)) (omega (arith, c.requires.there)) c.index_mut-region.ensures.value
+    refl refl c.args.lock c.in_ok-number.ensures.numbers c.from-place.result c.in_ok-number.number c.in_ok-is_new.is_new c.in_ok-is_new.ensures.marked c.args.pc
+    (let point = c.requires.point.1 in let first = first_before c.args.self.now.parts.items c.args.part c.from.result c.index_mut-region.result.now c.args.self.now.list.items (search (rules, c.from.ensures)) (omega (arith, c.requires.there)) c.index_mut-region.ensures.value in let place = c.from-place.ensures in omega (arith, point, first, place))
+    c.in_ok-number.ensures.stored c.requires.whole
 
 pub returns-clause-adds : goal.returns-clause-adds
 returns-clause-adds c =
-    let change = change_of (λ s. s.keys) c.args.self.now.locks.items c.args.part c.from.result c.index_mut-locks.result.now c.number.new.locks (search (rules, c.from.ensures)) (omega (arith, c.requires.there)) c.index_mut-locks.ensures.value in
-    adds_fact _ _ c.args.part _ _ c.args.lock change c.in_ok-number.ensures.numbers c.args.self.now.facts.keys c.insert.new.facts.keys c.args.pc c.in_ok-number.number c.in_ok-insert.ensures.holds c.in_ok-number.ensures.stored c.requires.whole
-
-pub returns-clause-whole : goal.returns-clause-whole
-returns-clause-whole c =
-    let change = change_of (λ s. s.keys) c.args.self.now.locks.items c.args.part c.from.result c.index_mut-locks.result.now c.number.new.locks (search (rules, c.from.ensures)) (omega (arith, c.requires.there)) c.index_mut-locks.ensures.value in
-    whole_fact _ _ c.args.part _ _ c.args.lock change c.in_ok-number.ensures.numbers c.args.self.now.facts.keys c.insert.new.facts.keys c.args.pc c.in_ok-number.number c.in_ok-insert.ensures.holds c.in_ok-number.ensures.stored c.requires.whole (let few = c.if-len-gt-MOST.false in let len = c.len.ensures.len in omega arith)
+    mark_adds c.args.self.now.parts.items c.args.part c.from.result c.index_mut-region.result.now
+    (record { region = c.index_mut-region.result.now.region; first = c.index_mut-region.result.now.first; locks = c.number.new.locks; needs = c.mark.new.sets })
+    c.args.self.now.list.items c.put.new.list.items (search (rules, c.from.ensures)) (omega (arith, c.requires.there)) c.index_mut-region.ensures.value
+    refl refl c.args.lock c.in_ok-number.ensures.numbers c.from-place.result c.in_ok-number.number c.in_ok-is_new.is_new c.in_ok-is_new.ensures.marked c.args.pc
+    (let point = c.requires.point.1 in let first = first_before c.args.self.now.parts.items c.args.part c.from.result c.index_mut-region.result.now c.args.self.now.list.items (search (rules, c.from.ensures)) (omega (arith, c.requires.there)) c.index_mut-region.ensures.value in let place = c.from-place.ensures in omega (arith, point, first, place))
+    c.in_ok-number.ensures.stored c.requires.whole
 
 pub returns-clause-has : goal.returns-clause-has
 returns-clause-has c =
-    let change = change_of (λ s. s.keys) c.args.self.now.locks.items c.args.part c.from.result c.index_mut-locks.result.now c.number.new.locks (search (rules, c.from.ensures)) (omega (arith, c.requires.there)) c.index_mut-locks.ensures.value in
-    has_fact _ _ c.args.part _ _ c.args.lock change c.in_ok-number.ensures.numbers c.args.self.now.facts.keys c.insert.new.facts.keys c.args.pc c.in_ok-number.number c.in_ok-insert.ensures.holds c.in_ok-number.ensures.stored c.in_ok-insert.ensures.stored
+    mark_has c.args.self.now.parts.items c.args.part c.from.result c.index_mut-region.result.now
+    (record { region = c.index_mut-region.result.now.region; first = c.index_mut-region.result.now.first; locks = c.number.new.locks; needs = c.mark.new.sets })
+    c.args.self.now.list.items c.put.new.list.items (search (rules, c.from.ensures)) (omega (arith, c.requires.there)) c.index_mut-region.ensures.value
+    refl refl c.args.lock c.in_ok-number.ensures.numbers c.from-place.result c.in_ok-number.number c.in_ok-is_new.is_new c.in_ok-is_new.ensures.marked c.args.pc
+    (let point = c.requires.point.1 in let first = first_before c.args.self.now.parts.items c.args.part c.from.result c.index_mut-region.result.now c.args.self.now.list.items (search (rules, c.from.ensures)) (omega (arith, c.requires.there)) c.index_mut-region.ensures.value in let place = c.from-place.ensures in omega (arith, point, first, place))
+    c.in_ok-number.ensures.stored c.requires.whole
+
+pub returns-clause-whole : goal.returns-clause-whole
+returns-clause-whole c =
+    mark_whole c.args.self.now.parts.items c.args.part c.from.result c.index_mut-region.result.now
+    (record { region = c.index_mut-region.result.now.region; first = c.index_mut-region.result.now.first; locks = c.number.new.locks; needs = c.mark.new.sets })
+    c.args.self.now.list.items c.put.new.list.items (search (rules, c.from.ensures)) (omega (arith, c.requires.there)) c.index_mut-region.ensures.value
+    refl refl c.args.lock c.in_ok-number.ensures.numbers c.from-place.result c.in_ok-number.number c.in_ok-is_new.is_new c.in_ok-is_new.ensures.marked c.args.pc
+    (let point = c.requires.point.1 in let first = first_before c.args.self.now.parts.items c.args.part c.from.result c.index_mut-region.result.now c.args.self.now.list.items (search (rules, c.from.ensures)) (omega (arith, c.requires.there)) c.index_mut-region.ensures.value in let place = c.from-place.ensures in omega (arith, point, first, place))
+    c.in_ok-number.ensures.stored c.requires.whole c.in_ok-put.ensures.ok
+    (let few = c.if-len-gt-MOST.false in let len = c.len.ensures.len in omega arith)
+
+pub returns-clause-lists : goal.returns-clause-lists
+returns-clause-lists c =
+    mark_lists c.args.self.now.parts.items c.args.part c.from.result c.index_mut-region.result.now
+    (record { region = c.index_mut-region.result.now.region; first = c.index_mut-region.result.now.first; locks = c.number.new.locks; needs = c.mark.new.sets })
+    c.args.self.now.list.items c.put.new.list.items (search (rules, c.from.ensures)) (omega (arith, c.requires.there)) c.index_mut-region.ensures.value
+    refl refl c.args.lock c.in_ok-number.ensures.numbers c.from-place.result c.in_ok-number.number c.in_ok-is_new.is_new c.in_ok-is_new.ensures.marked c.args.pc
+    (let point = c.requires.point.1 in let first = first_before c.args.self.now.parts.items c.args.part c.from.result c.index_mut-region.result.now c.args.self.now.list.items (search (rules, c.from.ensures)) (omega (arith, c.requires.there)) c.index_mut-region.ensures.value in let place = c.from-place.ensures in omega (arith, point, first, place))
+    c.in_ok-number.ensures.stored c.requires.whole c.in_ok-put.ensures.ok

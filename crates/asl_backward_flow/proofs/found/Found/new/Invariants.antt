@@ -1,5 +1,5 @@
-use Rattle.std.proofs.Common.{◌≡◌, map, replicate, []}
+use Rattle.asl_backward_flow.proofs.Blanks.{AreMade}
 use Rattle.asl_backward_flow.proofs.found.Found.new.Given as goal
 
-abbrev pub invariant-loop : goal.invariant-loop
-invariant-loop l = map (λ s. s.keys) l.locks.items ≡ replicate l.counter []
+abbrev pub invariant-loop-span : goal.invariant-loop-span
+invariant-loop-span l = AreMade l.spans l.span-index l.parts.items

@@ -2,7 +2,7 @@ use Rattle.std.proofs.Common.{ap, sym, ◌∙◌, Some}
 use Rattle.asl_code.specs.contracts.lock.LockPartialEq.TheImpl.{ghosts}
 use Rattle.asl_code.proofs.Same.{same_lock, itself_lock}
 use Rattle.asl_backward_flow.proofs.Sets.{made_numbers, same_numbers}
-use Rattle.asl_backward_flow.proofs.found.number.Goals as goal
+use Rattle.asl_backward_flow.proofs.part.number.Goals as goal
 
 pub returns-clause-stored : goal.returns-clause-stored
 returns-clause-stored c = let s = c.in_ok-number.ensures.stored in s.1 ∙ ap Some (sym (same_lock _ _ s.2))

@@ -1,0 +1,159 @@
+//! A region with the locks that it needs, and the points at which it needs them.
+ghost use Rattle.std.specs.Prelude.{◌≡◌, ◌<◌, ◌≤◌, ◌+◌, ◌↔◌, ◌⊎◌, ℕ, Some, [], length, replicate, slice_get, IfOk, OnOk, OnErr};
+ghost use Rattle.asl_code.specs.declared.lock.Lock.{Lock};
+ghost use Rattle.asl_lane_sets.specs.NumberSet.{IsIn};
+ghost use Rattle.asl_lock_expr.specs.Links.{IsOne};
+ghost use Rattle.asl_lock_expr.specs.Order.{AreInOrder};
+ghost use Rattle.asl_backward_flow.specs.Needed.{IsOfPart};
+ghost use Rattle.asl_backward_flow.specs.Found.{Numbers, IsMarked, IsNamed, IsBlankPart};
+ghost use Rattle.asl_backward_flow.specs.Parts.{part};
+
+use crate::copy::copied;
+use crate::region::Region;
+use crate::span::Span;
+use asl_code::Lock;
+use asl_lane_sets::Bits;
+use asl_lock_expr::add_in_order;
+use indexmap::IndexSet;
+use std::alloc::{AllocError, Global};
+
+/// A region with its locks in the order in which they were found. For each of its points, from the first pc on, a set has the
+/// numbers of the locks that are needed there; a set is as long as its numbers made it.
+#[derive(Drop)]
+pub struct Part {
+    pub region: Region,
+    pub first: u16,
+    pub locks: IndexSet<Lock>,
+    pub needs: Vec<Bits>,
+}
+
+/// The number of a lock among those found, at which it is put in if it is new.
+pub fn number(locks: &mut IndexSet<Lock>, lock: Lock) -> Result<usize, AllocError>
+    ensures stored { IfOk result (λ n. slice_get locks.new.keys n ≡ Some lock) }
+    ensures numbers { Numbers locks.old.keys locks.new.keys lock }
+    ensures within { IfOk result (λ n. n < length locks.new.keys) }
+{
+    let (number, _is_new) = locks.insert_full(lock)?;
+    Ok(number)
+}
+
+/// Puts a number into the set at a place, and tells whether it is new there.
+pub fn mark(
+    alloc: Global,
+    sets: &mut Vec<Bits>,
+    place: usize,
+    number: usize,
+) -> Result<bool, AllocError>
+    requires there { place < length sets.old.items }
+    requires small { number < 4096 }
+    ensures marked { IfOk result (IsMarked sets.old.items sets.new.items place number) }
+    ensures err { OnErr result (sets.new.items ≡ sets.old.items) }
+{
+    let set = &mut sets[place];
+    make_room(alloc, set, number)?;
+    if set.has(number) {
+        return Ok(false);
+    }
+    set.add(number);
+    Ok(true)
+}
+
+/// Makes the set long enough for a number.
+fn make_room(alloc: Global, set: &mut Bits, number: usize) -> Result<(), AllocError>
+    requires small { number < 4096 }
+    ensures room { OnOk result (number < length set.new) }
+    ensures same { OnOk result ((k : ℕ) → IsIn set.new k ↔ IsIn set.old k) }
+    ensures err { OnErr result (set.new ≡ set.old) }
+{
+    if set.len() <= number {
+        *set = longer(alloc, set, number)?;
+    }
+    Ok(())
+}
+
+/// The same set with room for a number that is past its end.
+fn longer(alloc: Global, set: &Bits, number: usize) -> Result<Bits, AllocError>
+    requires past { length set.now ≤ number }
+    requires small { number < 4096 }
+    ensures room { IfOk result (λ new. number < length new) }
+    ensures same { IfOk result (λ new. (k : ℕ) → IsIn new k ↔ IsIn set.now k) }
+{
+    let mut new = Bits::with_len(alloc, (number / 128 + 1) * 256)?;
+    let members = set.members(alloc)?;
+    for member in members.as_slice() {
+        new.add(*member);
+    }
+    Ok(new)
+}
+
+/// So many sets without numbers.
+fn empty_sets(alloc: Global, count: usize) -> Result<Vec<Bits>, AllocError>
+    ensures { IfOk result (λ sets. sets.items ≡ replicate count []) }
+{
+    let mut sets = Vec::new(alloc);
+    for _ in 0..count {
+        sets.push(Bits::with_len(alloc, 0)?)?;
+    }
+    Ok(sets)
+}
+
+impl Part {
+    /// The region of a span, with nothing found yet.
+    pub fn new(alloc: Global, span: &Span) -> Result<Part, AllocError>
+        ensures { IfOk result (IsBlankPart span.now) }
+    {
+        let count = span.end.saturating_sub(span.first);
+        Ok(Part {
+            region: span.region,
+            first: span.first,
+            locks: IndexSet::new(alloc),
+            needs: empty_sets(alloc, usize::from(count))?,
+        })
+    }
+
+    /// Adds the locks that are needed at the pc.
+    pub fn add_needed(
+        &self,
+        alloc: Global,
+        pc: u32,
+        locks: &mut Vec<Lock>,
+    ) -> Result<(), AllocError>
+        requires { AreInOrder locks.old.items }
+        ensures order { OnOk result (AreInOrder locks.new.items) }
+        ensures locks { OnOk result ((m : Lock) → IsOne locks.new.items m ↔ (IsOne locks.old.items m ⊎ IsOfPart (part self.now) pc m)) }
+    {
+        let first = u32::from(self.first);
+        if pc < first {
+            return Ok(());
+        }
+        match self.needs.get((pc - first) as usize) {
+            Some(set) => self.add_set(alloc, set, locks),
+            None => Ok(()),
+        }
+    }
+
+    /// Adds the locks whose numbers are in the set.
+    fn add_set(&self, alloc: Global, set: &Bits, locks: &mut Vec<Lock>) -> Result<(), AllocError>
+        requires { AreInOrder locks.old.items }
+        ensures order { OnOk result (AreInOrder locks.new.items) }
+        ensures locks { OnOk result ((m : Lock) → IsOne locks.new.items m ↔ (IsOne locks.old.items m ⊎ IsNamed self.now.locks.keys set.now m)) }
+    {
+        let numbers = set.members(alloc)?;
+        for number in numbers.as_slice() {
+            self.add_lock(*number, locks)?;
+        }
+        Ok(())
+    }
+
+    /// Adds the lock of this number.
+    fn add_lock(&self, number: usize, locks: &mut Vec<Lock>) -> Result<(), AllocError>
+        requires { AreInOrder locks.old.items }
+        ensures order { OnOk result (AreInOrder locks.new.items) }
+        ensures locks { OnOk result ((m : Lock) → IsOne locks.new.items m ↔ (IsOne locks.old.items m ⊎ (slice_get self.now.locks.keys number ≡ Some m))) }
+    {
+        match self.locks.as_slice().get(number) {
+            Some(lock) => add_in_order(locks, copied(lock)),
+            None => Ok(()),
+        }
+    }
+}
