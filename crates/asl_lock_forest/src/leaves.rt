@@ -68,6 +68,7 @@ impl Leaves {
     }
 
     /// The key of the leaf's row.
+    #[inline(always)]
     fn key(&self, leaf: (u16, u8, u16)) -> Option<usize>
         ensures { result ≡ key_of_leaf self.now leaf }
     {

@@ -151,10 +151,9 @@ fn registers(alloc: Global, arguments: &[Value], count: u8) -> Result<Vec<Value>
     requires { length arguments.now ≤ count }
     ensures { IfOk result (λ regs. regs.items ≡ first_registers arguments.now count) }
 {
-    let mut regs = arguments.to_vec(alloc)?;
-    for _ in arguments.len()..usize::from(count) {
-        regs.push(Value::Int(0))?;
-    }
+    let mut regs = Vec::with_capacity(alloc, usize::from(count))?;
+    regs.extend_from_slice(arguments)?;
+    regs.resize(usize::from(count), Value::Int(0))?;
     Ok(regs)
 }
 

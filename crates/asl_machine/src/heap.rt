@@ -86,10 +86,8 @@ impl Object {
 fn zeros(alloc: Global, count: u8) -> Result<Vec<Value>, AllocError>
     ensures { IfOk result (λ cells. cells.items ≡ replicate count (Value.Int (pos 0))) }
 {
-    let mut cells = Vec::new(alloc);
-    for _ in 0..count {
-        cells.push(Value::Int(0))?;
-    }
+    let mut cells = Vec::with_capacity(alloc, usize::from(count))?;
+    cells.resize(usize::from(count), Value::Int(0))?;
     Ok(cells)
 }
 

@@ -22,6 +22,8 @@ pub struct Machine<'p> {
     code: Code<'p>,
     heap: Heap,
     forest: Forest,
+    /// Room for what a section asks for; what is in it between steps means nothing.
+    asks: Vec<(Node, Mode)>,
     threads: Vec<Thread>,
 }
 
@@ -85,7 +87,14 @@ impl<'p> Machine<'p> {
             return Err(MachineFault::BadThread);
         }
         let thread = &mut self.threads[t as usize];
-        Ok(thread.step(alloc, &self.code, &mut self.heap, &mut self.forest, t)?)
+        Ok(thread.step(
+            alloc,
+            &self.code,
+            &mut self.heap,
+            &mut self.forest,
+            &mut self.asks,
+            t,
+        )?)
     }
 
     /// A machine of the same program in an equal state. The two go on apart.
@@ -103,6 +112,7 @@ impl<'p> Machine<'p> {
             code: self.code.try_copy(alloc)?,
             heap: self.heap.try_copy(alloc)?,
             forest: self.forest.try_copy(alloc)?,
+            asks: Vec::new(alloc),
             threads: copies(alloc, self.threads.as_slice())?,
         })
     }
@@ -229,6 +239,7 @@ fn start<'p>(alloc: Global, program: &'p Program, n: u32) -> Result<Machine<'p>,
         code,
         heap,
         forest,
+        asks: Vec::new(alloc),
         threads,
     })
 }

@@ -13,7 +13,8 @@ use crate::memory::{load, make, store};
 use crate::sections::{acquire, leave};
 use crate::values::{comparison, difference, equality, moved_on, sum};
 use asl_code::{Instr, Value};
-use asl_lock_forest::Forest;
+use asl_lock_forest::{Forest, Node};
+use asl_mode_lanes::Mode;
 use std::alloc::{AllocError, Global};
 
 /// Does the instruction, at which the thread is.
@@ -22,6 +23,7 @@ pub fn perform(
     code: &Code<'_>,
     heap: &mut Heap,
     forest: &mut Forest,
+    asks: &mut Vec<(Node, Mode)>,
     t: u32,
     activity: &mut Activity,
     instr: Instr,
@@ -59,7 +61,7 @@ pub fn perform(
         } => call(alloc, code, activity, to, first, function)?,
         Instr::Return { from } => give(activity, activity.read(from)),
         Instr::Output { from } => show(activity, activity.read(from)),
-        Instr::Acquire { list } => acquire(alloc, code, heap, forest, t, activity, list)?,
+        Instr::Acquire { list } => acquire(code, heap, forest, asks, t, activity, list)?,
         Instr::Release => leave(forest, t, activity),
     })
 }

@@ -1,5 +1,5 @@
 //! What a section asks for at its entry.
-ghost use Rattle.std.specs.Prelude.{◌≡◌, IsTrue, false, All, IfOk, IfSome, OnOk, is_some, position};
+ghost use Rattle.std.specs.Prelude.{◌≡◌, IsTrue, false, All, IfOk, OnOk, position};
 ghost use Rattle.asl_lock_forest.specs.Node.{same_node, IsThere};
 ghost use Rattle.asl_lock_forest.specs.Holding.{covering_mode, can_grant};
 ghost use Rattle.asl_machine.specs.Access.{AreOfClasses};
@@ -11,30 +11,30 @@ use asl_code::{Cell, Effect, Lock, Value};
 use asl_lock_expr::eval;
 use asl_lock_forest::{Forest, Node};
 use asl_mode_lanes::{Mode, join};
-use std::alloc::{AllocError, Global};
+use std::alloc::AllocError;
 
-/// The request of the locks in these registers and this heap: at each node the join of what the locks ask there. None where
-/// another thread is in the way of one of them, as soon as that is seen.
+/// Makes the request of the locks in these registers and this heap: at each node the join of what the locks ask there. Ends
+/// where another thread is in the way of one of them: whether none is.
 pub fn request(
-    alloc: Global,
+    asks: &mut Vec<(Node, Mode)>,
     locks: &[Lock],
     regs: &[Value],
     heap: &Heap,
     forest: &Forest,
     t: u32,
-) -> Result<Option<Vec<(Node, Mode)>>, AllocError>
+) -> Result<bool, AllocError>
     requires locks { All (LockOfClass forest.now.classes) locks.now }
     requires classes { AreOfClasses forest.now.classes heap.now }
-    ensures request { IfOk result (λ r. IfSome r (λ request. request.items ≡ request_of heap.now regs.now locks.now)) }
-    ensures free { IfOk result (λ r. is_some r ≡ can_grant forest.now.holding t (request_of heap.now regs.now locks.now)) }
+    ensures request { IfOk result (λ free. IsTrue free → asks.new.items ≡ request_of heap.now regs.now locks.now) }
+    ensures free { IfOk result (λ free. free ≡ can_grant forest.now.holding t (request_of heap.now regs.now locks.now)) }
 {
-    let mut request = Vec::new(alloc);
+    asks.clear();
     for lock in locks {
-        if !add_lock(&mut request, lock, regs, heap, forest, t)? {
-            return Ok(None);
+        if !add_lock(asks, lock, regs, heap, forest, t)? {
+            return Ok(false);
         }
     }
-    Ok(Some(request))
+    Ok(true)
 }
 
 /// Adds what the lock asks, unless another thread is in the way: whether none is.

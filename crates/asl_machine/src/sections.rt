@@ -12,15 +12,16 @@ use crate::frame::Activity;
 use crate::heap::Heap;
 use crate::request::request;
 use asl_code::Lock;
-use asl_lock_forest::Forest;
-use std::alloc::{AllocError, Global};
+use asl_lock_forest::{Forest, Node};
+use asl_mode_lanes::Mode;
+use std::alloc::AllocError;
 
 /// Enters a section with the locks of a list. The outermost asks for them, and waits where others hold them.
 pub fn acquire(
-    alloc: Global,
     code: &Code<'_>,
     heap: &Heap,
     forest: &mut Forest,
+    asks: &mut Vec<(Node, Mode)>,
     t: u32,
     activity: &mut Activity,
     list: u16,
@@ -46,7 +47,7 @@ pub fn acquire(
     ensures err_forest { OnErr result (forest.new ≡ forest.old) }
 {
     match activity.depth() {
-        0 => enter(alloc, heap, forest, t, activity, locks(code, list)),
+        0 => enter(heap, forest, asks, t, activity, locks(code, list)),
         255 => Ok(Fate::Fails(Fault::Deep)),
         _ => {
             activity.enter();
@@ -89,9 +90,9 @@ fn locks<'a>(code: &'a Code<'_>, list: u16) -> &'a [Lock]
 
 /// Enters the outermost section, or waits.
 fn enter(
-    alloc: Global,
     heap: &Heap,
     forest: &mut Forest,
+    asks: &mut Vec<(Node, Mode)>,
     t: u32,
     activity: &mut Activity,
     locks: &[Lock],
@@ -113,12 +114,11 @@ fn enter(
     ensures err { OnErr result (activity.new ≡ activity.old) }
     ensures err_forest { OnErr result (forest.new ≡ forest.old) }
 {
-    match request(alloc, locks, activity.regs(), heap, forest, t)? {
-        Some(request) => {
-            forest.grant(t, request.as_slice())?;
-            activity.enter();
-            Ok(Fate::GoesOn)
-        }
-        None => Ok(Fate::Waits),
+    if request(asks, locks, activity.regs(), heap, forest, t)? {
+        forest.grant(t, asks.as_slice())?;
+        activity.enter();
+        Ok(Fate::GoesOn)
+    } else {
+        Ok(Fate::Waits)
     }
 }

@@ -13,7 +13,8 @@ use crate::heap::Heap;
 use crate::perform::perform;
 use crate::reply::{Reply, Status};
 use asl_code::Value;
-use asl_lock_forest::Forest;
+use asl_lock_forest::{Forest, Node};
+use asl_mode_lanes::Mode;
 use std::alloc::{AllocError, Global};
 use std::marker::Model;
 
@@ -100,6 +101,7 @@ impl Thread {
         code: &Code<'_>,
         heap: &mut Heap,
         forest: &mut Forest,
+        asks: &mut Vec<(Node, Mode)>,
         t: u32,
     ) -> Result<Reply, AllocError>
         requires there { t < forest.old.threads }
@@ -118,7 +120,7 @@ impl Thread {
         let Stage::Running(activity) = &mut self.stage else {
             return Ok(Reply::Ended);
         };
-        let fate = advance(alloc, code, heap, forest, t, activity)?;
+        let fate = advance(alloc, code, heap, forest, asks, t, activity)?;
         match fate {
             Fate::Ends(value) => self.stage = Stage::Done(value),
             Fate::Fails(fault) => self.stage = Stage::Failed(fault),
@@ -135,6 +137,7 @@ fn advance(
     code: &Code<'_>,
     heap: &mut Heap,
     forest: &mut Forest,
+    asks: &mut Vec<(Node, Mode)>,
     t: u32,
     activity: &mut Activity,
 ) -> Result<Fate, AllocError>
@@ -151,7 +154,7 @@ fn advance(
     ensures err_forest { OnErr result (forest.new ≡ forest.old) }
 {
     let instr = code.fetch(activity.pc());
-    perform(alloc, code, heap, forest, t, activity, instr)
+    perform(alloc, code, heap, forest, asks, t, activity, instr)
 }
 
 /// The reply to this.

@@ -17,11 +17,11 @@ pub loop-lock-preserved : goal.loop-lock-preserved
 loop-lock-preserved c = record {
   joined =
       ap (λ r. joined_all r (all_asks c.args.heap.now c.args.regs.now (drop (c.loop-lock.lock-index + 1) c.args.locks.now))) (c.in_ok-add_lock.ensures.added c.if-not-branch.false)
-      ∙ sym (all_left c.args.heap.now c.args.regs.now c.loop-lock.request.items c.args.locks.now c.loop-lock.lock-index c.lock-item.result c.loop-lock-test.true c.lock-item.is)
+      ∙ sym (all_left c.args.heap.now c.args.regs.now c.loop-lock.asks.items c.args.locks.now c.loop-lock.lock-index c.lock-item.result c.loop-lock-test.true c.lock-item.is)
       ∙ c.loop-lock.invariant.joined;
   free =
       subst (CanGrant c.args.forest.now.holding c.args.t) (sym (c.in_ok-add_lock.ensures.added c.if-not-branch.false))
-      (free_all c.args.forest.now.holding c.args.t c.loop-lock.request.items (asks_of c.args.heap.now c.args.regs.now c.lock-item.result) c.loop-lock.invariant.free
+      (free_all c.args.forest.now.holding c.args.t c.loop-lock.asks.items (asks_of c.args.heap.now c.args.regs.now c.lock-item.result) c.loop-lock.invariant.free
       (c.in_ok-add_lock.ensures.free c.if-not-branch.false));
 }
 
@@ -29,5 +29,5 @@ pub returns-clause-free : goal.returns-clause-free
 returns-clause-free c =
     sym (CanGrant-tested c.args.forest.now.holding c.args.t (request_of c.args.heap.now c.args.regs.now c.args.locks.now)
     (subst (CanGrant c.args.forest.now.holding c.args.t)
-    (sym (ap (λ ls. joined_all c.loop-lock.request.items (all_asks c.args.heap.now c.args.regs.now ls)) (drop_all c.loop-lock.lock-index c.args.locks.now c.loop-lock-test.false))
+    (sym (ap (λ ls. joined_all c.loop-lock.asks.items (all_asks c.args.heap.now c.args.regs.now ls)) (drop_all c.loop-lock.lock-index c.args.locks.now c.loop-lock-test.false))
     ∙ c.loop-lock.invariant.joined) c.loop-lock.invariant.free))

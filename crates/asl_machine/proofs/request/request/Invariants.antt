@@ -5,6 +5,6 @@ use Rattle.asl_machine.proofs.request.request.Given as goal
 
 abbrev pub invariant-loop-lock : goal.invariant-loop-lock
 invariant-loop-lock l = record {
-  joined : joined_all l.request.items (all_asks l.heap l.regs (drop l.lock-index l.locks)) ≡ request_of l.heap l.regs l.locks;
-  free : CanGrant l.forest.holding l.t l.request.items;
+  joined : joined_all l.asks.items (all_asks l.heap l.regs (drop l.lock-index l.locks)) ≡ request_of l.heap l.regs l.locks;
+  free : CanGrant l.forest.holding l.t l.asks.items;
 }
