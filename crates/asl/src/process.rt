@@ -11,8 +11,8 @@ use std::process::ExitCode;
 use std::sync::Wait;
 use std::thread::Threads;
 
-/// How many bytes a word has room for at first.
-const FIRST_ROOM: usize = 64;
+/// How many bytes a word has room for at first: as many as the least piece of memory has, since a schedule has many words.
+const FIRST_ROOM: usize = 24;
 
 /// Why a process has no words.
 #[derive(Clone, Copy)]
