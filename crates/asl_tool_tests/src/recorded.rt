@@ -65,64 +65,6 @@ fn a_recorded_run_comes_again(rt: HostRuntime) -> Result<(), Fail> {
     expect(&rt, "replay", FILE.as_slice(), 0, b"same 4\n", "")
 }
 
-/// A byte of the file, its new value, and what is said of the file then.
-const CHANGES: [(usize, u8, &str); 16] = [
-    (0, 1, "asl: Truncated(117)\n"),
-    (3, 0x72, "asl: Truncated(117)\n"),
-    (3, 0x71, "asl: Image(Trailing(94))\n"),
-    (3, 0x5d, "asl: Image(Truncated(93))\n"),
-    (4, 0, "asl: Image(Magic)\n"),
-    (9, 2, "asl: Image(Version)\n"),
-    (28, 1, "asl: Image(BadField(24))\n"),
-    (21, 7, "asl: Image(Verify(FunctionRange))\n"),
-    (98, 0, "asl: Journal(Magic)\n"),
-    (103, 2, "asl: Journal(Version)\n"),
-    (104, 0, "asl: Journal(BadField(6))\n"),
-    (108, 5, "asl: Journal(Truncated(19))\n"),
-    (108, 3, "asl: Journal(Trailing(17))\n"),
-    (109, 2, "asl: Journal(BadField(11))\n"),
-    (116, 5, "asl: Journal(BadField(18))\n"),
-    (116, 0, "asl: Differs(3)\n"),
-];
-
-/// The file with one byte changed.
-fn changed(alloc: Global, at: usize, value: u8) -> Result<Vec<u8>, AllocError> {
-    let mut bytes = FILE.to_vec(alloc)?;
-    if at < bytes.len() {
-        bytes[at] = value;
-    }
-    Ok(bytes)
-}
-
-#[test]
-fn changed_files_are_refused(rt: HostRuntime) -> Result<(), Fail> {
-    for (at, value, said) in CHANGES {
-        let bytes = changed(rt.alloc(), at, value)?;
-        expect(&rt, "replay", bytes.as_slice(), 1, b"", said)?;
-        expect(&rt, "debug view", bytes.as_slice(), 1, b"", said)?;
-    }
-    Ok(())
-}
-
-/// What is said of the file's first n bytes.
-fn cut(alloc: Global, n: usize) -> Result<String, AllocError> {
-    if n < 98 {
-        format!(in alloc; "asl: Truncated({n})\n")
-    } else {
-        let left = n - 98;
-        format!(in alloc; "asl: Journal(Truncated({left}))\n")
-    }
-}
-
-#[test]
-fn cut_files_are_refused(rt: HostRuntime) -> Result<(), Fail> {
-    for n in 0..FILE.len() {
-        let said = cut(rt.alloc(), n)?;
-        expect(&rt, "replay", &FILE[..n], 1, b"", said.as_str())?;
-    }
-    Ok(())
-}
-
 /// The words of a debugger over the counter's run, and what it answers.
 const TALKS: [(&str, &str); 9] = [
     (
