@@ -9,20 +9,38 @@ use std::alloc::Global;
 /// How far the events between two checkpoints are apart.
 static SPACINGS: [u32; 5] = [1, 2, 3, 5, 100];
 
+/// Whether the one position is shown, and the other behind it.
+fn is_pair_shown(
+    alloc: Global,
+    program: &Program,
+    debugger: &mut Debugger<'_>,
+    pair: u32,
+) -> Option<bool> {
+    let from = is_shown(alloc, program, &SCHEDULE, debugger, pair / 19)?;
+    let to = is_shown(alloc, program, &SCHEDULE, debugger, pair % 19)?;
+    Some(from && to)
+}
+
 /// Whether each position is shown behind each other.
-fn are_shown(alloc: Global, spacing: u32) -> Option<bool> {
-    let program = counter(alloc)?;
-    let mut debugger = opened(alloc, &program, &SCHEDULE, spacing)?;
-    for from in 0..=18 {
-        for to in 0..=18 {
-            for position in [from, to] {
-                if !is_shown(alloc, &program, &SCHEDULE, &mut debugger, position)? {
-                    return Some(false);
-                }
-            }
+fn visits(alloc: Global, program: &Program, debugger: &mut Debugger<'_>) -> Option<bool> {
+    for pair in 0..361 {
+        if !is_pair_shown(alloc, program, debugger, pair)? {
+            return Some(false);
         }
     }
     Some(true)
+}
+
+/// Whether a debugger with this spacing shows each position behind each other.
+fn is_right(alloc: Global, program: &Program, spacing: u32) -> Option<bool> {
+    let mut debugger = opened(alloc, program, &SCHEDULE, spacing)?;
+    visits(alloc, program, &mut debugger)
+}
+
+/// Whether a debugger with this spacing does over the counter's run.
+fn are_shown(alloc: Global, spacing: u32) -> Option<bool> {
+    let program = counter(alloc)?;
+    is_right(alloc, &program, spacing)
 }
 
 #[test]
@@ -74,22 +92,25 @@ fn refusal(alloc: Global, debugger: &mut Debugger<'_>, step: Move) -> Option<Deb
     moved.err()
 }
 
+/// Makes the place a breakpoint.
+fn put_break(debugger: &mut Debugger<'_>, place: u32) -> Option<()> {
+    debugger.break_at(place).ok()
+}
+
 /// Makes the places 1, 7 and 1000 breakpoints, and 7 none again.
 fn put_breaks(debugger: &mut Debugger<'_>) -> Option<()> {
-    for place in [1, 7, 1000] {
-        debugger.break_at(place).ok()?;
-    }
+    put_break(debugger, 1)?;
+    put_break(debugger, 7)?;
+    put_break(debugger, 1000)?;
     debugger.clear(7);
     Some(())
 }
 
 /// How many moves go where they say, up to the first that doesn't.
-fn right_moves(alloc: Global, spacing: u32) -> Option<usize> {
-    let program = counter(alloc)?;
-    let mut debugger = opened(alloc, &program, &SCHEDULE, spacing)?;
-    put_breaks(&mut debugger)?;
+fn right_moves(alloc: Global, debugger: &mut Debugger<'_>) -> Option<usize> {
+    put_breaks(debugger)?;
     for (number, (step, fault, position)) in MOVES.iter().enumerate() {
-        let refused = refusal(alloc, &mut debugger, *step);
+        let refused = refusal(alloc, debugger, *step);
         if refused != *fault || debugger.position() != *position {
             return Some(number);
         }
@@ -97,10 +118,22 @@ fn right_moves(alloc: Global, spacing: u32) -> Option<usize> {
     Some(MOVES.len())
 }
 
+/// How many do with this spacing over the program's run.
+fn moves_of(alloc: Global, program: &Program, spacing: u32) -> Option<usize> {
+    let mut debugger = opened(alloc, program, &SCHEDULE, spacing)?;
+    right_moves(alloc, &mut debugger)
+}
+
+/// How many do with this spacing over the counter's run.
+fn moves_right(alloc: Global, spacing: u32) -> Option<usize> {
+    let program = counter(alloc)?;
+    moves_of(alloc, &program, spacing)
+}
+
 #[test]
 fn moves_go_where_they_say(rt: HostRuntime) {
     for spacing in SPACINGS.iter() {
-        assert!(rt; right_moves(rt.alloc(), *spacing) == Some(16), "{spacing}");
+        assert!(rt; moves_right(rt.alloc(), *spacing) == Some(16), "{spacing}");
     }
 }
 

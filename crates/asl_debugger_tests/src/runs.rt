@@ -19,14 +19,19 @@ static SUM: &[u8] =
 /// A schedule in which thread 1 waits for thread 0, and both end.
 pub static SCHEDULE: [u8; 18] = [0, 0, 1, 1, 0, 0, 0, 0, 1, 0, 1, 0, 1, 1, 1, 1, 1, 1];
 
+/// The program of the text. Where the text is known, what `assemble` ensures of it is dear to prove.
+fn program(alloc: Global, text: &[u8]) -> Option<Program> {
+    assemble(alloc, text).ok()
+}
+
 /// The counter.
 pub fn counter(alloc: Global) -> Option<Program> {
-    assemble(alloc, COUNTER).ok()
+    program(alloc, COUNTER)
 }
 
 /// The sum.
 pub fn sum(alloc: Global) -> Option<Program> {
-    assemble(alloc, SUM).ok()
+    program(alloc, SUM)
 }
 
 /// The number behind this one in a row of numbers in no order.
@@ -45,12 +50,18 @@ pub fn mixed(alloc: Global, steps: u16) -> Option<Vec<u8>> {
     Some(schedule)
 }
 
-/// The journal of the program's two threads over the schedule.
-pub fn journal_of(alloc: Global, program: &Program, schedule: &[u8]) -> Option<Journal> {
-    let mut journaled = Journaled::start(alloc, program, 2).ok()?;
+/// Makes the steps of the schedule.
+fn make(alloc: Global, journaled: &mut Journaled<'_>, schedule: &[u8]) -> Option<()> {
     for thread in schedule {
         journaled.step(alloc, u32::from(*thread)).ok()?;
     }
+    Some(())
+}
+
+/// The journal of the program's two threads over the schedule.
+pub fn journal_of(alloc: Global, program: &Program, schedule: &[u8]) -> Option<Journal> {
+    let mut journaled = Journaled::start(alloc, program, 2).ok()?;
+    make(alloc, &mut journaled, schedule)?;
     let (journal, _machine) = journaled.into_parts();
     Some(journal)
 }
