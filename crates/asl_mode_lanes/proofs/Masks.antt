@@ -1,7 +1,7 @@
 -- Masks of the codes that pass a test.
-use Rattle.std.proofs.Common.{◌≡◌, ℕ, ◌+◌, ◌*◌, ◌%◌, ◌≢◌, bit_and, ◌^◌, ◌<◌, ◌≤◌, ◌↔◌, Bool, true, false, cond, List, [], ◌∷◌, ◌++◌, length, take, map as each, zero, suc, slice_index, get_or, IsBitSet, w64, arith, refl, sym, ap, ◌∙◌, subst, inl, inr}
+use Rattle.std.proofs.Common.{◌≡◌, ℕ, ◌+◌, ◌*◌, ◌%◌, ◌≢◌, bit_and, ◌^◌, ◌<◌, ◌≤◌, ◌↔◌, Bool, true, false, cond, List, [], ◌∷◌, ◌++◌, length, take, map as each, zero, suc, slice_index, get_or, IsBitSet, arith, refl, sym, ap, ◌∙◌, subst, inl, inr}
 use Rattle.std.specs.Simd.Lanes.{mask_l, chunk}
-use Rattle.std.specs.Int.{bit_at, bit_not}
+use Rattle.std.specs.Int.{bit_at, bit_not, w128}
 use Rattle.std.specs.Int.Bits.{and_lt}
 use Rattle.std.proofs.lemmas.Nat.{bit_set_by_shift}
 use Rattle.std.proofs.lemmas.Nat.Bits.{shr_and_one}
@@ -57,10 +57,10 @@ module _ (p : ℕ → Bool) (row : List ℕ) where
   long : (k : ℕ) → k ≤ length row → length (each p (take k row)) ≡ k
   long k there = length-map (take k row) p ∙ length-take-le k row there
 
-  pub mask_below : (k : ℕ) → k ≤ length row → k ≤ 64 → mask_l (each p (take k row)) < 2 ^ 64
+  pub mask_below : (k : ℕ) → k ≤ length row → k ≤ 128 → mask_l (each p (take k row)) < 2 ^ 128
   mask_below k there fits =
       let small = mask_l-lt (each p (take k row)) in
-      let power : 2 ^ length (each p (take k row)) ≤ 2 ^ 64 = let most : length (each p (take k row)) ≤ 64 = omega (arith, long k there) in pow-le-pow_right {n = 2} (omega arith) most in
+      let power : 2 ^ length (each p (take k row)) ≤ 2 ^ 128 = let most : length (each p (take k row)) ≤ 128 = omega (arith, long k there) in pow-le-pow_right {n = 2} (omega arith) most in
       omega (arith, small, power)
 
   -- a mask that gains the codes of one chunk
@@ -73,14 +73,14 @@ module _ (p : ℕ → Bool) (row : List ℕ) where
       ∙ ap (λ m. mask_l (each p (take k row)) + mask_l (each p (chunk k n row)) * 2 ^ m) (long k (omega arith)))
 
   -- one chunk more: the sum is the mask of one chunk more, and fits
-  pub chunk_step : (k n mask bits : ℕ) → k + n ≤ length row → k + n ≤ 64
+  pub chunk_step : (k n mask bits : ℕ) → k + n ≤ length row → k + n ≤ 128
       → mask ≡ mask_l (each p (take k row)) → bits ≡ mask_l (each p (chunk k n row))
-      → (mask + bits * 2 ^ k % 2 ^ 64 ≡ mask_l (each p (take (k + n) row))) × (mask + bits * 2 ^ k % 2 ^ 64 < 2 ^ 64)
+      → (mask + bits * 2 ^ k % 2 ^ 128 ≡ mask_l (each p (take (k + n) row))) × (mask + bits * 2 ^ k % 2 ^ 128 < 2 ^ 128)
   chunk_step k n mask bits there fits before found =
       let more = chunk_more k n there in
       let small = mask_below (k + n) there fits in
       let is : bits * 2 ^ k ≡ mask_l (each p (chunk k n row)) * 2 ^ k = ap (λ b. b * 2 ^ k) found in
-      let whole : bits * 2 ^ k % 2 ^ 64 ≡ bits * 2 ^ k = mod-eq_of_lt (omega (arith, more, small, is)) in
+      let whole : bits * 2 ^ k % 2 ^ 128 ≡ bits * 2 ^ k = mod-eq_of_lt (omega (arith, more, small, is)) in
       (omega (arith, more, is, whole, before), omega (arith, more, is, whole, before, small))
 
   -- one code more
@@ -92,12 +92,12 @@ module _ (p : ℕ → Bool) (row : List ℕ) where
       ∙ ap (λ m. mask_l (each p (take t row)) + (cond (p (slice_index row t)) 1 0 + 2 * 0) * 2 ^ m) (long t (omega arith))
       ∙ ap (λ m. mask_l (each p (take t row)) + m * 2 ^ t) (omega arith)
 
-  pub tail_set : (t mask : ℕ) → t < length row → t < 64 → mask ≡ mask_l (each p (take t row)) → p (slice_index row t) ≡ true
-      → (mask + 1 * 2 ^ t % 2 ^ 64 ≡ mask_l (each p (take (t + 1) row))) × (mask + 1 * 2 ^ t % 2 ^ 64 < 2 ^ 64)
+  pub tail_set : (t mask : ℕ) → t < length row → t < 128 → mask ≡ mask_l (each p (take t row)) → p (slice_index row t) ≡ true
+      → (mask + 1 * 2 ^ t % 2 ^ 128 ≡ mask_l (each p (take (t + 1) row))) × (mask + 1 * 2 ^ t % 2 ^ 128 < 2 ^ 128)
   tail_set t mask there fits before passes =
       let more = tail_more t there ∙ ap (λ b. mask_l (each p (take t row)) + cond b 1 0 * 2 ^ t) passes in
       let small = mask_below (t + 1) (omega arith) (omega arith) in
-      let whole : 1 * 2 ^ t % 2 ^ 64 ≡ 1 * 2 ^ t = mod-eq_of_lt (omega (arith, more, small)) in
+      let whole : 1 * 2 ^ t % 2 ^ 128 ≡ 1 * 2 ^ t = mod-eq_of_lt (omega (arith, more, small)) in
       (omega (arith, more, whole, before), omega (arith, more, whole, before, small))
 
   pub tail_same : (t mask : ℕ) → t < length row → mask ≡ mask_l (each p (take t row)) → p (slice_index row t) ≡ false
@@ -126,32 +126,32 @@ module _ (p : ℕ → Bool) (row : List ℕ) where
       ]
 
 -- the mask without one bit
-pub bit_cleared : (mask own : ℕ) → own < 64 → mask < 2 ^ 64 → (t : ℕ)
-    → IsBitSet (bit_and mask (bit_not w64 (1 * 2 ^ own % 2 ^ 64))) t ↔ (IsBitSet mask t × (t ≢ own))
+pub bit_cleared : (mask own : ℕ) → own < 128 → mask < 2 ^ 128 → (t : ℕ)
+    → IsBitSet (bit_and mask (bit_not w128 (1 * 2 ^ own % 2 ^ 128))) t ↔ (IsBitSet mask t × (t ≢ own))
 bit_cleared mask own within fits t =
-    let less = bit_and mask (bit_not w64 (1 * 2 ^ own % 2 ^ 64)) in
+    let less = bit_and mask (bit_not w128 (1 * 2 ^ own % 2 ^ 128)) in
     elim (eqb_tells t own) [
       | inl same ↦
-          let zero_there : bit_at less t ≡ 0 = subst (λ n. bit_at less n ≡ 0) (sym same.1) (bit_at_clear_same w64 mask own within) in (
+          let zero_there : bit_at less t ≡ 0 = subst (λ n. bit_at less n ≡ 0) (sym same.1) (bit_at_clear_same w128 mask own within) in (
             λ set. let no : 0 ≡ one = sym zero_there ∙ bit_at-IsBitSet less t set in absurd (omega (arith, no)),
             λ both. absurd (both.1 same.1),
           )
-      | inr other ↦ elim (cases_lt t 64) [
+      | inr other ↦ elim (cases_lt t 128) [
         | inl below ↦
-            let kept : bit_at less t ≡ bit_at mask t = bit_at_clear_other w64 mask own within t below other.1 in (
+            let kept : bit_at less t ≡ bit_at mask t = bit_at_clear_other w128 mask own within t below other.1 in (
               λ set. (IsBitSet-bit_at mask t (sym kept ∙ bit_at-IsBitSet less t set), other.1),
               λ both. IsBitSet-bit_at less t (kept ∙ bit_at-IsBitSet mask t both.0),
             )
         | inr past ↦
-            let high : bit_at mask t ≡ 0 = bit_at_above mask 64 t fits past in
-            let low : bit_at less t ≡ 0 = bit_at_above less 64 t (and_lt 64 mask (bit_not w64 (1 * 2 ^ own % 2 ^ 64)) fits (omega arith)) past in (
+            let high : bit_at mask t ≡ 0 = bit_at_above mask 128 t fits past in
+            let low : bit_at less t ≡ 0 = bit_at_above less 128 t (and_lt 128 mask (bit_not w128 (1 * 2 ^ own % 2 ^ 128)) fits (omega arith)) past in (
               λ set. let no : 0 ≡ one = sym low ∙ bit_at-IsBitSet less t set in absurd (omega (arith, no)),
               λ both. let no : 0 ≡ one = sym high ∙ bit_at-IsBitSet mask t both.0 in absurd (omega (arith, no)),
             )
       ]
     ]
 
-pub bit_past : (mask t : ℕ) → mask < 2 ^ 64 → 64 ≤ t → IsBitSet mask t → ⊥
+pub bit_past : (mask t : ℕ) → mask < 2 ^ 128 → 128 ≤ t → IsBitSet mask t → ⊥
 bit_past mask t fits past set =
-    let no : 0 ≡ one = sym (bit_at_above mask 64 t fits past) ∙ bit_at-IsBitSet mask t set in
+    let no : 0 ≡ one = sym (bit_at_above mask 128 t fits past) ∙ bit_at-IsBitSet mask t set in
     absurd (omega (arith, no))

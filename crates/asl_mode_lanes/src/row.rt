@@ -31,16 +31,16 @@ pub fn join_rows(into: &mut [u8], from: &[u8])
 /// The threads, as a mask with bit t for thread t, whose mode in `row` keeps the thread `own` from `want`.
 ///
 /// An `own` past the end of the row names none of its threads.
-pub fn conflicts(row: &[u8], own: usize, want: Mode) -> u64
-    requires fits { length row.now ≤ 64 }
+pub fn conflicts(row: &[u8], own: usize, want: Mode) -> u128
+    requires fits { length row.now ≤ 128 }
     requires codes { IsRow row.now }
     ensures { (t : ℕ) → IsBitSet result t ↔ IsConflict row.now own want t }
 {
     let bits = clashing_bits(want);
     let whole = row.len() / LANES;
-    let mut mask = 0u64;
+    let mut mask = 0u128;
     for k in 0..whole {
-        mask += clashing_lanes(row, k * LANES, bits) << (k * LANES);
+        mask += u128::from(clashing_lanes(row, k * LANES, bits)) << (k * LANES);
     }
     for t in whole * LANES..row.len() {
         if row[t] & bits != 0 {
@@ -86,8 +86,8 @@ fn clashing_bits(want: Mode) -> u8
 }
 
 /// The mask without the bit of thread `own`, if it has one.
-fn without(mask: u64, own: usize) -> u64
+fn without(mask: u128, own: usize) -> u128
     ensures { (t : ℕ) → IsBitSet result t ↔ (IsBitSet mask t × (t ≢ own)) }
 {
-    if own < 64 { mask & !(1 << own) } else { mask }
+    if own < 128 { mask & !(1 << own) } else { mask }
 }

@@ -9,15 +9,15 @@ use Rattle.asl_mode_lanes.proofs.row.conflicts.Goals.{then-row-t-ne0, else-row-t
 
 pub overflow_add-mask : goal.overflow_add-mask
 overflow_add-mask c = record {
-  fits = (chunk_step (clashes c.clashing_bits-bits.result) c.args.row.now (c.loop-k.k * 16) 16 c.loop-k.mask c.clashing_lanes.result
-      (omega arith) (omega arith) c.loop-k.invariant c.clashing_lanes.ensures).1;
+  fits = (chunk_step (clashes c.clashing_bits-bits.result) c.args.row.now (c.loop-k.k * 16) 16 c.loop-k.mask c.from.result
+      (omega arith) (omega arith) c.loop-k.invariant (c.from.ensures ∙ c.clashing_lanes.ensures)).1;
 }
 
 pub loop-k-preserved : goal.loop-k-preserved
 loop-k-preserved c =
     let next : c.loop-k.k * 16 + 16 ≡ (c.loop-k.k + 1) * 16 = omega arith in
-    (chunk_step (clashes c.clashing_bits-bits.result) c.args.row.now (c.loop-k.k * 16) 16 c.loop-k.mask c.clashing_lanes.result
-    (omega arith) (omega arith) c.loop-k.invariant c.clashing_lanes.ensures).0
+    (chunk_step (clashes c.clashing_bits-bits.result) c.args.row.now (c.loop-k.k * 16) 16 c.loop-k.mask c.from.result
+    (omega arith) (omega arith) c.loop-k.invariant (c.from.ensures ∙ c.clashing_lanes.ensures)).0
     ∙ ap (λ n. mask_l (map (clashes c.clashing_bits-bits.result) (take n c.args.row.now))) next
 
 pub overflow_add-mask-then-row-t-ne0 : goal.overflow_add-mask-then-row-t-ne0
