@@ -1,5 +1,5 @@
 -- The way back: an image of which all facts hold is verified.
-use Rattle.std.proofs.Common.{◌≡◌, ℕ, ◌+◌, ◌-◌, ◌<◌, ◌≤◌, Bool, true, false, not, ◌&&◌, ◌==◌, List, [], ◌∷◌, Option, Some, None, length, zero, suc, ltb, leb, All, find, slice_get, refl, ap, sym, ◌∙◌, inl, inr, arith}
+use Rattle.std.proofs.Common.{◌≡◌, ℕ, ◌+◌, ◌-◌, ◌<◌, ◌≤◌, Bool, true, false, not, ◌&&◌, ◌==◌, List, [], ◌∷◌, Option, Some, None, length, zero, suc, ltb, leb, All, find, slice_get, subst, refl, ap, sym, ◌∙◌, inl, inr, arith}
 use Rattle.std.specs.List.{list_all}
 use Rattle.std.specs.Option.{option_map_or}
 use Rattle.std.proofs.lemmas.List.Elements.{All-head, All-tail}
@@ -8,7 +8,8 @@ use Rattle.std.proofs.lemmas.Bool.{cases_Bool, and_parts, and_from, leb-true, lt
 use Rattle.asl_code.specs.Bodies.{Body, bodies_from, first_of, is_inside, body_of}
 use Rattle.asl_code.specs.Fits.{LiesIn, FitsFunction, FitsInstr, FitsImage, FitsBase, FitsLock, HasBase, HasLock}
 use Rattle.asl_code.specs.Lines.{body_at}
-use Rattle.asl_code.specs.Verified.{keeps_limits, keeps_function_limits, keeps_list_limit, has_base, has_lock, has_tables, has_entry, has_range, has_ranges, has_end, has_ends, is_end, has_target, has_registers, has_operands, has_base_register, has_lock_base, has_list_bases, is_failure, fails_at, IsVerified}
+use Rattle.asl_code.specs.Verified.{keeps_limits, keeps_counts, keeps_function_limits, keeps_list_limit, has_base, has_lock, has_tables, has_entry, has_range, has_ranges, has_end, has_ends, is_end, has_target, has_registers, has_operands, has_base_register, has_lock_base, has_list_bases, is_failure, fails_at, IsVerified}
+use Rattle.asl_code.specs.Versions.{most_locks}
 use Rattle.asl_code.specs.declared.image.Function.{Function}
 use Rattle.asl_code.specs.declared.image.Image.{Image}
 use Rattle.asl_code.specs.declared.fault.VerifyFault.TheVariants as fault
@@ -18,6 +19,7 @@ use Rattle.asl_code.specs.declared.lock.Base.{Base}
 use Rattle.asl_code.specs.declared.lock.Base.TheVariants.{Reg, Global}
 use Rattle.asl_code.specs.declared.lock.Lock.{Lock}
 use Rattle.asl_code.specs.declared.lock.Lock.TheVariants as lock
+use Rattle.asl_code.proofs.Versions.{limits_there, locks_set}
 use Rattle.asl_code.proofs.FitsLaws.{begin, begin-suc, lies_within, element_at}
 
 -- a list passes a test that each of its elements passes
@@ -167,10 +169,13 @@ fit_end i facts n f is =
 -- the facts give each test of the whole image
 pub facts_limits : (i : Image) → FitsImage i → keeps_limits i ≡ true
 facts_limits i facts =
-    let sizes = and_from _ _ (and_from _ _ (and_from _ _ (and_from _ _ (and_from _ _ (eq-eqb _ _ facts.version) (le-leb _ _ facts.few_classes)) (le-leb _ _ facts.few_globals)) (le-leb _ _ facts.few_functions)) (le-leb _ _ facts.few_instrs)) (le-leb _ _ facts.few_lists) in
-    and_from _ _
+    let there = limits_there i.version facts.version in
+    let most : most_locks i.version ≡ there.0.locks = sym (locks_set i.version there.0 there.1) in
+    let sizes = and_from _ _ (and_from _ _ (and_from _ _ (and_from _ _ (le-leb _ _ facts.few_classes) (le-leb _ _ facts.few_globals)) (le-leb _ _ facts.few_functions)) (le-leb _ _ facts.few_instrs)) (le-leb _ _ facts.few_lists) in
+    ap (λ o. option_map_or (λ l. keeps_counts l i) o false) there.1
+    ∙ and_from _ _
     (and_from _ _ sizes (all_pass keeps_function_limits i.functions (λ n f is. let fits : FitsFunction f = facts.function_fits n f is in and_from _ _ (le-leb _ _ fits.few_params) (le-leb _ _ fits.few_regs))))
-    (all_pass keeps_list_limit i.lists (λ n locks is. le-leb _ _ (facts.few_locks n locks is)))
+    (all_pass (keeps_list_limit there.0) i.lists (λ n locks is. le-leb _ _ (subst (λ m. length locks ≤ m) most (facts.few_locks n locks is))))
 
 pub facts_tables : (i : Image) → FitsImage i → has_tables i ≡ true
 facts_tables i facts =

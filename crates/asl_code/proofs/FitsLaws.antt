@@ -1,5 +1,5 @@
 -- What a verified image gives: where its bodies lie, and what holds of each part and of the instruction at each place.
-use Rattle.std.proofs.Common.{◌≡◌, ℕ, ◌+◌, ◌-◌, ◌<◌, ◌≤◌, Bool, true, false, ◌&&◌, List, [], ◌∷◌, Option, Some, None, length, get_or, ◌==◌, ltb, leb, eqb, zero, suc, take, All, find, slice_get, refl, ap, sym, ◌∙◌, inl, inr, arith}
+use Rattle.std.proofs.Common.{◌≡◌, ℕ, ◌+◌, ◌-◌, ◌<◌, ◌≤◌, Bool, true, false, ◌&&◌, List, [], ◌∷◌, Option, Some, None, length, get_or, ◌==◌, ltb, leb, eqb, zero, suc, take, All, find, slice_get, refl, ap, sym, subst, ◌∙◌, inl, inr, arith}
 use Rattle.std.specs.List.{list_all}
 use Rattle.std.specs.Option.{option_map_or}
 use Rattle.std.proofs.lemmas.List.Sums.{sum_by-cons, sum_by_more_le}
@@ -8,18 +8,21 @@ use Rattle.std.proofs.lemmas.Bool.{cases_lt, both_ways, and_parts, eqb-true, ltb
 use Rattle.asl_code.specs.Bodies.{Body, bodies_from, total_len, first_of, is_inside, body_of}
 use Rattle.asl_code.specs.Fits.{LiesIn, FitsFunction, FitsInstr, FitsImage, FitsBase, FitsLock, HasBase, HasLock}
 use Rattle.asl_code.specs.Lines.{body_at}
-use Rattle.asl_code.specs.Verified.{keeps_limits, keeps_function_limits, keeps_list_limit, has_base, has_lock, has_tables, has_range, has_ranges, has_end, is_end, has_target, has_registers, has_arguments, has_operands, has_base_register, has_lock_base, has_list_bases, is_failure, fails_at, IsVerified}
+use Rattle.asl_code.specs.Verified.{keeps_limits, keeps_counts, keeps_function_limits, keeps_list_limit, has_base, has_lock, has_tables, has_range, has_ranges, has_end, is_end, has_target, has_registers, has_arguments, has_operands, has_base_register, has_lock_base, has_list_bases, is_failure, fails_at, IsVerified}
+use Rattle.asl_code.specs.Versions.{limits_of}
 use Rattle.asl_code.specs.declared.image.Function.{Function}
 use Rattle.asl_code.specs.declared.image.Image.{Image}
 use Rattle.asl_code.specs.declared.fault.VerifyFault.TheVariants as fault
 use Rattle.asl_code.specs.declared.instr.Instr.{Instr}
 use Rattle.asl_code.specs.declared.instr.Instr.TheVariants.{SetInt, SetNull, Move, Add, Subtract, LessThan, Equals, GlobalAddress, FieldAddress, Load, Store, New, Jump, JumpIfZero, Call, Return, Output, Acquire, Release}
+use Rattle.asl_code.specs.declared.limits.Limits.{Limits}
 use Rattle.asl_code.specs.declared.lock.Base.{Base}
 use Rattle.asl_code.specs.declared.lock.Base.TheVariants.{Reg, Global}
 use Rattle.asl_code.specs.declared.lock.Lock.{Lock}
 use Rattle.asl_code.specs.declared.lock.Lock.TheVariants as lock
 use Rattle.std.proofs.lemmas.List.Elements.{All-nil, All-cons}
 use Rattle.asl_code.proofs.Told.{inside_later}
+use Rattle.asl_code.proofs.Versions.{version_of, locks_set}
 
 -- where the body of a function begins among bodies from this place on
 abbrev pub begin : ℕ → List Function → ℕ → ℕ
@@ -283,27 +286,31 @@ told_function f limits range =
       few_regs = leb-true _ _ (and_parts _ _ limits).1;
     }
 
+-- the version that keeps the limits is there, and the counts keep what it sets
+pub counts_kept : (i : Image) → keeps_limits i ≡ true → (l : Limits) × (limits_of i.version ≡ Some l) × (keeps_counts l i ≡ true)
+counts_kept i kept = told_some (λ l. keeps_counts l i) (limits_of i.version) kept
+
 -- all facts of a verified image
 pub image_fits : (i : Image) → IsVerified i → FitsImage i
 image_fits i v =
-    let lists = and_parts _ (list_all keeps_list_limit i.lists) (limits_kept i v) in
+    let set = counts_kept i (limits_kept i v) in
+    let lists = and_parts _ (list_all (keeps_list_limit set.0) i.lists) set.2 in
     let functions = and_parts _ (list_all keeps_function_limits i.functions) lists.0 in
     let few_lists = and_parts _ (leb (length i.lists) 1024) functions.0 in
     let few_instrs = and_parts _ (leb (length i.code) 65535) few_lists.0 in
     let few_functions = and_parts _ (leb (length i.functions) 256) few_instrs.0 in
     let few_globals = and_parts _ (leb (length i.globals) 1024) few_functions.0 in
-    let version = and_parts (eqb i.version 1) (leb i.classes 1024) few_globals.0 in
     let tables = and_parts (list_all (λ class. ltb class i.classes) i.globals) (list_all (list_all (has_lock i)) i.lists) (tables_there i v) in
     let ranges = and_parts (list_all has_range i.functions) (eqb (total_len i.functions) (length i.code)) (ranges_there i v) in
     record {
-      version = eqb-true _ _ version.0;
-      few_classes = leb-true _ _ version.1;
+      version = version_of i.version set.0 set.1;
+      few_classes = leb-true _ _ few_globals.0;
       few_globals = leb-true _ _ few_globals.1;
       few_functions = leb-true _ _ few_functions.1;
       few_instrs = leb-true _ _ few_instrs.1;
       few_lists = leb-true _ _ few_lists.1;
       global_fits = λ n class is. ltb-true _ _ (passes_at (λ c. ltb c i.classes) i.globals n class tables.0 is);
-      few_locks = λ n locks is. leb-true _ _ (passes_at keeps_list_limit i.lists n locks lists.1 is);
+      few_locks = λ n locks is. subst (λ m. length locks ≤ m) (locks_set i.version set.0 set.1) (leb-true _ _ (passes_at (keeps_list_limit set.0) i.lists n locks lists.1 is));
       list_fits = λ n locks is. all_told (has_lock i) (HasLock i) (told_table i) locks (passes_at (list_all (has_lock i)) i.lists n locks tables.1 is);
       entry = entry_of i v;
       function_fits = λ n f is. told_function f (passes_at keeps_function_limits i.functions n f functions.1 is) (passes_at has_range i.functions n f ranges.0 is);

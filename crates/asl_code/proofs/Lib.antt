@@ -6,3 +6,4 @@ pub mod Scanning
 pub mod Told
 pub mod Values
 pub mod Same
+pub mod Versions

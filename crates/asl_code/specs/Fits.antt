@@ -3,6 +3,7 @@
 use Rattle.std.specs.Prelude.{◌≡◌, ℕ, ◌+◌, ◌<◌, ◌≤◌, false, List, length, Some, slice_get, All}
 use Rattle.asl_code.specs.Bodies.{first_of, total_len}
 use Rattle.asl_code.specs.Verified.{is_end}
+use Rattle.asl_code.specs.Versions.{IsVersion, most_locks}
 use Rattle.asl_code.specs.declared.image.Function.{Function}
 use Rattle.asl_code.specs.declared.image.Image.{Image}
 use Rattle.asl_code.specs.declared.instr.Instr.{Instr}
@@ -70,18 +71,18 @@ FitsInstr i n f (Output from) = from < f.regs
 FitsInstr i n f (Acquire list) = (locks : List Lock) × (slice_get i.lists list ≡ Some locks) × All (FitsLock i f) locks
 FitsInstr i n f Release = Unit {0}
 
--- the facts of a verified image (docs/LIMITS.md, "Rules of an image"): the counts are within their limits, what the
--- tables name is there, the bodies are the code, each instruction fits its body, and after an instruction that is no end
+-- the facts of a verified image (docs/LIMITS.md, "Rules of an image"): the version is 1 or 2, the counts are within their
+-- limits, what the tables name is there, the bodies are the code, each instruction fits its body, and after an instruction that is no end
 -- of a body the body goes on
 pub record FitsImage (i : Image) : Type 0 where
-  pub version : i.version ≡ 1
+  pub version : IsVersion i.version
   pub few_classes : i.classes ≤ 1024
   pub few_globals : length i.globals ≤ 1024
   pub few_functions : length i.functions ≤ 256
   pub few_instrs : length i.code ≤ 65535
   pub few_lists : length i.lists ≤ 1024
   pub global_fits : (n class : ℕ) → slice_get i.globals n ≡ Some class → class < i.classes
-  pub few_locks : (n : ℕ) (locks : List Lock) → slice_get i.lists n ≡ Some locks → length locks ≤ 64
+  pub few_locks : (n : ℕ) (locks : List Lock) → slice_get i.lists n ≡ Some locks → length locks ≤ most_locks i.version
   pub list_fits : (n : ℕ) (locks : List Lock) → slice_get i.lists n ≡ Some locks → All (HasLock i) locks
   pub entry : (f : Function) × (slice_get i.functions i.start ≡ Some f) × (f.params ≡ 1)
   pub function_fits : (n : ℕ) (f : Function) → slice_get i.functions n ≡ Some f → FitsFunction f

@@ -1,5 +1,6 @@
 pub mod Spelling
 pub mod Bodies
+pub mod Versions
 pub mod Verified
 pub mod Fits
 -- Machinery of the proofs, not of the promise:

@@ -4,10 +4,12 @@ use Rattle.std.specs.Prelude.{◌≡◌, ℕ, ◌+◌, ◌-◌, ◌<◌, ◌≤�
 use Rattle.std.specs.List.{list_all}
 use Rattle.std.specs.Option.{option_map_or}
 use Rattle.asl_code.specs.Bodies.{Body, bodies_from, total_len, is_inside, body_of}
+use Rattle.asl_code.specs.Versions.{limits_of}
 use Rattle.asl_code.specs.declared.image.Function.{Function}
 use Rattle.asl_code.specs.declared.image.Image.{Image}
 use Rattle.asl_code.specs.declared.instr.Instr.{Instr}
 use Rattle.asl_code.specs.declared.instr.Instr.TheVariants.{SetInt, SetNull, Move, Add, Subtract, LessThan, Equals, GlobalAddress, FieldAddress, Load, Store, New, Jump, JumpIfZero, Call, Return, Output, Acquire, Release}
+use Rattle.asl_code.specs.declared.limits.Limits.{Limits}
 use Rattle.asl_code.specs.declared.lock.Base.{Base}
 use Rattle.asl_code.specs.declared.lock.Base.TheVariants.{Reg, Global}
 use Rattle.asl_code.specs.declared.lock.Lock.{Lock}
@@ -19,21 +21,24 @@ use Rattle.asl_code.specs.declared.fault.VerifyFault.TheVariants.{Limit, Table, 
 abbrev pub keeps_function_limits : Function → Bool
 keeps_function_limits f = nat_le f.params 4 && nat_le f.regs 64
 
--- whether the list has at most 64 locks (docs/LIMITS.md)
-abbrev pub keeps_list_limit : List Lock → Bool
-keeps_list_limit locks = nat_le (length locks) 64
+-- whether the list has no more locks than its image's version sets (docs/LIMITS.md)
+abbrev pub keeps_list_limit : Limits → List Lock → Bool
+keeps_list_limit limits locks = nat_le (length locks) limits.locks
 
--- whether the version is 1, and no count is over its limit (docs/LIMITS.md)
-abbrev pub keeps_limits : Image → Bool
-keeps_limits i =
-    i.version == 1
-    && nat_le i.classes 1024
+-- whether no count is over its limit, under what the version sets (docs/LIMITS.md)
+abbrev pub keeps_counts : Limits → Image → Bool
+keeps_counts limits i =
+    nat_le i.classes 1024
     && nat_le (length i.globals) 1024
     && nat_le (length i.functions) 256
     && nat_le (length i.code) 65535
     && nat_le (length i.lists) 1024
     && list_all keeps_function_limits i.functions
-    && list_all keeps_list_limit i.lists
+    && list_all (keeps_list_limit limits) i.lists
+
+-- whether there is the image's version, and no count is over its limit (docs/LIMITS.md)
+abbrev pub keeps_limits : Image → Bool
+keeps_limits i = option_map_or (λ limits. keeps_counts limits i) (limits_of i.version) false
 
 -- whether the global that the base names is there (docs/LIMITS.md, Table)
 abbrev pub has_base : Image → Base → Bool

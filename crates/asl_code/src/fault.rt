@@ -6,7 +6,7 @@ use thiserror::Error;
 /// The last four name a place of the code.
 #[derive(Clone, Copy, Debug, PartialEq, Eq, Error)]
 pub enum VerifyFault {
-    /// The version is not 1, or a count is over its limit.
+    /// The version is not 1 or 2, or a count is over its limit.
     #[error("Limit")]
     Limit,
     /// The class of a global or of a lock, or the global of a lock, is not there.

@@ -1,7 +1,66 @@
-//! The version of the format, and how many there are at the most of each part of an image.
+//! What a version of the format sets, and how many there are at the most of each other part of an image.
 
-/// The version of the format that the verifier takes.
-pub const VERSION: u32 = 1;
+ghost use Rattle.std.specs.Prelude.{◌≡◌, ◌↔◌, IsTrue, IfSome, IfNone};
+ghost use Rattle.asl_code.specs.Versions.{IsVersion, limits_of, is_version, most_threads, most_locks, version_for};
+
+/// What a version of the format sets.
+#[derive(Clone, Copy)]
+pub struct Limits {
+    /// The most threads of a machine over an image of this version.
+    pub threads: u32,
+    /// The most locks of a list.
+    pub locks: usize,
+}
+
+/// What version 1 sets.
+const FIRST_LIMITS: Limits = Limits {
+    threads: 64,
+    locks: 64,
+};
+
+/// The newest version.
+pub const NEWEST: u32 = 2;
+
+/// What the newest version sets.
+pub const NEWEST_LIMITS: Limits = Limits {
+    threads: 128,
+    locks: 256,
+};
+
+/// What this version of the format sets, if there is such a version. No other code asks which version it is.
+pub fn limits_of(version: u32) -> Option<Limits>
+    ensures limits { result ≡ limits_of version }
+    ensures known { IfSome result (λ limits. IsVersion version) }
+    ensures threads { IfSome result (λ limits. limits.threads ≡ most_threads version) }
+    ensures locks { IfSome result (λ limits. limits.locks ≡ most_locks version) }
+    ensures unknown { IfNone result (¬ IsVersion version) }
+{
+    match version {
+        1 => Some(FIRST_LIMITS),
+        2 => Some(NEWEST_LIMITS),
+        _ => None,
+    }
+}
+
+/// Whether there is such a version.
+pub fn is_version(version: u32) -> bool
+    ensures value { result ≡ is_version version }
+    ensures told { IsTrue result ↔ IsVersion version }
+{
+    limits_of(version).is_some()
+}
+
+/// The first version that has so many threads, where one has.
+pub fn version_for(threads: u32) -> u32
+    ensures { result ≡ version_for threads }
+{
+    if threads <= FIRST_LIMITS.threads {
+        1
+    } else {
+        NEWEST
+    }
+}
+
 /// The most classes.
 pub const CLASSES: u32 = 1024;
 /// The most globals.
@@ -16,5 +75,3 @@ pub const REGS: u8 = 64;
 pub const CODE: usize = 65_535;
 /// The most lock lists.
 pub const LISTS: usize = 1024;
-/// The most locks of a list.
-pub const LOCKS: usize = 64;

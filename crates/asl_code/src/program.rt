@@ -6,6 +6,7 @@ use crate::fault::VerifyFault;
 use crate::image::{Function, Image};
 use crate::instr::Instr;
 use crate::items::Items;
+use crate::limits::{Limits, limits_of};
 use crate::lock::Lock;
 use crate::verify::first_fault;
 use std::marker::Model;
@@ -29,6 +30,7 @@ impl Model for Program {
 
 impl Program {
     ghost use Rattle.asl_code.specs.Verified.{IsVerified, IsAnswer};
+    ghost use Rattle.asl_code.specs.Versions.{most_threads, most_locks};
 
     /// The program of the image. An image that is not verified is handed back, with the fault of the earliest line that
     /// applies, at its lowest place.
@@ -67,6 +69,18 @@ impl Program {
         ensures verified { IsVerified self.now }
     {
         self.image.version
+    }
+
+    /// What the version sets.
+    pub fn limits(&self) -> Limits
+        ensures threads { result.threads ≡ most_threads self.now.version }
+        ensures locks { result.locks ≡ most_locks self.now.version }
+        ensures verified { IsVerified self.now }
+    {
+        match limits_of(self.image.version) {
+            Some(limits) => limits,
+            None => unreachable!(),
+        }
     }
 
     /// How many classes there are.

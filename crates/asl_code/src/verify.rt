@@ -3,13 +3,13 @@
 ghost use Rattle.std.specs.Prelude.{◌≡◌, ◌≤◌, nat_lt, length, IsTrue, MatchOption};
 ghost use Rattle.std.specs.List.{list_all};
 ghost use Rattle.asl_code.specs.Bodies.{total_len};
-ghost use Rattle.asl_code.specs.Verified.{keeps_function_limits, keeps_list_limit, keeps_limits, has_lock, has_tables, has_entry, has_range, has_ranges, is_end, has_ends, IsVerified, IsAnswer};
+ghost use Rattle.asl_code.specs.Verified.{keeps_function_limits, keeps_list_limit, keeps_counts, keeps_limits, has_lock, has_tables, has_entry, has_range, has_ranges, is_end, has_ends, IsVerified, IsAnswer};
 
 use crate::fault::VerifyFault;
 use crate::image::{Function, Image};
 use crate::instr::Instr;
 use crate::items::Items;
-use crate::limits;
+use crate::limits::{self, Limits, limits_of};
 use crate::lock::{Base, Lock};
 use crate::places::{Line, first_failing};
 
@@ -47,18 +47,27 @@ pub fn first_fault(image: &Image) -> Option<VerifyFault>
     None
 }
 
-/// Whether the version is the one there is, and no count is over its limit.
+/// Whether there is the image's version, and no count is over its limit.
 fn keeps_limits(image: &Image) -> bool
     ensures { result ≡ keeps_limits image.now }
 {
-    image.version == limits::VERSION
-        && image.classes <= limits::CLASSES
+    match limits_of(image.version) {
+        Some(limits) => keeps_counts(image, limits),
+        None => false,
+    }
+}
+
+/// Whether no count is over its limit, under what the version sets.
+fn keeps_counts(image: &Image, version: Limits) -> bool
+    ensures { result ≡ keeps_counts version image.now }
+{
+    image.classes <= limits::CLASSES
         && image.globals.len() <= limits::GLOBALS
         && image.functions.len() <= limits::FUNCTIONS
         && image.code.len() <= limits::CODE
         && image.lists.len() <= limits::LISTS
         && functions_keep_limits(image.functions.as_slice())
-        && lists_keep_limit(image.lists.as_slice())
+        && lists_keep_limit(image.lists.as_slice(), version)
 }
 
 fn functions_keep_limits(functions: &[Function]) -> bool
@@ -69,10 +78,10 @@ fn functions_keep_limits(functions: &[Function]) -> bool
         .all(|f| f.params <= limits::PARAMS && f.regs <= limits::REGS)
 }
 
-fn lists_keep_limit(lists: &[Items<Lock>]) -> bool
-    ensures { result ≡ list_all keeps_list_limit lists.now }
+fn lists_keep_limit(lists: &[Items<Lock>], version: Limits) -> bool
+    ensures { result ≡ list_all (keeps_list_limit version) lists.now }
 {
-    lists.iter().all(|locks| locks.len() <= limits::LOCKS)
+    lists.iter().all(|locks| locks.len() <= version.locks)
 }
 
 /// Whether the classes of all globals, and the classes and globals of all locks are there.

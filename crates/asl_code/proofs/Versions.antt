@@ -1,0 +1,122 @@
+-- What each version sets, told of the versions that are there and of all.
+use Rattle.std.proofs.Common.{◌≡◌, ◌≢◌, ◌==◌, ℕ, ◌<◌, ◌≤◌, ◌^◌, Option, Some, None, is_some, true, false, if◌then◌else◌, refl, ap, sym, ◌∙◌, inl, inr, arith}
+use Rattle.std.specs.Option.{option_map_or}
+use Rattle.std.proofs.lemmas.Bool.{cases_lt, le-leb, lt-leb}
+use Rattle.std.proofs.lemmas.Bool.Decides.{eqb_tells}
+use Rattle.asl_code.specs.Versions.{IsVersion, limits_of, is_version, most_threads, version_for, most_locks}
+use Rattle.asl_code.specs.declared.limits.Limits.{Limits}
+
+-- what versions 1 and 2 set
+abbrev pub first : Limits
+first = record { threads = 64; locks = 64 }
+
+abbrev pub second : Limits
+second = record { threads = 128; locks = 256 }
+
+pub first_set : limits_of 1 ≡ Some first
+unfolding limits_of
+first_set = refl
+
+pub second_set : limits_of 2 ≡ Some second
+unfolding limits_of
+second_set = refl
+
+-- no other version sets anything
+pub other_set : (v : ℕ) → v ≢ 1 → v ≢ 2 → limits_of v ≡ None
+unfolding limits_of
+other_set v one two = elim (eqb_tells v 1) [
+  | inl is ↦ absurd (one is.1)
+  | inr not_one ↦ elim (eqb_tells v 2) [
+    | inl is ↦ absurd (two is.1)
+    | inr not_two ↦
+        ap (λ b. if b then Some first else if v == 2 then Some second else None) not_one.0
+        ∙ ap (λ b. if b then Some second else None) not_two.0
+  ]
+]
+
+-- the limits that are set are those of a version that is there, and a version that is there sets some
+pub version_of : (v : ℕ) (l : Limits) → limits_of v ≡ Some l → IsVersion v
+version_of v l set = elim (eqb_tells v 1) [
+  | inl is ↦ inl is.1
+  | inr not_one ↦ elim (eqb_tells v 2) [
+    | inl is ↦ inr is.1
+    | inr not_two ↦ let none = other_set v not_one.1 not_two.1 in cc
+  ]
+]
+
+pub limits_there : (v : ℕ) → IsVersion v → (l : Limits) × (limits_of v ≡ Some l)
+limits_there v (inl one) = (first, ap limits_of one ∙ first_set)
+limits_there v (inr two) = (second, ap limits_of two ∙ second_set)
+
+pub no_version : (v : ℕ) → limits_of v ≡ None → ¬ IsVersion v
+no_version v none is = let there = limits_there v is in let set = there.1 in cc
+
+pub is_version-true : (v : ℕ) → is_version v ≡ true → IsVersion v
+is_version-true v is = by_limits (limits_of v) refl
+  where
+    by_limits : (o : Option Limits) → limits_of v ≡ o → IsVersion v
+    by_limits None none = let no : false ≡ true = sym (ap is_some none) ∙ is in cc
+    by_limits (Some l) set = version_of v l set
+
+pub IsVersion-is_version : (v : ℕ) → IsVersion v → is_version v ≡ true
+IsVersion-is_version v is = ap is_some (limits_there v is).1
+
+-- the limits that are set are the most
+pub threads_set : (v : ℕ) (l : Limits) → limits_of v ≡ Some l → l.threads ≡ most_threads v
+unfolding most_threads
+threads_set v l set = sym (ap (λ o. option_map_or (λ (k : Limits). k.threads) o 0) set)
+
+pub locks_set : (v : ℕ) (l : Limits) → limits_of v ≡ Some l → l.locks ≡ most_locks v
+unfolding most_locks
+locks_set v l set = sym (ap (λ o. option_map_or (λ (k : Limits). k.locks) o 0) set)
+
+-- the most that any version sets
+pub few_threads : (v : ℕ) → most_threads v ≤ 128
+unfolding most_threads
+few_threads v = elim (eqb_tells v 1) [
+  | inl is ↦ let set = threads_set v first (ap limits_of is.1 ∙ first_set) in omega (arith, set)
+  | inr not_one ↦ elim (eqb_tells v 2) [
+    | inl is ↦ let set = threads_set v second (ap limits_of is.1 ∙ second_set) in omega (arith, set)
+    | inr not_two ↦ let none = ap (λ o. option_map_or (λ (k : Limits). k.threads) o 0) (other_set v not_one.1 not_two.1) in omega (arith, none)
+  ]
+]
+
+pub few_locks : (v : ℕ) → most_locks v ≤ 256
+unfolding most_locks
+few_locks v = elim (eqb_tells v 1) [
+  | inl is ↦ let set = locks_set v first (ap limits_of is.1 ∙ first_set) in omega (arith, set)
+  | inr not_one ↦ elim (eqb_tells v 2) [
+    | inl is ↦ let set = locks_set v second (ap limits_of is.1 ∙ second_set) in omega (arith, set)
+    | inr not_two ↦ let none = ap (λ o. option_map_or (λ (k : Limits). k.locks) o 0) (other_set v not_one.1 not_two.1) in omega (arith, none)
+  ]
+]
+
+-- a version's number fits two bytes
+pub small_version : (v : ℕ) → IsVersion v → v < 2 ^ 16
+small_version v (inl one) = omega (arith, one)
+small_version v (inr two) = omega (arith, two)
+
+-- what each version sets
+pub first_threads : most_threads 1 ≡ 64
+first_threads = sym (threads_set 1 first first_set)
+
+pub newest_threads : most_threads 2 ≡ 128
+newest_threads = sym (threads_set 2 second second_set)
+
+pub newest_locks : most_locks 2 ≡ 256
+newest_locks = sym (locks_set 2 second second_set)
+
+-- which version has so many threads
+pub version_of_few : (n : ℕ) → n ≤ 64 → version_for n ≡ 1
+unfolding version_for
+version_of_few n few = ap (λ b. if b then 1 else 2) (le-leb n (most_threads 1) (omega (arith, first_threads)))
+
+pub version_of_many : (n : ℕ) → 64 < n → version_for n ≡ 2
+unfolding version_for
+version_of_many n many = ap (λ b. if b then 1 else 2) (lt-leb n (most_threads 1) (omega (arith, first_threads)))
+
+pub version_is_there : (n : ℕ) → IsVersion (version_for n)
+version_is_there n = elim (cases_lt 64 n) [
+  | inl many ↦ inr (version_of_many n many)
+  | inr few ↦ inl (version_of_few n few)
+]

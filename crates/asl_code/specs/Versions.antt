@@ -1,0 +1,31 @@
+-- What a version of the format sets (docs/LIMITS.md, "Versions"). Nothing else tells one version from another.
+use Rattle.std.specs.Prelude.{◌≡◌, ◌⊎◌, ◌==◌, ℕ, Bool, nat_le, Option, None, Some, is_some, if◌then◌else◌}
+use Rattle.std.specs.Option.{option_map_or}
+use Rattle.asl_code.specs.declared.limits.Limits.{Limits}
+
+-- there is such a version (docs/LIMITS.md, Versions)
+abbrev pub IsVersion : ℕ → Type 0
+IsVersion version = (version ≡ 1) ⊎ (version ≡ 2)
+
+-- what this version sets, if there is such a version (docs/LIMITS.md, Versions)
+unfoldable pub limits_of : ℕ → Option Limits
+limits_of version =
+    if version == 1 then Some (record { threads = 64; locks = 64 })
+    else if version == 2 then Some (record { threads = 128; locks = 256 })
+    else None
+
+-- whether there is such a version (docs/LIMITS.md, Versions)
+abbrev pub is_version : ℕ → Bool
+is_version version = is_some (limits_of version)
+
+-- the most threads of a machine over an image of this version (docs/LIMITS.md, Versions)
+unfoldable pub most_threads : ℕ → ℕ
+most_threads version = option_map_or (λ (l : Limits). l.threads) (limits_of version) 0
+
+-- the first version that has so many threads, where one has (docs/LIMITS.md, Versions)
+unfoldable pub version_for : ℕ → ℕ
+version_for threads = if nat_le threads (most_threads 1) then 1 else 2
+
+-- the most locks of a list of an image of this version (docs/LIMITS.md, Versions)
+unfoldable pub most_locks : ℕ → ℕ
+most_locks version = option_map_or (λ (l : Limits). l.locks) (limits_of version) 0
