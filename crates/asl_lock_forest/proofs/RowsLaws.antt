@@ -1,6 +1,6 @@
 -- The rows after a code is written, and after many are.
-use Rattle.std.proofs.Common.{◌≡◌, ◌≢◌, ℕ, ◌<◌, suc, zero, Bool, true, false, not, ◌||◌, List, [], ◌∷◌, length, slice_index_or, slice_set, get_or, replicate, if◌then◌else◌, refl, ap, sym, subst, ◌∙◌, inl, inr, arith, ◌==◌, ◌^◌, IsBitSet, w64}
-use Rattle.std.specs.Int.{trailing_zeros}
+use Rattle.std.proofs.Common.{◌≡◌, ◌≢◌, ℕ, ◌<◌, suc, zero, Bool, true, false, not, ◌||◌, List, [], ◌∷◌, length, slice_index_or, slice_set, get_or, replicate, if◌then◌else◌, refl, ap, sym, subst, ◌∙◌, inl, inr, arith, ◌==◌, ◌^◌, IsBitSet}
+use Rattle.std.specs.Int.{trailing_zeros, w128}
 use Rattle.std.proofs.lemmas.Bool.{cases_lt}
 use Rattle.std.proofs.lemmas.List.{get_or-replicate, length-replicate, get_or_past}
 use Rattle.asl_lock_forest.proofs.LeafLaws.{zeros_codes}
@@ -220,11 +220,11 @@ pub some_room : (leaves : Leaves) (n : ℕ) → 0 < n → HasRoom leaves n → H
 some_room leaves n some room = record { rows = let a = room.rows in omega (arith, a); index = let b = room.index in omega (arith, b) }
 
 -- a mask that is not 0 has a bit
-pub some_bit : (mask : ℕ) → mask < 2 ^ 64 → (mask == 0) ≡ false → (t : ℕ) × IsBitSet mask t
+pub some_bit : (mask : ℕ) → mask < 2 ^ 128 → (mask == 0) ≡ false → (t : ℕ) × IsBitSet mask t
 some_bit mask fits some =
     let above : 0 < mask = elim (eqb_tells mask 0) [ inl zero_mask ↦ let no : true ≡ false = sym zero_mask.0 ∙ some in cc | inr other ↦ omega (arith, other.1) ] in
-    let low = bit_at-trailing_zeros w64 mask above fits in
-    (trailing_zeros w64 mask, (bit_set_by_shift mask (trailing_zeros w64 mask)).0 (shr_and_one mask (trailing_zeros w64 mask) ∙ low.1))
+    let low = bit_at-trailing_zeros w128 mask above fits in
+    (trailing_zeros w128 mask, (bit_set_by_shift mask (trailing_zeros w128 mask)).0 (shr_and_one mask (trailing_zeros w128 mask) ∙ low.1))
 
 -- Rows in which nothing is held.
 module _ (rows : Rows) (n : ℕ) (root : rows.root ≡ zeros) (classes : rows.classes.items ≡ replicate n zeros) (kept : IsKept rows.leaves) (bare : IsBare rows.leaves) where

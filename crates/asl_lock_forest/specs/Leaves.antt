@@ -15,7 +15,7 @@ leaf_eq a b = (nat_eq a.0 b.0 && nat_eq a.1 b.1) && nat_eq a.2 b.2
 
 -- for how many threads a row has a code
 abbrev pub width : ℕ
-width = 64
+width = 128
 
 -- a row in which no thread holds anything
 abbrev pub zeros : List ℕ

@@ -66,7 +66,7 @@ impl Forest {
     /// The forest over classes 0 to `classes - 1` in which none of the threads holds anything.
     pub fn new(alloc: Global, classes: u32, threads: u32) -> Result<Self, AllocError>
         requires some_threads { 1 ≤ threads }
-        requires few_threads { threads ≤ 64 }
+        requires few_threads { threads ≤ 128 }
         ensures classes { IfOk result (λ forest. forest.classes ≡ classes) }
         ensures threads { IfOk result (λ forest. forest.threads ≡ threads) }
         ensures holding { IfOk result (λ forest. forest.holding ≡ no_holding) }

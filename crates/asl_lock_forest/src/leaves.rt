@@ -10,7 +10,7 @@ use std::alloc::{AllocError, Global};
 use std::hash::BuildHasherDefault;
 
 /// How many threads a row has a code for: the most threads of a forest.
-const WIDTH: usize = 64;
+const WIDTH: usize = 128;
 
 /// The codes of what each thread holds at one node.
 pub type Row = [u8; WIDTH];
