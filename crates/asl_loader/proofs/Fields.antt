@@ -13,7 +13,9 @@ use Rattle.asl_loader.specs.Bytes.{Field, Plain, Eight, bytes_of, text_of, one, 
 use Rattle.asl_loader.specs.declared.fault.Stop.{Stop}
 use Rattle.asl_loader.specs.declared.fault.Stop.TheVariants.{Short, Bad}
 use Rattle.asl_loader.specs.Reading.{◌>>=◌, passed, byte_at, number_at, below_at, magic_at, version_at, instr_at, judged}
+use Rattle.asl_code.specs.Versions.{IsVersion, is_version}
 use Rattle.asl_code.proofs.Values.{AreBytes}
+use Rattle.asl_code.proofs.Versions.{is_version-true, IsVersion-is_version, small_version}
 use Rattle.asl_loader.proofs.Eight.{AreBytes-take, eight_are, instr_at-long, instr_at-short}
 use Rattle.asl_loader.proofs.Reader.{Reads, IsBadFrom, bind_ok, bind_err, done, ok_is}
 
@@ -343,13 +345,13 @@ below_reads limit some few =
     (λ x is. ltb-true x limit is.1)
     (λ x is. (omega arith, lt-ltb x limit is))
 
-pub version_reads : Reads ℕ (λ n. n ≡ 1) (λ n. two n ∷ []) version_at
+pub version_reads : Reads ℕ IsVersion (λ n. two n ∷ []) version_at
 unfolding version_at
 version_reads =
-    reads_as ℕ (λ x. (x < 2 ^ 16) × (eqb x 1 ≡ true)) (λ n. n ≡ 1) (λ n. two n ∷ []) version_at
-    (reads_tested (λ n. n < 2 ^ 16) (λ n. to_be_bytes w16 n) 2 (number_at w16) two_number (λ x. eqb x 1) 1 (lit< tt) refl)
-    (λ x is. eqb-true x 1 is.1)
-    (λ x is. (omega (arith, is), eq-eqb x 1 is))
+    reads_as ℕ (λ x. (x < 2 ^ 16) × (is_version x ≡ true)) IsVersion (λ n. two n ∷ []) version_at
+    (reads_tested (λ n. n < 2 ^ 16) (λ n. to_be_bytes w16 n) 2 (number_at w16) two_number is_version 1 (lit< tt) (IsVersion-is_version 1 (inl refl)))
+    (λ x is. is_version-true x is.1)
+    (λ x is. (small_version x is, IsVersion-is_version x is))
 
 pub magic_reads : Reads ℕ (λ n. n ≡ 1095978061) (λ n. Plain (to_be_bytes w32 n) ∷ []) magic_at
 unfolding magic_at

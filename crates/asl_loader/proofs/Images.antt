@@ -1,5 +1,5 @@
 -- The readers of functions, locks and images read their fields.
-use Rattle.std.proofs.Common.{◌≡◌, ℕ, zero, suc, ◌<◌, ◌^◌, List, [], ◌∷◌, ◌++◌, length, drop, Ok, refl, sym, ap, ◌∙◌, arith, lit<, lit≤}
+use Rattle.std.proofs.Common.{◌≡◌, ℕ, zero, suc, ◌<◌, ◌^◌, List, [], ◌∷◌, ◌++◌, length, drop, Ok, refl, sym, ap, ◌∙◌, arith, inl, lit<, lit≤}
 use Rattle.std.specs.List.{flat_map, AllByRecursion}
 use Rattle.std.specs.Int.{w16, w32, to_be_bytes}
 use Rattle.std.proofs.lemmas.List.{append-nil}
@@ -16,6 +16,7 @@ use Rattle.asl_code.specs.declared.path.Op.TheVariants.{Deref, Off}
 use Rattle.asl_code.specs.declared.value.Effect.{Effect}
 use Rattle.asl_code.specs.declared.value.Effect.TheVariants.{Read, Write}
 use Rattle.asl_code.specs.Spelling.{IsInstr}
+use Rattle.asl_code.specs.Versions.{IsVersion}
 use Rattle.asl_loader.specs.Bytes.{Field, Plain, one, two, counted, class_fields, function_fields, instr_fields, effect_field, op_fields, path_fields, expr_fields, lock_fields, list_fields, image_fields, IsFunction, IsOp, IsBase, IsPath, IsLock, AreItems, IsList, IsImage, ImageOfSpellingIsOne}
 use Rattle.asl_loader.specs.Reading.{◌>>=◌, byte_at, number_at, below_at, magic_at, version_at, instr_at, function_at, effect_of, effect_at, op_of, op_at, items_at, counted_at, path_at, expr_at, lock_of, lock_at, list_at, image_at}
 use Rattle.asl_loader.proofs.Fields.{reads_as, byte_reads, two_reads, below_reads, version_reads, magic_reads, instr_reads}
@@ -328,9 +329,6 @@ list_reads = counted_reads Lock IsLock lock_fields lock_at lock_reads (lock.Root
 
 -- ---- images
 
-abbrev IsVersion : ℕ → Type 0
-IsVersion n = n ≡ 1
-
 abbrev IsTwo : ℕ → Type 0
 IsTwo n = n < 2 ^ 16
 
@@ -404,7 +402,7 @@ image_reads =
     (λ (i : Image). 1095978061) (λ (i : Image). two i.version ∷ two i.classes ∷ counted class_fields i.globals ++ (counted function_fields i.functions ++ (two i.start ∷ counted instr_fields i.code ++ counted list_fields i.lists))) magic_reads
     (λ m is_m. image_reads_version m is_m)
     (λ i is. refl) (λ i is. refl)
-    (λ m is_m. (record { version = 1; classes = 0; globals = []; functions = []; start = 0; code = []; lists = [] }, record { version_is = refl; classes_fits = lit< tt; globals_fit = record { counted = lit< tt; each = tt }; functions_fit = record { counted = lit< tt; each = tt }; start_fits = lit< tt; code_fits = record { counted = lit< tt; each = tt }; lists_fit = record { counted = lit< tt; each = tt } }, sym is_m))
+    (λ m is_m. (record { version = 1; classes = 0; globals = []; functions = []; start = 0; code = []; lists = [] }, record { version_is = inl refl; classes_fits = lit< tt; globals_fit = record { counted = lit< tt; each = tt }; functions_fit = record { counted = lit< tt; each = tt }; start_fits = lit< tt; code_fits = record { counted = lit< tt; each = tt }; lists_fit = record { counted = lit< tt; each = tt } }, sym is_m))
 
 -- a spelling is of one image
 pub image_is_one : ImageOfSpellingIsOne

@@ -8,7 +8,9 @@ use Rattle.asl_code.specs.declared.instr.Instr.{Instr}
 use Rattle.asl_code.specs.declared.lock.Lock.{Lock}
 use Rattle.asl_code.specs.Spelling.{IsInstr}
 use Rattle.asl_code.specs.Verified.{IsVerified}
+use Rattle.asl_code.specs.Versions.{IsVersion}
 use Rattle.asl_code.proofs.FitsLaws.{image_fits, body_within}
+use Rattle.asl_code.proofs.Versions.{few_locks}
 use Rattle.asl_loader.specs.Bytes.{Field, text_of, two, magic, counted, class_fields, function_fields, instr_fields, list_fields, IsFunction, IsList, AreItems, SpellsImage}
 use Rattle.asl_loader.specs.Writing.{Writes, HasFields}
 use Rattle.asl_loader.proofs.Reader.{text_of-append}
@@ -29,14 +31,14 @@ verified_has i v =
       lens = all_from_places Function (λ g. g.len < 2 ^ 16) i.functions (λ n g e. omega (arith, body_within i n g e, f.total, f.few_instrs));
       code = omega (arith, f.few_instrs);
       lists = omega (arith, f.few_lists);
-      locks = all_from_places (List Lock) (λ l. length l < 2 ^ 16) i.lists (λ n l e. omega (arith, f.few_locks n l e));
+      locks = all_from_places (List Lock) (λ l. length l < 2 ^ 16) i.lists (λ n l e. omega (arith, f.few_locks n l e, few_locks i.version));
     }
 
 texts : (m v k g f s c l : List Field) → ((((((text_of m ++ text_of v) ++ text_of k) ++ text_of g) ++ text_of f) ++ text_of s) ++ text_of c) ++ text_of l ≡ text_of (m ++ (v ++ (k ++ (g ++ (f ++ (s ++ (c ++ l)))))))
 texts m v k g f s c l = simp (text_of-append, append_assoc)
 
 -- the writer has written the fields of the image, one after the other
-pub image_written : (i : Image) (b0 b1 b2 b3 b4 b5 b6 b7 : List ℕ) → i.version ≡ 1 → b0 ≡ text_of (magic ∷ [])
+pub image_written : (i : Image) (b0 b1 b2 b3 b4 b5 b6 b7 : List ℕ) → IsVersion i.version → b0 ≡ text_of (magic ∷ [])
     → Writes ℕ (λ n. n < 2 ^ 16) (λ n. two n ∷ []) b0 b1 i.version
     → Writes ℕ (λ n. n < 2 ^ 16) (λ n. two n ∷ []) b1 b2 i.classes
     → Writes (List ℕ) (AreItems ℕ (λ class. class < 2 ^ 16)) (counted class_fields) b2 b3 i.globals

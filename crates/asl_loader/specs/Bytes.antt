@@ -15,6 +15,7 @@ use Rattle.asl_code.specs.declared.path.Op.TheVariants.{Deref, Off}
 use Rattle.asl_code.specs.declared.value.Effect.{Effect}
 use Rattle.asl_code.specs.declared.value.Effect.TheVariants.{Read, Write}
 use Rattle.asl_code.specs.Spelling.{instr_bytes, IsInstr, IsFirstBadField}
+use Rattle.asl_code.specs.Versions.{IsVersion}
 
 -- What is read whole and then judged: a plain field, or the eight bytes of an instruction, which are judged op first, then
 -- a, b, c and d (docs/BYTES.md, "Images").
@@ -134,9 +135,9 @@ pub record AreItems (X : Type 0) (IsItem : X → Type 0) (xs : List X) : Type 0 
 abbrev pub IsList : List Lock → Type 0
 IsList locks = AreItems Lock IsLock locks
 
--- an image of version 1, whose numbers fit their fields (docs/BYTES.md, "Images")
+-- an image of a version that is there, whose numbers fit their fields (docs/BYTES.md, "Images")
 pub record IsImage (i : Image) : Type 0 where
-  pub version_is : i.version ≡ 1
+  pub version_is : IsVersion i.version
   pub classes_fits : i.classes < 2 ^ 16
   pub globals_fit : AreItems ℕ (λ class. class < 2 ^ 16) i.globals
   pub functions_fit : AreItems Function IsFunction i.functions

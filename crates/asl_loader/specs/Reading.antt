@@ -15,6 +15,7 @@ use Rattle.asl_code.specs.declared.path.Op.TheVariants.{Deref, Off}
 use Rattle.asl_code.specs.declared.value.Effect.{Effect}
 use Rattle.asl_code.specs.declared.value.Effect.TheVariants.{Read, Write}
 use Rattle.asl_code.specs.Reading.{instr_of}
+use Rattle.asl_code.specs.Versions.{is_version}
 use Rattle.asl_loader.specs.declared.fault.LoadFault.{LoadFault}
 use Rattle.asl_loader.specs.declared.fault.LoadFault.TheVariants.{Magic, Version, Truncated, BadField, Trailing}
 use Rattle.asl_loader.specs.declared.fault.Stop.{Stop}
@@ -70,7 +71,7 @@ magic_at bytes = do
 unfoldable pub version_at : List ℕ → Result (ℕ × List ℕ) Stop
 version_at bytes = do
   n ← number_at w16 bytes
-  passed (n.0 == 1) n bytes
+  passed (is_version n.0) n bytes
 
 -- an instruction of eight bytes, or the place of their first bad field
 abbrev pub judged : {X : Type 0} → ℕ → List ℕ → Result X ℕ → Result (X × List ℕ) Stop

@@ -3,6 +3,7 @@
 use Rattle.std.specs.Prelude.{◌≡◌, ℕ, ◌<◌, ◌^◌, List, ◌++◌, length}
 use Rattle.std.specs.List.{flat_map, AllByRecursion}
 use Rattle.asl_code.specs.declared.image.Image.{Image}
+use Rattle.asl_code.specs.Versions.{IsVersion}
 use Rattle.asl_loader.specs.Bytes.{Field, text_of}
 
 -- the new bytes are the old ones with those of the thing, which has such fields
@@ -17,7 +18,7 @@ pub record WritesEach (X : Type 0) (Is : X → Type 0) (fields_of : X → List F
 
 -- the image's numbers and counts fit their fields, as far as the types of its parts do not say so
 pub record HasFields (i : Image) : Type 0 where
-  pub version : i.version ≡ 1
+  pub version : IsVersion i.version
   pub classes : i.classes < 2 ^ 16
   pub globals : length i.globals < 2 ^ 16
   pub functions : length i.functions < 2 ^ 16

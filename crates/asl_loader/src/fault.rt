@@ -9,7 +9,7 @@ pub enum LoadFault {
     /// The first field is not `ASLM`.
     #[error("Magic")]
     Magic,
-    /// The version is not 1.
+    /// The version is not 1 or 2.
     #[error("Version")]
     Version,
     /// The input, of so many bytes, ends within a field.

@@ -12,7 +12,9 @@ ghost use Rattle.asl_loader.specs.Reading.{function_at, effect_at, op_at, items_
 ghost use Rattle.asl_loader.specs.Reading.{lock_at, list_at, image_at};
 
 use crate::fault::Stop;
-use asl_code::{Base, Effect, Expr, Function, Image, Instr, Items, Lock, Op, Path, get_instr};
+use asl_code::{
+    Base, Effect, Expr, Function, Image, Instr, Items, Lock, Op, Path, get_instr, is_version,
+};
 use std::alloc::Global;
 
 /// The four letters at the front of an image, as a number.
@@ -87,7 +89,7 @@ fn version_at(bytes: &[u8]) -> Result<(u16, &[u8]), Stop>
     ensures { Gives (λ x. (x.0, x.1.now)) result (version_at bytes.now) }
 {
     let (version, rest) = two_at(bytes)?;
-    if version == 1 {
+    if is_version(u32::from(version)) {
         Ok((version, rest))
     } else {
         Err(bad(bytes))
