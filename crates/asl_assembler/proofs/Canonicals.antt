@@ -42,9 +42,8 @@ made i v fs code = record { version = v; classes = i.classes; globals = i.global
 is_listed : (i : Image) → IsVerified i → i ≡ image_of (listing_of i)
 is_listed i v =
     let f = image_fits i v in
-    ap (λ (n : ℕ). made i n i.functions i.code) f.version
-    ∙ ap (λ (fs : List Function). made i 1 fs i.code) (sym (bodies_functions i.functions i.code f.total f.few_instrs))
-    ∙ ap (λ (code : List Instr). made i 1 (map function_of (bodies i.functions i.code)) code) (sym (bodies_code i.functions i.code f.total))
+    ap (λ (fs : List Function). made i i.version fs i.code) (sym (bodies_functions i.functions i.code f.total f.few_instrs))
+    ∙ ap (λ (code : List Instr). made i i.version (map function_of (bodies i.functions i.code)) code) (sym (bodies_code i.functions i.code f.total))
 
 pub canonical_spelled : (i : Image) → IsVerified i → FitsText i → Spells (canonical_text i) i
 canonical_spelled i v fits = (listing_of i, lines_spelled (lines_in (listing_of i)) fits, is_listed i v)
@@ -62,7 +61,7 @@ bodies_of (b ∷ bs) few =
     ∙ ap (λ (cs : List Body). b ∷ cs) (bodies_of bs (omega (arith, few, length-append b.code rest)))
 
 listing_back : (l : Listing) → length (image_of l).code ≤ 65535 → listing_of (image_of l) ≡ l
-listing_back l few = ap (λ (bs : List Body). record { classes = l.classes; globals = l.globals; start = l.start; functions = bs; lists = l.lists }) (bodies_of l.functions few)
+listing_back l few = ap (λ (bs : List Body). record { version = l.version; classes = l.classes; globals = l.globals; start = l.start; functions = bs; lists = l.lists }) (bodies_of l.functions few)
 
 pub spelled_fits : (i : Image) (text : List ℕ) → IsVerified i → Spells text i → FitsText i
 spelled_fits i text v s =

@@ -75,7 +75,7 @@ comma : IsGap (codes ", ")
 comma = record { skipped = (λ word rest h. word_before word 44 (32 ∷ rest) refl h); part = refl }
 
 gap_of : (l : Line) → IsGap (between_operands l)
-gap_of line.Version = space
+gap_of (line.Version n) = space
 gap_of (line.Classes count) = space
 gap_of (line.Global class) = space
 gap_of (line.Entry function) = space
@@ -200,7 +200,7 @@ lock_word (lock.Class c e) = record { first = _; others = _; is = refl }
 lock_word (lock.Expr x e) = record { first = _; others = _; is = refl }
 
 has_word : (l : Line) → HasWord (tokens_of l)
-has_word line.Version = record { first = _; others = _; is = refl }
+has_word (line.Version n) = record { first = _; others = _; is = refl }
 has_word (line.Classes count) = record { first = _; others = _; is = refl }
 has_word (line.Global class) = record { first = _; others = _; is = refl }
 has_word (line.Entry function) = record { first = _; others = _; is = refl }
@@ -231,7 +231,7 @@ texts_split (l ∷ ls) h =
 
 are_lines : (ls : List Line) → AllByRecursion FitsLine ls → AreLines ls (map line_words ls)
 are_lines [] h = tt
-are_lines (l ∷ ls) h = (record { spelled = are_words (tokens_of l) (all_written (tokens_of l) h.0.fields); path = h.0.path }, are_lines ls h.1)
+are_lines (l ∷ ls) h = (record { spelled = are_words (tokens_of l) (all_written (tokens_of l) h.0.fields); kept = h.0.kept }, are_lines ls h.1)
 
 pub lines_spelled : (ls : List Line) → AllByRecursion FitsLine ls → AreLines ls (worded (lines_of (flat_map line_text ls)))
 lines_spelled ls h = rw (texts_split ls h) (are_lines ls h)
@@ -264,4 +264,4 @@ words_fit (t ∷ ts) (word ∷ words) h = (word_fits t word h.0, words_fit ts wo
 pub lines_fit : (ls : List Line) (words : List (List (List ℕ))) → AreLines ls words → AllByRecursion FitsLine ls
 lines_fit [] words h = tt
 lines_fit (l ∷ ls) [] h = absurd h
-lines_fit (l ∷ ls) (ws ∷ words) h = (record { fields = words_fit (tokens_of l) ws h.0.spelled; path = h.0.path }, lines_fit ls words h.1)
+lines_fit (l ∷ ls) (ws ∷ words) h = (record { fields = words_fit (tokens_of l) ws h.0.spelled; kept = h.0.kept }, lines_fit ls words h.1)

@@ -1,11 +1,12 @@
 -- A line is read as what its words say, and as nothing else.
 use Rattle.std.proofs.Common.{◌≡◌, ℕ, ◌+◌, ◌≤◌, true, List, [], ◌∷◌, ◌++◌, length, map, Option, Some, None, refl, sym, ap, ◌∙◌, ◌⊎◌, inl, inr, arith, append_assoc, append-nil, length-append}
-use Rattle.std.specs.Prelude.{if◌then◌else◌, ◌==◌, nat_lt, codes}
+use Rattle.std.specs.Prelude.{if◌then◌else◌, nat_lt, codes}
 use Rattle.std.specs.Option.{option_map}
 use Rattle.std.specs.Str.{bytes_eq}
 use Rattle.std.proofs.lemmas.Slice.Eq.{bytes_eq-Decides}
 use Rattle.std.proofs.lemmas.Bool.{cases_Bool, lt-ltb, ltb-true}
-use Rattle.std.proofs.lemmas.Bool.Decides.{Decides-eqb}
+use Rattle.asl_code.specs.Versions.{IsVersion, is_version}
+use Rattle.asl_code.proofs.Versions.{is_version-true, IsVersion-is_version}
 use Rattle.asl_code.specs.declared.instr.Instr.{Instr}
 use Rattle.asl_code.specs.declared.instr.Instr.TheVariants as instr
 use Rattle.asl_code.specs.declared.lock.Lock.{Lock}
@@ -143,7 +144,7 @@ instr_line (instr.Acquire a) words = refl
 instr_line instr.Release words = refl
 
 abbrev line_name : Line → Keyword
-line_name line.Version = keyword.Version
+line_name (line.Version n) = keyword.Version
 line_name (line.Classes n) = keyword.Classes
 line_name (line.Global n) = keyword.Global
 line_name (line.Entry n) = keyword.Entry
@@ -156,7 +157,9 @@ line_name (line.Lock (lock.Expr x e)) = keyword.Expr
 
 line_reads : (l : Line) (words : List (List ℕ)) → IsLine l words → Behind (line_name l) words (line_of (line_name l)) l
 unfolding line_of expr_of
-line_reads line.Version words h = let b = reads_1 short keyword.Version 1 words h.spelled in record { rest = b.rest; split = b.split; found = ap (λ o. o >>= version_of) b.found }
+line_reads (line.Version n) words h =
+    let b = reads_1 short keyword.Version n words h.spelled in
+    record { rest = b.rest; split = b.split; found = ap (λ o. o >>= version_of) b.found ∙ ap (λ t. if t then Some (line.Version n) else None) (IsVersion-is_version n h.kept) }
 line_reads (line.Classes n) words h = let b = reads_1 short keyword.Classes n words h.spelled in record { rest = b.rest; split = b.split; found = ap (option_map line.Classes) b.found }
 line_reads (line.Global n) words h = let b = reads_1 short keyword.Global n words h.spelled in record { rest = b.rest; split = b.split; found = ap (option_map line.Global) b.found }
 line_reads (line.Entry n) words h = let b = reads_1 short keyword.Entry n words h.spelled in record { rest = b.rest; split = b.split; found = ap (option_map line.Entry) b.found }
@@ -169,7 +172,7 @@ line_reads (line.Lock (lock.Expr x e)) [] h = absurd h.spelled
 line_reads (line.Lock (lock.Expr x e)) (a ∷ []) h = absurd h.spelled.1
 line_reads (line.Lock (lock.Expr x e)) (a ∷ word ∷ words) h =
     let first = base_reads x.base word h.spelled.1.0 in
-    let kept : length x.path ≤ 8 = h.path in
+    let kept : length x.path ≤ 8 = h.kept in
     let path = path_reads x.path [] e words h.spelled.1.1 (omega arith) in
     record { rest = word ∷ words; split = ap (λ w. w ∷ word ∷ words) h.spelled.0; found = rw (first, path) refl }
 
@@ -182,28 +185,28 @@ is_expr (word ∷ words) l e =
     let path = is_path words [] p.0 (omega arith) p.1 in
     let made : lock.Expr (record { base = b.0; path = p.0.0 }) p.0.1 ≡ l = cc in
     let spelled : AreWords (map op_token p.0.0 ++ effect_token p.0.1 ∷ []) words = rw path.whole path.spelled in
-    rw (← made) (record { spelled = (refl, (is_base word b.0 b.1, spelled)); path = path.short })
+    rw (← made) (record { spelled = (refl, (is_base word b.0 b.1, spelled)); kept = path.short })
 
-is_version : (n : ℕ) (l : Line) → version_of n ≡ Some l → (n ≡ 1) × (line.Version ≡ l)
-is_version n l e =
-    let g = guarded (n == 1) (Some line.Version) l e in
-    ((Decides-eqb n 1).0 g.0, cc)
+version_read : (n : ℕ) (l : Line) → version_of n ≡ Some l → IsVersion n × (line.Version n ≡ l)
+version_read n l e =
+    let g = guarded (is_version n) (Some (line.Version n)) l e in
+    (is_version-true n g.0, cc)
 
 is_line : (k : Keyword) (words : List (List ℕ)) (l : Line) → line_of k words ≡ Some l → IsLine l (name_of k ∷ words)
 unfolding line_of
 is_line keyword.Version words l e =
     let b = bound (one short.read words) version_of l e in
-    let v = is_version b.0 l b.2 in
-    rw (← v.1) (record { spelled = is_read_1 short keyword.Version words 1 (b.1 ∙ ap Some v.0); path = tt })
-is_line keyword.Classes words l e = let m = mapped line.Classes (one short.read words) l e in rw (← m.2) (record { spelled = is_read_1 short keyword.Classes words m.0 m.1; path = tt })
-is_line keyword.Global words l e = let m = mapped line.Global (one short.read words) l e in rw (← m.2) (record { spelled = is_read_1 short keyword.Global words m.0 m.1; path = tt })
-is_line keyword.Entry words l e = let m = mapped line.Entry (one short.read words) l e in rw (← m.2) (record { spelled = is_read_1 short keyword.Entry words m.0 m.1; path = tt })
-is_line keyword.Function words l e = let m = mapped (λ x. line.Function x.0 x.1) (two byte.read byte.read words) l e in rw (← m.2) (record { spelled = is_read_2 byte byte keyword.Function words m.0 m.1; path = tt })
-is_line keyword.List words l e = let m = mapped (λ _. line.List) (no_word words) l e in rw (← m.2) (record { spelled = is_read_0 keyword.List words m.0 m.1; path = tt })
-is_line keyword.Root words l e = let m = mapped (λ x. line.Lock (lock.Root x)) (one effect.read words) l e in rw (← m.2) (record { spelled = is_read_1 effect keyword.Root words m.0 m.1; path = tt })
-is_line keyword.Class words l e = let m = mapped (λ x. line.Lock (lock.Class x.0 x.1)) (two short.read effect.read words) l e in rw (← m.2) (record { spelled = is_read_2 short effect keyword.Class words m.0 m.1; path = tt })
+    let v = version_read b.0 l b.2 in
+    rw (← v.1) (record { spelled = is_read_1 short keyword.Version words b.0 b.1; kept = v.0 })
+is_line keyword.Classes words l e = let m = mapped line.Classes (one short.read words) l e in rw (← m.2) (record { spelled = is_read_1 short keyword.Classes words m.0 m.1; kept = tt })
+is_line keyword.Global words l e = let m = mapped line.Global (one short.read words) l e in rw (← m.2) (record { spelled = is_read_1 short keyword.Global words m.0 m.1; kept = tt })
+is_line keyword.Entry words l e = let m = mapped line.Entry (one short.read words) l e in rw (← m.2) (record { spelled = is_read_1 short keyword.Entry words m.0 m.1; kept = tt })
+is_line keyword.Function words l e = let m = mapped (λ x. line.Function x.0 x.1) (two byte.read byte.read words) l e in rw (← m.2) (record { spelled = is_read_2 byte byte keyword.Function words m.0 m.1; kept = tt })
+is_line keyword.List words l e = let m = mapped (λ _. line.List) (no_word words) l e in rw (← m.2) (record { spelled = is_read_0 keyword.List words m.0 m.1; kept = tt })
+is_line keyword.Root words l e = let m = mapped (λ x. line.Lock (lock.Root x)) (one effect.read words) l e in rw (← m.2) (record { spelled = is_read_1 effect keyword.Root words m.0 m.1; kept = tt })
+is_line keyword.Class words l e = let m = mapped (λ x. line.Lock (lock.Class x.0 x.1)) (two short.read effect.read words) l e in rw (← m.2) (record { spelled = is_read_2 short effect keyword.Class words m.0 m.1; kept = tt })
 is_line keyword.Expr words l e = let m = mapped line.Lock (expr_of words) l e in rw (← m.2) (is_expr words m.0 m.1)
-is_line k words l e = let m = mapped line.Instruction (instr_of k words) l e in rw (← m.2) (record { spelled = is_instr k words m.0 m.1; path = tt })
+is_line k words l e = let m = mapped line.Instruction (instr_of k words) l e in rw (← m.2) (record { spelled = is_instr k words m.0 m.1; kept = tt })
 
 pub meaning_reads : (l : Line) (words : List (List ℕ)) → IsLine l words → meaning_of words ≡ Some l
 unfolding meaning_of

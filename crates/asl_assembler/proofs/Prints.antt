@@ -1,11 +1,12 @@
 -- What the writers have written, put together to lines.
-use Rattle.std.proofs.Common.{◌≡◌, ℕ, ◌<◌, ◌≤◌, ◌^◌, arith, List, [], ◌∷◌, ◌++◌, length, map, sym, ap, ◌∙◌, refl, append_assoc, append-nil}
+use Rattle.std.proofs.Common.{◌≡◌, ℕ, ◌<◌, ◌≤◌, ◌^◌, List, [], ◌∷◌, ◌++◌, length, map, sym, ap, ◌∙◌, refl, append_assoc, append-nil}
 use Rattle.std.specs.Prelude.{codes}
 use Rattle.std.specs.List.{flat_map, AllByRecursion}
 use Rattle.std.specs.Fmt.{decimal}
-use Rattle.std.proofs.lemmas.Fmt.{decimal_digit}
 use Rattle.std.proofs.lemmas.List.Concat.{flat_map-append}
 use Rattle.std.proofs.lemmas.List.Folds.{flat_map-map}
+use Rattle.asl_code.specs.Versions.{IsVersion}
+use Rattle.asl_code.proofs.Versions.{small_version}
 use Rattle.asl_code.specs.declared.image.Image.{Image}
 use Rattle.asl_code.specs.declared.lock.Base.{Base}
 use Rattle.asl_code.specs.declared.lock.Expr.{Expr}
@@ -38,7 +39,7 @@ pub expr_written : (old b1 b2 b3 new : List ℕ) (e : Expr) (effect : Effect) �
     → Writes Base FitsBaseWord base_text b1 b2 e.base → WritesEach Op FitsOpWord op_text b2 b3 e.path → length e.path ≤ 8
     → new ≡ b3 ++ (codes " " ++ (word_of (effect_token effect) ++ codes "\n")) → WritesLine old new (line.Lock (lock.Expr e effect))
 expr_written old b1 b2 b3 new e effect e1 w2 w3 short e4 = record {
-  fits = record { fields = (tt, (w2.fits, ops_fit e.path effect w3.each)); path = short };
+  fits = record { fields = (tt, (w2.fits, ops_fit e.path effect w3.each)); kept = short };
   added =
       let end : List ℕ = codes " " ++ (word_of (effect_token effect) ++ codes "\n") in
       let ops : List ℕ = flat_map op_text e.path in
@@ -93,20 +94,18 @@ pub as_one : (X : Type 0) (f : X → List Line) (old new : List ℕ) (x : X) →
 as_one X f old new x w = record { fits = w.each; added = w.added }
 
 -- The first two lines.
-head_text : (n : ℕ) → codes "version 1\nclasses " ++ (decimal n ++ codes "\n") ≡ flat_map line_text (line.Version ∷ line.Classes n ∷ [])
-head_text n =
-    let one : decimal 1 ≡ 49 ∷ [] = decimal_digit 1 (omega arith) in
-    rw (one, append-nil) refl
+head_text : (v n : ℕ) → codes "version " ++ (decimal v ++ (codes "\nclasses " ++ (decimal n ++ codes "\n"))) ≡ flat_map line_text (line.Version v ∷ line.Classes n ∷ [])
+head_text v n = simp (append_assoc, append-nil)
 
-pub head_written : (old new : List ℕ) (n : ℕ) → n < 2 ^ 16 → new ≡ old ++ (codes "version 1\nclasses " ++ (decimal n ++ codes "\n")) → WritesLines old new (line.Version ∷ line.Classes n ∷ [])
-head_written old new n fits e = record {
-  each = (record { fields = (tt, (omega arith, tt)); path = tt }, (record { fields = (tt, (fits, tt)); path = tt }, tt));
-  added = e ∙ ap (λ (t : List ℕ). old ++ t) (head_text n);
+pub head_written : (old new : List ℕ) (v n : ℕ) → IsVersion v → n < 2 ^ 16 → new ≡ old ++ (codes "version " ++ (decimal v ++ (codes "\nclasses " ++ (decimal n ++ codes "\n")))) → WritesLines old new (line.Version v ∷ line.Classes n ∷ [])
+head_written old new v n is fits e = record {
+  each = (record { fields = (tt, (small_version v is, tt)); kept = is }, (record { fields = (tt, (fits, tt)); kept = tt }, tt));
+  added = e ∙ ap (λ (t : List ℕ). old ++ t) (head_text v n);
 }
 
 -- The lines of an image.
 pub image_written : (i : Image) (b0 b1 b2 b3 b4 b5 : List ℕ)
-    → WritesLines b0 b1 (line.Version ∷ line.Classes i.classes ∷ [])
+    → WritesLines b0 b1 (line.Version i.version ∷ line.Classes i.classes ∷ [])
     → WritesEach ℕ FitsGlobalLine global_text b1 b2 i.globals
     → WritesLine b2 b3 (line.Entry i.start)
     → WritesEach Body FitsBodyLines body_text b3 b4 (bodies i.functions i.code)
@@ -119,5 +118,5 @@ image_written i b0 b1 b2 b3 b4 b5 head globals entry functions lists =
     let entered = line_then b2 b3 b5 (line.Entry i.start) _ entry body in
     let gs = lines_mapped ℕ line.Global b1 b2 i.globals globals in
     let rest = lines_then b1 b2 b5 (map line.Global i.globals) _ gs entered in
-    let all = lines_then b0 b1 b5 (line.Version ∷ line.Classes i.classes ∷ []) _ head rest in
+    let all = lines_then b0 b1 b5 (line.Version i.version ∷ line.Classes i.classes ∷ []) _ head rest in
     record { fits = all.each; added = all.added }

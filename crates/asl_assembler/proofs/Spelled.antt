@@ -1,6 +1,7 @@
 -- What a text spells fits: each number of its image is one that its field of a line can hold.
-use Rattle.std.proofs.Common.{◌≡◌, ℕ, ◌<◌, ◌≤◌, ◌^◌, List, [], ◌∷◌, ◌++◌, length, map, refl, sym, subst}
+use Rattle.std.proofs.Common.{ℕ, ◌<◌, ◌≤◌, ◌^◌, List, [], ◌∷◌, ◌++◌, length, map, sym, subst}
 use Rattle.std.specs.List.{flat_map, AllByRecursion}
+use Rattle.asl_code.specs.Versions.{IsVersion}
 use Rattle.asl_code.specs.declared.image.Image.{Image}
 use Rattle.asl_code.specs.declared.image.Function.{Function}
 use Rattle.asl_code.specs.declared.instr.Instr.{Instr}
@@ -39,7 +40,7 @@ FitsRegisters f = (f.params < 256) × (f.regs < 256)
 
 -- each number of the image is one that its field can hold; the length of a function is not written
 pub record FitsFields (i : Image) : Type 0 where
-  pub version : i.version ≡ 1
+  pub version : IsVersion i.version
   pub classes : i.classes < 2 ^ 16
   pub globals : AllByRecursion (λ class. class < 2 ^ 16) i.globals
   pub functions : AllByRecursion FitsRegisters i.functions
@@ -96,7 +97,7 @@ lock_fits : (l : Lock) → FitsLine (line.Lock l) → FitsLock l
 lock_fits (lock.Root e) h = tt
 lock_fits (lock.Class class e) h = h.fields.1.0
 lock_fits (lock.Expr expr e) h =
-    (base_fits expr.base h.fields.1.0, h.path, from_map FitsField FitsOp op_token op_fits expr.path (front FitsField (map op_token expr.path) (effect_token e ∷ []) h.fields.1.1))
+    (base_fits expr.base h.fields.1.0, h.kept, from_map FitsField FitsOp op_token op_fits expr.path (front FitsField (map op_token expr.path) (effect_token e ∷ []) h.fields.1.1))
 
 -- ---- the tables
 
@@ -131,7 +132,7 @@ fields_of l h =
     let rest = back FitsLine globals behind h.1.1 in
     let functions = front FitsLine (flat_map function_lines l.functions) (flat_map list_lines l.lists) rest.1 in
     record {
-      version = refl;
+      version = h.0.kept;
       classes = h.1.0.fields.1.0;
       globals = from_map FitsLine (λ class. class < 2 ^ 16) line.Global global_fits l.globals (front FitsLine globals behind h.1.1);
       functions = functions_fit l.functions functions;

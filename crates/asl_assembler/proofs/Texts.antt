@@ -3,6 +3,7 @@ use Rattle.std.proofs.Common.{◌≡◌, ℕ, ◌+◌, ◌-◌, ◌<◌, ◌≤�
 use Rattle.std.specs.Prelude.{codes}
 use Rattle.std.proofs.lemmas.List.{take_all, take-take, take-append-drop}
 use Rattle.std.proofs.lemmas.Bool.{cases_lt}
+use Rattle.asl_code.specs.Versions.{limits_of}
 use Rattle.asl_code.specs.declared.image.Image.{Image}
 use Rattle.asl_assembler.specs.declared.line.Line.{Line}
 use Rattle.asl_assembler.specs.declared.draft.Place.{Place}
@@ -99,8 +100,8 @@ pub record CanFinish (s : State) : Type 0 where
   pub leaves : leaves more s ≡ Some image
 
 can_finish : (p : Place) (i : Image) → CanFinish (p, i)
-unfolding next finished step_line meaning_of keyword_of line_of number_of decimal_of
-can_finish place.Version i = record { more = codes "version 1" ∷ codes "classes 0" ∷ codes "entry 0" ∷ []; image = record (record i { classes = 0 }) { start = 0 }; leaves = refl }
+unfolding next finished step_line meaning_of keyword_of line_of number_of decimal_of limits_of
+can_finish place.Version i = record { more = codes "version 1" ∷ codes "classes 0" ∷ codes "entry 0" ∷ []; image = record (record (record i { version = 1 }) { classes = 0 }) { start = 0 }; leaves = refl }
 can_finish place.Classes i = record { more = codes "classes 0" ∷ codes "entry 0" ∷ []; image = record (record i { classes = 0 }) { start = 0 }; leaves = refl }
 can_finish place.Globals i = record { more = codes "entry 0" ∷ []; image = record i { start = 0 }; leaves = refl }
 can_finish place.Functions i = record { more = []; image = i; leaves = refl }

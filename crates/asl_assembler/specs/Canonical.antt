@@ -9,7 +9,7 @@ use Rattle.asl_code.specs.declared.instr.Instr.{Instr}
 use Rattle.asl_assembler.specs.declared.line.Line.{Line}
 use Rattle.asl_assembler.specs.declared.line.Line.TheVariants as line
 use Rattle.asl_assembler.specs.Words.{Token, Name, Byte, Short, Integer, Register, GlobalName, Star, Offset, name_of}
-use Rattle.asl_assembler.specs.Text.{Body, Listing, KeepsPath, tokens_of, lines_in}
+use Rattle.asl_assembler.specs.Text.{Body, Listing, KeepsLimits, tokens_of, lines_in}
 
 -- The word of a token: numbers in decimal digits, with no needless zeros (docs/ASSEMBLY.md)
 abbrev pub word_of : Token → List ℕ
@@ -53,7 +53,7 @@ bodies (f ∷ fs) code = record { params = f.params; regs = f.regs; code = take 
 
 -- The listing of an image (docs/ASSEMBLY.md)
 abbrev pub listing_of : Image → Listing
-listing_of i = record { classes = i.classes; globals = i.globals; start = i.start; functions = bodies i.functions i.code; lists = i.lists }
+listing_of i = record { version = i.version; classes = i.classes; globals = i.globals; start = i.start; functions = bodies i.functions i.code; lists = i.lists }
 
 -- The canonical text of an image: its lines, one after the other (docs/ASSEMBLY.md)
 abbrev pub canonical_text : Image → List ℕ
@@ -70,10 +70,11 @@ FitsField (GlobalName n) = n < 2 ^ 16
 FitsField Star = Unit {0}
 FitsField (Offset n) = n < 256
 
--- So are the numbers of the line, and its path, if it has one, has eight operations at the most (docs/ASSEMBLY.md)
+-- So are the numbers of the line; its version, if it names one, is there, and its path, if it has one, has eight operations
+-- at the most (docs/ASSEMBLY.md)
 pub record FitsLine (l : Line) : Type 0 where
   pub fields : AllByRecursion FitsField (tokens_of l)
-  pub path : KeepsPath l
+  pub kept : KeepsLimits l
 
 -- So is all that the image's lines write (docs/ASSEMBLY.md)
 abbrev pub FitsText : Image → Type 0

@@ -4,6 +4,7 @@ use Rattle.std.specs.Prelude.{◌≡◌, ℕ, ℤ, pos, neg_ℤ, ◌+◌, ◌-�
 use Rattle.std.specs.Option.{option_map}
 use Rattle.std.specs.Char.{is_ascii_digit}
 use Rattle.std.specs.Str.{bytes_eq}
+use Rattle.asl_code.specs.Versions.{is_version}
 use Rattle.asl_code.specs.declared.image.Image.{Image}
 use Rattle.asl_code.specs.declared.image.Function.{Function}
 use Rattle.asl_code.specs.declared.instr.Instr.{Instr}
@@ -218,9 +219,9 @@ unfoldable pub expr_of : List (List ℕ) → Option Lock
 expr_of [] = None
 expr_of (word ∷ words) = base_of word >>= λ b. lock_with b (path_of [] words)
 
--- the line of a version: there is only 1
+-- the line of a version, if there is such a version
 abbrev pub version_of : ℕ → Option Line
-version_of n = if n == 1 then Some line.Version else None
+version_of n = if is_version n then Some (line.Version n) else None
 
 -- the line of a keyword and the words behind it
 unfoldable pub line_of : Keyword → List (List ℕ) → Option Line
@@ -273,7 +274,7 @@ open_of _ = None
 
 -- the line at this place: the place behind it, and the image so far
 unfoldable pub next : Place → Line → Image → Option State
-next place.Version line.Version i = Some (place.Classes, i)
+next place.Version (line.Version n) i = Some (place.Classes, record i { version = n })
 next place.Classes (line.Classes n) i = Some (place.Globals, record i { classes = n })
 next place.Globals (line.Global c) i = Some (place.Globals, record i { globals = i.globals ++ c ∷ [] })
 next place.Globals (line.Entry f) i = Some (place.Functions, record i { start = f })
@@ -324,7 +325,7 @@ image_from n p i (l ∷ ls) = and_then (or_line (step_line p i l) (n + 1)) (λ s
 
 -- nothing is read
 abbrev pub blank_image : Image
-blank_image = record { version = 1; classes = 0; globals = []; functions = []; start = 0; code = []; lists = [] }
+blank_image = record { version = 0; classes = 0; globals = []; functions = []; start = 0; code = []; lists = [] }
 
 -- What the reader returned is this answer, unless memory ran out.
 abbrev pub Answers : Result Image ReadFault → Result Image ℕ → Type 0
@@ -349,7 +350,7 @@ turn_opened _ = None
 
 -- which line comes behind this one, if it may stand here
 unfoldable pub turn_behind : Turn → Line → Option Turn
-turn_behind turn.Version line.Version = Some turn.Classes
+turn_behind turn.Version (line.Version n) = Some turn.Classes
 turn_behind turn.Classes (line.Classes n) = Some turn.Globals
 turn_behind turn.Globals (line.Global c) = Some turn.Globals
 turn_behind turn.Globals (line.Entry f) = Some turn.Functions

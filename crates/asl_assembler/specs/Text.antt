@@ -1,6 +1,7 @@
 -- Which assembly text spells which image, and which line of a text is wrong (docs/ASSEMBLY.md).
 use Rattle.std.specs.Prelude.{◌≡◌, ℕ, ◌+◌, ◌-◌, ◌<◌, ◌≤◌, ◌^◌, ◌⊎◌, List, [], ◌∷◌, ◌++◌, length, map, take, min}
 use Rattle.std.specs.List.{flat_map}
+use Rattle.asl_code.specs.Versions.{IsVersion}
 use Rattle.asl_code.specs.declared.image.Image.{Image}
 use Rattle.asl_code.specs.declared.image.Function.{Function}
 use Rattle.asl_code.specs.declared.instr.Instr.{Instr}
@@ -68,7 +69,7 @@ lock_tokens (lock.Expr expr effect) = Name keyword.Expr ∷ base_token expr.base
 
 -- The words of a line (docs/ASSEMBLY.md)
 abbrev pub tokens_of : Line → List Token
-tokens_of line.Version = Name keyword.Version ∷ Short 1 ∷ []
+tokens_of (line.Version version) = Name keyword.Version ∷ Short version ∷ []
 tokens_of (line.Classes count) = Name keyword.Classes ∷ Short count ∷ []
 tokens_of (line.Global class) = Name keyword.Global ∷ Short class ∷ []
 tokens_of (line.Entry function) = Name keyword.Entry ∷ Short function ∷ []
@@ -83,15 +84,16 @@ HasPath (lock.Expr expr effect) = length expr.path ≤ 8
 HasPath (lock.Root effect) = Unit {0}
 HasPath (lock.Class class effect) = Unit {0}
 
--- So has that of the line, if it has one (docs/ASSEMBLY.md)
-abbrev pub KeepsPath : Line → Type 0
-KeepsPath (line.Lock l) = HasPath l
-KeepsPath _ = Unit {0}
+-- So has that of the line's lock, if it has one; and the version that the line names, if it names one, is there (docs/ASSEMBLY.md)
+abbrev pub KeepsLimits : Line → Type 0
+KeepsLimits (line.Version version) = IsVersion version
+KeepsLimits (line.Lock l) = HasPath l
+KeepsLimits _ = Unit {0}
 
 -- These are the words of this line (docs/ASSEMBLY.md)
 pub record IsLine (l : Line) (words : List (List ℕ)) : Type 0 where
   pub spelled : AreWords (tokens_of l) words
-  pub path : KeepsPath l
+  pub kept : KeepsLimits l
 
 -- These are the words of these lines, one for one (docs/ASSEMBLY.md)
 abbrev pub AreLines : List Line → List (List (List ℕ)) → Type 0
@@ -108,6 +110,7 @@ pub record Body : Type 0 where
 
 -- A whole listing (docs/ASSEMBLY.md)
 pub record Listing : Type 0 where
+  pub version : ℕ
   pub classes : ℕ
   pub globals : List ℕ
   pub start : ℕ
@@ -124,7 +127,7 @@ list_lines locks = line.List ∷ map line.Lock locks
 
 -- The lines of a listing in order: the header, the functions, the lists (docs/ASSEMBLY.md)
 abbrev pub lines_in : Listing → List Line
-lines_in l = line.Version ∷ line.Classes l.classes ∷ (map line.Global l.globals ++ line.Entry l.start ∷ (flat_map function_lines l.functions ++ flat_map list_lines l.lists))
+lines_in l = line.Version l.version ∷ line.Classes l.classes ∷ (map line.Global l.globals ++ line.Entry l.start ∷ (flat_map function_lines l.functions ++ flat_map list_lines l.lists))
 
 -- A function's length is a number of 32 bits: a longer one, which is past every limit, is given the greatest (docs/DECISIONS.md)
 abbrev pub shortened : ℕ → ℕ
@@ -136,7 +139,7 @@ function_of f = record { params = f.params; regs = f.regs; len = shortened (leng
 
 -- The image of a listing: the bodies lie one after the other (docs/ASSEMBLY.md)
 abbrev pub image_of : Listing → Image
-image_of l = record { version = 1; classes = l.classes; globals = l.globals; functions = map function_of l.functions; start = l.start; code = flat_map (λ f. f.code) l.functions; lists = l.lists }
+image_of l = record { version = l.version; classes = l.classes; globals = l.globals; functions = map function_of l.functions; start = l.start; code = flat_map (λ f. f.code) l.functions; lists = l.lists }
 
 -- The words of a line in front of those of others, if it has words (docs/ASSEMBLY.md)
 abbrev pub unless_blank : List (List ℕ) → List (List (List ℕ)) → List (List (List ℕ))

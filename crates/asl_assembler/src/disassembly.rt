@@ -4,6 +4,7 @@ ghost use Rattle.std.specs.Prelude.{◌≡◌, ◌<◌, ◌^◌, ℕ, List, [], 
 ghost use Rattle.asl_code.specs.declared.image.Image.{Image};
 ghost use Rattle.asl_code.specs.declared.instr.Instr.{Instr};
 ghost use Rattle.asl_code.specs.declared.lock.Lock.{Lock};
+ghost use Rattle.asl_code.specs.Versions.{IsVersion};
 ghost use Rattle.asl_assembler.specs.declared.line.Line.{Line};
 ghost use Rattle.asl_assembler.specs.declared.line.Line.TheVariants as line;
 ghost use Rattle.asl_assembler.specs.Text.{Body, Spells};
@@ -26,10 +27,11 @@ pub fn disassemble(alloc: Global, program: &Program) -> Result<Vec<u8>, AllocErr
 }
 
 fn put_image(text: &mut String, image: &Image) -> Result<(), AllocError>
-    requires { image.now.classes < 2 ^ 16 }
+    requires version { IsVersion image.now.version }
+    requires classes { image.now.classes < 2 ^ 16 }
     ensures { OnOk result (Writes Image FitsText canonical_text (string_bytes text.old) (string_bytes text.new) image.now) }
 {
-    put_head(text, image.classes)?;
+    put_head(text, image.version, image.classes)?;
     put_globals(text, image.globals.as_slice())?;
     put_entry(text, image.start)?;
     put_functions(text, image.functions.as_slice(), image.code.as_slice())?;
@@ -37,12 +39,13 @@ fn put_image(text: &mut String, image: &Image) -> Result<(), AllocError>
 }
 
 /// The version, and how many classes there are.
-fn put_head(text: &mut String, classes: u32) -> Result<(), AllocError>
-    requires { classes < 2 ^ 16 }
+fn put_head(text: &mut String, version: u32, classes: u32) -> Result<(), AllocError>
+    requires version { IsVersion version }
+    requires classes { classes < 2 ^ 16 }
     ensures { OnOk result (WritesEach Line FitsLine line_text (string_bytes text.old) (string_bytes text.new)
-        (line.Version ∷ line.Classes classes ∷ [])) }
+        (line.Version version ∷ line.Classes classes ∷ [])) }
 {
-    write!(text, "version 1\nclasses {classes}\n")
+    write!(text, "version {version}\nclasses {classes}\n")
 }
 
 fn put_global(text: &mut String, class: u16) -> Result<(), AllocError>

@@ -48,7 +48,10 @@ fn take_line(
 {
     match place {
         Place::Version => match line {
-            Line::Version => Ok(Some(Place::Classes)),
+            Line::Version(version) => {
+                image.version = u32::from(version);
+                Ok(Some(Place::Classes))
+            }
             _ => Ok(None),
         },
         Place::Classes => match line {

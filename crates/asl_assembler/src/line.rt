@@ -11,13 +11,13 @@ use crate::operand::{
     three_registers, two_bytes, two_registers, two_registers_and_byte, two_registers_and_short,
 };
 use crate::words::{next_word, no_word_in};
-use asl_code::{Base, Expr, Instr, Lock, Path};
+use asl_code::{Base, Expr, Instr, Lock, Path, is_version};
 
 /// What a line says by itself.
 #[derive(Drop)]
 pub(crate) enum Line {
-    /// `version 1`
-    Version,
+    /// `version`: the version of the format.
+    Version(u16),
     /// `classes`: how many classes there are.
     Classes(u16),
     /// `global`: the class of one more global.
@@ -140,8 +140,9 @@ fn line_named(name: Keyword, rest: &[u8]) -> Option<Line>
 {
     match name {
         Keyword::Version => {
-            if one_short(rest)? == 1 {
-                Some(Line::Version)
+            let version = one_short(rest)?;
+            if is_version(u32::from(version)) {
+                Some(Line::Version(version))
             } else {
                 None
             }

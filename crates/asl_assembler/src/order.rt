@@ -44,7 +44,7 @@ fn behind(turn: Turn, line: &Line) -> Option<Turn>
 {
     match turn {
         Turn::Version => match line {
-            Line::Version => Some(Turn::Classes),
+            Line::Version(_) => Some(Turn::Classes),
             _ => None,
         },
         Turn::Classes => match line {

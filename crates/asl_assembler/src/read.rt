@@ -32,7 +32,7 @@ fn blank(alloc: Global) -> Image
     ensures { result ≡ blank_image }
 {
     Image {
-        version: 1,
+        version: 0,
         classes: 0,
         globals: Items::new(alloc),
         functions: Items::new(alloc),

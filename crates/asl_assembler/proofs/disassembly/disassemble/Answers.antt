@@ -5,8 +5,11 @@ use Rattle.asl_assembler.specs.Canonical.{canonical_text}
 use Rattle.asl_assembler.proofs.Canonicals.{canonical_spelled}
 use Rattle.asl_assembler.proofs.disassembly.disassemble.Goals as goal
 
-pub put_image-requires : goal.put_image-requires
-put_image-requires c = rw c.image.ensures.image (let f = image_fits c.args.program.now c.image.ensures.verified in omega (arith, f.few_classes))
+pub put_image-requires-clause-version : goal.put_image-requires-clause-version
+put_image-requires-clause-version c = rw c.image.ensures.image (image_fits c.args.program.now c.image.ensures.verified).version
+
+pub put_image-requires-clause-classes : goal.put_image-requires-clause-classes
+put_image-requires-clause-classes c = rw c.image.ensures.image (let f = image_fits c.args.program.now c.image.ensures.verified in omega (arith, f.few_classes))
 
 pub returns-clause-spelled : goal.returns-clause-spelled
 returns-clause-spelled c =

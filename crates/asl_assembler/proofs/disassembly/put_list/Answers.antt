@@ -13,5 +13,5 @@ returns c =
     let new = string_bytes c.put_locks.new.text in
     on_ok_weaker c.put_locks.result
     (λ w. as_one (List Lock) list_lines old new c.args.locks.now
-    (line_then old mid new line.List _ (record { fits = record { fields = (tt, tt); path = tt }; added = c.in_ok-push_str.ensures.bytes }) (lines_mapped Lock line.Lock mid new c.args.locks.now w)))
+    (line_then old mid new line.List _ (record { fits = record { fields = (tt, tt); kept = tt }; added = c.in_ok-push_str.ensures.bytes }) (lines_mapped Lock line.Lock mid new c.args.locks.now w)))
     c.put_locks.ensures
