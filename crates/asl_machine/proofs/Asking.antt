@@ -1,6 +1,5 @@
 -- What a lock asks by its own node, and whether its list can be granted.
-use Rattle.std.proofs.Common.{◌≡◌, ◌≢◌, ℕ, ◌<◌, ◌+◌, suc, arith, ◌⊎◌, Bool, true, false, cond, List, [], ◌∷◌, ◌++◌, length, drop, get_or, Option, None, Some, slice_get, refl, sym, ap, ◌∙◌, subst, inl, inr}
-use Rattle.std.specs.Prelude.{All}
+use Rattle.std.proofs.Common.{◌≡◌, ℕ, ◌<◌, ◌+◌, suc, arith, Bool, true, false, cond, List, [], ◌∷◌, ◌++◌, length, drop, get_or, Option, None, Some, slice_get, refl, sym, ap, ◌∙◌, subst, inl, inr}
 use Rattle.std.specs.Option.{option_map, option_map_or}
 use Rattle.std.proofs.lemmas.Option.{same_Some}
 use Rattle.asl_code.specs.declared.value.Value.{Value}
@@ -11,7 +10,7 @@ use Rattle.asl_code.specs.declared.lock.Lock.TheVariants as lock
 use Rattle.asl_lock_expr.specs.Expression.{cell_denoted}
 use Rattle.asl_mode_lanes.specs.declared.mode.Mode.{Mode}
 use Rattle.asl_mode_lanes.specs.declared.mode.Mode.TheVariants.{NL, IS, IX, S, SIX, X}
-use Rattle.asl_mode_lanes.specs.Mode.{AtMost, is_compatible, AreCompatible, join_of}
+use Rattle.asl_mode_lanes.specs.Mode.{AtMost, AreCompatible, join_of}
 use Rattle.asl_mode_lanes.proofs.ModeLaws.{compatible_below, join_least}
 use Rattle.asl_lock_forest.specs.declared.node.Node.{Node}
 use Rattle.asl_lock_forest.specs.declared.node.Node.TheVariants.{Root, Class, Leaf}

@@ -25,7 +25,7 @@ same_state : (a b : List Object) (h k : Holding) (ts us : List Thread) → a ≡
 same_state a b h k ts us p q r = λ i. state_of (p i) (q i) (r i)
 
 -- the start keeps it
-pub start_machine : (image : Image) (objects : List Object) (forest : Held) (threads : List Thread) (n : ℕ) → FitsImage image → n ≤ 64 →
+pub start_machine : (image : Image) (objects : List Object) (forest : Held) (threads : List Thread) (n : ℕ) → FitsImage image → n ≤ 128 →
     objects ≡ map global_object image.globals → forest.classes ≡ image.classes → forest.threads ≡ n → forest.holding ≡ no_holding → threads ≡ first_threads image n →
     IsMachine image objects forest threads
 start_machine image objects forest threads n fits few os classes counted holding ts =

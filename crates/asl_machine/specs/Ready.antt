@@ -80,4 +80,4 @@ pub record IsMachine (image : Image) (objects : List Object) (forest : Held) (th
   pub sound : IsSound image (record { objects = objects; holding = forest.holding; threads = threads })
   pub classes : forest.classes ≡ image.classes
   pub counted : forest.threads ≡ length threads
-  pub few_threads : length threads ≤ 64
+  pub few_threads : length threads ≤ 128

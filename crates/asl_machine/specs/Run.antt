@@ -1,7 +1,8 @@
 -- Runs of a program: the state in which its threads start, and the replies and states of a schedule, by the computed
 -- step (docs/INSTRUCTIONS.md, "State" and "A step"). In each state of a run that step is the one that the instruction
 -- table allows: the law steps_have_one_line.
-use Rattle.std.specs.Prelude.{◌≡◌, ◌<◌, ℕ, zero, suc, List, [], ◌∷◌, ◌++◌, map, All, None, pos}
+use Rattle.std.specs.Prelude.{◌≡◌, ◌<◌, ◌≤◌, ℕ, zero, suc, List, [], ◌∷◌, ◌++◌, map, All, None, pos}
+use Rattle.asl_code.specs.Versions.{most_threads}
 use Rattle.asl_code.specs.declared.image.Image.{Image}
 use Rattle.asl_code.specs.declared.value.Value.TheVariants.{Int}
 use Rattle.asl_lock_forest.specs.Holding.{no_holding}
@@ -27,6 +28,10 @@ first_thread image t = Running (first_activity image t)
 abbrev pub first_threads : Image → ℕ → List Thread
 first_threads image zero = []
 first_threads image (suc t) = first_threads image t ++ first_thread image t ∷ []
+
+-- the program may start with so many threads: 1 to as many as its version sets (docs/INSTRUCTIONS.md, State)
+abbrev pub IsThreadCount : Image → ℕ → Type 0
+IsThreadCount image count = (0 < count) × (count ≤ most_threads image.version)
 
 -- the state in which so many threads of the program start (docs/INSTRUCTIONS.md, State)
 abbrev pub start_of : Image → ℕ → State

@@ -30,7 +30,7 @@ pub enum Fault {
 /// Why a machine refused a call. Where several apply, the first is answered.
 #[derive(Debug, Drop, PartialEq, Eq, thiserror::Error)]
 pub enum MachineFault {
-    /// A machine has 1 to 64 threads.
+    /// A machine has 1 to as many threads as its program's version sets.
     #[error("BadCount")]
     BadCount,
     /// There is no such thread.

@@ -37,7 +37,7 @@ impl Frame {
     /// The frame in which thread t starts: the entry function's, with the thread's number as the parameter.
     pub fn entry(alloc: Global, code: &Code<'_>, t: u32) -> Result<Frame, AllocError>
         requires fits { FitsImage code.now }
-        requires small { t < 64 }
+        requires small { t < 128 }
         ensures { IfOk result (λ frame. frame ≡ first_frame code.now code.now.start (Int (pos t) ∷ []) None) }
     {
         let function = code.program().start();
@@ -196,7 +196,7 @@ impl Activity {
     /// What thread t is at when it starts.
     pub fn first(alloc: Global, code: &Code<'_>, t: u32) -> Result<Activity, AllocError>
         requires fits { FitsImage code.now }
-        requires small { t < 64 }
+        requires small { t < 128 }
         ensures { IfOk result (λ activity. activity ≡ first_activity code.now t) }
     {
         Ok(Activity {

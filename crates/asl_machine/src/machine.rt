@@ -1,6 +1,7 @@
 //! The machine: a program, its heap, its locks and its threads.
 ghost use Rattle.std.specs.Prelude.{◌≡◌, ◌≢◌, ◌<◌, ◌≤◌, ◌↔◌, ◌⊎◌, IfOk, IfErr, OnErr, IsErrOf, IsTrue, Some, length, slice_get, option_map, option_and_then};
 ghost use Rattle.asl_code.specs.Fits.{FitsImage};
+ghost use Rattle.asl_code.specs.Versions.{most_threads};
 ghost use Rattle.asl_lock_forest.specs.declared.node.Node.{Node};
 ghost use Rattle.asl_machine.specs.Run.{start_of, first_threads};
 ghost use Rattle.asl_machine.specs.State.{cell_at, size_of, class_of, activity_at, depth_at};
@@ -56,14 +57,14 @@ impl<'p> Machine<'p> {
     ghost use Rattle.asl_machine.specs.Nodes.{IsNode};
     ghost use Rattle.asl_machine.specs.Sound.{IsSound, MayWantMemory};
 
-    /// The machine in which n threads of the program start: 1 to 64 of them.
+    /// The machine in which n threads of the program start: 1 to as many as the program's version sets.
     pub fn new(alloc: Global, program: &'p Program, n: u32) -> Result<Machine<'p>, MachineFault>
         ensures image { IfOk result (λ machine. machine.image ≡ program.now) }
         ensures start { IfOk result (λ machine. machine.state ≡ start_of program.now n) }
-        ensures count { IsErrOf result MachineFault.BadCount ↔ ((n ≡ 0) ⊎ (64 < n)) }
+        ensures count { IsErrOf result MachineFault.BadCount ↔ ((n ≡ 0) ⊎ (most_threads program.now.version < n)) }
         ensures other { IfErr result (λ fault. (fault ≡ MachineFault.BadCount) ⊎ (fault ≡ MachineFault.OutOfMemory)) }
     {
-        if n == 0 || n > 64 {
+        if n == 0 || n > program.limits().threads {
             return Err(MachineFault::BadCount);
         }
         Ok(start(alloc, program, n)?)
@@ -227,7 +228,7 @@ impl<'p> Machine<'p> {
 /// The machine in which n threads of the program start.
 fn start<'p>(alloc: Global, program: &'p Program, n: u32) -> Result<Machine<'p>, AllocError>
     requires some { 0 < n }
-    requires few { n ≤ 64 }
+    requires few { n ≤ 128 }
     ensures image { IfOk result (λ machine. machine.image ≡ program.now) }
     ensures start { IfOk result (λ machine. machine.state ≡ start_of program.now n) }
 {
@@ -258,7 +259,7 @@ fn copies(alloc: Global, threads: &[Thread]) -> Result<Vec<Thread>, AllocError>
 /// The first n threads at their start.
 fn start_threads(alloc: Global, code: &Code<'_>, n: u32) -> Result<Vec<Thread>, AllocError>
     requires fits { FitsImage code.now }
-    requires few { n ≤ 64 }
+    requires few { n ≤ 128 }
     ensures { IfOk result (λ threads. threads.items ≡ first_threads code.now n) }
 {
     let mut threads = Vec::new(alloc);

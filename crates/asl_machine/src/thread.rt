@@ -52,7 +52,7 @@ impl Thread {
     /// Thread t at its start.
     pub fn first(alloc: Global, code: &Code<'_>, t: u32) -> Result<Thread, AllocError>
         requires fits { FitsImage code.now }
-        requires small { t < 64 }
+        requires small { t < 128 }
         ensures { IfOk result (λ thread. thread ≡ first_thread code.now t) }
     {
         let activity = Activity::first(alloc, code, t)?;

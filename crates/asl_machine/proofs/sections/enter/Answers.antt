@@ -1,5 +1,5 @@
-use Rattle.std.proofs.Common.{◌≡◌, Option, Some, IfSome, IsTrue, is_some, sym, ap, subst, ◌∙◌}
-use Rattle.asl_lock_forest.specs.Holding.{CanGrant, Request}
+use Rattle.std.proofs.Common.{IsTrue, sym, subst, ◌∙◌}
+use Rattle.asl_lock_forest.specs.Holding.{CanGrant}
 use Rattle.asl_lock_forest.specs.Request.{names_once, asks_modes, asks_parents, IsOfClasses}
 use Rattle.asl_lock_forest.proofs.Grantable.{can_grant-tells}
 use Rattle.asl_machine.specs.Request.{request_of}
