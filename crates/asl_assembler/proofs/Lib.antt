@@ -8,6 +8,7 @@ pub mod Meanings
 pub mod Listings
 pub mod Texts
 pub mod Turns
+pub mod Overs
 pub mod Outcomes
 pub mod Writes
 pub mod Prints

@@ -1,9 +1,10 @@
 -- Machinery of the proofs, not of the promise: how a text is read, computed on lists (docs/ASSEMBLY.md). The
 -- lemmas of proofs/ lead from here to the definitions of specs/Words and specs/Text, which public calls cite.
-use Rattle.std.specs.Prelude.{◌≡◌, ℕ, ℤ, pos, neg_ℤ, ◌+◌, ◌-◌, ◌*◌, ◌^◌, Bool, true, false, not, ◌&&◌, ◌==◌, nat_lt, nat_le, List, [], ◌∷◌, ◌++◌, length, Option, Some, None, Result, Ok, Err, if◌then◌else◌, codes}
+use Rattle.std.specs.Prelude.{◌≡◌, ℕ, ℤ, pos, neg_ℤ, ◌+◌, ◌-◌, ◌*◌, ◌^◌, Bool, true, false, not, ◌&&◌, ◌==◌, nat_lt, nat_le, ◌||◌, ◌⊎◌, List, [], ◌∷◌, ◌++◌, length, Option, Some, None, Result, Ok, Err, if◌then◌else◌, codes}
 use Rattle.std.specs.Option.{option_map}
 use Rattle.std.specs.Char.{is_ascii_digit}
 use Rattle.std.specs.Str.{bytes_eq}
+use Rattle.asl_code.specs.Verified.{keeps_limits}
 use Rattle.asl_code.specs.Versions.{is_version}
 use Rattle.asl_code.specs.declared.image.Image.{Image}
 use Rattle.asl_code.specs.declared.image.Function.{Function}
@@ -27,8 +28,10 @@ use Rattle.asl_assembler.specs.declared.order.Turn.{Turn}
 use Rattle.asl_assembler.specs.declared.order.Turn.TheVariants as turn
 use Rattle.asl_assembler.specs.declared.read.ReadFault.{ReadFault}
 use Rattle.asl_assembler.specs.declared.read.ReadFault.TheVariants as fault
-use Rattle.asl_assembler.specs.Words.{name_of, words_of, is_separator}
-use Rattle.asl_assembler.specs.Text.{shortened}
+use Rattle.asl_assembler.specs.declared.assembly.AsmFault.{AsmFault}
+use Rattle.asl_assembler.specs.declared.assembly.AsmFault.TheVariants as asm
+use Rattle.asl_assembler.specs.Words.{name_of, words_of, lines_of, is_separator}
+use Rattle.asl_assembler.specs.Text.{shortened, Spells, IsBadLine}
 
 -- one step after another, where both answer
 infixl 10 ◌>>=◌
@@ -327,10 +330,24 @@ image_from n p i (l ∷ ls) = and_then (or_line (step_line p i l) (n + 1)) (λ s
 abbrev pub blank_image : Image
 blank_image = record { version = 0; classes = 0; globals = []; functions = []; start = 0; code = []; lists = [] }
 
+-- the locks of the list that is open, or none
+abbrev pub open_locks : Place → List Lock
+open_locks (place.Locks locks) = locks
+open_locks _ = []
+
+-- whether there are more locks in the open list, or more lists, than a program of any version has
+abbrev pub is_over : Place → Image → Bool
+is_over p i = nat_lt 256 (length (open_locks p)) || nat_lt 1024 (length i.lists)
+
+-- the image is over a limit
+abbrev pub IsOver : Image → Type 0
+IsOver i = keeps_limits i ≡ false
+
 -- What the reader returned is this answer, unless memory ran out.
 abbrev pub Answers : Result Image ReadFault → Result Image ℕ → Type 0
 Answers (Ok image) answer = answer ≡ Ok image
 Answers (Err (fault.Line n)) answer = answer ≡ Err n
+Answers (Err fault.Over) answer = (image : Image) → answer ≡ Ok image → IsOver image
 Answers (Err fault.OutOfMemory) answer = Unit {0}
 
 -- which line comes next at a place, without what is open there
@@ -376,3 +393,8 @@ may_end turn.Functions = true
 may_end turn.Body = true
 may_end turn.Locks = true
 may_end _ = false
+
+-- the first wrong line of the text, or where it spells an image this fault
+abbrev pub HasLineOr : List ℕ → AsmFault → AsmFault → Type 0
+HasLineOr text fault result =
+    ((number : ℕ) × (result ≡ asm.Line number) × IsBadLine (lines_of text) number) ⊎ (((image : Image) × Spells text image) × (result ≡ fault))

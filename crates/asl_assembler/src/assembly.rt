@@ -5,6 +5,7 @@ ghost use Rattle.asl_code.specs.Verified.{IsVerified};
 ghost use Rattle.asl_code.specs.declared.image.Image.{Image};
 ghost use Rattle.asl_assembler.specs.Faults.{IsFault};
 ghost use Rattle.asl_assembler.specs.Text.{Spells};
+ghost use Rattle.asl_assembler.specs.Reading.{HasLineOr};
 
 use crate::order::wrong_line;
 use crate::read::{ReadFault, read};
@@ -27,6 +28,16 @@ pub enum AsmFault {
     OutOfMemory,
 }
 
+/// The first wrong line of the text, and where there is none this fault.
+fn line_or(text: &[u8], fault: AsmFault) -> AsmFault
+    ensures { HasLineOr text.now fault result }
+{
+    match wrong_line(text) {
+        Some(number) => AsmFault::Line(number),
+        None => fault,
+    }
+}
+
 /// The program that an assembly text spells (`docs/ASSEMBLY.md`).
 pub fn assemble(alloc: Global, text: &[u8]) -> Result<Program, AsmFault>
     ensures spelled { IfOk result (λ program. Spells text.now program) }
@@ -40,10 +51,8 @@ pub fn assemble(alloc: Global, text: &[u8]) -> Result<Program, AsmFault>
     let image = match read(alloc, text) {
         Ok(image) => image,
         Err(ReadFault::Line(number)) => return Err(AsmFault::Line(number)),
-        Err(ReadFault::OutOfMemory) => match wrong_line(text) {
-            Some(number) => return Err(AsmFault::Line(number)),
-            None => return Err(AsmFault::OutOfMemory),
-        },
+        Err(ReadFault::Over) => return Err(line_or(text, AsmFault::Verify(VerifyFault::Limit))),
+        Err(ReadFault::OutOfMemory) => return Err(line_or(text, AsmFault::OutOfMemory)),
     };
     match Program::verify(image) {
         Ok(program) => Ok(program),

@@ -2,12 +2,15 @@
 
 ghost use Rattle.std.specs.Prelude.{◌≡◌, IfOk};
 ghost use Rattle.asl_assembler.specs.Words.{words_of};
-ghost use Rattle.asl_assembler.specs.Reading.{longer, next, finished, step_line, paired, open_of, kept};
+ghost use Rattle.asl_assembler.specs.Reading.{longer, next, finished, step_line, paired, open_of, kept, is_over};
 
 use crate::line::{Line, meaning};
 use crate::words::next_word;
-use asl_code::{Function, Image, Instr, Items, Lock};
+use asl_code::{Function, Image, Instr, Items, Lock, NEWEST_LIMITS};
 use std::alloc::{AllocError, Global};
+
+/// The most lists of an image that the verifier takes.
+const LISTS: usize = 1024;
 
 /// Which line comes next, and what is open there.
 #[derive(Drop)]
@@ -170,4 +173,15 @@ pub(crate) fn close(place: Place, image: &mut Image) -> Result<bool, AllocError>
         _ => return Ok(false),
     }
     Ok(true)
+}
+
+/// Whether there are more lists, or more locks in the open one, than a program of any version has, however the text goes on.
+pub(crate) fn is_over(place: &Place, image: &Image) -> bool
+    ensures { result ≡ is_over place.now image.now }
+{
+    let open = match place {
+        Place::Locks(locks) => locks.len(),
+        _ => 0,
+    };
+    open > NEWEST_LIMITS.locks || image.lists.len() > LISTS
 }

@@ -5,7 +5,7 @@ ghost use Rattle.asl_assembler.specs.Words.{lines_of};
 ghost use Rattle.asl_assembler.specs.Reading.{image_from, blank_image, Answers};
 ghost use Rattle.asl_assembler.specs.declared.read.ReadFault.TheVariants.{OutOfMemory};
 
-use crate::draft::{Place, close, take_bytes};
+use crate::draft::{Place, close, is_over, take_bytes};
 use crate::words::split_line;
 use asl_code::{Image, Items};
 use std::alloc::{AllocError, Global};
@@ -15,6 +15,8 @@ use std::alloc::{AllocError, Global};
 pub(crate) enum ReadFault {
     /// The line of this number, from 1, is not as its place asks, or the text ends too early before it.
     Line(usize),
+    /// There are more locks in a list, or more lists, than any program has; what follows was not read.
+    Over,
     /// Memory ran out.
     OutOfMemory,
 }
@@ -42,7 +44,8 @@ fn blank(alloc: Global) -> Image
     }
 }
 
-/// The image that the text spells, or its first wrong line.
+/// The image that the text spells, or its first wrong line. A text that spells no program for the number of its locks or lists
+/// is not read to its end, so that no more of it is kept than a program may have.
 pub(crate) fn read(alloc: Global, text: &[u8]) -> Result<Image, ReadFault>
     ensures { Answers result (image_from 0 Place.Version blank_image (lines_of text.now)) }
 {
@@ -58,6 +61,9 @@ pub(crate) fn read(alloc: Global, text: &[u8]) -> Result<Image, ReadFault>
             Some(next) => next,
             None => return Err(ReadFault::Line(number)),
         };
+        if is_over(&place, &image) {
+            return Err(ReadFault::Over);
+        }
     }
     if close(place, &mut image)? {
         Ok(image)

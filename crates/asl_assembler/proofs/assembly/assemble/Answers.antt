@@ -1,7 +1,9 @@
-use Rattle.std.proofs.Common.{◌≡◌, true, false, inl}
-use Rattle.asl_code.specs.Verified.{IsAnswer, applies}
+use Rattle.std.proofs.Common.{◌≡◌, true, false, refl, ap, Err, inl, inr}
+use Rattle.asl_code.specs.Verified.{IsAnswer, applies, keeps_limits}
+use Rattle.asl_code.specs.declared.fault.VerifyFault.TheVariants.{Limit}
 use Rattle.asl_assembler.specs.Words.{lines_of}
 use Rattle.asl_assembler.specs.Text.{Spells}
+use Rattle.asl_assembler.proofs.Overs.{spelled_over, limit_first}
 use Rattle.asl_assembler.proofs.Texts.{image_spelled, one_image, bad_line, not_both}
 use Rattle.asl_assembler.proofs.assembly.assemble.Goals as goal
 
@@ -40,7 +42,28 @@ returns-clause-only c = λ image spelled verified.
 pub returns-clause-refused : goal.returns-clause-refused
 returns-clause-refused c = (c.in-Ok.image, image_spelled c.args.text.now c.in-Ok.image c.in-Ok.ensures, c.in-Err.ensures.fault)
 
-pub returns-in-Some-clause-only : goal.returns-in-Some-clause-only
-returns-in-Some-clause-only c =
-    let text = c.args.text.now in
-    λ image spelled verified. absurd (not_both (lines_of text) image c.in-Some.number spelled c.in-Some.ensures)
+pub returns-in-Err-Over-clause-only : goal.returns-in-Err-Over-clause-only
+returns-in-Err-Over-clause-only c = λ image spelled verified.
+    elim c.line_or.ensures [
+      | inl line ↦ absurd (not_both (lines_of c.args.text.now) image line.0 spelled line.2)
+      | inr other ↦
+        let over : keeps_limits image ≡ false = spelled_over c.args.text.now image (rw c.in-Err-Over.field-0-is at c.in-Err-Over.ensures) spelled in
+        let kept : applies image Limit ≡ false = verified Limit in
+        let broken : applies image Limit ≡ true = rw over refl in
+        absurd (cc)
+    ]
+
+pub returns-in-Err-Over-clause-refused : goal.returns-in-Err-Over-clause-refused
+returns-in-Err-Over-clause-refused c =
+    elim c.line_or.ensures [
+      | inl line ↦ rw line.1 line.2
+      | inr other ↦
+        rw other.1 (other.0.0, other.0.1, limit_first other.0.0 (spelled_over c.args.text.now other.0.0 (rw c.in-Err-Over.field-0-is at c.in-Err-Over.ensures) other.0.1))
+    ]
+
+pub returns-in-Err-OutOfMemory-clause-only : goal.returns-in-Err-OutOfMemory-clause-only
+returns-in-Err-OutOfMemory-clause-only c = λ image spelled verified.
+    elim c.line_or-in-Err-OutOfMemory.ensures [
+      | inl line ↦ absurd (not_both (lines_of c.args.text.now) image line.0 spelled line.2)
+      | inr other ↦ inr (ap Err other.1)
+    ]
