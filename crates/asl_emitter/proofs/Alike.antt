@@ -50,7 +50,7 @@ one_inferred l c stores longest image other h k =
     (let lt = slice_get_within image.lists n xs p in
     let count = h.count in
     let s = get_below l.sections n (omega (arith, lt, count)) in
-    fitted_one c s.0.function 64 (Needed l c stores longest (Inside n) (suc s.0.acquire)) (Needed l c stores longest (Inside n) (suc s.0.acquire)) xs ys
+    fitted_one c s.0.function 256 (Needed l c stores longest (Inside n) (suc s.0.acquire)) (Needed l c stores longest (Inside n) (suc s.0.acquire)) xs ys
     (λ a. (λ x. x, λ x. x)) (h.lists n s.0 xs s.1 p) (k.lists n s.0 ys s.1 q))) in
     λ i. record { version = version i; classes = classes i; globals = globals i; functions = functions i; start = start i; code = code i; lists = lists i }
 

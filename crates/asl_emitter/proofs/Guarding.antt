@@ -119,7 +119,7 @@ module _ (l : Lowered) (c : Classed) (stores : ℕ → ℕ → Bool) (longest : 
     list_covered : (ls : List Lock) → ((n : Lock) → IsOne ls n → IsOne locks n) → ListCovered Granted t s.objects a.top.regs ls
     list_covered [] within = tt
     list_covered (lock.Expr e effect ∷ ls) within =
-        let needed = expression_given c section.function 64 (λ n. Needed l c stores longest (Inside list) (suc section.acquire) n) locks (m.lists list section locks there listed) e effect (within (lock.Expr e effect) (inl refl)) in (
+        let needed = expression_given c section.function 256 (λ n. Needed l c stores longest (Inside list) (suc section.acquire) n) locks (m.lists list section locks there listed) e effect (within (lock.Expr e effect) (inl refl)) in (
           reads_covered Granted t s.objects a.top.regs e.base [] e.path (λ n o. needed_protected n (Before (Inside list) (suc section.acquire) (lock.Expr e effect) n needed o)),
           list_covered ls (λ n o. within n (inr o)),
         )

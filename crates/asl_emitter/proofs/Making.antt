@@ -29,7 +29,7 @@ made_inferred l c stores longest parts image tells m = record {
   code = m.code;
   count = m.lists.count;
   lists = λ n s locks there at.
-      fitted_same c s.function 64 (IsTold parts (Inside n) (s.acquire + 1)) (Needed l c stores longest (Inside n) (suc s.acquire)) locks
+      fitted_same c s.function 256 (IsTold parts (Inside n) (s.acquire + 1)) (Needed l c stores longest (Inside n) (suc s.acquire)) locks
       (λ a. told_needed l c stores longest parts tells (Inside n) s.acquire a) (m.lists.each n s locks there at);
 }
 
@@ -41,7 +41,7 @@ get_more (z ∷ xs) y (suc n) x e = elim (get_more xs y n x e) [ inl h ↦ inl h
 
 -- one list more
 pub fitted_more : (l : Lowered) (c : Classed) (parts : List Part) (count : ℕ) (lists : List (List Lock)) (s : Section) (locks : List Lock) → AreFitted l c parts count lists →
-    slice_get l.sections count ≡ Some s → IsFitted c s.function 64 (IsTold parts (Inside count) (s.acquire + 1)) locks → AreFitted l c parts (count + 1) (lists ++ locks ∷ [])
+    slice_get l.sections count ≡ Some s → IsFitted c s.function 256 (IsTold parts (Inside count) (s.acquire + 1)) locks → AreFitted l c parts (count + 1) (lists ++ locks ∷ [])
 fitted_more l c parts count lists s locks old there fits = record {
   count = longer lists old.count;
   each = λ n t ms section at. elim (get_more lists locks n ms at) [
@@ -57,17 +57,17 @@ fitted_more l c parts count lists s locks old there fits = record {
         length_more [] = omega arith
         length_more (y ∷ ys) = let r = length_more ys in omega (arith, r)
 
-    last : (n : ℕ) (t : Section) (ms : List Lock) → slice_get l.sections n ≡ Some t → n ≡ length lists → locks ≡ ms → IsFitted c t.function 64 (IsTold parts (Inside n) (t.acquire + 1)) ms
+    last : (n : ℕ) (t : Section) (ms : List Lock) → slice_get l.sections n ≡ Some t → n ≡ length lists → locks ≡ ms → IsFitted c t.function 256 (IsTold parts (Inside n) (t.acquire + 1)) ms
     last n t ms section at is =
         let place : n ≡ count = (let whole = old.count in omega (arith, at, whole)) in
         let same : s ≡ t = (let u : Some s ≡ Some t = sym there ∙ subst (λ k. slice_get l.sections k ≡ Some t) place section in cc) in
-        subst (λ k. IsFitted c t.function 64 (IsTold parts (Inside k) (t.acquire + 1)) ms) (sym place)
-        (subst (λ (u : Section). IsFitted c u.function 64 (IsTold parts (Inside count) (u.acquire + 1)) ms) same
-        (subst (λ (xs : List Lock). IsFitted c s.function 64 (IsTold parts (Inside count) (s.acquire + 1)) xs) is fits))
+        subst (λ k. IsFitted c t.function 256 (IsTold parts (Inside k) (t.acquire + 1)) ms) (sym place)
+        (subst (λ (u : Section). IsFitted c u.function 256 (IsTold parts (Inside count) (u.acquire + 1)) ms) same
+        (subst (λ (xs : List Lock). IsFitted c s.function 256 (IsTold parts (Inside count) (s.acquire + 1)) xs) is fits))
 
 -- the list for what the flow tells at an entry
 pub list_fitted : (c : Classed) (f : ℕ) (parts : List Part) (n acquire entry : ℕ) (given needed list : List Lock) → given ≡ needed → ((a : Lock) → IsOne needed a ↔ IsTold parts (Inside n) (entry + 1) a) → entry ≡ acquire →
-    IsFitted c f 64 (IsOne given) list → IsFitted c f 64 (IsTold parts (Inside n) (acquire + 1)) list
+    IsFitted c f 256 (IsOne given) list → IsFitted c f 256 (IsTold parts (Inside n) (acquire + 1)) list
 list_fitted c f parts n acquire entry given needed list is tells same fits =
-    subst (λ q. IsFitted c f 64 (IsTold parts (Inside n) (q + 1)) list) same
-    (fitted_same c f 64 (IsOne given) (IsTold parts (Inside n) (entry + 1)) list (λ a. subst (λ (xs : List Lock). IsOne xs a ↔ IsTold parts (Inside n) (entry + 1) a) (sym is) (tells a)) fits)
+    subst (λ q. IsFitted c f 256 (IsTold parts (Inside n) (q + 1)) list) same
+    (fitted_same c f 256 (IsOne given) (IsTold parts (Inside n) (entry + 1)) list (λ a. subst (λ (xs : List Lock). IsOne xs a ↔ IsTold parts (Inside n) (entry + 1) a) (sym is) (tells a)) fits)

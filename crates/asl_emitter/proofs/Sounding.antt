@@ -19,7 +19,7 @@ use Rattle.asl_emitter.proofs.Verifying.{inferred_fits}
 
 stand_over : (l : Lowered) (c : Classed) (stores : ℕ → ℕ → Bool) (longest : ℕ) (image : Image) → IsKept l → AreClasses l c → IsInferred l c stores longest image → StandOver l c (Needed l c stores longest) image
 stand_over l c stores longest image kept are m n s list a there at needed =
-    fitted_covers c s.function 64 (Needed l c stores longest (Inside n) (suc s.acquire)) list (m.lists n s list there at) a needed
+    fitted_covers c s.function 256 (Needed l c stores longest (Inside n) (suc s.acquire)) list (m.lists n s list there at) a needed
     (needed_class l c stores longest kept are n (suc s.acquire) s a there needed)
 
 -- an inferred image is analysed: what is needed in it is a closed family, and its lists stand over it

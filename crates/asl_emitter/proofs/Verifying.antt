@@ -2,6 +2,8 @@
 use Rattle.std.proofs.Common.{◌≡◌, Bool, ℕ, suc, ◌+◌, ◌<◌, ◌≤◌, ◌++◌, false, List, [], ◌∷◌, zero, Option, Some, None, length, map, slice_get, get_or, refl, ap, ap₂, sym, ◌∙◌, subst, inl, inr, arith}
 use Rattle.std.specs.Prelude.{All, unwrap_or, option_map, option_and_then}
 use Rattle.std.proofs.lemmas.Option.{slice_get_within, get_or_from_slice_get}
+use Rattle.asl_code.specs.Versions.{most_locks}
+use Rattle.asl_code.proofs.Versions.{newest_locks}
 use Rattle.asl_code.specs.Bodies.{first_of, total_len}
 use Rattle.asl_code.specs.Fits.{LiesIn, FitsFunction, HasBase, HasLock, FitsBase, FitsLock, FitsInstr, FitsImage}
 use Rattle.asl_code.specs.Verified.{is_end}
@@ -107,14 +109,14 @@ module _ (l : Lowered) (c : Classed) (stores : ℕ → ℕ → Bool) (longest : 
   section_at : (n : ℕ) (locks : List Lock) → slice_get image.lists n ≡ Some locks → (s : Section) × (slice_get l.sections n ≡ Some s)
   section_at n locks at = let lt = slice_get_within image.lists n locks at in let same = m.count in get_below l.sections n (omega (arith, lt, same))
 
-  list_short : (n : ℕ) (locks : List Lock) → slice_get image.lists n ≡ Some locks → length locks ≤ 64
+  list_short : (n : ℕ) (locks : List Lock) → slice_get image.lists n ≡ Some locks → length locks ≤ 256
   list_short n locks at =
       let s = section_at n locks at in
-      fitted_short c s.0.function 64 (Needed l c stores longest (Inside n) (suc s.0.acquire)) locks (omega arith) (m.lists n s.0 locks s.1 at)
+      fitted_short c s.0.function 256 (Needed l c stores longest (Inside n) (suc s.0.acquire)) locks (omega arith) (m.lists n s.0 locks s.1 at)
 
   list_in : (n : ℕ) (s : Section) (locks : List Lock) (fn : entry.Function) → slice_get l.sections n ≡ Some s → slice_get image.lists n ≡ Some locks → slice_get l.functions s.function ≡ Some fn → (a : Lock) → IsOne locks a → IsLockIn c fn.regs a
   list_in n s locks fn there at function a o =
-      fitted_all (IsLockIn c fn.regs) c s.function 64 (Needed l c stores longest (Inside n) (suc s.acquire)) locks (λ b h. needed_in l c stores longest kept are n (suc s.acquire) s fn b there function h)
+      fitted_all (IsLockIn c fn.regs) c s.function 256 (Needed l c stores longest (Inside n) (suc s.acquire)) locks (λ b h. needed_in l c stores longest kept are n (suc s.acquire) s fn b there function h)
       (λ b d h k. as_class_in l c are s.function fn.regs b d h k) (λ e. tt) (m.lists n s locks there at) a o
 
   base_fits : (fn : entry.Function) (b : Base) → IsBaseIn c fn.regs b → FitsBase image fn b
@@ -233,14 +235,14 @@ module _ (l : Lowered) (c : Classed) (stores : ℕ → ℕ → Bool) (longest : 
 
   pub inferred_fits : FitsImage image
   inferred_fits = record {
-    version = m.version;
+    version = inr m.version;
     few_classes = (let same = m.classes in omega (arith, same, few));
     few_globals = (let same = globals_length in let small = lay.limits.few_globals in omega (arith, same, small));
     few_functions = subst (λ fs. length fs ≤ 256) (sym m.functions) lay.limits.few_functions;
     few_instrs = (let same = code_length in let small = kept.size in omega (arith, same, small));
     few_lists = (let same = m.count in let small = lay.limits.few_sections in omega (arith, same, small));
     global_fits = λ n class at. (let below = member_below l c are n class (get_front c.globals c.sites n class (ap (λ xs. slice_get xs n) (sym m.globals) ∙ at)) in let same = m.classes in omega (arith, below, same));
-    few_locks = list_short;
+    few_locks = λ n locks at. (let short = list_short n locks at in let most = ap most_locks m.version ∙ newest_locks in omega (arith, short, most));
     list_fits = list_fits;
     entry = main_there;
     function_fits = function_fits;

@@ -14,9 +14,9 @@ use Rattle.asl_soundness.specs.Coded.{classed}
 use Rattle.asl_emitter.specs.Lists.{IsFitted}
 
 -- the image of a lowering with these classes: its code with classes in place of sites, and for each section the fitted list, of
--- at most 64 locks, of what is needed behind its `acq`
+-- at most 256 locks, of what is needed behind its `acq`
 pub record IsInferred (l : Lowered) (c : Classed) (stores : ℕ → ℕ → Bool) (longest : ℕ) (image : Image) : Type 0 where
-  pub version : image.version ≡ 1
+  pub version : image.version ≡ 2
   pub classes : image.classes ≡ c.count
   pub globals : image.globals ≡ c.globals
   pub functions : image.functions ≡ l.functions
@@ -24,7 +24,7 @@ pub record IsInferred (l : Lowered) (c : Classed) (stores : ℕ → ℕ → Bool
   pub code : image.code ≡ map (classed c) l.code
   pub count : length image.lists ≡ length l.sections
   pub lists : (n : ℕ) (s : Section) (locks : List Lock) → slice_get l.sections n ≡ Some s → slice_get image.lists n ≡ Some locks →
-      IsFitted c s.function 64 (λ lock. Needed l c stores longest (Inside n) (suc s.acquire) lock) locks
+      IsFitted c s.function 256 (λ lock. Needed l c stores longest (Inside n) (suc s.acquire) lock) locks
 
 -- a program with its lowering and its classes
 pub record ClassedProgram (is : List Item) : Type 0 where

@@ -1,4 +1,4 @@
-//! Lists of at most 64 locks.
+//! Lists of at most 256 locks.
 ghost use Rattle.std.specs.Prelude.{◌≡◌, ◌<◌, IfOk, length};
 ghost use Rattle.std.specs.List.{flat_map};
 ghost use Rattle.asl_lock_expr.specs.Links.{IsOne};
@@ -6,15 +6,15 @@ ghost use Rattle.asl_machine.specs.Request.{effect_of};
 ghost use Rattle.asl_emitter.specs.Lists.{IsFitted, IsCoarse, as_class, strongest};
 
 use crate::reduced::reduce;
-use asl_code::{Effect, Lock};
+use asl_code::{Effect, Lock, NEWEST_LIMITS};
 use asl_lock_expr::class_of;
 use asl_points_to::Classes;
 use std::alloc::{AllocError, Global};
 
-/// The most locks that a list may have.
-pub const MOST_LOCKS: usize = 64;
+/// The most locks that a list of an inferred program may have.
+pub const MOST_LOCKS: usize = NEWEST_LIMITS.locks;
 
-/// The locks of a function fitted to a list of at most 64: reduced; where more are left, their classes, reduced; where more
+/// The locks of a function fitted to a list of at most 256, as many as the newest version has: reduced; where more are left, their classes, reduced; where more
 /// are left still, one lock on the root with the strongest effect (`docs/ANALYSIS.md`, "Lists").
 pub fn fit(
     alloc: Global,
@@ -22,7 +22,7 @@ pub fn fit(
     function: u16,
     given: &[Lock],
 ) -> Result<Vec<Lock>, AllocError>
-    ensures { IfOk result (λ v. IsFitted classes.now function 64 (IsOne given.now) v.items) }
+    ensures { IfOk result (λ v. IsFitted classes.now function 256 (IsOne given.now) v.items) }
 {
     let fine = reduce(alloc, classes, function, given)?;
     if fine.len() <= MOST_LOCKS {
@@ -31,14 +31,14 @@ pub fn fit(
     coarsen(alloc, classes, function, &fine)
 }
 
-/// The classes of the locks, reduced; where more than 64 are left, one lock on the root with the strongest effect.
+/// The classes of the locks, reduced; where more than 256 are left, one lock on the root with the strongest effect.
 fn coarsen(
     alloc: Global,
     classes: &Classes,
     function: u16,
     fine: &[Lock],
 ) -> Result<Vec<Lock>, AllocError>
-    ensures { IfOk result (λ v. IsCoarse classes.now function 64 fine.now v.items) }
+    ensures { IfOk result (λ v. IsCoarse classes.now function 256 fine.now v.items) }
 {
     let coarse = as_classes(alloc, classes, function, fine)?;
     let coarse = reduce(alloc, classes, function, &coarse)?;

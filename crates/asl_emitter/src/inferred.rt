@@ -14,7 +14,7 @@ ghost use Rattle.asl_emitter.specs.Parts.{IsMade};
 use crate::fault::InferFault;
 use crate::image::{code, copied, lists};
 use asl_backward_flow::{Flow, needed};
-use asl_code::{Image, Program};
+use asl_code::{Image, NEWEST, Program};
 use asl_lower::{Lowering, lower};
 use asl_points_to::{Classes, classes};
 use asl_syntax::Ast;
@@ -75,7 +75,7 @@ fn image(
     ensures kept { OnOk result (IsKept lowering.now) }
 {
     Ok(Image {
-        version: 1,
+        version: NEWEST,
         classes: u32::from(classes.count()),
         globals: copied(alloc, classes.globals())?,
         functions: copied(alloc, lowering.functions())?,
