@@ -20,15 +20,20 @@ fn push_stores(alloc: Global, source: &mut String, from: u32, to: u32) -> Result
     Ok(())
 }
 
-/// A section that stores to each of so many globals, in two functions.
-fn in_two_functions(alloc: Global, count: u32) -> Result<String, AllocError> {
+/// The globals from which on each of the five functions stores, and the names of the functions.
+static PARTS: [(&str, u32); 5] = [("a", 0), ("b", 52), ("c", 104), ("d", 155), ("e", 206)];
+
+/// A section that stores to each of so many globals, in five functions: 52, 52, 51, 51, and the others.
+fn in_five_functions(alloc: Global, count: u32) -> Result<String, AllocError> {
     let mut source = String::new(alloc);
     push_globals(alloc, &mut source, count)?;
-    source.push_str("fn a() { z = 0; ")?;
-    push_stores(alloc, &mut source, 0, 33)?;
-    source.push_str("return z; } fn b() { z = 0; ")?;
-    push_stores(alloc, &mut source, 33, count)?;
-    source.push_str("return z; } fn main(t) { atomic { x = a(); y = b(); } return t; }")?;
+    for (name, from) in PARTS.iter() {
+        let to = if *from == 206 { count } else { count.min(*from + 52) };
+        source.push_str(format!(in alloc; "fn {name}() {{ z = 0; ")?.as_str())?;
+        push_stores(alloc, &mut source, *from, to)?;
+        source.push_str("return z; } ")?;
+    }
+    source.push_str("fn main(t) { atomic { x = a(); x = b(); x = c(); x = d(); x = e(); } return t; }")?;
     Ok(source)
 }
 
@@ -55,25 +60,25 @@ fn list_of_globals(alloc: Global, count: u32) -> Result<String, AllocError> {
 }
 
 #[test]
-fn more_than_64_classes_become_the_root(rt: HostRuntime) -> Result<(), Fail> {
-    let source = in_two_functions(rt.alloc(), 65)?;
+fn more_than_256_classes_become_the_root(rt: HostRuntime) -> Result<(), Fail> {
+    let source = in_five_functions(rt.alloc(), 257)?;
     let text = inferred_text(rt.alloc(), source.as_str(), 3)?;
     assert!(rt; from_lists(&text) == b"list\nroot write\n".as_slice());
     Ok(())
 }
 
 #[test]
-fn locks_on_64_globals_stay(rt: HostRuntime) -> Result<(), Fail> {
-    let source = in_two_functions(rt.alloc(), 64)?;
+fn locks_on_256_globals_stay(rt: HostRuntime) -> Result<(), Fail> {
+    let source = in_five_functions(rt.alloc(), 256)?;
     let text = inferred_text(rt.alloc(), source.as_str(), 3)?;
-    let list = list_of_globals(rt.alloc(), 64)?;
+    let list = list_of_globals(rt.alloc(), 256)?;
     assert!(rt; from_lists(&text) == list.as_str().as_bytes());
     Ok(())
 }
 
 #[test]
-fn more_than_64_expressions_become_their_class(rt: HostRuntime) -> Result<(), Fail> {
-    let source = through_one_local(rt.alloc(), 65)?;
+fn more_than_256_expressions_become_their_class(rt: HostRuntime) -> Result<(), Fail> {
+    let source = through_one_local(rt.alloc(), 257)?;
     let text = inferred_text(rt.alloc(), source.as_str(), 3)?;
     assert!(rt; from_lists(&text) == b"list\nclass 0 write\n".as_slice());
     Ok(())

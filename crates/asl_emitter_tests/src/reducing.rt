@@ -80,12 +80,12 @@ fn class_locks(alloc: Global, count: u16) -> Result<Vec<Lock>, AllocError> {
 #[test]
 fn an_expression_without_a_class_is_dropped_at_the_limit(rt: HostRuntime) -> Result<(), Fail> {
     let classes = classes_of_walk(rt.alloc())?;
-    let all = fit(rt.alloc(), &classes, 0, &class_locks(rt.alloc(), 63)?)?;
-    let dropped = fit(rt.alloc(), &classes, 0, &class_locks(rt.alloc(), 64)?)?;
-    let root = fit(rt.alloc(), &classes, 0, &class_locks(rt.alloc(), 65)?)?;
+    let all = fit(rt.alloc(), &classes, 0, &class_locks(rt.alloc(), 255)?)?;
+    let dropped = fit(rt.alloc(), &classes, 0, &class_locks(rt.alloc(), 256)?)?;
+    let root = fit(rt.alloc(), &classes, 0, &class_locks(rt.alloc(), 257)?)?;
     assert!(rt; all.len() == MOST_LOCKS && all.last() == Some(&on_register(0, Effect::Write)));
     assert!(rt;
-        dropped.len() == MOST_LOCKS && dropped.last() == Some(&Lock::Class(63, Effect::Read))
+        dropped.len() == MOST_LOCKS && dropped.last() == Some(&Lock::Class(255, Effect::Read))
     );
     assert!(rt; root.as_slice() == [Lock::Root(Effect::Read)].as_slice());
     Ok(())
