@@ -4,12 +4,8 @@
 #[cfg(test)]
 mod classes;
 #[cfg(test)]
-mod classes_memory;
-#[cfg(test)]
 mod expressions;
 #[cfg(test)]
 mod linking;
-#[cfg(test)]
-mod linking_memory;
 #[cfg(test)]
 mod spelling;

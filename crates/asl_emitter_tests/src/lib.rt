@@ -4,8 +4,6 @@
 #[cfg(test)]
 mod inferring;
 #[cfg(test)]
-mod inferring_memory;
-#[cfg(test)]
 mod limits;
 #[cfg(test)]
 mod programs;

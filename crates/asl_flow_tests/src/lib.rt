@@ -4,8 +4,6 @@
 #[cfg(test)]
 mod limit;
 #[cfg(test)]
-mod memory;
-#[cfg(test)]
 mod places;
 #[cfg(test)]
 mod spelling;
