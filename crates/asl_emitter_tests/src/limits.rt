@@ -28,12 +28,18 @@ fn in_five_functions(alloc: Global, count: u32) -> Result<String, AllocError> {
     let mut source = String::new(alloc);
     push_globals(alloc, &mut source, count)?;
     for (name, from) in PARTS.iter() {
-        let to = if *from == 206 { count } else { count.min(*from + 52) };
+        let to = if *from == 206 {
+            count
+        } else {
+            count.min(*from + 52)
+        };
         source.push_str(format!(in alloc; "fn {name}() {{ z = 0; ")?.as_str())?;
         push_stores(alloc, &mut source, *from, to)?;
         source.push_str("return z; } ")?;
     }
-    source.push_str("fn main(t) { atomic { x = a(); x = b(); x = c(); x = d(); x = e(); } return t; }")?;
+    source.push_str(
+        "fn main(t) { atomic { x = a(); x = b(); x = c(); x = d(); x = e(); } return t; }",
+    )?;
     Ok(source)
 }
 

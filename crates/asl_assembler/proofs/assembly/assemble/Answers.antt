@@ -47,10 +47,10 @@ returns-in-Err-Over-clause-only c = λ image spelled verified.
     elim c.line_or.ensures [
       | inl line ↦ absurd (not_both (lines_of c.args.text.now) image line.0 spelled line.2)
       | inr other ↦
-        let over : keeps_limits image ≡ false = spelled_over c.args.text.now image (rw c.in-Err-Over.field-0-is at c.in-Err-Over.ensures) spelled in
-        let kept : applies image Limit ≡ false = verified Limit in
-        let broken : applies image Limit ≡ true = rw over refl in
-        absurd (cc)
+          let over : keeps_limits image ≡ false = spelled_over c.args.text.now image (rw c.in-Err-Over.field-0-is at c.in-Err-Over.ensures) spelled in
+          let kept : applies image Limit ≡ false = verified Limit in
+          let broken : applies image Limit ≡ true = rw over refl in
+          absurd (cc)
     ]
 
 pub returns-in-Err-Over-clause-refused : goal.returns-in-Err-Over-clause-refused
@@ -58,7 +58,7 @@ returns-in-Err-Over-clause-refused c =
     elim c.line_or.ensures [
       | inl line ↦ rw line.1 line.2
       | inr other ↦
-        rw other.1 (other.0.0, other.0.1, limit_first other.0.0 (spelled_over c.args.text.now other.0.0 (rw c.in-Err-Over.field-0-is at c.in-Err-Over.ensures) other.0.1))
+          rw other.1 (other.0.0, other.0.1, limit_first other.0.0 (spelled_over c.args.text.now other.0.0 (rw c.in-Err-Over.field-0-is at c.in-Err-Over.ensures) other.0.1))
     ]
 
 pub returns-in-Err-OutOfMemory-clause-only : goal.returns-in-Err-OutOfMemory-clause-only
