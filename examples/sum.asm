@@ -1,4 +1,4 @@
-version 1
+version 2
 classes 0
 entry 0
 fn 1 3

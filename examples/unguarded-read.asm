@@ -1,4 +1,4 @@
-version 1
+version 2
 classes 2
 global 0
 global 1
