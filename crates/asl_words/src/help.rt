@@ -118,7 +118,7 @@ pub const STEP: Page = Page {
         \u{20} Line(n)               line n of the text is not as its place asks\n\
         \u{20} Magic .. Trailing(n)  the first thing that is wrong with an image: asl dis --help\n\
         \u{20} Verify(RULE)          the program breaks a rule of docs/LIMITS.md\n\
-        \u{20} BadCount              the number of threads is not 1 to 64\n\
+        \u{20} BadCount              the number of threads is 0, or above 64 for version 1 or 128 for version 2\n\
         \u{20} BadThread             a step is of a thread that is not there\n\
         \u{20} JournalFull           there are more than 16777216 steps\n\
         \u{20} Write                 standard output failed; a part of the output may have been written\n\
@@ -144,7 +144,7 @@ pub const RUN: Page = Page {
         \u{20} Line(n)               line n of the text is not as its place asks\n\
         \u{20} Magic .. Trailing(n)  the first thing that is wrong with an image: asl dis --help\n\
         \u{20} Verify(RULE)          the program breaks a rule of docs/LIMITS.md\n\
-        \u{20} BadCount              threads are not 1 to 64, workers not 1 to 8, or the limit is above 16777216\n\
+        \u{20} BadCount              threads as for step, workers not 1 to 8, or the limit is above 16777216\n\
         \u{20} Receipt(w)            what worker w was answered is not in the journal\n\
         \u{20} Spawn                 the system did not start a worker's thread\n\
         \u{20} Write                 standard output failed; a part of the output may have been written\n\
@@ -208,7 +208,8 @@ pub const LONGEST: &str =
 /// The flag `--text`.
 pub const TEXT: &str = "Writes the canonical assembly text, in place of the image";
 /// The argument `--threads`.
-pub const THREADS: &str = "How many threads the machine has, 1 to 64";
+pub const THREADS: &str =
+    "How many threads the machine has: 1 to 64 where the program is of version 1, to 128 of version 2";
 /// The argument `--workers`.
 pub const WORKERS: &str =
     "How many workers step them, 1 to 8: worker j steps the threads t with t mod W = j";
