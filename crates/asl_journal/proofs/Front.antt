@@ -1,7 +1,9 @@
 -- The readers of a journal's letters, version and counts read their fields.
-use Rattle.std.proofs.Common.{◌≡◌, ℕ, ◌<◌, ◌≤◌, ◌^◌, ◌&&◌, Bool, true, false, eqb, ltb, leb, [], ◌∷◌, refl, arith, lit<, w16, w32}
+use Rattle.std.proofs.Common.{◌≡◌, ℕ, ◌<◌, ◌≤◌, ◌^◌, ◌&&◌, Bool, true, false, eqb, ltb, leb, [], ◌∷◌, refl, sym, ◌∙◌, inl, inr, arith, lit<, lit≤, w16, w32}
 use Rattle.std.specs.Int.{to_be_bytes}
 use Rattle.std.proofs.lemmas.Bool.{eqb-true, eq-eqb, ltb-true, lt-ltb, leb-true, le-leb}
+use Rattle.asl_code.specs.Versions.{IsVersion, is_version, version_for}
+use Rattle.asl_code.proofs.Versions.{is_version-true, IsVersion-is_version, small_version, version_of_few, version_of_many}
 use Rattle.asl_loader.specs.Bytes.{one, two}
 use Rattle.asl_loader.specs.Reading.{byte_at, number_at}
 use Rattle.asl_loader.proofs.Reader.{Reads}
@@ -21,31 +23,48 @@ letters_reads =
     (λ x is. eqb-true x 1095978058 is.1)
     (λ x is. (omega (arith, is), eq-eqb x 1095978058 is))
 
-pub version_reads : Reads ℕ (λ n. n ≡ 1) (λ n. two n ∷ []) version_at
+pub version_reads : Reads ℕ IsVersion (λ n. two n ∷ []) version_at
 unfolding version_at
 version_reads =
-    reads_as ℕ (λ x. (x < 2 ^ 16) × (eqb x 1 ≡ true)) (λ n. n ≡ 1) (λ n. two n ∷ []) version_at
-    (reads_tested (λ n. n < 2 ^ 16) (λ n. to_be_bytes w16 n) 2 (number_at w16) two_number (λ x. eqb x 1) 1 (lit< tt) refl)
-    (λ x is. eqb-true x 1 is.1)
-    (λ x is. (omega (arith, is), eq-eqb x 1 is))
+    reads_as ℕ (λ x. (x < 2 ^ 16) × (is_version x ≡ true)) IsVersion (λ n. two n ∷ []) version_at
+    (reads_tested (λ n. n < 2 ^ 16) (λ n. to_be_bytes w16 n) 2 (number_at w16) two_number is_version 1 (lit< tt) (IsVersion-is_version 1 (inl refl)))
+    (λ x is. is_version-true x is.1)
+    (λ x is. (small_version x is, IsVersion-is_version x is))
 
 both_true : (a b : Bool) → (a && b) ≡ true → (a ≡ true) × (b ≡ true)
 both_true true b e = (refl, e)
 both_true false b e = absurd cc
 
-counted : (n : ℕ) → is_count n ≡ true → IsCount n
-counted n e = let b = both_true (ltb 0 n) (leb n 64) e in (ltb-true 0 n b.0, leb-true n 64 b.1)
+-- so many threads have files of this version
+abbrev pub IsCountIn : ℕ → ℕ → Type 0
+IsCountIn version n = IsCount n × (version_for n ≡ version)
 
-counts : (n : ℕ) → IsCount n → is_count n ≡ true
-counts n is = let a = lt-ltb 0 n is.0 in let b = le-leb n 64 is.1 in rw (a, b) refl
+counted : (version n : ℕ) → is_count version n ≡ true → IsCountIn version n
+counted version n e =
+    let all = both_true (ltb 0 n && leb n 128) (eqb (version_for n) version) e in
+    let b = both_true (ltb 0 n) (leb n 128) all.0 in
+    ((ltb-true 0 n b.0, leb-true n 128 b.1), eqb-true (version_for n) version all.1)
 
-pub threads_reads : Reads ℕ IsCount (λ n. one n ∷ []) threads_at
+counts : (version n : ℕ) → IsCountIn version n → is_count version n ≡ true
+counts version n is =
+    let a = lt-ltb 0 n is.0.0 in
+    let b = le-leb n 128 is.0.1 in
+    let v = eq-eqb (version_for n) version is.1 in
+    rw (a, b, v) refl
+
+-- some number of threads that files of this version have
+pub some_count : (version : ℕ) → IsVersion version → (n : ℕ) × (IsCountIn version n × (n < 256))
+some_count version (inl first) = (1, (((lit< tt, lit≤ tt), version_of_few 1 (lit≤ tt) ∙ sym first), lit< tt))
+some_count version (inr second) = (65, (((lit< tt, lit≤ tt), version_of_many 65 (lit< tt) ∙ sym second), lit< tt))
+
+pub threads_reads : (version : ℕ) → IsVersion version → Reads ℕ (IsCountIn version) (λ n. one n ∷ []) (threads_at version)
 unfolding threads_at
-threads_reads =
-    reads_as ℕ (λ x. (x < 256) × (is_count x ≡ true)) IsCount (λ n. one n ∷ []) threads_at
-    (reads_tested (λ n. n < 256) (λ n. n ∷ []) 1 byte_at byte_number is_count 1 (lit< tt) refl)
-    (λ x is. counted x is.1)
-    (λ x is. (omega (arith, is.1), counts x is))
+threads_reads version there =
+    let some = some_count version there in
+    reads_as ℕ (λ x. (x < 256) × (is_count version x ≡ true)) (IsCountIn version) (λ n. one n ∷ []) (threads_at version)
+    (reads_tested (λ n. n < 256) (λ n. n ∷ []) 1 byte_at byte_number (is_count version) some.0 some.1.1 (counts version some.0 some.1.0))
+    (λ x is. counted version x is.1)
+    (λ x is. (omega (arith, is.0.1), counts version x is))
 
 pub count_reads : Reads ℕ (λ n. n ≤ most_events) (λ n. four n ∷ []) count_at
 unfolding count_at

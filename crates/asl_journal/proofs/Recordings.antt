@@ -4,10 +4,12 @@ use Rattle.std.specs.Prelude.{is_none, is_some, option_map}
 use Rattle.std.proofs.lemmas.Bool.{cases_lt}
 use Rattle.std.proofs.lemmas.List.{length_push}
 use Rattle.std.proofs.lemmas.List.Elements.{All-push, All-nil}
+use Rattle.asl_code.specs.Versions.{most_threads}
 use Rattle.asl_code.specs.declared.image.Image.{Image}
+use Rattle.asl_code.proofs.Versions.{few_threads}
 use Rattle.asl_machine.specs.State.{State}
 use Rattle.asl_machine.specs.View.{Configuration}
-use Rattle.asl_machine.specs.Run.{start_of}
+use Rattle.asl_machine.specs.Run.{IsThreadCount, start_of}
 use Rattle.asl_machine.specs.Twin.{step_of}
 use Rattle.asl_machine.proofs.Reached.{step_count}
 use Rattle.asl_machine.proofs.Soundness.{length-first_threads}
@@ -17,15 +19,15 @@ use Rattle.asl_journal.specs.Recorded.{Fits}
 use Rattle.asl_journal.proofs.Runs.{state_snoc, goes_snoc}
 
 -- the start fits no events
-pub fits_start : (machine : Configuration) (image : Image) (n : ℕ) → IsCount n → machine.image ≡ image → machine.state ≡ start_of image n → Fits machine (length machine.state.threads) []
+pub fits_start : (machine : Configuration) (image : Image) (n : ℕ) → IsThreadCount image n → machine.image ≡ image → machine.state ≡ start_of image n → Fits machine (length machine.state.threads) []
 fits_start machine image n is i s =
     let threads : length machine.state.threads ≡ n = ap (λ (u : State). length u.threads) s ∙ length-first_threads image n in
     let start : machine.state ≡ start_of machine.image (length machine.state.threads) = s ∙ ap (λ (k : ℕ). start_of image k) (sym threads) ∙ ap (λ (j : Image). start_of j (length machine.state.threads)) (sym i) in
     record {
       threads = refl;
-      counted = subst IsCount (sym threads) is;
+      counted = subst IsCount (sym threads) (is.0, omega (arith, is.1, few_threads image.version));
       short = omega arith;
-      journal = record { there = All-nil (λ (e : Event). e.thread < length machine.state.threads); replies = refl };
+      journal = record { counted = subst (λ (j : Image). IsThreadCount j (length machine.state.threads)) (sym i) (subst (IsThreadCount image) (sym threads) is); there = All-nil (λ (e : Event). e.thread < length machine.state.threads); replies = refl };
       last = start;
     }
 
@@ -40,6 +42,7 @@ fits_step old new events event fits room lt image reply state =
     let here : (step_of old.image old.state event.thread).state ≡ (step_of old.image (state_at old.image n events) event.thread).state = ap (λ (s : State). (step_of old.image s event.thread).state) fits.last in
     let said : event.reply ≡ (step_of old.image (state_at old.image n events) event.thread).reply = reply ∙ ap (λ (s : State). (step_of old.image s event.thread).reply) fits.last in
     let journal : IsJournal old.image n (events ++ event ∷ []) = record {
+      counted = fits.journal.counted;
       there = All-push (λ (e : Event). e.thread < n) events event fits.journal.there lt;
       replies = goes_snoc old.image start events event fits.journal.replies said;
     } in
@@ -62,9 +65,9 @@ pub fits_last : (machine : Configuration) (events : List Event) → Fits machine
 fits_last machine events fit = fit.last
 
 -- a number that a machine does not refuse
-pub in_count : (n : ℕ) → ((n ≡ 0) ⊎ (64 < n) → ⊥) → IsCount n
-in_count n taken =
-    (elim (cases_lt 0 n) [ inl lt ↦ lt | inr le ↦ absurd (taken (inl (omega arith))) ], elim (cases_lt 64 n) [ inl lt ↦ absurd (taken (inr lt)) | inr le ↦ le ])
+pub in_count : (image : Image) (n : ℕ) → ((n ≡ 0) ⊎ (most_threads image.version < n) → ⊥) → IsThreadCount image n
+in_count image n taken =
+    (elim (cases_lt 0 n) [ inl lt ↦ lt | inr le ↦ absurd (taken (inl (omega arith))) ], elim (cases_lt (most_threads image.version) n) [ inl lt ↦ absurd (taken (inr lt)) | inr le ↦ le ])
 
 -- where some pc is there or not, some activity is there or not
 pub no_activity : {A B : Type 0} (f : A → B) (o : Option A) (p : Option B) (ended : Bool) → p ≡ option_map f o → is_some p ≡ not ended → ended ≡ is_none o

@@ -51,6 +51,7 @@ goes_snoc image s es e a b = goes_append image s es (e ∷ []) a (goes_cons imag
 -- the first events of a journal are one
 pub prefix_is_journal : (image : Image) (count k : ℕ) (events : List Event) → IsJournal image count events → IsJournal image count (take k events)
 prefix_is_journal image count k events j = record {
+  counted = j.counted;
   there = All-take (λ (e : Event). e.thread < count) k events j.there;
   replies = goes_front image (start_of image count) (take k events) (drop k events) (subst (GoesBy image (start_of image count)) (sym (take-append-drop k events)) j.replies);
 }

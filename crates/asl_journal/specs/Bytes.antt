@@ -4,6 +4,7 @@ use Rattle.std.specs.Prelude.{◌≡◌, ℕ, ◌<◌, ◌^◌, List, [], ◌∷
 use Rattle.std.specs.List.{flat_map, AllByRecursion}
 use Rattle.std.specs.Int.{w32, to_be_bytes, cast_unsigned}
 use Rattle.asl_code.specs.Spelling.{IsValue}
+use Rattle.asl_code.specs.Versions.{version_for}
 use Rattle.asl_code.specs.declared.value.Value.{Value}
 use Rattle.asl_code.specs.declared.value.Value.TheVariants.{Int, Null, Addr}
 use Rattle.asl_machine.specs.declared.fault.Fault.{Fault}
@@ -52,13 +53,10 @@ event_fields event = one event.thread ∷ reply_fields event.reply
 abbrev pub letters : Field
 letters = Plain (65 ∷ 83 ∷ 76 ∷ 74 ∷ [])
 
--- the version of a journal's bytes (docs/JOURNAL.md, Bytes)
-abbrev pub version : ℕ
-version = 1
-
--- a journal: the letters, the version, how many threads, how many events, and the events (docs/JOURNAL.md, Bytes)
+-- a journal: the letters, the first version that has so many threads, how many threads, how many events, and the events
+-- (docs/JOURNAL.md, Bytes)
 abbrev pub log_fields : Log → List Field
-log_fields log = letters ∷ two version ∷ one log.threads ∷ four (length log.events) ∷ flat_map event_fields log.events
+log_fields log = letters ∷ two (version_for log.threads) ∷ one log.threads ∷ four (length log.events) ∷ flat_map event_fields log.events
 
 -- the numbers of a fault fit their fields (docs/JOURNAL.md, Bytes)
 abbrev pub IsFault : Fault → Type 0

@@ -4,14 +4,14 @@ use Rattle.std.specs.Prelude.{◌≡◌, ◌<◌, ◌≤◌, ◌⊎◌, ℕ, Lis
 use Rattle.asl_code.specs.declared.image.Image.{Image}
 use Rattle.asl_machine.specs.declared.reply.Reply.{Reply}
 use Rattle.asl_machine.specs.State.{State}
-use Rattle.asl_machine.specs.Run.{start_of, replies_of, state_after}
+use Rattle.asl_machine.specs.Run.{IsThreadCount, start_of, replies_of, state_after}
 use Rattle.asl_journal.specs.declared.event.Event.{Event}
 use Rattle.asl_journal.specs.declared.fault.JournalFault.{JournalFault}
 use Rattle.asl_journal.specs.declared.fault.JournalFault.TheVariants.{JournalFull, BadCount, BadThread}
 
 -- how many threads a journal has at most (docs/JOURNAL.md, What a journal is)
 abbrev pub most_threads : ℕ
-most_threads = 64
+most_threads = 128
 
 -- how many events a journal has at most (docs/JOURNAL.md, What a journal is)
 abbrev pub most_events : ℕ
@@ -22,7 +22,7 @@ pub record Log : Type 0 where
   pub threads : ℕ
   pub events : List Event
 
--- there are 1 to 64 threads (docs/JOURNAL.md, What a journal is)
+-- there are 1 to 128 threads (docs/JOURNAL.md, What a journal is)
 abbrev pub IsCount : ℕ → Type 0
 IsCount count = (0 < count) × (count ≤ most_threads)
 
@@ -30,7 +30,7 @@ IsCount count = (0 < count) × (count ≤ most_threads)
 abbrev pub AreThere : ℕ → List Event → Type 0
 AreThere count events = All (λ event. event.thread < count) events
 
--- what every journal keeps: 1 to 64 threads, at most 16,777,216 events, and each of a thread that is there
+-- what every journal keeps: 1 to 128 threads, at most 16,777,216 events, and each of a thread that is there
 -- (docs/JOURNAL.md, What a journal is)
 pub record IsLog (log : Log) : Type 0 where
   pub count : IsCount log.threads
@@ -65,9 +65,10 @@ replies_in events = map (λ event. event.reply) events
 abbrev pub GoesBy : Image → State → List Event → Type 0
 GoesBy image s events = replies_in events ≡ replies_of image s (schedule_of events)
 
--- the events are a journal of the program with so many threads: each is of a thread that is there, and the replies are
--- those of its run over their schedule (docs/JOURNAL.md, What a journal is)
+-- the events are a journal of the program with so many threads: it may start with so many, each event is of a thread that
+-- is there, and the replies are those of its run over their schedule (docs/JOURNAL.md, What a journal is)
 pub record IsJournal (image : Image) (count : ℕ) (events : List Event) : Type 0 where
+  pub counted : IsThreadCount image count
   pub there : AreThere count events
   pub replies : GoesBy image (start_of image count) events
 

@@ -3,6 +3,7 @@
 -- relations of specs/Bytes and specs/Faults, which contracts cite.
 use Rattle.std.specs.Prelude.{◌≡◌, ℕ, zero, suc, ◌-◌, Bool, nat_lt, nat_le, ◌==◌, ◌&&◌, if◌then◌else◌, List, length, Result, Ok, Err}
 use Rattle.std.specs.Int.{w16, w32, cast_signed}
+use Rattle.asl_code.specs.Versions.{is_version, version_for}
 use Rattle.asl_code.specs.declared.value.Value.{Value}
 use Rattle.asl_code.specs.declared.value.Value.TheVariants.{Int, Null, Addr}
 use Rattle.asl_machine.specs.declared.fault.Fault.{Fault}
@@ -40,17 +41,17 @@ letters_at bytes = do
 unfoldable pub version_at : List ℕ → Result (ℕ × List ℕ) Stop
 version_at bytes = do
   n ← number_at w16 bytes
-  passed (n.0 == 1) n bytes
+  passed (is_version n.0) n bytes
 
--- whether there may be so many threads
-abbrev pub is_count : ℕ → Bool
-is_count n = nat_lt 0 n && nat_le n most_threads
+-- whether there may be so many threads in a file of this version
+abbrev pub is_count : ℕ → ℕ → Bool
+is_count version n = nat_lt 0 n && nat_le n most_threads && version_for n == version
 
--- how many threads
-unfoldable pub threads_at : List ℕ → Result (ℕ × List ℕ) Stop
-threads_at bytes = do
+-- how many threads, in a file of this version
+unfoldable pub threads_at : ℕ → List ℕ → Result (ℕ × List ℕ) Stop
+threads_at version bytes = do
   n ← byte_at bytes
-  passed (is_count n.0) n bytes
+  passed (is_count version n.0) n bytes
 
 -- how many events
 unfoldable pub count_at : List ℕ → Result (ℕ × List ℕ) Stop
@@ -135,7 +136,7 @@ unfoldable pub log_at : List ℕ → Result (Log × List ℕ) Stop
 log_at bytes = do
   front ← letters_at bytes
   v ← version_at front.1
-  threads ← threads_at v.1
+  threads ← threads_at v.0 v.1
   count ← count_at threads.1
   events ← items_at (event_at threads.0) count.0 count.1
   Ok (record { threads = threads.0; events = events.0 }, events.1)

@@ -1,12 +1,13 @@
 -- Where events are no run of a program (docs/JOURNAL.md, "Replay").
-use Rattle.std.specs.Prelude.{◌≡◌, ◌≢◌, ℕ, List, take, slice_get, Some}
+use Rattle.std.specs.Prelude.{◌≡◌, ◌≢◌, ◌<◌, ◌≤◌, ℕ, List, take, slice_get, Some}
+use Rattle.asl_code.specs.Versions.{most_threads}
 use Rattle.asl_code.specs.declared.image.Image.{Image}
 use Rattle.asl_machine.specs.State.{State}
 use Rattle.asl_machine.specs.Run.{start_of, state_after}
 use Rattle.asl_machine.specs.Twin.{step_of}
 use Rattle.asl_journal.specs.declared.event.Event.{Event}
 use Rattle.asl_journal.specs.declared.fault.JournalFault.{JournalFault}
-use Rattle.asl_journal.specs.declared.fault.JournalFault.TheVariants.{Differs, OutOfMemory}
+use Rattle.asl_journal.specs.declared.fault.JournalFault.TheVariants.{BadCount, Differs, OutOfMemory}
 use Rattle.asl_journal.specs.Journal.{Log, GoesBy, schedule_of}
 
 -- The first event that differs from the program's run from the state on: those before it are of the run, and to this one
@@ -23,6 +24,8 @@ IsFollowFault image s events (Differs index) = DiffersAt image s events index
 IsFollowFault image s events OutOfMemory = Unit {0}
 IsFollowFault image s events fault = ⊥
 
--- the same of a journal, from the start of its threads (docs/JOURNAL.md, Replay)
+-- the same of a journal, from the start of its threads, where the program may start with so many; else that is the fault
+-- (docs/JOURNAL.md, Replay)
 abbrev pub IsReplayFault : Image → Log → JournalFault → Type 0
-IsReplayFault image log fault = IsFollowFault image (start_of image log.threads) log.events fault
+IsReplayFault image log BadCount = most_threads image.version < log.threads
+IsReplayFault image log fault = (log.threads ≤ most_threads image.version) × IsFollowFault image (start_of image log.threads) log.events fault

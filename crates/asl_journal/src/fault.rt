@@ -14,7 +14,7 @@ pub enum JournalFault {
     /// A journal has at most 16,777,216 events.
     #[error("JournalFull")]
     JournalFull,
-    /// A journal has 1 to 64 threads.
+    /// A journal has 1 to 128 threads, and a program's as many at the most as its version sets.
     #[error("BadCount")]
     BadCount,
     /// There is no such thread.
@@ -26,7 +26,7 @@ pub enum JournalFault {
     /// The first field of the bytes is not `ASLJ`.
     #[error("Magic")]
     Magic,
-    /// The version is not 1.
+    /// The version is not 1 or 2.
     #[error("Version")]
     Version,
     /// The bytes, so many, end within a field.

@@ -7,7 +7,7 @@ use crate::fault::JournalFault;
 use crate::limits::{MOST_EVENTS, MOST_THREADS};
 use std::marker::Model;
 
-/// How many threads a run has, and its events in order: 1 to 64 threads, at most 16,777,216 events, and each event of a
+/// How many threads a run has, and its events in order: 1 to 128 threads, at most 16,777,216 events, and each event of a
 /// thread that is there (`docs/JOURNAL.md`, "What a journal is").
 #[derive(Drop)]
 pub struct Journal {

@@ -2,7 +2,8 @@
 ghost use Rattle.std.specs.Prelude.{◌≡◌, ◌<◌, ◌≤◌, ◌+◌, ◌-◌, ◌↔◌, ◌⊎◌, [], ◌∷◌, ◌++◌, length, min, IfOk, IfErr, IsOk, OnOk, OnErr, IsErrOf};
 ghost use Rattle.asl_machine.specs.Sound.{MayWantMemory};
 ghost use Rattle.asl_machine.specs.Step.{Step};
-ghost use Rattle.asl_journal.specs.Journal.{IsCount, IsJournal, most_events, most_threads};
+ghost use Rattle.asl_code.specs.Versions.{most_threads};
+ghost use Rattle.asl_journal.specs.Journal.{IsCount, IsJournal, most_events};
 
 use crate::event::{Event, Receipt};
 use crate::fault::JournalFault;
@@ -45,7 +46,7 @@ impl<'p> Journaled<'p> {
         ensures image { IfOk result (λ journaled. journaled.image ≡ program.now) }
         ensures threads { IfOk result (λ journaled. journaled.count ≡ n) }
         ensures empty { IfOk result (λ journaled. journaled.events ≡ []) }
-        ensures count { IsErrOf result JournalFault.BadCount ↔ ((n ≡ 0) ⊎ (most_threads < n)) }
+        ensures count { IsErrOf result JournalFault.BadCount ↔ ((n ≡ 0) ⊎ (most_threads program.now.version < n)) }
         ensures other { IfErr result (λ fault. (fault ≡ JournalFault.BadCount) ⊎ (fault ≡ JournalFault.OutOfMemory)) }
     {
         let machine = Machine::new(alloc, program, n)?;

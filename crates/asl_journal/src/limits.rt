@@ -1,7 +1,9 @@
 //! How many threads and events a journal has at the most.
 
+use asl_code::NEWEST_LIMITS;
+
 /// How many threads a journal has at most (`docs/LIMITS.md`).
-pub const MOST_THREADS: u32 = 64;
+pub const MOST_THREADS: u32 = NEWEST_LIMITS.threads;
 
 /// How many events a journal has at most (`docs/LIMITS.md`).
 pub const MOST_EVENTS: usize = 16_777_216;

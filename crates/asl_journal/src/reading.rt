@@ -9,7 +9,7 @@ ghost use Rattle.asl_journal.specs.Reading.{plain_fault, fault_at, reply_at, eve
 use crate::event::Event;
 use crate::fault::ReadError;
 use crate::limits::{MOST_EVENTS, MOST_THREADS};
-use asl_code::{Cell, Effect, Value, ValueFault, get_value};
+use asl_code::{Cell, Effect, Value, ValueFault, get_value, is_version, version_for};
 use asl_machine::{Fault, Reply};
 use std::alloc::Global;
 
@@ -85,21 +85,21 @@ fn version_at(bytes: &[u8]) -> Result<(u16, &[u8]), ReadError>
     ensures { Gives (λ x. (x.0, x.1.now)) result (version_at bytes.now) }
 {
     let (version, rest) = two_at(bytes)?;
-    if version == 1 {
+    if is_version(u32::from(version)) {
         Ok((version, rest))
     } else {
         Err(bad(bytes))
     }
 }
 
-/// How many threads.
+/// How many threads: as many as journals of files of this version have.
 #[tactic(auto, unfolding(crate::specs::Reading::threads_at))]
-fn threads_at(bytes: &[u8]) -> Result<(u32, &[u8]), ReadError>
-    ensures { Gives (λ x. (x.0, x.1.now)) result (threads_at bytes.now) }
+fn threads_at(version: u16, bytes: &[u8]) -> Result<(u32, &[u8]), ReadError>
+    ensures { Gives (λ x. (x.0, x.1.now)) result (threads_at version bytes.now) }
 {
     let (byte, rest) = byte_at(bytes)?;
     let threads = u32::from(byte);
-    if 0 < threads && threads <= MOST_THREADS {
+    if 0 < threads && threads <= MOST_THREADS && version_for(threads) == u32::from(version) {
         Ok((threads, rest))
     } else {
         Err(bad(bytes))
@@ -233,8 +233,8 @@ pub(crate) fn parts_at(alloc: Global, bytes: &[u8]) -> Result<((u32, Vec<Event>)
     ensures { Gives (λ x. (record { threads = x.0.0; events = x.0.1.items }, x.1.now)) result (log_at bytes.now) }
 {
     let (_letters, rest) = letters_at(bytes)?;
-    let (_version, rest) = version_at(rest)?;
-    let (threads, rest) = threads_at(rest)?;
+    let (version, rest) = version_at(rest)?;
+    let (threads, rest) = threads_at(version, rest)?;
     let (count, rest) = count_at(rest)?;
     let (events, rest) = events_of(alloc, threads, count, rest)?;
     Ok(((threads, events), rest))

@@ -11,8 +11,8 @@ use asl_code::Program;
 use asl_machine::{Machine, Reply};
 use std::alloc::Global;
 
-/// The machine to which the journal leads, if it is one of this program; else the first event to which the program's
-/// run replies something else.
+/// The machine to which the journal leads, if it is one of this program; else that the program starts no so many threads,
+/// or the first event to which its run replies something else.
 pub fn replay<'p>(
     alloc: Global,
     program: &'p Program,

@@ -12,17 +12,17 @@ ghost use Rattle.asl_journal.specs.Bytes.{four, value_fields, fault_fields, repl
 
 use crate::event::Event;
 use crate::journal::Journal;
-use asl_code::{Effect, Value, put_value};
+use asl_code::{Effect, Value, put_value, version_for};
 use asl_machine::{Fault, Reply};
 use std::alloc::{AllocError, Global};
 
-/// The bytes of the journal.
+/// The bytes of the journal, in the first version that has so many threads.
 pub fn put(alloc: Global, journal: &Journal) -> Result<Vec<u8>, AllocError>
     ensures { IfOk result (λ bytes. SpellsLog journal.now bytes.items) }
 {
     let mut out = Vec::new(alloc);
     out.extend_from_slice(b"ASLJ")?;
-    put_two(&mut out, 1)?;
+    put_two(&mut out, version_for(journal.threads()) as u16)?;
     put_byte(&mut out, journal.threads() as u8)?;
     put_four(&mut out, journal.events().len() as u32)?;
     put_events(&mut out, journal.events())?;
