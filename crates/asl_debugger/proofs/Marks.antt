@@ -5,11 +5,11 @@ use Rattle.std.proofs.lemmas.List.{take_all, length_push}
 use Rattle.std.proofs.Math.Nat.{lt_of_mul-lt-mul_right}
 use Rattle.asl_code.specs.declared.image.Image.{Image}
 use Rattle.asl_machine.specs.View.{Configuration}
-use Rattle.asl_machine.specs.Run.{start_of}
+use Rattle.asl_machine.specs.Run.{IsThreadCount, start_of}
 use Rattle.asl_journal.specs.Journal.{Log, IsLog, GoesBy, IsJournal}
 use Rattle.asl_journal.proofs.Replays.{no_difference}
 use Rattle.asl_debugger.specs.declared.fault.DebugFault.{DebugFault}
-use Rattle.asl_debugger.specs.declared.fault.DebugFault.TheVariants.{AtEnd, AtStart, NoSuchStep, Differs, OutOfMemory}
+use Rattle.asl_debugger.specs.declared.fault.DebugFault.TheVariants.{AtEnd, AtStart, NoSuchStep, Differs, OutOfMemory, BadCount}
 use Rattle.asl_debugger.specs.Opening.{IsOpenFault}
 use Rattle.asl_debugger.specs.Session.{machine_before}
 use Rattle.asl_debugger.specs.Kept.{AreCheckpoints, AreSoFar, IsKept}
@@ -25,8 +25,9 @@ pushed [] y x (suc i) e = absurd cc
 pushed (z ∷ zs) y x zero e = inl e
 pushed (z ∷ zs) y x (suc i) e = elim (pushed zs y x i e) [ inl old ↦ inl old | inr new ↦ inr (omega (arith, new.0), new.1) ]
 
-pub so_far_start : (image : Image) (log : Log) (spacing : ℕ) (machine : Configuration) → machine ≡ machine_before image log 0 → AreSoFar image log spacing 0 ([] ++ machine ∷ [])
-so_far_start image log spacing machine at = record {
+pub so_far_start : (image : Image) (log : Log) (spacing : ℕ) (machine : Configuration) → IsThreadCount image log.threads → machine ≡ machine_before image log 0 → AreSoFar image log spacing 0 ([] ++ machine ∷ [])
+so_far_start image log spacing machine few at = record {
+  counted = few;
   each = λ index m e. elim (pushed [] machine m index e) [
     | inl old ↦ absurd cc
     | inr new ↦ new.1 ∙ at ∙ ap (machine_before image log) (let z : index ≡ 0 = new.0 in let p : 0 ≡ 0 * spacing = omega arith in p ∙ ap (λ (n : ℕ). n * spacing) (sym z))
@@ -39,6 +40,7 @@ so_far_start image log spacing machine at = record {
 pub so_far_next : (image : Image) (log : Log) (spacing here : ℕ) (checkpoints : List Configuration) (machine : Configuration) → AreSoFar image log spacing here checkpoints → machine ≡ machine_before image log (here + spacing)
     → here + spacing ≤ length log.events → GoesBy image (start_of image log.threads) (take (here + spacing) log.events) → AreSoFar image log spacing (here + spacing) (checkpoints ++ machine ∷ [])
 so_far_next image log spacing here checkpoints machine so_far at within goes = record {
+  counted = so_far.counted;
   each = λ index m e. elim (pushed checkpoints machine m index e) [
     | inl old ↦ so_far.each index m old
     | inr new ↦ new.1 ∙ at ∙ ap (machine_before image log) (so_far.last ∙ ap (λ (n : ℕ). n * spacing) (sym new.0))
@@ -68,8 +70,8 @@ last_is image log spacing here checkpoints machine some_space so_far at =
     so_far.each k machine at ∙ ap (machine_before image log) place
 
 -- a journal that is followed to its end
-pub all_followed : (image : Image) (log : Log) → IsLog log → GoesBy image (start_of image log.threads) (take (length log.events) log.events) → IsJournal image log.threads log.events
-all_followed image log is goes = record { there = is.there; replies = subst (GoesBy image (start_of image log.threads)) (take_all (length log.events) log.events (omega arith)) goes }
+pub all_followed : (image : Image) (log : Log) → IsThreadCount image log.threads → IsLog log → GoesBy image (start_of image log.threads) (take (length log.events) log.events) → IsJournal image log.threads log.events
+all_followed image log few is goes = record { counted = few; there = is.there; replies = subst (GoesBy image (start_of image log.threads)) (take_all (length log.events) log.events (omega arith)) goes }
 
 -- the number of the greatest checkpoint that is not past a position
 pub number_there : (image : Image) (log : Log) (spacing position k number : ℕ) (checkpoints : List Configuration) (machine : Configuration) → IsKept image log spacing checkpoints machine position → k ≤ length log.events → number * spacing ≤ k → number < length checkpoints
@@ -95,5 +97,6 @@ pub only_memory : (image : Image) (log : Log) (fault : DebugFault) → IsJournal
 only_memory image log AtEnd j is = absurd is
 only_memory image log AtStart j is = absurd is
 only_memory image log NoSuchStep j is = absurd is
-only_memory image log (Differs index) j is = absurd (no_difference image (start_of image log.threads) log.events index j.replies is)
+only_memory image log (Differs index) j is = absurd (no_difference image (start_of image log.threads) log.events index j.replies is.1)
 only_memory image log OutOfMemory j is = refl
+only_memory image log BadCount j is = absurd (omega (arith, j.counted.1, is))

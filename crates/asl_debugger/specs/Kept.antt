@@ -2,7 +2,7 @@
 use Rattle.std.specs.Prelude.{◌≡◌, ◌<◌, ◌≤◌, ◌+◌, ◌*◌, ℕ, List, length, take, slice_get, Some}
 use Rattle.asl_code.specs.declared.image.Image.{Image}
 use Rattle.asl_machine.specs.View.{Configuration}
-use Rattle.asl_machine.specs.Run.{start_of}
+use Rattle.asl_machine.specs.Run.{IsThreadCount, start_of}
 use Rattle.asl_journal.specs.Journal.{Log, IsLog, IsJournal, GoesBy}
 use Rattle.asl_debugger.specs.Session.{machine_before}
 
@@ -14,6 +14,7 @@ AreCheckpoints image log spacing checkpoints =
 -- the checkpoints of the events up to here, which are of the program's run: some stand at 0, the spacing, twice the
 -- spacing and so on, the last one here
 pub record AreSoFar (image : Image) (log : Log) (spacing here : ℕ) (checkpoints : List Configuration) : Type 0 where
+  pub counted : IsThreadCount image log.threads
   pub each : AreCheckpoints image log spacing checkpoints
   pub last : here + spacing ≡ length checkpoints * spacing
   pub within : here ≤ length log.events

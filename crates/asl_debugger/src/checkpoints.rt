@@ -1,6 +1,6 @@
 //! The machine at positions of a journal, and the checkpoints that a debugger keeps.
 ghost use Rattle.std.specs.Prelude.{◌≡◌, ◌<◌, ◌≤◌, ◌+◌, ◌*◌, length, take, IfErr, IfOk, OnErr, OnOk};
-ghost use Rattle.asl_machine.specs.Run.{start_of};
+ghost use Rattle.asl_machine.specs.Run.{IsThreadCount, start_of};
 ghost use Rattle.asl_journal.specs.Journal.{GoesBy, IsJournal, IsLog};
 ghost use Rattle.asl_debugger.specs.Kept.{AreCheckpoints};
 ghost use Rattle.asl_debugger.specs.Opening.{IsOpenFault};
@@ -9,7 +9,7 @@ ghost use Rattle.asl_debugger.specs.Session.{machine_before, state_before};
 use crate::fault::DebugFault;
 use asl_code::Program;
 use asl_journal::{Journal, JournalFault, follow};
-use asl_machine::Machine;
+use asl_machine::{Machine, MachineFault};
 use std::alloc::Global;
 
 /// The machine at position `end`, from the one at position `start`, which stays as it is.
@@ -26,7 +26,8 @@ pub fn machine_between<'p>(
     ensures machine { IfOk result (λ machine. machine ≡ machine_before from.now.image journal.now end) }
     ensures goes { GoesBy from.now.image (start_of from.now.image journal.now.threads) (take start journal.now.events)
         → OnOk result (GoesBy from.now.image (start_of from.now.image journal.now.threads) (take end journal.now.events)) }
-    ensures refused { GoesBy from.now.image (start_of from.now.image journal.now.threads) (take start journal.now.events)
+    ensures refused { IsThreadCount from.now.image journal.now.threads
+        → GoesBy from.now.image (start_of from.now.image journal.now.threads) (take start journal.now.events)
         → IfErr result (λ fault. IsOpenFault from.now.image journal.now fault) }
     ensures only { IsJournal from.now.image journal.now.threads journal.now.events
         → IfErr result (λ fault. fault ≡ DebugFault.OutOfMemory) }
@@ -90,17 +91,19 @@ pub fn checkpoints_of<'p>(
     Ok(checkpoints)
 }
 
-/// The machine at position 0.
+/// The machine at position 0, if the program may start with so many threads.
 fn first_machine<'p>(
     alloc: Global,
     program: &'p Program,
     journal: &Journal,
 ) -> Result<Machine<'p>, DebugFault>
     ensures machine { IfOk result (λ machine. machine ≡ machine_before program.now journal.now 0) }
-    ensures memory { IfErr result (λ fault. fault ≡ DebugFault.OutOfMemory) }
+    ensures counted { OnOk result (IsThreadCount program.now journal.now.threads) }
+    ensures refused { IfErr result (λ fault. IsOpenFault program.now journal.now fault) }
 {
     match Machine::new(alloc, program, journal.threads()) {
         Ok(machine) => Ok(machine),
+        Err(MachineFault::BadCount) => Err(DebugFault::BadCount),
         Err(_fault) => Err(DebugFault::OutOfMemory),
     }
 }

@@ -6,7 +6,7 @@ use std::alloc::{AllocError, AllocFailed};
 use std::convert::From;
 use thiserror::Error;
 
-/// Why a debugger refused a call. Where several apply, the first is answered.
+/// Why a debugger refused a call. Where several apply, the first is answered, but `BadCount` before `Differs`.
 #[derive(Clone, Copy, Debug, PartialEq, Eq, Error)]
 pub enum DebugFault {
     /// There is no event after this position.
@@ -24,6 +24,9 @@ pub enum DebugFault {
     /// A growth was refused.
     #[error("OutOfMemory")]
     OutOfMemory,
+    /// The program starts no so many threads as the journal has.
+    #[error("BadCount")]
+    BadCount,
 }
 
 impl From<AllocError> for DebugFault {

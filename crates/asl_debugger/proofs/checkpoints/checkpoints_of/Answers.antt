@@ -22,7 +22,7 @@ returns-in_err-machine-clause-refused c =
     let e = last_is c.args.program.now c.args.journal.now c.args.spacing c.loop-here.here items c.index-last.result.now c.requires c.loop-here.invariant at in
     let h = rw e at c.in_err-machine.ensures.refused in
     let p = err_from_is_err_and c.from_residual-in_err-machine.result c.from_residual-in_err-machine.ensures.1 in
-    rw (p.1, p.2) (h c.loop-here.invariant.goes)
+    rw (p.1, p.2) (h c.loop-here.invariant.counted c.loop-here.invariant.goes)
 
 pub loop-here-preserved : goal.loop-here-preserved
 loop-here-preserved c =
@@ -54,7 +54,7 @@ returns-in_err-_end-clause-refused c =
     let e = last_is c.args.program.now c.args.journal.now c.args.spacing c.loop-here.here items c.index-last-2.result.now c.requires c.loop-here.invariant at in
     let h = rw e at c.in_err-_end.ensures.refused in
     let p = err_from_is_err_and c.from_residual-in_err-_end.result c.from_residual-in_err-_end.ensures.1 in
-    rw (p.1, p.2) (h c.loop-here.invariant.goes)
+    rw (p.1, p.2) (h c.loop-here.invariant.counted c.loop-here.invariant.goes)
 
 pub returns-clause-journal : goal.returns-clause-journal
 returns-clause-journal c =
@@ -64,7 +64,7 @@ returns-clause-journal c =
     let at : slice_get items (length items - 1) ≡ Some c.index-last-2.result.now = slice_get_read items _ (length items - 1) c.index-last-2.result.now refl (omega arith) (rw i at c.index-last-2.ensures) in
     let e = last_is c.args.program.now c.args.journal.now c.args.spacing c.loop-here.here items c.index-last-2.result.now c.requires c.loop-here.invariant at in
     let h = rw (e, c.events-events.ensures.events) at c.in_ok-_end.ensures.goes in
-    all_followed c.args.program.now c.args.journal.now c.events-events.ensures.log (h c.loop-here.invariant.goes)
+    all_followed c.args.program.now c.args.journal.now c.loop-here.invariant.counted c.events-events.ensures.log (h c.loop-here.invariant.goes)
 
 pub loop-here-init : goal.loop-here-init
-loop-here-init c = rw (c.in_ok-push.ensures.items, c.new-checkpoints.ensures.items) (so_far_start c.args.program.now c.args.journal.now c.args.spacing c.in_ok-first_machine.field-0 c.in_ok-first_machine.ensures.machine)
+loop-here-init c = rw (c.in_ok-push.ensures.items, c.new-checkpoints.ensures.items) (so_far_start c.args.program.now c.args.journal.now c.args.spacing c.in_ok-first_machine.field-0 c.in_ok-first_machine.ensures.counted c.in_ok-first_machine.ensures.machine)

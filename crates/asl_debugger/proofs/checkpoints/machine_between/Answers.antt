@@ -34,9 +34,9 @@ returns-in-Ok-clause-goes c front =
     goes_between c.args.from.now.image c.args.journal.now c.args.start c.args.end c.requires.order front (rw (c.events-events.ensures.events, c.requires.from) at c.in-Ok.ensures.goes)
 
 pub returns-in-Err-Differs-clause-refused : goal.returns-in-Err-Differs-clause-refused
-returns-in-Err-Differs-clause-refused c front =
+returns-in-Err-Differs-clause-refused c few front =
     let d = rw (c.in-Err-Differs.field-0-is, c.events-events.ensures.events, c.requires.from) at c.in-Err-Differs.ensures.refused in
-    differs_between c.args.from.now.image c.args.journal.now c.args.start c.args.end c.requires.order c.in-Err-Differs.index front d
+    (few.1, differs_between c.args.from.now.image c.args.journal.now c.args.start c.args.end c.requires.order c.in-Err-Differs.index front d)
 
 pub returns-in-Err-Differs-clause-only : goal.returns-in-Err-Differs-clause-only
 returns-in-Err-Differs-clause-only c j =
