@@ -313,7 +313,7 @@ const SMALL: Sizes = Sizes {
 };
 
 /// Sizes at their limits and one above, and whether they are taken.
-static EDGES: [(Sizes, bool); 18] = [
+static EDGES: [(Sizes, bool); 20] = [
     (SMALL, true),
     (
         Sizes {
@@ -324,7 +324,7 @@ static EDGES: [(Sizes, bool); 18] = [
     ),
     (
         Sizes {
-            version: 2,
+            version: 3,
             ..SMALL
         },
         false,
@@ -446,6 +446,22 @@ static EDGES: [(Sizes, bool); 18] = [
     ),
     (Sizes { locks: 64, ..SMALL }, true),
     (Sizes { locks: 65, ..SMALL }, false),
+    (
+        Sizes {
+            version: 2,
+            locks: 256,
+            ..SMALL
+        },
+        true,
+    ),
+    (
+        Sizes {
+            version: 2,
+            locks: 257,
+            ..SMALL
+        },
+        false,
+    ),
 ];
 
 /// An image of these sizes, without another fault.

@@ -71,6 +71,10 @@ fn front(at: usize, value: u8) -> Option<JournalFault> {
     if at < 4 {
         return Some(JournalFault::Magic);
     }
+    // Version 2 is there, but not for so few threads.
+    if at == 5 && value == 2 {
+        return Some(JournalFault::BadField(6));
+    }
     if at < 6 {
         return Some(JournalFault::Version);
     }

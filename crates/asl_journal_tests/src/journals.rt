@@ -21,12 +21,13 @@ fn met(alloc: Global, n: u32, thread: u8) -> Option<Option<(JournalFault, usize)
     }
 }
 
-static STRANGERS: [(u32, u8, Option<JournalFault>); 5] = [
+static STRANGERS: [(u32, u8, Option<JournalFault>); 6] = [
     (0, 0, Some(JournalFault::BadCount)),
     (1, 0, None),
     (1, 1, Some(JournalFault::BadThread)),
     (64, 63, None),
-    (65, 0, Some(JournalFault::BadCount)),
+    (128, 127, None),
+    (129, 0, Some(JournalFault::BadCount)),
 ];
 
 #[test]

@@ -6,7 +6,7 @@ use asl_code::{Cell, Program, Value};
 use asl_lock_forest::Node;
 use asl_machine::{Fault, Machine, MachineFault, Reply, Status};
 use asl_mode_lanes::Mode;
-use programs::{COUNTER, FAILING, GROWING, program, program_in_the_end};
+use programs::{COUNTER, FAILING, GROWING, program, program_in_the_end, program_of_version_2};
 use readers::{
     CELL, Locks, ObjectSeen, ThreadSeen, is_same_thread, see_held, see_object, see_register,
     see_thread,
@@ -248,25 +248,35 @@ fn expect_bad_count(rt: &(impl Abort + AllocGlobal), program: &Program, n: u32) 
     );
 }
 
-/// Expects this answer to a step of a thread of 64.
+/// Expects this answer to a step of a thread of so many.
 fn expect_step(
     rt: &(impl Abort + AllocGlobal),
     program: &Program,
+    threads: u32,
     t: u32,
     answer: Result<Reply, MachineFault>,
 ) -> Result<(), Fail> {
-    let mut machine = Machine::new(rt.alloc(), program, 64)?;
+    let mut machine = Machine::new(rt.alloc(), program, threads)?;
     assert!(rt; machine.step(rt.alloc(), t) == answer);
     Ok(())
 }
 
 #[test]
-fn a_machine_has_1_to_64_threads(rt: HostRuntime) -> Result<(), Fail> {
+fn a_machine_of_version_1_has_1_to_64_threads(rt: HostRuntime) -> Result<(), Fail> {
     let program = program(rt.alloc(), COUNTER.as_slice())?;
     expect_bad_count(&rt, &program, 0);
     expect_bad_count(&rt, &program, 65);
-    expect_step(&rt, &program, 63, Ok(Reply::Ran))?;
-    expect_step(&rt, &program, 64, Err(MachineFault::BadThread))
+    expect_step(&rt, &program, 64, 63, Ok(Reply::Ran))?;
+    expect_step(&rt, &program, 64, 64, Err(MachineFault::BadThread))
+}
+
+#[test]
+fn a_machine_of_version_2_has_1_to_128_threads(rt: HostRuntime) -> Result<(), Fail> {
+    let program = program_of_version_2(rt.alloc(), COUNTER.as_slice())?;
+    expect_bad_count(&rt, &program, 0);
+    expect_bad_count(&rt, &program, 129);
+    expect_step(&rt, &program, 128, 127, Ok(Reply::Ran))?;
+    expect_step(&rt, &program, 128, 128, Err(MachineFault::BadThread))
 }
 
 /// Steps thread 0 of a machine, and then of its copy, and expects that neither step is seen in the other.

@@ -420,7 +420,7 @@ fn refuses_what_is_no_lock(rt: HostRuntime) {
 }
 
 /// Texts, and the first line of each that is out of place.
-static PLACES: [(&[u8], usize); 34] = [
+static PLACES: [(&[u8], usize); 35] = [
     (b"", 1),
     (b"\n", 2),
     (b" ,\t\r", 2),
@@ -429,7 +429,8 @@ static PLACES: [(&[u8], usize); 34] = [
     (b"\n\nversion 1\n\nclasses 1\n", 6),
     (b"version 1\nclasses 1\nglobal 0", 4),
     (b"version", 1),
-    (b"version 2", 1),
+    (b"version 2", 2),
+    (b"version 3", 1),
     (b"version 0", 1),
     (b"version 1 1", 1),
     (b"Version 1", 1),

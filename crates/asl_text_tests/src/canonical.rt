@@ -18,10 +18,11 @@ fn is_written(alloc: Global, text: &[u8], canonical: &[u8]) -> bool {
     }
 }
 
-/// Texts as they are written, the second with all parts.
-static CANONICAL: [&[u8]; 2] = [
+/// Texts as they are written, the second with all parts, the third of version 2.
+static CANONICAL: [&[u8]; 3] = [
     b"version 1\nclasses 1\nglobal 0\nentry 0\nfn 1 5\nglob r1, g0\nacq 0\nload r2, r1\nint r3, 1\nadd r4, r2, r3\nstore r1, r4\nrel\nret r0\nlist\nexpr r1 write\n",
     b"version 1\nclasses 2\nglobal 1\nglobal 0\nentry 1\nfn 0 1\nint r0, -2147483648\nret r0\nfn 1 2\nacq 0\nint r1, -1\nint r1, 2147483647\nint r1, 0\nrel\nret r1\nlist\nroot read\nroot write\nclass 1 read\nclass 0 write\nexpr r1 read\nexpr g1 write\nexpr r1 * .0 read\nexpr g0 * .255 * * * * * .1 write\nlist\n",
+    b"version 2\nclasses 1\nglobal 0\nentry 0\nfn 1 5\nglob r1, g0\nacq 0\nload r2, r1\nint r3, 1\nadd r4, r2, r3\nstore r1, r4\nrel\nret r0\nlist\nexpr r1 write\n",
 ];
 
 #[test]

@@ -53,6 +53,14 @@ fn counter_is_loaded_and_stored(rt: HostRuntime) -> Result<(), Fail> {
 }
 
 #[test]
+fn counter_of_version_2_is_loaded_and_stored(rt: HostRuntime) -> Result<(), Fail> {
+    let bytes = changed(rt.alloc(), 5, 2)?;
+    let again = stored_again(rt.alloc(), &bytes)?;
+    assert!(rt; again == bytes);
+    Ok(())
+}
+
+#[test]
 fn laws_are_there() {
     image_and_bytes_are_one();
     load_and_store_undo_each_other();

@@ -62,6 +62,15 @@ pub fn program(alloc: Global, code: &[Instr]) -> Result<Program, Fail> {
     verified(image(alloc, code)?)
 }
 
+/// The same in version 2.
+pub fn program_of_version_2(alloc: Global, code: &[Instr]) -> Result<Program, Fail> {
+    let image = image(alloc, code)?;
+    verified(Image {
+        version: 2,
+        ..image
+    })
+}
+
 /// The program, at the second try where a growth is refused.
 pub fn program_in_the_end(alloc: Global, code: &[Instr]) -> Result<Program, Fail> {
     match image(alloc, code) {
