@@ -27,13 +27,18 @@ class Reader:
         if self.data[:4] != letters:
             raise Refusal("Magic")
         self.at = 4
-        if self.number(2) != 1:
+        version = self.number(2)
+        if version not in LIMITS:
             raise Refusal("Version")
+        return version
 
     def end(self):
         if self.at < len(self.data):
             raise Refusal(f"Trailing({self.at})")
 
+
+# version: the most threads, and the most locks of a list
+LIMITS = {1: (64, 64), 2: (128, 256)}
 
 # op: which of a, b, c name registers; what d is; name
 REGISTERS = {1: "a", 2: "a", 3: "ab", 4: "abc", 5: "abc", 6: "abc", 7: "abc", 8: "a", 9: "ab", 10: "ab", 11: "ab",
@@ -72,7 +77,7 @@ def lock(reader):
 
 def image(data):
     reader = Reader(data)
-    reader.head(b"ASLM")
+    version = reader.head(b"ASLM")
     classes = reader.number(2)
     global_classes = [reader.number(2) for _ in range(reader.number(2))]
     functions = [(reader.number(1), reader.number(1), reader.number(2)) for _ in range(reader.number(2))]
@@ -80,13 +85,13 @@ def image(data):
     code = [instruction(reader) for _ in range(reader.number(2))]
     lists = [[lock(reader) for _ in range(reader.number(2))] for _ in range(reader.number(2))]
     reader.end()
-    return classes, global_classes, functions, entry, code, lists
+    return version, classes, global_classes, functions, entry, code, lists
 
 
-def rules(classes, global_classes, functions, entry, code, lists):
+def rules(version, classes, global_classes, functions, entry, code, lists):
     """The first rule that the image breaks."""
     if (classes > 1024 or len(global_classes) > 1024 or len(functions) > 256 or len(lists) > 1024
-            or any(len(locks) > 64 for locks in lists) or any(p > 4 or r > 64 for p, r, _ in functions)):
+            or any(len(locks) > LIMITS[version][1] for locks in lists) or any(p > 4 or r > 64 for p, r, _ in functions)):
         return "Limit"
     if any(c >= classes for c in global_classes):
         return "Table"
@@ -145,8 +150,9 @@ def value(reader):
 def judge_journal(data):
     reader = Reader(data)
     try:
-        reader.head(b"ASLJ")
-        threads = reader.number(1, lambda number: 1 <= number <= 64)
+        version = reader.head(b"ASLJ")
+        fewest = max((most for other, (most, _) in LIMITS.items() if other < version), default=0) + 1
+        threads = reader.number(1, lambda number: fewest <= number <= LIMITS[version][0])
         for _ in range(reader.number(4, lambda number: number <= 16777216)):
             reader.number(1, lambda number: number < threads)
             reply = reader.number(1, lambda number: number <= 4)
