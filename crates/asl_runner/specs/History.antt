@@ -2,19 +2,21 @@
 use Rattle.std.specs.Prelude.{◌≡◌, ◌<◌, ◌≤◌, ◌%◌, ◌+◌, ◌==◌, ℕ, true, List, [], ◌∷◌, length, map, Some, slice_get, if◌then◌else◌}
 use Rattle.asl_code.specs.declared.image.Image.{Image}
 use Rattle.asl_machine.specs.declared.reply.Reply.{Reply}
+use Rattle.asl_machine.specs.Run.{IsThreadCount}
 use Rattle.asl_machine.specs.State.{State}
 use Rattle.asl_journal.specs.declared.event.Event.{Event}
 use Rattle.asl_journal.specs.declared.event.Receipt.{Receipt}
-use Rattle.asl_journal.specs.Journal.{IsCount, IsJournal, most_events}
+use Rattle.asl_journal.specs.Journal.{IsJournal, most_events}
 use Rattle.asl_journal.specs.Recorded.{has_ended}
 
 -- how many workers there are at most
 abbrev pub most_workers : ℕ
 most_workers = 8
 
--- what a run is asked for: 1 to 64 threads, 1 to 8 workers, and a limit that a journal has room for
-pub record IsAsked (count workers limit : ℕ) : Type 0 where
-  pub threads : IsCount count
+-- what a run is asked for: as many threads as the program may start with, 1 to 8 workers, and a limit that a journal has
+-- room for
+pub record IsAsked (image : Image) (count workers limit : ℕ) : Type 0 where
+  pub threads : IsThreadCount image count
   pub some : 0 < workers
   pub few : workers ≤ most_workers
   pub short : limit ≤ most_events

@@ -20,8 +20,8 @@ pub record IsWrongAt (image : Image) (count workers worker : ℕ) (report : Repo
 
 -- the fault, and the report that comes with it: with wrong receipts, and with nothing else
 abbrev pub IsRefusal : Image → ℕ → ℕ → ℕ → RunFault → Option Report → Type 0
-IsRefusal image count workers limit fault.BadCount None = ¬ IsAsked count workers limit
-IsRefusal image count workers limit (fault.Receipt worker) (Some report) = IsAsked count workers limit × IsWrongAt image count workers worker report
-IsRefusal image count workers limit fault.Spawn None = IsAsked count workers limit
-IsRefusal image count workers limit fault.OutOfMemory None = IsAsked count workers limit
+IsRefusal image count workers limit fault.BadCount None = ¬ IsAsked image count workers limit
+IsRefusal image count workers limit (fault.Receipt worker) (Some report) = IsAsked image count workers limit × IsWrongAt image count workers worker report
+IsRefusal image count workers limit fault.Spawn None = IsAsked image count workers limit
+IsRefusal image count workers limit fault.OutOfMemory None = IsAsked image count workers limit
 IsRefusal image count workers limit fault report = ⊥

@@ -9,7 +9,7 @@ use Rattle.asl_runner.specs.Working.{IsWorking, HasPass, HasStopped}
 
 -- a worker of a run
 pub record IsAt (post : Post) : Type 0 where
-  pub threads : post.count ≤ 64
+  pub threads : post.count ≤ 128
   pub mine : post.worker < post.workers
 
 -- a worker between two calls

@@ -24,7 +24,7 @@ pub record IsWorking (word : Word) (count workers worker : ℕ) (seat : Turn) (r
   pub left : seat.left ≡ 1
   pub spent : seat.spent ≡ 0
   pub drawn : length receipts ≡ length seat.tickets
-  pub room : length going ≡ 64
+  pub room : length going ≡ 128
   pub each : (t : ℕ) → IsMine count workers worker t → (slice_get going t ≡ Some true) ⊎ IsToldEnded receipts t
 
 -- the seat has one pass, left or spent

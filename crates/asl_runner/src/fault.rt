@@ -6,7 +6,7 @@ use thiserror::Error;
 /// Why `run` was refused (`docs/WORKERS.md`, "Refusals").
 #[derive(Clone, Copy, Debug, PartialEq, Eq, Error)]
 pub enum RunFault {
-    /// A run has 1 to 64 threads, 1 to 8 workers, and at most 16,777,216 events.
+    /// A run has 1 to as many threads as its program's version sets, 1 to 8 workers, and at most 16,777,216 events.
     #[error("BadCount")]
     BadCount,
     /// The receipts of this worker are not the journal's entries of its threads, or say that a thread has ended that has not.

@@ -20,9 +20,6 @@ use std::marker::Brand;
 use std::sync::{Mutex, Wait};
 use std::thread::Threads;
 
-/// How many threads of a program there are at most.
-const MOST_THREADS: u32 = 64;
-
 /// How many workers there are at most.
 const MOST_WORKERS: u32 = 8;
 
@@ -34,7 +31,7 @@ const MOST_EVENTS: u64 = 16_777_216;
 /// drawn. The journal is one that a single thread could have made; `docs/WORKERS.md` says more.
 ///
 /// # Errors
-/// `BadCount` where n is not 1 to 64, workers not 1 to 8, or limit above 16,777,216. `Spawn` and `OutOfMemory` where a
+/// `BadCount` where n is not 1 to as many as the program's version sets, workers not 1 to 8, or limit above 16,777,216. `Spawn` and `OutOfMemory` where a
 /// start or a growth was refused; no worker runs any more then. `Receipt(worker)`, with the report, where that worker's
 /// receipts are not the journal's entries of its threads, or one says that a thread has ended that has not.
 pub fn run<'p, R: Threads + Wait + Sync, G: Gate>(
@@ -46,7 +43,7 @@ pub fn run<'p, R: Threads + Wait + Sync, G: Gate>(
     limit: u64,
     gate: &G,
 ) -> Result<Report<'p>, (RunFault, Option<Report<'p>>)>
-    ensures asked { OnOk result (IsAsked n workers limit) }
+    ensures asked { OnOk result (IsAsked program.now n workers limit) }
     ensures threads { IfOk result (λ report. report.journal.threads ≡ n) }
     ensures history { IfOk result (λ report. IsHistory program.now n workers report.journal.events (map (λ mine. mine.items) report.receipts.items)) }
     ensures machine { IfOk result (λ report. report.machine ≡ record { image = program.now; state = state_at program.now n report.journal.events }) }
@@ -55,7 +52,8 @@ pub fn run<'p, R: Threads + Wait + Sync, G: Gate>(
     ensures end { IfOk result (λ report. HaveEnded (state_at program.now n report.journal.events) n ⊎ (report.tickets ≡ limit)) }
     ensures refused { IfErr result (λ refusal. IsRefusal program.now n workers limit refusal.0 refusal.1) }
 {
-    if n == 0 || n > MOST_THREADS || workers == 0 || workers > MOST_WORKERS || limit > MOST_EVENTS {
+    let threads = program.limits().threads;
+    if n == 0 || n > threads || workers == 0 || workers > MOST_WORKERS || limit > MOST_EVENTS {
         return Err((RunFault::BadCount, None));
     }
     let Ok(journaled) = Journaled::start(alloc, program, n) else {
@@ -84,7 +82,7 @@ fn run_as<'p, J: Named + Send + Sync, R: Threads + Wait + Sync, G: Gate>(
 ) -> Result<Report<'p>, RunFault>
     requires image { journaled.image ≡ J.image }
     requires named { (journaled.count ≡ J.count) × (count ≡ J.count) }
-    requires asked { IsAsked count workers limit }
+    requires asked { IsAsked journaled.image count workers limit }
     ensures run { IfOk result (λ report. IsRun journaled.entry.image count workers limit report) }
     ensures other { IfErr result (λ fault. (fault ≡ RunFault.Spawn) ⊎ (fault ≡ RunFault.OutOfMemory)) }
 {

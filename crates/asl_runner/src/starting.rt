@@ -37,7 +37,7 @@ pub fn start<R: Threads + Wait + Sync, S: Steps, G: Gate>(
     seats: Vec<TurnSeat>,
 ) -> Result<Vec<Work>, RunFault>
     requires count { S.count ≡ count }
-    requires threads { count ≤ 64 }
+    requires threads { count ≤ 128 }
     requires few { vec_len seats ≤ 8 }
     requires seats { AreSeats turns.now seats.items }
     ensures works { IfOk result (λ works. (vec_len works ≡ vec_len seats) × HaveWorked turns.now count (vec_len seats) works.items) }
@@ -47,7 +47,7 @@ pub fn start<R: Threads + Wait + Sync, S: Steps, G: Gate>(
         thread::scope_env(),
         rt,
         move |scope| -> Result<Vec<Work>, RunFault>
-            requires { (S.count ≡ count) × (count ≤ 64) × (vec_len seats ≤ 8) × AreSeats turns.now seats.items }
+            requires { (S.count ≡ count) × (count ≤ 128) × (vec_len seats ≤ 8) × AreSeats turns.now seats.items }
             ensures works { IfOk result (λ works. (vec_len works ≡ vec_len seats) × HaveWorked turns.entry.now count (vec_len seats) works.items) }
             ensures other { IfErr result (λ fault. (fault ≡ RunFault.Spawn) ⊎ (fault ≡ RunFault.OutOfMemory)) }
         {

@@ -28,7 +28,7 @@ pub struct Post {
 pub struct Working {
     pub seat: TurnSeat,
     pub receipts: Vec<Receipt>,
-    pub going: [bool; 64],
+    pub going: [bool; 128],
     pub from: u32,
 }
 
@@ -49,8 +49,8 @@ enum Next {
 }
 
 /// The first of the worker's threads from low to below high that goes on.
-fn first_going(post: Post, going: &[bool; 64], low: u32, high: u32) -> Option<u8>
-    requires high { high ≤ 64 }
+fn first_going(post: Post, going: &[bool; 128], low: u32, high: u32) -> Option<u8>
+    requires high { high ≤ 128 }
     requires some { 0 < post.workers }
     ensures { MatchOption result
         ((t : ℕ) → low ≤ t → t < high → (t % post.workers) ≡ post.worker → slice_get going.now t ≢ Some true)
@@ -65,8 +65,8 @@ fn first_going(post: Post, going: &[bool; 64], low: u32, high: u32) -> Option<u8
 }
 
 /// A thread of the worker that goes on, in turn from the number on.
-fn next_thread(post: Post, going: &[bool; 64], from: u32) -> Option<u8>
-    requires count { post.count ≤ 64 }
+fn next_thread(post: Post, going: &[bool; 128], from: u32) -> Option<u8>
+    requires count { post.count ≤ 128 }
     requires some { 0 < post.workers }
     ensures { MatchOption result
         ((t : ℕ) → IsMine post.count post.workers post.worker t → slice_get going.now t ≢ Some true)
@@ -165,11 +165,11 @@ pub fn run_worker<R: Wait, S: Steps, G: Gate>(
 }
 
 /// All threads go on.
-fn all_going() -> [bool; 64]
-    ensures count { length result ≡ 64 }
-    ensures each { (t : ℕ) → t < 64 → slice_get result t ≡ Some true }
+fn all_going() -> [bool; 128]
+    ensures count { length result ≡ 128 }
+    ensures each { (t : ℕ) → t < 128 → slice_get result t ≡ Some true }
 {
-    [true; 64]
+    [true; 128]
 }
 
 /// What the worker leaves.

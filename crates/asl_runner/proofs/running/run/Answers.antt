@@ -37,7 +37,7 @@ pub returns-in-Some-clause-refused : goal.returns-in-Some-clause-refused
 returns-in-Some-clause-refused g c =
     let ran = c.in-Ok-run_as.ensures.run in (
       record {
-        threads = (search (c.if-n-eq0.false, rules), search (c.if-n-gt-MOST_THREADS.false, rules));
+        threads = (search (c.if-n-eq0.false, rules), search (c.if-n-threads.false, c.limits-threads.ensures.threads, rules));
         some = search (c.if-workers-eq0.false, rules);
         few = search (c.if-workers-gt-MOST_WORKERS.false, rules);
         short = search (c.if-limit-gt-MOST_EVENTS.false, rules);
