@@ -14,7 +14,7 @@ use Rattle.asl_code.specs.declared.lock.Lock.TheVariants as lock
 use Rattle.asl_code.specs.declared.path.Op.{Op}
 use Rattle.asl_code.specs.declared.path.Op.TheVariants.{Deref, Off}
 use Rattle.asl_lock_expr.specs.Expression.{cell_of, pointed, base_cell, moved, walked, path_cell, cell_denoted}
-use Rattle.asl_machine.specs.State.{Object, cell_at, class_of, fresh_object}
+use Rattle.asl_machine.specs.State.{Object, cell_at, class_of, new_object}
 use Rattle.asl_machine.specs.Access.{Points, AllPoint}
 use Rattle.asl_machine.specs.Sound.{AreSound}
 use Rattle.asl_machine.specs.Request.{heap_of, leaf_asks, cell_asks, asks_of, all_asks, joined_all, request_of}
@@ -95,6 +95,6 @@ pub request_grown : (image : Image) (objects : List Object) (cells class : ℕ) 
     → request_of (made_objects objects cells class) regs ls ≡ request_of objects regs ls
 request_grown image objects cells class sound regs points ls there = by_room (length objects == 65536)
   where
-    by_room : (b : Bool) → request_of (if b then objects else objects ++ fresh_object class cells ∷ []) regs ls ≡ request_of objects regs ls
+    by_room : (b : Bool) → request_of (if b then objects else objects ++ new_object class cells ∷ []) regs ls ≡ request_of objects regs ls
     by_room true = refl
-    by_room false = ap (joined_all []) (all_kept image objects (fresh_object class cells ∷ []) sound regs points ls there)
+    by_room false = ap (joined_all []) (all_kept image objects (new_object class cells ∷ []) sound regs points ls there)

@@ -20,7 +20,7 @@ use Rattle.asl_lock_forest.specs.Holding.{held}
 use Rattle.asl_machine.specs.declared.fate.Fate.TheVariants as fate
 use Rattle.asl_machine.specs.declared.fault.Fault.TheVariants as fault
 use Rattle.asl_machine.specs.declared.reply.Reply.TheVariants as reply
-use Rattle.asl_machine.specs.State.{Object, Frame, Activity, Thread, Running, Done, Failed, State, activity_of, fresh_object}
+use Rattle.asl_machine.specs.State.{Object, Frame, Activity, Thread, Running, Done, Failed, State, activity_of, new_object}
 use Rattle.asl_machine.specs.Access.{Points}
 use Rattle.asl_machine.specs.Step.{after, having_made}
 use Rattle.asl_machine.specs.Sound.{IsSound, AreSuspended}
@@ -52,7 +52,7 @@ new_step z x a to cells class full =
     of_turn z x (turn_by x (record {
       fate = if full then fate.Fails fault.Full else fate.GoesOn;
       activity = if full then a else having_made a to (length z.objects);
-      objects = if full then z.objects else z.objects ++ fresh_object class cells ∷ [];
+      objects = if full then z.objects else z.objects ++ new_object class cells ∷ [];
       holding = z.holding;
     }))
 
@@ -64,8 +64,8 @@ steps_new image z x a to cells class runs at =
 
 -- ---- objects
 
-fresh_stays : (f : ℕ → ℕ) (class cells : ℕ) → object_by f (fresh_object class cells) ≡ fresh_object class cells
-fresh_stays f class cells = ap (λ z. record { class = class; cells = z }) (replicate_by f cells)
+new_stays : (f : ℕ → ℕ) (class cells : ℕ) → object_by f (new_object class cells) ≡ new_object class cells
+new_stays f class cells = ap (λ z. record { class = class; cells = z }) (replicate_by f cells)
 
 module _ (xs : List Object) (y z : Object) where
   two_first : slice_get ((xs ++ y ∷ []) ++ z ∷ []) (length xs) ≡ Some y
@@ -193,10 +193,10 @@ module _ (image : Image) (s : State) (sound : IsSound image s) (ended : AllEnded
       (to cells class into others other : ℕ) (at : slice_get image.code a.top.pc ≡ Some (instr.New to cells class)) (there : slice_get image.code b.top.pc ≡ Some (instr.New into others other))
       (full : (step_of image (step_of image s u).state t).reply ≢ reply.Fault fault.Full) where
     abbrev fu : Object
-    fu = fresh_object other others
+    fu = new_object other others
 
     abbrev ft : Object
-    ft = fresh_object class cells
+    ft = new_object class cells
 
     abbrev su : State
     su = after s u (Running (having_made b into n)) (s.objects ++ fu ∷ []) s.holding
@@ -261,7 +261,7 @@ module _ (image : Image) (s : State) (sound : IsSound image s) (ended : AllEnded
     crossed_states : IsRenamed f one two
     crossed_states = record {
       count = two_length s.objects ft fu ∙ sym (two_length s.objects fu ft);
-      objects = objects_cross fu ft (fresh_stays f other others) (fresh_stays f class cells);
+      objects = objects_cross fu ft (new_stays f other others) (new_stays f class cells);
       holding = holding_cross;
       threads =
           let new_u : thread_by f (Running (having_made b into n)) ≡ Running (having_made b into (length st.objects)) = made_stays u b into n (length st.objects) also (crossed_first n ∙ sym (length-append s.objects (ft ∷ []))) in

@@ -16,7 +16,7 @@ use Rattle.asl_machine.specs.declared.fate.Fate.{Fate}
 use Rattle.asl_machine.specs.declared.fate.Fate.TheVariants as fate
 use Rattle.asl_machine.specs.declared.fault.Fault.{Fault}
 use Rattle.asl_machine.specs.declared.fault.Fault.TheVariants as fault
-use Rattle.asl_machine.specs.State.{Object, Activity, cell_at, with_cell, written, fresh_object}
+use Rattle.asl_machine.specs.State.{Object, Activity, cell_at, with_cell, written, new_object}
 use Rattle.asl_machine.specs.Cover.{cover}
 use Rattle.asl_machine.specs.Access.{is_protected}
 use Rattle.asl_machine.specs.Twin.{Left, register_of, fate_of, activity_set, set_left, computed, truth, same_value, address_or_bounds, address_moved, made_objects, make_left, allowed_cell, accessed, loaded, store_left}
@@ -203,39 +203,39 @@ module _ (p : Renaming) where
     module _ (globals : ℕ) (keeps : Keeps p.new globals (length one)) where
       made_by : (cells class : ℕ) → ObjectsBy p.new (made_objects one cells class) (made_objects other cells class)
       made_by cells class k =
-          ap (λ n. slice_get (if n == 65536 then other else other ++ fresh_object class cells ∷ []) (p.new k)) count ∙ by_room (length one == 65536)
+          ap (λ n. slice_get (if n == 65536 then other else other ++ new_object class cells ∷ []) (p.new k)) count ∙ by_room (length one == 65536)
         where
-          fresh_by : object_by p.new (fresh_object class cells) ≡ fresh_object class cells
-          fresh_by = ap (λ z. record { class = class; cells = z }) (replicate_by p.new cells)
+          new_by : object_by p.new (new_object class cells) ≡ new_object class cells
+          new_by = ap (λ z. record { class = class; cells = z }) (replicate_by p.new cells)
 
-          more : (k : ℕ) → slice_get (other ++ fresh_object class cells ∷ []) (p.new k) ≡ option_map (object_by p.new) (slice_get (one ++ fresh_object class cells ∷ []) k)
+          more : (k : ℕ) → slice_get (other ++ new_object class cells ∷ []) (p.new k) ≡ option_map (object_by p.new) (slice_get (one ++ new_object class cells ∷ []) k)
           more k = elim (cases_lt k (length one)) [
             | inl before ↦
-                elim (slice_get one k) as (λ o. slice_get one k ≡ o → slice_get (other ++ fresh_object class cells ∷ []) (p.new k) ≡ option_map (object_by p.new) (slice_get (one ++ fresh_object class cells ∷ []) k)) [
+                elim (slice_get one k) as (λ o. slice_get one k ≡ o → slice_get (other ++ new_object class cells ∷ []) (p.new k) ≡ option_map (object_by p.new) (slice_get (one ++ new_object class cells ∷ []) k)) [
                   | None ↦ λ e. (let f : false ≡ true = subst IsSome e (is_there one k before) in cc)
                   | Some q ↦ λ e.
-                      get_before other (fresh_object class cells ∷ []) (p.new k) (object_by p.new q) (same k ∙ ap (option_map (object_by p.new)) e)
-                      ∙ sym (ap (option_map (object_by p.new)) (get_before one (fresh_object class cells ∷ []) k q e))
+                      get_before other (new_object class cells ∷ []) (p.new k) (object_by p.new q) (same k ∙ ap (option_map (object_by p.new)) e)
+                      ∙ sym (ap (option_map (object_by p.new)) (get_before one (new_object class cells ∷ []) k q e))
                 ] refl
             | inr past ↦ elim (eqb_tells k (length one)) [
               | inl is ↦
                   let number : p.new k ≡ length other = keeps.later k past ∙ is.1 ∙ sym count in
-                  ap (slice_get (other ++ fresh_object class cells ∷ [])) number
-                  ∙ get_last other (fresh_object class cells)
-                  ∙ ap Some (sym fresh_by)
-                  ∙ sym (ap (λ z. option_map (object_by p.new) (slice_get (one ++ fresh_object class cells ∷ []) z)) is.1 ∙ ap (option_map (object_by p.new)) (get_last one (fresh_object class cells)))
+                  ap (slice_get (other ++ new_object class cells ∷ [])) number
+                  ∙ get_last other (new_object class cells)
+                  ∙ ap Some (sym new_by)
+                  ∙ sym (ap (λ z. option_map (object_by p.new) (slice_get (one ++ new_object class cells ∷ []) z)) is.1 ∙ ap (option_map (object_by p.new)) (get_last one (new_object class cells)))
               | inr apart ↦
                   let beyond = past_end (length one) k past apart.1 in
-                  ap (slice_get (other ++ fresh_object class cells ∷ [])) (keeps.later k past)
-                  ∙ slice_get_past (other ++ fresh_object class cells ∷ []) k (subst (λ n. n ≤ k) (sym (length-append other (fresh_object class cells ∷ []) ∙ ap (λ n. n + 1) count)) beyond)
-                  ∙ sym (ap (option_map (object_by p.new)) (slice_get_past (one ++ fresh_object class cells ∷ []) k (subst (λ n. n ≤ k) (sym (length-append one (fresh_object class cells ∷ []))) beyond)))
+                  ap (slice_get (other ++ new_object class cells ∷ [])) (keeps.later k past)
+                  ∙ slice_get_past (other ++ new_object class cells ∷ []) k (subst (λ n. n ≤ k) (sym (length-append other (new_object class cells ∷ []) ∙ ap (λ n. n + 1) count)) beyond)
+                  ∙ sym (ap (option_map (object_by p.new)) (slice_get_past (one ++ new_object class cells ∷ []) k (subst (λ n. n ≤ k) (sym (length-append one (new_object class cells ∷ []))) beyond)))
             ]
           ]
             where
               past_end : (n k : ℕ) → n ≤ k → k ≢ n → n + 1 ≤ k
               past_end n k le ne = omega (arith, le, ne)
 
-          by_room : (b : Bool) → slice_get (if b then other else other ++ fresh_object class cells ∷ []) (p.new k) ≡ option_map (object_by p.new) (slice_get (if b then one else one ++ fresh_object class cells ∷ []) k)
+          by_room : (b : Bool) → slice_get (if b then other else other ++ new_object class cells ∷ []) (p.new k) ≡ option_map (object_by p.new) (slice_get (if b then one else one ++ new_object class cells ∷ []) k)
           by_room true = same k
           by_room false = more k
 
@@ -243,7 +243,7 @@ module _ (p : Renaming) where
       make_by to cells class = record {
         fate = ap (λ n. if n == 65536 then fate.Fails fault.Full else fate.GoesOn) count ∙ fate_room (length one == 65536);
         activity = ap (λ n. if n == 65536 then here else having here n) count ∙ activity_room (length one == 65536);
-        count = ap (λ n. length (if n == 65536 then other else other ++ fresh_object class cells ∷ [])) count ∙ count_room (length one == 65536);
+        count = ap (λ n. length (if n == 65536 then other else other ++ new_object class cells ∷ [])) count ∙ count_room (length one == 65536);
         objects = made_by cells class;
         holding = holds;
       }
@@ -264,6 +264,6 @@ module _ (p : Renaming) where
               le_self : (n : ℕ) → n ≤ n
               le_self n = omega arith
 
-          count_room : (b : Bool) → length (if b then other else other ++ fresh_object class cells ∷ []) ≡ length (if b then one else one ++ fresh_object class cells ∷ [])
+          count_room : (b : Bool) → length (if b then other else other ++ new_object class cells ∷ []) ≡ length (if b then one else one ++ new_object class cells ∷ [])
           count_room true = count
-          count_room false = length-append other (fresh_object class cells ∷ []) ∙ ap (λ n. n + 1) count ∙ sym (length-append one (fresh_object class cells ∷ []))
+          count_room false = length-append other (new_object class cells ∷ []) ∙ ap (λ n. n + 1) count ∙ sym (length-append one (new_object class cells ∷ []))

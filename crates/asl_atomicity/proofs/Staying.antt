@@ -18,7 +18,7 @@ use Rattle.asl_machine.specs.declared.fault.Fault.{Fault}
 use Rattle.asl_machine.specs.declared.fault.Fault.TheVariants as fault
 use Rattle.asl_machine.specs.declared.reply.Reply.{Reply}
 use Rattle.asl_machine.specs.declared.reply.Reply.TheVariants as reply
-use Rattle.asl_machine.specs.State.{Object, Frame, Activity, Thread, Running, Done, Failed, State, fresh_object}
+use Rattle.asl_machine.specs.State.{Object, Frame, Activity, Thread, Running, Done, Failed, State, new_object}
 use Rattle.asl_machine.specs.Calls.{frame_count}
 use Rattle.asl_machine.specs.Cover.{cover}
 use Rattle.asl_machine.specs.Access.{Points}
@@ -192,9 +192,9 @@ put_grows objects (Stored v (Err w)) = le_self (length objects)
 put_grows objects (Stored v (Ok c)) = subst (λ n. length objects ≤ n) (sym (length-written objects c v)) (le_self (length objects))
 put_grows objects (Made cells class) = by_room (length objects == 65536)
   where
-    by_room : (b : Bool) → length objects ≤ length (if b then objects else objects ++ fresh_object class cells ∷ [])
+    by_room : (b : Bool) → length objects ≤ length (if b then objects else objects ++ new_object class cells ∷ [])
     by_room true = le_self (length objects)
-    by_room false = subst (λ n. length objects ≤ n) (sym (length-append objects (fresh_object class cells ∷ []))) (more (length objects))
+    by_room false = subst (λ n. length objects ≤ n) (sym (length-append objects (new_object class cells ∷ []))) (more (length objects))
       where
         more : (n : ℕ) → n ≤ n + 1
         more n = omega arith

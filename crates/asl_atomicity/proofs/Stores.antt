@@ -7,7 +7,7 @@ use Rattle.std.proofs.lemmas.List.{set-append_left}
 use Rattle.std.proofs.lemmas.Option.{slice_get_within}
 use Rattle.asl_code.specs.declared.value.Value.{Value}
 use Rattle.asl_code.specs.declared.value.Cell.{Cell}
-use Rattle.asl_machine.specs.State.{Object, cell_at, with_cell, written, fresh_object}
+use Rattle.asl_machine.specs.State.{Object, cell_at, with_cell, written, new_object}
 use Rattle.asl_machine.specs.Twin.{made_objects}
 use Rattle.asl_machine.proofs.Lists.{get_same, get_other, get_before}
 use Rattle.asl_machine.proofs.Heaps.{length-written}
@@ -83,11 +83,11 @@ store_before objects more c v there =
 
 pub store_made : (objects : List Object) (cells class : ℕ) (c : Cell) (v : Value) → IsSome (cell_at objects c) → written (made_objects objects cells class) c v ≡ made_objects (written objects c v) cells class
 store_made objects cells class c v there =
-    by_room (length objects == 65536) ∙ sym (ap (λ n. if n == 65536 then written objects c v else written objects c v ++ fresh_object class cells ∷ []) (length-written objects c v))
+    by_room (length objects == 65536) ∙ sym (ap (λ n. if n == 65536 then written objects c v else written objects c v ++ new_object class cells ∷ []) (length-written objects c v))
   where
-    by_room : (b : Bool) → written (if b then objects else objects ++ fresh_object class cells ∷ []) c v ≡ (if b then written objects c v else written objects c v ++ fresh_object class cells ∷ [])
+    by_room : (b : Bool) → written (if b then objects else objects ++ new_object class cells ∷ []) c v ≡ (if b then written objects c v else written objects c v ++ new_object class cells ∷ [])
     by_room true = refl
-    by_room false = store_before objects (fresh_object class cells ∷ []) c v there
+    by_room false = store_before objects (new_object class cells ∷ []) c v there
 
 -- the cell of an edit is there
 abbrev pub IsThere : List Object → ObjectsEdit → Type 0

@@ -16,7 +16,7 @@ use Rattle.asl_lock_forest.specs.declared.node.Node.TheVariants.{Root, Class, Le
 use Rattle.asl_lock_forest.specs.Keys.{key}
 use Rattle.asl_lock_forest.specs.Holding.{Holding, held, is_covered, covering_mode, Covers, IsLawful}
 use Rattle.asl_lock_forest.proofs.NinePairs.{nine_pairs}
-use Rattle.asl_machine.specs.State.{Object, Frame, cell_at, class_of, size_of, with_cell, written, fresh_object}
+use Rattle.asl_machine.specs.State.{Object, Frame, cell_at, class_of, size_of, with_cell, written, new_object}
 use Rattle.asl_machine.specs.Cover.{cover}
 use Rattle.asl_machine.specs.Access.{is_protected, Points, AllPoint}
 use Rattle.asl_lock_expr.specs.Expression.{cell_of}
@@ -43,9 +43,9 @@ covered_kept e y x h c class effect apart =
 object_before : (objects : List Object) (cells class n : ℕ) (p : Object) → slice_get objects n ≡ Some p → slice_get (made_objects objects cells class) n ≡ Some p
 object_before objects cells class n p e = by_room (length objects == 65536)
   where
-    by_room : (b : Bool) → slice_get (if b then objects else objects ++ fresh_object class cells ∷ []) n ≡ Some p
+    by_room : (b : Bool) → slice_get (if b then objects else objects ++ new_object class cells ∷ []) n ≡ Some p
     by_room true = e
-    by_room false = get_before objects (fresh_object class cells ∷ []) n p e
+    by_room false = get_before objects (new_object class cells ∷ []) n p e
 
 class_kept : (e : ObjectsEdit) (objects : List Object) (n : ℕ) (p : Object) → slice_get objects n ≡ Some p → class_of (put e objects) n ≡ class_of objects n
 class_kept Same objects n p is = refl

@@ -10,7 +10,7 @@ use Rattle.asl_code.specs.declared.image.Image.{Image}
 use Rattle.asl_code.specs.declared.value.Value.{Value}
 use Rattle.asl_code.specs.declared.value.Value.TheVariants.{Int, Null, Addr}
 use Rattle.asl_code.specs.declared.value.Cell.{Cell}
-use Rattle.asl_machine.specs.State.{Object, cell_at, class_of, size_of, with_cell, written, fresh_object}
+use Rattle.asl_machine.specs.State.{Object, cell_at, class_of, size_of, with_cell, written, new_object}
 use Rattle.asl_lock_expr.specs.Expression.{cell_of}
 use Rattle.asl_machine.specs.Twin.{address_or_bounds, address_moved}
 use Rattle.asl_machine.specs.Access.{Points}
@@ -267,35 +267,35 @@ zero_points objects w e = subst (Points objects) (sym e) tt
 
 -- sound objects are sound with one more
 pub sound_made : (image : Image) (objects : List Object) (class cells : ℕ) → AreSound image objects → class < image.classes → 0 < cells → length objects < 65536 →
-    AreSound image (objects ++ fresh_object class cells ∷ [])
+    AreSound image (objects ++ new_object class cells ∷ [])
 sound_made image objects class cells sound lt some room =
-    let more = objects ++ fresh_object class cells ∷ [] in
+    let more = objects ++ new_object class cells ∷ [] in
     record {
-      classes = λ n c e. elim (either_made (option_map (λ (o : Object). o.class)) objects (fresh_object class cells) n c refl e) [
+      classes = λ n c e. elim (either_made (option_map (λ (o : Object). o.class)) objects (new_object class cells) n c refl e) [
         | inl before ↦ sound.classes n c before
         | inr is ↦ let same : class ≡ c = cc in omega arith
       ];
-      points = λ x w e. elim (either_made (option_and_then (λ (o : Object). slice_get o.cells x.offset)) objects (fresh_object class cells) x.object w refl e) [
-        | inl before ↦ points_before objects (fresh_object class cells ∷ []) w (sound.points x w before)
+      points = λ x w e. elim (either_made (option_and_then (λ (o : Object). slice_get o.cells x.offset)) objects (new_object class cells) x.object w refl e) [
+        | inl before ↦ points_before objects (new_object class cells ∷ []) w (sound.points x w before)
         | inr is ↦ zero_points more w (replicated cells x.offset (Int (pos 0)) w is)
       ];
-      sizes = λ n size e. elim (either_made (option_map (λ (o : Object). length o.cells)) objects (fresh_object class cells) n size refl e) [
+      sizes = λ n size e. elim (either_made (option_map (λ (o : Object). length o.cells)) objects (new_object class cells) n size refl e) [
         | inl before ↦ sound.sizes n size before
         | inr is ↦ let same : length (replicate {A = Value} cells (Int (pos 0))) ≡ size = cc in let l = length-replicate cells (Int (pos 0)) in omega arith
       ];
-      few = let l = length_push objects (fresh_object class cells) in omega arith;
+      few = let l = length_push objects (new_object class cells) in omega arith;
       globals = λ g c e.
           let h = sound.globals g c e in (
-            read_before (λ (o : Object). o.class) objects (fresh_object class cells ∷ []) g c h.0,
-            read_before (λ (o : Object). length o.cells) objects (fresh_object class cells ∷ []) g 1 h.1,
+            read_before (λ (o : Object). o.class) objects (new_object class cells ∷ []) g c h.0,
+            read_before (λ (o : Object). length o.cells) objects (new_object class cells ∷ []) g 1 h.1,
           );
     }
 
 -- the first cell of the object that was made is there
-pub made_points : (objects : List Object) (class cells : ℕ) → 0 < cells → Points (objects ++ fresh_object class cells ∷ []) (Addr (length objects) 0)
+pub made_points : (objects : List Object) (class cells : ℕ) → 0 < cells → Points (objects ++ new_object class cells ∷ []) (Addr (length objects) 0)
 made_points objects class cells some =
     let l = length-replicate cells (Int (pos 0)) in
-    some_is _ _ (sym (cell_from _ 0 (fresh_object class cells) (get_last objects (fresh_object class cells))))
+    some_is _ _ (sym (cell_from _ 0 (new_object class cells) (get_last objects (new_object class cells))))
     (is_there (replicate cells (Int (pos 0))) 0 (omega arith))
 
 -- an address so many cells on is that of a cell that is there

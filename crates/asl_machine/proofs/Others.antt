@@ -13,7 +13,7 @@ use Rattle.asl_lock_forest.proofs.Laws.{held_grant_other, held_release_other}
 use Rattle.asl_machine.specs.declared.fate.Fate.{Fate}
 use Rattle.asl_machine.specs.declared.fate.Fate.TheVariants as fate
 use Rattle.asl_machine.specs.declared.fault.Fault.{Fault}
-use Rattle.asl_machine.specs.State.{Object, Thread, Running, Done, Failed, State, written, fresh_object}
+use Rattle.asl_machine.specs.State.{Object, Thread, Running, Done, Failed, State, written, new_object}
 use Rattle.asl_machine.specs.Request.{request_of, locks_of}
 use Rattle.asl_machine.specs.Twin.{Place, accessed_by, register_of, objects_stored, left_by, left_at, holding_after, turn_of, step_at, step_of}
 use Rattle.asl_machine.proofs.Lists.{get_other}
@@ -85,7 +85,7 @@ module _ {B : Type 0} (f : Object → B) (same : (objects : List Object) (c : Ce
 
   instr_keeps : (image : Image) (p : Place) (i : Instr) (n : ℕ) (b : B) → option_map f (slice_get p.objects n) ≡ Some b → option_map f (slice_get (left_by image p i).objects n) ≡ Some b
   instr_keeps image p (instr.Store address from) n b e = stored_keeps p.objects (register_of p.activity.top from) (accessed_by p Write address) n b e
-  instr_keeps image p (instr.New to cells class) n b e = made_keeps p.objects (fresh_object class cells) (length p.objects == 65536) n b e
+  instr_keeps image p (instr.New to cells class) n b e = made_keeps p.objects (new_object class cells) (length p.objects == 65536) n b e
   instr_keeps image p i n b e = e
 
   left_keeps : (image : Image) (p : Place) (o : Option Instr) (n : ℕ) (b : B) → option_map f (slice_get p.objects n) ≡ Some b → option_map f (slice_get (left_at image p o).objects n) ≡ Some b

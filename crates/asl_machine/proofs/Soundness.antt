@@ -33,7 +33,7 @@ use Rattle.asl_lock_forest.proofs.Lawful.{lawful_empty, within_empty, lawful_gra
 use Rattle.asl_machine.specs.declared.fate.Fate.TheVariants as fate
 use Rattle.asl_machine.specs.declared.fault.Fault.{Fault}
 use Rattle.asl_machine.specs.declared.fault.Fault.TheVariants as fault
-use Rattle.asl_machine.specs.State.{Object, Frame, Activity, Thread, Running, Done, Failed, State, cell_at, class_of, size_of, written, fresh_object, activity_of, activity_at, depth_at}
+use Rattle.asl_machine.specs.State.{Object, Frame, Activity, Thread, Running, Done, Failed, State, cell_at, class_of, size_of, written, new_object, activity_of, activity_at, depth_at}
 use Rattle.asl_lock_expr.specs.Expression.{cell_of}
 use Rattle.asl_machine.specs.Access.{Points, AllPoint, AreOfClasses}
 use Rattle.asl_machine.specs.Ready.{CanDo}
@@ -296,7 +296,7 @@ follows_make : (image : Image) (s : State) (t : ℕ) (a : Activity) (h : Here im
     Follows image s t (make_left (here_place s t a) to cells class)
 unfolding grown
 follows_make image s t a h lies to cells class lt some =
-    let more = s.objects ++ fresh_object class cells ∷ [] in
+    let more = s.objects ++ new_object class cells ∷ [] in
     let few : length s.objects ≤ 65536 = h.sound.formed.objects.few in
     elim (length s.objects == 65536) as (λ b. (length s.objects == 65536) ≡ b →
     Follows image s t (record {
@@ -308,9 +308,9 @@ follows_make image s t a h lies to cells class lt some =
       | true ↦ λ e. follows_fail image s t a fault.Full h
       | false ↦ λ e.
           let not_most : length s.objects ≢ 65536 = λ z. let f = eq-eqb (length s.objects) 65536 z in cc in
-          let grows : (v : Value) → Points s.objects v → Points more v = points_before s.objects (fresh_object class cells ∷ []) in
+          let grows : (v : Value) → Points s.objects v → Points more v = points_before s.objects (new_object class cells ∷ []) in
           follows_changes image s t a _ more h (sound_made image s.objects class cells h.sound.formed.objects lt some (omega arith)) grows
-          (λ n k f. read_before (λ (o : Object). o.class) s.objects (fresh_object class cells ∷ []) n k f)
+          (λ n k f. read_before (λ (o : Object). o.class) s.objects (new_object class cells ∷ []) n k f)
           (placed_with image more a to (Addr (length s.objects) 0) (grown image s.objects more a grows h.placed) lies (made_points s.objects class cells some)) (λ e. e)
     ] refl
 

@@ -18,7 +18,7 @@ use Rattle.asl_lock_forest.specs.Holding.{Holding, Request, CanGrant, can_grant,
 use Rattle.asl_machine.specs.declared.fate.Fate.TheVariants as fate
 use Rattle.asl_machine.specs.declared.fault.Fault.TheVariants as fault
 use Rattle.asl_machine.specs.declared.reply.Reply.TheVariants as reply
-use Rattle.asl_machine.specs.State.{Object, Frame, Activity, Thread, Running, Done, Failed, State, cell_at, size_of, fresh_object}
+use Rattle.asl_machine.specs.State.{Object, Frame, Activity, Thread, Running, Done, Failed, State, cell_at, size_of, new_object}
 use Rattle.asl_lock_expr.specs.Expression.{cell_of}
 use Rattle.asl_machine.specs.Cover.{cover}
 use Rattle.asl_machine.specs.Access.{Points}
@@ -169,7 +169,7 @@ make_line at to cells class few =
     IsLine at (instr.New to cells class) (record {
       fate = cond b (fate.Fails fault.Full) fate.GoesOn;
       activity = cond b at.activity (having_made at.activity to (length objects));
-      objects = cond b objects (objects ++ fresh_object class cells ∷ []);
+      objects = cond b objects (objects ++ new_object class cells ∷ []);
       holding = at.state.holding;
     })) [
       | true ↦ λ e. (eqb-true _ _ e, refl)

@@ -18,7 +18,7 @@ use Rattle.asl_machine.specs.declared.fault.Fault.{Fault}
 use Rattle.asl_machine.specs.declared.fault.Fault.TheVariants as fault
 use Rattle.asl_machine.specs.declared.reply.Reply.{Reply}
 use Rattle.asl_machine.specs.declared.reply.Reply.TheVariants as reply
-use Rattle.asl_machine.specs.State.{Object, Frame, Activity, Thread, Running, Done, Failed, State, cell_at, size_of, written, fresh_object}
+use Rattle.asl_machine.specs.State.{Object, Frame, Activity, Thread, Running, Done, Failed, State, cell_at, size_of, written, new_object}
 use Rattle.asl_machine.specs.Calls.{frame_count, with_register, with_result}
 use Rattle.asl_machine.specs.Cover.{cover}
 use Rattle.asl_lock_expr.specs.Expression.{cell_of}
@@ -110,7 +110,7 @@ made_by at to cells class b =
     record {
       fate = cond b (fate.Fails fault.Full) fate.GoesOn;
       activity = cond b at.activity (having_made at.activity to (length at.state.objects));
-      objects = cond b at.state.objects (at.state.objects ++ fresh_object class cells ∷ []);
+      objects = cond b at.state.objects (at.state.objects ++ new_object class cells ∷ []);
       holding = at.state.holding;
     }
 

@@ -41,8 +41,8 @@ pub record State : Type 0 where
   pub threads : List Thread
 
 -- a new object of the class, with so many cells (docs/INSTRUCTIONS.md, State)
-abbrev pub fresh_object : ℕ → ℕ → Object
-fresh_object class cells = record { class = class; cells = replicate cells (Int (pos 0)) }
+abbrev pub new_object : ℕ → ℕ → Object
+new_object class cells = record { class = class; cells = replicate cells (Int (pos 0)) }
 
 -- what a cell holds, if the cell is there (docs/INSTRUCTIONS.md, State)
 abbrev pub cell_at : List Object → Cell → Option Value

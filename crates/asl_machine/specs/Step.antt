@@ -18,7 +18,7 @@ use Rattle.asl_machine.specs.declared.fault.Fault.{Fault}
 use Rattle.asl_machine.specs.declared.fault.Fault.TheVariants as fault
 use Rattle.asl_machine.specs.declared.reply.Reply.{Reply}
 use Rattle.asl_machine.specs.declared.reply.Reply.TheVariants as reply
-use Rattle.asl_machine.specs.State.{Object, Frame, Activity, Thread, Running, Done, Failed, State, cell_at, size_of, written, fresh_object}
+use Rattle.asl_machine.specs.State.{Object, Frame, Activity, Thread, Running, Done, Failed, State, cell_at, size_of, written, new_object}
 use Rattle.asl_machine.specs.Calls.{function_of, first_frame, values_from, frame_count, with_register}
 use Rattle.asl_machine.specs.Cover.{cover}
 use Rattle.asl_machine.specs.Access.{is_protected}
@@ -213,7 +213,7 @@ pub record FailsBounds (at : At) (from places : ℕ) (new : State) : Type 0 wher
 pub record Makes (at : At) (to cells class : ℕ) (new : State) : Type 0 where
   pub room : length at.state.objects < 65536
   pub makes : new ≡ after at.state at.thread (Running (having_made at.activity to (length at.state.objects)))
-      (at.state.objects ++ fresh_object class cells ∷ []) at.state.holding
+      (at.state.objects ++ new_object class cells ∷ []) at.state.holding
 
 -- `load` of a cell that the thread may read
 pub record Loads (at : At) (to address : ℕ) (new : State) : Type 0 where

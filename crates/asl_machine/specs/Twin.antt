@@ -19,7 +19,7 @@ use Rattle.asl_machine.specs.declared.fault.Fault.{Fault}
 use Rattle.asl_machine.specs.declared.fault.Fault.TheVariants as fault
 use Rattle.asl_machine.specs.declared.reply.Reply.{Reply}
 use Rattle.asl_machine.specs.declared.reply.Reply.TheVariants as reply
-use Rattle.asl_machine.specs.State.{Object, Frame, Activity, Thread, Running, Done, Failed, State, cell_at, written, fresh_object}
+use Rattle.asl_machine.specs.State.{Object, Frame, Activity, Thread, Running, Done, Failed, State, cell_at, written, new_object}
 use Rattle.asl_machine.specs.Calls.{frame_count, with_result}
 use Rattle.asl_machine.specs.Cover.{Cover, cover}
 use Rattle.asl_machine.specs.Access.{is_protected}
@@ -121,7 +121,7 @@ activity_made objects a to = if length objects == 65536 then a else having_made 
 
 -- the objects after an object of the class with so many cells is made, where there is room for one
 abbrev pub made_objects : List Object → ℕ → ℕ → List Object
-made_objects objects cells class = if length objects == 65536 then objects else objects ++ fresh_object class cells ∷ []
+made_objects objects cells class = if length objects == 65536 then objects else objects ++ new_object class cells ∷ []
 
 -- the register gets the address of a new object, or the thread fails
 abbrev pub make_left : Place → ℕ → ℕ → ℕ → Left

@@ -26,19 +26,19 @@ impl Model for Object {
 }
 
 impl Object {
-    ghost use Rattle.asl_machine.specs.State.{with_cell, fresh_object};
+    ghost use Rattle.asl_machine.specs.State.{with_cell, new_object};
     ghost use Rattle.asl_machine.specs.Run.{global_object};
 
     /// The object of a global.
     fn of_global(alloc: Global, class: u16) -> Result<Object, AllocError>
         ensures { IfOk result (λ object. object ≡ global_object class) }
     {
-        Object::fresh(alloc, 1, class)
+        Object::new(alloc, 1, class)
     }
 
     /// A new object of the class, with so many cells.
-    fn fresh(alloc: Global, cells: u8, class: u16) -> Result<Object, AllocError>
-        ensures { IfOk result (λ object. object ≡ fresh_object class cells) }
+    fn new(alloc: Global, cells: u8, class: u16) -> Result<Object, AllocError>
+        ensures { IfOk result (λ object. object ≡ new_object class cells) }
     {
         Ok(Object {
             class,
@@ -107,7 +107,7 @@ impl Model for Heap {
 }
 
 impl Heap {
-    ghost use Rattle.asl_machine.specs.State.{cell_at, size_of, class_of, written, fresh_object};
+    ghost use Rattle.asl_machine.specs.State.{cell_at, size_of, class_of, written, new_object};
     ghost use Rattle.asl_machine.specs.Run.{global_object};
 
     /// The objects of the globals of these classes.
@@ -181,11 +181,11 @@ impl Heap {
     pub fn make(&mut self, alloc: Global, cells: u8, class: u16) -> Result<u16, AllocError>
         requires { length self.old < 65536 }
         ensures number { IfOk result (λ number. number ≡ length self.old) }
-        ensures objects { OnOk result (self.new ≡ self.old ++ fresh_object class cells ∷ []) }
+        ensures objects { OnOk result (self.new ≡ self.old ++ new_object class cells ∷ []) }
         ensures err { OnErr result (self.new ≡ self.old) }
     {
         let number = self.objects.len() as u16;
-        let object = Object::fresh(alloc, cells, class)?;
+        let object = Object::new(alloc, cells, class)?;
         self.objects.push(object)?;
         Ok(number)
     }

@@ -9,7 +9,7 @@ use Rattle.asl_code.specs.declared.value.Cell.{Cell}
 use Rattle.asl_lock_forest.specs.Holding.{Holding}
 use Rattle.asl_points_to.specs.Classes.{Classed, to, inside, Gives}
 use Rattle.asl_lock_expr.specs.Agrees.{PointsTo}
-use Rattle.asl_machine.specs.State.{Object, Frame, Activity, Thread, State, cell_at, class_of, written, fresh_object, activity_of}
+use Rattle.asl_machine.specs.State.{Object, Frame, Activity, Thread, State, cell_at, class_of, written, new_object, activity_of}
 use Rattle.asl_machine.specs.Step.{after}
 use Rattle.asl_machine.proofs.Lists.{get_same, get_other, get_either, get_last, one_more, replicated}
 use Rattle.asl_machine.proofs.Heaps.{class_of-written, stored_or_old, read_before}
@@ -77,15 +77,15 @@ stored_agrees c objects cell v x agrees of p k u y at class =
     ])
 
 -- an object is made
-pub made_grows : (objects : List Object) (class n : ℕ) → Grows objects (objects ++ fresh_object class n ∷ [])
-made_grows objects class n = read_before (λ (o : Object). o.class) objects (fresh_object class n ∷ [])
+pub made_grows : (objects : List Object) (class n : ℕ) → Grows objects (objects ++ new_object class n ∷ [])
+made_grows objects class n = read_before (λ (o : Object). o.class) objects (new_object class n ∷ [])
 
-pub made_agrees : (c : Classed) (objects : List Object) (class n : ℕ) → CellsAgree c objects → CellsAgree c (objects ++ fresh_object class n ∷ [])
+pub made_agrees : (c : Classed) (objects : List Object) (class n : ℕ) → CellsAgree c objects → CellsAgree c (objects ++ new_object class n ∷ [])
 made_agrees c objects class n agrees k v y at of =
-    let more = objects ++ fresh_object class n ∷ [] in
+    let more = objects ++ new_object class n ∷ [] in
     elim (slice_get more k.object) as (λ o. slice_get more k.object ≡ o → option_and_then (λ (p : Object). slice_get p.cells k.offset) o ≡ Some v → PointsTo (class_of more) (inside c y) v) [
       | None ↦ λ is f. cc
-      | Some p ↦ λ is f. elim (one_more objects (fresh_object class n) p k.object is) [
+      | Some p ↦ λ is f. elim (one_more objects (new_object class n) p k.object is) [
         | inl old ↦
             let before : cell_at objects k ≡ Some v = ap (option_and_then (λ (q : Object). slice_get q.cells k.offset)) old ∙ f in
             let was : class_of objects k.object ≡ Some y = ap (option_map (λ (q : Object). q.class)) old ∙ sym (ap (option_map (λ (q : Object). q.class)) is) ∙ of in
@@ -97,5 +97,5 @@ made_agrees c objects class n agrees k v y at of =
     ] refl at
 
 -- its class
-pub made_class : (objects : List Object) (class n : ℕ) → class_of (objects ++ fresh_object class n ∷ []) (length objects) ≡ Some class
-made_class objects class n = ap (option_map (λ (o : Object). o.class)) (get_last objects (fresh_object class n))
+pub made_class : (objects : List Object) (class n : ℕ) → class_of (objects ++ new_object class n ∷ []) (length objects) ≡ Some class
+made_class objects class n = ap (option_map (λ (o : Object). o.class)) (get_last objects (new_object class n))

@@ -15,7 +15,7 @@ use Rattle.asl_points_to.specs.Classes.{Classed, to, inside, Gives, IsLegalAt}
 use Rattle.asl_lock_expr.specs.Agrees.{PointsTo}
 use Rattle.asl_machine.specs.declared.reply.Reply.{Reply}
 use Rattle.asl_machine.specs.declared.reply.Reply.TheVariants as reply
-use Rattle.asl_machine.specs.State.{Frame, Activity, Thread, Running, Done, Failed, State, cell_at, class_of, written, fresh_object, activity_of}
+use Rattle.asl_machine.specs.State.{Frame, Activity, Thread, Running, Done, Failed, State, cell_at, class_of, written, new_object, activity_of}
 use Rattle.asl_machine.specs.Calls.{first_registers, values_from, with_register}
 use Rattle.asl_machine.specs.Sound.{AreSuspended}
 use Rattle.asl_machine.specs.Step.{Line, Sets, GoesOn, after, returned}
@@ -78,7 +78,7 @@ module _ (l : Lowered) (c : Classed) (image : Image) (made : IsImageOf l c image
   -- `new`
   makes : (r cells class : ℕ) (new : State) → to c a.top.function r ≡ Some class → Line (at_of image s t a) (instr.New r cells class) reply.Ran new → Agrees c new
   makes r cells class new gives e =
-      let more = s.objects ++ fresh_object class cells ∷ [] in
+      let more = s.objects ++ new_object class cells ∷ [] in
       let grown = frames_grown c s.objects more (made_grows s.objects class cells) (a.top ∷ a.below) own in
       subst (Agrees c) (sym e.makes)
       (agrees_after c s t _ more s.holding agrees h.there (made_agrees c s.objects class cells agrees.cells) (made_grows s.objects class cells)

@@ -18,7 +18,7 @@ use Rattle.asl_lock_expr.specs.Expression.{cell_of, pointed, moved, path_cell, b
 use Rattle.asl_lock_expr.specs.ClassOf.{class_of as expr_class}
 use Rattle.asl_lock_expr.specs.Links.{View, class_lock, is_register, is_star, replaced}
 use Rattle.asl_lock_expr.proofs.Walks.{start_there, first_step, star_reads, moved_stays}
-use Rattle.asl_machine.specs.State.{Object, cell_at, class_of, fresh_object}
+use Rattle.asl_machine.specs.State.{Object, cell_at, class_of, new_object}
 use Rattle.asl_machine.specs.Access.{Points, AllPoint}
 use Rattle.asl_machine.specs.Request.{heap_of}
 use Rattle.asl_machine.specs.Cover.{Cover}
@@ -118,27 +118,27 @@ grown_protects c k t objects more regs after points globals cells e effect there
 -- ---- the thread's own `new`
 
 -- no path with a `*` leads on from a new object
-star_ends : (objects : List Object) (class n : ℕ) (ops : List Op) (cell end : Cell) → cell.object ≡ length objects → list_any is_star ops ≡ true → path_cell (heap_of (objects ++ fresh_object class n ∷ [])) ops (Some cell) ≡ Some end → ⊥
+star_ends : (objects : List Object) (class n : ℕ) (ops : List Op) (cell end : Cell) → cell.object ≡ length objects → list_any is_star ops ≡ true → path_cell (heap_of (objects ++ new_object class n ∷ [])) ops (Some cell) ≡ Some end → ⊥
 star_ends objects class n [] cell end at star e = cc
 star_ends objects class n (Off places ∷ ops) cell end at star e =
-    let s = first_step (heap_of (objects ++ fresh_object class n ∷ [])) (Off places) ops cell end e in
-    star_ends objects class n ops s.0 end (moved_stays (heap_of (objects ++ fresh_object class n ∷ [])) places cell s.0 s.1 ∙ at) star s.2
+    let s = first_step (heap_of (objects ++ new_object class n ∷ [])) (Off places) ops cell end e in
+    star_ends objects class n ops s.0 end (moved_stays (heap_of (objects ++ new_object class n ∷ [])) places cell s.0 s.1 ∙ at) star s.2
 star_ends objects class n (Deref ∷ ops) cell end at star e =
-    let s = first_step (heap_of (objects ++ fresh_object class n ∷ [])) Deref ops cell end e in
-    let r = star_reads (heap_of (objects ++ fresh_object class n ∷ [])) cell s.0 s.1 in
+    let s = first_step (heap_of (objects ++ new_object class n ∷ [])) Deref ops cell end e in
+    let r = star_reads (heap_of (objects ++ new_object class n ∷ [])) cell s.0 s.1 in
     let own : slice_get (replicate n (Int (pos 0))) cell.offset ≡ Some r.0 =
-    sym (ap (option_and_then (λ (p : Object). slice_get p.cells cell.offset)) (ap (slice_get (objects ++ fresh_object class n ∷ [])) at ∙ get_last objects (fresh_object class n))) ∙ r.1 in
+    sym (ap (option_and_then (λ (p : Object). slice_get p.cells cell.offset)) (ap (slice_get (objects ++ new_object class n ∷ [])) at ∙ get_last objects (new_object class n))) ∙ r.1 in
     let none : pointed r.0 ≡ None = ap pointed (replicated n cell.offset (Int (pos 0)) r.0 own) in
     let some = r.2 in
     cc
 
 -- `new`: an expression on the register is covered by the class of the new object, every other as before
-pub new_row : (v : View) (k : Cover) (t : ℕ) (objects : List Object) (regs : List Value) (a n class : ℕ) → a < length regs → Stands v (objects ++ fresh_object class n ∷ []) (set regs a (Addr (length objects) 0)) → AllPoint objects regs →
+pub new_row : (v : View) (k : Cover) (t : ℕ) (objects : List Object) (regs : List Value) (a n class : ℕ) → a < length regs → Stands v (objects ++ new_object class n ∷ []) (set regs a (Addr (length objects) 0)) → AllPoint objects regs →
     GlobalsPoint v.classes objects → ((cell : Cell) (w : Value) → cell_at objects cell ≡ Some w → Points objects w) →
     (e : Expr) (effect : Effect) → BaseThere v.classes e.base → AllProtected k t objects regs (replaced a e effect (cond (list_any is_star e.path) [] (class_lock effect (expr_class v.classes v.function e)))) →
-    Protected k t (objects ++ fresh_object class n ∷ []) (set regs a (Addr (length objects) 0)) (lock.Expr e effect)
+    Protected k t (objects ++ new_object class n ∷ []) (set regs a (Addr (length objects) 0)) (lock.Expr e effect)
 new_row v k t objects regs a n class lt now points globals cells e effect there all =
-    let new = objects ++ fresh_object class n ∷ [] in
+    let new = objects ++ new_object class n ∷ [] in
     let after = set regs a (Addr (length objects) 0) in
     let base : (b : Bool) → is_register a e.base ≡ b → base_cell after e.base ≡ cond {A = Option Cell} b (Some (cell_of (length objects) 0)) (base_cell regs e.base) =
     λ b is. base_set regs a (Addr (length objects) 0) e.base lt ∙ ap (λ x. cond {A = Option Cell} x (Some (cell_of (length objects) 0)) (base_cell regs e.base)) is in
@@ -151,5 +151,5 @@ new_row v k t objects regs a n class lt now points globals cells e effect there 
                 let held = subst (λ o. AllProtected k t objects regs (class_lock effect o)) y.1 m in
                 class_protects k t new effect end y.0 y.2 (held (lock.Class y.0 effect) (inl refl))
           ] refl p)
-      | false ↦ λ is p. grown_protects v.classes k t objects (fresh_object class n ∷ []) regs after points globals cells e effect there (base false is) (p (lock.Expr e effect) (inl refl))
+      | false ↦ λ is p. grown_protects v.classes k t objects (new_object class n ∷ []) regs after points globals cells e effect there (base false is) (p (lock.Expr e effect) (inl refl))
     ] refl all

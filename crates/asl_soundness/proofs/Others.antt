@@ -20,7 +20,7 @@ use Rattle.asl_points_to.specs.Classes.{Classed}
 use Rattle.asl_backward_flow.specs.Closed.{Family}
 use Rattle.asl_machine.specs.declared.reply.Reply.{Reply}
 use Rattle.asl_machine.specs.declared.reply.Reply.TheVariants as reply
-use Rattle.asl_machine.specs.State.{Object, Activity, State, cell_at, class_of, written, fresh_object}
+use Rattle.asl_machine.specs.State.{Object, Activity, State, cell_at, class_of, written, new_object}
 use Rattle.asl_machine.specs.Sound.{IsPlaced}
 use Rattle.asl_machine.specs.Cover.{cover}
 use Rattle.asl_machine.specs.Step.{Line}
@@ -78,7 +78,7 @@ module _ (c : Classed) (image : Image) (s : State) (t : ℕ) (a : Activity) (h :
   line_changes (instr.FieldAddress x y n) reply.Ran new e = same new _ refl e.sets
   line_changes (instr.Load x y) reply.Ran new e = same new _ refl e.sets
   line_changes (instr.Store x y) reply.Ran new e = stores x y new e
-  line_changes (instr.New x n site) reply.Ran new e = Adds (fresh_object (unwrap_or (slice_get c.sites site) 0) n ∷ []) (ap (λ (u : State). u.objects) e.makes)
+  line_changes (instr.New x n site) reply.Ran new e = Adds (new_object (unwrap_or (slice_get c.sites site) 0) n ∷ []) (ap (λ (u : State). u.objects) e.makes)
   line_changes (instr.Jump target) reply.Ran new e = same new _ refl e
   line_changes (instr.JumpIfZero x target) reply.Ran new (inl e) = same new _ refl e.goes_to
   line_changes (instr.JumpIfZero x target) reply.Ran new (inr e) = same new _ refl e.goes_on

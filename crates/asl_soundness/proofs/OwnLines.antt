@@ -22,7 +22,7 @@ use Rattle.asl_lock_expr.specs.Links.{View, replaced, before}
 use Rattle.asl_backward_flow.specs.Closed.{Family}
 use Rattle.asl_machine.specs.declared.reply.Reply.{Reply}
 use Rattle.asl_machine.specs.declared.reply.Reply.TheVariants as reply
-use Rattle.asl_machine.specs.State.{Object, Activity, Thread, Running, Done, Failed, State, cell_at, written, fresh_object, activity_of, activity_at}
+use Rattle.asl_machine.specs.State.{Object, Activity, Thread, Running, Done, Failed, State, cell_at, written, new_object, activity_of, activity_at}
 use Rattle.asl_machine.specs.Calls.{function_of, with_register, IsAwaited}
 use Rattle.asl_machine.specs.Cover.{cover}
 use Rattle.asl_machine.specs.Step.{Line, Sets, GoesTo, after, placed_at, advanced_with, going_on, called, returned, ReturnsTo}
@@ -104,18 +104,18 @@ module _ (l : Lowered) (c : Classed) (stores : ℕ → ℕ → Bool) (longest : 
   makes : (x n site : ℕ) (new : State) → slice_get l.code a.top.pc ≡ Some (instr.New x n site) → Agrees c new → x < length a.top.regs → Line (at_of image s t a) (classed c (instr.New x n site)) reply.Ran new → IsOwned new
   makes x n site new at agrees lt e =
       let class = unwrap_or (slice_get c.sites site) 0 in
-      let more = s.objects ++ fresh_object class n ∷ [] in
+      let more = s.objects ++ new_object class n ∷ [] in
       let b = going_on a a.depth (advanced_with x (Addr (length s.objects) 0) a.top) in
       let there = subst (Agrees c) e.makes agrees in
       let here : activity_at (set s.threads t (Running b)) t ≡ Some b = ap (option_and_then activity_of) (get_same s.threads t (Running b) q.here.there) in
       let globals = globals_point l c image q.program.made s q.structured.sound in
       let cells = q.structured.sound.formed.objects.points in
       let now : Stands v more (set a.top.regs x (Addr (length s.objects) 0)) =
-      record { cells = there.cells; frame = (there.threads t b here).0; globals = λ g z f. read_before (λ (o : Object). o.class) s.objects (fresh_object class n ∷ []) g z (globals_agree l c image q.program.made s q.structured.sound g z f) } in
+      record { cells = there.cells; frame = (there.threads t b here).0; globals = λ g z f. read_before (λ (o : Object). o.class) s.objects (new_object class n ∷ []) g z (globals_agree l c image q.program.made s q.structured.sound g z f) } in
       runs b more s.holding new
       (goes_on l c stores longest K image s t a q (instr.New x n site) a.depth (advanced_with x (Addr (length s.objects) 0) a.top) more at (next_is a.top.pc) refl (stays_closed l c stores longest K image s t a q (instr.New x n site) (a.top.pc + 1) at (next_is a.top.pc) refl) tt
       (λ d effect known all. new_row v (cover s.holding) t s.objects a.top.regs x n class lt now q.here.placed.points globals cells d effect known all)
-      (waiting_keep l c stores longest K q.program.closed q.program.based t (cover s.holding) (cover s.holding) s.objects more (made_keeps c t (cover s.holding) s.objects (fresh_object class n ∷ []) globals cells) image
+      (waiting_keep l c stores longest K q.program.closed q.program.based t (cover s.holding) (cover s.holding) s.objects more (made_keeps c t (cover s.holding) s.objects (new_object class n ∷ []) globals cells) image
       a.top.function a.top.result a.below q.here.placed.below q.has.waiting)) e.makes
 
   -- `call`
