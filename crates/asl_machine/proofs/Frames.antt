@@ -12,12 +12,12 @@ set_last {X = X} (z ∷ xs) x y = ap {B = List X} (λ ys. z ∷ ys) (set_last xs
 pub nearest_is : (frames : List Frame) (pushed waiting : Frame) → reverse (set (frames ++ pushed ∷ []) (length frames) waiting) ≡ waiting ∷ reverse frames
 nearest_is frames pushed waiting = ap reverse (set_last frames pushed waiting) ∙ reverse-append frames (waiting ∷ [])
 
-abbrev act : ℕ → Frame → List Frame → Activity
-act d top below = record { depth = d; top = top; below = below }
+abbrev act : ℕ → Frame → List Frame → List ℕ → Activity
+act d top below fresh = record { depth = d; top = top; below = below; fresh = fresh }
 
 -- what threads are at is the same where its parts are
-pub same_activity : (d : ℕ) (a b : Frame) (xs ys : List Frame) → a ≡ b → xs ≡ ys → act d a xs ≡ act d b ys
-same_activity d a b xs ys p q = λ i. record { depth = d; top = p i; below = q i }
+pub same_activity : (d : ℕ) (a b : Frame) (xs ys : List Frame) (fresh : List ℕ) → a ≡ b → xs ≡ ys → act d a xs fresh ≡ act d b ys fresh
+same_activity d a b xs ys fresh p q = λ i. record { depth = d; top = p i; below = q i; fresh = fresh }
 
 -- the frame that was pushed last, by its place
 pub pushed_is : (frames : List Frame) (pushed other : Frame) → get_or (frames ++ pushed ∷ []) (length frames) other ≡ pushed

@@ -11,7 +11,7 @@ use Rattle.asl_code.specs.declared.value.Value.{Value}
 use Rattle.asl_code.specs.declared.value.Value.TheVariants.{Int, Null, Addr}
 use Rattle.asl_code.specs.declared.value.Cell.{Cell}
 use Rattle.asl_machine.specs.State.{Object, cell_at, class_of, size_of, with_cell, written, new_object}
-use Rattle.asl_lock_expr.specs.Expression.{cell_of}
+use Rattle.asl_lock_expr.specs.Expression.{cell_of, pointed}
 use Rattle.asl_machine.specs.Twin.{address_or_bounds, address_moved}
 use Rattle.asl_machine.specs.Access.{Points}
 use Rattle.asl_machine.specs.Sound.{AreSound}
@@ -150,6 +150,12 @@ class_there objects cell v e =
       | None ↦ λ is f. cc
       | Some p ↦ λ is f. (p.class, ap (option_map (λ (q : Object). q.class)) is)
     ] refl e
+
+-- a value that points to a cell is an address in the cell's object
+pub pointed_value : (v : Value) (next : Cell) → pointed v ≡ Some next → (i : ℕ) × (v ≡ Addr next.object i)
+pointed_value (Int n) next e = cc
+pointed_value Null next e = cc
+pointed_value (Addr o i) next e = let is : cell_of o i ≡ next = cc in (i, ap (λ (k : Cell). Addr k.object i) is)
 
 -- what points somewhere points to an object that is there
 pub points_within : (objects : List Object) (o i : ℕ) → Points objects (Addr o i) → o < length objects

@@ -13,4 +13,8 @@ pub mod Unique
 pub mod Reached
 pub mod Runs
 pub mod Others
+pub mod Freshness
+pub mod Rising
+pub mod Apart
+pub mod ReachedApart
 pub mod Machines

@@ -1,5 +1,6 @@
 -- What every machine keeps, at its start and over a step.
-use Rattle.std.proofs.Common.{◌≡◌, ℕ, ◌<◌, ◌≤◌, List, Some, length, set, slice_get, map, ap, sym, ◌∙◌, subst, arith, length-set}
+use Rattle.std.proofs.Common.{◌≡◌, ℕ, zero, suc, ◌<◌, ◌≤◌, Bool, true, false, List, [], ◌∷◌, Some, length, get_or, set, slice_get, map, refl, ap, sym, ◌∙◌, subst, arith, length-set}
+use Rattle.std.specs.Prelude.{IsTrue}
 use Rattle.asl_code.specs.declared.image.Image.{Image}
 use Rattle.asl_code.specs.Fits.{FitsImage}
 use Rattle.asl_lock_forest.specs.Holding.{Holding, no_holding}
@@ -10,12 +11,16 @@ use Rattle.asl_machine.specs.declared.reply.Reply.{Reply}
 use Rattle.asl_machine.specs.declared.reply.Reply.TheVariants.{Blocked}
 use Rattle.asl_machine.specs.Step.{after, Step}
 use Rattle.asl_machine.specs.World.{SomeoneGoesOn}
+use Rattle.asl_machine.specs.View.{Configuration}
 use Rattle.asl_machine.proofs.Table.{step_is}
 use Rattle.asl_machine.proofs.Reached.{someone_goes_on}
 use Rattle.asl_machine.specs.Twin.{turn_of, step_of, step_at}
 use Rattle.asl_machine.specs.Sound.{IsSound}
 use Rattle.asl_machine.specs.Ready.{IsMachine}
+use Rattle.asl_machine.specs.Cover.{is_fresh}
+use Rattle.asl_machine.specs.Fresh.{fresh_of, fresh_at, AreApart}
 use Rattle.asl_machine.proofs.Soundness.{start_sound, turn_follows, length-first_threads}
+use Rattle.asl_machine.proofs.ReachedApart.{start_apart, step_of_apart}
 
 -- the state that these parts make up
 abbrev pub state_of : List Object → Holding → List Thread → State
@@ -32,6 +37,7 @@ start_machine image objects forest threads n fits few os classes counted holding
     let l : length threads ≡ n = ap length ts ∙ length-first_threads image n in
     record {
       sound = subst (IsSound image) (sym (same_state _ _ _ _ _ _ os holding ts)) (start_sound image n fits);
+      apart = subst (AreApart image) (sym (same_state _ _ _ _ _ _ os holding ts)) (start_apart image n);
       classes = classes;
       counted = counted ∙ sym l;
       few_threads = omega arith;
@@ -51,20 +57,21 @@ module _ (image : Image) (objects new_objects : List Object) (forest new_forest 
       ≡ (let turn = turn_of image t thread objects forest.holding in after (state_of objects forest.holding threads) t turn.thread turn.objects turn.holding)
   turn_state = same_state _ _ _ _ _ _ os holding (ap (set threads t) own)
 
+  -- the state after it is the twin's
+  pub step_state : state_of new_objects new_forest.holding (set threads t new_thread) ≡ (step_of image (state_of objects forest.holding threads) t).state
+  step_state =
+      turn_state ∙ sym (ap (λ o. (step_at image (state_of objects forest.holding threads) t o).state) at)
+
   -- the step keeps what a machine keeps
   pub step_machine : new_forest.classes ≡ forest.classes → new_forest.threads ≡ forest.threads → IsMachine image new_objects new_forest (set threads t new_thread)
   step_machine classes counted =
       record {
         sound = subst (IsSound image) (sym turn_state) (turn_follows image (state_of objects forest.holding threads) t thread m.sound at);
+        apart = subst (AreApart image) (sym step_state) (step_of_apart image (state_of objects forest.holding threads) t m.sound m.apart);
         classes = classes ∙ m.classes;
         counted = counted ∙ m.counted ∙ sym (length-set threads t new_thread);
         few_threads = let l = length-set threads t new_thread in let k = m.few_threads in omega arith;
       }
-
-  -- the state after it is the twin's
-  pub step_state : state_of new_objects new_forest.holding (set threads t new_thread) ≡ (step_of image (state_of objects forest.holding threads) t).state
-  step_state =
-      turn_state ∙ sym (ap (λ o. (step_at image (state_of objects forest.holding threads) t o).state) at)
 
 -- the reply is the twin's
 pub step_reply : (image : Image) (objects : List Object) (forest : Held) (threads : List Thread) (t : ℕ) (thread : Thread) → IsMachine image objects forest threads → slice_get threads t ≡ Some thread →
@@ -83,3 +90,17 @@ step_table image objects forest threads t r new m lt e f =
 pub step_blocked : (image : Image) (objects : List Object) (forest : Held) (threads : List Thread) (t : ℕ) (r : Reply) → IsMachine image objects forest threads →
     r ≡ (step_of image (state_of objects forest.holding threads) t).reply → r ≡ Blocked → SomeoneGoesOn image (state_of objects forest.holding threads)
 step_blocked image objects forest threads t r m e b = someone_goes_on image (state_of objects forest.holding threads) t m.sound (sym e ∙ b)
+
+-- the fresh objects of the thread of a number are those of the thread that stands there
+pub fresh_at_place : (threads : List Thread) (t : ℕ) (d : Thread) → t < length threads → fresh_of (get_or threads t d) ≡ fresh_at threads t
+fresh_at_place [] t d lt = absurd (omega arith)
+fresh_at_place (x ∷ threads) zero d lt = refl
+fresh_at_place (x ∷ threads) (suc t) d lt = fresh_at_place threads t d (omega arith)
+
+-- what is fresh is there, and there is some by images of version 2 alone
+pub fresh_is_there : (m : Configuration) (t o : ℕ) (b : Bool) → AreApart m.image m.state → b ≡ is_fresh (fresh_at m.state.threads t) o → IsTrue b → o < length m.state.objects
+fresh_is_there m t o b apart e is = (apart.there t o (sym e ∙ is)).1
+
+pub none_is_fresh : (m : Configuration) (t o : ℕ) (b : Bool) → AreApart m.image m.state → b ≡ is_fresh (fresh_at m.state.threads t) o → m.image.version ≡ 1 → b ≡ false
+none_is_fresh m t o true apart e one = let two = apart.version t o (sym e) in absurd (omega (arith, one, two))
+none_is_fresh m t o false apart e one = refl

@@ -33,12 +33,13 @@ use Rattle.asl_lock_forest.proofs.Lawful.{lawful_empty, within_empty, lawful_gra
 use Rattle.asl_machine.specs.declared.fate.Fate.TheVariants as fate
 use Rattle.asl_machine.specs.declared.fault.Fault.{Fault}
 use Rattle.asl_machine.specs.declared.fault.Fault.TheVariants as fault
+use Rattle.asl_machine.specs.Cover.{is_fresh}
 use Rattle.asl_machine.specs.State.{Object, Frame, Activity, Thread, Running, Done, Failed, State, cell_at, class_of, size_of, written, new_object, activity_of, activity_at, depth_at}
 use Rattle.asl_lock_expr.specs.Expression.{cell_of}
 use Rattle.asl_machine.specs.Access.{Points, AllPoint, AreOfClasses}
 use Rattle.asl_machine.specs.Ready.{CanDo}
 use Rattle.asl_machine.specs.Request.{LockOfClass, locks_of, request_of}
-use Rattle.asl_machine.specs.Step.{placed_at, advanced, advanced_with, going_on, called, returned, having_made, left_last, after, is_zero}
+use Rattle.asl_machine.specs.Step.{placed_at, advanced, advanced_with, going_on, called, returned, with_fresh, made_fresh, having_made, left_last, after, is_zero}
 use Rattle.asl_machine.specs.Twin.{Left, Place, set_left, computed, added, subtracted, compared, truth, same_value, jump_left, show_left, address_moved, make_left, loaded, accessed_by, store_left, left_alone, call_left, return_left, activity_moved, acquire_left, release_left, left_by, left_at, turn_by, turn_of, step_at, step_of, register_of}
 use Rattle.asl_machine.specs.Sound.{IsPlaced, IsSuspended, AreSuspended, AreSound, IsSound}
 use Rattle.asl_machine.specs.Ready.{IsMachine, ThreadReady}
@@ -46,6 +47,7 @@ use Rattle.asl_machine.specs.Calls.{function_of, first_registers, values_from, f
 use Rattle.asl_machine.specs.Run.{global_object, first_activity, first_thread, first_threads, start_of}
 use Rattle.asl_machine.specs.Nodes.{IsNode}
 use Rattle.asl_machine.proofs.Lists.{get_same, get_other, get_either, set_same, one_more, replicated}
+use Rattle.asl_machine.proofs.Freshness.{fresh_within}
 use Rattle.asl_machine.proofs.Heaps.{class_of-written, read_before, sound_written, points_kept, sound_made, points_before, made_points, moved_points, global_points}
 use Rattle.asl_machine.proofs.Nodes.{node_kept, granted_before, released_before, request_there}
 use Rattle.asl_machine.proofs.RequestLaws.{request_is_rooted, request_asks_modes, request_is_of_classes}
@@ -90,6 +92,11 @@ below_grown image objects more g above result (f ∷ fs) h = (
 grown : (image : Image) (objects more : List Object) (a : Activity) → ((v : Value) → Points objects v → Points more v) → IsPlaced image objects a → IsPlaced image more a
 grown image objects more a g p =
     record { function = p.function; lies = p.lies; registers = p.registers; points = λ r v e. g v (p.points r v e); depth = p.depth; below = below_grown image objects more g a.top.function a.top.result a.below p.below; few = p.few }
+
+-- it makes no difference which objects are fresh for it
+refreshed : (image : Image) (objects : List Object) (a : Activity) (fresh : List ℕ) → IsPlaced image objects a → IsPlaced image objects (with_fresh fresh a)
+refreshed image objects a fresh p =
+    record { function = p.function; lies = p.lies; registers = p.registers; points = p.points; depth = p.depth; below = p.below; few = p.few }
 
 -- the state in which they stand so is sound
 pub sound_after : (image : Image) (s : State) (t : ℕ) (thread : Thread) (objects : List Object) (holding : Holding) → IsSound image s → t < length s.threads →
@@ -293,7 +300,7 @@ follows_store image s t a h lies value (Ok cell) p =
 follows_store image s t a h lies value (Err f) p = follows_fail image s t a f h
 
 follows_make : (image : Image) (s : State) (t : ℕ) (a : Activity) (h : Here image s t a) → LiesIn image a.top.function (a.top.pc + 1) h.placed.function → (to cells class : ℕ) → class < image.classes → 0 < cells →
-    Follows image s t (make_left (here_place s t a) to cells class)
+    Follows image s t (make_left image.version (here_place s t a) to cells class)
 unfolding grown
 follows_make image s t a h lies to cells class lt some =
     let more = s.objects ++ new_object class cells ∷ [] in
@@ -301,7 +308,7 @@ follows_make image s t a h lies to cells class lt some =
     elim (length s.objects == 65536) as (λ b. (length s.objects == 65536) ≡ b →
     Follows image s t (record {
       fate = cond b (fate.Fails fault.Full) fate.GoesOn;
-      activity = cond b a (having_made a to (length s.objects));
+      activity = cond b a (having_made image.version a to (length s.objects));
       objects = cond b s.objects more;
       holding = s.holding;
     })) [
@@ -311,7 +318,8 @@ follows_make image s t a h lies to cells class lt some =
           let grows : (v : Value) → Points s.objects v → Points more v = points_before s.objects (new_object class cells ∷ []) in
           follows_changes image s t a _ more h (sound_made image s.objects class cells h.sound.formed.objects lt some (omega arith)) grows
           (λ n k f. read_before (λ (o : Object). o.class) s.objects (new_object class cells ∷ []) n k f)
-          (placed_with image more a to (Addr (length s.objects) 0) (grown image s.objects more a grows h.placed) lies (made_points s.objects class cells some)) (λ e. e)
+          (refreshed image more _ (made_fresh image.version a.depth (length s.objects) a.fresh)
+          (placed_with image more a to (Addr (length s.objects) 0) (grown image s.objects more a grows h.placed) lies (made_points s.objects class cells some))) (λ e. e)
     ] refl
 
 follows_jump : (image : Image) (s : State) (t : ℕ) (a : Activity) (h : Here image s t a) (target : ℕ) → LiesIn image a.top.function target h.placed.function →
@@ -462,7 +470,7 @@ follows_leave image s t a h lies =
         let none : a.depth ≡ 0 = eqb-true _ _ e in let one : a.depth ≡ 1 = eqb-true _ _ k in absurd (omega arith)
     by image s t a h lies true false e k = follows_fail image s t a fault.NoSection h
     by image s t a h lies false true e k =
-        follows_release image s t a _ h (placed_advanced image s.objects a 0 h.placed lies (omega arith))
+        follows_release image s t a _ h (refreshed image s.objects _ [] (placed_advanced image s.objects a 0 h.placed lies (omega arith)))
     by image s t a h lies false false e k =
         let small : a.depth ≤ 255 = h.placed.depth in
         let not_zero : a.depth ≢ 0 = λ z. let f = eq-eqb a.depth 0 z in cc in
@@ -667,6 +675,7 @@ thread_ready image objects forest threads t (Running a) m e =
         few_frames = let few = h.placed.few in omega arith;
         outside = outside_here image s t a h;
         awaited = awaited_below image objects a.top.function a.top.result a.below m.sound.fits h.placed.below;
+        fresh = fresh_within (length objects) a.fresh (λ o f. (m.apart.there t o (ap (λ x. is_fresh (option_map_or (λ (b : Activity). b.fresh) x []) o) (ap (option_and_then activity_of) e) ∙ f)).1);
       },
       subst (λ o. IsSomeAnd o (CanDo image a.top)) (sym found.1) (can_do image a a.top.function h.placed.function found.0 h.placed.registers found.2),
     )

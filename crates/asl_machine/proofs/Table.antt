@@ -123,7 +123,7 @@ found_is (Some v) h = refl
 
 load_line : (at : At) (to address : ℕ) (v : Value) → Reads at address v → Points at.state.objects v →
     IsLine at (instr.Load to address) (set_left (here_place at.state at.thread at.activity) to
-    (loaded at.state.objects (accessed (cover at.state.holding) at.state.objects at.thread at.activity.depth Read v)))
+    (loaded at.state.objects (accessed (cover at.state.holding at.activity.fresh) at.state.objects at.thread at.activity.depth Read v)))
 load_line at to address (Int x) p q = (x, p, refl)
 load_line at to address Null p q = (p, refl)
 load_line at to address (Addr o i) p q =
@@ -162,13 +162,13 @@ field_line at to from places (Addr o i) p q =
         ] refl
 
 make_line : (at : At) (to cells class : ℕ) → length at.state.objects ≤ 65536 →
-    IsLine at (instr.New to cells class) (make_left (here_place at.state at.thread at.activity) to cells class)
+    IsLine at (instr.New to cells class) (make_left at.image.version (here_place at.state at.thread at.activity) to cells class)
 make_line at to cells class few =
     let objects = at.state.objects in
     elim (length objects == 65536) as (λ b. (length objects == 65536) ≡ b →
     IsLine at (instr.New to cells class) (record {
       fate = cond b (fate.Fails fault.Full) fate.GoesOn;
-      activity = cond b at.activity (having_made at.activity to (length objects));
+      activity = cond b at.activity (having_made at.image.version at.activity to (length objects));
       objects = cond b objects (objects ++ new_object class cells ∷ []);
       holding = at.state.holding;
     })) [
@@ -177,7 +177,7 @@ make_line at to cells class few =
     ] refl
 
 store_line : (at : At) (address from : ℕ) (v w : Value) → Reads at address v → Reads at from w →
-    IsLine at (instr.Store address from) (store_left (here_place at.state at.thread at.activity) w (accessed (cover at.state.holding) at.state.objects at.thread at.activity.depth Write v))
+    IsLine at (instr.Store address from) (store_left (here_place at.state at.thread at.activity) w (accessed (cover at.state.holding at.activity.fresh) at.state.objects at.thread at.activity.depth Write v))
 store_line at address from (Int x) w p q = (x, p, refl)
 store_line at address from Null w p q = (p, refl)
 store_line at address from (Addr o i) w p q =

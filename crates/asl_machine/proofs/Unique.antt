@@ -109,18 +109,18 @@ abbrev made_by : At → ℕ → ℕ → ℕ → Bool → Left
 made_by at to cells class b =
     record {
       fate = cond b (fate.Fails fault.Full) fate.GoesOn;
-      activity = cond b at.activity (having_made at.activity to (length at.state.objects));
+      activity = cond b at.activity (having_made at.image.version at.activity to (length at.state.objects));
       objects = cond b at.state.objects (at.state.objects ++ new_object class cells ∷ []);
       holding = at.state.holding;
     }
 
 only_make : (at : At) (to cells class : ℕ) (b : Bool) (r : Reply) (n : State) → (length at.state.objects == 65536) ≡ b → IsLeft at (made_by at to cells class b) r n →
-    IsLeft at (make_left (here_place at.state at.thread at.activity) to cells class) r n
+    IsLeft at (make_left at.image.version (here_place at.state at.thread at.activity) to cells class) r n
 only_make at to cells class b r n e h = subst (λ x. IsLeft at (made_by at to cells class x) r n) (sym e) h
 
 target_is : (at : At) (effect : Effect) (r : ℕ) (v : Value) → Reads at r v →
-    accessed_by (here_place at.state at.thread at.activity) effect r ≡ accessed (cover at.state.holding) at.state.objects at.thread at.activity.depth effect v
-target_is at effect r v e = ap (accessed (cover at.state.holding) at.state.objects at.thread at.activity.depth effect) (reads_is at r v e)
+    accessed_by (here_place at.state at.thread at.activity) effect r ≡ accessed (cover at.state.holding at.activity.fresh) at.state.objects at.thread at.activity.depth effect v
+target_is at effect r v e = ap (accessed (cover at.state.holding at.activity.fresh) at.state.objects at.thread at.activity.depth effect) (reads_is at r v e)
 
 target_allowed : (at : At) (effect : Effect) (r : ℕ) (c : Cell) (b : Bool) → ReadsAddress at r c → is_allowed at effect c ≡ b →
     accessed_by (here_place at.state at.thread at.activity) effect r ≡ allowed_cell b effect c

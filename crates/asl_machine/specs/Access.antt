@@ -1,6 +1,6 @@
--- Which accesses a thread's locks allow. The rule is that of S. Cherem, T. Chilimbi, S. Gulwani,
--- "Inferring Locks for Atomic Sections" (2008): an access that no held lock protects does not happen
--- (docs/LOCKS.md, "Covered cells").
+-- Which accesses a thread may make. The rule is that of S. Cherem, T. Chilimbi, S. Gulwani, "Inferring Locks for Atomic
+-- Sections" (2008): an access that no held lock protects does not happen (docs/LOCKS.md, "Covered cells"). To it comes,
+-- by images of version 2, that what a section has made itself needs no lock (docs/LOCKS.md, "Fresh objects").
 use Rattle.std.specs.Prelude.{◌≡◌, ◌<◌, ℕ, Bool, false, ◌&&◌, nat_lt, List, Some, slice_get, IsSome}
 use Rattle.std.specs.Option.{option_map_or}
 use Rattle.asl_code.specs.declared.value.Value.{Value}
@@ -11,7 +11,7 @@ use Rattle.asl_machine.specs.Cover.{Cover, allows}
 use Rattle.asl_machine.specs.State.{Object, class_of, cell_at}
 use Rattle.asl_lock_expr.specs.Expression.{cell_of}
 
--- whether a thread that is in so many sections may access the cell: it is in one, and its locks cover the cell
+-- whether a thread that is in so many sections may access the cell: it is in one, and the cell is covered for it
 -- (docs/LOCKS.md, Covered cells)
 abbrev pub is_protected : Cover → List Object → ℕ → ℕ → Effect → Cell → Bool
 is_protected c objects thread depth effect cell =

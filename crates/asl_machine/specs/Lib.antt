@@ -7,6 +7,7 @@ pub mod Step
 pub mod Twin
 pub mod Run
 pub mod Nodes
+pub mod Fresh
 pub mod Sound
 pub mod View
 pub mod World

@@ -15,6 +15,7 @@ use Rattle.asl_machine.specs.Calls.{function_of, frame_count, IsAwaited}
 use Rattle.asl_machine.specs.Request.{LockOfClass, locks_of}
 use Rattle.asl_machine.specs.Access.{AllPoint, AreOfClasses}
 use Rattle.asl_machine.specs.Sound.{IsSound}
+use Rattle.asl_machine.specs.Fresh.{AreApart}
 
 -- where each of these functions begins, of which the first begins at this place (docs/INSTRUCTIONS.md)
 abbrev pub firsts_from : ℕ → List Function → List ℕ
@@ -52,8 +53,8 @@ CanDo image f (Acquire list) = (list < length image.lists) × All (LockOfClass i
 CanDo image f Release = Unit {0}
 
 -- what an instruction of a thread stands on: the cells that its registers point to are there, outside all sections
--- the thread holds nothing, and a frame below has the register that awaits the value of the one above
--- (docs/INSTRUCTIONS.md, What always holds)
+-- the thread holds nothing, a frame below has the register that awaits the value of the one above, and what is fresh for
+-- the thread is there (docs/INSTRUCTIONS.md, What always holds)
 pub record IsReady (image : Image) (forest : Held) (objects : List Object) (thread : ℕ) (activity : Activity) : Type 0 where
   pub fits : FitsImage image
   pub there : thread < forest.threads
@@ -65,6 +66,7 @@ pub record IsReady (image : Image) (forest : Held) (objects : List Object) (thre
   pub few_frames : frame_count activity ≤ 256
   pub outside : activity.depth ≡ 0 → HoldsNothing forest.holding thread
   pub awaited : IsAwaited activity.top.result activity.below
+  pub fresh : All (λ object. object < length objects) activity.fresh
 
 -- a running thread is ready for the instruction that it is at, and that is one that it can do
 -- (docs/INSTRUCTIONS.md, What always holds)
@@ -74,10 +76,12 @@ ThreadReady image forest objects t (Running activity) =
 ThreadReady image forest objects t (Done value) = Unit {0}
 ThreadReady image forest objects t (Failed f) = Unit {0}
 
--- what every machine keeps: its state is sound, and its forest is over its program's classes and its own threads
+-- what every machine keeps: its state is sound, its fresh objects are apart, and its forest is over its program's classes
+-- and its own threads
 -- (docs/INSTRUCTIONS.md, What always holds)
 pub record IsMachine (image : Image) (objects : List Object) (forest : Held) (threads : List Thread) : Type 0 where
   pub sound : IsSound image (record { objects = objects; holding = forest.holding; threads = threads })
+  pub apart : AreApart image (record { objects = objects; holding = forest.holding; threads = threads })
   pub classes : forest.classes ≡ image.classes
   pub counted : forest.threads ≡ length threads
   pub few_threads : length threads ≤ 128

@@ -18,7 +18,7 @@ global_object class = record { class = class; cells = Int (pos 0) ∷ [] }
 -- what thread t is at when it starts: in the entry function, with its own number as the parameter, in no section
 -- (docs/INSTRUCTIONS.md, State)
 abbrev pub first_activity : Image → ℕ → Activity
-first_activity image t = record { depth = 0; top = first_frame image image.start (Int (pos t) ∷ []) None; below = [] }
+first_activity image t = record { depth = 0; top = first_frame image image.start (Int (pos t) ∷ []) None; below = []; fresh = [] }
 
 -- thread t at its start (docs/INSTRUCTIONS.md, State)
 abbrev pub first_thread : Image → ℕ → Thread

@@ -21,12 +21,14 @@ pub record Frame : Type 0 where
   pub regs : List Value
   pub result : Option ℕ
 
--- what a running thread is at: how many sections it is in, its top frame, and the frames below, the nearest first
+-- what a running thread is at: how many sections it is in, its top frame, the frames below, the nearest first, and the
+-- objects that are fresh for it, in the order in which it made them
 -- (docs/INSTRUCTIONS.md, State)
 pub record Activity : Type 0 where
   pub depth : ℕ
   pub top : Frame
   pub below : List Frame
+  pub fresh : List ℕ
 
 -- a thread runs, or has ended with a value or by a fault (docs/INSTRUCTIONS.md, State)
 pub data Thread : Type 0 where

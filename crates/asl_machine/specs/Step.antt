@@ -1,6 +1,6 @@
 -- One step of a thread, as the instruction table says it (docs/INSTRUCTIONS.md, "A step"): a line for each instruction
 -- and each reply that it can give, named here by the instruction. A reply that an instruction never gives has no line.
-use Rattle.std.specs.Prelude.{◌≡◌, ◌≢◌, ℕ, ℤ, pos, ◌+◌, ◌-◌, ◌<◌, ◌≤◌, ◌<ℤ◌, ◌≤ℤ◌, ◌⊎◌, Bool, false, true, List, [], ◌∷◌, ◌++◌, length, Option, None, Some, slice_get, slice_set}
+use Rattle.std.specs.Prelude.{◌≡◌, ◌≢◌, ℕ, ℤ, pos, ◌+◌, ◌-◌, ◌<◌, ◌≤◌, ◌<ℤ◌, ◌≤ℤ◌, ◌⊎◌, ◌==◌, ◌&&◌, nat_lt, if◌then◌else◌, Bool, false, true, List, [], ◌∷◌, ◌++◌, length, Option, None, Some, slice_get, slice_set}
 use Rattle.std.specs.Int.{w32, int_wrapping_add, int_wrapping_sub}
 use Rattle.std.specs.Ordering.{int_eq}
 use Rattle.asl_code.specs.declared.image.Function.{Function}
@@ -45,7 +45,7 @@ advanced_with register value f = record { function = f.function; pc = f.pc + 1; 
 
 -- what the thread is at, in so many sections and with this top frame
 abbrev pub going_on : Activity → ℕ → Frame → Activity
-going_on a depth top = record { depth = depth; top = top; below = a.below }
+going_on a depth top = record { depth = depth; top = top; below = a.below; fresh = a.fresh }
 
 -- what a thread is at that has called the function: its frame is at its next instruction, and a frame of the function
 -- begins above, its parameters copied from the registers from the first one on; its value will go to the register
@@ -55,19 +55,31 @@ called image a to first function =
       depth = a.depth;
       top = first_frame image function (values_from a.top.regs first (function_of image function).params) (Some to);
       below = advanced a.top ∷ a.below;
+      fresh = a.fresh;
     }
 
 -- what a thread is at whose top frame has ended: this frame is the top one, and these are below
 abbrev pub returned : Activity → Frame → List Frame → Activity
-returned a top below = record { depth = a.depth; top = top; below = below }
+returned a top below = record { depth = a.depth; top = top; below = below; fresh = a.fresh }
 
--- what a thread is at that has made the object of this number: the register has the address of its first cell
-abbrev pub having_made : Activity → ℕ → ℕ → Activity
-having_made a to object = going_on a a.depth (advanced_with to (Addr object 0) a.top)
+-- what a thread is at, with these objects fresh for it
+abbrev pub with_fresh : List ℕ → Activity → Activity
+with_fresh fresh a = record { depth = a.depth; top = a.top; below = a.below; fresh = fresh }
 
--- what a thread is at that has left the last section that it was in
+-- the objects that are fresh for a thread that has made one, in so many sections: by an image of version 2 it is one of
+-- them, if it was made inside a section
+abbrev pub made_fresh : ℕ → ℕ → ℕ → List ℕ → List ℕ
+made_fresh version depth object fresh = if version == 2 && nat_lt 0 depth then fresh ++ object ∷ [] else fresh
+
+-- what a thread is at that has made the object of this number, by an image of this version: the register has the address
+-- of its first cell
+abbrev pub having_made : ℕ → Activity → ℕ → ℕ → Activity
+having_made version a to object =
+    with_fresh (made_fresh version a.depth object a.fresh) (going_on a a.depth (advanced_with to (Addr object 0) a.top))
+
+-- what a thread is at that has left the last section that it was in: no object is fresh for it any more
 abbrev pub left_last : Activity → Activity
-left_last a = going_on a 0 (advanced a.top)
+left_last a = with_fresh [] (going_on a 0 (advanced a.top))
 
 -- the state with this thread, these objects and this holding
 abbrev pub after : State → ℕ → Thread → List Object → Holding → State
@@ -81,9 +93,9 @@ Reads at register value = slice_get at.activity.top.regs register ≡ Some value
 abbrev pub ReadsAddress : At → ℕ → Cell → Type 0
 ReadsAddress at register cell = Reads at register (Addr cell.object cell.offset)
 
--- whether the thread's locks allow the access
+-- whether the thread may access the cell so
 abbrev pub is_allowed : At → Effect → Cell → Bool
-is_allowed at = is_protected (cover at.state.holding) at.state.objects at.thread at.activity.depth
+is_allowed at = is_protected (cover at.state.holding at.activity.fresh) at.state.objects at.thread at.activity.depth
 
 -- the thread goes on at its next instruction, with the value in the register
 abbrev pub Sets : At → ℕ → Value → State → Type 0
@@ -212,7 +224,7 @@ pub record FailsBounds (at : At) (from places : ℕ) (new : State) : Type 0 wher
 -- `new` where there is room: an object of so many cells and of this class comes last, and the register gets its address
 pub record Makes (at : At) (to cells class : ℕ) (new : State) : Type 0 where
   pub room : length at.state.objects < 65536
-  pub makes : new ≡ after at.state at.thread (Running (having_made at.activity to (length at.state.objects)))
+  pub makes : new ≡ after at.state at.thread (Running (having_made at.image.version at.activity to (length at.state.objects)))
       (at.state.objects ++ new_object class cells ∷ []) at.state.holding
 
 -- `load` of a cell that the thread may read

@@ -116,19 +116,19 @@ abbrev pub make_fate : List Object → Fate
 make_fate objects = if length objects == 65536 then fate.Fails fault.Full else fate.GoesOn
 
 -- where a thread is that makes an object, whose address goes to the register, or has no room for one
-abbrev pub activity_made : List Object → Activity → ℕ → Activity
-activity_made objects a to = if length objects == 65536 then a else having_made a to (length objects)
+abbrev pub activity_made : ℕ → List Object → Activity → ℕ → Activity
+activity_made version objects a to = if length objects == 65536 then a else having_made version a to (length objects)
 
 -- the objects after an object of the class with so many cells is made, where there is room for one
 abbrev pub made_objects : List Object → ℕ → ℕ → List Object
 made_objects objects cells class = if length objects == 65536 then objects else objects ++ new_object class cells ∷ []
 
 -- the register gets the address of a new object, or the thread fails
-abbrev pub make_left : Place → ℕ → ℕ → ℕ → Left
-make_left p to cells class =
+abbrev pub make_left : ℕ → Place → ℕ → ℕ → ℕ → Left
+make_left version p to cells class =
     record {
       fate = make_fate p.objects;
-      activity = activity_made p.objects p.activity to;
+      activity = activity_made version p.objects p.activity to;
       objects = made_objects p.objects cells class;
       holding = p.holding;
     }
@@ -146,7 +146,7 @@ accessed c objects t depth effect (Addr object offset) =
 
 -- the cell that the register holds the address of, where the thread may access it so
 abbrev pub accessed_by : Place → Effect → ℕ → Result Cell Fault
-accessed_by p effect register = accessed (cover p.holding) p.objects p.thread p.activity.depth effect (register_of p.activity.top register)
+accessed_by p effect register = accessed (cover p.holding p.activity.fresh) p.objects p.thread p.activity.depth effect (register_of p.activity.top register)
 
 -- the value of the cell
 abbrev pub loaded : List Object → Result Cell Fault → Result Value Fault
@@ -288,7 +288,7 @@ left_by image p (instr.GlobalAddress to global) = set_left p to (Ok (Addr global
 left_by image p (instr.FieldAddress to from places) = set_left p to (address_moved p.objects places (register_of p.activity.top from))
 left_by image p (instr.Load to address) = set_left p to (loaded p.objects (accessed_by p Read address))
 left_by image p (instr.Store address from) = store_left p (register_of p.activity.top from) (accessed_by p Write address)
-left_by image p (instr.New to cells class) = make_left p to cells class
+left_by image p (instr.New to cells class) = make_left image.version p to cells class
 left_by image p (instr.Jump target) = jump_left p target
 left_by image p (instr.JumpIfZero test target) =
     jump_left p (if is_zero (register_of p.activity.top test) then target else p.activity.top.pc + 1)

@@ -1,5 +1,5 @@
 //! Where a running thread is: its frames, and how many sections it is in.
-ghost use Rattle.std.specs.Prelude.{◌≡◌, ◌≢◌, ◌↔◌, IsTrue, ◌<◌, ◌≤◌, ◌+◌, ◌-◌, ◌^◌, ℕ, IfOk, IfSome, OnOk, OnErr, Some, length, slice_get, pos, ◌∷◌, []};
+ghost use Rattle.std.specs.Prelude.{◌≡◌, ◌≢◌, ◌↔◌, IsTrue, ◌<◌, ◌≤◌, ◌+◌, ◌-◌, ◌^◌, ℕ, IfOk, IfSome, OnOk, OnErr, Some, List, All, length, slice_get, pos, ◌∷◌, ◌++◌, []};
 ghost use Rattle.asl_code.specs.Fits.{FitsImage};
 ghost use Rattle.asl_machine.specs.Calls.{function_of, first_registers};
 
@@ -168,12 +168,14 @@ fn copies(alloc: Global, frames: &[Frame]) -> Result<Vec<Frame>, AllocError>
     Ok(copies)
 }
 
-/// What a running thread is at: how many sections it is in, its top frame, and the frames below, the nearest last.
+/// What a running thread is at: how many sections it is in, its top frame, the frames below, the nearest last, and the
+/// objects that are fresh for it, whose numbers rise.
 #[derive(Drop)]
 pub struct Activity {
     depth: u8,
     top: Frame,
     below: Vec<Frame>,
+    fresh: Vec<u32>,
 }
 
 impl Model for Activity {
@@ -182,7 +184,11 @@ impl Model for Activity {
 
     ghost Value = { Activity };
 
-    ghost view = { λ a. record { depth = a.depth; top = a.top; below = reverse a.below.items } };
+    ghost view = { λ a. record { depth = a.depth; top = a.top; below = reverse a.below.items; fresh = a.fresh.items } };
+
+    ghost use Rattle.std.specs.List.Sorted.{IsNonDecreasing};
+
+    ghost invariant = { λ a. IsNonDecreasing a.fresh.items };
 }
 
 impl Activity {
@@ -190,7 +196,8 @@ impl Activity {
     ghost use Rattle.asl_code.specs.Fits.{FitsImage};
     ghost use Rattle.asl_machine.specs.Calls.{frame_count, IsAwaited};
     ghost use Rattle.asl_machine.specs.Run.{first_activity};
-    ghost use Rattle.asl_machine.specs.Step.{placed_at, advanced, advanced_with, going_on, called, left_last};
+    ghost use Rattle.asl_machine.specs.Cover.{is_fresh};
+    ghost use Rattle.asl_machine.specs.Step.{placed_at, advanced, advanced_with, going_on, with_fresh, called, left_last};
     ghost use Rattle.asl_machine.specs.Twin.{register_of, activity_returned};
 
     /// What thread t is at when it starts.
@@ -203,6 +210,7 @@ impl Activity {
             depth: 0,
             top: Frame::entry(alloc, code, t)?,
             below: Vec::new(alloc),
+            fresh: Vec::new(alloc),
         })
     }
 
@@ -214,6 +222,7 @@ impl Activity {
             depth: self.depth,
             top: self.top.try_copy(alloc)?,
             below: copies(alloc, self.below.as_slice())?,
+            fresh: self.fresh.as_slice().to_vec(alloc)?,
         })
     }
 
@@ -288,12 +297,37 @@ impl Activity {
         self.top.advance();
     }
 
-    /// Leaves the last section that it is in, and goes to the next instruction.
+    /// Whether the object is fresh for the thread.
+    pub fn is_fresh(&self, object: u32) -> bool
+        ensures { result ≡ is_fresh self.now.fresh object }
+    {
+        self.fresh.as_slice().binary_search(&object).is_ok()
+    }
+
+    /// Adds the object, which is above all that are fresh for the thread, to these.
+    pub fn keep_fresh(&mut self, object: u32) -> Result<(), AllocError>
+        requires { All (λ one. one < object) self.old.fresh }
+        ensures kept { OnOk result (self.new ≡ with_fresh (self.old.fresh ++ object ∷ []) self.old) }
+        ensures err { OnErr result (self.new ≡ self.old) }
+    {
+        self.fresh.push(object)?;
+        Ok(())
+    }
+
+    /// Takes away the object that was added last to those that are fresh for the thread.
+    pub fn drop_last(&mut self)
+        ensures { (objects : List ℕ) (object : ℕ) → self.old.fresh ≡ objects ++ object ∷ [] → self.new ≡ with_fresh objects self.old }
+    {
+        let _last = self.fresh.pop();
+    }
+
+    /// Leaves the last section that it is in, and goes to the next instruction. No object is fresh for it any more.
     pub fn leave_last(&mut self)
         requires { self.old.top.pc + 1 < 2 ^ 16 }
         ensures { self.new ≡ left_last self.old }
     {
         self.depth = 0;
+        self.fresh.clear();
         self.top.advance();
     }
 

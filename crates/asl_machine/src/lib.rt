@@ -6,6 +6,7 @@ mod control;
 mod fate;
 mod fault;
 mod frame;
+mod fresh_laws;
 mod heap;
 mod laws;
 mod machine;
@@ -20,6 +21,7 @@ mod thread;
 mod values;
 
 pub use fault::{Fault, MachineFault};
+pub use fresh_laws::fresh_objects_stay_apart;
 pub use laws::{
     held_nodes_are_there, no_world_is_blocked, reached_holdings_are_lawful,
     reached_states_are_well_formed, requests_are_least, steps_have_one_line,

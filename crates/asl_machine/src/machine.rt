@@ -1,5 +1,5 @@
 //! The machine: a program, its heap, its locks and its threads.
-ghost use Rattle.std.specs.Prelude.{◌≡◌, ◌≢◌, ◌<◌, ◌≤◌, ◌↔◌, ◌⊎◌, IfOk, IfErr, OnErr, IsErrOf, IsTrue, Some, length, slice_get, option_map, option_and_then};
+ghost use Rattle.std.specs.Prelude.{◌≡◌, ◌≢◌, ◌<◌, ◌≤◌, ◌↔◌, ◌⊎◌, IfOk, IfErr, OnErr, IsErrOf, IsTrue, false, Some, length, slice_get, option_map, option_and_then};
 ghost use Rattle.asl_code.specs.Fits.{FitsImage};
 ghost use Rattle.asl_code.specs.Versions.{most_threads};
 ghost use Rattle.asl_lock_forest.specs.declared.node.Node.{Node};
@@ -55,6 +55,8 @@ impl<'p> Machine<'p> {
     ghost use Rattle.asl_machine.specs.World.{SomeoneGoesOn};
     ghost use Rattle.asl_machine.specs.View.{status_of};
     ghost use Rattle.asl_machine.specs.Nodes.{IsNode};
+    ghost use Rattle.asl_machine.specs.Cover.{is_fresh};
+    ghost use Rattle.asl_machine.specs.Fresh.{fresh_at};
     ghost use Rattle.asl_machine.specs.Sound.{IsSound, MayWantMemory};
 
     /// The machine in which n threads of the program start: 1 to as many as the program's version sets.
@@ -211,6 +213,17 @@ impl<'p> Machine<'p> {
         } else {
             Mode::NL
         }
+    }
+
+    /// Whether the object is fresh for thread t: never where the thread has ended or the object is not there, and never by
+    /// an image of version 1.
+    pub fn fresh(&self, t: u32, object: u32) -> bool
+        requires { t < length self.now.state.threads }
+        ensures fresh { result ≡ is_fresh (fresh_at self.now.state.threads t) object }
+        ensures there { IsTrue result → object < length self.now.state.objects }
+        ensures version { self.now.image.version ≡ 1 → result ≡ false }
+    {
+        self.threads[t as usize].is_fresh(object)
     }
 
     /// Whether the class that the node names, if it names one, is below the count.

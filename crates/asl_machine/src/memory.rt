@@ -1,8 +1,10 @@
-//! What instructions do to the cells of objects: they read and write those that the thread's locks cover, and make new ones.
-ghost use Rattle.std.specs.Prelude.{◌≡◌, ◌<◌, ◌≤◌, ◌+◌, ◌^◌, IfOk, OnOk, OnErr, IsSome, length};
+//! What instructions do to the cells of objects: they read and write those that are covered for the thread, and make new
+//! ones.
+ghost use Rattle.std.specs.Prelude.{◌≡◌, ◌<◌, ◌≤◌, ◌+◌, ◌++◌, ◌∷◌, [], ◌^◌, IfOk, OnOk, OnErr, IsSome, All, length};
 ghost use Rattle.asl_code.specs.declared.value.Effect.TheVariants.{Read, Write};
 ghost use Rattle.asl_machine.specs.Access.{is_protected, Points, AllPoint, AreOfClasses};
-ghost use Rattle.asl_machine.specs.State.{cell_at};
+ghost use Rattle.asl_machine.specs.State.{cell_at, new_object};
+ghost use Rattle.asl_machine.specs.Step.{with_fresh};
 ghost use Rattle.asl_machine.specs.Cover.{cover};
 ghost use Rattle.asl_machine.specs.Twin.{place, accessed_by, accessed, allowed_cell, register_of, fate_of, loaded, activity_stored, objects_stored, make_fate, activity_made, made_objects};
 
@@ -66,9 +68,11 @@ pub fn store(
     }
 }
 
-/// Makes an object and puts its address into the register, or fails where there are as many objects as there may be.
+/// Makes an object by an image of this version and puts its address into the register, or fails where there are as many
+/// objects as there may be.
 pub fn make(
     alloc: Global,
+    version: u32,
     heap: &mut Heap,
     activity: &mut Activity,
     to: u8,
@@ -76,10 +80,11 @@ pub fn make(
     class: u16,
 ) -> Result<Fate, AllocError>
     requires few { length heap.old ≤ 65536 }
+    requires fresh { All (λ one. one < length heap.old) activity.old.fresh }
     requires there { to < length activity.old.top.regs }
     requires room { activity.old.top.pc + 1 < 2 ^ 16 }
     ensures fate { IfOk result (λ fate. fate ≡ make_fate heap.old) }
-    ensures activity { OnOk result (activity.new ≡ activity_made heap.old activity.old to) }
+    ensures activity { OnOk result (activity.new ≡ activity_made version heap.old activity.old to) }
     ensures objects { OnOk result (heap.new ≡ made_objects heap.old cells class) }
     ensures memory { OnErr result (length heap.old < 65536) }
     ensures err { OnErr result (activity.new ≡ activity.old) }
@@ -88,9 +93,37 @@ pub fn make(
     if heap.len() == 65_536 {
         return Ok(Fate::Fails(Fault::Full));
     }
-    let number = heap.make(alloc, cells, class)?;
+    let number = if version == 2 && activity.depth() > 0 {
+        make_fresh(alloc, heap, activity, cells, class)?
+    } else {
+        heap.make(alloc, cells, class)?
+    };
     activity.advance_with(to, Value::Addr(number, 0));
     Ok(Fate::GoesOn)
+}
+
+/// Makes an object that is fresh for the thread, and answers its number.
+fn make_fresh(
+    alloc: Global,
+    heap: &mut Heap,
+    activity: &mut Activity,
+    cells: u8,
+    class: u16,
+) -> Result<u16, AllocError>
+    requires room { length heap.old < 65536 }
+    requires fresh { All (λ one. one < length heap.old) activity.old.fresh }
+    ensures number { IfOk result (λ number. number ≡ length heap.old) }
+    ensures activity { OnOk result (activity.new ≡ with_fresh (activity.old.fresh ++ length heap.old ∷ []) activity.old) }
+    ensures objects { OnOk result (heap.new ≡ heap.old ++ new_object class cells ∷ []) }
+    ensures err { OnErr result (activity.new ≡ activity.old) }
+    ensures err_heap { OnErr result (heap.new ≡ heap.old) }
+{
+    activity.keep_fresh(heap.len() as u32)?;
+    let made = heap.make(alloc, cells, class);
+    if made.is_err() {
+        activity.drop_last();
+    }
+    made
 }
 
 /// The cell that the register holds the address of, where the thread may access it so.
@@ -124,7 +157,7 @@ fn access(
     requires thread { t < forest.now.threads }
     requires classes { AreOfClasses forest.now.classes heap.now }
     requires points { Points heap.now value }
-    ensures value { result ≡ accessed (cover forest.now.holding) heap.now t activity.now.depth effect value }
+    ensures value { result ≡ accessed (cover forest.now.holding activity.now.fresh) heap.now t activity.now.depth effect value }
     ensures there { IfOk result (λ cell. IsSome (cell_at heap.now cell)) }
 {
     match value {
@@ -152,7 +185,7 @@ fn allow(
 ) -> Result<Cell, Fault>
     requires thread { t < forest.now.threads }
     requires classes { AreOfClasses forest.now.classes heap.now }
-    ensures { result ≡ allowed_cell (is_protected (cover forest.now.holding) heap.now t activity.now.depth effect cell) effect cell }
+    ensures { result ≡ allowed_cell (is_protected (cover forest.now.holding activity.now.fresh) heap.now t activity.now.depth effect cell) effect cell }
 {
     if is_allowed(heap, forest, t, activity, effect, cell) {
         Ok(cell)
@@ -161,7 +194,8 @@ fn allow(
     }
 }
 
-/// Whether the thread is in a section, and its locks cover the cell for the effect.
+/// Whether the thread is in a section, and the cell is covered for it: its object is fresh for the thread, or the
+/// thread's locks cover it for the effect.
 fn is_allowed(
     heap: &Heap,
     forest: &Forest,
@@ -172,13 +206,15 @@ fn is_allowed(
 ) -> bool
     requires thread { t < forest.now.threads }
     requires classes { AreOfClasses forest.now.classes heap.now }
-    ensures { result ≡ is_protected (cover forest.now.holding) heap.now t activity.now.depth effect cell }
+    ensures { result ≡ is_protected (cover forest.now.holding activity.now.fresh) heap.now t activity.now.depth effect cell }
 {
     if activity.depth() == 0 {
         return false;
     }
     match heap.class(usize::from(cell.object)) {
-        Some(class) => forest.covers(t, cell, class, effect),
+        Some(class) => {
+            activity.is_fresh(u32::from(cell.object)) || forest.covers(t, cell, class, effect)
+        }
         None => false,
     }
 }

@@ -51,7 +51,17 @@ pub fn perform(
         Instr::FieldAddress { to, from, offset } => move_on(heap, activity, to, from, offset),
         Instr::Load { to, address } => set(activity, to, load(heap, forest, t, activity, address)),
         Instr::Store { address, from } => store(heap, forest, t, activity, address, from),
-        Instr::New { to, cells, class } => make(alloc, heap, activity, to, cells, class)?,
+        Instr::New { to, cells, class } => {
+            make(
+                alloc,
+                code.program().version(),
+                heap,
+                activity,
+                to,
+                cells,
+                class,
+            )?
+        }
         Instr::Jump { target } => jump(activity, target),
         Instr::JumpIfZero { test, target } => jump_if_zero(activity, test, target),
         Instr::Call {

@@ -46,6 +46,8 @@ impl Thread {
     ghost use Rattle.std.specs.Prelude.{option_copied};
     ghost use Rattle.asl_code.specs.Fits.{FitsImage};
     ghost use Rattle.asl_machine.specs.State.{activity_of};
+    ghost use Rattle.asl_machine.specs.Cover.{is_fresh};
+    ghost use Rattle.asl_machine.specs.Fresh.{fresh_of};
     ghost use Rattle.asl_machine.specs.Run.{first_thread};
     ghost use Rattle.asl_machine.specs.View.{status_of};
 
@@ -91,6 +93,16 @@ impl Thread {
             Stage::Running(_) => Status::Running,
             Stage::Done(value) => Status::Done(*value),
             Stage::Failed(fault) => Status::Failed(*fault),
+        }
+    }
+
+    /// Whether the object is fresh for the thread: never where it has ended.
+    pub fn is_fresh(&self, object: u32) -> bool
+        ensures { result ≡ is_fresh (fresh_of self.now) object }
+    {
+        match &self.stage {
+            Stage::Running(activity) => activity.is_fresh(object),
+            Stage::Done(_) | Stage::Failed(_) => false,
         }
     }
 

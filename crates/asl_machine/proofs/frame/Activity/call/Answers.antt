@@ -19,4 +19,4 @@ returns-clause-called c =
     ∙ ap (λ (n : ℕ). reverse (set (frames ++ c.in_ok-frame.frame ∷ []) n c.swap.new.y)) last
     ∙ nearest_is frames c.in_ok-frame.frame c.swap.new.y
     ∙ ap (λ (f : Frame). f ∷ reverse frames) (c.swap.ensures.y_after ∙ c.advance.ensures) in
-    rw (← c.self.view_is) (same_activity c.self.inside.depth _ _ _ _ top below)
+    rw (← c.self.view_is) (same_activity c.self.inside.depth _ _ _ _ c.self.inside.fresh.items top below)
