@@ -1,15 +1,19 @@
 -- Guarded entries: a step inside a section changes neither what another thread's entry asks for nor whether it is granted.
-use Rattle.std.proofs.Common.{◌≡◌, ◌≢◌, ℕ, Bool, true, false, List, [], Some, Ok, Err, slice_get, length, unwrap_or, [], refl, ap, sym, ◌∙◌, subst}
+use Rattle.std.proofs.Common.{◌≡◌, ◌≢◌, ℕ, Bool, true, false, List, [], Some, Ok, Err, slice_get, length, unwrap_or, refl, ap, sym, ◌∙◌, subst, inl, inr, arith}
+use Rattle.std.specs.Prelude.{option_and_then}
+use Rattle.std.specs.Option.{option_map_or}
 use Rattle.asl_code.specs.declared.image.Image.{Image}
 use Rattle.asl_code.specs.declared.instr.Instr.TheVariants as instr
-use Rattle.asl_code.specs.declared.value.Value.{Value}
 use Rattle.asl_code.specs.declared.value.Cell.{Cell}
 use Rattle.asl_code.specs.declared.value.Effect.TheVariants.{Write}
 use Rattle.asl_code.specs.declared.lock.Lock.{Lock}
-use Rattle.asl_lock_forest.specs.Holding.{Holding, IsLawful, Covers, grant, can_grant}
+use Rattle.asl_lock_forest.specs.Holding.{IsLawful, Covers, is_covered, grant, can_grant}
 use Rattle.asl_lock_forest.proofs.Lawful.{lawful_grant}
 use Rattle.asl_lock_forest.proofs.NinePairs.{nine_pairs}
-use Rattle.asl_machine.specs.State.{Object, Running, Activity, State, class_of}
+use Rattle.asl_machine.specs.State.{Running, Activity, State, class_of, activity_of}
+use Rattle.asl_machine.specs.Cover.{is_fresh, cover, Allows}
+use Rattle.asl_machine.specs.Fresh.{IsFreshFor, AreApart}
+use Rattle.asl_machine.proofs.Freshness.{or_split}
 use Rattle.asl_machine.specs.Request.{request_of, locks_of}
 use Rattle.asl_code.specs.declared.image.Function.{Function}
 use Rattle.asl_code.specs.Fits.{FitsImage, LiesIn}
@@ -21,7 +25,7 @@ use Rattle.asl_atomicity.specs.Serial.{heard, IsGuarded, ListCovered}
 use Rattle.asl_atomicity.specs.Swapping.{EntriesUnseen}
 use Rattle.asl_atomicity.proofs.Uniform.{ObjectsEdit, Same, Stored, Made, put, Acquired, edit, uniform, place_at}
 use Rattle.asl_atomicity.proofs.Unseen.{WroteBy, covered_kept}
-use Rattle.asl_atomicity.proofs.Reaching.{is_reached}
+use Rattle.asl_atomicity.proofs.Reaching.{is_reached, run_apart}
 use Rattle.asl_atomicity.proofs.Renaming.{HasGlobals, has_globals}
 use Rattle.asl_atomicity.proofs.Growing.{request_grown}
 use Rattle.asl_atomicity.proofs.Entries.{request_same, still_free}
@@ -41,19 +45,32 @@ granted image s u b list runs at depth counts = by_test (can_grant s.holding u (
         ∙ ap (λ z. heard (reply_of (acquire_fate 0 z))) e
         ))
 
-request_kept : (objects : List Object) (h : Holding) (t u : ℕ) (regs : List Value) (ls : List Lock) (e : ObjectsEdit) → u ≢ t → IsLawful (grant h u (request_of objects regs ls)) →
-    ListCovered (grant h u (request_of objects regs ls)) u objects regs ls → WroteBy objects h t e → ((cells class : ℕ) → request_of (made_objects objects cells class) regs ls ≡ request_of objects regs ls) → request_of (put e objects) regs ls ≡ request_of objects regs ls
-request_kept objects h t u regs ls Same apart lawful covered wrote grown = refl
-request_kept objects h t u regs ls (Made cells class) apart lawful covered wrote grown = grown cells class
-request_kept objects h t u regs ls (Stored v (Err f)) apart lawful covered wrote grown = refl
-request_kept objects h t u regs ls (Stored v (Ok c0)) apart lawful covered wrote grown =
+-- thread t, which is at a, steps; thread u, which is at b, is before an entry
+request_kept : (image : Image) (s : State) → AreApart image s → (t u : ℕ) (a b : Activity) → u ≢ t → slice_get s.threads t ≡ Some (Running a) → slice_get s.threads u ≡ Some (Running b) → (ls : List Lock) → HasGlobals (length image.globals) ls → (e : ObjectsEdit) →
+    IsLawful (grant s.holding u (request_of s.objects b.top.regs ls)) → ListCovered (grant s.holding u (request_of s.objects b.top.regs ls)) u s.objects b.top.regs ls → WroteBy s.objects s.holding t a e →
+    ((cells class : ℕ) → request_of (made_objects s.objects cells class) b.top.regs ls ≡ request_of s.objects b.top.regs ls) → request_of (put e s.objects) b.top.regs ls ≡ request_of s.objects b.top.regs ls
+request_kept image s fr t u a b apart runs also ls known Same lawful covered wrote grown = refl
+request_kept image s fr t u a b apart runs also ls known (Made cells class) lawful covered wrote grown = grown cells class
+request_kept image s fr t u a b apart runs also ls known (Stored v (Err f)) lawful covered wrote grown = refl
+request_kept image s fr t u a b apart runs also ls known (Stored v (Ok c0)) lawful covered wrote grown =
     let w = wrote v c0 refl in
-    let r = request_of objects regs ls in
-    request_same objects c0 v w.3 (grant h u r) u (λ c class of reads same.
-    let at : class_of objects c.object ≡ Some w.0 = ap (λ (z : Cell). class_of objects z.object) (sym same) ∙ w.1 in
-    let one : w.0 ≡ class = (let k : Some w.0 ≡ Some class = sym at ∙ of in cc) in
-    let writes : Covers h t c class Write = subst (λ z. Covers h t c z Write) one (subst (λ z. Covers h t z w.0 Write) same w.2) in
-    nine_pairs (grant h u r) lawful u t apart c class reads (covered_kept (Acquired 0 true r) u t h c class Write (λ k. apart (sym k)) ∙ writes)) w.0 w.1 regs ls covered
+    let h = s.holding in
+    let r = request_of s.objects b.top.regs ls in
+    let still : (c : Cell) (class : ℕ) → Covers h t c class Write → Covers (grant h u r) t c class Write = λ c class writes. covered_kept (Acquired 0 true r) u t h c class Write (λ k. apart (sym k)) ∙ writes in
+    request_same s.objects c0 v w.there (grant h u r) u (IsFreshFor s t)
+    (λ c class away of reads same.
+    let at : class_of s.objects c.object ≡ Some w.class = ap (λ (z : Cell). class_of s.objects z.object) (sym same) ∙ w.of in
+    let one : w.class ≡ class = (let k : Some w.class ≡ Some class = sym at ∙ of in cc) in
+    let allowed : Allows (cover h a.fresh) t c class Write = subst (λ z. Allows (cover h a.fresh) t c z Write) one (subst (λ z. Allows (cover h a.fresh) t z w.class Write) same w.allowed) in
+    elim (or_split (is_fresh a.fresh c.object) (is_covered h t c class Write) allowed) [
+      | inl own ↦ away (ap (λ z. is_fresh (option_map_or (λ (d : Activity). d.fresh) z []) c.object) (ap (option_and_then activity_of) runs) ∙ own)
+      | inr writes ↦ nine_pairs (grant h u r) lawful u t apart c class reads (still c class writes)
+    ])
+    (λ c class away of reads o i at f. elim (fr.cells t o i c f at) [
+      | inl in_fresh ↦ away in_fresh
+      | inr held_there ↦ nine_pairs (grant h u r) lawful u t apart c class reads (still c class (held_there.1 class of))
+    ])
+    w.class w.of (length image.globals) (λ g lt f. (let le = (fr.there t g f).0 in omega (arith, lt, le))) b.top.regs (λ o f. (fr.registers u t o b apart f (ap (option_and_then activity_of) also)).0) ls known covered
 
 -- the globals that a list names are there, at its `acq`
 listed : (image : Image) (n : ℕ) (f : Function) (pc list : ℕ) → LiesIn image n pc f → FitsImage image → slice_get image.code pc ≡ Some (instr.Acquire list) → HasGlobals (length image.globals) (locks_of image list)
@@ -71,20 +88,21 @@ entries_unseen image count guarded s u t stands apart counts inside =
     let fa = instr_here image o a ha.placed sound.fits in
     let p = uniform image t a fa.0 o h in
     let wp = wrote_by image t a fa.0 o h p ha.placed.points in
+    let fr = run_apart image count s stands in
     let first = stepped image s t a fa.0 o h p inside.runs fa.1 (same_here image t a fa.0 o h) in
+    let known : (b : Activity) (list : ℕ) → slice_get s.threads u ≡ Some (Running b) → slice_get image.code b.top.pc ≡ Some (instr.Acquire list) → HasGlobals (length image.globals) (locks_of image list) =
+    λ b list runs at. (let hb = here_of image s u b sound runs in listed image b.top.function hb.placed.function b.top.pc list hb.placed.lies sound.fits at) in
     let grown : (b : Activity) (list : ℕ) → slice_get s.threads u ≡ Some (Running b) → slice_get image.code b.top.pc ≡ Some (instr.Acquire list) → (cells class : ℕ) →
     request_of (made_objects o cells class) b.top.regs (locks_of image list) ≡ request_of o b.top.regs (locks_of image list) =
     λ b list runs at cells class.
-    let hb = here_of image s u b sound runs in
-    let there = listed image b.top.function hb.placed.function b.top.pc list hb.placed.lies sound.fits at in
-    request_grown image o cells class sound.formed.objects b.top.regs hb.placed.points (locks_of image list) there in
+    request_grown image o cells class sound.formed.objects b.top.regs (here_of image s u b sound runs).placed.points (locks_of image list) (known b list runs at) in
     record {
       request = λ b list runs at depth.
           let r = request_of o b.top.regs (locks_of image list) in
           let can = can_grant-tells h u r (granted image s u b list runs at depth counts) in
           let lawful = lawful_grant h u r sound.lawful (outside_here image s u b (here_of image s u b sound runs) depth) (request_asks_modes o b.top.regs (locks_of image list)) (request_is_rooted o b.top.regs (locks_of image list)) can in
           ap (λ (w : Stepped). request_of w.state.objects b.top.regs (locks_of image list)) first
-          ∙ request_kept o h t u b.top.regs (locks_of image list) p.on_objects apart lawful (guarded s u list b (is_reached image count s stands.1.0 stands.1.1) (record { runs = runs; at = at; depth = depth })) wp (grown b list runs at);
+          ∙ request_kept image s fr t u a b apart inside.runs runs (locks_of image list) (known b list runs at) p.on_objects lawful (guarded s u list b (is_reached image count s stands.1.0 stands.1.1) (record { runs = runs; at = at; depth = depth })) wp (grown b list runs at);
       free = λ b list runs at depth.
           let r = request_of o b.top.regs (locks_of image list) in
           let is = granted image s u b list runs at depth counts in

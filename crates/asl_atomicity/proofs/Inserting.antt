@@ -27,6 +27,7 @@ use Rattle.asl_atomicity.proofs.Renamings.{then_by, none_by, reply_twice, rename
 use Rattle.asl_atomicity.proofs.RenamedSteps.{step_both}
 use Rattle.asl_atomicity.proofs.Staying.{AllEnded, steps, reached_ended, run_grows, more_reply, le_self, le_le}
 use Rattle.asl_atomicity.proofs.Making.{Crossed, both_make}
+use Rattle.asl_atomicity.proofs.Reaching.{run_apart}
 
 -- ---- what holds of more objects too
 
@@ -51,7 +52,7 @@ module _ (image : Image) (count : ℕ) (fits : FitsImage image) (guarded : IsGua
           let fa = instr_here image s.objects a (here_of image s t a sound inside.runs).placed sound.fits in
           let fb = instr_here image s.objects b (here_of image s u b sound runs).placed sound.fits in
           let same : (IsNew fa.0 → IsNew fb.0 → ⊥) → Crossed image s u t = λ one_makes.
-          let k = swapped image s u t sound apart inside (entries_unseen image count guarded s u t stands apart counts inside) b runs
+          let k = swapped image s u t sound (run_apart image count s stands) apart inside (entries_unseen image count guarded s u t stands apart counts inside) b runs
           (λ i j at also new other.
           one_makes (subst IsNew (same_Some i fa.0 (sym at ∙ fa.1)) new) (subst IsNew (same_Some j fb.0 (sym also ∙ fb.1)) other)) in
           record {
@@ -70,7 +71,7 @@ module _ (image : Image) (count : ℕ) (fits : FitsImage image) (guarded : IsGua
                   let ended : AllEnded s = subst AllEnded (sym stands.1.1) (reached_ended image count stands.1.0 fits) in
                   let at = fa.1 ∙ ap Some t_makes.3 in
                   let there = fb.1 ∙ ap Some u_makes.3 in
-                  both_make image s sound ended u t apart a b inside.runs runs t_makes.0 t_makes.1 t_makes.2 u_makes.0 u_makes.1 u_makes.2 at there full
+                  both_make image s sound (run_apart image count s stands) ended u t apart a b inside.runs runs t_makes.0 t_makes.1 t_makes.2 u_makes.0 u_makes.1 u_makes.2 at there full
             ]
           ]
 

@@ -2,6 +2,7 @@
 use Rattle.std.proofs.Common.{◌≡◌, ◌≢◌, ℕ, ◌+◌, ◌==◌, ◌<◌, ◌≤◌, ◌++◌, Bool, true, false, set, List, [], ◌∷◌, Option, Some, None, length, slice_get, unwrap_or, refl, ap, ap₂, sym, ◌∙◌, subst, inl, inr, arith}
 use Rattle.std.specs.Prelude.{if◌then◌else◌, map as each, option_map, option_and_then, IsSome}
 use Rattle.std.specs.FinMap as map
+use Rattle.std.specs.Option.{option_map_or}
 use Rattle.std.proofs.lemmas.Bool.{cases_lt}
 use Rattle.std.proofs.lemmas.Bool.Decides.{eqb_tells}
 use Rattle.std.proofs.lemmas.Option.{slice_get_past, slice_get_within}
@@ -22,16 +23,20 @@ use Rattle.asl_machine.specs.declared.fault.Fault.TheVariants as fault
 use Rattle.asl_machine.specs.declared.reply.Reply.TheVariants as reply
 use Rattle.asl_machine.specs.State.{Object, Frame, Activity, Thread, Running, Done, Failed, State, activity_of, new_object}
 use Rattle.asl_machine.specs.Access.{Points}
-use Rattle.asl_machine.specs.Step.{after, having_made}
+use Rattle.asl_machine.specs.Cover.{is_fresh}
+use Rattle.asl_machine.specs.Fresh.{AreApart}
+use Rattle.asl_machine.specs.Step.{after, made_fresh, having_made}
 use Rattle.asl_machine.specs.Sound.{IsSound, AreSuspended}
 use Rattle.asl_machine.specs.Twin.{Stepped, turn_by, left_at, step_at, step_of}
 use Rattle.asl_machine.proofs.Lists.{get_other, get_before, get_last, is_there}
 use Rattle.asl_machine.proofs.Heaps.{many_globals}
+use Rattle.asl_machine.proofs.Freshness.{fresh_got}
 use Rattle.asl_atomicity.specs.Renamed.{Renaming, value_by, node_by, reply_by, object_by, frame_by, thread_by, IsRenamed, Keeps}
 use Rattle.asl_atomicity.proofs.Crossing.{crossed, crossed_first, crossed_second, crossed_other, crossed_past, crossing, below_stays, above_apart}
 use Rattle.asl_atomicity.proofs.Uniform.{place_at}
 use Rattle.asl_atomicity.proofs.Stores.{set_set, object_of}
 use Rattle.asl_atomicity.proofs.Swaps.{of_turn}
+use Rattle.asl_atomicity.proofs.Renaming.{made_fresh_by}
 use Rattle.asl_atomicity.proofs.Renamings.{each_stays, value_stays, values_stay, fault_stays}
 use Rattle.asl_atomicity.proofs.RenamedObjects.{replicate_by}
 use Rattle.asl_atomicity.proofs.Staying.{AllEnded, points_of}
@@ -47,17 +52,17 @@ pub record Crossed (image : Image) (s : State) (u t : ℕ) : Type 0 where
 
 -- ---- a `new` with and without room
 
-abbrev new_step : State → ℕ → Activity → ℕ → ℕ → ℕ → Bool → Stepped
-new_step z x a to cells class full =
+abbrev new_step : Image → State → ℕ → Activity → ℕ → ℕ → ℕ → Bool → Stepped
+new_step image z x a to cells class full =
     of_turn z x (turn_by x (record {
       fate = if full then fate.Fails fault.Full else fate.GoesOn;
-      activity = if full then a else having_made a to (length z.objects);
+      activity = if full then a else having_made image.version a to (length z.objects);
       objects = if full then z.objects else z.objects ++ new_object class cells ∷ [];
       holding = z.holding;
     }))
 
 steps_new : (image : Image) (z : State) (x : ℕ) (a : Activity) (to cells class : ℕ) → slice_get z.threads x ≡ Some (Running a) → slice_get image.code a.top.pc ≡ Some (instr.New to cells class) →
-    step_of image z x ≡ new_step z x a to cells class (length z.objects == 65536)
+    step_of image z x ≡ new_step image z x a to cells class (length z.objects == 65536)
 steps_new image z x a to cells class runs at =
     ap (step_at image z x) runs
     ∙ ap (λ o. of_turn z x (turn_by x (left_at image (place_at x a z.objects z.holding) o))) at
@@ -86,7 +91,7 @@ module _ (xs : List Object) (y z : Object) where
 past_two : (n k : ℕ) → n ≤ k → k ≢ n → k ≢ n + 1 → n + 1 + 1 ≤ k
 past_two n k le ne also = omega (arith, le, ne, also)
 
-module _ (image : Image) (s : State) (sound : IsSound image s) (ended : AllEnded s) where
+module _ (image : Image) (s : State) (sound : IsSound image s) (fr : AreApart image s) (ended : AllEnded s) where
   abbrev n : ℕ
   n = length s.objects
 
@@ -167,25 +172,27 @@ module _ (image : Image) (s : State) (sound : IsSound image s) (ended : AllEnded
   frames_stay above result [] k = refl
   frames_stay above result (x ∷ xs) k = ap₂ {C = List Frame} (λ y ys. y ∷ ys) (frame_stays x k.0.points) (frames_stay x.function x.result xs k.1)
 
-  activity_stays : (t : ℕ) (a : Activity) → slice_get s.threads t ≡ Some (Running a) → (each (value_by f) a.top.regs ≡ a.top.regs) × (each (frame_by f) a.below ≡ a.below)
+  activity_stays : (t : ℕ) (a : Activity) → slice_get s.threads t ≡ Some (Running a) → (each (value_by f) a.top.regs ≡ a.top.regs) × (each (frame_by f) a.below ≡ a.below) × (each f a.fresh ≡ a.fresh)
   activity_stays t a is =
       let placed = sound.formed.placed t a (ap (option_and_then activity_of) is) in (
         values_stay f n stays a.top.regs (λ r v e. points_of s.objects v (placed.points r v e)),
         frames_stay a.top.function a.top.result a.below placed.below,
+        each_stays f a.fresh (λ k o e. stays o (fr.there t o (ap (λ z. is_fresh (option_map_or (λ (d : Activity). d.fresh) z []) o) (ap (option_and_then activity_of) is) ∙ fresh_got a.fresh k o e)).1),
       )
 
   thread_stays : (t : ℕ) (x : Thread) → slice_get s.threads t ≡ Some x → thread_by f x ≡ x
   thread_stays t (Running a) is =
       let k = activity_stays t a is in
-      ap₂ (λ regs below. Running (record { depth = a.depth; top = record { function = a.top.function; pc = a.top.pc; regs = regs; result = a.top.result }; below = below })) k.0 k.1
+      λ i. Running (record { depth = a.depth; top = record { function = a.top.function; pc = a.top.pc; regs = k.0 i; result = a.top.result }; below = k.1 i; fresh = k.2 i })
   thread_stays t (Done v) is = ap Done (value_stays f n stays v (ended t (Done v) is))
   thread_stays t (Failed w) is = ap Failed (fault_stays f n stays w (ended t (Failed w) is))
 
-  made_stays : (t : ℕ) (a : Activity) (to k m : ℕ) → slice_get s.threads t ≡ Some (Running a) → f k ≡ m → thread_by f (Running (having_made a to k)) ≡ Running (having_made a to m)
+  made_stays : (t : ℕ) (a : Activity) (to k m : ℕ) → slice_get s.threads t ≡ Some (Running a) → f k ≡ m → thread_by f (Running (having_made image.version a to k)) ≡ Running (having_made image.version a to m)
   made_stays t a to k m is e =
       let stay = activity_stays t a is in
-      ap₂ (λ regs below. Running (record { depth = a.depth; top = record { function = a.top.function; pc = a.top.pc + 1; regs = regs; result = a.top.result }; below = below }))
-      (map-set (value_by f) a.top.regs to (Addr k 0) ∙ ap₂ (λ regs z. set regs to (Addr z 0)) stay.0 e) stay.1
+      let regs = map-set (value_by f) a.top.regs to (Addr k 0) ∙ ap₂ (λ regs z. set regs to (Addr z 0)) stay.0 e in
+      let fresh = sym (made_fresh_by f image.version a.depth k a.fresh) ∙ ap₂ (λ z xs. made_fresh image.version a.depth z xs) e stay.2 in
+      λ i. Running (record { depth = a.depth; top = record { function = a.top.function; pc = a.top.pc + 1; regs = regs i; result = a.top.result }; below = stay.1 i; fresh = fresh i })
 
   -- ---- both steps, in both orders
 
@@ -199,17 +206,17 @@ module _ (image : Image) (s : State) (sound : IsSound image s) (ended : AllEnded
     ft = new_object class cells
 
     abbrev su : State
-    su = after s u (Running (having_made b into n)) (s.objects ++ fu ∷ []) s.holding
+    su = after s u (Running (having_made image.version b into n)) (s.objects ++ fu ∷ []) s.holding
 
     abbrev st : State
-    st = after s t (Running (having_made a to n)) (s.objects ++ ft ∷ []) s.holding
+    st = after s t (Running (having_made image.version a to n)) (s.objects ++ ft ∷ []) s.holding
 
     runs_there : (x : Thread) (objects : List Object) → slice_get (set s.threads u x) t ≡ Some (Running a)
     runs_there x objects = get_other s.threads u t x (λ e. apart (sym e)) ∙ runs
 
     -- there was room for both
     full_after : (z : State) → slice_get z.threads t ≡ Some (Running a) → (length z.objects == 65536) ≡ true → (step_of image z t).reply ≡ reply.Fault fault.Full
-    full_after z is e = ap (λ (w : Stepped). w.reply) (steps_new image z t a to cells class is at) ∙ ap (λ b. (new_step z t a to cells class b).reply) e
+    full_after z is e = ap (λ (w : Stepped). w.reply) (steps_new image z t a to cells class is at) ∙ ap (λ b. (new_step image z t a to cells class b).reply) e
 
     room : (length s.objects == 65536) ≡ false
     room = by_test (length s.objects == 65536) refl
@@ -217,18 +224,18 @@ module _ (image : Image) (s : State) (sound : IsSound image s) (ended : AllEnded
         by_test : (b : Bool) → (length s.objects == 65536) ≡ b → b ≡ false
         by_test false e = refl
         by_test true e =
-            let first = steps_new image s u b into others other also there ∙ ap (new_step s u b into others other) e in
-            let next : State = (new_step s u b into others other true).state in
+            let first = steps_new image s u b into others other also there ∙ ap (new_step image s u b into others other) e in
+            let next : State = (new_step image s u b into others other true).state in
             absurd (full (ap (λ (w : Stepped). (step_of image w.state t).reply) first ∙ full_after next (get_other s.threads u t (Failed fault.Full) (λ k. apart (sym k)) ∙ runs) e))
 
     first_u : step_of image s u ≡ record { reply = reply.Ran; state = su }
-    first_u = steps_new image s u b into others other also there ∙ ap (new_step s u b into others other) room
+    first_u = steps_new image s u b into others other also there ∙ ap (new_step image s u b into others other) room
 
     first_t : step_of image s t ≡ record { reply = reply.Ran; state = st }
-    first_t = steps_new image s t a to cells class runs at ∙ ap (new_step s t a to cells class) room
+    first_t = steps_new image s t a to cells class runs at ∙ ap (new_step image s t a to cells class) room
 
     then_runs : slice_get su.threads t ≡ Some (Running a)
-    then_runs = get_other s.threads u t (Running (having_made b into n)) (λ e. apart (sym e)) ∙ runs
+    then_runs = get_other s.threads u t (Running (having_made image.version b into n)) (λ e. apart (sym e)) ∙ runs
 
     room_two : (length su.objects == 65536) ≡ false
     room_two = by_test (length su.objects == 65536) refl
@@ -241,22 +248,22 @@ module _ (image : Image) (s : State) (sound : IsSound image s) (ended : AllEnded
     same_length = length-append s.objects (ft ∷ []) ∙ sym (length-append s.objects (fu ∷ []))
 
     abbrev one : State
-    one = after su t (Running (having_made a to (length su.objects))) (su.objects ++ ft ∷ []) s.holding
+    one = after su t (Running (having_made image.version a to (length su.objects))) (su.objects ++ ft ∷ []) s.holding
 
     abbrev two : State
-    two = after st u (Running (having_made b into (length st.objects))) (st.objects ++ fu ∷ []) s.holding
+    two = after st u (Running (having_made image.version b into (length st.objects))) (st.objects ++ fu ∷ []) s.holding
 
     second_t : step_of image (step_of image s u).state t ≡ record { reply = reply.Ran; state = one }
     second_t =
         ap (λ (w : Stepped). step_of image w.state t) first_u
         ∙ steps_new image su t a to cells class then_runs at
-        ∙ ap (new_step su t a to cells class) room_two
+        ∙ ap (new_step image su t a to cells class) room_two
 
     second_u : step_of image (step_of image s t).state u ≡ record { reply = reply.Ran; state = two }
     second_u =
         ap (λ (w : Stepped). step_of image w.state u) first_t
-        ∙ steps_new image st u b into others other (get_other s.threads t u (Running (having_made a to n)) apart ∙ also) there
-        ∙ ap (new_step st u b into others other) (ap (λ k. k == 65536) same_length ∙ room_two)
+        ∙ steps_new image st u b into others other (get_other s.threads t u (Running (having_made image.version a to n)) apart ∙ also) there
+        ∙ ap (new_step image st u b into others other) (ap (λ k. k == 65536) same_length ∙ room_two)
 
     crossed_states : IsRenamed f one two
     crossed_states = record {
@@ -264,13 +271,13 @@ module _ (image : Image) (s : State) (sound : IsSound image s) (ended : AllEnded
       objects = objects_cross fu ft (new_stays f other others) (new_stays f class cells);
       holding = holding_cross;
       threads =
-          let new_u : thread_by f (Running (having_made b into n)) ≡ Running (having_made b into (length st.objects)) = made_stays u b into n (length st.objects) also (crossed_first n ∙ sym (length-append s.objects (ft ∷ []))) in
-          let new_t : thread_by f (Running (having_made a to (length su.objects))) ≡ Running (having_made a to n) = made_stays t a to (length su.objects) n runs (crossed_second n (length su.objects) (length-append s.objects (fu ∷ []))) in
+          let new_u : thread_by f (Running (having_made image.version b into n)) ≡ Running (having_made image.version b into (length st.objects)) = made_stays u b into n (length st.objects) also (crossed_first n ∙ sym (length-append s.objects (ft ∷ []))) in
+          let new_t : thread_by f (Running (having_made image.version a to (length su.objects))) ≡ Running (having_made image.version a to n) = made_stays t a to (length su.objects) n runs (crossed_second n (length su.objects) (length-append s.objects (fu ∷ []))) in
           sym (
-          map-set (thread_by f) (set s.threads u (Running (having_made b into n))) t (Running (having_made a to (length su.objects)))
-          ∙ ap₂ (λ ts x. set ts t x) (map-set (thread_by f) s.threads u (Running (having_made b into n))) new_t
-          ∙ ap₂ (λ ts x. set (set ts u x) t (Running (having_made a to n))) (each_stays (thread_by f) s.threads thread_stays) new_u
-          ∙ set_set s.threads u t (Running (having_made b into (length st.objects))) (Running (having_made a to n)) apart
+          map-set (thread_by f) (set s.threads u (Running (having_made image.version b into n))) t (Running (having_made image.version a to (length su.objects)))
+          ∙ ap₂ (λ ts x. set ts t x) (map-set (thread_by f) s.threads u (Running (having_made image.version b into n))) new_t
+          ∙ ap₂ (λ ts x. set (set ts u x) t (Running (having_made image.version a to n))) (each_stays (thread_by f) s.threads thread_stays) new_u
+          ∙ set_set s.threads u t (Running (having_made image.version b into (length st.objects))) (Running (having_made image.version a to n)) apart
           );
     }
 

@@ -7,8 +7,11 @@ use Rattle.asl_code.specs.declared.image.Image.{Image}
 use Rattle.asl_machine.specs.State.{State}
 use Rattle.asl_machine.specs.Run.{IsReached, start_of, state_after}
 use Rattle.asl_machine.specs.Twin.{step_of, step_at}
+use Rattle.asl_machine.specs.Fresh.{AreApart}
 use Rattle.asl_machine.proofs.Reached.{step_count}
+use Rattle.asl_machine.proofs.ReachedApart.{reached_apart}
 use Rattle.asl_machine.proofs.Soundness.{length-first_threads}
+use Rattle.asl_atomicity.specs.Swapping.{Stands}
 
 -- a schedule of threads below the count that leads from one state to the other
 record Leads (image : Image) (count : ℕ) (s to : State) : Type 0 where
@@ -32,3 +35,7 @@ pub is_reached : (image : Image) (count : ℕ) (s : State) (schedule : List ℕ)
 is_reached image count s schedule e =
     let l = leads_on image count (start_of image count) schedule (length-first_threads image count) in
     record { schedule = l.schedule; threads_there = l.there; leads = e ∙ l.leads }
+
+-- fresh objects are apart in the states of runs
+pub run_apart : (image : Image) (count : ℕ) (s : State) → Stands image count s → AreApart image s
+run_apart image count s stands = reached_apart image count s stands.0.fits (is_reached image count s stands.1.0 stands.1.1)

@@ -19,13 +19,14 @@ use Rattle.asl_machine.specs.declared.fault.Fault.TheVariants as fault
 use Rattle.asl_machine.specs.State.{Object, Activity, cell_at, with_cell, written, new_object}
 use Rattle.asl_machine.specs.Cover.{cover}
 use Rattle.asl_machine.specs.Access.{is_protected}
+use Rattle.asl_machine.specs.Step.{with_fresh, having_made}
 use Rattle.asl_machine.specs.Twin.{Left, register_of, fate_of, activity_set, set_left, computed, truth, same_value, address_or_bounds, address_moved, made_objects, make_left, allowed_cell, accessed, loaded, store_left}
 use Rattle.asl_machine.proofs.Lists.{get_same, get_other, get_before, get_last, is_there}
 use Rattle.asl_machine.proofs.Heaps.{length-written}
 use Rattle.asl_atomicity.specs.Renamed.{Renaming, value_by, cell_by, fault_by, object_by, activity_by, Keeps}
 use Rattle.asl_atomicity.proofs.Uniform.{place_at}
 use Rattle.asl_atomicity.proofs.Stores.{written_is}
-use Rattle.asl_atomicity.proofs.Renaming.{same_test, ObjectsBy, HoldingBy, register_by, new_back, protected_by, cell_at_by, moved_by}
+use Rattle.asl_atomicity.proofs.Renaming.{same_test, made_fresh_by, ObjectsBy, HoldingBy, register_by, new_back, protected_by, cell_at_by, moved_by}
 
 -- fates and results with other numbers
 abbrev pub fate_by : (ℕ → ℕ) → Fate → Fate
@@ -57,7 +58,7 @@ replicate_by f (suc n) = ap (λ z. Int (pos 0) ∷ z) (replicate_by f n)
 
 -- an activity with these registers on top
 abbrev pub with_regs : Activity → ℕ → ℕ → List Value → Activity
-with_regs a depth pc regs = record { depth = depth; top = record { function = a.top.function; pc = pc; regs = regs; result = a.top.result }; below = a.below }
+with_regs a depth pc regs = record { depth = depth; top = record { function = a.top.function; pc = pc; regs = regs; result = a.top.result }; below = a.below; fresh = a.fresh }
 
 module _ (p : Renaming) where
   set_activity : (a : Activity) (to : ℕ) (r : Result Value Fault) → activity_set (activity_by p.new a) to (value_result_by p.new r) ≡ activity_by p.new (activity_set a to r)
@@ -123,19 +124,19 @@ module _ (p : Renaming) where
     moved_address_by places Null = refl
     moved_address_by places (Addr o i) = ap address_or_bounds (moved_by p one other same places (record { object = o; offset = i })) ∙ bounds_by _
 
-    accessed_by : (effect : Effect) (v : Value) → accessed (cover g) other t a.depth effect (value_by p.new v) ≡ cell_result_by p.new (accessed (cover h) one t a.depth effect v)
+    accessed_by : (effect : Effect) (v : Value) → accessed (cover g here.fresh) other t a.depth effect (value_by p.new v) ≡ cell_result_by p.new (accessed (cover h a.fresh) one t a.depth effect v)
     accessed_by effect (Int n) = refl
     accessed_by effect Null = refl
     accessed_by effect (Addr o i) =
         let c : Cell = record { object = o; offset = i } in
-        ap (λ b. allowed_cell b effect (cell_by p.new c)) (protected_by p one other same h g holds t a.depth effect c) ∙ by_test c (is_protected (cover h) one t a.depth effect c)
+        ap (λ b. allowed_cell b effect (cell_by p.new c)) (protected_by p one other same h g holds a.fresh t a.depth effect c) ∙ by_test c (is_protected (cover h a.fresh) one t a.depth effect c)
       where
         by_test : (c : Cell) (b : Bool) → allowed_cell b effect (cell_by p.new c) ≡ cell_result_by p.new (allowed_cell b effect c)
         by_test c true = refl
         by_test c false = refl
 
-    pub accessed_register : (effect : Effect) (r : ℕ) → accessed (cover g) other t a.depth effect (register_of here.top r) ≡ cell_result_by p.new (accessed (cover h) one t a.depth effect (reg r))
-    accessed_register effect r = ap (accessed (cover g) other t a.depth effect) (reg_by r) ∙ accessed_by effect (reg r)
+    pub accessed_register : (effect : Effect) (r : ℕ) → accessed (cover g here.fresh) other t a.depth effect (register_of here.top r) ≡ cell_result_by p.new (accessed (cover h a.fresh) one t a.depth effect (reg r))
+    accessed_register effect r = ap (accessed (cover g here.fresh) other t a.depth effect) (reg_by r) ∙ accessed_by effect (reg r)
 
     abbrev pub loaded_as : Value → Result Value Fault
     loaded_as v = Ok v
@@ -239,7 +240,7 @@ module _ (p : Renaming) where
           by_room true = same k
           by_room false = more k
 
-      pub make_by : (to cells class : ℕ) → LeftBy p.new (make_left (place_at t a one h) to cells class) (make_left (place_at t here other g) to cells class)
+      pub make_by : (to cells class : ℕ) → LeftBy p.new (make_left image.version (place_at t a one h) to cells class) (make_left image.version (place_at t here other g) to cells class)
       make_by to cells class = record {
         fate = ap (λ n. if n == 65536 then fate.Fails fault.Full else fate.GoesOn) count ∙ fate_room (length one == 65536);
         activity = ap (λ n. if n == 65536 then here else having here n) count ∙ activity_room (length one == 65536);
@@ -249,7 +250,7 @@ module _ (p : Renaming) where
       }
         where
           having : Activity → ℕ → Activity
-          having b n = with_regs b b.depth (b.top.pc + 1) (set b.top.regs to (Addr n 0))
+          having b n = having_made image.version b to n
 
           fate_room : (b : Bool) → (if b then fate.Fails fault.Full else fate.GoesOn) ≡ fate_by p.new (if b then fate.Fails fault.Full else fate.GoesOn)
           fate_room true = refl
@@ -258,8 +259,8 @@ module _ (p : Renaming) where
           activity_room : (b : Bool) → (if b then here else having here (length one)) ≡ activity_by p.new (if b then a else having a (length one))
           activity_room true = refl
           activity_room false =
-              ap (λ n. with_regs here a.depth (a.top.pc + 1) (set (each (value_by p.new) a.top.regs) to (Addr n 0))) (sym (keeps.later (length one) (le_self (length one))))
-              ∙ ap (with_regs here a.depth (a.top.pc + 1)) (sym (map-set (value_by p.new) a.top.regs to (Addr (length one) 0)))
+              ap (having here) (sym (keeps.later (length one) (le_self (length one))))
+              ∙ ap₂ (λ regs fresh. with_fresh fresh (with_regs here a.depth (a.top.pc + 1) regs)) (sym (map-set (value_by p.new) a.top.regs to (Addr (length one) 0))) (made_fresh_by p.new image.version a.depth (length one) a.fresh)
             where
               le_self : (n : ℕ) → n ≤ n
               le_self n = omega arith

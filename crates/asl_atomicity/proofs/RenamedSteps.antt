@@ -92,7 +92,7 @@ module _ (p : Renaming) where
         new_top regs = record { function = function; pc = first_of image.functions function; regs = regs; result = Some to }
 
         above : List Value → Activity
-        above regs = record { depth = a.depth; top = new_top regs; below = advanced there.top ∷ there.below }
+        above regs = record { depth = a.depth; top = new_top regs; below = advanced there.top ∷ there.below; fresh = there.fresh }
 
         calling : List Value → Activity
         calling arguments = above (first_registers arguments (function_of image function).regs)
@@ -122,7 +122,7 @@ module _ (p : Renaming) where
         plain [] = record { fate = ends (a.depth == 0); activity = refl; count = count; objects = same; holding = holds }
         plain (caller ∷ others) = record {
           fate = refl;
-          activity = ap (λ z. record { depth = a.depth; top = z; below = each (frame_by p.new) others }) (result_by a.top.result v caller);
+          activity = ap (λ z. record { depth = a.depth; top = z; below = each (frame_by p.new) others; fresh = there.fresh }) (result_by a.top.result v caller);
           count = count;
           objects = same;
           holding = holds;
@@ -206,8 +206,8 @@ module _ (p : Renaming) where
       left_both (instr.FieldAddress to from places) fits =
           set_by p image t a one other h g count same holds to (address_moved one places (held from)) (address_moved other places (register_of there.top from)) (ap (address_moved other places) (reg_by p image t a one other h g count same holds from) ∙ moved_address_by p image t a one other h g count same holds places (held from))
       left_both (instr.Load to address) fits =
-          set_by p image t a one other h g count same holds to (loaded one (accessed (cover h) one t a.depth Read (held address))) (loaded other (accessed (cover g) other t a.depth Read (register_of there.top address)))
-          (ap (loaded other) (accessed_register p image t a one other h g count same holds Read address) ∙ loaded_by p image t a one other h g count same holds (accessed (cover h) one t a.depth Read (held address)))
+          set_by p image t a one other h g count same holds to (loaded one (accessed (cover h a.fresh) one t a.depth Read (held address))) (loaded other (accessed (cover g there.fresh) other t a.depth Read (register_of there.top address)))
+          (ap (loaded other) (accessed_register p image t a one other h g count same holds Read address) ∙ loaded_by p image t a one other h g count same holds (accessed (cover h a.fresh) one t a.depth Read (held address)))
       left_both (instr.Store address from) fits = store_by p image t a one other h g count same holds (held from) (register_of there.top from) _ _ (reg_by p image t a one other h g count same holds from) (accessed_register p image t a one other h g count same holds Write address)
       left_both (instr.New to cells class) fits = make_by p image t a one other h g count same holds (length image.globals) keeps to cells class
       left_both (instr.Jump target) fits = jump_by target target refl

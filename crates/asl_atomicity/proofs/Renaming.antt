@@ -1,5 +1,5 @@
 -- What other numbers for objects leave as it is: values, cells, nodes, requests and what is held.
-use Rattle.std.proofs.Common.{◌≡◌, ℕ, ◌+◌, ◌==◌, ◌<◌, ◌++◌, ◌&&◌, ◌||◌, Bool, true, false, List, [], ◌∷◌, Option, Some, None, length, slice_get, unwrap_or, refl, ap, sym, ◌∙◌, subst, inl, inr}
+use Rattle.std.proofs.Common.{◌≡◌, ℕ, ◌+◌, ◌==◌, ◌<◌, ◌++◌, ◌&&◌, ◌||◌, Bool, true, false, List, [], ◌∷◌, Option, Some, None, length, slice_get, unwrap_or, refl, ap, ap₂, sym, ◌∙◌, subst, inl, inr}
 use Rattle.std.specs.Prelude.{if◌then◌else◌, map as each, option_map, option_and_then, nat_lt, All}
 use Rattle.std.proofs.lemmas.List.Elements.{All-head, All-tail}
 use Rattle.std.specs.Option.{option_map_or}
@@ -34,7 +34,8 @@ use Rattle.asl_lock_forest.proofs.Grantable.{CanGrant-tested, can_grant-tells}
 use Rattle.asl_lock_expr.specs.Expression.{cell_of, pointed, base_cell, moved, walked, path_cell, cell_denoted}
 use Rattle.asl_machine.specs.State.{Object, cell_at, size_of, class_of}
 use Rattle.asl_machine.specs.Request.{heap_of, leaf_asks, cell_asks, asks_of, all_asks, joined_with, joined_all, request_of}
-use Rattle.asl_machine.specs.Cover.{cover}
+use Rattle.asl_machine.specs.Cover.{is_fresh, cover, allows}
+use Rattle.asl_machine.specs.Step.{made_fresh}
 use Rattle.asl_machine.specs.Access.{is_protected}
 use Rattle.asl_atomicity.specs.Renamed.{Renaming, value_by, cell_by, node_by, object_by}
 
@@ -54,6 +55,14 @@ same_bool false false to from = refl
 -- a request with other numbers
 abbrev pub request_by : (ℕ → ℕ) → Request → Request
 request_by f = each (λ (ask : Node × Mode). (node_by f ask.0, ask.1))
+
+-- what is fresh behind a `new`, with other numbers
+pub made_fresh_by : (f : ℕ → ℕ) (version depth object : ℕ) (fresh : List ℕ) → made_fresh version depth (f object) (each f fresh) ≡ each f (made_fresh version depth object fresh)
+made_fresh_by f version depth object fresh = by_test (version == 2 && nat_lt 0 depth)
+  where
+    by_test : (b : Bool) → (if b then each f fresh ++ f object ∷ [] else each f fresh) ≡ each f (if b then fresh ++ object ∷ [] else fresh)
+    by_test true = sym (map-append f fresh (object ∷ []))
+    by_test false = refl
 
 -- objects with other numbers
 abbrev pub ObjectsBy : (ℕ → ℕ) → List Object → List Object → Type 0
@@ -125,6 +134,12 @@ module _ (p : Renaming) where
     | inl same ↦ elim (tell_nodes (node_by p.new a) (node_by p.new b)) [ inl also ↦ also.0 ∙ sym same.0 | inr apart ↦ absurd (apart.1 (ap (node_by p.new) same.1)) ]
     | inr apart ↦ elim (tell_nodes (node_by p.new a) (node_by p.new b)) [ inl same ↦ absurd (apart.1 (node_back a b same.1)) | inr away ↦ away.0 ∙ sym apart.0 ]
   ]
+
+  -- ---- fresh objects
+
+  pub fresh_by : (fresh : List ℕ) (o : ℕ) → is_fresh (each p.new fresh) (p.new o) ≡ is_fresh fresh o
+  fresh_by [] o = refl
+  fresh_by (x ∷ fresh) o = ap₂ (λ a b. a || b) (same_test (p.new x) (p.new o) x o (new_back x o) (ap p.new)) (fresh_by fresh o)
 
   -- ---- requests
 
@@ -281,11 +296,11 @@ module _ (p : Renaming) where
       pub request_of_by : (ls : List Lock) → HasGlobals globals ls → request_of other (each (value_by p.new) regs) ls ≡ request_by p.new (request_of one regs ls)
       request_of_by ls there = ap (joined_all []) (all_asks_by ls there) ∙ joined_all_by (all_asks one regs ls) []
 
-    pub protected_by : (h g : Holding) → HoldingBy p.new h g → (t depth : ℕ) (effect : Effect) (c : Cell) → is_protected (cover g) other t depth effect (cell_by p.new c) ≡ is_protected (cover h) one t depth effect c
-    protected_by h g holds t depth effect c =
-        ap (λ o. nat_lt 0 depth && option_map_or (λ class. is_covered g t (cell_by p.new c) class effect) o false) (class_of_by c.object)
+    pub protected_by : (h g : Holding) → HoldingBy p.new h g → (fresh : List ℕ) (t depth : ℕ) (effect : Effect) (c : Cell) → is_protected (cover g (each p.new fresh)) other t depth effect (cell_by p.new c) ≡ is_protected (cover h fresh) one t depth effect c
+    protected_by h g holds fresh t depth effect c =
+        ap (λ o. nat_lt 0 depth && option_map_or (λ class. allows (cover g (each p.new fresh)) t (cell_by p.new c) class effect) o false) (class_of_by c.object)
         ∙ by_option (class_of one c.object)
       where
-        by_option : (o : Option ℕ) → (nat_lt 0 depth && option_map_or (λ class. is_covered g t (cell_by p.new c) class effect) o false) ≡ (nat_lt 0 depth && option_map_or (λ class. is_covered h t c class effect) o false)
+        by_option : (o : Option ℕ) → (nat_lt 0 depth && option_map_or (λ class. allows (cover g (each p.new fresh)) t (cell_by p.new c) class effect) o false) ≡ (nat_lt 0 depth && option_map_or (λ class. allows (cover h fresh) t c class effect) o false)
         by_option None = refl
-        by_option (Some class) = ap (λ b. nat_lt 0 depth && b) (covered_by h g holds t c class effect)
+        by_option (Some class) = ap₂ (λ a b. nat_lt 0 depth && (a || b)) (fresh_by fresh c.object) (covered_by h g holds t c class effect)

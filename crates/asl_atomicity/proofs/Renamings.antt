@@ -29,6 +29,14 @@ pub each_twice : {X : Type 0} (f g h : X → X) → ((x : X) → g (f x) ≡ h x
 each_twice f g h same [] = refl
 each_twice {X = X} f g h same (x ∷ xs) = ap₂ {C = List X} (λ y ys. y ∷ ys) (same x) (each_twice f g h same xs)
 
+abbrev pub at_parts : ℕ → Frame → List Frame → List ℕ → Activity
+at_parts depth top below fresh = record { depth = depth; top = top; below = below; fresh = fresh }
+
+-- what a thread is at is the same where its parts are
+pub same_parts : (depth : ℕ) {x y : Frame} {xs ys : List Frame} {fresh others : List ℕ} → x ≡ y → xs ≡ ys → fresh ≡ others →
+    at_parts depth x xs fresh ≡ at_parts depth y ys others
+same_parts depth p q r = λ i. record { depth = depth; top = p i; below = q i; fresh = r i }
+
 -- ---- one renaming after the other
 
 abbrev pub then_by : Renaming → Renaming → Renaming
@@ -75,7 +83,7 @@ module _ (f g : ℕ → ℕ) where
   frame_twice x = ap (λ z. record { function = x.function; pc = x.pc; regs = z; result = x.result }) (each_twice (value_by f) (value_by g) (value_by (λ n. g (f n))) value_twice x.regs)
 
   activity_twice : (a : Activity) → activity_by g (activity_by f a) ≡ activity_by (λ n. g (f n)) a
-  activity_twice a = ap₂ (λ x xs. record { depth = a.depth; top = x; below = xs }) (frame_twice a.top) (each_twice (frame_by f) (frame_by g) (frame_by (λ n. g (f n))) frame_twice a.below)
+  activity_twice a = same_parts a.depth (frame_twice a.top) (each_twice (frame_by f) (frame_by g) (frame_by (λ n. g (f n))) frame_twice a.below) (each_twice f g (λ n. g (f n)) (λ n. refl) a.fresh)
 
   thread_twice : (x : Thread) → thread_by g (thread_by f x) ≡ thread_by (λ n. g (f n)) x
   thread_twice (Running a) = ap Running (activity_twice a)
@@ -182,7 +190,7 @@ same_frame : (x : Frame) → frame_by (λ n. n) x ≡ x
 same_frame x = ap (λ z. record { function = x.function; pc = x.pc; regs = z; result = x.result }) (each_same (value_by (λ n. n)) same_value_by x.regs)
 
 same_thread : (x : Thread) → thread_by (λ n. n) x ≡ x
-same_thread (Running a) = ap₂ (λ x xs. Running (record { depth = a.depth; top = x; below = xs })) (same_frame a.top) (each_same (frame_by (λ n. n)) same_frame a.below)
+same_thread (Running a) = ap Running (same_parts a.depth (same_frame a.top) (each_same (frame_by (λ n. n)) same_frame a.below) (each_same (λ n. n) (λ n. refl) a.fresh))
 same_thread (Done v) = ap Done (same_value_by v)
 same_thread (Failed w) = ap Failed (same_fault_by w)
 

@@ -20,7 +20,7 @@ use Rattle.asl_machine.specs.declared.reply.Reply.{Reply}
 use Rattle.asl_machine.specs.declared.reply.Reply.TheVariants as reply
 use Rattle.asl_machine.specs.State.{Object, Frame, Activity, Thread, Running, Done, Failed, State, new_object}
 use Rattle.asl_machine.specs.Calls.{frame_count}
-use Rattle.asl_machine.specs.Cover.{cover}
+use Rattle.asl_machine.specs.Cover.{Cover, cover}
 use Rattle.asl_machine.specs.Access.{Points}
 use Rattle.asl_machine.specs.Run.{first_thread, first_threads, start_of, state_after}
 use Rattle.asl_machine.specs.Twin.{Stepped, register_of, fate_of, computed, added, subtracted, compared, address_or_bounds, address_moved, allowed_cell, accessed, loaded, fate_returned, acquire_fate, left_by, left_at, reply_of, thread_after, turn_by, step_at, step_of}
@@ -75,7 +75,7 @@ allowed_of : (count : ℕ) (b : Bool) (effect : Effect) (c : Cell) → c.object 
 allowed_of count true effect c lt = tt
 allowed_of count false effect c lt = lt
 
-accessed_of : (h : Holding) (objects : List Object) (t depth : ℕ) (effect : Effect) (v : Value) → Points objects v → ResultOf (length objects) (accessed (cover h) objects t depth effect v)
+accessed_of : (h : Cover) (objects : List Object) (t depth : ℕ) (effect : Effect) (v : Value) → Points objects v → ResultOf (length objects) (accessed h objects t depth effect v)
 accessed_of h objects t depth effect (Int n) points = tt
 accessed_of h objects t depth effect Null points = tt
 accessed_of h objects t depth effect (Addr o i) points = allowed_of (length objects) _ effect _ (points_within objects o i points)
@@ -119,8 +119,8 @@ module _ (image : Image) (t : ℕ) (a : Activity) (objects : List Object) (h : H
   left_of (instr.Equals to left right) = tt
   left_of (instr.GlobalAddress to global) = tt
   left_of (instr.FieldAddress to from places) = result_fate (length objects) _ (moved_of (length objects) objects places (register_of a.top from))
-  left_of (instr.Load to address) = result_fate (length objects) _ (loaded_of (length objects) objects _ (accessed_of h objects t a.depth Read (register_of a.top address) (points address)))
-  left_of (instr.Store address from) = result_fate (length objects) _ (accessed_of h objects t a.depth Write (register_of a.top address) (points address))
+  left_of (instr.Load to address) = result_fate (length objects) _ (loaded_of (length objects) objects _ (accessed_of (cover h a.fresh) objects t a.depth Read (register_of a.top address) (points address)))
+  left_of (instr.Store address from) = result_fate (length objects) _ (accessed_of (cover h a.fresh) objects t a.depth Write (register_of a.top address) (points address))
   left_of (instr.New to cells class) = room_of (length objects) fault.Full (length objects == 65536) tt
   left_of (instr.Jump target) = tt
   left_of (instr.JumpIfZero test target) = tt

@@ -97,12 +97,12 @@ IsThere objects (Stored value (Err f)) = Unit {0}
 IsThere objects (Made cells class) = Unit {0}
 
 -- two edits go to different cells
-abbrev pub AreApart : ObjectsEdit → ObjectsEdit → Type 0
-AreApart (Stored value (Ok c)) (Stored other (Ok d)) = c ≢ d
-AreApart (Made cells class) (Made others other) = ⊥
-AreApart e d = Unit {0}
+abbrev pub GoApart : ObjectsEdit → ObjectsEdit → Type 0
+GoApart (Stored value (Ok c)) (Stored other (Ok d)) = c ≢ d
+GoApart (Made cells class) (Made others other) = ⊥
+GoApart e d = Unit {0}
 
-pub puts_commute : (objects : List Object) (e d : ObjectsEdit) → IsThere objects e → IsThere objects d → AreApart e d → put e (put d objects) ≡ put d (put e objects)
+pub puts_commute : (objects : List Object) (e d : ObjectsEdit) → IsThere objects e → IsThere objects d → GoApart e d → put e (put d objects) ≡ put d (put e objects)
 puts_commute objects Same d there also ne = refl
 puts_commute objects (Stored v (Err f)) d there also ne = refl
 puts_commute objects (Stored v (Ok c)) Same there also ne = refl

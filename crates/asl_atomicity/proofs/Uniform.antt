@@ -60,8 +60,8 @@ IsNew i = ⊥
 -- what a thread at an instruction can see of a state is as in another one
 pub record Unseen (image : Image) (t : ℕ) (a : Activity) (i : Instr) (objects : List Object) (h : Holding) (others : List Object) (g : Holding) : Type 0 where
   pub moved : (register places : ℕ) → address_moved others places (register_of a.top register) ≡ address_moved objects places (register_of a.top register)
-  pub target : (register : ℕ) (effect : Effect) → accessed (cover g) others t a.depth effect (register_of a.top register) ≡ accessed (cover h) objects t a.depth effect (register_of a.top register)
-  pub value : (register : ℕ) → loaded others (accessed (cover h) objects t a.depth Read (register_of a.top register)) ≡ loaded objects (accessed (cover h) objects t a.depth Read (register_of a.top register))
+  pub target : (register : ℕ) (effect : Effect) → accessed (cover g a.fresh) others t a.depth effect (register_of a.top register) ≡ accessed (cover h a.fresh) objects t a.depth effect (register_of a.top register)
+  pub value : (register : ℕ) → loaded others (accessed (cover h a.fresh) objects t a.depth Read (register_of a.top register)) ≡ loaded objects (accessed (cover h a.fresh) objects t a.depth Read (register_of a.top register))
   pub number : IsNew i → length others ≡ length objects
   pub request : (list : ℕ) → i ≡ instr.Acquire list → a.depth ≡ 0 → request_of others a.top.regs (locks_of image list) ≡ request_of objects a.top.regs (locks_of image list)
   pub free : (list : ℕ) → i ≡ instr.Acquire list → a.depth ≡ 0 →
@@ -75,7 +75,7 @@ pub record Uniform (image : Image) (t : ℕ) (a : Activity) (i : Instr) (objects
   pub on_holding : HoldingEdit
   pub does : (others : List Object) (g : Holding) → Unseen image t a i objects h others g →
       turn_by t (left_by image (place_at t a others g) i) ≡ record { reply = reply; thread = thread; objects = put on_objects others; holding = edit on_holding t g }
-  pub wrote : (v : Value) (c : Cell) → on_objects ≡ Stored v (Ok c) → (register : ℕ) × (accessed (cover h) objects t a.depth Write (register_of a.top register) ≡ Ok c)
+  pub wrote : (v : Value) (c : Cell) → on_objects ≡ Stored v (Ok c) → (register : ℕ) × (accessed (cover h a.fresh) objects t a.depth Write (register_of a.top register) ≡ Ok c)
   pub makes : (cells class : ℕ) → on_objects ≡ Made cells class → IsNew i
   pub enters : (d : ℕ) (f : Bool) (r : Request) → on_holding ≡ Acquired d f r → a.depth ≡ 0
 
@@ -101,11 +101,11 @@ uniform image t a (instr.FieldAddress to from places) objects h =
     let l = set_left (place_at t a objects h) to (address_moved objects places (register_of a.top from)) in
     alone image t a (instr.FieldAddress to from places) objects h l.fate l.activity (λ others g s. ap (set_left (place_at t a others g) to) (s.moved from places))
 uniform image t a (instr.Load to address) objects h =
-    let l = set_left (place_at t a objects h) to (loaded objects (accessed (cover h) objects t a.depth Read (register_of a.top address))) in
+    let l = set_left (place_at t a objects h) to (loaded objects (accessed (cover h a.fresh) objects t a.depth Read (register_of a.top address))) in
     alone image t a (instr.Load to address) objects h l.fate l.activity
     (λ others g s. ap (λ z. set_left (place_at t a others g) to (loaded others z)) (s.target address Read) ∙ ap (set_left (place_at t a others g) to) (s.value address))
 uniform image t a (instr.Store address from) objects h =
-    let target = accessed (cover h) objects t a.depth Write (register_of a.top address) in
+    let target = accessed (cover h a.fresh) objects t a.depth Write (register_of a.top address) in
     let turn = turn_by t (store_left (place_at t a objects h) (register_of a.top from) target) in
     record {
       reply = turn.reply;
@@ -118,26 +118,26 @@ uniform image t a (instr.Store address from) objects h =
       enters = λ d f r e. cc;
     }
 uniform image t a (instr.New to cells class) objects h =
-    let l = make_left (place_at t a objects h) to cells class in
+    let l = make_left image.version (place_at t a objects h) to cells class in
     record {
       reply = (turn_by t l).reply;
       thread = (turn_by t l).thread;
       on_objects = Made cells class;
       on_holding = After l.fate;
-      does = λ others g s. ap (λ n. turn_by t (by_number a t to cells class others g n)) (s.number tt);
+      does = λ others g s. ap (λ n. turn_by t (by_number image.version a t to cells class others g n)) (s.number tt);
       wrote = λ v c e. cc;
       makes = λ n c e. tt;
       enters = λ d f r e. cc;
     }
   where
-    by_number : Activity → ℕ → ℕ → ℕ → ℕ → List Object → Holding → ℕ → Left
-    by_number a t to cells class others g n =
-        record { fate = if n == 65536 then fate.Fails fault.Full else fate.GoesOn; activity = if n == 65536 then a else having_made a to n; objects = made_objects others cells class; holding = g }
-uniform image t a (instr.Acquire list) objects h = entering a.depth a.top a.below
+    by_number : ℕ → Activity → ℕ → ℕ → ℕ → ℕ → List Object → Holding → ℕ → Left
+    by_number version a t to cells class others g n =
+        record { fate = if n == 65536 then fate.Fails fault.Full else fate.GoesOn; activity = if n == 65536 then a else having_made version a to n; objects = made_objects others cells class; holding = g }
+uniform image t a (instr.Acquire list) objects h = entering a.depth a.top a.below a.fresh
   where
-    entering : (d : ℕ) (top : Frame) (below : List Frame) → Uniform image t (record { depth = d; top = top; below = below }) (instr.Acquire list) objects h
-    entering zero top below =
-        let b : Activity = record { depth = zero; top = top; below = below } in
+    entering : (d : ℕ) (top : Frame) (below : List Frame) (fresh : List ℕ) → Uniform image t (record { depth = d; top = top; below = below; fresh = fresh }) (instr.Acquire list) objects h
+    entering zero top below fresh =
+        let b : Activity = record { depth = zero; top = top; below = below; fresh = fresh } in
         let request = request_of objects top.regs (locks_of image list) in
         let free = can_grant h t request in
         let l = acquire_left (place_at t b objects h) free request in
@@ -153,8 +153,8 @@ uniform image t a (instr.Acquire list) objects h = entering a.depth a.top a.belo
           makes = λ n c e. cc;
           enters = λ d f r e. refl;
         }
-    entering (suc d) top below =
-        let b : Activity = record { depth = suc d; top = top; below = below } in
+    entering (suc d) top below fresh =
+        let b : Activity = record { depth = suc d; top = top; below = below; fresh = fresh } in
         let l = by_test b false objects h true [] in
         let no : (suc d == 0) ≡ false = elim (eqb_tells (suc d) 0) [ inl same ↦ absurd (not_suc d same.1) | inr other ↦ other.0 ] in
         alone image t b (instr.Acquire list) objects h l.fate l.activity

@@ -57,7 +57,7 @@ abbrev pub frame_by : (ℕ → ℕ) → Frame → Frame
 frame_by f frame = record { function = frame.function; pc = frame.pc; regs = each (value_by f) frame.regs; result = frame.result }
 
 abbrev pub activity_by : (ℕ → ℕ) → Activity → Activity
-activity_by f a = record { depth = a.depth; top = frame_by f a.top; below = each (frame_by f) a.below }
+activity_by f a = record { depth = a.depth; top = frame_by f a.top; below = each (frame_by f) a.below; fresh = each f a.fresh }
 
 abbrev pub thread_by : (ℕ → ℕ) → Thread → Thread
 thread_by f (Running activity) = Running (activity_by f activity)
