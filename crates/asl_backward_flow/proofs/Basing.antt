@@ -1,7 +1,7 @@
 -- What needed locks name is there.
 use Rattle.std.proofs.Common.{◌≡◌, ⊎_elim, ℕ, ◌+◌, ◌<◌, ◌≤◌, ◌&&◌, ◌++◌, Bool, true, false, cond, List, [], ◌∷◌, Option, Some, None, length, slice_get, refl, ap, sym, ◌∙◌, subst, inl, inr, arith, length-append}
 use Rattle.std.specs.Prelude.{nat_le, nat_lt, option_and_then}
-use Rattle.std.specs.List.{flat_map, list_any}
+use Rattle.std.specs.List.{flat_map}
 use Rattle.std.proofs.lemmas.Bool.{leb-true, ltb-true}
 use Rattle.std.proofs.lemmas.Option.{slice_get_within}
 use Rattle.asl_code.specs.declared.image.Function as entry
@@ -162,8 +162,7 @@ module _ (l : Lowered) (c : Classed) (stores : ℕ → ℕ → Bool) (longest : 
     before_rough (instr.Subtract a x y) e effect ops base = replaced_rough f a e effect [] base (none_rough f)
     before_rough (instr.LessThan a x y) e effect ops base = replaced_rough f a e effect [] base (none_rough f)
     before_rough (instr.Equals a x y) e effect ops base = replaced_rough f a e effect [] base (none_rough f)
-    before_rough (instr.New a n s) e effect ops base =
-        replaced_rough f a e effect _ base (either_rough f (list_any is_star e.path) [] _ (none_rough f) (class_rough f effect (class_of c f e) (class_bounded f e)))
+    before_rough (instr.New a n s) e effect ops base = replaced_rough f a e effect [] base (none_rough f)
     before_rough (instr.Store a b) e effect ops base =
         both_rough f (cond (is_register a e.base && begins_with_star e.path) [] (lock.Expr e effect ∷ [])) (hits c (to c f a) b effect (base_class c f e.base) e.path)
         (either_rough f (is_register a e.base && begins_with_star e.path) [] (lock.Expr e effect ∷ []) (none_rough f) (one_rough f (lock.Expr e effect) base))

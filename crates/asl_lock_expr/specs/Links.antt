@@ -1,7 +1,7 @@
 -- What a lock that is needed behind an instruction becomes before it (docs/ANALYSIS.md, "Links"). In the manner of
 -- S. Cherem, T. Chilimbi, S. Gulwani, "Inferring Locks for Atomic Sections" (2008); the lines are this project's.
 use Rattle.std.specs.Prelude.{◌≡◌, ◌+◌, ℕ, Bool, true, false, ◌||◌, ◌&&◌, ◌==◌, nat_le, nat_lt, List, [], ◌∷◌, ◌++◌, ◌⊎◌, length, Option, None, Some, if◌then◌else◌, option_and_then}
-use Rattle.std.specs.List.{flat_map, list_any}
+use Rattle.std.specs.List.{flat_map}
 use Rattle.asl_code.specs.declared.value.Effect.{Effect}
 use Rattle.asl_code.specs.declared.value.Effect.TheVariants.{Read, Write}
 use Rattle.asl_code.specs.declared.lock.Base.{Base}
@@ -99,8 +99,7 @@ before v (instr.Add a x y) e effect = replaced a e effect []
 before v (instr.Subtract a x y) e effect = replaced a e effect []
 before v (instr.LessThan a x y) e effect = replaced a e effect []
 before v (instr.Equals a x y) e effect = replaced a e effect []
-before v (instr.New a n s) e effect =
-    replaced a e effect (if list_any is_star e.path then [] else class_lock effect (class_of v.classes v.function e))
+before v (instr.New a n s) e effect = replaced a e effect []
 before v (instr.Store a b) e effect =
     (if is_register a e.base && begins_with_star e.path then [] else lock.Expr e effect ∷ [])
     ++ hits v.classes (to v.classes v.function a) b effect (base_class v.classes v.function e.base) e.path

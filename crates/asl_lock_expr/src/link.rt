@@ -1,7 +1,7 @@
 //! What a lock that is needed behind an instruction becomes before it.
 ghost use Rattle.std.specs.Prelude.{◌≡◌, ◌≤◌, ◌+◌, ◌++◌, ◌∷◌, ◌&&◌, ◌||◌, [], length, OnOk, if◌then◌else◌};
 ghost use Rattle.std.specs.Option.{option_to_list};
-ghost use Rattle.std.specs.List.{flat_map, list_any};
+ghost use Rattle.std.specs.List.{flat_map};
 ghost use Rattle.asl_points_to.specs.Classes.{to};
 ghost use Rattle.asl_lock_expr.specs.ClassOf.{class_of, base_class};
 ghost use Rattle.asl_lock_expr.specs.Links.{on, settle, class_lock, is_register, is_class, is_stored_to, is_star, begins_with_star, hits, goes_through, replaced, before, link, accesses, renamed, prefixes, dereferenced};
@@ -165,8 +165,8 @@ fn add_before(
         | Instr::Add { to, .. }
         | Instr::Subtract { to, .. }
         | Instr::LessThan { to, .. }
-        | Instr::Equals { to, .. } => add_other(view, to, expr, effect, into),
-        Instr::New { to, .. } => add_made(view, to, expr, effect, into),
+        | Instr::Equals { to, .. }
+        | Instr::New { to, .. } => add_other(view, to, expr, effect, into),
         Instr::Store { address, from } => add_stored(view, address, from, expr, effect, into),
         Instr::Call { to, function, .. } => add_called(view, to, function, expr, effect, into),
         Instr::Jump { .. }
@@ -217,29 +217,6 @@ fn add_other(
         Ok(())
     } else {
         add_on(view, expr.base, &[], expr.path.as_slice(), effect, into)
-    }
-}
-
-/// An expression on register `to`, which gets a new object: without `*` it becomes its class, with `*` it is dropped.
-fn add_made(
-    view: &View,
-    to: u8,
-    expr: &Expr,
-    effect: Effect,
-    into: &mut Vec<Lock>,
-) -> Result<(), AllocError>
-    requires { view.now.longest ≤ 8 }
-    ensures { OnOk result (into.new.items
-        ≡ into.old.items ++ flat_map (settle (seen view.now)) (replaced to expr.now effect
-        (if list_any is_star expr.now.path then [] else class_lock effect (class_of view.now.classes.now view.now.function expr.now)))) }
-{
-    let ops = expr.path.as_slice();
-    if !is_register(to, expr.base) {
-        add_on(view, expr.base, &[], ops, effect, into)
-    } else if has_star(ops) {
-        Ok(())
-    } else {
-        add_class(view, expr, effect, into)
     }
 }
 
@@ -460,12 +437,6 @@ fn is_star(op: Op) -> bool
         Op::Deref => true,
         Op::Off(_) => false,
     }
-}
-
-fn has_star(ops: &[Op]) -> bool
-    ensures { result ≡ list_any is_star ops.now }
-{
-    ops.iter().any(|op| is_star(*op))
 }
 
 fn begins_with_star(ops: &[Op]) -> bool
