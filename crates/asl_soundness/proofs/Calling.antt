@@ -89,37 +89,37 @@ module _ (l : Lowered) (c : Classed) (stores : ℕ → ℕ → Bool) (longest : 
     -- what is wanted at the callee's entry, in its first frame: a parameter is its argument, other registers point nowhere
     callee_has : (regs : List Value) (r : Region) → region_of l a.top a.below ≡ Some r → IsIn l r a.top.function a.top.pc →
         ((n : ℕ) → n < callee.params → slice_get regs n ≡ slice_get a.top.regs (first + n)) → ((n : ℕ) → callee.params ≤ n → option_and_then pointed (slice_get regs n) ≡ None) →
-        (m : Lock) → K (Body g) (start_of l.functions g) m → Protected (cover s.holding) t s.objects regs m
+        (m : Lock) → K (Body g) (start_of l.functions g) m → Protected (cover s.holding a.fresh) t s.objects regs m
     callee_has regs r region isin args others m w =
-        by_lock m (λ p o known. settle_protects (own_view l c stores longest K image s t a q) (cover s.holding) t s.objects a.top.regs (stands l c stores longest K image s t a q) p known
+        by_lock m (λ p o known. settle_protects (own_view l c stores longest K image s t a q) (cover s.holding a.fresh) t s.objects a.top.regs (stands l c stores longest K image s t a q) p known
         (λ n z. q.has.top r region n (q.program.closed.entered r a.top.function a.top.pc x first g callee m p n isin at listed w o z))) (q.program.based (Body g) (start_of l.functions g) m w)
       where
-        by_base : (base : Base) (path : List Op) (effect : Effect) → ((p : Lock) → IsOne (renamed_on first callee.params base path effect) p → LockThere c p → Protected (cover s.holding) t s.objects a.top.regs p) → BaseThere c base →
-            CellProtected (cover s.holding) t s.objects effect (path_cell (heap_of s.objects) path (base_cell regs base))
+        by_base : (base : Base) (path : List Op) (effect : Effect) → ((p : Lock) → IsOne (renamed_on first callee.params base path effect) p → LockThere c p → Protected (cover s.holding a.fresh) t s.objects a.top.regs p) → BaseThere c base →
+            CellProtected (cover s.holding a.fresh) t s.objects effect (path_cell (heap_of s.objects) path (base_cell regs base))
         by_base (Global n) path effect named known = named (on (Global n) path effect) (inl refl) known
         by_base (Reg n) path effect named known =
             elim (cases_lt n callee.params) [
               | inl lt ↦
                   let test : nat_lt n callee.params ≡ true = search (rules, arith, lt) in
                   let p = named (on (Reg (first + n)) path effect) (subst (λ b. IsOne (cond b (on (Reg (first + n)) path effect ∷ []) []) (on (Reg (first + n)) path effect)) (sym test) (inl refl)) tt in
-                  subst (λ o. CellProtected (cover s.holding) t s.objects effect (path_cell (heap_of s.objects) path (option_and_then pointed o))) (sym (args n lt)) p
-              | inr le ↦ subst (CellProtected (cover s.holding) t s.objects effect) (sym (ap (path_cell (heap_of s.objects) path) (others n le) ∙ no_cell_from_none (heap_of s.objects) path)) tt
+                  subst (λ o. CellProtected (cover s.holding a.fresh) t s.objects effect (path_cell (heap_of s.objects) path (option_and_then pointed o))) (sym (args n lt)) p
+              | inr le ↦ subst (CellProtected (cover s.holding a.fresh) t s.objects effect) (sym (ap (path_cell (heap_of s.objects) path) (others n le) ∙ no_cell_from_none (heap_of s.objects) path)) tt
             ]
 
-        by_lock : (m : Lock) → ((p : Lock) → IsOne (renamed first callee.params m) p → LockThere c p → Protected (cover s.holding) t s.objects a.top.regs p) → LockThere c m → Protected (cover s.holding) t s.objects regs m
+        by_lock : (m : Lock) → ((p : Lock) → IsOne (renamed first callee.params m) p → LockThere c p → Protected (cover s.holding a.fresh) t s.objects a.top.regs p) → LockThere c m → Protected (cover s.holding a.fresh) t s.objects regs m
         by_lock (lock.Root effect) named known = named (lock.Root effect) (inl refl) tt
         by_lock (lock.Class y effect) named known = named (lock.Class y effect) (inl refl) tt
         by_lock (lock.Expr e effect) named known = by_base e.base e.path effect named known
 
     pub calls : (next : ℕ) (new : Frame) → next ≡ suc a.top.pc → new.function ≡ g → new.pc ≡ start_of l.functions g →
         ((n : ℕ) → n < callee.params → slice_get new.regs n ≡ slice_get a.top.regs (first + n)) → ((n : ℕ) → callee.params ≤ n → option_and_then pointed (slice_get new.regs n) ≡ None) →
-        HasWanted l c stores longest K (cover s.holding) t s.objects (record { depth = a.depth; top = new; below = placed_at next a.top ∷ a.below })
+        HasWanted l c stores longest K (cover s.holding a.fresh) t s.objects (record { depth = a.depth; top = new; below = placed_at next a.top ∷ a.below; fresh = a.fresh })
     calls next new goes is begins args others =
         let frames = placed_at next a.top ∷ a.below in
         let empty : open_at l.code new.pc ≡ [] = ap (open_at l.code) begins ∙ (layout l c stores longest K image s t a q).nested.starts g callee listed in
         record {
           top = λ r e n w.
-              elim (is_inside l frames) as (λ b. is_inside l frames ≡ b → Protected (cover s.holding) t s.objects new.regs n) [
+              elim (is_inside l frames) as (λ b. is_inside l frames ≡ b → Protected (cover s.holding a.fresh) t s.objects new.regs n) [
                 | true ↦ λ out.
                     let own : Body g ≡ r = same_Some (Body g) r (ap (λ y. Some (Body y)) (sym is) ∙ sym (ap (λ b. cond b (Some (Body new.function)) (option_map Inside (outermost (open_at l.code new.pc)))) out) ∙ e) in
                     let caller = region_there l (placed_at next a.top) a.below out in
@@ -138,22 +138,22 @@ module _ (l : Lowered) (c : Classed) (stores : ℕ → ℕ → Bool) (longest : 
 
   -- `ret` to the frame below
   pub returns : (x : ℕ) (caller : Frame) (others : List Frame) (value : Value) → a.below ≡ caller ∷ others → a.top.result ≡ Some x → ThreadAgrees c s.objects (returned a (with_register x value caller) others) → x < length caller.regs →
-      HasWanted l c stores longest K (cover s.holding) t s.objects (returned a (with_register x value caller) others)
+      HasWanted l c stores longest K (cover s.holding a.fresh) t s.objects (returned a (with_register x value caller) others)
   returns x caller others value below awaits agrees lt =
       let susp : AreSuspended image s.objects a.top.function a.top.result (caller ∷ others) = subst (AreSuspended image s.objects a.top.function a.top.result) below q.here.placed.below in
       let u = susp.0 in
       let same : u.to ≡ x = same_Some u.to x (sym u.awaits ∙ awaits) in
       let calls : slice_get l.code u.call ≡ Some (instr.Call x u.first a.top.function) = call_at l c image q.program.made s.objects a.top.function a.top.result caller u ∙ ap (λ n. Some (instr.Call n u.first a.top.function)) same in
       let frames : FramesAgree c s.objects (caller ∷ others) = subst (FramesAgree c s.objects) below (q.structured.agrees.threads t a q.here.is).1 in
-      let waiting : WaitingHave l c stores longest K (cover s.holding) t s.objects (caller ∷ others) = subst (WaitingHave l c stores longest K (cover s.holding) t s.objects) below q.has.waiting in
+      let waiting : WaitingHave l c stores longest K (cover s.holding a.fresh) t s.objects (caller ∷ others) = subst (WaitingHave l c stores longest K (cover s.holding a.fresh) t s.objects) below q.has.waiting in
       let globals = globals_agree l c image q.program.made s q.structured.sound in
       let cells = q.structured.agrees.cells in
       let old : Stands (view c stores longest caller.function) s.objects caller.regs = record { cells = cells; frame = frames.0; globals = globals } in
       let now : Stands (view c stores longest caller.function) s.objects (set caller.regs x value) = record { cells = cells; frame = agrees.0; globals = globals } in
       record {
         top = λ r e n w.
-            link_protects (view c stores longest caller.function) (cover s.holding) t s.objects s.objects caller.regs (set caller.regs x value) (instr.Call x u.first a.top.function) old tt
-            (λ d effect there all. return_row (view c stores longest caller.function) (cover s.holding) t s.objects caller.regs x value (stores a.top.function) now lt d effect there all)
+            link_protects (view c stores longest caller.function) (cover s.holding a.fresh) t s.objects s.objects caller.regs (set caller.regs x value) (instr.Call x u.first a.top.function) old tt
+            (λ d effect there all. return_row (view c stores longest caller.function) (cover s.holding a.fresh) t s.objects caller.regs x value (stores a.top.function) now lt d effect there all)
             n (q.program.based r caller.pc n w)
             (λ m o. waiting.0 r e m (record { call = u.call; to = x; first = u.first; callee = a.top.function; behind = n; waits = (let b = u.behind in omega (arith, b)); calls = calls; wanted = w; left = o }));
         waiting = waiting.1;

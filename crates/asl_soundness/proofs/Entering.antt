@@ -18,7 +18,7 @@ use Rattle.asl_lock_expr.specs.Expression.{cell_denoted}
 use Rattle.asl_lock_expr.specs.Links.{View, IsOne}
 use Rattle.asl_machine.specs.State.{Object}
 use Rattle.asl_machine.specs.Request.{heap_of, asks_of, request_of, IsAsk, effect_of}
-use Rattle.asl_machine.specs.Cover.{Cover, cover}
+use Rattle.asl_machine.specs.Cover.{is_fresh, Cover, cover}
 use Rattle.asl_machine.proofs.Asks.{asked_held, lock_covers}
 use Rattle.asl_soundness.specs.Over.{covers_effect, StandsOver}
 use Rattle.asl_soundness.specs.Protected.{is_class_covered, Protected, LockThere}
@@ -40,9 +40,9 @@ stronger_mode Read Write e = let f : false ≡ true = e in cc
 root_protects : (k : Cover) (t : ℕ) (objects : List Object) (regs : List Value) (n : Lock) → AtMost (covering_mode (effect_of n)) (held k.holding t Root) → Protected k t objects regs n
 root_protects k t objects regs (lock.Root effect) e = e
 root_protects k t objects regs (lock.Class x effect) e = or_right (is_at_most (covering_mode effect) (held k.holding t (Class x))) (is_at_most (covering_mode effect) (held k.holding t Root)) e
-root_protects k t objects regs (lock.Expr d effect) e = protect k t objects effect (cell_denoted (heap_of objects) regs d) (λ cell at y of. or_right _ (is_at_most (covering_mode effect) (held k.holding t Root)) e)
+root_protects k t objects regs (lock.Expr d effect) e = protect k t objects effect (cell_denoted (heap_of objects) regs d) (λ cell at y of. or_right (is_fresh k.fresh cell.object) _ (or_right _ (is_at_most (covering_mode effect) (held k.holding t Root)) e))
 
-module _ (v : View) (h : Holding) (t : ℕ) (objects : List Object) (regs : List Value) (locks : List Lock) (none : HoldsNothing h t) where
+module _ (v : View) (h : Holding) (fresh : List ℕ) (t : ℕ) (objects : List Object) (regs : List Value) (locks : List Lock) (none : HoldsNothing h t) where
   -- the holding after the grant
   abbrev Granted : Holding
   Granted = grant h t (request_of objects regs locks)
@@ -57,21 +57,21 @@ module _ (v : View) (h : Holding) (t : ℕ) (objects : List Object) (regs : List
   class_held x effect need o enough =
       or_left (is_at_most (covering_mode need) (held Granted t (Class x))) _ (node_held (lock.Class x effect) effect need (Class x) o (inr (inl (refl, refl))) enough)
 
-  pub granted_protects : Stands v objects regs → (m n : Lock) → IsOne locks m → LockThere v.classes n → StandsOver v.classes v.function m n → Protected (cover Granted) t objects regs n
+  pub granted_protects : Stands v objects regs → (m n : Lock) → IsOne locks m → LockThere v.classes n → StandsOver v.classes v.function m n → Protected (cover Granted fresh) t objects regs n
   granted_protects stands (lock.Root effect) n o there over =
-      root_protects (cover Granted) t objects regs n (node_held (lock.Root effect) effect (effect_of n) Root o (inl (refl, refl)) over)
+      root_protects (cover Granted fresh) t objects regs n (node_held (lock.Root effect) effect (effect_of n) Root o (inl (refl, refl)) over)
   granted_protects stands (lock.Class x effect) (lock.Class y need) o there over =
       subst (λ z. IsTrue (is_class_covered Granted t z need)) over.0 (class_held x effect need o over.1)
   granted_protects stands (lock.Class x effect) (lock.Expr e need) o there over =
-      protect (cover Granted) t objects need (cell_denoted (heap_of objects) regs e) (λ cell at.
+      protect (cover Granted fresh) t objects need (cell_denoted (heap_of objects) regs e) (λ cell at.
       let y = denoted_class v objects regs stands e cell there at in
       let same : x ≡ y.0 = same_Some x y.0 (sym over.0 ∙ y.1) in
-      class_protects (cover Granted) t objects need cell y.0 y.2 (subst (λ z. IsTrue (is_class_covered Granted t z need)) same (class_held x effect need o over.1)))
+      class_protects (cover Granted fresh) t objects need cell y.0 y.2 (subst (λ z. IsTrue (is_class_covered Granted t z need)) same (class_held x effect need o over.1)))
   granted_protects stands (lock.Expr d effect) (lock.Expr e need) o there over =
-      subst (λ z. Protected (cover Granted) t objects regs (lock.Expr z need)) over.0
-      (protect (cover Granted) t objects need (cell_denoted (heap_of objects) regs d) (λ cell at x of.
+      subst (λ z. Protected (cover Granted fresh) t objects regs (lock.Expr z need)) over.0
+      (protect (cover Granted fresh) t objects need (cell_denoted (heap_of objects) regs d) (λ cell at x of.
       let p = place_of locks (lock.Expr d effect) o in
       let covers : Covers Granted t cell x effect = lock_covers h t objects regs locks p.0 (lock.Expr d effect) cell x none p.1 (at, of) in
       let w = covered_at Granted t cell x effect covers in
-      covers_at Granted t cell x need w.0 (at_most_trans (covering_mode need) (covering_mode effect) _ (stronger_mode effect need over.1) w.1)))
+      or_right (is_fresh fresh cell.object) _ (covers_at Granted t cell x need w.0 (at_most_trans (covering_mode need) (covering_mode effect) _ (stronger_mode effect need over.1) w.1))))
   granted_protects stands m n o there over = absurd over

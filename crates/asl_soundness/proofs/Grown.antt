@@ -1,7 +1,7 @@
 -- The laws of one step for `new`: of the frame that makes the object, and of every other.
 use Rattle.std.proofs.Common.{◌≡◌, ℕ, pos, ◌+◌, ◌<◌, ◌++◌, replicate, Bool, true, false, cond, List, [], ◌∷◌, Option, Some, None, length, set, slice_get, refl, ap, sym, ◌∙◌, subst, inl, arith, rules}
-use Rattle.std.specs.Prelude.{option_and_then, option_map, nat_lt, IsSome}
-use Rattle.std.specs.List.{list_any}
+use Rattle.std.specs.Prelude.{option_and_then, option_map, nat_lt, IsSome, IsTrue}
+use Rattle.std.proofs.lemmas.Bool.{or_left}
 use Rattle.std.proofs.lemmas.Option.{same_Some}
 use Rattle.asl_code.specs.declared.value.Value.{Value}
 use Rattle.asl_code.specs.declared.value.Value.TheVariants.{Int, Null, Addr}
@@ -15,17 +15,16 @@ use Rattle.asl_code.specs.declared.path.Op.{Op}
 use Rattle.asl_code.specs.declared.path.Op.TheVariants.{Deref, Off}
 use Rattle.asl_points_to.specs.Classes.{Classed}
 use Rattle.asl_lock_expr.specs.Expression.{cell_of, pointed, moved, path_cell, base_cell, cell_denoted}
-use Rattle.asl_lock_expr.specs.ClassOf.{class_of as expr_class}
-use Rattle.asl_lock_expr.specs.Links.{View, class_lock, is_register, is_star, replaced}
+use Rattle.asl_lock_expr.specs.Links.{View, is_register, replaced}
 use Rattle.asl_lock_expr.proofs.Walks.{start_there, first_step, star_reads, moved_stays}
 use Rattle.asl_machine.specs.State.{Object, cell_at, class_of, new_object}
 use Rattle.asl_machine.specs.Access.{Points, AllPoint}
 use Rattle.asl_machine.specs.Request.{heap_of}
-use Rattle.asl_machine.specs.Cover.{Cover}
+use Rattle.asl_machine.specs.Cover.{is_fresh, Cover}
 use Rattle.asl_machine.proofs.Lists.{get_before, get_last, replicated}
 use Rattle.asl_machine.proofs.Heaps.{class_there, read_before}
 use Rattle.asl_soundness.specs.Protected.{CellProtected, Protected, BaseThere}
-use Rattle.asl_soundness.proofs.Protecting.{Stands, AllProtected, get_within, denoted_class, protect, protected_at, class_protects}
+use Rattle.asl_soundness.proofs.Protecting.{AllProtected, get_within, protect, protected_at}
 use Rattle.asl_soundness.proofs.Rows.{base_set}
 
 -- ---- objects are added
@@ -117,13 +116,13 @@ grown_protects c k t objects more regs after points globals cells e effect there
 
 -- ---- the thread's own `new`
 
--- no path with a `*` leads on from a new object
-star_ends : (objects : List Object) (class n : ℕ) (ops : List Op) (cell end : Cell) → cell.object ≡ length objects → list_any is_star ops ≡ true → path_cell (heap_of (objects ++ new_object class n ∷ [])) ops (Some cell) ≡ Some end → ⊥
-star_ends objects class n [] cell end at star e = cc
-star_ends objects class n (Off places ∷ ops) cell end at star e =
+-- a path from an object that is the last, and new, ends in it: one with a `*` leads to no cell
+path_stays : (objects : List Object) (class n : ℕ) (ops : List Op) (cell end : Cell) → cell.object ≡ length objects → path_cell (heap_of (objects ++ new_object class n ∷ [])) ops (Some cell) ≡ Some end → end.object ≡ length objects
+path_stays objects class n [] cell end at e = ap (λ (k : Cell). k.object) (sym (same_Some cell end e)) ∙ at
+path_stays objects class n (Off places ∷ ops) cell end at e =
     let s = first_step (heap_of (objects ++ new_object class n ∷ [])) (Off places) ops cell end e in
-    star_ends objects class n ops s.0 end (moved_stays (heap_of (objects ++ new_object class n ∷ [])) places cell s.0 s.1 ∙ at) star s.2
-star_ends objects class n (Deref ∷ ops) cell end at star e =
+    path_stays objects class n ops s.0 end (moved_stays (heap_of (objects ++ new_object class n ∷ [])) places cell s.0 s.1 ∙ at) s.2
+path_stays objects class n (Deref ∷ ops) cell end at e =
     let s = first_step (heap_of (objects ++ new_object class n ∷ [])) Deref ops cell end e in
     let r = star_reads (heap_of (objects ++ new_object class n ∷ [])) cell s.0 s.1 in
     let own : slice_get (replicate n (Int (pos 0))) cell.offset ≡ Some r.0 =
@@ -132,24 +131,19 @@ star_ends objects class n (Deref ∷ ops) cell end at star e =
     let some = r.2 in
     cc
 
--- `new`: an expression on the register is covered by the class of the new object, every other as before
-pub new_row : (v : View) (k : Cover) (t : ℕ) (objects : List Object) (regs : List Value) (a n class : ℕ) → a < length regs → Stands v (objects ++ new_object class n ∷ []) (set regs a (Addr (length objects) 0)) → AllPoint objects regs →
+-- `new`: an expression on the register ends in the new object, which is fresh; every other is as before
+pub new_row : (v : View) (k : Cover) (t : ℕ) (objects : List Object) (regs : List Value) (a n class : ℕ) → a < length regs → IsTrue (is_fresh k.fresh (length objects)) → AllPoint objects regs →
     GlobalsPoint v.classes objects → ((cell : Cell) (w : Value) → cell_at objects cell ≡ Some w → Points objects w) →
-    (e : Expr) (effect : Effect) → BaseThere v.classes e.base → AllProtected k t objects regs (replaced a e effect (cond (list_any is_star e.path) [] (class_lock effect (expr_class v.classes v.function e)))) →
+    (e : Expr) (effect : Effect) → BaseThere v.classes e.base → AllProtected k t objects regs (replaced a e effect []) →
     Protected k t (objects ++ new_object class n ∷ []) (set regs a (Addr (length objects) 0)) (lock.Expr e effect)
-new_row v k t objects regs a n class lt now points globals cells e effect there all =
+new_row v k t objects regs a n class lt fresh points globals cells e effect there all =
     let new = objects ++ new_object class n ∷ [] in
     let after = set regs a (Addr (length objects) 0) in
     let base : (b : Bool) → is_register a e.base ≡ b → base_cell after e.base ≡ cond {A = Option Cell} b (Some (cell_of (length objects) 0)) (base_cell regs e.base) =
     λ b is. base_set regs a (Addr (length objects) 0) e.base lt ∙ ap (λ x. cond {A = Option Cell} x (Some (cell_of (length objects) 0)) (base_cell regs e.base)) is in
-    elim (is_register a e.base) as (λ b. is_register a e.base ≡ b → AllProtected k t objects regs (cond b (cond (list_any is_star e.path) [] (class_lock effect (expr_class v.classes v.function e))) (lock.Expr e effect ∷ [])) → Protected k t new after (lock.Expr e effect)) [
-      | true ↦ λ is p. protect k t new effect (cell_denoted (heap_of new) after e) (λ end d.
-          elim (list_any is_star e.path) as (λ b. list_any is_star e.path ≡ b → AllProtected k t objects regs (cond b [] (class_lock effect (expr_class v.classes v.function e))) → CellProtected k t new effect (Some end)) [
-            | true ↦ λ star m. absurd (star_ends objects class n e.path (cell_of (length objects) 0) end refl star (ap (path_cell (heap_of new) e.path) (sym (base true is)) ∙ d))
-            | false ↦ λ star m.
-                let y = denoted_class v new after now e end there d in
-                let held = subst (λ o. AllProtected k t objects regs (class_lock effect o)) y.1 m in
-                class_protects k t new effect end y.0 y.2 (held (lock.Class y.0 effect) (inl refl))
-          ] refl p)
+    elim (is_register a e.base) as (λ b. is_register a e.base ≡ b → AllProtected k t objects regs (cond b [] (lock.Expr e effect ∷ [])) → Protected k t new after (lock.Expr e effect)) [
+      | true ↦ λ is p. protect k t new effect (cell_denoted (heap_of new) after e) (λ end d x of.
+          let own = path_stays objects class n e.path (cell_of (length objects) 0) end refl (ap (path_cell (heap_of new) e.path) (sym (base true is)) ∙ d) in
+          or_left (is_fresh k.fresh end.object) _ (ap (is_fresh k.fresh) own ∙ fresh))
       | false ↦ λ is p. grown_protects v.classes k t objects (new_object class n ∷ []) regs after points globals cells e effect there (base false is) (p (lock.Expr e effect) (inl refl))
     ] refl all

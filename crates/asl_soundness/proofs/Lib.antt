@@ -1,6 +1,7 @@
 pub mod Protecting
 pub mod Rows
 pub mod Stored
+pub mod Avoiding
 pub mod Grown
 pub mod Standing
 pub mod Agreeing

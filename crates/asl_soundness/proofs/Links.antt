@@ -1,7 +1,7 @@
 -- The law of one step for locks: it is enough to look at expressions before they settle; and links begin on what is there.
 use Rattle.std.proofs.Common.{ℕ, ◌<◌, ◌&&◌, ◌++◌, Bool, true, false, cond, List, [], ◌∷◌, Option, Some, None, length, refl, subst, inl, inr}
 use Rattle.std.specs.Prelude.{option_and_then, nat_le}
-use Rattle.std.specs.List.{flat_map, list_any}
+use Rattle.std.specs.List.{flat_map}
 use Rattle.asl_code.specs.declared.value.Value.{Value}
 use Rattle.asl_code.specs.declared.value.Effect.{Effect}
 use Rattle.asl_code.specs.declared.lock.Base.TheVariants.{Reg, Global}
@@ -66,8 +66,7 @@ before_there v (instr.Add a x y) e effect g there = replaced_there v.classes a e
 before_there v (instr.Subtract a x y) e effect g there = replaced_there v.classes a e effect [] there (none_there v.classes)
 before_there v (instr.LessThan a x y) e effect g there = replaced_there v.classes a e effect [] there (none_there v.classes)
 before_there v (instr.Equals a x y) e effect g there = replaced_there v.classes a e effect [] there (none_there v.classes)
-before_there v (instr.New a n s) e effect g there =
-    replaced_there v.classes a e effect _ there (either_there v.classes (list_any is_star e.path) [] _ (none_there v.classes) (class_there v.classes effect (expr_class v.classes v.function e)))
+before_there v (instr.New a n s) e effect g there = replaced_there v.classes a e effect [] there (none_there v.classes)
 before_there v (instr.Store a b) e effect g there =
     both_there v.classes _ _ (either_there v.classes (is_register a e.base && begins_with_star e.path) [] _ (none_there v.classes) (alone_there v.classes (lock.Expr e effect) there))
     (hits_there v.classes (to v.classes v.function a) b effect (base_class v.classes v.function e.base) e.path)

@@ -118,7 +118,7 @@ module _ (l : Lowered) (nests : IsNested l) (a : Activity) (nested : IsNestedAt 
       ] refl
 
   pub calls : (to first g next : ℕ) (callee : entry.Function) (new : Frame) → slice_get l.code a.top.pc ≡ Some (instr.Call to first g) → next ≡ suc a.top.pc → InBody l a.top.function a.top.pc → slice_get l.functions g ≡ Some callee →
-      new.function ≡ g → new.pc ≡ start_of l.functions g → IsNestedAt l (record { depth = a.depth; top = new; below = placed_at next a.top ∷ a.below })
+      new.function ≡ g → new.pc ≡ start_of l.functions g → IsNestedAt l (record { depth = a.depth; top = new; below = placed_at next a.top ∷ a.below; fresh = a.fresh })
   calls to first g next callee new at goes body there is begins =
       let same : open_at l.code next ≡ open_at l.code a.top.pc = nests.steps a.top.pc next (instr.Call to first g) at goes in
       let e = ap (length {A = ℕ}) (ap (open_at l.code) begins ∙ nests.starts g callee there) in

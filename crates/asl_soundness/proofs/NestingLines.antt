@@ -1,7 +1,8 @@
 -- Every line of the table keeps its thread nested.
-use Rattle.std.proofs.Common.{◌≡◌, ℕ, suc, ◌+◌, ◌-◌, List, Some, None, slice_get, refl, ap, sym, ◌∙◌, subst, inl, inr, arith}
+use Rattle.std.proofs.Common.{◌≡◌, ℕ, suc, ◌+◌, ◌-◌, List, [], Some, None, length, slice_get, refl, ap, sym, ◌∙◌, subst, inl, inr, arith}
 use Rattle.std.proofs.lemmas.Option.{same_Some}
 use Rattle.asl_code.specs.declared.image.Image.{Image}
+use Rattle.asl_code.specs.declared.value.Value.TheVariants.{Addr}
 use Rattle.asl_code.specs.declared.instr.Instr.{Instr}
 use Rattle.asl_code.specs.declared.instr.Instr.TheVariants as instr
 use Rattle.asl_lower.specs.Lowered.{Lowered}
@@ -12,7 +13,7 @@ use Rattle.asl_lock_forest.specs.Holding.{Holding}
 use Rattle.asl_machine.specs.declared.reply.Reply.{Reply}
 use Rattle.asl_machine.specs.declared.reply.Reply.TheVariants as reply
 use Rattle.asl_machine.specs.State.{Object, Frame, Activity, Thread, Running, Done, Failed, State, activity_of, activity_at}
-use Rattle.asl_machine.specs.Step.{Line, after, advanced, going_on}
+use Rattle.asl_machine.specs.Step.{Line, after, advanced, advanced_with, going_on, with_fresh}
 use Rattle.asl_machine.proofs.Soundness.{Here}
 use Rattle.asl_machine.proofs.Table.{at_of}
 use Rattle.asl_soundness.specs.Coded.{classed, IsImageOf}
@@ -29,6 +30,10 @@ next_is pc = omega arith
 -- the thread, if it runs, is nested
 abbrev pub IsOwnNested : Lowered → ℕ → State → Type 0
 IsOwnNested l t new = IsOwn (λ s b. IsNestedAt l b) t new
+
+-- it makes no difference which objects are fresh for the thread
+renested : (l : Lowered) (a : Activity) (fresh : List ℕ) → IsNestedAt l a → IsNestedAt l (with_fresh fresh a)
+renested l a fresh n = record { depth = n.depth; kinds = n.kinds }
 
 module _ (l : Lowered) (nests : IsNested l) (c : Classed) (image : Image) (made : IsImageOf l c image) (s : State) (t : ℕ) (a : Activity) (h : Here image s t a) (nested : IsNestedAt l a) where
   runs : (b : Activity) (objects : List Object) (holding : Holding) (new : State) → IsNestedAt l b → new ≡ after s t (Running b) objects holding → IsOwnNested l t new
@@ -56,7 +61,9 @@ module _ (l : Lowered) (nests : IsNested l) (c : Classed) (image : Image) (made 
   line_nested (instr.FieldAddress x y n) reply.Ran new at e = on _ _ s.objects new at refl (next_is a.top.pc) (λ xs. refl) e.sets
   line_nested (instr.Load x y) reply.Ran new at e = on _ _ s.objects new at refl (next_is a.top.pc) (λ xs. refl) e.sets
   line_nested (instr.Store x y) reply.Ran new at e = on _ _ _ new at refl (next_is a.top.pc) (λ xs. refl) e.goes_on
-  line_nested (instr.New x n site) reply.Ran new at e = on _ _ _ new at refl (next_is a.top.pc) (λ xs. refl) e.makes
+  line_nested (instr.New x n site) reply.Ran new at e =
+      runs _ _ s.holding new
+      (renested l (going_on a a.depth (advanced_with x (Addr (length s.objects) 0) a.top)) _ (plain l nests a nested (instr.New x n site) (advanced_with x (Addr (length s.objects) 0) a.top) refl at (next_is a.top.pc) (λ xs. refl))) e.makes
   line_nested (instr.Jump target) reply.Ran new at e = on _ _ s.objects new at refl refl (λ xs. refl) e
   line_nested (instr.JumpIfZero x target) reply.Ran new at (inl e) = on _ _ s.objects new at refl (inl refl) (λ xs. refl) e.goes_to
   line_nested (instr.JumpIfZero x target) reply.Ran new at (inr e) = on _ _ s.objects new at refl (inr (next_is a.top.pc)) (λ xs. refl) e.goes_on
@@ -75,6 +82,6 @@ module _ (l : Lowered) (nests : IsNested l) (c : Classed) (image : Image) (made 
   line_nested instr.Release reply.Ran new at (inl e) = runs _ s.objects s.holding new (releases l nests a nested (a.top.pc + 1) at (next_is a.top.pc)) e.goes_on
   line_nested instr.Release reply.Ran new at (inr e) =
       let zero_is : a.depth - 1 ≡ 0 = (let z = e.outer in omega (arith, z)) in
-      runs _ s.objects _ new (subst (λ n. IsNestedAt l (going_on a n (advanced a.top))) zero_is (releases l nests a nested (a.top.pc + 1) at (next_is a.top.pc))) e.leaves
+      runs _ s.objects _ new (renested l (going_on a 0 (advanced a.top)) [] (subst (λ n. IsNestedAt l (going_on a n (advanced a.top))) zero_is (releases l nests a nested (a.top.pc + 1) at (next_is a.top.pc)))) e.leaves
   line_nested i (reply.Fault f) new at e = ends (Failed f) _ new refl (line_fails (at_of image s t a) (classed c i) f new e)
   line_nested i r new at e = absurd e

@@ -1,9 +1,7 @@
--- What a line of the table changes for the other threads: nothing, one cell that its thread covers for writing, or objects that
--- are added; and so each other thread keeps what it wants.
+-- What a line of the table changes for the other threads: nothing, one cell that its thread may write, or objects that are
+-- added; and so each other thread keeps what it wants.
 use Rattle.std.proofs.Common.{◌≡◌, ◌≢◌, ℕ, ◌++◌, Bool, false, List, [], ◌∷◌, Some, refl, ap, sym, ◌∙◌, subst, inl, inr}
-use Rattle.std.specs.Prelude.{unwrap_or, nat_lt, slice_get}
-use Rattle.std.specs.Option.{option_map_or}
-use Rattle.std.proofs.lemmas.Bool.{and_parts}
+use Rattle.std.specs.Prelude.{unwrap_or, slice_get}
 use Rattle.asl_code.specs.declared.image.Image.{Image}
 use Rattle.asl_code.specs.declared.value.Value.{Value}
 use Rattle.asl_code.specs.declared.value.Value.TheVariants.{Addr}
@@ -13,16 +11,17 @@ use Rattle.asl_code.specs.declared.instr.Instr.{Instr}
 use Rattle.asl_code.specs.declared.instr.Instr.TheVariants as instr
 use Rattle.asl_mode_lanes.specs.Mode.{AtMost}
 use Rattle.asl_mode_lanes.proofs.ModeLaws.{at_most_refl}
-use Rattle.asl_lock_forest.specs.declared.node.Node.{Node}
-use Rattle.asl_lock_forest.specs.Holding.{held, Covers, is_covered}
+use Rattle.asl_lock_forest.specs.Holding.{held}
 use Rattle.asl_lower.specs.Lowered.{Lowered}
 use Rattle.asl_points_to.specs.Classes.{Classed}
 use Rattle.asl_backward_flow.specs.Closed.{Family}
 use Rattle.asl_machine.specs.declared.reply.Reply.{Reply}
 use Rattle.asl_machine.specs.declared.reply.Reply.TheVariants as reply
-use Rattle.asl_machine.specs.State.{Object, Activity, State, cell_at, class_of, written, new_object}
+use Rattle.asl_machine.specs.State.{Object, Activity, State, cell_at, written, new_object, activity_at}
 use Rattle.asl_machine.specs.Sound.{IsPlaced}
 use Rattle.asl_machine.specs.Cover.{cover}
+use Rattle.asl_machine.specs.Fresh.{IsFreshFor, AreApart}
+use Rattle.asl_machine.proofs.Freshness.{allowed_covers}
 use Rattle.asl_machine.specs.Step.{Line}
 use Rattle.asl_machine.specs.Twin.{step_of}
 use Rattle.asl_machine.proofs.Soundness.{Here}
@@ -35,16 +34,9 @@ use Rattle.asl_soundness.specs.Wanted.{HasWanted}
 use Rattle.asl_soundness.proofs.Protecting.{get_some}
 use Rattle.asl_soundness.proofs.Standing.{globals_point}
 use Rattle.asl_soundness.proofs.Faults.{line_fails}
-use Rattle.asl_soundness.proofs.Keeping.{held_keeps, stored_keeps, made_keeps, thread_keeps}
+use Rattle.asl_soundness.proofs.Avoiding.{MayWrite}
+use Rattle.asl_soundness.proofs.Keeping.{NoneShunned, IsAtLeast, more_keeps, stored_keeps, made_keeps, thread_keeps}
 use Rattle.asl_soundness.proofs.Structure.{IsStructured}
-
--- the cell is there and of this class, and the thread covers it for writing
-pub record MayWrite (s : State) (t : ℕ) (cell : Cell) : Type 0 where
-  pub old : Value
-  pub there : cell_at s.objects cell ≡ Some old
-  pub hit : ℕ
-  pub class : class_of s.objects cell.object ≡ Some hit
-  pub covers : Covers s.holding t cell hit Write
 
 -- what a step of the thread makes of the objects
 pub data Change (s : State) (t : ℕ) (new : List Object) : Type 0 where
@@ -57,9 +49,8 @@ module _ (c : Classed) (image : Image) (s : State) (t : ℕ) (a : Activity) (h :
   stores x y new e =
       let target = (agrees.threads t a h.is).0 x (Addr e.cell.object e.cell.offset) e.reads_address in
       let old = get_some (cell_at s.objects e.cell) (h.placed.points x (Addr e.cell.object e.cell.offset) e.reads_address) in
-      let covers : Covers s.holding t e.cell target.0 Write =
-      sym (ap (λ o. option_map_or (λ class. is_covered s.holding t e.cell class Write) o false) target.2) ∙ (and_parts (nat_lt 0 a.depth) _ e.allowed).1 in
-      Writes e.cell e.value (record { old = old.0; there = old.1; hit = target.0; class = target.2; covers = covers }) (ap (λ (u : State). u.objects) e.goes_on)
+      let allowed = allowed_covers image s t a Write e.cell target.0 e.allowed target.2 in
+      Writes e.cell e.value (record { at = a; is = h.is; register = x; reads = e.reads_address; old = old.0; there = old.1; hit = target.0; class = target.2; allowed = allowed }) (ap (λ (u : State). u.objects) e.goes_on)
 
   same : (new : State) (u : State) → u.objects ≡ s.objects → new ≡ u → Change s t new.objects
   same new u e f = Same (ap (λ (w : State). w.objects) f ∙ e)
@@ -95,25 +86,27 @@ module _ (c : Classed) (image : Image) (s : State) (t : ℕ) (a : Activity) (h :
   line_changes i r new e = absurd e
 
 -- each other thread keeps what it wants
-module _ (l : Lowered) (c : Classed) (stores : ℕ → ℕ → Bool) (longest : ℕ) (K : Family) (image : Image) (A : IsAnalysed l c stores longest K image) (s : State) (t : ℕ) (h : IsStructured l c image s) where
+module _ (l : Lowered) (c : Classed) (stores : ℕ → ℕ → Bool) (longest : ℕ) (K : Family) (image : Image) (A : IsAnalysed l c stores longest K image) (s : State) (t : ℕ) (h : IsStructured l c image s) (fr : AreApart image s) where
   -- over the changed objects, under the old holding
-  changed : (new : List Object) → Change s t new → (u : ℕ) (b : Activity) → u ≢ t → IsPlaced image s.objects b → HasWanted l c stores longest K (cover s.holding) u s.objects b → HasWanted l c stores longest K (cover s.holding) u new b
-  changed new (Same e) u b apart placed has = subst (λ objects. HasWanted l c stores longest K (cover s.holding) u objects b) (sym e) has
-  changed new (Writes cell value w e) u b apart placed has =
-      subst (λ objects. HasWanted l c stores longest K (cover s.holding) u objects b) (sym e)
-      (thread_keeps l c stores longest K A.closed A.based u (cover s.holding) (cover s.holding) s.objects (written s.objects cell value)
-      (stored_keeps c u t s.holding h.sound.lawful apart s.objects cell value w.old w.hit w.there w.class w.covers) image b placed has)
-  changed new (Adds more e) u b apart placed has =
-      subst (λ objects. HasWanted l c stores longest K (cover s.holding) u objects b) (sym e)
-      (thread_keeps l c stores longest K A.closed A.based u (cover s.holding) (cover s.holding) s.objects (s.objects ++ more)
-      (made_keeps c u (cover s.holding) s.objects more (globals_point l c image A.made s h.sound) h.sound.formed.objects.points) image b placed has)
+  changed : (new : List Object) → Change s t new → (u : ℕ) (b : Activity) → u ≢ t → activity_at s.threads u ≡ Some b → HasWanted l c stores longest K (cover s.holding b.fresh) u s.objects b → HasWanted l c stores longest K (cover s.holding b.fresh) u new b
+  changed new (Same e) u b apart is has = subst (λ objects. HasWanted l c stores longest K (cover s.holding b.fresh) u objects b) (sym e) has
+  changed new (Writes cell value w e) u b apart is has =
+      subst (λ objects. HasWanted l c stores longest K (cover s.holding b.fresh) u objects b) (sym e)
+      (thread_keeps l c stores longest K A.closed A.based u (IsFreshFor s t) (cover s.holding b.fresh) (cover s.holding b.fresh) s.objects (written s.objects cell value)
+      (stored_keeps c image s h.sound fr A.made.globals u t b apart is cell value w) image b (h.sound.formed.placed u b is) (λ o f. fr.registers u t o b apart f is) has)
+  changed new (Adds more e) u b apart is has =
+      subst (λ objects. HasWanted l c stores longest K (cover s.holding b.fresh) u objects b) (sym e)
+      (thread_keeps l c stores longest K A.closed A.based u NoneShunned (cover s.holding b.fresh) (cover s.holding b.fresh) s.objects (s.objects ++ more)
+      (made_keeps c u (cover s.holding b.fresh) s.objects more (globals_point l c image A.made s h.sound) h.sound.formed.objects.points) image b (h.sound.formed.placed u b is) (λ o f. absurd f) has)
 
   -- and under the new one, of which its own part is the same
-  pub others_keep : Change s t (step_of image s t).state.objects → (u : ℕ) (b : Activity) → u ≢ t → IsPlaced image s.objects b → IsPlaced image (step_of image s t).state.objects b →
-      HasWanted l c stores longest K (cover s.holding) u s.objects b → HasWanted l c stores longest K (cover (step_of image s t).state.holding) u (step_of image s t).state.objects b
-  others_keep change u b apart placed now has =
+  pub others_keep : Change s t (step_of image s t).state.objects → (u : ℕ) (b : Activity) → u ≢ t → activity_at s.threads u ≡ Some b → IsPlaced image (step_of image s t).state.objects b →
+      HasWanted l c stores longest K (cover s.holding b.fresh) u s.objects b → HasWanted l c stores longest K (cover (step_of image s t).state.holding b.fresh) u (step_of image s t).state.objects b
+  others_keep change u b apart is now has =
       let new = (step_of image s t).state in
-      let more : (node : Node) → AtMost (held s.holding u node) (held new.holding u node) =
-      λ node. subst (AtMost (held s.holding u node)) (sym (step_leaves_held image s t u node apart)) (at_most_refl (held s.holding u node)) in
-      thread_keeps l c stores longest K A.closed A.based u (cover s.holding) (cover new.holding) new.objects new.objects (held_keeps c u s.holding new.holding new.objects more) image b now
-      (changed new.objects change u b apart placed has)
+      let more : IsAtLeast (cover s.holding b.fresh) (cover new.holding b.fresh) u = record {
+        holds = λ node. subst (AtMost (held s.holding u node)) (sym (step_leaves_held image s t u node apart)) (at_most_refl (held s.holding u node));
+        fresh = λ o f. f;
+      } in
+      thread_keeps l c stores longest K A.closed A.based u NoneShunned (cover s.holding b.fresh) (cover new.holding b.fresh) new.objects new.objects (more_keeps c u (cover s.holding b.fresh) (cover new.holding b.fresh) new.objects more) image b now (λ o f. absurd f)
+      (changed new.objects change u b apart is has)

@@ -2,6 +2,7 @@
 use Rattle.std.proofs.Common.{◌≡◌, ℕ, ◌<◌, ◌≤◌, ◌||◌, Bool, true, false, cond, List, [], ◌∷◌, Option, Some, None, length, slice_get, refl, ap, sym, ◌∙◌, subst, inl, inr, arith}
 use Rattle.std.specs.Prelude.{option_and_then, IsTrue, IsSome, nat_le}
 use Rattle.std.specs.List.{flat_map}
+use Rattle.std.proofs.lemmas.Bool.{or_right}
 use Rattle.std.proofs.lemmas.Option.{slice_get_cases, same_Some}
 use Rattle.asl_code.specs.declared.value.Value.{Value}
 use Rattle.asl_code.specs.declared.value.Cell.{Cell}
@@ -22,7 +23,7 @@ use Rattle.asl_lock_expr.proofs.Ones.{one_left, one_right}
 use Rattle.asl_lock_expr.proofs.Walks.{class_along, value_class, start_there}
 use Rattle.asl_machine.specs.State.{Object, class_of}
 use Rattle.asl_machine.specs.Request.{heap_of}
-use Rattle.asl_machine.specs.Cover.{Cover, Allows}
+use Rattle.asl_machine.specs.Cover.{is_fresh, Cover, Allows}
 use Rattle.asl_soundness.specs.Agrees.{FrameAgrees, CellsAgree}
 use Rattle.asl_soundness.specs.Protected.{is_class_covered, CellProtected, Protected, BaseThere, LockThere}
 
@@ -88,7 +89,7 @@ either_last false b c e = e
 pub class_protects : (k : Cover) (t : ℕ) (objects : List Object) (effect : Effect) (cell : Cell) (y : ℕ) → class_of objects cell.object ≡ Some y → IsTrue (is_class_covered k.holding t y effect) → CellProtected k t objects effect (Some cell)
 class_protects k t objects effect cell y of covered x e =
     let covers : Allows k t cell y effect =
-    either_last (is_at_most (covering_mode effect) (held k.holding t (Leaf cell y))) (is_at_most (covering_mode effect) (held k.holding t (Class y))) (is_at_most (covering_mode effect) (held k.holding t Root)) covered in
+    or_right (is_fresh k.fresh cell.object) _ (either_last (is_at_most (covering_mode effect) (held k.holding t (Leaf cell y))) (is_at_most (covering_mode effect) (held k.holding t (Class y))) (is_at_most (covering_mode effect) (held k.holding t Root)) covered) in
     subst (λ z. Allows k t cell z effect) (same_Some y x (sym of ∙ e)) covers
 
 -- each lock of a list is protected

@@ -11,7 +11,6 @@ use Rattle.asl_code.specs.declared.lock.Base.TheVariants.{Reg}
 use Rattle.asl_code.specs.declared.lock.Lock.TheVariants as lock
 use Rattle.asl_code.specs.declared.instr.Instr.{Instr}
 use Rattle.asl_code.specs.declared.instr.Instr.TheVariants as instr
-use Rattle.asl_lock_forest.specs.Holding.{Covers, is_covered}
 use Rattle.asl_lower.specs.Lowered.{Lowered}
 use Rattle.asl_lower.specs.Region.{open_at, open_behind, is_access, is_acquire, GoesOn}
 use Rattle.asl_points_to.specs.Classes.{Classed}
@@ -22,7 +21,7 @@ use Rattle.asl_machine.specs.declared.fault.Fault.TheVariants as fault
 use Rattle.asl_machine.specs.declared.reply.Reply.{Reply}
 use Rattle.asl_machine.specs.declared.reply.Reply.TheVariants as reply
 use Rattle.asl_machine.specs.State.{Activity, State}
-use Rattle.asl_machine.specs.Cover.{cover}
+use Rattle.asl_machine.specs.Cover.{cover, allows, Allows}
 use Rattle.asl_machine.specs.Step.{Line, placed_at, is_allowed}
 use Rattle.asl_machine.proofs.Table.{at_of}
 use Rattle.asl_soundness.specs.Coded.{classed}
@@ -53,9 +52,9 @@ module _ (l : Lowered) (c : Classed) (stores : ℕ → ℕ → Bool) (longest : 
       let one : IsOne (settle v need) need =
       subst (λ o. IsOne (settled v (record { base = Reg x; path = [] }) effect o) need) (sym target.1) (subst (λ (b : Bool). IsOne (cond b need (lock.Class target.0 effect) ∷ []) need) (sym short) (inl refl)) in
       let p = q.has.top r.0 was.0 need (q.program.closed.accessed r.0 a.top.function a.top.pc i need was.1 at (subst (λ ms. IsOne ms need) (sym needs) one)) in
-      let covered : Covers s.holding t cell target.0 effect = subst (λ o. CellProtected (cover s.holding) t s.objects effect (option_and_then pointed o)) reads p target.0 target.2 in
+      let allowed : Allows (cover s.holding a.fresh) t cell target.0 effect = subst (λ o. CellProtected (cover s.holding a.fresh) t s.objects effect (option_and_then pointed o)) reads p target.0 target.2 in
       let test : nat_lt 0 a.depth ≡ true = search (rules, arith, deep) in
-      ap₂ (λ y z. y && z) test (ap (λ o. option_map_or (λ class. is_covered s.holding t cell class effect) o false) target.2 ∙ covered)
+      ap₂ (λ y z. y && z) test (ap (λ o. option_map_or (λ class. allows (cover s.holding a.fresh) t cell class effect) o false) target.2 ∙ allowed)
 
   no_want : (i : Instr) (cell : Cell) (effect : Effect) (new : State) → slice_get l.code a.top.pc ≡ Some i → Line (at_of image s t a) (classed c i) (reply.Fault (fault.Unprotected cell effect)) new → ⊥
   no_want (instr.Load x y) cell effect new at e =

@@ -46,7 +46,7 @@ pub record Ready (l : Lowered) (c : Classed) (stores : ℕ → ℕ → Bool) (lo
   pub program : IsAnalysed l c stores longest K image
   pub structured : IsStructured l c image s
   pub here : Here image s t a
-  pub has : HasWanted l c stores longest K (cover s.holding) t s.objects a
+  pub has : HasWanted l c stores longest K (cover s.holding a.fresh) t s.objects a
 
 module _ (l : Lowered) (c : Classed) (stores : ℕ → ℕ → Bool) (longest : ℕ) (K : Family) (image : Image) (s : State) (t : ℕ) (a : Activity) (q : Ready l c stores longest K image s t a) where
   abbrev pub own_view : View
@@ -69,15 +69,15 @@ module _ (l : Lowered) (c : Classed) (stores : ℕ → ℕ → Bool) (longest : 
   nested = q.structured.nested t a q.here.is
 
   -- an instruction with such a law that goes on in the frame, and enters no outermost section
-  pub goes_on : (i : Instr) (depth : ℕ) (g : Frame) (new : List Object) → slice_get l.code a.top.pc ≡ Some i → GoesOn i a.top.pc g.pc → g.function ≡ a.top.function →
+  pub goes_on : (k : Cover) → HasWanted l c stores longest K k t s.objects a → (i : Instr) (depth : ℕ) (g : Frame) (new : List Object) → slice_get l.code a.top.pc ≡ Some i → GoesOn i a.top.pc g.pc → g.function ≡ a.top.function →
       (is_inside l a.below ≡ false → open_at l.code a.top.pc ≡ [] → open_at l.code g.pc ≡ []) → GlobalsThere c i →
-      ((e : Expr) (effect : Effect) → BaseThere c e.base → AllProtected (cover s.holding) t s.objects a.top.regs (before own_view i e effect) → Protected (cover s.holding) t new g.regs (lock.Expr e effect)) →
-      WaitingHave l c stores longest K (cover s.holding) t new a.below → HasWanted l c stores longest K (cover s.holding) t new (going_on a depth g)
-  goes_on i depth g new at goes same none globals row waiting = record {
+      ((e : Expr) (effect : Effect) → BaseThere c e.base → AllProtected k t s.objects a.top.regs (before own_view i e effect) → Protected k t new g.regs (lock.Expr e effect)) →
+      WaitingHave l c stores longest K k t new a.below → HasWanted l c stores longest K k t new (going_on a depth g)
+  goes_on k has i depth g new at goes same none globals row waiting = record {
     top = λ r e n w.
         (let was = region_goes l layout a.top a.below body nested.kinds.0 g i at goes same none r e in
-        link_protects own_view (cover s.holding) t s.objects new a.top.regs g.regs i stands globals row n (q.program.based r g.pc n w)
-        (λ m o. q.has.top r was.0 m (q.program.closed.linked r a.top.function a.top.pc g.pc i n m was.1 at goes w o)));
+        link_protects own_view k t s.objects new a.top.regs g.regs i stands globals row n (q.program.based r g.pc n w)
+        (λ m o. has.top r was.0 m (q.program.closed.linked r a.top.function a.top.pc g.pc i n m was.1 at goes w o)));
     waiting = waiting;
   }
 
@@ -87,20 +87,20 @@ module _ (l : Lowered) (c : Classed) (stores : ℕ → ℕ → Bool) (longest : 
 
   -- an instruction that leaves registers and objects, and every expression
   pub passes : (i : Instr) (depth next : ℕ) → slice_get l.code a.top.pc ≡ Some i → GoesOn i a.top.pc next → (is_inside l a.below ≡ false → open_at l.code a.top.pc ≡ [] → open_at l.code next ≡ []) → GlobalsThere c i →
-      ((e : Expr) (effect : Effect) → before own_view i e effect ≡ lock.Expr e effect ∷ []) → HasWanted l c stores longest K (cover s.holding) t s.objects (going_on a depth (placed_at next a.top))
+      ((e : Expr) (effect : Effect) → before own_view i e effect ≡ lock.Expr e effect ∷ []) → HasWanted l c stores longest K (cover s.holding a.fresh) t s.objects (going_on a depth (placed_at next a.top))
   passes i depth next at goes none globals same =
-      goes_on i depth (placed_at next a.top) s.objects at goes refl none globals
-      (λ e effect there all. subst (AllProtected (cover s.holding) t s.objects a.top.regs) (same e effect) all (lock.Expr e effect) (inl refl)) q.has.waiting
+      goes_on (cover s.holding a.fresh) q.has i depth (placed_at next a.top) s.objects at goes refl none globals
+      (λ e effect there all. subst (AllProtected (cover s.holding a.fresh) t s.objects a.top.regs) (same e effect) all (lock.Expr e effect) (inl refl)) q.has.waiting
 
   -- `acq` inside a section
-  pub nests : (list next : ℕ) → slice_get l.code a.top.pc ≡ Some (instr.Acquire list) → next ≡ suc a.top.pc → 0 < a.depth → HasWanted l c stores longest K (cover s.holding) t s.objects (going_on a (a.depth + 1) (placed_at next a.top))
+  pub nests : (list next : ℕ) → slice_get l.code a.top.pc ≡ Some (instr.Acquire list) → next ≡ suc a.top.pc → 0 < a.depth → HasWanted l c stores longest K (cover s.holding a.fresh) t s.objects (going_on a (a.depth + 1) (placed_at next a.top))
   nests list next at goes deep =
       let d = nested.depth in
       passes (instr.Acquire list) (a.depth + 1) next at goes
       (λ out none. absurd (let z = none_inside l a.below out in let y = ap (length {A = ℕ}) none in omega (arith, z, y, d, deep))) tt (λ e effect. refl)
 
   -- `rel` of an inner section
-  pub unnests : (next : ℕ) → slice_get l.code a.top.pc ≡ Some instr.Release → next ≡ suc a.top.pc → HasWanted l c stores longest K (cover s.holding) t s.objects (going_on a (a.depth - 1) (placed_at next a.top))
+  pub unnests : (next : ℕ) → slice_get l.code a.top.pc ≡ Some instr.Release → next ≡ suc a.top.pc → HasWanted l c stores longest K (cover s.holding a.fresh) t s.objects (going_on a (a.depth - 1) (placed_at next a.top))
   unnests next at goes = passes instr.Release (a.depth - 1) next at goes (stays_closed instr.Release next at goes refl) tt (λ e effect. refl)
 
   -- where no section is open no frame wants anything
@@ -111,20 +111,20 @@ module _ (l : Lowered) (c : Classed) (stores : ℕ → ℕ → Bool) (longest : 
       let rest : opened l fs ≡ 0 = omega (arith, z) in
       (λ r e n w. absurd (no_region l f fs r (nil_from_length (open_at l.code f.pc) here) (none_opened l fs rest) e), none_wait k objects fs rest)
 
-  -- `rel` of the outermost section
-  pub leaves : (holding : Holding) (next : ℕ) → IsNestedAt l (going_on a 0 (placed_at next a.top)) → HasWanted l c stores longest K (cover holding) t s.objects (going_on a 0 (placed_at next a.top))
-  leaves holding next now =
+  -- a thread in no section wants nothing
+  pub wants_none : (k : Cover) (objects : List Object) (b : Activity) → IsNestedAt l b → b.depth ≡ 0 → HasWanted l c stores longest K k t objects b
+  wants_none k objects b now outside =
       let d = now.depth in
-      let here : length (open_at l.code next) ≡ 0 = omega (arith, d) in
-      let below : opened l a.below ≡ 0 = omega (arith, d) in
+      let here : length (open_at l.code b.top.pc) ≡ 0 = omega (arith, d, outside) in
+      let below : opened l b.below ≡ 0 = omega (arith, d, outside) in
       record {
-        top = λ r e n w. absurd (no_region l (placed_at next a.top) a.below r (nil_from_length (open_at l.code next) here) (none_opened l a.below below) e);
-        waiting = none_wait (cover holding) s.objects a.below below;
+        top = λ r e n w. absurd (no_region l b.top b.below r (nil_from_length (open_at l.code b.top.pc) here) (none_opened l b.below below) e);
+        waiting = none_wait k objects b.below below;
       }
 
   -- `acq` outside all sections, granted
   pub enters : (list next : ℕ) (locks : List Lock) → slice_get l.code a.top.pc ≡ Some (instr.Acquire list) → next ≡ suc a.top.pc → slice_get image.lists list ≡ Some locks → a.depth ≡ 0 →
-      HasWanted l c stores longest K (cover (grant s.holding t (request_of s.objects a.top.regs locks))) t s.objects (going_on a 1 (placed_at next a.top))
+      HasWanted l c stores longest K (cover (grant s.holding t (request_of s.objects a.top.regs locks)) a.fresh) t s.objects (going_on a 1 (placed_at next a.top))
   enters list next locks at goes listed outside =
       let d = nested.depth in
       let here : length (open_at l.code a.top.pc) ≡ 0 = omega (arith, d, outside) in
@@ -139,7 +139,7 @@ module _ (l : Lowered) (c : Classed) (stores : ℕ → ℕ → Bool) (longest : 
             (let is : Inside list ≡ r = same_Some (Inside list) r (sym region ∙ g) in
             let there : K (Inside list) (suc e.0.acquire) n = subst (λ pc. K (Inside list) pc n) (goes ∙ ap suc (sym e.2)) (subst (λ x. K x next n) (sym is) w) in
             let m = q.program.lists list e.0 locks n e.1 listed there in
-            granted_protects own_view s.holding t s.objects a.top.regs locks (outside_here image s t a q.here outside) stands m.0 n m.1 (q.program.based (Inside list) (suc e.0.acquire) n there)
+            granted_protects own_view s.holding a.fresh t s.objects a.top.regs locks (outside_here image s t a q.here outside) stands m.0 n m.1 (q.program.based (Inside list) (suc e.0.acquire) n there)
             (subst (λ f. StandsOver c f m.0 n) function m.2));
-        waiting = none_wait (cover (grant s.holding t (request_of s.objects a.top.regs locks))) s.objects a.below below;
+        waiting = none_wait (cover (grant s.holding t (request_of s.objects a.top.regs locks)) a.fresh) s.objects a.below below;
       }

@@ -11,7 +11,9 @@ use Rattle.asl_machine.specs.State.{Activity, State, activity_at}
 use Rattle.asl_machine.specs.Run.{start_of, replies_of, first_activity, IsReached}
 use Rattle.asl_machine.specs.Cover.{cover}
 use Rattle.asl_machine.specs.Twin.{step_of}
+use Rattle.asl_machine.specs.Fresh.{AreApart}
 use Rattle.asl_machine.proofs.Soundness.{Here}
+use Rattle.asl_machine.proofs.ReachedApart.{start_apart, step_of_apart}
 use Rattle.asl_soundness.specs.Safe.{IsSafe, NeverUnprotected}
 use Rattle.asl_soundness.specs.Analysed.{IsAnalysed}
 use Rattle.asl_soundness.specs.Wanted.{HasWanted, HaveWanted}
@@ -30,11 +32,13 @@ module _ (l : Lowered) (c : Classed) (stores : ℕ → ℕ → Bool) (longest : 
   -- what holds between steps
   pub record IsGood (s : State) : Type 0 where
     pub structured : IsStructured l c image s
+    pub apart : AreApart image s
     pub has : HaveWanted l c stores longest K s
 
   start_good : (count : ℕ) → IsGood (start_of image count)
   start_good count = record {
     structured = start_structured l c image A.made lay count;
+    apart = start_apart image count;
     has = λ u a e.
         (let first = first_at image count u a e in
         subst (HasWanted l c stores longest K _ u _) first.1
@@ -51,10 +55,11 @@ module _ (l : Lowered) (c : Classed) (stores : ℕ → ℕ → Bool) (longest : 
       let change = each_step l c image A.made s t (λ r u. Change s t u.objects) h.structured.sound (λ a here i d. line_changes c image s t a here h.structured.agrees i _ _ d.line) (Same refl) in
       record {
         structured = now;
-        has = each_thread image s t (λ u b. HasWanted l c stores longest K (cover new.holding) u new.objects b)
-            (each_step l c image A.made s t (λ r u. (b : Activity) → activity_at u.threads t ≡ Some b → HasWanted l c stores longest K (cover u.holding) t u.objects b) h.structured.sound
+        apart = step_of_apart image s t h.structured.sound h.apart;
+        has = each_thread image s t (λ u b. HasWanted l c stores longest K (cover new.holding b.fresh) u new.objects b)
+            (each_step l c image A.made s t (λ r u. (b : Activity) → activity_at u.threads t ≡ Some b → HasWanted l c stores longest K (cover u.holding b.fresh) t u.objects b) h.structured.sound
             (λ a here i d. line_owned l c stores longest K image s t a (ready s t a h here) i _ _ d.at d.fits now.agrees (now.nested t) d.line) (h.has t))
-            (λ u b apart is. others_keep l c stores longest K image A s t h.structured change u b apart (h.structured.sound.formed.placed u b is)
+            (λ u b apart is. others_keep l c stores longest K image A s t h.structured h.apart change u b apart is
             (now.sound.formed.placed u b (still image s t u b apart is)) (h.has u b is));
       }
 

@@ -12,9 +12,10 @@ abbrev pub classed : Classed → Instr → Instr
 classed c (instr.New a n site) = instr.New a n (unwrap_or (slice_get c.sites site) 0)
 classed c i = i
 
--- a verified image of the lowering, with legal classes; of its lists nothing is said here
+-- a verified image of version 2 of the lowering, with legal classes; of its lists nothing is said here
 pub record IsImageOf (l : Lowered) (c : Classed) (image : Image) : Type 0 where
   pub fits : FitsImage image
+  pub version : image.version ≡ 2
   pub legal : IsLegal l c
   pub functions : image.functions ≡ l.functions
   pub start : image.start ≡ l.main

@@ -51,4 +51,4 @@ pub record HasWanted (l : Lowered) (c : Classed) (stores : ℕ → ℕ → Bool)
 -- so it is of each running thread
 abbrev pub HaveWanted : Lowered → Classed → (ℕ → ℕ → Bool) → ℕ → Family → State → Type 0
 HaveWanted l c stores longest K s =
-    (t : ℕ) (a : Activity) → activity_at s.threads t ≡ Some a → HasWanted l c stores longest K (cover s.holding) t s.objects a
+    (t : ℕ) (a : Activity) → activity_at s.threads t ≡ Some a → HasWanted l c stores longest K (cover s.holding a.fresh) t s.objects a

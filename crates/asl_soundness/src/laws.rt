@@ -19,7 +19,7 @@ pub fn needed_locks_are_protected()
     ensures { (l : Lowered) (c : Classed) (stores : ℕ → ℕ → Bool) (longest : ℕ) (image : Image) (count : ℕ) (s : State) (t : ℕ) (a : Activity)
         → IsKept l → IsImageOf l c image → TellsAllStores l c stores → StandOver l c (Needed l c stores longest) image
         → IsReached image count s → activity_at s.threads t ≡ Some a
-        → TopHas l (Needed l c stores longest) (cover s.holding) t s.objects a.top a.below }
+        → TopHas l (Needed l c stores longest) (cover s.holding a.fresh) t s.objects a.top a.below }
 {}
 
 /// In each reached state, for each frame that waits behind a call, all locks that the call leaves of what the frame's region
@@ -28,7 +28,7 @@ pub fn locks_of_waiting_frames_are_protected()
     ensures { (l : Lowered) (c : Classed) (stores : ℕ → ℕ → Bool) (longest : ℕ) (image : Image) (count : ℕ) (s : State) (t : ℕ) (a : Activity)
         → IsKept l → IsImageOf l c image → TellsAllStores l c stores → StandOver l c (Needed l c stores longest) image
         → IsReached image count s → activity_at s.threads t ≡ Some a
-        → WaitingHave l c stores longest (Needed l c stores longest) (cover s.holding) t s.objects a.below }
+        → WaitingHave l c stores longest (Needed l c stores longest) (cover s.holding a.fresh) t s.objects a.below }
 {}
 
 /// No run of such a program ever faults for want of a lock, for a section that was not entered, or for one left open.
