@@ -59,13 +59,13 @@ is_acquire c i list e = e
 
 -- where each prefix that is read is protected, the cells that are read are covered
 reads_covered : (h : Holding) (t : ℕ) (objects : List Object) (regs : List Value) (base : Base) (done ops : List Op)
-    → ((n : Lock) → IsOne (prefixes base done ops) n → Protected (cover h) t objects regs n)
+    → ((n : Lock) → IsOne (prefixes base done ops) n → Protected (cover h []) t objects regs n)
     → ReadsCovered h t objects ops (path_cell (heap_of objects) done (base_cell regs base))
 reads_covered h t objects regs base done [] all = tt
 reads_covered h t objects regs base done (Off places ∷ ops) all =
     subst (ReadsCovered h t objects ops) (path_append (heap_of objects) done (Off places ∷ []) (base_cell regs base)) (reads_covered h t objects regs base (done ++ Off places ∷ []) ops all)
 reads_covered h t objects regs base done (Deref ∷ ops) all = (
-  (λ c class at of. subst (CellProtected (cover h) t objects Read) at (all (on base done Read) (inl refl)) class of),
+  (λ c class at of. subst (CellProtected (cover h []) t objects Read) at (all (on base done Read) (inl refl)) class of),
   subst (ReadsCovered h t objects ops) (path_append (heap_of objects) done (Deref ∷ []) (base_cell regs base)) (reads_covered h t objects regs base (done ++ Deref ∷ []) ops (λ n o. all n (inr o))),
 )
 
@@ -110,10 +110,10 @@ module _ (l : Lowered) (c : Classed) (stores : ℕ → ℕ → Bool) (longest : 
         let lay = layout l c stores longest (Needed l c stores longest) image s t a q in
         lay.parted.one_body a.top.pc section.function a.top.function (subst (InBody l section.function) starts (section_told l lay list section there).first_inside) (body l c stores longest (Needed l c stores longest) image s t a q)
 
-    needed_protected : (n : Lock) → Needed l c stores longest (Inside list) (suc section.acquire) n → Protected (cover Granted) t s.objects a.top.regs n
+    needed_protected : (n : Lock) → Needed l c stores longest (Inside list) (suc section.acquire) n → Protected (cover Granted []) t s.objects a.top.regs n
     needed_protected n k =
         let over = A.lists list section locks n there listed k in
-        granted_protects (own_view l c stores longest (Needed l c stores longest) image s t a q) s.holding t s.objects a.top.regs locks (outside_here image s t a q.here entry.depth)
+        granted_protects (own_view l c stores longest (Needed l c stores longest) image s t a q) s.holding [] t s.objects a.top.regs locks (outside_here image s t a q.here entry.depth)
         (stands l c stores longest (Needed l c stores longest) image s t a q) over.0 n over.1 (A.based (Inside list) (suc section.acquire) n k) (subst (λ f. StandsOver c f over.0 n) function_here over.2)
 
     list_covered : (ls : List Lock) → ((n : Lock) → IsOne ls n → IsOne locks n) → ListCovered Granted t s.objects a.top.regs ls

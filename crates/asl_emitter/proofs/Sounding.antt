@@ -27,6 +27,7 @@ pub inferred_analysed : (l : Lowered) (c : Classed) (stores : ℕ → ℕ → Bo
 inferred_analysed l c stores longest image kept are few tells m =
     let made : IsImageOf l c image = record {
       fits = inferred_fits l c stores longest image kept are few m;
+      version = m.version;
       legal = are.least.legal;
       functions = m.functions;
       start = m.start;

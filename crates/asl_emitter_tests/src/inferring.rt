@@ -31,13 +31,19 @@ const CALL: &str =
 
 const FRESH: &str = "global g; fn main(t) { atomic { n = new 1; *n = t; } return t; }";
 
+const FRESH_AND_PUBLISHED: &str =
+    "global h; fn main(t) { p = &h; atomic { n = new 1; *n = t; *p = n; } return t; }";
+
+const FRESH_NO_MORE: &str =
+    "global g; fn main(t) { atomic { n = new 1; } atomic { *n = t; } return t; }";
+
 const NESTING: &str =
     "global g; fn main(t) { p = &g; atomic { atomic { *p = t; } *p = t; } return t; }";
 
 /// A source, the longest path, and the lists as the assembly text spells them.
 type Row = (&'static str, u32, &'static str);
 
-const BY_HAND: [Row; 12] = [
+const BY_HAND: [Row; 14] = [
     (COUNTER, 3, "list\nexpr r1 write\n"),
     (COUNTER, 0, "list\nexpr r1 write\n"),
     (PUSH, 3, "list\nexpr r1 .1 write\nexpr r2 write\n"),
@@ -64,7 +70,9 @@ const BY_HAND: [Row; 12] = [
         3,
         "list\nclass 2 write\nexpr r2 write\nexpr g1 write\n",
     ),
-    (FRESH, 3, "list\nclass 1 write\n"),
+    (FRESH, 3, "list\n"),
+    (FRESH_AND_PUBLISHED, 3, "list\nexpr r1 write\n"),
+    (FRESH_NO_MORE, 3, "list\nlist\nexpr r1 write\n"),
     (NESTING, 3, "list\nexpr r1 write\nlist\nexpr r1 write\n"),
 ];
 

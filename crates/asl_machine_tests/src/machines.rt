@@ -1,4 +1,5 @@
 //! What the readers tell, what is refused, and want of memory.
+mod fresh;
 mod programs;
 mod readers;
 

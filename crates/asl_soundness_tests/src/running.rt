@@ -1,7 +1,7 @@
 //! Runs of inferred programs, whole and with a lock taken out of a list.
 use crate::orders::{ORDERS, Order, STEPS, next_number, thread_of};
 use crate::sources::{
-    BARE_AND_INNER, CALL, ENDLESS, POSSIBLE_HIT, RECURSION, WALK, WALK_AND_STORE,
+    BARE_AND_INNER, CALL, ENDLESS, LATER, POSSIBLE_HIT, PUBLISH, RECURSION, WALK, WALK_AND_STORE,
 };
 use asl_code::{Items, Program};
 use asl_emitter::infer;
@@ -74,7 +74,7 @@ fn found_cut(alloc: Global, source: &str) -> Option<u32> {
     unsafe_in_all(alloc, &with_a_lock_less(alloc, inferred(alloc, source)?)?)
 }
 
-const SOURCES: [&str; 7] = [
+const SOURCES: [&str; 9] = [
     WALK,
     WALK_AND_STORE,
     POSSIBLE_HIT,
@@ -82,6 +82,8 @@ const SOURCES: [&str; 7] = [
     RECURSION,
     BARE_AND_INNER,
     ENDLESS,
+    PUBLISH,
+    LATER,
 ];
 
 #[test]

@@ -28,6 +28,14 @@ pub const BARE_AND_INNER: &str =
 pub const ENDLESS: &str =
     "global h; fn main(t) { one = 1; p = &h; while one { n = new 2; atomic { y = *p; g = &n[1]; *g = y; *p = n; } atomic { x = *p; while x { f = &x[0]; *f = t; f = &x[1]; x = *f; } } } return t; }";
 
+/// Makes a cell in the section, stores into it, and then where others find it.
+pub const PUBLISH: &str =
+    "global h; fn main(t) { p = &h; atomic { n = new 1; *n = t; *p = n; } return t; }";
+
+/// Makes a cell in one section, and stores into it in the next.
+pub const LATER: &str =
+    "global g; fn main(t) { atomic { n = new 1; } atomic { *n = t; } return t; }";
+
 /// Moves one from a global to another, again and again.
 pub const TRANSFER: &str =
     "global a; global b; fn main(t) { one = 1; p = &a; q = &b; while one { atomic { x = *p; y = x - one; *p = y; z = *q; w = z + one; *q = w; out w; } } return t; }";

@@ -1,5 +1,5 @@
 -- The view of a machine, as the command `debug` writes it (docs/JOURNAL.md, "The view").
-use Rattle.std.specs.Prelude.{◌≡◌, ◌<◌, ◌≤◌, ℕ, zero, suc, List, [], ◌∷◌, ◌++◌, length, min, Option, None, Some, slice_get, option_and_then, codes}
+use Rattle.std.specs.Prelude.{◌≡◌, ◌<◌, ◌≤◌, ℕ, zero, suc, List, [], ◌∷◌, ◌++◌, length, min, Option, None, Some, slice_get, option_and_then, codes, if◌then◌else◌}
 use Rattle.std.specs.Fmt.{decimal}
 use Rattle.std.specs.Option.{option_map_or}
 use Rattle.asl_code.specs.declared.value.Cell.{Cell}
@@ -10,6 +10,8 @@ use Rattle.asl_lock_forest.specs.declared.node.Node.{Node}
 use Rattle.asl_lock_forest.specs.declared.node.Node.TheVariants.{Root, Class, Leaf}
 use Rattle.asl_lock_forest.specs.Holding.{held}
 use Rattle.asl_machine.specs.State.{Thread, Running, Done, Failed, State, cell_at, size_of, class_of, activity_at}
+use Rattle.asl_machine.specs.Cover.{is_fresh}
+use Rattle.asl_machine.specs.Fresh.{fresh_at}
 use Rattle.asl_machine.specs.View.{Configuration}
 use Rattle.asl_tool.specs.Output.{address_text, value_text, fault_text}
 
@@ -97,14 +99,25 @@ abbrev pub holding_text : ℕ → State → ℕ → List ℕ
 holding_text classes s t =
     held_line s t Root ++ (lines_from (λ class. held_line s t (Class class)) 0 classes ++ lines_from (leaves_at s t) 0 (length s.objects))
 
+-- ---- what is fresh for whom
+
+-- the line of an object, if it is fresh for the thread (docs/JOURNAL.md, The view)
+abbrev pub fresh_line : State → ℕ → ℕ → List ℕ
+fresh_line s t o = if is_fresh (fresh_at s.threads t) o then codes "fresh " ++ decimal t ++ codes " " ++ decimal o ++ 10 ∷ [] else []
+
+-- the objects that are fresh for a thread (docs/JOURNAL.md, The view)
+abbrev pub fresh_text : State → ℕ → List ℕ
+fresh_text s t = lines_from (fresh_line s t) 0 (length s.objects)
+
 -- ---- the whole
 
--- the view: the threads, the cells, and what each thread holds (docs/JOURNAL.md, The view)
+-- the view: the threads, the cells, what each thread holds, and what is fresh for each (docs/JOURNAL.md, The view)
 abbrev pub view_text : Configuration → List ℕ
 view_text m =
     lines_from (thread_text m.state) 0 (length m.state.threads)
     ++ (lines_from (object_text m.state) 0 (length m.state.objects)
-    ++ lines_from (holding_text m.image.classes m.state) 0 (length m.state.threads))
+    ++ (lines_from (holding_text m.image.classes m.state) 0 (length m.state.threads)
+    ++ lines_from (fresh_text m.state) 0 (length m.state.threads)))
 
 -- Machinery of private functions: the numbers of objects and of classes fit an address and a node.
 pub record HasNumbers (m : Configuration) : Type 0 where

@@ -4,7 +4,7 @@ ghost use Rattle.std.specs.Option.{option_map_or};
 ghost use Rattle.asl_lock_forest.specs.declared.node.Node.TheVariants.{Class, Leaf, Root};
 ghost use Rattle.asl_machine.specs.State.{class_of};
 ghost use Rattle.asl_tool.specs.View.{HasNumbers, cell_count, cell_line, cell_of, held_line, holding_text, leaves_at, leaves_text};
-ghost use Rattle.asl_tool.specs.View.{lines_from, mode_name, node_text, object_text, place_at, register_at, thread_text, view_text};
+ghost use Rattle.asl_tool.specs.View.{fresh_line, fresh_text, lines_from, mode_name, node_text, object_text, place_at, register_at, thread_text, view_text};
 
 use crate::replies::{push_address, push_fault, push_value};
 use asl_code::{Cell, Program};
@@ -19,7 +19,7 @@ const MOST_REGISTERS: u32 = 64;
 /// How many cells of an object an address can name.
 const MOST_CELLS: u32 = 256;
 
-/// Adds the view of the program's machine: its threads, its cells, and what each thread holds.
+/// Adds the view of the program's machine: its threads, its cells, what each thread holds, and what is fresh for each.
 pub fn push_view(
     text: &mut String,
     program: &Program,
@@ -31,7 +31,8 @@ pub fn push_view(
 {
     push_threads(text, machine)?;
     push_cells(text, machine)?;
-    push_holdings(text, program.classes(), machine)
+    push_holdings(text, program.classes(), machine)?;
+    push_all_fresh(text, machine)
 }
 
 fn push_threads(text: &mut String, machine: &Machine<'_>) -> Result<(), AllocError>
@@ -290,5 +291,43 @@ fn push_node(text: &mut String, node: Node) -> Result<(), AllocError>
             text.push_str("leaf ")?;
             push_address(text, cell.object, cell.offset)
         }
+    }
+}
+
+fn push_all_fresh(text: &mut String, machine: &Machine<'_>) -> Result<(), AllocError>
+    ensures { OnOk result (string_bytes text.new ≡ string_bytes text.old
+        ++ lines_from (fresh_text machine.now.state) 0 (length machine.now.state.threads)) }
+{
+    for t in 0..machine.threads() {
+        push_fresh_of(text, machine, t)?;
+    }
+    Ok(())
+}
+
+/// Adds the objects that are fresh for the thread.
+fn push_fresh_of(text: &mut String, machine: &Machine<'_>, t: u32) -> Result<(), AllocError>
+    requires { t < length machine.now.state.threads }
+    ensures { OnOk result (string_bytes text.new ≡ string_bytes text.old ++ fresh_text machine.now.state t) }
+{
+    for object in 0..machine.objects() {
+        push_fresh(text, machine, t, object)?;
+    }
+    Ok(())
+}
+
+/// Adds the object, if it is fresh for the thread.
+fn push_fresh(
+    text: &mut String,
+    machine: &Machine<'_>,
+    t: u32,
+    object: u32,
+) -> Result<(), AllocError>
+    requires { t < length machine.now.state.threads }
+    ensures { OnOk result (string_bytes text.new ≡ string_bytes text.old ++ fresh_line machine.now.state t object) }
+{
+    if machine.fresh(t, object) {
+        write!(text, "fresh {t} {object}\n")
+    } else {
+        Ok(())
     }
 }

@@ -56,6 +56,72 @@ pub const GROWING: [Instr; 3] = [
     END,
 ];
 
+const MAKE: Instr = Instr::New {
+    to: 1,
+    cells: 1,
+    class: 0,
+};
+
+const STORE: Instr = Instr::Store {
+    address: 1,
+    from: 0,
+};
+
+/// Makes an object in a section and stores into it.
+pub const MAKING: [Instr; 5] = [ENTER, MAKE, STORE, Instr::Release, END];
+
+/// Makes an object in one section and stores into it in the next.
+pub const LATE: [Instr; 7] = [
+    ENTER,
+    MAKE,
+    Instr::Release,
+    ENTER,
+    STORE,
+    Instr::Release,
+    END,
+];
+
+/// Makes an object in a section inside a section, and stores into it behind the inner one.
+pub const NESTING: [Instr; 7] = [
+    ENTER,
+    ENTER,
+    MAKE,
+    Instr::Release,
+    STORE,
+    Instr::Release,
+    END,
+];
+
+/// Makes an object outside all sections, and stores into it inside one.
+pub const EARLY: [Instr; 5] = [MAKE, ENTER, STORE, Instr::Release, END];
+
+/// Makes two objects in a section, and stores into the first by its address in the second's first cell.
+pub const LINKING: [Instr; 8] = [
+    ENTER,
+    MAKE,
+    Instr::New {
+        to: 2,
+        cells: 1,
+        class: 0,
+    },
+    Instr::Store {
+        address: 2,
+        from: 1,
+    },
+    Instr::Load { to: 1, address: 2 },
+    STORE,
+    Instr::Release,
+    END,
+];
+
+/// The program of this version, of one function over one global, of class 0; its only list locks nothing.
+pub fn unlocked(alloc: Global, version: u32, code: &[Instr]) -> Result<Program, Fail> {
+    let mut image = image(alloc, code)?;
+    image.version = version;
+    image.lists = Items::from_vec(vec![in alloc; Items::new(alloc)]?);
+    verified(image)
+}
+
 /// The program of one function over one global, of class 0; its only list locks for writing the cell whose address is in
 /// register 1.
 pub fn program(alloc: Global, code: &[Instr]) -> Result<Program, Fail> {
