@@ -165,3 +165,29 @@ fn changed_bytes_are_refused_at_their_place(rt: HostRuntime) {
         }
     }
 }
+
+/// The journal of 100 threads without events.
+const HUNDRED: [u8; 11] = [0x41, 0x53, 0x4c, 0x4a, 0, 2, 100, 0, 0, 0, 0];
+
+/// What the journal's bytes meet as a file of this version with so many threads.
+fn counted(alloc: Global, version: u8, threads: u8) -> Option<Option<JournalFault>> {
+    let mut bytes = HUNDRED;
+    bytes[5] = version;
+    bytes[6] = threads;
+    refusal(alloc, &bytes)
+}
+
+#[test]
+fn each_number_of_threads_has_one_version(rt: HostRuntime) {
+    for threads in 0..=255 {
+        let first = counted(rt.alloc(), 1, threads) == Some(None);
+        let second = counted(rt.alloc(), 2, threads) == Some(None);
+        assert!(rt; first == (0 < threads && threads < 65), "{threads} threads");
+        assert!(rt;
+            second == (64 < threads && threads < 129),
+            "{threads} threads"
+        );
+    }
+    let other = counted(rt.alloc(), 1, 100);
+    assert!(rt; other == Some(Some(JournalFault::BadField(6))));
+}

@@ -217,3 +217,22 @@ fn a_blocked_step_is_an_event(rt: HostRuntime) {
         assert!(rt; false);
     }
 }
+
+/// What a journal of so many threads without events meets at a program of this text.
+fn empty_met(alloc: Global, text: &[u8], n: u32) -> Option<Option<JournalFault>> {
+    let program = program(alloc, text)?;
+    let journal = Journal::of(n, Vec::new(alloc)).ok()?;
+    Some(replay(alloc, &program, &journal).err())
+}
+
+/// A loop that does nothing, of version 2.
+const SECOND: &[u8] = b"version 2\nclasses 0\nentry 0\nfn 1 1\njmp 0\n";
+
+#[test]
+fn a_program_replays_as_many_threads_as_it_starts(rt: HostRuntime) {
+    assert!(rt; empty_met(rt.alloc(), LOOP, 64) == Some(None));
+    assert!(rt; empty_met(rt.alloc(), LOOP, 65) == Some(Some(JournalFault::BadCount)));
+    assert!(rt; empty_met(rt.alloc(), COUNTER, 100) == Some(Some(JournalFault::BadCount)));
+    assert!(rt; empty_met(rt.alloc(), SECOND, 65) == Some(None));
+    assert!(rt; empty_met(rt.alloc(), SECOND, 128) == Some(None));
+}
