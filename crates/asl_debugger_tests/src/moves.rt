@@ -156,3 +156,17 @@ fn returned(alloc: Global) -> Option<(DebugFault, usize)> {
 fn a_journal_that_differs_comes_back(rt: HostRuntime) {
     assert!(rt; returned(rt.alloc()) == Some((DebugFault::Differs(3), 18)));
 }
+
+/// Why no debugger opens a journal of so many threads without events over the counter, and how many threads come back.
+fn crowded(alloc: Global, n: u32) -> Option<(DebugFault, u32)> {
+    let program = counter(alloc)?;
+    let journal = Journal::of(n, Vec::new(alloc)).ok()?;
+    let (fault, journal) = Debugger::open(alloc, &program, journal, 2).err()?;
+    Some((fault, journal.threads()))
+}
+
+#[test]
+fn a_journal_of_more_threads_than_the_program_starts_is_not_opened(rt: HostRuntime) {
+    assert!(rt; crowded(rt.alloc(), 100) == Some((DebugFault::BadCount, 100)));
+    assert!(rt; crowded(rt.alloc(), 64).is_none());
+}
