@@ -13,9 +13,9 @@ static IMAGE: [u8; 94] =
 
 /// What an independent reader found of the 23,970 changed images: good ones, then those that each refusal met.
 static FOUND: [Met; 15] = [
-    (1_453, 0),
+    (1_454, 0),
     (1_020, 0),
-    (510, 0),
+    (509, 0),
     (2_012, 189_128),
     (12_922, 754_843),
     (12, 794),

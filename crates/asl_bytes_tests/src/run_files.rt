@@ -17,9 +17,9 @@ static FILE: [u8; 117] =
 /// What an independent reader found of the 29,835 changed files: good ones, then those that each refusal met: of the image,
 /// of the file as a whole, and of the journal.
 static FOUND: [Met; 21] = [
-    (1_527, 0),
+    (1_528, 0),
     (1_020, 0),
-    (510, 0),
+    (509, 0),
     (2_106, 193_499),
     (12_922, 754_843),
     (31, 2_580),
@@ -34,9 +34,9 @@ static FOUND: [Met; 21] = [
     (251, 251),
     (907, 106_119),
     (1_020, 0),
-    (510, 0),
+    (509, 0),
     (766, 14_554),
-    (2_471, 32_290),
+    (2_472, 32_296),
     (4, 56),
 ];
 

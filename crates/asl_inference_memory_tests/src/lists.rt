@@ -149,7 +149,7 @@ fn class_locks(alloc: Global, count: u16) -> Result<Vec<Lock>, AllocError> {
 
 /// What is left of more locks than a list takes.
 fn fitted(alloc: Global) -> Option<Vec<Lock>> {
-    let given = answered(alloc, AllocError, class_locks, 65)?;
+    let given = answered(alloc, AllocError, class_locks, 257)?;
     left(alloc, Making::Fit, given.as_slice())
 }
 

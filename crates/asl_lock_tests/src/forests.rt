@@ -126,10 +126,10 @@ fn three_threads_share_a_class(rt: HostRuntime) -> Result<(), Fail> {
 #[test]
 fn the_empty_request_is_granted(rt: HostRuntime) -> Result<(), Fail> {
     let alloc = rt.alloc();
-    let mut forest = Forest::new(alloc, 0, 64)?;
-    let all = forest.try_acquire(alloc, 63, &[])?;
+    let mut forest = Forest::new(alloc, 0, 128)?;
+    let all = forest.try_acquire(alloc, 127, &[])?;
     assert!(rt; all);
-    assert!(rt; forest.mode(63, Node::Root) == Mode::NL);
+    assert!(rt; forest.mode(127, Node::Root) == Mode::NL);
     Ok(())
 }
 

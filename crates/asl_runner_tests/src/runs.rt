@@ -150,6 +150,10 @@ pub fn counter(alloc: Global) -> Option<Program> {
     }
 }
 
+/// The counter, of version 2.
+const SECOND: &[u8] =
+    b"version 2\nclasses 1\nglobal 0\nentry 0\nfn 1 5\nglob r1, g0\nacq 0\nload r2, r1\nint r3, 1\nadd r4, r2, r3\nstore r1, r4\nrel\nret r0\nlist\nexpr r1 write\n";
+
 /// What a run of the counter comes to: a report, or a fault without one.
 pub fn outcome<R: Threads + Wait + Sync, G: Gate>(
     rt: &R,
@@ -245,5 +249,19 @@ fn what_no_run_has_is_refused(rt: HostRuntime) -> Result<(), Fail> {
         let ran = outcome(&rt, rt.alloc(), &program, asked, &Open);
         assert!(rt; ran == Some(Err(RunFault::BadCount)));
     }
+    Ok(())
+}
+
+#[test]
+fn a_run_of_version_2_has_1_to_128_threads(rt: HostRuntime) -> Result<(), Fail> {
+    let program = assemble(rt.alloc(), SECOND).ok().ok_or("no program")?;
+    let ran = outcome(&rt, rt.alloc(), &program, (128, 8, 1_000_000), &Open);
+    let counted = match ran {
+        Some(Ok(told)) => Some((told.counter, told.ended)),
+        _ => None,
+    };
+    assert!(rt; counted == Some((Some(Value::Int(128)), 128)));
+    let ran = outcome(&rt, rt.alloc(), &program, (129, 8, 10), &Open);
+    assert!(rt; ran == Some(Err(RunFault::BadCount)));
     Ok(())
 }

@@ -8,7 +8,7 @@ const COUNTER: &str =
     "global g; fn main(t) { p = &g; atomic { x = *p; one = 1; y = x + one; *p = y; } return t; }";
 
 const COUNTER_TEXT: &str =
-    "version 1\nclasses 1\nglobal 0\nentry 0\nfn 1 5\nglob r1, g0\nacq 0\nload r2, r1\n\
+    "version 2\nclasses 1\nglobal 0\nentry 0\nfn 1 5\nglob r1, g0\nacq 0\nload r2, r1\n\
     int r3, 1\nadd r4, r2, r3\nstore r1, r4\nrel\nret r0\nlist\nexpr r1 write\n";
 
 /// The words, a source, the status, and the last lines of the output, or what is said.
