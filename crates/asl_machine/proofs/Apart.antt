@@ -1,5 +1,5 @@
 -- Each step keeps fresh objects apart.
-use Rattle.std.proofs.Common.{◌≡◌, ◌≢◌, ℕ, zero, suc, pos, ◌+◌, ◌-◌, ◌<◌, ◌≤◌, ◌⊎◌, ◌||◌, ◌++◌, replicate, take, drop, Bool, true, false, List, [], ◌∷◌, Some, None, length, set, slice_get, refl, ap, ap₂, sym, ◌∙◌, subst, inl, inr, arith}
+use Rattle.std.proofs.Common.{◌≡◌, ◌≢◌, ℕ, zero, suc, pos, ◌+◌, ◌-◌, ◌<◌, ◌⊎◌, ◌||◌, ◌++◌, replicate, take, drop, true, false, List, [], ◌∷◌, Some, None, length, set, slice_get, refl, ap, ap₂, sym, ◌∙◌, subst, inl, inr, arith}
 use Rattle.std.specs.Prelude.{Option, option_and_then, IsTrue}
 use Rattle.std.specs.Option.{option_map_or}
 use Rattle.std.proofs.lemmas.Bool.Decides.{eqb_tells}
@@ -27,7 +27,7 @@ use Rattle.asl_machine.specs.Calls.{function_of, first_registers, values_from, w
 use Rattle.asl_machine.specs.Access.{AllPoint}
 use Rattle.asl_machine.specs.Sound.{IsPlaced, AreSuspended, IsSound}
 use Rattle.asl_machine.specs.Fresh.{fresh_of, fresh_at, IsFreshFor, PointElsewhere, AllElsewhere, MayHold, AreApart}
-use Rattle.asl_machine.specs.Step.{At, Line, StepOf, Step, Sets, Fails, after, advanced, advanced_with, placed_at, going_on, called, returned, made_fresh, having_made, left_last, is_allowed}
+use Rattle.asl_machine.specs.Step.{At, Line, StepOf, Step, Sets, Fails, after, advanced, advanced_with, placed_at, going_on, called, returned, having_made, left_last, is_allowed}
 use Rattle.asl_machine.proofs.Lists.{get_same, get_other, get_either, one_more, replicated}
 use Rattle.asl_machine.proofs.Heaps.{class_of-written, length-written, stored_or_old, object_there, class_there, points_within, read_before, many_globals}
 use Rattle.asl_machine.proofs.Freshness.{or_split, no_fresh, made_either, made_keeps, made_outside, covers_held, allowed_covers}

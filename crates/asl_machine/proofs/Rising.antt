@@ -1,5 +1,5 @@
 -- What a search by halves finds in numbers that rise.
-use Rattle.std.proofs.Common.{◌≡◌, ℕ, zero, suc, ◌<◌, ◌≤◌, ◌==◌, Bool, true, false, List, [], ◌∷◌, Result, Ok, Err, length, get_or, refl, sym, subst, inl, inr, arith, eqb-true}
+use Rattle.std.proofs.Common.{◌≡◌, ℕ, suc, ◌<◌, ◌≤◌, ◌==◌, true, false, List, [], ◌∷◌, Result, Ok, Err, length, get_or, refl, sym, subst, inl, inr, arith, eqb-true}
 use Rattle.std.specs.Prelude.{IsTrue, MatchResult}
 use Rattle.std.specs.Ordering.{nat_cmp}
 use Rattle.std.specs.List.Sorted.{IsNonDecreasing, IsBinarySearchResult}
