@@ -93,7 +93,7 @@ const BY_HAND: [(&str, &[Row]); 4] = [
             ),
             (3, 12, "root write", "root write"),
             (3, 12, "class 1 read", "class 1 read"),
-            (3, 0, "expr r1 .1 write", "class 1 write"),
+            (3, 0, "expr r1 .1 write", ""),
             (3, 0, "expr r1 .1 * write", ""),
             (1, 9, "expr r5 .1 write", "class 1 write"),
         ],

@@ -90,12 +90,12 @@ const FOUND_BY_ANOTHER: [Row; 24] = [
     (
         "global a; global b; fn main(c){ d=1; e=3; f=&b; g=&b; atomic{ h=&a; i=&a; *i=h; i=&b; *i=h; } while d{ g=&f[0]; atomic{ g=*f; g=&b; atomic{ *g=f; f=&f[0]; *f=g; f=new 1; *f=g; g=new 1; *g=g; f=*f; } f=&g[0]; *f=f; } } return c; }",
         1,
-        "list\nexpr g0 write\nexpr g1 write\nlist\nclass 0 write\nlist\nclass 0 write\n",
+        "list\nexpr g0 write\nexpr g1 write\nlist\nexpr r3 read\nexpr r3 .0 write\nexpr g1 write\nlist\nexpr r3 .0 write\nexpr r4 write\n",
     ),
     (
         "global a; global b; fn main(c){ d=1; e=2; f=&b; g=&a; atomic{ h=&a; i=&a; *i=h; i=&b; *i=h; } while d{ g=&b; atomic{ f=&g[0]; g=&f[0]; g=new 2; *g=f; h=&g[1]; *h=f; j=g==g; if j{ f=new 2; *f=g; h=&f[1]; *h=f; f=&a; } else{ g=*f; f=f; } } } return c; }",
         1,
-        "list\nexpr g0 write\nexpr g1 write\nlist\nclass 0 write\n",
+        "list\nexpr g0 write\nexpr g1 write\nlist\nexpr r4 .0 read\n",
     ),
     (
         "global a; global b; global c; global d; fn e(f){ g=1; h=&a; i=&a; j=&a; k=&c; l=&d; m=&d; k=new 2; *k=h; n=&k[1]; *n=j; k=n; l=*i; *h=k; l=&m[0]; return l; } fn main(o){ g=1; f=1; h=&b; i=&b; j=&b; k=&c; l=&c; m=&d; atomic{ n=&d; p=&a; *p=n; p=&b; *p=n; q=&a; r=&c; *r=q; r=&d; *r=q; } while g{ i=h; atomic{ *k=h; *j=l; } } return o; }",
@@ -105,7 +105,7 @@ const FOUND_BY_ANOTHER: [Row; 24] = [
     (
         "global a; global b; global c; global d; fn main(e){ f=1; g=2; h=&b; i=&a; j=&a; k=&d; l=&d; m=&c; atomic{ n=&d; o=&a; *o=n; o=&b; *o=n; p=&b; q=&c; *q=p; q=&d; *q=p; } while f{ r=3; while r{ i=&h[0]; r=r-f; } atomic{ j=i; l=&d; *j=m; s=1; while s{ *m=i; h=j; s=s-f; } } i=&b; atomic{ k=*j; m=new 2; *m=i; n=&m[1]; *n=j; h=*m; } atomic{ *m=i; t=j==j; if t{ m=*i; } m=*i; k=m; j=*l; *l=j; } } return e; }",
         1,
-        "list\nexpr g0 write\nexpr g1 write\nexpr g2 write\nexpr g3 write\nlist\nexpr r4 write\nexpr r8 write\nlist\nclass 1 write\nexpr r5 read\nlist\nexpr r4 read\nexpr r7 write\nexpr r8 write\n",
+        "list\nexpr g0 write\nexpr g1 write\nexpr g2 write\nexpr g3 write\nlist\nexpr r4 write\nexpr r8 write\nlist\nexpr r5 read\nlist\nexpr r4 read\nexpr r7 write\nexpr r8 write\n",
     ),
     (
         "global a; global b; global c; global d; fn e(f,g,h){ i=1; j=1; k=null; l=&a; m=&a; n=&b; o=&d; atomic{ *n=h; h=*o; *o=h; } if f{ p=f-i; k=e(p,g,h); } n=&c; return k; } fn main(q){ f=0; i=1; g=2; j=0; h=null; k=null; l=&a; m=&a; n=&b; o=&c; g=q; while i{ h=null; n=&d; atomic{ if h{ n=&h[1]; } k=*o; } } return j; }",
@@ -160,7 +160,7 @@ const FOUND_BY_ANOTHER: [Row; 24] = [
     (
         "global a; global b; fn c(d,e,f,g){ h=1; i=e; j=f; k=g; *j=j; return i; } fn main(l){ h=1; d=3; i=&a; j=&a; k=&b; atomic{ m=&b; n=&a; *n=m; n=&b; *n=m; } while h{ atomic{ i=new 1; *i=j; } j=&i[0]; i=&i[0]; atomic{ k=*k; j=new 1; *j=j; i=&a; } } return l; }",
         8,
-        "list\nexpr g0 write\nexpr g1 write\nlist\nclass 0 write\nlist\nclass 0 write\n",
+        "list\nexpr g0 write\nexpr g1 write\nlist\nlist\nexpr r5 read\n",
     ),
     (
         "global a; global b; global c; global d; global e; global f; fn main(g){ h=1; i=0; j=&a; k=&a; l=&d; m=&c; n=&e; o=&e; atomic{ p=&c; q=&a; *q=p; q=&b; *q=p; r=&e; s=&c; *s=r; s=&d; *s=r; t=&a; u=&e; *u=t; u=&f; *u=t; } while h{ atomic{ k=*o; } } return g; }",
@@ -170,17 +170,17 @@ const FOUND_BY_ANOTHER: [Row; 24] = [
     (
         "global a; global b; fn main(c){ d=1; e=2; f=&b; g=&b; h=&b; atomic{ i=&b; j=&a; *j=i; j=&b; *j=i; } while d{ h=&h[0]; atomic{ i=g; f=*i; *i=f; atomic{ g=f; i=h; g=*i; *i=g; h=new 2; *h=g; i=&h[1]; *i=g; h=*h; } i=f; h=*i; *i=h; h=*h; f=new 2; *f=g; i=&f[1]; *i=f; f=i; *g=f; } } return c; }",
         8,
-        "list\nexpr g0 write\nexpr g1 write\nlist\nclass 0 write\nlist\nclass 0 write\n",
+        "list\nexpr g0 write\nexpr g1 write\nlist\nexpr r4 write\nexpr r4 * write\nexpr r4 * * read\nexpr r5 write\nexpr r5 * write\nlist\nexpr r5 write\n",
     ),
     (
         "global a; global b; fn main(c){ d=1; e=2; f=&a; g=&a; atomic{ h=&a; i=&a; *i=h; i=&b; *i=h; } while d{ atomic{ g=*f; f=&b; *g=g; *g=g; h=f; f=*h; *h=f; h=g; g=*h; *h=g; f=*f; } atomic{ f=*g; } atomic{ g=new 1; *g=f; j=f==f; if j{ g=&f[0]; } } g=f; atomic{ g=f; *f=f; f=&b; g=*g; *f=g; g=&a; *f=g; } } return c; }",
         8,
-        "list\nexpr g0 write\nexpr g1 write\nlist\nexpr r3 read\nexpr r3 * write\nexpr g1 write\nexpr g1 * read\nlist\nexpr r4 read\nlist\nclass 0 write\nlist\nexpr r3 write\nexpr g1 write\n",
+        "list\nexpr g0 write\nexpr g1 write\nlist\nexpr r3 read\nexpr r3 * write\nexpr g1 write\nexpr g1 * read\nlist\nexpr r4 read\nlist\nlist\nexpr r3 write\nexpr g1 write\n",
     ),
     (
         "global a; global b; fn c(d,e,f,g){ h=1; i=e; j=f; k=g; k=new 2; *k=i; l=&k[1]; *l=i; j=i; m=i==i; if m{ *j=i; if d{ n=d-h; i=c(n,k,j,k); } l=j; j=*l; *l=j; } else{ k=*j; } return i; } fn main(o){ h=1; d=3; i=&b; j=&a; k=&b; atomic{ l=&a; p=&a; *p=l; p=&b; *p=l; } while h{ atomic{ l=k; i=*l; *l=i; k=new 2; *k=j; l=&k[1]; *l=k; k=l; } } return o; }",
         8,
-        "list\nexpr g0 write\nexpr g1 write\nlist\nclass 0 write\n",
+        "list\nexpr g0 write\nexpr g1 write\nlist\nexpr r5 write\n",
     ),
     (
         "global a; global b; global c; global d; fn e(f,g,h,i){ j=1; k=g; l=h; m=i; n=&c; n=*k; return k; } fn main(o){ j=1; f=1; k=&a; l=&a; m=&d; n=&c; atomic{ p=&d; q=&a; *q=p; q=&b; *q=p; r=&a; s=&c; *s=r; s=&d; *s=r; } while j{ l=&l[0]; atomic{ *n=l; *m=l; k=*m; } l=&l[0]; atomic{ *m=l; if f{ t=f-j; k=e(t,k,k,m); } if f{ t=f-j; l=e(t,k,k,n); } *n=l; m=*k; } } return o; }",
@@ -190,7 +190,7 @@ const FOUND_BY_ANOTHER: [Row; 24] = [
     (
         "global a; global b; global c; global d; fn main(e){ f=1; g=1; h=&b; i=&b; j=&b; k=&c; l=&c; m=&c; atomic{ n=&d; o=&a; *o=n; o=&b; *o=n; p=&b; q=&c; *q=p; q=&d; *q=p; } while f{ r=j==j; if r{ atomic{ h=*m; } } atomic{ j=h; h=*k; k=*h; r=j==h; if r{ *m=j; *i=m; } else{ j=new 2; *j=k; p=&j[1]; *p=k; *j=l; } *m=j; l=k; r=i==h; if r{ *l=j; n=m; j=*n; *n=j; } j=&h[0]; } } return e; }",
         8,
-        "list\nexpr g0 write\nexpr g1 write\nexpr g2 write\nexpr g3 write\nlist\nexpr r8 read\nlist\nclass 0 write\nexpr r6 read\nexpr r6 * * write\nexpr r8 write\n",
+        "list\nexpr g0 write\nexpr g1 write\nexpr g2 write\nexpr g3 write\nlist\nexpr r8 read\nlist\nexpr r4 write\nexpr r6 read\nexpr r6 * read\nexpr r6 * * write\nexpr r8 write\n",
     ),
     (
         "global a; global b; global c; global d; fn e(f){ g=1; h=&b; i=&b; j=&a; k=&c; l=&d; m=&c; n=k==m; if n{ k=*h; } if f{ o=f-g; j=e(o); } return j; } fn main(p){ g=1; f=2; h=&a; i=&a; j=&b; k=&d; l=&d; m=&d; atomic{ q=&d; r=&a; *r=q; r=&b; *r=q; s=&a; t=&c; *t=s; t=&d; *t=s; } while g{ atomic{ s=j; l=*s; *s=l; n=h==i; if n{ if f{ o=f-g; h=e(o); } } if f{ o=f-g; h=e(o); } *k=h; h=i; *j=l; k=&c; i=*k; } } return p; }",

@@ -48,11 +48,11 @@ fn flow(alloc: Global, loads: u32, anew: bool) -> Result<Result<Flow, FlowFault>
     Ok(needed(alloc, &lowering, &classes, 3))
 }
 
-/// Each load of a global's cell needs a lock on the cell, and all need one on `f`: together 4,097. Loads of cells that are made
-/// anew need besides the one class to which `f` and so all locals point: 4,095 of them need 4,097 locks too.
+/// Each load needs a lock on its cell, and all need one on `f`: together 4,097. Cells that are made anew need theirs between the
+/// `new` and the load.
 #[test]
 fn one_lock_more_than_4_096_is_too_many(rt: HostRuntime) -> Result<(), Fail> {
-    for (loads, anew) in [(4096, false), (4095, true)] {
+    for (loads, anew) in [(4096, false), (4096, true)] {
         match flow(rt.alloc(), loads, anew)? {
             Err(fault) => {
                 let text = format!(in rt.alloc(); "{fault}")?;
@@ -64,13 +64,13 @@ fn one_lock_more_than_4_096_is_too_many(rt: HostRuntime) -> Result<(), Fail> {
     Ok(())
 }
 
-/// One load fewer, and the locks are 4,096. Behind the `acq` only the class is needed.
+/// One load fewer, and the locks are 4,096. Behind the `acq` none is needed, since all is made anew.
 #[test]
 fn as_many_as_4_096_locks_are_told(rt: HostRuntime) -> Result<(), Fail> {
-    let flow = flow(rt.alloc(), 4094, true)??;
+    let flow = flow(rt.alloc(), 4095, true)??;
     let first = spelled(rt.alloc(), &flow.at(rt.alloc(), Region::Section(0), 17)?)?;
-    assert!(rt; first.as_str() == "class 0 read", "{first}");
-    let last = spelled(rt.alloc(), &flow.at(rt.alloc(), Region::Section(0), 12298)?)?;
+    assert!(rt; first.as_str() == "", "{first}");
+    let last = spelled(rt.alloc(), &flow.at(rt.alloc(), Region::Section(0), 12301)?)?;
     assert!(rt; last.as_str() == "expr r17 read", "{last}");
     Ok(())
 }

@@ -181,13 +181,13 @@ const SAMPLES: [Sample; 12] = [
             (
                 Region::Section(1),
                 15,
-                "class 0 read; class 0 write; expr r4 read; expr r4 write; expr r4 * read; expr r4 * write; expr r4 * * read; expr r5 read; expr r5 write; expr r5 * read; expr r5 * write",
+                "expr r4 read; expr r4 write; expr r4 * read; expr r4 * write; expr r4 * * read; expr r5 read; expr r5 write; expr r5 * read; expr r5 * write",
             ),
             (Region::Section(1), 38, "expr r4 write"),
             (
                 Region::Section(2),
                 19,
-                "class 0 read; class 0 write; expr r5 read; expr r5 write",
+                "expr r5 read; expr r5 write",
             ),
         ],
     ),
@@ -398,7 +398,7 @@ const SAMPLES: [Sample; 12] = [
                 47,
                 "class 0 write; expr r4 read; expr r4 write; expr r5 read; expr r6 write",
             ),
-            (Region::Section(3), 82, "class 0 write"),
+            (Region::Section(3), 82, ""),
         ],
     ),
     // the same with longer paths
@@ -409,19 +409,19 @@ const SAMPLES: [Sample; 12] = [
             (
                 Region::Body(0),
                 0,
-                "class 3 read; class 3 write; expr g4 write",
+                "expr g4 write",
             ),
             (
                 Region::Body(0),
                 11,
-                "class 3 read; class 3 write; expr r8 .1 read; expr r8 .1 write; expr r12 write; expr g4 write",
+                "expr r8 .1 read; expr r8 .1 write; expr r12 write; expr g4 write",
             ),
             (Region::Section(0), 13, "expr r8 .1 read"),
             (Region::Section(0), 15, "expr r8 .1 read; expr r12 read"),
             (
                 Region::Section(1),
                 21,
-                "class 3 read; class 3 write; expr r12 write; expr g4 write",
+                "expr r12 write; expr g4 write",
             ),
             (Region::Section(2), 66, ""),
         ],
@@ -434,7 +434,7 @@ const SAMPLES: [Sample; 12] = [
             (Region::Body(0), 34, "expr r5 read"),
             (Region::Section(0), 34, "expr r5 read"),
             (Region::Section(1), 43, "expr g0 write; expr g1 write"),
-            (Region::Section(2), 66, "class 0 write; expr r4 read"),
+            (Region::Section(2), 66, "expr r4 read"),
         ],
     ),
 ];

@@ -432,6 +432,7 @@ fn laws_are_there() {
     asl_machine::reached_states_are_well_formed();
     asl_machine::reached_holdings_are_lawful();
     asl_machine::held_nodes_are_there();
+    asl_machine::fresh_objects_stay_apart();
     asl_machine::no_world_is_blocked();
     asl_machine::runs_go_on();
     asl_machine::runs_reach();

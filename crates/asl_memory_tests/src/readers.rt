@@ -10,7 +10,8 @@ pub static CELL: Cell = Cell {
     offset: 0,
 };
 
-/// What is told of a thread: of its registers the first three, of its locks those on the root and on the first cell.
+/// What is told of a thread: of its registers the first three, of its locks those on the root and on the first cell, and
+/// whether the last object is fresh for it, or the one that would come next.
 #[derive(Clone, Copy, PartialEq)]
 pub struct ThreadSeen {
     status: Status,
@@ -18,6 +19,7 @@ pub struct ThreadSeen {
     registers: [Option<Value>; 3],
     depth: u32,
     held: [Mode; 2],
+    fresh: [bool; 2],
 }
 
 /// What is told of a machine: of its threads the first two.
@@ -40,6 +42,10 @@ fn told_of_thread(machine: &Machine<'_>, t: u32) -> Option<ThreadSeen> {
         held: [
             machine.held(t, Node::Root),
             machine.held(t, Node::Leaf(CELL, 0)),
+        ],
+        fresh: [
+            machine.fresh(t, machine.objects().saturating_sub(1)),
+            machine.fresh(t, machine.objects()),
         ],
     })
 }

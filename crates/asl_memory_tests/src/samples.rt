@@ -19,6 +19,10 @@ pub static STACK: &[u8] =
 /// A loop that makes an object of two cells each time.
 pub static OBJECTS: &[u8] = b"version 1\nclasses 1\nentry 0\nfn 1 2\nnew r1, 2, 0\njmp 0\n";
 
+/// The same in a section, where each object is fresh for the thread.
+pub static FRESH_OBJECTS: &[u8] =
+    b"version 2\nclasses 1\nentry 0\nfn 1 2\nacq 0\nnew r1, 2, 0\njmp 1\nlist\n";
+
 /// A schedule of the counter's two threads in which thread 1 waits for thread 0, and both end.
 pub static SCHEDULE: [u8; 18] = [0, 0, 1, 1, 0, 0, 0, 0, 1, 0, 1, 0, 1, 1, 1, 1, 1, 1];
 

@@ -1,6 +1,6 @@
 //! Machines that write down their steps, and replay.
 use crate::readers::{CELL, Seen, told_of};
-use crate::samples::{COUNTER, OBJECTS, SCHEDULE, STACK, program};
+use crate::samples::{COUNTER, FRESH_OBJECTS, OBJECTS, SCHEDULE, STACK, program};
 use asl_code::{Program, Value};
 use asl_journal::{Journal, JournalFault, Journaled, Receipt, replay};
 use asl_machine::{Fault, Machine, Reply};
@@ -81,8 +81,10 @@ fn frames_are_made(rt: HostRuntime) {
 
 #[test]
 fn objects_are_made(rt: HostRuntime) {
-    let last = last_reply(rt.alloc(), OBJECTS, 100);
-    assert!(rt; last == Some(Reply::Ran));
+    for text in [OBJECTS, FRESH_OBJECTS] {
+        let last = last_reply(rt.alloc(), text, 100);
+        assert!(rt; last == Some(Reply::Ran));
+    }
 }
 
 /// The journal of the counter's two threads over the schedule, with room made ahead for some events.

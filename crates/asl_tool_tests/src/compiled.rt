@@ -36,7 +36,7 @@ const CASES: [(&str, &str, u8, &str); 12] = [
         "compile --text",
         "global g; fn main(t) { atomic { n = new 1; *n = t; } return t; }",
         0,
-        "list\nclass 1 write\n",
+        "rel\nret r0\nlist\n",
     ),
     (
         "compile",

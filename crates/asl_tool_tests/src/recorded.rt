@@ -102,3 +102,38 @@ fn the_debugger_answers(rt: HostRuntime) -> Result<(), Fail> {
     }
     Ok(())
 }
+
+/// Makes a cell in a section, stores into it, and then where others find it.
+const PUBLISH: &str =
+    "version 2\nclasses 2\nglobal 0\nentry 0\nfn 1 3\nglob r1, g0\nacq 0\nnew r2, 1, 1\n\
+    store r2, r0\nstore r1, r2\nrel\nret r0\nlist\nexpr r1 write\n";
+
+/// The run file of one thread's first six steps.
+fn published(rt: &(impl Abort + AllocGlobal)) -> Result<Vec<u8>, Fail> {
+    let alloc = rt.alloc();
+    let words = split(alloc, "step --threads 1 --record 0 0 0 0 0 0")?;
+    let mut file = Vec::new(alloc);
+    let mut errors = Vec::new(alloc);
+    let mut reader = PUBLISH.as_bytes();
+    let got = tool_alone(
+        alloc,
+        words.as_slice(),
+        &mut reader,
+        &mut file,
+        &mut errors,
+    );
+    assert!(rt; got == Some(0));
+    Ok(file)
+}
+
+/// What is fresh for the thread stands last.
+const PUBLISH_VIEW: &str =
+    "at 6\nat 5\nthread 0 pc 5 depth 1\nreg 0 0 int 0\nreg 0 1 addr 0.0\nreg 0 2 addr 1.0\n\
+    cell 0.0 addr 1.0\ncell 1.0 int 0\nheld 0 root IX\nheld 0 class 0 IX\nheld 0 leaf 0.0 X\nfresh 0 1\n";
+
+#[test]
+fn the_view_tells_what_is_fresh(rt: HostRuntime) -> Result<(), Fail> {
+    let file = published(&rt)?;
+    let words = "debug goto 6 back view";
+    expect(&rt, words, file.as_slice(), 0, PUBLISH_VIEW.as_bytes(), "")
+}
