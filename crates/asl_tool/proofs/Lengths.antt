@@ -17,6 +17,7 @@ use Rattle.asl_code.specs.Spelling.{instr_bytes, IsInstr}
 use Rattle.asl_code.proofs.Instrs.{instr_bytes-eight}
 use Rattle.asl_code.specs.Verified.{IsVerified}
 use Rattle.asl_code.proofs.FitsLaws.{image_fits}
+use Rattle.asl_code.proofs.Versions.{few_locks}
 use Rattle.asl_loader.specs.Bytes.{Field, bytes_of, text_of, one, two, magic, effect_field, op_fields, path_fields, expr_fields, lock_fields, list_fields, counted, class_fields, function_fields, instr_fields, image_fields, IsLock, IsList, SpellsImage}
 use Rattle.asl_loader.proofs.Reader.{text_of-append}
 
@@ -71,15 +72,15 @@ lock_short (lock.Expr expr e) is = expr_short expr.base e expr.path is.1.few
 
 -- a list of a program
 abbrev pub IsShortList : List Lock → Type 0
-IsShortList locks = IsList locks × (length locks ≤ 64)
+IsShortList locks = IsList locks × (length locks ≤ 256)
 
-list_short : (locks : List Lock) → IsShortList locks → length (text_of (list_fields locks)) ≤ 1346
+list_short : (locks : List Lock) → IsShortList locks → length (text_of (list_fields locks)) ≤ 5378
 list_short locks is =
     let h = each_kind_short Lock IsLock lock_fields 21 lock_short locks is.0.each in
     let few = is.1 in
     omega (arith, h, few)
 
-short_lists : (ls : List (List Lock)) → AllByRecursion IsList ls → ((n : ℕ) (locks : List Lock) → slice_get ls n ≡ Some locks → length locks ≤ 64) → AllByRecursion IsShortList ls
+short_lists : (ls : List (List Lock)) → AllByRecursion IsList ls → ((n : ℕ) (locks : List Lock) → slice_get ls n ≡ Some locks → length locks ≤ 256) → AllByRecursion IsShortList ls
 short_lists [] are few = tt
 short_lists (locks ∷ ls) are few = ((are.0, few 0 locks refl), short_lists ls are.1 (λ n others e. few (suc n) others e))
 
@@ -103,7 +104,7 @@ image_short i bytes spelled verified =
     let globals = each_short ℕ class_fields 2 class_short i.globals in
     let functions = each_short Function function_fields 4 function_short i.functions in
     let code = each_kind_short Instr IsInstr instr_fields 8 instr_short i.code spelled.fits.code_fits.each in
-    let lists = each_kind_short (List Lock) IsShortList list_fields 1346 list_short i.lists (short_lists i.lists spelled.fits.lists_fit.each facts.few_locks) in
+    let lists = each_kind_short (List Lock) IsShortList list_fields 5378 list_short i.lists (short_lists i.lists spelled.fits.lists_fit.each (λ n locks at. omega (arith, facts.few_locks n locks at, few_locks i.version))) in
     let e4 = lengths (counted instr_fields i.code) (counted list_fields i.lists) in
     let e3 = lengths (two i.start ∷ []) (counted instr_fields i.code ++ counted list_fields i.lists) in
     let e2 = lengths (counted function_fields i.functions) (two i.start ∷ counted instr_fields i.code ++ counted list_fields i.lists) in

@@ -1,10 +1,11 @@
 -- A command has one outcome: its program is one, and what is made of it is one.
 use Rattle.std.proofs.Common.{◌≡◌, ◌≢◌, ℕ, ◌<◌, ◌⊎◌, inl, inr, List, [], ◌∷◌, take, arith, codes, All, Bool, Result, Ok, Err, MatchResult, refl, sym, ap, ◌∙◌, subst}
-use Rattle.std.proofs.lemmas.Bool.{both_ways, cases_Bool}
+use Rattle.std.proofs.lemmas.Bool.{both_ways, cases_Bool, cases_lt}
 use Rattle.std.specs.List.{AllByRecursion}
 use Rattle.std.proofs.lemmas.List.Elements.{All-from_recursion, recursion_from_All}
 use Rattle.std.proofs.lemmas.Slice.Eq.{bytes_eq-Decides}
 use Rattle.std.specs.Str.{bytes_eq}
+use Rattle.asl_code.specs.Versions.{most_threads}
 use Rattle.asl_code.specs.declared.image.Image.{Image}
 use Rattle.asl_assembler.specs.declared.assembly.AsmFault.{AsmFault}
 use Rattle.asl_assembler.specs.declared.assembly.AsmFault.TheVariants as asm
@@ -148,15 +149,22 @@ ReplayOutcome image log (Err f) = IsReplayFault image log f × (f ≢ journal.Ou
 
 replay_one : (image : Image) (log : Log) (o p : Result Log JournalFault) → ReplayOutcome image log o → ReplayOutcome image log p → o ≡ p
 replay_one image log (Ok a) (Ok b) x y = ap Ok (x.1 ∙ sym y.1)
-replay_one image log (Ok a) (Err (journal.Differs i)) x y = absurd (no_difference image (start_of image log.threads) log.events i x.0.replies y.0)
+replay_one image log (Ok a) (Err journal.BadCount) x y = absurd (omega (arith, x.0.counted.1, y.0))
+replay_one image log (Ok a) (Err (journal.Differs i)) x y = absurd (no_difference image (start_of image log.threads) log.events i x.0.replies y.0.1)
 replay_one image log (Ok a) (Err journal.OutOfMemory) x y = absurd (y.1 refl)
-replay_one image log (Ok a) (Err g) x y = absurd y.0
-replay_one image log (Err (journal.Differs i)) (Ok b) x y = absurd (no_difference image (start_of image log.threads) log.events i y.0.replies x.0)
-replay_one image log (Err (journal.Differs i)) (Err (journal.Differs j)) x y = ap (λ (k : ℕ). Err (journal.Differs k)) (one_difference image (start_of image log.threads) log.events i j x.0 y.0)
+replay_one image log (Ok a) (Err g) x y = absurd y.0.1
+replay_one image log (Err journal.BadCount) (Ok b) x y = absurd (omega (arith, y.0.counted.1, x.0))
+replay_one image log (Err journal.BadCount) (Err journal.BadCount) x y = refl
+replay_one image log (Err journal.BadCount) (Err (journal.Differs j)) x y = absurd (omega (arith, x.0, y.0.0))
+replay_one image log (Err journal.BadCount) (Err journal.OutOfMemory) x y = absurd (y.1 refl)
+replay_one image log (Err journal.BadCount) (Err g) x y = absurd y.0.1
+replay_one image log (Err (journal.Differs i)) (Ok b) x y = absurd (no_difference image (start_of image log.threads) log.events i y.0.replies x.0.1)
+replay_one image log (Err (journal.Differs i)) (Err journal.BadCount) x y = absurd (omega (arith, y.0, x.0.0))
+replay_one image log (Err (journal.Differs i)) (Err (journal.Differs j)) x y = ap (λ (k : ℕ). Err (journal.Differs k)) (one_difference image (start_of image log.threads) log.events i j x.0.1 y.0.1)
 replay_one image log (Err (journal.Differs i)) (Err journal.OutOfMemory) x y = absurd (y.1 refl)
-replay_one image log (Err (journal.Differs i)) (Err g) x y = absurd y.0
+replay_one image log (Err (journal.Differs i)) (Err g) x y = absurd y.0.1
 replay_one image log (Err journal.OutOfMemory) p x y = absurd (x.1 refl)
-replay_one image log (Err f) p x y = absurd x.0
+replay_one image log (Err f) p x y = absurd x.0.1
 
 ok_no_err : (log : Log) (f : JournalFault) → ◌≡◌ {A = Result Log JournalFault} (Ok log) (Err f) → ⊥
 ok_no_err log f e = cc
@@ -378,20 +386,27 @@ some_step n schedule record_it input (Err f) p = (Err (fault.Program f), (p.0, p
 some_replay : (input : List ℕ) (q : Result (Image × Log) FileFault) → IsFileOutcome input q
     → (o : Result (List ℕ) CommandFault) × MatchResult o (λ output. IsReplayed input output) (λ f. IsRefusedReplay input f × (IsWantOfMemory f → ⊥))
 some_replay input (Ok run) x =
-    elim (some_difference run.0 (start_of run.0 run.1.threads) run.1.events) [
-      | inl goes ↦ (Ok (same_text run.1), record { image = run.0; log = run.1; run = x; journal = record { there = x.journal.fits.is_log.there; replies = goes }; output_is = refl })
-      | inr d ↦ (Err (fault.Journal (journal.Differs d.0)), (record { image = run.0; log = run.1; run = x; refused = d.1 }, λ w. absurd w))
+    elim (cases_lt (most_threads run.0.version) run.1.threads) [
+      | inl many ↦ (Err (fault.Journal journal.BadCount), (record { image = run.0; log = run.1; run = x; refused = many }, λ w. absurd w))
+      | inr few ↦ elim (some_difference run.0 (start_of run.0 run.1.threads) run.1.events) [
+        | inl goes ↦
+            (Ok (same_text run.1), record { image = run.0; log = run.1; run = x; journal = record { counted = (x.journal.fits.is_log.count.0, few); there = x.journal.fits.is_log.there; replies = goes }; output_is = refl })
+        | inr d ↦ (Err (fault.Journal (journal.Differs d.0)), (record { image = run.0; log = run.1; run = x; refused = (few, d.1) }, λ w. absurd w))
+      ]
     ]
 some_replay input (Err f) x = (Err (fault.File f), (x.0, λ w. x.1 (want_file f w)))
 
 some_debug : (words : List DebugWord) (input : List ℕ) (q : Result (Image × Log) FileFault) → IsFileOutcome input q
     → (o : Result (List ℕ) CommandFault) × MatchResult o (λ output. IsDebugged input words output) (λ f. IsRefusedReplay input f × (IsWantOfMemory f → ⊥))
 some_debug words input (Ok run) x =
-    elim (some_difference run.0 (start_of run.0 run.1.threads) run.1.events) [
-      | inl goes ↦
-          (let talk = some_talk run.0 run.1 0 [] words (omega arith) in
-          (Ok talk.0, record { image = run.0; log = run.1; run = x; journal = record { there = x.journal.fits.is_log.there; replies = goes }; talk = talk.1 }))
-      | inr d ↦ (Err (fault.Journal (journal.Differs d.0)), (record { image = run.0; log = run.1; run = x; refused = d.1 }, λ w. absurd w))
+    elim (cases_lt (most_threads run.0.version) run.1.threads) [
+      | inl many ↦ (Err (fault.Journal journal.BadCount), (record { image = run.0; log = run.1; run = x; refused = many }, λ w. absurd w))
+      | inr few ↦ elim (some_difference run.0 (start_of run.0 run.1.threads) run.1.events) [
+        | inl goes ↦
+            (let talk = some_talk run.0 run.1 0 [] words (omega arith) in
+            (Ok talk.0, record { image = run.0; log = run.1; run = x; journal = record { counted = (x.journal.fits.is_log.count.0, few); there = x.journal.fits.is_log.there; replies = goes }; talk = talk.1 }))
+        | inr d ↦ (Err (fault.Journal (journal.Differs d.0)), (record { image = run.0; log = run.1; run = x; refused = (few, d.1) }, λ w. absurd w))
+      ]
     ]
 some_debug words input (Err f) x = (Err (fault.File f), (x.0, λ w. x.1 (want_file f w)))
 

@@ -4,16 +4,17 @@ use Rattle.std.specs.List.{AllByRecursion}
 use Rattle.std.proofs.lemmas.Bool.{cases_lt}
 use Rattle.std.proofs.lemmas.List.{take_all}
 use Rattle.std.proofs.lemmas.List.Elements.{All-from_recursion, recursion_from_All, All-take}
+use Rattle.asl_code.specs.Versions.{most_threads}
 use Rattle.asl_code.specs.declared.image.Image.{Image}
 use Rattle.asl_machine.specs.declared.reply.Reply.{Reply}
 use Rattle.asl_machine.specs.State.{State}
-use Rattle.asl_machine.specs.Run.{start_of, replies_of}
+use Rattle.asl_machine.specs.Run.{IsThreadCount, start_of, replies_of}
 use Rattle.asl_machine.specs.Twin.{step_of}
 use Rattle.asl_journal.specs.declared.event.Event.{Event}
 use Rattle.asl_journal.specs.declared.fault.JournalFault.{JournalFault}
 use Rattle.asl_journal.specs.declared.fault.JournalFault.TheVariants as journal
 use Rattle.asl_journal.specs.Journal.{Log, schedule_of, replies_in, most_events}
-use Rattle.asl_tool.specs.Step.{IsCount, AllThere, IsSchedule, IsRecord, IsFaultySchedule, IsRefusedRun}
+use Rattle.asl_tool.specs.Step.{AllThere, IsSchedule, IsRecord, IsFaultySchedule, IsRefusedRun}
 
 -- ---- the journal
 
@@ -56,14 +57,15 @@ unfolding made
 made_there n image s [] h = tt
 made_there n image s (t ∷ ts) h = (h.0, made_there n image (step_of image s t).state ts h.1)
 
-some_record : (image : Image) (n : ℕ) (schedule : List ℕ) → AllThere n schedule → (log : Log) × IsRecord image n schedule log
-some_record image n schedule there =
+some_record : (image : Image) (n : ℕ) (schedule : List ℕ) → IsThreadCount image n → AllThere n schedule → (log : Log) × IsRecord image n schedule log
+some_record image n schedule count there =
     let start = start_of image n in (
       record { threads = n; events = made image start schedule },
       record {
         threads_are = refl;
         schedule_is = made_by image start schedule;
         journal = record {
+          counted = count;
           there = All-from_recursion (λ (e : Event). e.thread < n) (made image start schedule) (made_there n image start schedule (recursion_from_All (λ t. t < n) schedule there));
           replies = made_replies image start schedule ∙ ap (replies_of image start) (sym (made_by image start schedule));
         };
@@ -72,14 +74,14 @@ some_record image n schedule there =
 
 -- ---- the schedule
 
-counted : (n : ℕ) → IsCount n ⊎ (IsCount n → ⊥)
-counted n =
+counted : (image : Image) (n : ℕ) → IsThreadCount image n ⊎ (IsThreadCount image n → ⊥)
+counted image n =
     elim (cases_lt 0 n) [
-      | inl some ↦ elim (cases_lt 64 n) [
-        | inl many ↦ inr (λ c. absurd (omega (arith, many, c.few)))
-        | inr few ↦ inl (record { some = omega (arith, some); few = few })
+      | inl some ↦ elim (cases_lt (most_threads image.version) n) [
+        | inl many ↦ inr (λ c. absurd (omega (arith, many, c.1)))
+        | inr few ↦ inl (some, few)
       ]
-      | inr none ↦ inr (λ c. absurd (omega (arith, none, c.some)))
+      | inr none ↦ inr (λ c. absurd (omega (arith, none, c.0)))
     ]
 
 recurs : (n : ℕ) (schedule : List ℕ) → AllByRecursion (λ t. t < n) schedule ⊎ (AllByRecursion (λ t. t < n) schedule → ⊥)
@@ -102,25 +104,25 @@ there n schedule =
 
 -- what a schedule leads to: the journal of a legal one, or the refusal of a faulty one
 abbrev pub RunOutcome : Image → ℕ → List ℕ → Result Log JournalFault → Type 0
-RunOutcome image n schedule (Ok log) = IsSchedule n schedule × IsRecord image n schedule log
-RunOutcome image n schedule (Err f) = IsRefusedRun n schedule f × (f ≢ journal.OutOfMemory)
+RunOutcome image n schedule (Ok log) = IsSchedule image n schedule × IsRecord image n schedule log
+RunOutcome image n schedule (Err f) = IsRefusedRun image n schedule f × (f ≢ journal.OutOfMemory)
 
 -- a fault of a schedule, by its name
-abbrev Named : ℕ → List ℕ → JournalFault → Type 0
-Named n schedule f =
-    ((f ≡ journal.BadCount) × (IsCount n → ⊥))
-    ⊎ (((f ≡ journal.BadThread) × IsCount n × (AllThere n (take most_events schedule) → ⊥))
-    ⊎ ((f ≡ journal.JournalFull) × IsCount n × AllThere n (take most_events schedule) × (most_events < length schedule)))
+abbrev Named : Image → ℕ → List ℕ → JournalFault → Type 0
+Named image n schedule f =
+    ((f ≡ journal.BadCount) × (IsThreadCount image n → ⊥))
+    ⊎ (((f ≡ journal.BadThread) × IsThreadCount image n × (AllThere n (take most_events schedule) → ⊥))
+    ⊎ ((f ≡ journal.JournalFull) × IsThreadCount image n × AllThere n (take most_events schedule) × (most_events < length schedule)))
 
-named : (n : ℕ) (schedule : List ℕ) (f : JournalFault) → IsRefusedRun n schedule f → f ≢ journal.OutOfMemory → Named n schedule f
-named n schedule journal.BadCount x tells = inl (refl, x)
-named n schedule journal.BadThread x tells = inr (inl (refl, x.0, x.1))
-named n schedule journal.JournalFull x tells = inr (inr (refl, x.0, x.1, x.2))
-named n schedule journal.OutOfMemory x tells = absurd (tells refl)
-named n schedule f x tells = absurd x
+named : (image : Image) (n : ℕ) (schedule : List ℕ) (f : JournalFault) → IsRefusedRun image n schedule f → f ≢ journal.OutOfMemory → Named image n schedule f
+named image n schedule journal.BadCount x tells = inl (refl, x)
+named image n schedule journal.BadThread x tells = inr (inl (refl, x.0, x.1))
+named image n schedule journal.JournalFull x tells = inr (inr (refl, x.0, x.1, x.2))
+named image n schedule journal.OutOfMemory x tells = absurd (tells refl)
+named image n schedule f x tells = absurd x
 
-legal_is_none : (n : ℕ) (schedule : List ℕ) (f : JournalFault) → IsSchedule n schedule → Named n schedule f → ⊥
-legal_is_none n schedule f legal x =
+legal_is_none : (image : Image) (n : ℕ) (schedule : List ℕ) (f : JournalFault) → IsSchedule image n schedule → Named image n schedule f → ⊥
+legal_is_none image n schedule f legal x =
     elim x [
       | inl count ↦ count.1 legal.count
       | inr others ↦ elim others [
@@ -129,8 +131,8 @@ legal_is_none n schedule f legal x =
       ]
     ]
 
-one_name : (n : ℕ) (schedule : List ℕ) (f g : JournalFault) → Named n schedule f → Named n schedule g → f ≡ g
-one_name n schedule f g x y =
+one_name : (image : Image) (n : ℕ) (schedule : List ℕ) (f g : JournalFault) → Named image n schedule f → Named image n schedule g → f ≡ g
+one_name image n schedule f g x y =
     elim x [
       | inl a ↦ elim y [
         | inl b ↦ a.0 ∙ sym b.0
@@ -159,19 +161,19 @@ one_name n schedule f g x y =
 
 pub run_one : (image : Image) (n : ℕ) (schedule : List ℕ) (o p : Result Log JournalFault) → RunOutcome image n schedule o → RunOutcome image n schedule p → o ≡ p
 run_one image n schedule (Ok a) (Ok b) x y = ap Ok (record_is_one image n schedule a b x.1 y.1)
-run_one image n schedule (Ok a) (Err g) x y = absurd (legal_is_none n schedule g x.0 (named n schedule g y.0 y.1))
-run_one image n schedule (Err f) (Ok b) x y = absurd (legal_is_none n schedule f y.0 (named n schedule f x.0 x.1))
-run_one image n schedule (Err f) (Err g) x y = ap Err (one_name n schedule f g (named n schedule f x.0 x.1) (named n schedule g y.0 y.1))
+run_one image n schedule (Ok a) (Err g) x y = absurd (legal_is_none image n schedule g x.0 (named image n schedule g y.0 y.1))
+run_one image n schedule (Err f) (Ok b) x y = absurd (legal_is_none image n schedule f y.0 (named image n schedule f x.0 x.1))
+run_one image n schedule (Err f) (Err g) x y = ap Err (one_name image n schedule f g (named image n schedule f x.0 x.1) (named image n schedule g y.0 y.1))
 
 pub some_run : (image : Image) (n : ℕ) (schedule : List ℕ) → (r : Result Log JournalFault) × RunOutcome image n schedule r
 some_run image n schedule =
-    elim (counted n) [
+    elim (counted image n) [
       | inl count ↦ elim (there n (take most_events schedule)) [
         | inl each ↦ elim (cases_lt most_events (length schedule)) [
           | inl long ↦ (Err journal.JournalFull, ((count, each, long), λ e. cc))
           | inr short ↦
               (let all = subst (λ (l : List ℕ). AllThere n l) (take_all most_events schedule short) each in
-              let r = some_record image n schedule all in
+              let r = some_record image n schedule count all in
               (Ok r.0, (record { count = count; short = short; there = all }, r.1)))
         ]
         | inr missing ↦ (Err journal.BadThread, ((count, missing), λ e. cc))

@@ -13,6 +13,7 @@ use Rattle.asl_code.specs.declared.path.Op.TheVariants as op
 use Rattle.asl_code.specs.Bodies.{total_len}
 use Rattle.asl_code.specs.Verified.{IsVerified}
 use Rattle.asl_code.proofs.FitsLaws.{image_fits}
+use Rattle.asl_code.proofs.Versions.{few_locks}
 use Rattle.asl_assembler.specs.Text.{Spells}
 use Rattle.asl_assembler.proofs.Spelled.{FitsBase, FitsOp, FitsLock, FitsRegisters, spelled_fields}
 use Rattle.asl_loader.specs.Bytes.{IsOp, IsBase, IsLock, IsList, IsFunction, IsImage, SpellsImage, image_fields, text_of}
@@ -35,10 +36,10 @@ locks_fit : (locks : List Lock) → AllByRecursion FitsLock locks → AllByRecur
 locks_fit [] h = tt
 locks_fit (l ∷ locks) h = (lock_fits l h.0, locks_fit locks h.1)
 
-lists_fit : (ls : List (List Lock)) → AllByRecursion (AllByRecursion FitsLock) ls → ((n : ℕ) (locks : List Lock) → slice_get ls n ≡ Some locks → length locks ≤ 64) → AllByRecursion IsList ls
+lists_fit : (ls : List (List Lock)) → AllByRecursion (AllByRecursion FitsLock) ls → ((n : ℕ) (locks : List Lock) → slice_get ls n ≡ Some locks → length locks ≤ 256) → AllByRecursion IsList ls
 lists_fit [] h few = tt
 lists_fit (locks ∷ ls) h few =
-    let short : length locks ≤ 64 = few 0 locks refl in
+    let short : length locks ≤ 256 = few 0 locks refl in
     (record { counted = omega (arith, short); each = locks_fit locks h.0 }, lists_fit ls h.1 (λ n other is. few (suc n) other is))
 
 functions_fit : (fs : List Function) → AllByRecursion FitsRegisters fs → total_len fs ≤ 65535 → AllByRecursion IsFunction fs
@@ -58,7 +59,7 @@ is_image text i s v =
       functions_fit = record { counted = omega (arith, facts.few_functions); each = functions_fit i.functions fields.functions (omega (arith, facts.total, facts.few_instrs)) };
       start_fits = fields.start;
       code_fits = record { counted = omega (arith, facts.few_instrs); each = fields.code };
-      lists_fit = record { counted = omega (arith, facts.few_lists); each = lists_fit i.lists fields.lists facts.few_locks };
+      lists_fit = record { counted = omega (arith, facts.few_lists); each = lists_fit i.lists fields.lists (λ n locks at. omega (arith, facts.few_locks n locks at, few_locks i.version)) };
     }
 
 -- the bytes of a program that a text spells

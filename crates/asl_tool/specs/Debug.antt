@@ -80,6 +80,7 @@ IsNoMove s m fault.AtEnd = IsAnswer s m AtEnd
 IsNoMove s m fault.AtStart = IsAnswer s m AtStart
 IsNoMove s m fault.NoSuchStep = IsAnswer s m NoSuchStep
 IsNoMove s m (fault.Differs index) = ⊥
+IsNoMove s m fault.BadCount = ⊥
 IsNoMove s m fault.OutOfMemory = Unit {0}
 
 -- Machinery of private functions: the session is of a journal of this program.

@@ -1,6 +1,7 @@
 -- What the command `step` answers: its output, or a named refusal (docs/LIMITS.md, "Refusals of the program asl").
 use Rattle.std.specs.Prelude.{◌≡◌, ℕ, ◌<◌, ◌≤◌, Bool, true, false, List, length, take, All}
 use Rattle.asl_code.specs.declared.image.Image.{Image}
+use Rattle.asl_machine.specs.Run.{IsThreadCount}
 use Rattle.asl_journal.specs.declared.fault.JournalFault.{JournalFault}
 use Rattle.asl_journal.specs.declared.fault.JournalFault.TheVariants as journal
 use Rattle.asl_journal.specs.Journal.{Log, IsJournal, schedule_of, most_events}
@@ -8,18 +9,13 @@ use Rattle.asl_tool.specs.Output.{event_lines}
 use Rattle.asl_tool.specs.Program.{IsProgram}
 use Rattle.asl_tool.specs.RunFile.{run_bytes}
 
--- a machine has 1 to 64 threads
-pub record IsCount (threads : ℕ) : Type 0 where
-  pub some : 1 ≤ threads
-  pub few : threads ≤ 64
-
 -- every thread of the schedule is there
 abbrev pub AllThere : ℕ → List ℕ → Type 0
 AllThere threads schedule = All (λ t. t < threads) schedule
 
--- the threads are a machine's, and the schedule is of these threads, with no more steps than a journal has
-pub record IsSchedule (threads : ℕ) (schedule : List ℕ) : Type 0 where
-  pub count : IsCount threads
+-- the program may start with so many threads, and the schedule is of these, with no more steps than a journal has
+pub record IsSchedule (image : Image) (threads : ℕ) (schedule : List ℕ) : Type 0 where
+  pub count : IsThreadCount image threads
   pub short : length schedule ≤ most_events
   pub there : AllThere threads schedule
 
@@ -39,25 +35,25 @@ pub record IsStepped (input : List ℕ) (threads : ℕ) (schedule : List ℕ) (r
   pub image : Image
   pub log : Log
   pub program : IsProgram input image
-  pub legal : IsSchedule threads schedule
+  pub legal : IsSchedule image threads schedule
   pub recorded : IsRecord image threads schedule log
   pub output_is : output ≡ written record_it image log
 
--- What is wrong with a schedule, as its steps would meet it one by one: there is no machine of so many threads, a step is
--- of a thread that is not there, or a journal has no room for so many steps.
-abbrev pub IsFaultySchedule : ℕ → List ℕ → JournalFault → Type 0
-IsFaultySchedule threads schedule journal.BadCount = IsCount threads → ⊥
-IsFaultySchedule threads schedule journal.BadThread = IsCount threads × (AllThere threads (take most_events schedule) → ⊥)
-IsFaultySchedule threads schedule journal.JournalFull = IsCount threads × AllThere threads (take most_events schedule) × (most_events < length schedule)
-IsFaultySchedule threads schedule fault = ⊥
+-- What is wrong with a schedule, as its steps would meet it one by one: the program starts no so many threads, a step is of
+-- a thread that is not there, or a journal has no room for so many steps.
+abbrev pub IsFaultySchedule : Image → ℕ → List ℕ → JournalFault → Type 0
+IsFaultySchedule image threads schedule journal.BadCount = IsThreadCount image threads → ⊥
+IsFaultySchedule image threads schedule journal.BadThread = IsThreadCount image threads × (AllThere threads (take most_events schedule) → ⊥)
+IsFaultySchedule image threads schedule journal.JournalFull = IsThreadCount image threads × AllThere threads (take most_events schedule) × (most_events < length schedule)
+IsFaultySchedule image threads schedule fault = ⊥
 
 -- why a program is not run: its schedule is faulty; only where it is not may memory be wanted
-abbrev pub IsRefusedRun : ℕ → List ℕ → JournalFault → Type 0
-IsRefusedRun threads schedule journal.OutOfMemory = IsSchedule threads schedule
-IsRefusedRun threads schedule fault = IsFaultySchedule threads schedule fault
+abbrev pub IsRefusedRun : Image → ℕ → List ℕ → JournalFault → Type 0
+IsRefusedRun image threads schedule journal.OutOfMemory = IsSchedule image threads schedule
+IsRefusedRun image threads schedule fault = IsFaultySchedule image threads schedule fault
 
 -- the input is a program that is not run
 pub record HasRefusedRun (input : List ℕ) (threads : ℕ) (schedule : List ℕ) (cause : JournalFault) : Type 0 where
   pub image : Image
   pub program : IsProgram input image
-  pub refused : IsRefusedRun threads schedule cause
+  pub refused : IsRefusedRun image threads schedule cause

@@ -25,7 +25,7 @@ pub record IsWorkOutput (team : Team) (input output : List ℕ) : Type 0 where
   pub image : Image
   pub log : Log
   pub program : IsProgram input image
-  pub asked : IsAsked team.threads team.workers team.limit
+  pub asked : IsAsked image team.threads team.workers team.limit
   pub worked : IsWorked image team log
   pub output_is : output ≡ written team.record image log
 

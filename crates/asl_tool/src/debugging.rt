@@ -46,6 +46,7 @@ pub fn debugged_text(
             Ok(text) => Ok(text),
             Err(_) => Err(JournalFault::OutOfMemory),
         },
+        Err((DebugFault::BadCount, _)) => Err(JournalFault::BadCount),
         Err((DebugFault::Differs(index), _)) => Err(JournalFault::Differs(index)),
         Err(_) => Err(JournalFault::OutOfMemory),
     }

@@ -9,9 +9,6 @@ use asl_code::Program;
 use asl_journal::{Event, Journal, JournalFault, Journaled};
 use std::alloc::{AllocError, Global};
 
-/// How many threads a machine has at most.
-const MOST_THREADS: u32 = 64;
-
 /// How many steps a journal has at most.
 const MOST_STEPS: usize = 16_777_216;
 
@@ -22,21 +19,22 @@ pub fn record_run(
     schedule: &[u32],
     program: &Program,
 ) -> Result<Journal, JournalFault>
-    ensures legal { OnOk result (IsSchedule threads schedule.now) }
+    ensures legal { OnOk result (IsSchedule program.now threads schedule.now) }
     ensures ok { IfOk result (λ journal. IsRecord program.now threads schedule.now journal) }
-    ensures err { IfErr result (λ fault. IsRefusedRun threads schedule.now fault) }
+    ensures err { IfErr result (λ fault. IsRefusedRun program.now threads schedule.now fault) }
 {
-    match judge(threads, schedule) {
+    match judge(threads, schedule, program) {
         Ok(()) => recorded(alloc, threads, schedule, program),
         Err(fault) => Err(fault),
     }
 }
 
-/// Judges a number of threads, and a schedule of them.
-fn judge(threads: u32, schedule: &[u32]) -> Result<(), JournalFault>
-    ensures { MatchResult result (λ _. IsSchedule threads schedule.now) (λ fault. IsFaultySchedule threads schedule.now fault) }
+/// Judges a number of threads of the program, and a schedule of them.
+fn judge(threads: u32, schedule: &[u32], program: &Program) -> Result<(), JournalFault>
+    ensures { MatchResult result (λ _. IsSchedule program.now threads schedule.now)
+        (λ fault. IsFaultySchedule program.now threads schedule.now fault) }
 {
-    if threads == 0 || threads > MOST_THREADS {
+    if threads == 0 || threads > program.limits().threads {
         return Err(JournalFault::BadCount);
     }
     let most = schedule.len().min(MOST_STEPS);
@@ -63,7 +61,7 @@ fn recorded(
     schedule: &[u32],
     program: &Program,
 ) -> Result<Journal, JournalFault>
-    requires { IsSchedule threads schedule.now }
+    requires { IsSchedule program.now threads schedule.now }
     ensures ok { IfOk result (λ journal. IsRecord program.now threads schedule.now journal) }
     ensures err { IfErr result (λ fault. fault ≡ JournalFault.OutOfMemory) }
 {

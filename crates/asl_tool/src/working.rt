@@ -53,7 +53,7 @@ fn worked<H: Threads + Wait + Sync>(
     team: Team,
     program: &Program,
 ) -> Result<Journal, RunFault>
-    ensures asked { OnOk result (IsAsked team.threads team.workers team.limit) }
+    ensures asked { OnOk result (IsAsked program.now team.threads team.workers team.limit) }
     ensures ok { IfOk result (λ journal. IsWorked program.now team journal) }
     ensures err { IfErr result (IsRefusedRunOf program.now team) }
 {
