@@ -184,11 +184,7 @@ const SAMPLES: [Sample; 12] = [
                 "expr r4 read; expr r4 write; expr r4 * read; expr r4 * write; expr r4 * * read; expr r5 read; expr r5 write; expr r5 * read; expr r5 * write",
             ),
             (Region::Section(1), 38, "expr r4 write"),
-            (
-                Region::Section(2),
-                19,
-                "expr r5 read; expr r5 write",
-            ),
+            (Region::Section(2), 19, "expr r5 read; expr r5 write"),
         ],
     ),
     // a function that calls itself
@@ -406,11 +402,7 @@ const SAMPLES: [Sample; 12] = [
         "global gi0; global gi1; global gn0; global gn1; global gn2; global gn3; fn f0(d, p0) { one = 1; i0 = 1; i1 = 0; i2 = 0; n0 = new 4; n1 = null; n2 = new 4; q0 = &gi1; q1 = &gi0; q2 = &gi1; p1 = &gn2; p2 = &gn2; atomic { if n2 { p1 = &n2[1]; n1 = *p1; } if n2 { p2 = &n2[1]; n2 = *p2; } } atomic { *p1 = n1; n2 = null; q1 = &gi1; if d { e = d - one; i1 = f0(e, p0); } c0 = 2; while c0 { q2 = &gi1; out i1; c0 = c0 - one; } } out n2; if d { e = d - one; i2 = f0(e, p0); } return i0; } fn main(t) { d = 2; one = 1; i0 = 2; i1 = 2; i2 = 0; n0 = new 4; n1 = new 4; n2 = new 4; q0 = &gi0; q1 = &gi1; q2 = &gi0; p0 = &gn3; p1 = &gn1; p2 = &gn2; i0 = t; while one { if d { e = d - one; i2 = f0(e, p0); } p2 = &gn2; atomic { if n0 { p2 = &n0[3]; } } } return i2; }",
         5,
         &[
-            (
-                Region::Body(0),
-                0,
-                "expr g4 write",
-            ),
+            (Region::Body(0), 0, "expr g4 write"),
             (
                 Region::Body(0),
                 11,
@@ -418,11 +410,7 @@ const SAMPLES: [Sample; 12] = [
             ),
             (Region::Section(0), 13, "expr r8 .1 read"),
             (Region::Section(0), 15, "expr r8 .1 read; expr r12 read"),
-            (
-                Region::Section(1),
-                21,
-                "expr r12 write; expr g4 write",
-            ),
+            (Region::Section(1), 21, "expr r12 write; expr g4 write"),
             (Region::Section(2), 66, ""),
         ],
     ),

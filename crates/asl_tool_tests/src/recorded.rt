@@ -115,13 +115,7 @@ fn published(rt: &(impl Abort + AllocGlobal)) -> Result<Vec<u8>, Fail> {
     let mut file = Vec::new(alloc);
     let mut errors = Vec::new(alloc);
     let mut reader = PUBLISH.as_bytes();
-    let got = tool_alone(
-        alloc,
-        words.as_slice(),
-        &mut reader,
-        &mut file,
-        &mut errors,
-    );
+    let got = tool_alone(alloc, words.as_slice(), &mut reader, &mut file, &mut errors);
     assert!(rt; got == Some(0));
     Ok(file)
 }

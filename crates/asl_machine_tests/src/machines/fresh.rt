@@ -18,11 +18,7 @@ const UNPROTECTED: Reply = Reply::Fault(Fault::Unprotected(
 ));
 
 /// Steps thread 0 of two as the row says, and compares what is told.
-fn expect_row(
-    rt: &(impl Abort + AllocGlobal),
-    code: &[Instr],
-    row: Row,
-) -> Result<(), Fail> {
+fn expect_row(rt: &(impl Abort + AllocGlobal), code: &[Instr], row: Row) -> Result<(), Fail> {
     let (version, runs, last, fresh) = row;
     let program = unlocked(rt.alloc(), version, code)?;
     let mut machine = Machine::new(rt.alloc(), &program, 2)?;
@@ -44,11 +40,7 @@ fn expect_fresh(rt: &impl Abort, machine: &Machine<'_>, wanted: bool) {
     }
 }
 
-fn expect_rows(
-    rt: &(impl Abort + AllocGlobal),
-    code: &[Instr],
-    rows: &[Row],
-) -> Result<(), Fail> {
+fn expect_rows(rt: &(impl Abort + AllocGlobal), code: &[Instr], rows: &[Row]) -> Result<(), Fail> {
     for row in rows {
         expect_row(rt, code, *row)?;
     }
