@@ -178,3 +178,14 @@ def judge_run(data):
         return f"Image({fault})"
     fault = judge_journal(data[4 + length :])
     return f"Journal({fault})" if fault else None
+
+
+def judge_text(data):
+    """The first refusal of what is no text: its first line that is not blank, which is no `version`, or the end."""
+    lines = data.split(b"\n")
+    if not lines[-1]:
+        lines.pop()
+    for number, line in enumerate(lines, 1):
+        if line.strip(b" \t\r,"):
+            return f"Line({number})"
+    return f"Line({len(lines) + 1})"
