@@ -98,6 +98,7 @@ fn fault_of(image: Image) -> Option<VerifyFault> {
 /// Expects that the readers tell the counter's parts.
 fn expect_counter(rt: &impl Abort, program: &Program) {
     assert!(rt; program.version() == 1);
+    assert!(rt; program.limits().threads == 64 && program.limits().locks == 64);
     assert!(rt; program.classes() == 1);
     assert!(rt; program.globals() == [0].as_slice());
     assert!(rt; program.functions().len() == 1);
