@@ -89,16 +89,6 @@ fn a_thread_ends_once(rt: HostRuntime) -> Result<(), Fail> {
 }
 
 #[test]
-fn version_2_has_128_threads(rt: HostRuntime) -> Result<(), Fail> {
-    let second = COUNTER.replace(rt.alloc(), "version 1", "version 2")?;
-    let text = second.as_str();
-    expect_run(&rt, "step --threads 128 127", text, 0, "0 127 ran\n", "")?;
-    expect_run(&rt, "step --threads 129 0", text, 1, "", "asl: BadCount")?;
-    expect_run(&rt, "step --threads 65 0", COUNTER, 1, "", "asl: BadCount")?;
-    expect_run(&rt, "asm", "version 3\n", 1, "", "asl: Line(1)")
-}
-
-#[test]
 fn a_text_becomes_an_image(rt: HostRuntime) -> Result<(), Fail> {
     expect_bytes(&rt, "asm", COUNTER.as_bytes(), 0, IMAGE, "")?;
     let spaced = COUNTER.replace(rt.alloc(), "\n", "\r\n\n")?;
