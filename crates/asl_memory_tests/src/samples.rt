@@ -10,7 +10,7 @@ pub static SOURCE: &[u8] =
 
 /// The counter as assembly text.
 pub static COUNTER: &[u8] =
-    b"version 1\nclasses 1\nglobal 0\nentry 0\nfn 1 5\nglob r1, g0\nacq 0\nload r2, r1\nint r3, 1\nadd r4, r2, r3\nstore r1, r4\nrel\nret r0\nlist\nexpr r1 write\n";
+    b"version 2\nclasses 1\nglobal 0\nentry 0\nfn 1 5\nglob r1, g0\nacq 0\nload r2, r1\nint r3, 1\nadd r4, r2, r3\nstore r1, r4\nrel\nret r0\nlist\nexpr r1 write\n";
 
 /// A function that calls itself: each call takes a frame.
 pub static STACK: &[u8] =
@@ -28,7 +28,7 @@ pub static SCHEDULE: [u8; 18] = [0, 0, 1, 1, 0, 0, 0, 0, 1, 0, 1, 0, 1, 1, 1, 1,
 
 /// The run file of the counter's threads, stepped 0, 0, 1, 1: the image of 94 bytes behind its length, and the journal.
 pub static FILE: [u8; 117] =
-    *b"\x00\x00\x00\x5eASLM\x00\x01\x00\x01\x00\x01\x00\x00\x00\x01\x01\x05\x00\x08\x00\x00\x00\x08\
+    *b"\x00\x00\x00\x5eASLM\x00\x02\x00\x01\x00\x01\x00\x00\x00\x01\x01\x05\x00\x08\x00\x00\x00\x08\
     \x08\x01\x00\x00\x00\x00\x00\x00\x12\x00\x00\x00\x00\x00\x00\x00\
     \x0a\x02\x01\x00\x00\x00\x00\x00\x01\x03\x00\x00\x00\x00\x00\x01\
     \x04\x04\x02\x03\x00\x00\x00\x00\x0b\x01\x04\x00\x00\x00\x00\x00\
