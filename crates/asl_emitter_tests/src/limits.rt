@@ -89,3 +89,15 @@ fn more_than_256_expressions_become_their_class(rt: HostRuntime) -> Result<(), F
     assert!(rt; from_lists(&text) == b"list\nclass 0 write\n".as_slice());
     Ok(())
 }
+
+#[test]
+fn locks_on_65_globals_stay_in_either_form(rt: HostRuntime) -> Result<(), Fail> {
+    let list = list_of_globals(rt.alloc(), 65)?;
+    let apart = in_five_functions(rt.alloc(), 65)?;
+    let text = inferred_text(rt.alloc(), apart.as_str(), 3)?;
+    assert!(rt; from_lists(&text) == list.as_str().as_bytes());
+    let together = through_one_local(rt.alloc(), 65)?;
+    let text = inferred_text(rt.alloc(), together.as_str(), 3)?;
+    assert!(rt; from_lists(&text) == list.as_str().as_bytes());
+    Ok(())
+}
