@@ -9,6 +9,7 @@ use Rattle.asl_code.specs.declared.fault.VerifyFault.{VerifyFault}
 use Rattle.asl_code.specs.declared.fault.VerifyFault.TheVariants as cause
 use Rattle.asl_code.specs.declared.image.Image.{Image}
 use Rattle.asl_code.specs.declared.lock.Lock.{Lock}
+use Rattle.asl_code.specs.Versions.{newest_locks}
 use Rattle.asl_code.specs.Verified.{keeps_limits, keeps_counts, keeps_list_limit, IsAnswer, ComesFirst}
 use Rattle.asl_code.specs.Versions.{limits_of}
 use Rattle.asl_code.specs.declared.limits.Limits.{Limits}
@@ -24,7 +25,7 @@ use Rattle.asl_assembler.proofs.Texts.{image_spelled, one_image, bad_line, not_b
 
 -- no version has longer lists
 is_short : List Lock → Bool
-is_short locks = nat_le (length locks) 256
+is_short locks = nat_le (length locks) newest_locks
 
 -- there are too many lists, or too many locks in one
 abbrev Long : Image → Type 0
@@ -32,7 +33,7 @@ Long i = (1024 < length i.lists) ⊎ (list_all is_short i.lists ≡ false)
 
 -- the same, or there are too many locks in the list that is open
 abbrev Over : Place → Image → Type 0
-Over p i = (256 < length (open_locks p)) ⊎ Long i
+Over p i = (newest_locks < length (open_locks p)) ⊎ Long i
 
 abbrev OnState : Option State → Type 0
 OnState None = Unit {0}
@@ -118,13 +119,13 @@ breaks : (i : Image) → Long i → IsOver i
 unfolding is_short
 breaks i long = by_limits (limits_of i.version) refl
   where
-    shorter : (limits : Limits) → limits.locks ≤ 256 → (lists : List (List Lock)) → list_all (keeps_list_limit limits) lists ≡ true → list_all is_short lists ≡ true
+    shorter : (limits : Limits) → limits.locks ≤ newest_locks → (lists : List (List Lock)) → list_all (keeps_list_limit limits) lists ≡ true → list_all is_short lists ≡ true
     shorter limits few [] h = refl
     shorter limits few (locks ∷ lists) h =
         let both = and_parts _ _ h in
         and_from _ _ (le-leb _ _ (omega (arith, few, leb-true _ _ both.0))) (shorter limits few lists both.1)
 
-    counts : (limits : Limits) → limits.locks ≤ 256 → Long i → keeps_counts limits i ≡ false
+    counts : (limits : Limits) → limits.locks ≤ newest_locks → Long i → keeps_counts limits i ≡ false
     counts limits few (inl many) = rw (lt-leb (length i.lists) 1024 many) (rw (and-false _) refl)
     counts limits few (inr some) = by_lists (list_all (keeps_list_limit limits) i.lists) refl
       where
@@ -159,7 +160,7 @@ stays_over n p i (l ∷ ls) j h e = by_step (step_line p i l) refl (bytes_over p
 pub over_limit : (n : ℕ) (p : Place) (i : Image) (ls : List (List ℕ)) (j : Image) → is_over p i ≡ true → image_from n p i ls ≡ Ok j → IsOver j
 over_limit n p i ls j is e = stays_over n p i ls j (by_parts (or_cases _ _ is)) e
   where
-    by_parts : (nat_lt 256 (length (open_locks p)) ≡ true) ⊎ (nat_lt 1024 (length i.lists) ≡ true) → Over p i
+    by_parts : (nat_lt newest_locks (length (open_locks p)) ≡ true) ⊎ (nat_lt 1024 (length i.lists) ≡ true) → Over p i
     by_parts (inl many) = inl (ltb-true _ _ many)
     by_parts (inr many) = inr (inl (ltb-true _ _ many))
 

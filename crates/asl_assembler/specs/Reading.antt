@@ -5,7 +5,7 @@ use Rattle.std.specs.Option.{option_map}
 use Rattle.std.specs.Char.{is_ascii_digit}
 use Rattle.std.specs.Str.{bytes_eq}
 use Rattle.asl_code.specs.Verified.{keeps_limits}
-use Rattle.asl_code.specs.Versions.{is_version}
+use Rattle.asl_code.specs.Versions.{newest_locks, is_version}
 use Rattle.asl_code.specs.declared.image.Image.{Image}
 use Rattle.asl_code.specs.declared.image.Function.{Function}
 use Rattle.asl_code.specs.declared.instr.Instr.{Instr}
@@ -337,7 +337,7 @@ open_locks _ = []
 
 -- whether there are more locks in the open list, or more lists, than a program of any version has
 abbrev pub is_over : Place → Image → Bool
-is_over p i = nat_lt 256 (length (open_locks p)) || nat_lt 1024 (length i.lists)
+is_over p i = nat_lt newest_locks (length (open_locks p)) || nat_lt 1024 (length i.lists)
 
 -- the image is over a limit
 abbrev pub IsOver : Image → Type 0

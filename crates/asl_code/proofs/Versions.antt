@@ -3,7 +3,7 @@ use Rattle.std.proofs.Common.{◌≡◌, ◌≢◌, ◌==◌, ℕ, ◌<◌, ◌�
 use Rattle.std.specs.Option.{option_map_or}
 use Rattle.std.proofs.lemmas.Bool.{cases_lt, le-leb, lt-leb}
 use Rattle.std.proofs.lemmas.Bool.Decides.{eqb_tells}
-use Rattle.asl_code.specs.Versions.{IsVersion, limits_of, is_version, most_threads, version_for, most_locks}
+use Rattle.asl_code.specs.Versions.{IsVersion, newest, newest_threads, newest_locks, limits_of, is_version, most_threads, version_for, most_locks}
 use Rattle.asl_code.specs.declared.limits.Limits.{Limits}
 
 -- what versions 1 and 2 set
@@ -11,7 +11,7 @@ abbrev pub first : Limits
 first = record { threads = 64; locks = 64 }
 
 abbrev pub second : Limits
-second = record { threads = 128; locks = 256 }
+second = record { threads = newest_threads; locks = newest_locks }
 
 pub first_set : limits_of 1 ≡ Some first
 unfolding limits_of
@@ -71,7 +71,7 @@ unfolding most_locks
 locks_set v l set = sym (ap (λ o. option_map_or (λ (k : Limits). k.locks) o 0) set)
 
 -- the most that any version sets
-pub few_threads : (v : ℕ) → most_threads v ≤ 128
+pub few_threads : (v : ℕ) → most_threads v ≤ newest_threads
 unfolding most_threads
 few_threads v = elim (eqb_tells v 1) [
   | inl is ↦ let set = threads_set v first (ap limits_of is.1 ∙ first_set) in omega (arith, set)
@@ -81,7 +81,7 @@ few_threads v = elim (eqb_tells v 1) [
   ]
 ]
 
-pub few_locks : (v : ℕ) → most_locks v ≤ 256
+pub few_locks : (v : ℕ) → most_locks v ≤ newest_locks
 unfolding most_locks
 few_locks v = elim (eqb_tells v 1) [
   | inl is ↦ let set = locks_set v first (ap limits_of is.1 ∙ first_set) in omega (arith, set)
@@ -100,11 +100,11 @@ small_version v (inr two) = omega (arith, two)
 pub first_threads : most_threads 1 ≡ 64
 first_threads = sym (threads_set 1 first first_set)
 
-pub newest_threads : most_threads 2 ≡ 128
-newest_threads = sym (threads_set 2 second second_set)
+pub threads_of_newest : most_threads newest ≡ newest_threads
+threads_of_newest = sym (threads_set 2 second second_set)
 
-pub newest_locks : most_locks 2 ≡ 256
-newest_locks = sym (locks_set 2 second second_set)
+pub locks_of_newest : most_locks newest ≡ newest_locks
+locks_of_newest = sym (locks_set 2 second second_set)
 
 -- which version has so many threads
 pub version_of_few : (n : ℕ) → n ≤ 64 → version_for n ≡ 1

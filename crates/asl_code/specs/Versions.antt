@@ -7,11 +7,23 @@ use Rattle.asl_code.specs.declared.limits.Limits.{Limits}
 abbrev pub IsVersion : ℕ → Type 0
 IsVersion version = (version ≡ 1) ⊎ (version ≡ 2)
 
+-- the newest version (docs/LIMITS.md, Versions)
+abbrev pub newest : ℕ
+newest = 2
+
+-- the most threads of a machine over an image of the newest version (docs/LIMITS.md, Versions)
+abbrev pub newest_threads : ℕ
+newest_threads = 128
+
+-- the most locks of a list of an image of the newest version (docs/LIMITS.md, Versions)
+abbrev pub newest_locks : ℕ
+newest_locks = 256
+
 -- what this version sets, if there is such a version (docs/LIMITS.md, Versions)
 unfoldable pub limits_of : ℕ → Option Limits
 limits_of version =
     if version == 1 then Some (record { threads = 64; locks = 64 })
-    else if version == 2 then Some (record { threads = 128; locks = 256 })
+    else if version == 2 then Some (record { threads = newest_threads; locks = newest_locks })
     else None
 
 -- whether there is such a version (docs/LIMITS.md, Versions)

@@ -3,7 +3,7 @@ use Rattle.std.proofs.Common.{◌≡◌, Bool, ℕ, suc, ◌+◌, ◌<◌, ◌�
 use Rattle.std.specs.Prelude.{All, unwrap_or, option_map, option_and_then}
 use Rattle.std.proofs.lemmas.Option.{slice_get_within, get_or_from_slice_get}
 use Rattle.asl_code.specs.Versions.{most_locks}
-use Rattle.asl_code.proofs.Versions.{newest_locks}
+use Rattle.asl_code.proofs.Versions.{locks_of_newest}
 use Rattle.asl_code.specs.Bodies.{first_of, total_len}
 use Rattle.asl_code.specs.Fits.{LiesIn, FitsFunction, HasBase, HasLock, FitsBase, FitsLock, FitsInstr, FitsImage}
 use Rattle.asl_code.specs.Verified.{is_end}
@@ -242,7 +242,7 @@ module _ (l : Lowered) (c : Classed) (stores : ℕ → ℕ → Bool) (longest : 
     few_instrs = (let same = code_length in let small = kept.size in omega (arith, same, small));
     few_lists = (let same = m.count in let small = lay.limits.few_sections in omega (arith, same, small));
     global_fits = λ n class at. (let below = member_below l c are n class (get_front c.globals c.sites n class (ap (λ xs. slice_get xs n) (sym m.globals) ∙ at)) in let same = m.classes in omega (arith, below, same));
-    few_locks = λ n locks at. (let short = list_short n locks at in let most = ap most_locks m.version ∙ newest_locks in omega (arith, short, most));
+    few_locks = λ n locks at. (let short = list_short n locks at in let most = ap most_locks m.version ∙ locks_of_newest in omega (arith, short, most));
     list_fits = list_fits;
     entry = main_there;
     function_fits = function_fits;

@@ -3,6 +3,7 @@
 use Rattle.std.specs.Prelude.{◌≡◌, ℕ, suc, Bool, List, length, map, Some, slice_get}
 use Rattle.asl_code.specs.declared.image.Image.{Image}
 use Rattle.asl_code.specs.declared.lock.Lock.{Lock}
+use Rattle.asl_code.specs.Versions.{newest, newest_locks}
 use Rattle.asl_syntax.specs.Tree.{Item}
 use Rattle.asl_lower.specs.declared.section.Section.{Section}
 use Rattle.asl_lower.specs.Lowered.{Lowered, IsLowering}
@@ -13,10 +14,10 @@ use Rattle.asl_backward_flow.specs.Needed.{Needed}
 use Rattle.asl_soundness.specs.Coded.{classed}
 use Rattle.asl_emitter.specs.Lists.{IsFitted}
 
--- the image of a lowering with these classes: its code with classes in place of sites, and for each section the fitted list, of
--- at most 256 locks, of what is needed behind its `acq`
+-- the image of a lowering with these classes, of the newest version: its code with classes in place of sites, and for each section
+-- the fitted list, of as many locks as that version has at most, of what is needed behind its `acq`
 pub record IsInferred (l : Lowered) (c : Classed) (stores : ℕ → ℕ → Bool) (longest : ℕ) (image : Image) : Type 0 where
-  pub version : image.version ≡ 2
+  pub version : image.version ≡ newest
   pub classes : image.classes ≡ c.count
   pub globals : image.globals ≡ c.globals
   pub functions : image.functions ≡ l.functions
@@ -24,7 +25,7 @@ pub record IsInferred (l : Lowered) (c : Classed) (stores : ℕ → ℕ → Bool
   pub code : image.code ≡ map (classed c) l.code
   pub count : length image.lists ≡ length l.sections
   pub lists : (n : ℕ) (s : Section) (locks : List Lock) → slice_get l.sections n ≡ Some s → slice_get image.lists n ≡ Some locks →
-      IsFitted c s.function 256 (λ lock. Needed l c stores longest (Inside n) (suc s.acquire) lock) locks
+      IsFitted c s.function newest_locks (λ lock. Needed l c stores longest (Inside n) (suc s.acquire) lock) locks
 
 -- a program with its lowering and its classes
 pub record ClassedProgram (is : List Item) : Type 0 where

@@ -3,6 +3,7 @@ use Rattle.std.specs.Prelude.{◌≡◌, ◌+◌, ◌<◌, ℕ, List, length, ma
 use Rattle.asl_code.specs.declared.instr.Instr.{Instr}
 use Rattle.asl_code.specs.declared.instr.Instr.TheVariants as instr
 use Rattle.asl_code.specs.declared.lock.Lock.{Lock}
+use Rattle.asl_code.specs.Versions.{newest, newest_locks}
 use Rattle.asl_lower.specs.declared.section.Section.{Section}
 use Rattle.asl_lower.specs.Lowered.{Lowered}
 use Rattle.asl_lower.specs.Regions.{Inside}
@@ -20,11 +21,11 @@ HasSites code c = (pc to cells site : ℕ) → slice_get code pc ≡ Some (instr
 pub record AreFitted (l : Lowered) (c : Classed) (parts : List Part) (so_many : ℕ) (lists : List (List Lock)) : Type 0 where
   pub count : length lists ≡ so_many
   pub each : (n : ℕ) (s : Section) (locks : List Lock) → slice_get l.sections n ≡ Some s → slice_get lists n ≡ Some locks →
-      IsFitted c s.function 256 (IsTold parts (Inside n) (s.acquire + 1)) locks
+      IsFitted c s.function newest_locks (IsTold parts (Inside n) (s.acquire + 1)) locks
 
 -- the image of a lowering with classes, with the lists for what the parts of the flow tell
 pub record IsMade (l : Lowered) (c : Classed) (parts : List Part) (image : Image) : Type 0 where
-  pub version : image.version ≡ 2
+  pub version : image.version ≡ newest
   pub classes : image.classes ≡ c.count
   pub globals : image.globals ≡ c.globals
   pub functions : image.functions ≡ l.functions

@@ -1,6 +1,7 @@
 //! Lists of at most 256 locks.
 ghost use Rattle.std.specs.Prelude.{◌≡◌, ◌<◌, IfOk, length};
 ghost use Rattle.std.specs.List.{flat_map};
+ghost use Rattle.asl_code.specs.Versions.{newest_locks};
 ghost use Rattle.asl_lock_expr.specs.Links.{IsOne};
 ghost use Rattle.asl_machine.specs.Request.{effect_of};
 ghost use Rattle.asl_emitter.specs.Lists.{IsFitted, IsCoarse, as_class, strongest};
@@ -14,15 +15,15 @@ use std::alloc::{AllocError, Global};
 /// The most locks that a list of an inferred program may have.
 pub const MOST_LOCKS: usize = NEWEST_LIMITS.locks;
 
-/// The locks of a function fitted to a list of at most 256, as many as the newest version has: reduced; where more are left, their classes, reduced; where more
-/// are left still, one lock on the root with the strongest effect (`docs/ANALYSIS.md`, "Lists").
+/// The locks of a function fitted to a list of at most 256, as many as the newest version has: reduced; where more are left,
+/// their classes, reduced; where more are left still, one lock on the root with the strongest effect (`docs/ANALYSIS.md`, "Lists").
 pub fn fit(
     alloc: Global,
     classes: &Classes,
     function: u16,
     given: &[Lock],
 ) -> Result<Vec<Lock>, AllocError>
-    ensures { IfOk result (λ v. IsFitted classes.now function 256 (IsOne given.now) v.items) }
+    ensures { IfOk result (λ v. IsFitted classes.now function newest_locks (IsOne given.now) v.items) }
 {
     let fine = reduce(alloc, classes, function, given)?;
     if fine.len() <= MOST_LOCKS {
@@ -38,7 +39,7 @@ fn coarsen(
     function: u16,
     fine: &[Lock],
 ) -> Result<Vec<Lock>, AllocError>
-    ensures { IfOk result (λ v. IsCoarse classes.now function 256 fine.now v.items) }
+    ensures { IfOk result (λ v. IsCoarse classes.now function newest_locks fine.now v.items) }
 {
     let coarse = as_classes(alloc, classes, function, fine)?;
     let coarse = reduce(alloc, classes, function, &coarse)?;

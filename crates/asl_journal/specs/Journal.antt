@@ -2,16 +2,13 @@
 -- "What a journal is").
 use Rattle.std.specs.Prelude.{◌≡◌, ◌<◌, ◌≤◌, ◌⊎◌, ℕ, List, length, map, All, slice_get, Some}
 use Rattle.asl_code.specs.declared.image.Image.{Image}
+use Rattle.asl_code.specs.Versions.{newest_threads}
 use Rattle.asl_machine.specs.declared.reply.Reply.{Reply}
 use Rattle.asl_machine.specs.State.{State}
 use Rattle.asl_machine.specs.Run.{IsThreadCount, start_of, replies_of, state_after}
 use Rattle.asl_journal.specs.declared.event.Event.{Event}
 use Rattle.asl_journal.specs.declared.fault.JournalFault.{JournalFault}
 use Rattle.asl_journal.specs.declared.fault.JournalFault.TheVariants.{JournalFull, BadCount, BadThread}
-
--- how many threads a journal has at most (docs/JOURNAL.md, What a journal is)
-abbrev pub most_threads : ℕ
-most_threads = 128
 
 -- how many events a journal has at most (docs/JOURNAL.md, What a journal is)
 abbrev pub most_events : ℕ
@@ -22,9 +19,9 @@ pub record Log : Type 0 where
   pub threads : ℕ
   pub events : List Event
 
--- there are 1 to 128 threads (docs/JOURNAL.md, What a journal is)
+-- there are from 1 thread to as many as the newest version has, which is 128 (docs/JOURNAL.md, What a journal is)
 abbrev pub IsCount : ℕ → Type 0
-IsCount count = (0 < count) × (count ≤ most_threads)
+IsCount count = (0 < count) × (count ≤ newest_threads)
 
 -- each event is of a thread that is there (docs/JOURNAL.md, What a journal is)
 abbrev pub AreThere : ℕ → List Event → Type 0
@@ -48,7 +45,7 @@ pub record HasStranger (log : Log) : Type 0 where
 -- (docs/JOURNAL.md, What a journal is)
 abbrev pub IsNoLog : Log → JournalFault → Type 0
 IsNoLog log JournalFull = most_events < length log.events
-IsNoLog log BadCount = (length log.events ≤ most_events) × ((log.threads ≡ 0) ⊎ (most_threads < log.threads))
+IsNoLog log BadCount = (length log.events ≤ most_events) × ((log.threads ≡ 0) ⊎ (newest_threads < log.threads))
 IsNoLog log BadThread = (length log.events ≤ most_events) × IsCount log.threads × HasStranger log
 IsNoLog log fault = ⊥
 

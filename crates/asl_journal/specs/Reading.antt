@@ -3,7 +3,7 @@
 -- relations of specs/Bytes and specs/Faults, which contracts cite.
 use Rattle.std.specs.Prelude.{◌≡◌, ℕ, zero, suc, ◌-◌, Bool, nat_lt, nat_le, ◌==◌, ◌&&◌, if◌then◌else◌, List, length, Result, Ok, Err}
 use Rattle.std.specs.Int.{w16, w32, cast_signed}
-use Rattle.asl_code.specs.Versions.{is_version, version_for}
+use Rattle.asl_code.specs.Versions.{newest_threads, is_version, version_for}
 use Rattle.asl_code.specs.declared.value.Value.{Value}
 use Rattle.asl_code.specs.declared.value.Value.TheVariants.{Int, Null, Addr}
 use Rattle.asl_machine.specs.declared.fault.Fault.{Fault}
@@ -18,7 +18,7 @@ use Rattle.asl_journal.specs.declared.fault.JournalFault.{JournalFault}
 use Rattle.asl_journal.specs.declared.fault.JournalFault.TheVariants.{Magic, Version, Truncated, BadField, Trailing}
 use Rattle.asl_journal.specs.declared.fault.ReadError.{ReadError}
 use Rattle.asl_journal.specs.declared.fault.ReadError.TheVariants as errors
-use Rattle.asl_journal.specs.Journal.{Log, most_threads, most_events}
+use Rattle.asl_journal.specs.Journal.{Log, most_events}
 
 -- what a function returned, seen by view, is what reading gives, unless memory ran out
 abbrev pub Fails : {Y : Type 0} → ReadError → Result Y Stop → Type 0
@@ -45,7 +45,7 @@ version_at bytes = do
 
 -- whether there may be so many threads in a file of this version
 abbrev pub is_count : ℕ → ℕ → Bool
-is_count version n = nat_lt 0 n && nat_le n most_threads && version_for n == version
+is_count version n = nat_lt 0 n && nat_le n newest_threads && version_for n == version
 
 -- how many threads, in a file of this version
 unfoldable pub threads_at : ℕ → List ℕ → Result (ℕ × List ℕ) Stop

@@ -3,6 +3,7 @@
 use Rattle.std.specs.Prelude.{ℕ, Bool, ◌≡◌, ◌≢◌, ◌≤◌, ◌&&◌, nat_eq, List, replicate, length, Option, None, Some, unwrap_or}
 use Rattle.slab.specs.Slab as slab
 use Rattle.indexmap.specs.IndexMap as index
+use Rattle.asl_code.specs.Versions.{newest_threads}
 use Rattle.asl_mode_lanes.specs.Row.{IsRow}
 use Rattle.asl_lock_forest.specs.declared.leaves.Leaves.{Leaves}
 
@@ -15,7 +16,7 @@ leaf_eq a b = (nat_eq a.0 b.0 && nat_eq a.1 b.1) && nat_eq a.2 b.2
 
 -- for how many threads a row has a code
 abbrev pub width : ℕ
-width = 128
+width = newest_threads
 
 -- a row in which no thread holds anything
 abbrev pub zeros : List ℕ

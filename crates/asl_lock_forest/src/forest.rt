@@ -1,5 +1,6 @@
 //! The forest: who holds which node in which mode, with all that is asked granted at once or nothing of it.
 ghost use Rattle.std.specs.Prelude.{◌≡◌, ◌≢◌, ℕ, ◌↔◌, ◌<◌, ◌≤◌, false, IsTrue, IfOk, OnOk, OnErr, if◌then◌else◌, map, length, replicate, [], slice_set, List, slice_index_or};
+ghost use Rattle.asl_code.specs.Versions.{newest_threads};
 ghost use Rattle.asl_mode_lanes.specs.Mode.{is_at_most};
 ghost use Rattle.asl_lock_forest.specs.Node.{IsThere, same_node};
 ghost use Rattle.asl_lock_forest.specs.Holding.{
@@ -66,7 +67,7 @@ impl Forest {
     /// The forest over classes 0 to `classes - 1` in which none of the threads holds anything.
     pub fn new(alloc: Global, classes: u32, threads: u32) -> Result<Self, AllocError>
         requires some_threads { 1 ≤ threads }
-        requires few_threads { threads ≤ 128 }
+        requires few_threads { threads ≤ newest_threads }
         ensures classes { IfOk result (λ forest. forest.classes ≡ classes) }
         ensures threads { IfOk result (λ forest. forest.threads ≡ threads) }
         ensures holding { IfOk result (λ forest. forest.holding ≡ no_holding) }

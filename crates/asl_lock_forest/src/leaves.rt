@@ -4,13 +4,14 @@ ghost use Rattle.asl_mode_lanes.specs.Row.{IsCode};
 ghost use Rattle.asl_lock_forest.specs.Leaves.{Leaf, key_of_leaf, leaf_row, IsKept, HasRoom, SameLeaves, IsBare, zeros, width};
 
 use crate::leaf_hash::LeafHasher;
+use asl_code::NEWEST_LIMITS;
 use indexmap::IndexMap;
 use slab::Slab;
 use std::alloc::{AllocError, Global};
 use std::hash::BuildHasherDefault;
 
-/// How many threads a row has a code for: the most threads of a forest.
-const WIDTH: usize = 128;
+/// How many threads a row has a code for: as many as the newest version has.
+const WIDTH: usize = NEWEST_LIMITS.threads as usize;
 
 /// The codes of what each thread holds at one node.
 pub type Row = [u8; WIDTH];

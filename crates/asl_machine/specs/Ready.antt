@@ -6,6 +6,7 @@ use Rattle.asl_code.specs.declared.image.Image.{Image}
 use Rattle.asl_code.specs.declared.instr.Instr.{Instr}
 use Rattle.asl_code.specs.declared.instr.Instr.TheVariants.{SetInt, SetNull, Move, Add, Subtract, LessThan, Equals, GlobalAddress, FieldAddress, Load, Store, New, Jump, JumpIfZero, Call, Return, Output, Acquire, Release}
 use Rattle.asl_code.specs.Fits.{FitsImage}
+use Rattle.asl_code.specs.Versions.{newest_threads}
 use Rattle.asl_lock_forest.specs.Held.{Held}
 use Rattle.asl_lock_forest.specs.Holding.{HoldsNothing}
 use Rattle.asl_machine.specs.declared.thread.Stage.{Stage}
@@ -84,4 +85,4 @@ pub record IsMachine (image : Image) (objects : List Object) (forest : Held) (th
   pub apart : AreApart image (record { objects = objects; holding = forest.holding; threads = threads })
   pub classes : forest.classes ≡ image.classes
   pub counted : forest.threads ≡ length threads
-  pub few_threads : length threads ≤ 128
+  pub few_threads : length threads ≤ newest_threads

@@ -1,6 +1,7 @@
 //! Where a running thread is: its frames, and how many sections it is in.
 ghost use Rattle.std.specs.Prelude.{◌≡◌, ◌≢◌, ◌↔◌, IsTrue, ◌<◌, ◌≤◌, ◌+◌, ◌-◌, ◌^◌, ℕ, IfOk, IfSome, OnOk, OnErr, Some, List, All, length, slice_get, pos, ◌∷◌, ◌++◌, []};
 ghost use Rattle.asl_code.specs.Fits.{FitsImage};
+ghost use Rattle.asl_code.specs.Versions.{newest_threads};
 ghost use Rattle.asl_machine.specs.Calls.{function_of, first_registers};
 
 use crate::code::Code;
@@ -37,7 +38,7 @@ impl Frame {
     /// The frame in which thread t starts: the entry function's, with the thread's number as the parameter.
     pub fn entry(alloc: Global, code: &Code<'_>, t: u32) -> Result<Frame, AllocError>
         requires fits { FitsImage code.now }
-        requires small { t < 128 }
+        requires small { t < newest_threads }
         ensures { IfOk result (λ frame. frame ≡ first_frame code.now code.now.start (Int (pos t) ∷ []) None) }
     {
         let function = code.program().start();
@@ -203,7 +204,7 @@ impl Activity {
     /// What thread t is at when it starts.
     pub fn first(alloc: Global, code: &Code<'_>, t: u32) -> Result<Activity, AllocError>
         requires fits { FitsImage code.now }
-        requires small { t < 128 }
+        requires small { t < newest_threads }
         ensures { IfOk result (λ activity. activity ≡ first_activity code.now t) }
     {
         Ok(Activity {

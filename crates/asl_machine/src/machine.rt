@@ -1,7 +1,7 @@
 //! The machine: a program, its heap, its locks and its threads.
 ghost use Rattle.std.specs.Prelude.{◌≡◌, ◌≢◌, ◌<◌, ◌≤◌, ◌↔◌, ◌⊎◌, IfOk, IfErr, OnErr, IsErrOf, IsTrue, false, Some, length, slice_get, option_map, option_and_then};
 ghost use Rattle.asl_code.specs.Fits.{FitsImage};
-ghost use Rattle.asl_code.specs.Versions.{most_threads};
+ghost use Rattle.asl_code.specs.Versions.{most_threads, newest_threads};
 ghost use Rattle.asl_lock_forest.specs.declared.node.Node.{Node};
 ghost use Rattle.asl_machine.specs.Run.{start_of, first_threads};
 ghost use Rattle.asl_machine.specs.State.{cell_at, size_of, class_of, activity_at, depth_at};
@@ -241,7 +241,7 @@ impl<'p> Machine<'p> {
 /// The machine in which n threads of the program start.
 fn start<'p>(alloc: Global, program: &'p Program, n: u32) -> Result<Machine<'p>, AllocError>
     requires some { 0 < n }
-    requires few { n ≤ 128 }
+    requires few { n ≤ newest_threads }
     ensures image { IfOk result (λ machine. machine.image ≡ program.now) }
     ensures start { IfOk result (λ machine. machine.state ≡ start_of program.now n) }
 {
@@ -272,7 +272,7 @@ fn copies(alloc: Global, threads: &[Thread]) -> Result<Vec<Thread>, AllocError>
 /// The first n threads at their start.
 fn start_threads(alloc: Global, code: &Code<'_>, n: u32) -> Result<Vec<Thread>, AllocError>
     requires fits { FitsImage code.now }
-    requires few { n ≤ 128 }
+    requires few { n ≤ newest_threads }
     ensures { IfOk result (λ threads. threads.items ≡ first_threads code.now n) }
 {
     let mut threads = Vec::new(alloc);

@@ -45,6 +45,7 @@ impl Model for Thread {
 impl Thread {
     ghost use Rattle.std.specs.Prelude.{option_copied};
     ghost use Rattle.asl_code.specs.Fits.{FitsImage};
+    ghost use Rattle.asl_code.specs.Versions.{newest_threads};
     ghost use Rattle.asl_machine.specs.State.{activity_of};
     ghost use Rattle.asl_machine.specs.Cover.{is_fresh};
     ghost use Rattle.asl_machine.specs.Fresh.{fresh_of};
@@ -54,7 +55,7 @@ impl Thread {
     /// Thread t at its start.
     pub fn first(alloc: Global, code: &Code<'_>, t: u32) -> Result<Thread, AllocError>
         requires fits { FitsImage code.now }
-        requires small { t < 128 }
+        requires small { t < newest_threads }
         ensures { IfOk result (λ thread. thread ≡ first_thread code.now t) }
     {
         let activity = Activity::first(alloc, code, t)?;

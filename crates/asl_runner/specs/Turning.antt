@@ -1,5 +1,6 @@
 -- Machinery of the proofs, not of the promise: a worker before and after a call (src/worker.rt).
 use Rattle.std.specs.Prelude.{◌<◌, ◌≤◌}
+use Rattle.asl_code.specs.Versions.{newest_threads}
 use Rattle.asl_turns.specs.Turn.{Word}
 use Rattle.asl_runner.specs.declared.worker.Post.{Post}
 use Rattle.asl_runner.specs.declared.worker.Working.{Working}
@@ -9,7 +10,7 @@ use Rattle.asl_runner.specs.Working.{IsWorking, HasPass, HasStopped}
 
 -- a worker of a run
 pub record IsAt (post : Post) : Type 0 where
-  pub threads : post.count ≤ 128
+  pub threads : post.count ≤ newest_threads
   pub mine : post.worker < post.workers
 
 -- a worker between two calls

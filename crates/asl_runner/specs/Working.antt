@@ -1,6 +1,7 @@
 -- Machinery of the proofs, not of the promise: what a worker knows of itself (src/worker.rt), and what is known of those
 -- that have been joined (src/gather.rt).
 use Rattle.std.specs.Prelude.{◌≡◌, ◌<◌, ◌⊎◌, ◌%◌, ◌+◌, ℕ, Bool, true, false, List, length, Some, slice_get, sum_by}
+use Rattle.asl_code.specs.Versions.{newest_threads}
 use Rattle.asl_turns.specs.Turn.{Word, Turn}
 use Rattle.asl_journal.specs.declared.event.Receipt.{Receipt}
 
@@ -24,7 +25,7 @@ pub record IsWorking (word : Word) (count workers worker : ℕ) (seat : Turn) (r
   pub left : seat.left ≡ 1
   pub spent : seat.spent ≡ 0
   pub drawn : length receipts ≡ length seat.tickets
-  pub room : length going ≡ 128
+  pub room : length going ≡ newest_threads
   pub each : (t : ℕ) → IsMine count workers worker t → (slice_get going t ≡ Some true) ⊎ IsToldEnded receipts t
 
 -- the seat has one pass, left or spent

@@ -1,5 +1,6 @@
 //! Starts a thread of the system for each worker, and waits for all of them.
 ghost use Rattle.std.specs.Prelude.{◌≡◌, ◌<◌, ◌≤◌, ◌⊎◌, ℕ, [], IfOk, IfErr, vec_len};
+ghost use Rattle.asl_code.specs.Versions.{newest_threads};
 ghost use Rattle.asl_turns.specs.Turn.{Turn};
 ghost use Rattle.asl_runner.specs.Working.{HasLeft};
 ghost use Rattle.asl_runner.specs.Starting.{AreSeats, HaveWorked};
@@ -37,7 +38,7 @@ pub fn start<R: Threads + Wait + Sync, S: Steps, G: Gate>(
     seats: Vec<TurnSeat>,
 ) -> Result<Vec<Work>, RunFault>
     requires count { S.count ≡ count }
-    requires threads { count ≤ 128 }
+    requires threads { count ≤ newest_threads }
     requires few { vec_len seats ≤ 8 }
     requires seats { AreSeats turns.now seats.items }
     ensures works { IfOk result (λ works. (vec_len works ≡ vec_len seats) × HaveWorked turns.now count (vec_len seats) works.items) }
@@ -47,7 +48,7 @@ pub fn start<R: Threads + Wait + Sync, S: Steps, G: Gate>(
         thread::scope_env(),
         rt,
         move |scope| -> Result<Vec<Work>, RunFault>
-            requires { (S.count ≡ count) × (count ≤ 128) × (vec_len seats ≤ 8) × AreSeats turns.now seats.items }
+            requires { (S.count ≡ count) × (count ≤ newest_threads) × (vec_len seats ≤ 8) × AreSeats turns.now seats.items }
             ensures works { IfOk result (λ works. (vec_len works ≡ vec_len seats) × HaveWorked turns.entry.now count (vec_len seats) works.items) }
             ensures other { IfErr result (λ fault. (fault ≡ RunFault.Spawn) ⊎ (fault ≡ RunFault.OutOfMemory)) }
         {

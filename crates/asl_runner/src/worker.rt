@@ -1,10 +1,12 @@
 //! A worker: it draws tickets, and with each steps one of its threads, until all have ended or no ticket is left.
 ghost use Rattle.std.specs.Prelude.{◌≡◌, ◌≢◌, ◌<◌, ◌≤◌, ◌%◌, ℕ, true, [], length, Some, slice_get, MatchOption};
+ghost use Rattle.asl_code.specs.Versions.{newest_threads};
 ghost use Rattle.asl_runner.specs.Working.{IsMine, HasLeft};
 ghost use Rattle.asl_runner.specs.Turning.{AfterTurn, IsAt, IsReadyAt};
 
 use crate::gate::Gate;
 use crate::locked::Steps;
+use asl_code::NEWEST_LIMITS;
 use asl_journal::{JournalFault, Receipt};
 use asl_machine::Reply;
 use asl_turns::{TurnSeat, Turns};
@@ -13,6 +15,9 @@ use std::sync::Wait;
 
 /// No journal has an entry with this number.
 const NO_ENTRY: u32 = 16_777_216;
+
+/// How many threads a run has at most.
+const MOST_THREADS: usize = NEWEST_LIMITS.threads as usize;
 
 /// Which worker it is, of how many, and how many threads there are: its threads are those t with t mod workers = worker.
 #[derive(Clone, Copy, Drop)]
@@ -28,7 +33,7 @@ pub struct Post {
 pub struct Working {
     pub seat: TurnSeat,
     pub receipts: Vec<Receipt>,
-    pub going: [bool; 128],
+    pub going: [bool; MOST_THREADS],
     pub from: u32,
 }
 
@@ -49,8 +54,8 @@ enum Next {
 }
 
 /// The first of the worker's threads from low to below high that goes on.
-fn first_going(post: Post, going: &[bool; 128], low: u32, high: u32) -> Option<u8>
-    requires high { high ≤ 128 }
+fn first_going(post: Post, going: &[bool; MOST_THREADS], low: u32, high: u32) -> Option<u8>
+    requires high { high ≤ newest_threads }
     requires some { 0 < post.workers }
     ensures { MatchOption result
         ((t : ℕ) → low ≤ t → t < high → (t % post.workers) ≡ post.worker → slice_get going.now t ≢ Some true)
@@ -65,8 +70,8 @@ fn first_going(post: Post, going: &[bool; 128], low: u32, high: u32) -> Option<u
 }
 
 /// A thread of the worker that goes on, in turn from the number on.
-fn next_thread(post: Post, going: &[bool; 128], from: u32) -> Option<u8>
-    requires count { post.count ≤ 128 }
+fn next_thread(post: Post, going: &[bool; MOST_THREADS], from: u32) -> Option<u8>
+    requires count { post.count ≤ newest_threads }
     requires some { 0 < post.workers }
     ensures { MatchOption result
         ((t : ℕ) → IsMine post.count post.workers post.worker t → slice_get going.now t ≢ Some true)
@@ -165,11 +170,11 @@ pub fn run_worker<R: Wait, S: Steps, G: Gate>(
 }
 
 /// All threads go on.
-fn all_going() -> [bool; 128]
-    ensures count { length result ≡ 128 }
-    ensures each { (t : ℕ) → t < 128 → slice_get result t ≡ Some true }
+fn all_going() -> [bool; MOST_THREADS]
+    ensures count { length result ≡ newest_threads }
+    ensures each { (t : ℕ) → t < newest_threads → slice_get result t ≡ Some true }
 {
-    [true; 128]
+    [true; MOST_THREADS]
 }
 
 /// What the worker leaves.
