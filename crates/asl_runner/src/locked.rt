@@ -1,6 +1,7 @@
 //! The machine and its journal under the lock.
-ghost use Rattle.std.specs.Prelude.{◌≡◌, ◌≢◌, ◌<◌, IfOk, Err};
-ghost use Rattle.asl_journal.specs.Journal.{IsJournal, state_at};
+ghost use Rattle.std.specs.Prelude.{◌≡◌, ◌≢◌, ◌↔◌, ◌<◌, ◌++◌, ◌∷◌, [], length, IfOk, IsErrOf, OnErr, Err};
+ghost use Rattle.asl_journal.specs.Journal.{IsJournal, most_events, state_at};
+ghost use Rattle.asl_journal.specs.Recorded.{IsUnchanged, event_of};
 
 use asl_journal::{Journal, JournalFault, Journaled, Receipt};
 use asl_machine::Machine;
@@ -51,7 +52,10 @@ impl<'p, J: Named> Locked<'p, J> {
     pub fn step(&mut self, alloc: Global, t: u8) -> Result<Receipt, JournalFault>
         requires { t < J.count }
         ensures thread { IfOk result (λ receipt. receipt.thread ≡ t) }
+        ensures event { IfOk result (λ receipt. self.new.journaled.events ≡ self.old.journaled.events ++ event_of receipt ∷ []) }
+        ensures full { IsErrOf result JournalFault.JournalFull ↔ (length self.old.journaled.events ≡ most_events) }
         ensures bad { result ≢ Err JournalFault.BadThread }
+        ensures err { OnErr result (IsUnchanged self.old.journaled self.new.journaled) }
     {
         self.journaled.step(alloc, u32::from(t))
     }
