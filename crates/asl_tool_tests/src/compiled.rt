@@ -1,8 +1,6 @@
 //! Sources and the programs that are inferred for them.
-use asl_tool::tool_alone;
-use std::alloc::{AllocError, Global};
-use std::process::Abort;
-use std::test::Fail;
+use crate::outcomes::{Outcome, outcome_of};
+use std::alloc::Global;
 
 const COUNTER: &str =
     "global g; fn main(t) { p = &g; atomic { x = *p; one = 1; y = x + one; *p = y; } return t; }";
@@ -12,7 +10,7 @@ const COUNTER_TEXT: &str =
     int r3, 1\nadd r4, r2, r3\nstore r1, r4\nrel\nret r0\nlist\nexpr r1 write\n";
 
 /// The words, a source, the status, and the last lines of the output, or what is said.
-const CASES: [(&str, &str, u8, &str); 12] = [
+static CASES: [(&str, &str, u8, &str); 12] = [
     ("compile --text", COUNTER, 0, COUNTER_TEXT),
     (
         "compile --text",
@@ -72,53 +70,29 @@ const CASES: [(&str, &str, u8, &str); 12] = [
     ),
 ];
 
-/// The words of a line, which stand between single spaces.
-fn split(alloc: Global, line: &str) -> Result<Vec<String>, AllocError> {
-    let mut words = Vec::new(alloc);
-    for word in line.split(' ') {
-        words.push(String::from_str(alloc, word)?)?;
-    }
-    Ok(words)
+/// Whether this is what is written where the status is 0, and else what is said, up to what stands in front of the end.
+fn ends(outcome: &Outcome, status: u8, end: &str) -> bool {
+    let (output, errors) = (outcome.output.as_slice(), outcome.errors.as_slice());
+    let (full, empty) = if status == 0 {
+        (output, errors)
+    } else {
+        (errors, output)
+    };
+    outcome.status == Some(status) && full.ends_with(end.as_bytes()) && empty.is_empty()
 }
 
-/// Runs the words on the source, and compares the status and the end of what was written.
-fn expect(
-    rt: &(impl Abort + AllocGlobal),
-    line: &str,
-    source: &str,
-    status: u8,
-    end: &str,
-) -> Result<(), Fail> {
-    let alloc = rt.alloc();
-    let words = split(alloc, line)?;
-    let mut writer = Vec::new(alloc);
-    let mut errors = Vec::new(alloc);
+/// Whether the words do this over the source.
+fn is_compiled(alloc: Global, line: &str, source: &str, wanted: (u8, &str)) -> Option<bool> {
     let mut reader = source.as_bytes();
-    let got = tool_alone(
-        alloc,
-        words.as_slice(),
-        &mut reader,
-        &mut writer,
-        &mut errors,
-    );
-    assert!(rt; got == Some(status), "{line}: {source}");
-    let (full, empty) = if status == 0 {
-        (writer, errors)
-    } else {
-        (errors, writer)
-    };
-    assert!(rt;
-        full.as_slice().ends_with(end.as_bytes()),
-        "{line}: {source}"
-    );
-    assert!(rt; empty.is_empty(), "{line}: {source}");
-    Ok(())
+    let outcome = outcome_of(alloc, line, &mut reader)?;
+    let (status, end) = wanted;
+    Some(ends(&outcome, status, end))
 }
 
 #[test]
-fn sources_become_programs(rt: HostRuntime) -> Result<(), Fail> {
-    for (words, source, status, end) in CASES {
-        expect(&rt, words, source, status, end)?;
+fn sources_become_programs(rt: HostRuntime) {
+    for (line, source, status, end) in CASES.iter() {
+        let compiled = is_compiled(rt.alloc(), line, source, (*status, end));
+        assert!(rt; compiled == Some(true), "{line}: {source}");
     }
-    Ok(())
 }

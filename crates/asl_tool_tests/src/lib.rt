@@ -10,6 +10,8 @@ mod compiled;
 #[cfg(test)]
 mod fakes;
 #[cfg(test)]
+mod outcomes;
+#[cfg(test)]
 mod recorded;
 #[cfg(test)]
 mod streams;

@@ -1,15 +1,13 @@
 //! Recorded runs: their files, replay, and the debugger's words.
-use asl_tool::tool_alone;
-use std::alloc::{AllocError, Global};
-use std::process::Abort;
-use std::test::Fail;
+use crate::outcomes::{is_done, outcome_of};
+use std::alloc::Global;
 
-const COUNTER: &str =
-    "version 1\nclasses 1\nglobal 0\nentry 0\nfn 1 5\nglob r1, g0\nacq 0\nload r2, r1\n\
+static COUNTER: &[u8] =
+    b"version 1\nclasses 1\nglobal 0\nentry 0\nfn 1 5\nglob r1, g0\nacq 0\nload r2, r1\n\
     int r3, 1\nadd r4, r2, r3\nstore r1, r4\nrel\nret r0\nlist\nexpr r1 write\n";
 
 /// The run file of the counter's threads, stepped 0, 0, 1, 1: the image of 94 bytes behind its length, and the journal.
-const FILE: [u8; 117] =
+static FILE: [u8; 117] =
     *b"\x00\x00\x00\x5eASLM\x00\x01\x00\x01\x00\x01\x00\x00\x00\x01\x01\x05\x00\x08\x00\x00\x00\x08\
     \x08\x01\x00\x00\x00\x00\x00\x00\x12\x00\x00\x00\x00\x00\x00\x00\
     \x0a\x02\x01\x00\x00\x00\x00\x00\x01\x03\x00\x00\x00\x00\x00\x01\
@@ -18,55 +16,21 @@ const FILE: [u8; 117] =
     \x00\x01\x00\x01\x02\x01\x01\x00\
     ASLJ\x00\x01\x02\x00\x00\x00\x04\x00\x00\x00\x00\x01\x00\x01\x02";
 
-/// The words of a line, which stand between single spaces.
-fn split(alloc: Global, line: &str) -> Result<Vec<String>, AllocError> {
-    let mut words = Vec::new(alloc);
-    for word in line.split(' ') {
-        words.push(String::from_str(alloc, word)?)?;
-    }
-    Ok(words)
-}
-
-/// Runs the words on bytes, and compares the status and what was written.
-fn expect(
-    rt: &(impl Abort + AllocGlobal),
-    line: &str,
-    input: &[u8],
-    status: u8,
-    output: &[u8],
-    said: &str,
-) -> Result<(), Fail> {
-    let alloc = rt.alloc();
-    let words = split(alloc, line)?;
-    let mut writer = Vec::new(alloc);
-    let mut errors = Vec::new(alloc);
-    let mut reader = input;
-    let got = tool_alone(
-        alloc,
-        words.as_slice(),
-        &mut reader,
-        &mut writer,
-        &mut errors,
-    );
-    assert!(rt; got == Some(status), "{line}: the status");
-    assert!(rt; writer.as_slice() == output, "{line}: the output");
-    assert!(rt; errors.as_slice() == said.as_bytes(), "{line}: the errors");
-    Ok(())
+#[test]
+fn a_run_is_recorded(rt: HostRuntime) {
+    let line = "step --threads 2 --record 0 0 1 1";
+    let done = is_done(rt.alloc(), line, COUNTER, (0, &FILE, ""));
+    assert!(rt; done == Some(true));
 }
 
 #[test]
-fn a_run_is_recorded(rt: HostRuntime) -> Result<(), Fail> {
-    let words = "step --threads 2 --record 0 0 1 1";
-    expect(&rt, words, COUNTER.as_bytes(), 0, FILE.as_slice(), "")
-}
-
-#[test]
-fn a_recorded_run_comes_again(rt: HostRuntime) -> Result<(), Fail> {
-    expect(&rt, "replay", FILE.as_slice(), 0, b"same 4\n", "")
+fn a_recorded_run_comes_again(rt: HostRuntime) {
+    let done = is_done(rt.alloc(), "replay", &FILE, (0, b"same 4\n", ""));
+    assert!(rt; done == Some(true));
 }
 
 /// The words of a debugger over the counter's run, and what it answers.
-const TALKS: [(&str, &str); 9] = [
+static TALKS: [(&str, &str); 9] = [
     (
         "debug goto 4 back back view",
         "at 4\nat 3\nat 2\nthread 0 pc 2 depth 1\nreg 0 0 int 0\nreg 0 1 addr 0.0\nreg 0 2 int 0\nreg 0 3 int 0\n\
@@ -96,38 +60,47 @@ const TALKS: [(&str, &str); 9] = [
 ];
 
 #[test]
-fn the_debugger_answers(rt: HostRuntime) -> Result<(), Fail> {
-    for (words, answers) in TALKS {
-        expect(&rt, words, FILE.as_slice(), 0, answers.as_bytes(), "")?;
+fn the_debugger_answers(rt: HostRuntime) {
+    for (line, answers) in TALKS.iter() {
+        let done = is_done(rt.alloc(), line, &FILE, (0, answers.as_bytes(), ""));
+        assert!(rt; done == Some(true), "{line}");
     }
-    Ok(())
 }
 
 /// Makes a cell in a section, stores into it, and then where others find it.
-const PUBLISH: &str =
-    "version 2\nclasses 2\nglobal 0\nentry 0\nfn 1 3\nglob r1, g0\nacq 0\nnew r2, 1, 1\n\
+static PUBLISH: &[u8] =
+    b"version 2\nclasses 2\nglobal 0\nentry 0\nfn 1 3\nglob r1, g0\nacq 0\nnew r2, 1, 1\n\
     store r2, r0\nstore r1, r2\nrel\nret r0\nlist\nexpr r1 write\n";
 
-/// The run file of one thread's first six steps.
-fn published(rt: &(impl Abort + AllocGlobal)) -> Result<Vec<u8>, Fail> {
-    let alloc = rt.alloc();
-    let words = split(alloc, "step --threads 1 --record 0 0 0 0 0 0")?;
-    let mut file = Vec::new(alloc);
-    let mut errors = Vec::new(alloc);
-    let mut reader = PUBLISH.as_bytes();
-    let got = tool_alone(alloc, words.as_slice(), &mut reader, &mut file, &mut errors);
-    assert!(rt; got == Some(0));
-    Ok(file)
+/// The run file of the program's first six steps of one thread.
+fn published(alloc: Global, program: &[u8]) -> Option<Vec<u8>> {
+    let line = "step --threads 1 --record 0 0 0 0 0 0";
+    let mut reader = program;
+    let outcome = outcome_of(alloc, line, &mut reader)?;
+    if outcome.status == Some(0) {
+        Some(outcome.output)
+    } else {
+        None
+    }
 }
 
 /// What is fresh for the thread stands last.
-const PUBLISH_VIEW: &str =
-    "at 6\nat 5\nthread 0 pc 5 depth 1\nreg 0 0 int 0\nreg 0 1 addr 0.0\nreg 0 2 addr 1.0\n\
+static PUBLISH_VIEW: &[u8] =
+    b"at 6\nat 5\nthread 0 pc 5 depth 1\nreg 0 0 int 0\nreg 0 1 addr 0.0\nreg 0 2 addr 1.0\n\
     cell 0.0 addr 1.0\ncell 1.0 int 0\nheld 0 root IX\nheld 0 class 0 IX\nheld 0 leaf 0.0 X\nfresh 0 1\n";
 
+/// Whether the debugger shows this over the program's run.
+fn is_viewed(alloc: Global, program: &[u8], view: &[u8]) -> Option<bool> {
+    let file = published(alloc, program)?;
+    is_done(
+        alloc,
+        "debug goto 6 back view",
+        file.as_slice(),
+        (0, view, ""),
+    )
+}
+
 #[test]
-fn the_view_tells_what_is_fresh(rt: HostRuntime) -> Result<(), Fail> {
-    let file = published(&rt)?;
-    let words = "debug goto 6 back view";
-    expect(&rt, words, file.as_slice(), 0, PUBLISH_VIEW.as_bytes(), "")
+fn the_view_tells_what_is_fresh(rt: HostRuntime) {
+    assert!(rt; is_viewed(rt.alloc(), PUBLISH, PUBLISH_VIEW) == Some(true));
 }

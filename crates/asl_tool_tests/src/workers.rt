@@ -1,20 +1,42 @@
 //! The command `run`: what it writes, what it refuses, and that it needs the handles of threads.
 use crate::fakes::Feed;
-use asl_tool::{tool, tool_alone};
-use std::alloc::{AllocError, Global};
-use std::test::Fail;
+use crate::outcomes::{Outcome, is_done, outcome_of, split};
+use asl_tool::tool;
+use std::alloc::Global;
+use std::sync::Wait;
+use std::thread::Threads;
 
-const COUNTER: &str =
-    "version 1\nclasses 1\nglobal 0\nentry 0\nfn 1 5\nglob r1, g0\nacq 0\nload r2, r1\n\
+static COUNTER: &[u8] =
+    b"version 1\nclasses 1\nglobal 0\nentry 0\nfn 1 5\nglob r1, g0\nacq 0\nload r2, r1\n\
     int r3, 1\nadd r4, r2, r3\nstore r1, r4\nrel\nret r0\nlist\nexpr r1 write\n";
 
-/// The words of a line, which stand between single spaces.
-fn split(alloc: Global, line: &str) -> Result<Vec<String>, AllocError> {
-    let mut words = Vec::new(alloc);
-    for word in line.split(' ') {
-        words.push(String::from_str(alloc, word)?)?;
+/// What words come to over the input, where they may start threads.
+fn work(
+    rt: &(impl Threads + Wait + Sync),
+    alloc: Global,
+    words: &[String],
+    input: &[u8],
+) -> Outcome {
+    let mut reader = input;
+    let mut output = Vec::new(alloc);
+    let mut errors = Vec::new(alloc);
+    let status = tool(rt, alloc, words, &mut reader, &mut output, &mut errors);
+    Outcome {
+        status: Some(status),
+        output,
+        errors,
     }
-    Ok(words)
+}
+
+/// The same of the words of a line.
+fn worked(
+    rt: &(impl Threads + Wait + Sync),
+    alloc: Global,
+    line: &str,
+    input: &[u8],
+) -> Option<Outcome> {
+    let words = split(alloc, line).ok()?;
+    Some(work(rt, alloc, words.as_slice(), input))
 }
 
 /// The words, the status, the output, and the first line on standard error.
@@ -64,75 +86,66 @@ static CASES: [(&str, u8, &str, &str); 8] = [
     ),
 ];
 
+/// Whether the outcome has this status and output, and such a first line on standard error.
+fn is_wanted(outcome: &Outcome, status: u8, output: &str, said: &str) -> bool {
+    outcome.status == Some(status)
+        && outcome.output.as_slice() == output.as_bytes()
+        && outcome.errors.as_slice().starts_with(said.as_bytes())
+}
+
+/// Whether the words' run by workers has this status and output, and such a first line on standard error.
+fn is_worked(
+    rt: &(impl Threads + Wait + Sync),
+    alloc: Global,
+    line: &str,
+    wanted: (u8, &str, &str),
+) -> Option<bool> {
+    let outcome = worked(rt, alloc, line, COUNTER)?;
+    let (status, output, said) = wanted;
+    Some(is_wanted(&outcome, status, output, said))
+}
+
 #[test]
-fn workers_run_the_counter(rt: HostRuntime) -> Result<(), Fail> {
-    let alloc = rt.alloc();
-    for (line, status, output, said) in &CASES {
-        let words = split(alloc, line)?;
-        let mut reader = COUNTER.as_bytes();
-        let mut writer = Vec::new(alloc);
-        let mut errors = Vec::new(alloc);
-        let got = tool(
-            &rt,
-            alloc,
-            words.as_slice(),
-            &mut reader,
-            &mut writer,
-            &mut errors,
-        );
-        assert!(rt; got == *status, "{line}: the status");
-        assert!(rt;
-            writer.as_slice() == output.as_bytes(),
-            "{line}: the output"
-        );
-        assert!(rt;
-            errors.as_slice().starts_with(said.as_bytes()),
-            "{line}: the errors"
-        );
+fn workers_run_the_counter(rt: HostRuntime) {
+    for (line, status, output, said) in CASES.iter() {
+        let done = is_worked(&rt, rt.alloc(), line, (*status, output, said));
+        assert!(rt; done == Some(true), "{line}");
     }
-    Ok(())
+}
+
+/// Whether the words are not run where no threads may be started, and nothing is read or written.
+fn is_untouched(alloc: Global, line: &str) -> Option<bool> {
+    let mut reader = Feed::new(COUNTER, 9, 0);
+    let outcome = outcome_of(alloc, line, &mut reader)?;
+    let is_silent = outcome.output.is_empty() && outcome.errors.is_empty();
+    Some(outcome.status.is_none() && reader.calls == 0 && is_silent)
 }
 
 #[test]
-fn no_run_without_threads(rt: HostRuntime) -> Result<(), Fail> {
-    let alloc = rt.alloc();
-    let words = split(alloc, "run --threads 1 --workers 1 --limit 10000")?;
-    let mut reader = Feed::new(COUNTER.as_bytes(), 9, 0);
-    let mut writer = Vec::new(alloc);
-    let mut errors = Vec::new(alloc);
-    let got = tool_alone(
+fn no_run_without_threads(rt: HostRuntime) {
+    let untouched = is_untouched(rt.alloc(), "run --threads 1 --workers 1 --limit 10000");
+    assert!(rt; untouched == Some(true));
+}
+
+/// Whether the outcome is a run file that comes again.
+fn is_run_file(alloc: Global, outcome: &Outcome) -> Option<bool> {
+    let same = is_done(
         alloc,
-        words.as_slice(),
-        &mut reader,
-        &mut writer,
-        &mut errors,
-    );
-    assert!(rt; got.is_none());
-    assert!(rt; reader.calls == 0 && writer.is_empty() && errors.is_empty());
-    Ok(())
+        "replay",
+        outcome.output.as_slice(),
+        (0, b"same 20\n", ""),
+    )?;
+    Some(same && outcome.status == Some(0) && outcome.errors.is_empty())
+}
+
+/// Whether what the words record comes again.
+fn is_replayed(rt: &(impl Threads + Wait + Sync), alloc: Global, line: &str) -> Option<bool> {
+    let outcome = worked(rt, alloc, line, COUNTER)?;
+    is_run_file(alloc, &outcome)
 }
 
 #[test]
-fn a_run_of_workers_comes_again(rt: HostRuntime) -> Result<(), Fail> {
-    let alloc = rt.alloc();
-    let words = split(alloc, "run --threads 4 --workers 3 --limit 20 --record")?;
-    let mut reader = COUNTER.as_bytes();
-    let mut file = Vec::new(alloc);
-    let mut errors = Vec::new(alloc);
-    let got = tool(
-        &rt,
-        alloc,
-        words.as_slice(),
-        &mut reader,
-        &mut file,
-        &mut errors,
-    );
-    assert!(rt; got == 0 && errors.is_empty());
-    let words = split(alloc, "replay")?;
-    let mut reader = file.as_slice();
-    let mut same = Vec::new(alloc);
-    let got = tool_alone(alloc, words.as_slice(), &mut reader, &mut same, &mut errors);
-    assert!(rt; got == Some(0));
-    assert!(rt; same.as_slice() == b"same 20\n".as_slice());
-    Ok(())
+fn a_run_of_workers_comes_again(rt: HostRuntime) {
+    let line = "run --threads 4 --workers 3 --limit 20 --record";
+    assert!(rt; is_replayed(&rt, rt.alloc(), line) == Some(true));
 }

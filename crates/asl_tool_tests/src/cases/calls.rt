@@ -1,12 +1,8 @@
 //! Calls, frames and the ends of threads, and how much of each there may be.
-use super::{Case, HEAD, expect_cases, lines};
-use asl_tool::output_of;
-use asl_words::Command;
+use super::{Case, HEAD, expect_cases, lines, output};
 use std::alloc::{AllocError, Global};
-use std::process::Abort;
-use std::test::Fail;
 
-const CASES: [Case; 8] = [
+static CASES: [Case; 8] = [
     Case {
         name: "four arguments are copied, and the other registers start as 0",
         code: "int r2, 7; int r3, 1; null r4; int r5, -8; call r1, r2, 1; ret r0; \
@@ -54,8 +50,8 @@ const CASES: [Case; 8] = [
 ];
 
 #[test]
-fn calls_and_ends(rt: HostRuntime) -> Result<(), Fail> {
-    expect_cases(&rt, CASES.as_slice())
+fn calls_and_ends(rt: HostRuntime) {
+    expect_cases(&rt, &CASES);
 }
 
 /// So many steps of thread 0 and one of thread 1, with the last lines that are printed.
@@ -65,62 +61,58 @@ struct Long {
     end: &'static str,
 }
 
-const FRAMES: Long = Long {
+static FRAMES: Long = Long {
     code: "mov r2, r0; call r1, r2, 0; ret r0",
     steps: 512,
     end: "510 0 ran; 511 0 fault Stack; 512 1 ran",
 };
 
-const SECTIONS: Long = Long {
+static SECTIONS: Long = Long {
     code: "acq 0; jmp 0; list; root read",
     steps: 511,
     end: "509 0 ran; 510 0 fault Deep; 511 1 ran",
 };
 
 /// The globals are two of the 65,536 objects.
-const OBJECTS: Long = Long {
+static OBJECTS: Long = Long {
     code: "new r1, 1, 0; out r1; jmp 0",
     steps: 196_603,
     end: "196600 0 out addr 65535.0; 196601 0 ran; 196602 0 fault Full; 196603 1 fault Full",
 };
 
 /// So many steps of thread 0 and one of thread 1.
-fn steps(alloc: Global, count: u32) -> Result<Command, AllocError> {
-    let mut schedule = Vec::new(alloc);
-    for _ in 0..count {
-        schedule.push(0)?;
-    }
+fn steps(alloc: Global, count: u32) -> Result<Vec<u32>, AllocError> {
+    let mut schedule = vec![in alloc; 0; count as usize]?;
     schedule.push(1)?;
-    Ok(Command::Step {
-        threads: 2,
-        schedule,
-        record: false,
-    })
+    Ok(schedule)
 }
 
-/// Compares the last lines.
-fn expect_end(rt: &(impl Abort + AllocGlobal), long: &Long) -> Result<(), Fail> {
-    let code = long.code;
-    let program = format!(in rt.alloc(); "{HEAD}; {code}")?;
-    let text = lines(rt.alloc(), program.as_str())?;
-    let command = steps(rt.alloc(), long.steps)?;
-    let output = output_of(rt.alloc(), &command, text.as_bytes())?;
-    let end = lines(rt.alloc(), long.end)?;
-    assert!(rt; output.ends_with(end.as_bytes()), "{code}");
-    Ok(())
+/// What is printed of the lines behind the first ones, over so many steps.
+fn output_of_steps(alloc: Global, code: &str, count: u32) -> Option<Vec<u8>> {
+    let schedule = steps(alloc, count).ok()?;
+    let program = [HEAD, code].join(alloc, "; ").ok()?;
+    let text = lines(alloc, program.as_str()).ok()?;
+    output(alloc, 2, schedule, text.as_str())
 }
 
-#[test]
-fn a_thread_has_256_frames(rt: HostRuntime) -> Result<(), Fail> {
-    expect_end(&rt, &FRAMES)
+/// Whether the last lines are those that are wanted.
+fn is_end(alloc: Global, long: &Long) -> Option<bool> {
+    let end = lines(alloc, long.end).ok()?;
+    let output = output_of_steps(alloc, long.code, long.steps)?;
+    Some(output.as_slice().ends_with(end.as_bytes()))
 }
 
 #[test]
-fn a_thread_is_in_255_sections(rt: HostRuntime) -> Result<(), Fail> {
-    expect_end(&rt, &SECTIONS)
+fn a_thread_has_256_frames(rt: HostRuntime) {
+    assert!(rt; is_end(rt.alloc(), &FRAMES) == Some(true));
 }
 
 #[test]
-fn a_machine_has_65536_objects(rt: HostRuntime) -> Result<(), Fail> {
-    expect_end(&rt, &OBJECTS)
+fn a_thread_is_in_255_sections(rt: HostRuntime) {
+    assert!(rt; is_end(rt.alloc(), &SECTIONS) == Some(true));
+}
+
+#[test]
+fn a_machine_has_65536_objects(rt: HostRuntime) {
+    assert!(rt; is_end(rt.alloc(), &OBJECTS) == Some(true));
 }

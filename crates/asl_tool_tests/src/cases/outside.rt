@@ -1,9 +1,8 @@
 //! Runs whose replies an independent program gave, on programs and orders drawn at random.
-use super::expect_run;
-use std::test::Fail;
+use super::is_run;
 
 /// A whole program's lines, parted by `; `, and a run of it.
-const RUNS: [(&str, &str); 5] = [
+static RUNS: [(&str, &str); 5] = [
     (
         "version 1; classes 1; global 0; entry 0; fn 1 6; glob r1, g0; glob r2, g0; glob r3, g0; acq 0; \
             int r4, -2; load r5, r1; rel; acq 1; load r5, r3; load r5, r4; rel; ret r0; list; \
@@ -52,9 +51,8 @@ const RUNS: [(&str, &str); 5] = [
 ];
 
 #[test]
-fn replies_are_those_of_another_program(rt: HostRuntime) -> Result<(), Fail> {
-    for (program, run) in RUNS {
-        expect_run(&rt, program, program, run)?;
+fn replies_are_those_of_another_program(rt: HostRuntime) {
+    for (program, run) in RUNS.iter() {
+        assert!(rt; is_run(rt.alloc(), program, run) == Some(true), "{program}");
     }
-    Ok(())
 }

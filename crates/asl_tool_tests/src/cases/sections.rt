@@ -1,11 +1,10 @@
 //! Sections: which go together, what they cover, and how they are entered and left.
-use super::{Case, HEAD, expect_cases, expect_run};
-use std::process::Abort;
-use std::test::Fail;
+use super::{Case, HEAD, expect_cases, is_right};
+use std::alloc::{AllocError, Global};
 
 /// The locks of two sections, and the reply to the second that is entered, whichever that is. In front of them each
 /// thread makes an object of class 0 for itself, in register 1; register 2 holds no address.
-const PAIRS: [(&str, &str, &str); 32] = [
+static PAIRS: [(&str, &str, &str); 32] = [
     ("root read", "root read", "ran"),
     ("root read", "root write", "blocked"),
     ("root write", "root write", "blocked"),
@@ -40,37 +39,43 @@ const PAIRS: [(&str, &str, &str); 32] = [
     ("root write", "expr r1 .1 write", "ran"),
 ];
 
-/// Enters the section of the first locks, then that of the second, and then once more where that was blocked.
-fn expect_pair(
-    rt: &(impl Abort + AllocGlobal),
-    first: &str,
-    second: &str,
-    reply: &str,
-) -> Result<(), Fail> {
-    let program = format!(in rt.alloc();
-        "{HEAD}; new r1, 1, 0; jz r0, 4; acq 1; ret r0; acq 0; ret r0; list; {first}; list; {second}"
-    )?;
+/// The lines behind the first ones, up to the first section's locks.
+const ENTRY: &str = "new r1, 1, 0; jz r0, 4; acq 1; ret r0; acq 0; ret r0; list";
+
+/// The run that enters the section of the first locks, then that of the second, and then once more where that was blocked.
+fn entered(alloc: Global, reply: &str) -> Result<String, AllocError> {
     let last = if reply == "blocked" {
         "ran"
     } else {
         "fault Open"
     };
-    let run = format!(in rt.alloc();
-        "0 ran; 0 ran; 0 ran; 1 ran; 1 ran; 1 {reply}; 0 fault Open; 1 {last}"
-    )?;
-    expect_run(rt, program.as_str(), program.as_str(), run.as_str())
+    let replies = [
+        "0 ran; 0 ran; 0 ran; 1 ran; 1 ran; 1 ",
+        reply,
+        "; 0 fault Open; 1 ",
+        last,
+    ];
+    replies.concat(alloc)
+}
+
+/// Whether the two sections are entered so.
+fn is_pair(alloc: Global, first: &str, second: &str, reply: &str) -> Option<bool> {
+    let run = entered(alloc, reply).ok()?;
+    let lines = [HEAD, ENTRY, first, "list", second];
+    is_right(alloc, &lines, run.as_str())
 }
 
 #[test]
-fn two_sections_go_together_or_not(rt: HostRuntime) -> Result<(), Fail> {
-    for (first, second, reply) in PAIRS {
-        expect_pair(&rt, first, second, reply)?;
-        expect_pair(&rt, second, first, reply)?;
+fn two_sections_go_together_or_not(rt: HostRuntime) {
+    for (first, second, reply) in PAIRS.iter() {
+        let forth = is_pair(rt.alloc(), first, second, reply);
+        assert!(rt; forth == Some(true), "{first}, then {second}");
+        let back = is_pair(rt.alloc(), second, first, reply);
+        assert!(rt; back == Some(true), "{second}, then {first}");
     }
-    Ok(())
 }
 
-const CASES: [Case; 17] = [
+static CASES: [Case; 17] = [
     Case {
         name: "no section is left where none is entered",
         code: "rel; ret r0",
@@ -167,6 +172,6 @@ const CASES: [Case; 17] = [
 ];
 
 #[test]
-fn sections_are_entered_and_left(rt: HostRuntime) -> Result<(), Fail> {
-    expect_cases(&rt, CASES.as_slice())
+fn sections_are_entered_and_left(rt: HostRuntime) {
+    expect_cases(&rt, &CASES);
 }

@@ -1,11 +1,10 @@
 //! Values: sums, comparisons, addresses, jumps, and what is shown.
-use super::{Case, HEAD, expect_cases, expect_run};
-use std::process::Abort;
-use std::test::Fail;
+use super::{Case, HEAD, expect_cases, is_right};
+use std::alloc::{AllocError, Global};
 
 /// What puts a value into register 1, and one into register 2; an instruction that takes the two; and what it replies, or
 /// the value that it makes of them.
-const PAIRS: [(&str, &str, &str, &str); 42] = [
+static PAIRS: [(&str, &str, &str, &str); 42] = [
     ("int r1, 5", "int r2, 7", "add", "int 12"),
     ("int r1, 2147483647", "int r2, 1", "add", "int -2147483648"),
     ("int r1, -2147483648", "int r2, -1", "add", "int 2147483647"),
@@ -50,35 +49,39 @@ const PAIRS: [(&str, &str, &str, &str); 42] = [
     ("new r1, 1, 0", "new r2, 1, 0", "eq", "int 0"),
 ];
 
-/// Runs the instruction, and shows what it makes.
-fn expect_pair(
-    rt: &(impl Abort + AllocGlobal),
-    pair: (&str, &str),
-    instruction: &str,
-    answer: &str,
-) -> Result<(), Fail> {
-    let (first, second) = pair;
-    let program = format!(in rt.alloc();
-        "{HEAD}; {first}; {second}; {instruction} r3, r1, r2; out r3; ret r0"
-    )?;
-    let run = if answer.starts_with("fault") {
-        format!(in rt.alloc(); "0 ran; 0 ran; 0 {answer}; 0 ended")?
+/// What a run replies to the instruction that gives this answer, and behind it.
+fn replies(alloc: Global, answer: &str) -> Result<String, AllocError> {
+    if answer.starts_with("fault") {
+        ["0 ran; 0 ran; 0 ", answer, "; 0 ended"].concat(alloc)
     } else {
-        format!(in rt.alloc(); "0 ran; 0 ran; 0 ran; 0 out {answer}; 0 ran; 0 ended")?
-    };
-    expect_run(rt, program.as_str(), program.as_str(), run.as_str())
+        ["0 ran; 0 ran; 0 ran; 0 out ", answer, "; 0 ran; 0 ended"].concat(alloc)
+    }
+}
+
+/// Whether the instruction, between what makes its values and what shows what it makes, gives this answer.
+fn is_made(alloc: Global, values: [&str; 2], instruction: &str, answer: &str) -> Option<bool> {
+    let run = replies(alloc, answer).ok()?;
+    let instruction = [instruction, " r3, r1, r2"].concat(alloc).ok()?;
+    let lines = [
+        HEAD,
+        values[0],
+        values[1],
+        instruction.as_str(),
+        "out r3; ret r0",
+    ];
+    is_right(alloc, &lines, run.as_str())
 }
 
 #[test]
-fn two_values_make_a_third(rt: HostRuntime) -> Result<(), Fail> {
-    for (first, second, instruction, answer) in PAIRS {
-        expect_pair(&rt, (first, second), instruction, answer)?;
+fn two_values_make_a_third(rt: HostRuntime) {
+    for (first, second, instruction, answer) in PAIRS.iter() {
+        let made = is_made(rt.alloc(), [first, second], instruction, answer);
+        assert!(rt; made == Some(true), "{first}; {second}; {instruction}");
     }
-    Ok(())
 }
 
 /// What is shown, where a field is, and where a jump goes.
-const CASES: [Case; 25] = [
+static CASES: [Case; 25] = [
     Case {
         name: "values are shown",
         code: "out r0; null r1; out r1; glob r2, g1; out r2; mov r3, r2; out r3; out r4; ret r0",
@@ -210,6 +213,6 @@ const CASES: [Case; 25] = [
 ];
 
 #[test]
-fn values_fields_and_jumps(rt: HostRuntime) -> Result<(), Fail> {
-    expect_cases(&rt, CASES.as_slice())
+fn values_fields_and_jumps(rt: HostRuntime) {
+    expect_cases(&rt, &CASES);
 }
