@@ -1,5 +1,7 @@
-//! The commands, each with what it reads and writes.
+//! The commands, each with what it reads and writes, and calls of them.
+use asl_tool::tool_alone;
 use std::alloc::{AllocError, Global};
+use std::io::{Read, Write};
 
 /// The words, what is read, and what is written with status 0.
 pub struct Command {
@@ -82,4 +84,15 @@ pub fn split(alloc: Global, line: &str) -> Result<Vec<String>, AllocError> {
         words.push(String::from_str(alloc, word)?)?;
     }
     Ok(words)
+}
+
+/// The status of the words over a reader and writers. What is proved of it is not needed here, and dear where it is.
+pub fn call<R: Read, W: Write, E: Write>(
+    alloc: Global,
+    words: &[String],
+    reader: &mut R,
+    output: &mut W,
+    errors: &mut E,
+) -> Option<u8> {
+    tool_alone(alloc, words, reader, output, errors)
 }

@@ -9,4 +9,6 @@ mod devices;
 #[cfg(test)]
 mod reading;
 #[cfg(test)]
+mod workers;
+#[cfg(test)]
 mod writing;

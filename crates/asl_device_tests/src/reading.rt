@@ -1,16 +1,55 @@
 //! Readers under each command.
-use crate::commands::{COMMANDS, Command, split};
+use crate::commands::{COMMANDS, Command, call, split};
 use crate::devices::{Endless, Feed, Trouble};
-use asl_tool::tool_alone;
 use std::alloc::Global;
+use std::io::Read;
 
-/// What the words come to over a reader: the status, what was written and what was said.
-fn call(alloc: Global, words: &[String], reader: &mut Feed<'_>) -> (Option<u8>, Vec<u8>, Vec<u8>) {
+/// The status, what was written and what was said.
+#[derive(Drop)]
+struct Outcome {
+    status: Option<u8>,
+    output: Vec<u8>,
+    errors: Vec<u8>,
+}
+
+impl Outcome {
+    /// Whether nothing was written, and this was said.
+    fn is_refused(&self, said: &[u8]) -> bool {
+        self.status == Some(1) && self.output.is_empty() && self.errors.as_slice() == said
+    }
+
+    /// Whether all was written.
+    fn is_done(&self, output: &[u8]) -> bool {
+        self.status == Some(0) && self.output.as_slice() == output && self.errors.is_empty()
+    }
+
+    /// Whether a read is named that went wrong; nothing where none did, and the command is done.
+    fn names_read(&self, went_wrong: bool, output: &[u8]) -> Option<bool> {
+        if went_wrong {
+            return Some(self.is_refused(b"asl: Read\n"));
+        }
+        if self.is_done(output) {
+            None
+        } else {
+            Some(false)
+        }
+    }
+}
+
+/// What the words come to over a reader.
+fn outcome_of<R: Read>(alloc: Global, words: &[String], reader: &mut R) -> Outcome {
     let mut output = Vec::new(alloc);
     let mut errors = Vec::new(alloc);
-    let status = tool_alone(alloc, words, reader, &mut output, &mut errors);
-    (status, output, errors)
+    let status = call(alloc, words, reader, &mut output, &mut errors);
+    Outcome {
+        status,
+        output,
+        errors,
+    }
 }
+
+/// How a reader gives its bytes: the most a call, and how a call goes wrong.
+type Manner = (usize, Trouble);
 
 /// Whether a read that goes wrong at this call is named, with nothing written; nothing where there is no such call, and the
 /// command is done.
@@ -18,45 +57,44 @@ fn is_named_at(
     alloc: Global,
     words: &[String],
     command: &Command,
-    feed: (usize, u32, Trouble),
+    manner: Manner,
+    wrong_at: u32,
 ) -> Option<bool> {
-    let (most, wrong_at, kind) = feed;
     let mut reader = Feed {
         bytes: command.input,
-        most,
+        most: manner.0,
         wrong_at,
-        kind,
+        kind: manner.1,
         calls: 0,
     };
-    let (status, output, errors) = call(alloc, words, &mut reader);
-    if reader.calls >= wrong_at {
-        let named = errors.as_slice() == b"asl: Read\n".as_slice();
-        return Some(status == Some(1) && output.is_empty() && named);
-    }
-    if status == Some(0) && output.as_slice() == command.output && errors.is_empty() {
-        None
-    } else {
-        Some(false)
-    }
+    let outcome = outcome_of(alloc, words, &mut reader);
+    outcome.names_read(reader.calls >= wrong_at, command.output)
 }
 
-/// Whether each command's read that goes wrong is named, at whichever call of the reader it is.
-fn is_named(alloc: Global, command: &Command, most: usize, kind: Trouble) -> Option<bool> {
-    let words = split(alloc, command.line).ok()?;
+/// Whether the words' read that goes wrong is named, at whichever call of the reader it is.
+fn is_each_named(alloc: Global, words: &[String], command: &Command, manner: Manner) -> bool {
     for wrong_at in 1..400u32 {
-        match is_named_at(alloc, words.as_slice(), command, (most, wrong_at, kind)) {
+        match is_named_at(alloc, words, command, manner, wrong_at) {
             Some(true) => {}
-            Some(false) => return Some(false),
-            None => return Some(wrong_at as usize > command.input.len() / most.max(1)),
+            Some(false) => return false,
+            None => return wrong_at as usize > command.input.len() / manner.0.max(1),
         }
     }
-    None
+    false
+}
+
+/// Whether a command's read that goes wrong is named.
+fn is_named(alloc: Global, command: &Command, manner: Manner) -> bool {
+    match split(alloc, command.line) {
+        Ok(words) => is_each_named(alloc, words.as_slice(), command, manner),
+        Err(_) => false,
+    }
 }
 
 /// Whether all commands name a read that goes wrong so.
 fn are_named(alloc: Global, most: usize, kind: Trouble) -> bool {
     for command in COMMANDS.iter() {
-        if is_named(alloc, command, most.max(1), kind) != Some(true) {
+        if !is_named(alloc, command, (most, kind)) {
             return false;
         }
     }
@@ -75,29 +113,19 @@ fn failing_reads_are_named(rt: HostRuntime) {
     assert!(rt; are_named(rt.alloc(), 4096, Trouble::Fails));
 }
 
-/// What the words come to over a reader without end.
-fn call_endless(alloc: Global, words: &[String]) -> (Option<u8>, Vec<u8>, Vec<u8>) {
-    let mut output = Vec::new(alloc);
-    let mut errors = Vec::new(alloc);
-    let status = tool_alone(alloc, words, &mut Endless, &mut output, &mut errors);
-    (status, output, errors)
-}
-
 /// Whether a reader without end is too long for the command.
-fn is_too_long(alloc: Global, line: &str) -> Option<bool> {
-    let words = split(alloc, line).ok()?;
-    let (status, output, errors) = call_endless(alloc, words.as_slice());
-    let named = errors.as_slice() == b"asl: TooLong\n".as_slice();
-    Some(status == Some(1) && output.is_empty() && named)
+fn is_too_long(alloc: Global, line: &str) -> bool {
+    match split(alloc, line) {
+        Ok(words) => {
+            outcome_of(alloc, words.as_slice(), &mut Endless).is_refused(b"asl: TooLong\n")
+        }
+        Err(_) => false,
+    }
 }
 
 #[test]
 fn input_without_end_is_too_long(rt: HostRuntime) {
     for command in COMMANDS.iter() {
-        assert!(rt;
-            is_too_long(rt.alloc(), command.line) == Some(true),
-            "{}",
-            command.line
-        );
+        assert!(rt; is_too_long(rt.alloc(), command.line), "{}", command.line);
     }
 }

@@ -1,27 +1,53 @@
 //! Writers under each command.
-use crate::commands::{COMMANDS, Command, split};
+use crate::commands::{COMMANDS, Command, call, split};
 use crate::devices::{Feed, Sink, Trouble};
-use asl_tool::tool_alone;
 use std::alloc::Global;
+use std::io::Write;
 
-/// A reader that gives all bytes, so many a call.
-fn feed(bytes: &[u8], most: usize) -> Feed<'_> {
+/// A reader that gives all bytes, 64 a call.
+fn feed(bytes: &[u8]) -> Feed<'_> {
     Feed {
         bytes,
-        most,
+        most: 64,
         wrong_at: 0,
         kind: Trouble::Fails,
         calls: 0,
     }
 }
 
-/// What the words come to over a writer: the status, and what was said.
-fn call(alloc: Global, words: &[String], input: &[u8], output: &mut Sink) -> (Option<u8>, Vec<u8>) {
-    let mut reader = feed(input, 64);
-    let mut errors = Vec::new(alloc);
-    let status = tool_alone(alloc, words, &mut reader, output, &mut errors);
-    (status, errors)
+/// The status, and what was said.
+#[derive(Drop)]
+struct Answer {
+    status: Option<u8>,
+    errors: Vec<u8>,
 }
+
+impl Answer {
+    /// Whether a write is named that went wrong behind a first part; nothing where none did, and the command is done.
+    fn names_write(&self, went_wrong: bool, written: &[u8], output: &[u8]) -> Option<bool> {
+        if went_wrong {
+            let named = self.errors.as_slice() == b"asl: Write\n".as_slice();
+            let first = output.starts_with(written) && written.len() < output.len();
+            return Some(self.status == Some(1) && named && first);
+        }
+        if self.status == Some(0) && written == output && self.errors.is_empty() {
+            None
+        } else {
+            Some(false)
+        }
+    }
+}
+
+/// What the words answer over a writer.
+fn answer_of<W: Write>(alloc: Global, words: &[String], input: &[u8], output: &mut W) -> Answer {
+    let mut reader = feed(input);
+    let mut errors = Vec::new(alloc);
+    let status = call(alloc, words, &mut reader, output, &mut errors);
+    Answer { status, errors }
+}
+
+/// How a writer takes its bytes: the most a call, and how a call goes wrong.
+type Manner = (usize, Trouble);
 
 /// Whether a write that goes wrong at this call is named, with a first part written; nothing where there is no such call,
 /// and the command is done.
@@ -29,41 +55,38 @@ fn is_named_at(
     alloc: Global,
     words: &[String],
     command: &Command,
-    sink: (usize, u32, Trouble),
+    manner: Manner,
+    wrong_at: u32,
 ) -> Option<bool> {
-    let (most, wrong_at, kind) = sink;
-    let mut output = Sink::new(alloc, most, wrong_at, kind);
-    let (status, errors) = call(alloc, words, command.input, &mut output);
-    if output.calls >= wrong_at {
-        let named = errors.as_slice() == b"asl: Write\n".as_slice();
-        let first = command.output.starts_with(output.held.as_slice());
-        let less = output.held.len() < command.output.len();
-        return Some(status == Some(1) && named && first && less);
-    }
-    if status == Some(0) && output.held.as_slice() == command.output && errors.is_empty() {
-        None
-    } else {
-        Some(false)
-    }
+    let mut sink = Sink::new(alloc, manner.0, wrong_at, manner.1);
+    let answer = answer_of(alloc, words, command.input, &mut sink);
+    answer.names_write(sink.calls >= wrong_at, sink.held.as_slice(), command.output)
 }
 
-/// Whether each command's write that goes wrong is named, at whichever call of the writer it is.
-fn is_named(alloc: Global, command: &Command, most: usize, kind: Trouble) -> Option<bool> {
-    let words = split(alloc, command.line).ok()?;
+/// Whether the words' write that goes wrong is named, at whichever call of the writer it is.
+fn is_each_named(alloc: Global, words: &[String], command: &Command, manner: Manner) -> bool {
     for wrong_at in 1..400u32 {
-        match is_named_at(alloc, words.as_slice(), command, (most, wrong_at, kind)) {
+        match is_named_at(alloc, words, command, manner, wrong_at) {
             Some(true) => {}
-            Some(false) => return Some(false),
-            None => return Some(wrong_at as usize > command.output.len() / most.max(1)),
+            Some(false) => return false,
+            None => return wrong_at as usize > command.output.len() / manner.0.max(1),
         }
     }
-    None
+    false
+}
+
+/// Whether a command's write that goes wrong is named.
+fn is_named(alloc: Global, command: &Command, manner: Manner) -> bool {
+    match split(alloc, command.line) {
+        Ok(words) => is_each_named(alloc, words.as_slice(), command, manner),
+        Err(_) => false,
+    }
 }
 
 /// Whether all commands name a write that goes wrong so.
 fn are_named(alloc: Global, most: usize, kind: Trouble) -> bool {
     for command in COMMANDS.iter() {
-        if is_named(alloc, command, most.max(1), kind) != Some(true) {
+        if !is_named(alloc, command, (most, kind)) {
             return false;
         }
     }
@@ -89,28 +112,30 @@ fn writes_that_take_nothing_are_named(rt: HostRuntime) {
 }
 
 /// What the words come to where nobody takes what is said: the status, and how much was written or said.
-fn call_unheard(alloc: Global, words: &[String]) -> (Option<u8>, usize) {
-    let mut reader = feed(b"no input of any command", 64);
+fn unheard(alloc: Global, words: &[String]) -> (Option<u8>, usize) {
+    let mut reader = feed(b"no input of any command");
     let mut output = Vec::new(alloc);
     let mut errors = Sink::new(alloc, 64, 1, Trouble::Fails);
-    let status = tool_alone(alloc, words, &mut reader, &mut output, &mut errors);
+    let status = call(alloc, words, &mut reader, &mut output, &mut errors);
     (status, output.len().saturating_add(errors.held.len()))
 }
 
 /// Whether a refusal keeps its status where nobody takes what it says.
-fn is_status_kept(alloc: Global, line: &str, status: u8) -> Option<bool> {
-    let words = split(alloc, line).ok()?;
-    Some(call_unheard(alloc, words.as_slice()) == (Some(status), 0))
+fn is_status_kept(alloc: Global, line: &str, status: u8) -> bool {
+    match split(alloc, line) {
+        Ok(words) => unheard(alloc, words.as_slice()) == (Some(status), 0),
+        Err(_) => false,
+    }
 }
 
 #[test]
 fn faults_of_the_errors_count_for_nothing(rt: HostRuntime) {
     for command in COMMANDS.iter() {
         assert!(rt;
-            is_status_kept(rt.alloc(), command.line, 1) == Some(true),
+            is_status_kept(rt.alloc(), command.line, 1),
             "{}",
             command.line
         );
     }
-    assert!(rt; is_status_kept(rt.alloc(), "steps", 2) == Some(true));
+    assert!(rt; is_status_kept(rt.alloc(), "steps", 2));
 }

@@ -9,13 +9,14 @@ ghost use Rattle.asl_code.specs.declared.instr.Instr.TheVariants.{Call};
 ghost use Rattle.asl_code.specs.declared.lock.Base.TheVariants.{Reg};
 ghost use Rattle.asl_code.specs.declared.lock.Expr.{Expr};
 ghost use Rattle.asl_code.specs.declared.lock.Lock.{Lock};
+ghost use Rattle.asl_code.specs.declared.lock.Lock.TheVariants.{Class as ClassLock};
 ghost use Rattle.asl_code.specs.declared.path.Op.{Op};
 ghost use Rattle.asl_lower.specs.Lowered.{Lowered};
 ghost use Rattle.asl_lower.specs.Region.{InBody, CallsAt};
 ghost use Rattle.asl_points_to.specs.Classes.{Classed};
 ghost use Rattle.asl_lock_expr.specs.Expression.{Seen, pointed, base_cell, path_cell, cell_denoted};
-ghost use Rattle.asl_lock_expr.specs.ClassOf.{path_class, MayStore};
-ghost use Rattle.asl_lock_expr.specs.Links.{View, IsOne, IsSettled, on, hits, begins_with_star, goes_through, link, prefixes, dereferenced};
+ghost use Rattle.asl_lock_expr.specs.ClassOf.{path_class, class_of, MayStore};
+ghost use Rattle.asl_lock_expr.specs.Links.{View, IsOne, IsSettled, on, hits, begins_with_star, goes_through, link, settle, prefixes, dereferenced};
 ghost use Rattle.asl_lock_expr.specs.Agrees.{HeapAgrees, IsWrite};
 ghost use Rattle.asl_lock_expr.specs.Order.{AreInOrder};
 
@@ -57,6 +58,12 @@ pub fn stores_elsewhere_move_no_path()
 /// What is linked is no longer than it may be, and has a class.
 pub fn links_are_settled()
     ensures { (v : View) (i : Instr) (l n : Lock) → IsOne (link v i l) n → IsSettled v n }
+{}
+
+/// An expression that has a class is never dropped: it stays, or its class comes in its place.
+pub fn expressions_with_a_class_are_left()
+    ensures { (v : View) (e : Expr) (effect : Effect) (x : ℕ) → class_of v.classes v.function e ≡ Some x
+        → IsOne (settle v (on e.base e.path effect)) (on e.base e.path effect) ⊎ IsOne (settle v (on e.base e.path effect)) (ClassLock x effect) }
 {}
 
 /// The dereferenced prefixes of what a call leaves are left too.
