@@ -85,7 +85,7 @@ pub record IsAtEntry (image : Image) (s : State) (thread list : ℕ) (a : Activi
   pub at : slice_get image.code a.top.pc ≡ Some (instr.Acquire list)
   pub depth : a.depth ≡ 0
 
--- in each reached state, who is granted the list of an entry covers what its expressions read
+-- in each reached state, the list of an entry, were it granted there, covers what its expressions read
 abbrev pub IsGuarded : Image → ℕ → Type 0
 IsGuarded image count = (s : State) (thread list : ℕ) (a : Activity) → IsReached image count s → IsAtEntry image s thread list a →
     ListCovered (grant s.holding thread (request_of s.objects a.top.regs (locks_of image list))) thread s.objects a.top.regs (locks_of image list)

@@ -5,7 +5,8 @@ use std::alloc::AllocError;
 use std::convert::From;
 use thiserror::Error;
 
-/// Why a program has no flow. The first that applies is answered.
+/// Why a program has no flow. The first that applies is answered; want of memory may come before
+/// too many locks are found, and is answered then.
 #[derive(Clone, Copy, Debug, PartialEq, Eq, Error)]
 pub enum FlowFault {
     /// The region needs more than 4,096 locks; where several do, any of them is named.

@@ -1,4 +1,5 @@
--- What a version of the format sets (docs/LIMITS.md, "Versions"). Nothing else tells one version from another.
+-- What a version of the format sets (docs/LIMITS.md, "Versions"). Beside this, versions differ in
+-- fresh objects alone (docs/LOCKS.md).
 use Rattle.std.specs.Prelude.{◌≡◌, ◌⊎◌, ◌==◌, ℕ, Bool, nat_le, Option, None, Some, is_some, if◌then◌else◌}
 use Rattle.std.specs.Option.{option_map_or}
 use Rattle.asl_code.specs.declared.limits.Limits.{Limits}

@@ -27,7 +27,8 @@ pub const NEWEST_LIMITS: Limits = Limits {
     locks: 256,
 };
 
-/// What this version of the format sets, if there is such a version. No other code asks which version it is.
+/// What this version of the format sets, if there is such a version. Beside this, only what a `new` makes asks which version it
+/// is, since objects are fresh in version 2 alone.
 pub fn limits_of(version: u32) -> Option<Limits>
     ensures limits { result ≡ limits_of version }
     ensures known { IfSome result (λ limits. IsVersion version) }

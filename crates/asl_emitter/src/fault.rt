@@ -6,7 +6,8 @@ use asl_points_to::ClassesFault;
 use std::alloc::AllocError;
 use thiserror::Error;
 
-/// Why no image is inferred for a program. The first that applies is answered.
+/// Why no image is inferred for a program. The first that applies is answered; want of memory may come before
+/// too many classes or locks are found, and is answered then.
 #[derive(Clone, Copy, Debug, PartialEq, Eq, Error)]
 pub enum InferFault {
     /// The function of this number has more than 64 registers; it is the first.
@@ -15,7 +16,8 @@ pub enum InferFault {
     /// The code has more than 65,535 instructions.
     #[error("CodeSize")]
     CodeSize,
-    /// A bare function has an access outside its sections; the pc is the lowest.
+    /// The bare function of the first number has a `load` or `store` outside its sections at the pc of the second, the lowest
+    /// such pc.
     #[error("AccessOutsideSection({0}, {1})")]
     AccessOutsideSection(u16, u16),
     /// There are more than 1,024 classes.

@@ -32,7 +32,8 @@ pub fn lists_depend_on_the_set_alone()
     ensures short { (c : Classed) (f most : ℕ) (given list : List AnyLock) → 0 < most → IsFitted c f most (IsOne given) list → length list ≤ most }
 {}
 
-/// Who holds what a fitted list asks for is protected for each lock of the set that has a class.
+/// For each lock of the set that has a class, a lock of the fitted list stands over it: the root, its class or the same
+/// expression, with an effect at least as strong.
 pub fn fitted_lists_stand_over_their_sets()
     ensures { (c : Classed) (f most : ℕ) (given list : List AnyLock) → IsFitted c f most (IsOne given) list → (a : AnyLock)
         → IsOne given a → HasClass c f a → (m : AnyLock) × IsOne list m × StandsOver c f m a }
@@ -47,7 +48,7 @@ pub fn inferred_images_are_sound()
         → TellsStores l c stores → IsInferred l c stores longest image → NeverUnprotected image }
 {}
 
-/// A program has one inferred image for each longest path.
+/// A program has one inferred image for each longest path, at the most.
 pub fn inferred_images_are_one()
     ensures { (is : List Item) (longest : ℕ) (image other : Image) → IsInferredFor is longest image → IsInferredFor is longest other → image ≡ other }
 {}

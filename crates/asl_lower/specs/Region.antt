@@ -46,12 +46,12 @@ sites_before code pc = count_by is_new (take pc code)
 abbrev pub sections_before : List Instr → ℕ → ℕ
 sections_before code pc = count_by is_acquire (take pc code)
 
--- the pc is a point of the section: behind its `acq`, and up to its `rel`
+-- the section is open before the instruction at the pc: behind its `acq`, up to and with its `rel`
 pub record IsPoint (s : Section) (pc : ℕ) : Type 0 where
   pub behind : s.acquire < pc
   pub within : pc ≤ s.release
 
--- the pc is a point of the section of this number
+-- the same of the section of this number
 abbrev pub InSection : Lowered → ℕ → ℕ → Type 0
 InSection l number pc = (s : Section) × (slice_get l.sections number ≡ Some s) × IsPoint s pc
 

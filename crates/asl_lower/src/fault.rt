@@ -12,7 +12,8 @@ pub enum LowerFault {
     /// The code has more than 65,535 instructions.
     #[error("CodeSize")]
     CodeSize,
-    /// A bare function has an access outside its sections; the pc is the lowest.
+    /// The bare function of the first number has a `load` or `store` outside its sections at the pc of the second, the lowest
+    /// such pc.
     #[error("AccessOutsideSection({0}, {1})")]
     AccessOutsideSection(u16, u16),
     /// The memory ran out.

@@ -6,7 +6,8 @@ ghost use Rattle.asl_lower.specs.Lowered.{Lowered};
 ghost use Rattle.asl_lower.specs.Region.{InBody};
 ghost use Rattle.asl_points_to.specs.Classes.{Classed, to, inside, members, Gives, IsLegal, IsLeast, IsFinest, AreClasses};
 
-/// A program has one numbering of its least legal classes, at the most; `classes` answers one where memory suffices.
+/// A program has one numbering of its least legal classes, at the most; `classes` answers it, unless it has more than 1,024
+/// classes or memory runs out.
 pub fn classes_are_one()
     ensures { (l : Lowered) (c d : Classed) → AreClasses l c → AreClasses l d → c ≡ d }
 {}

@@ -1,4 +1,4 @@
--- Machinery of the proofs, not of the promise: a run before its receipts are compared (src/run.rt).
+-- Machinery of the proofs, not of the promise: a run before its receipts are compared (src/running.rt).
 use Rattle.std.specs.Prelude.{◌≡◌, ◌≤◌, ◌⊎◌, ℕ, length, map, Some, slice_get}
 use Rattle.asl_code.specs.declared.image.Image.{Image}
 use Rattle.asl_journal.specs.declared.event.Receipt.{Receipt}

@@ -1,5 +1,5 @@
 -- Machinery of the proofs, not of the promise: what a worker knows of itself (src/worker.rt), and what is known of those
--- that have been joined (src/gather.rt).
+-- that have been joined (src/gathering.rt).
 use Rattle.std.specs.Prelude.{◌≡◌, ◌<◌, ◌⊎◌, ◌%◌, ◌+◌, ℕ, Bool, true, false, List, length, Some, slice_get, sum_by}
 use Rattle.asl_code.specs.Versions.{newest_threads}
 use Rattle.asl_turns.specs.Turn.{Word, Turn}

@@ -19,7 +19,8 @@ pub record IsReplayed (input output : List ℕ) : Type 0 where
   pub journal : IsJournal image log.threads log.events
   pub output_is : output ≡ same_text log
 
--- the input is a run file whose journal is none of its program: the first event that differs; or memory was wanted
+-- the input is a run file whose journal is none of its program: it has more threads than the program's version sets, or there
+-- is a first event that differs; or memory was wanted
 pub record HasRefusedReplay (input : List ℕ) (cause : JournalFault) : Type 0 where
   pub image : Image
   pub log : Log

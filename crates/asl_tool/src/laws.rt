@@ -27,7 +27,7 @@ pub fn run_and_bytes_are_one()
     ensures bytes { SpellingOfRunIsOne }
 {}
 
-/// Bytes have exactly one outcome as a run file: a run, or one refusal. Want of memory says nothing of them.
+/// Bytes have exactly one outcome as a run file: a run, or one refusal. Want of memory is left out.
 pub fn run_files_have_one_outcome()
     ensures some { FilesHaveAnOutcome }
     ensures one { FileOutcomeIsOne }
