@@ -85,7 +85,7 @@ build_libraries() {
   while read -r name below; do waits_for[$name]=$below; done < <(crates_below)
   total=$((${#waits_for[@]} + 1))
   most=$(crates_at_a_time)
-  echo "asl: proving and building $total crates first, up to $most side by side; a first build takes 5 to 20 minutes" >&2
+  echo "asl: proving and building $total crates first, up to $most side by side; a first build takes 15 minutes or more" >&2
   while [ ${#waits_for[@]} -gt 0 ] || [ ${#builds[@]} -gt 0 ]; do
     busy=${#builds[@]}
     for name in "${!waits_for[@]}"; do [ -n "${waits_for[$name]// /}" ] || busy=$((busy + 1)); done

@@ -90,7 +90,7 @@ pub const DIS: Page = Page {
         Refusals, where several apply the first of them:\n\
         \u{20} Read            standard input failed\n\
         \u{20} TooLong         the input is longer than 268435456 bytes\n\
-        \u{20} Magic, Version  the image begins with other letters, or is of another version\n\
+        \u{20} Magic, Version  the image begins with other letters, or is of a version other than 1 and 2\n\
         \u{20} Truncated(n)    the image ends too early, at byte n\n\
         \u{20} BadField(n)     the field at byte n of the image is none\n\
         \u{20} Trailing(n)     something stands behind the image, at byte n\n\
@@ -170,6 +170,7 @@ pub const REPLAY: Page = Page {
         \u{20} Truncated(n)   the run file, of n bytes, ends before its image does\n\
         \u{20} Image(NAME)    its image is refused: asl dis --help\n\
         \u{20} Journal(NAME)  its journal is refused: Magic, Version, Truncated(n), BadField(n), Trailing(n)\n\
+        \u{20} BadCount       the journal has more threads than the program's version sets\n\
         \u{20} Differs(n)     the journal is none of the program: event n, from 0, is the first that differs\n\
         \u{20} Write          standard output failed; a part of the output may have been written\n\
         \u{20} OutOfMemory    memory ran out\n\
@@ -180,7 +181,7 @@ pub const REPLAY: Page = Page {
 pub const DEBUG: Page = Page {
     about: "Goes back and forth in a recorded run",
     more: "Input: a run file (docs/JOURNAL.md)\n\
-        Output: a line for each word, 'at K' or 'refused NAME', and what view shows\n\
+        Output: a line for each word: 'at K' or 'refused NAME', for break P and clear P the word; and what view shows\n\
         Words: goto K, forward, back, next (breakpoint), prev (breakpoint), break P, clear P, view\n\
         \n\
         Examples:\n\
@@ -195,6 +196,7 @@ pub const DEBUG: Page = Page {
         \u{20} Truncated(n)   the run file, of n bytes, ends before its image does\n\
         \u{20} Image(NAME)    its image is refused: asl dis --help\n\
         \u{20} Journal(NAME)  its journal is refused: Magic, Version, Truncated(n), BadField(n), Trailing(n)\n\
+        \u{20} BadCount       the journal has more threads than the program's version sets\n\
         \u{20} Differs(n)     the journal is none of the program: event n, from 0, is the first that differs\n\
         \u{20} Write          standard output failed; a part of the output may have been written\n\
         \u{20} OutOfMemory    memory ran out\n\
