@@ -8,9 +8,8 @@ use Rattle.asl_code.specs.declared.image.Function as entry
 use Rattle.asl_code.specs.declared.instr.Instr.{Instr}
 use Rattle.asl_code.specs.declared.instr.Instr.TheVariants as instr
 use Rattle.asl_lower.specs.Lowered.{Lowered}
-use Rattle.asl_lower.specs.Region.{start_of, owner_of, returned, InBody, GoesOn}
+use Rattle.asl_lower.specs.Region.{start_of, owner_of, returned, InBody, GoesOn, successors}
 use Rattle.asl_lower.specs.Facts.{HasLayout}
-use Rattle.asl_lower.specs.Reach.{successors}
 use Rattle.std.proofs.lemmas.Option.{slice_get_within, slice_get-get_or}
 use Rattle.asl_lower.proofs.Reaching.{body_within}
 use Rattle.asl_lower.proofs.Opened.{here, there, member_cases, no_member}
@@ -72,13 +71,13 @@ pub listed_goes : (i : Instr) (pc to : ℕ) → Contains (successors i pc) to �
 listed_goes (instr.Jump target) pc to c =
     elim (member_cases to target [] c) [ inl e ↦ sym e | inr old ↦ absurd (no_member to old) ]
 listed_goes (instr.JumpIfZero test target) pc to c =
-    elim (member_cases to target ((pc + 1) ∷ []) c) [
+    elim (member_cases to target (suc pc ∷ []) c) [
       | inl e ↦ inl (sym e)
-      | inr on ↦ elim (member_cases to (pc + 1) [] on) [ inl e ↦ inr (omega (arith, e)) | inr old ↦ absurd (no_member to old) ]
+      | inr on ↦ elim (member_cases to (suc pc) [] on) [ inl e ↦ inr (omega (arith, e)) | inr old ↦ absurd (no_member to old) ]
     ]
 listed_goes (instr.Return from) pc to c = absurd (no_member to c)
 listed_goes i pc to c =
-    elim (member_cases to (pc + 1) [] c) [ inl e ↦ omega (arith, e) | inr old ↦ absurd (no_member to old) ]
+    elim (member_cases to (suc pc) [] c) [ inl e ↦ omega (arith, e) | inr old ↦ absurd (no_member to old) ]
 
 member : (x y : ℕ) (xs : List ℕ) → y ≡ x → Contains (y ∷ xs) x
 member x y xs e = let P : ℕ → Type 0 = λ n. Contains (n ∷ xs) x in subst P (sym e) (here x xs)
@@ -87,8 +86,8 @@ pub goes_listed : (i : Instr) (pc to : ℕ) → GoesOn i pc to → Contains (suc
 goes_listed (instr.Jump target) pc to g = member to target [] (sym g)
 goes_listed (instr.JumpIfZero test target) pc to g =
     elim g [
-      | inl e ↦ member to target ((pc + 1) ∷ []) (sym e)
-      | inr on ↦ there to target ((pc + 1) ∷ []) (member to (pc + 1) [] (omega (arith, on)))
+      | inl e ↦ member to target (suc pc ∷ []) (sym e)
+      | inr on ↦ there to target (suc pc ∷ []) (member to (suc pc) [] (omega (arith, on)))
     ]
 goes_listed (instr.Return from) pc to g = absurd g
-goes_listed i pc to g = member to (pc + 1) [] (omega (arith, g))
+goes_listed i pc to g = member to (suc pc) [] (omega (arith, g))

@@ -1,6 +1,6 @@
 -- Machinery of the proofs, not of the promise: the marks of functions that calls lead to, as src/reach.rt makes them.
 -- What contracts promise are `IsBare`, `IsInner` and `IsFirstBareAccess` of specs/Region.
-use Rattle.std.specs.Prelude.{◌≡◌, ℕ, suc, ◌+◌, ◌-◌, ◌<◌, ◌≤◌, Bool, true, false, IsTrue, List, [], ◌∷◌, length, Some, slice_get}
+use Rattle.std.specs.Prelude.{◌≡◌, ℕ, suc, ◌-◌, ◌<◌, ◌≤◌, Bool, true, false, IsTrue, List, [], ◌∷◌, length, Some, slice_get}
 use Rattle.asl_code.specs.declared.instr.Instr.{Instr}
 use Rattle.asl_code.specs.declared.instr.Instr.TheVariants as instr
 use Rattle.asl_lower.specs.declared.reach.Calls.{Calls}
@@ -13,13 +13,6 @@ abbrev pub depth_behind : Instr → ℕ → ℕ
 depth_behind (instr.Acquire s) depth = suc depth
 depth_behind instr.Release depth = depth - 1
 depth_behind i depth = depth
-
--- where control goes on from an instruction at a pc
-abbrev pub successors : Instr → ℕ → List ℕ
-successors (instr.Jump target) pc = target ∷ []
-successors (instr.JumpIfZero test target) pc = target ∷ (pc + 1) ∷ []
-successors (instr.Return from) pc = []
-successors i pc = (pc + 1) ∷ []
 
 -- where calls stand: outside all sections, inside one, or anywhere
 pub data Where : Type 0 where

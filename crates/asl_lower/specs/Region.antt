@@ -106,6 +106,13 @@ GoesOn (instr.JumpIfZero test target) pc to = (to ≡ target) ⊎ (to ≡ suc pc
 GoesOn (instr.Return from) pc to = ⊥
 GoesOn i pc to = to ≡ suc pc
 
+-- these pcs as a list, the target of a branch first; a branch to the next pc has it twice
+abbrev pub successors : Instr → ℕ → List ℕ
+successors (instr.Jump target) pc = target ∷ []
+successors (instr.JumpIfZero test target) pc = target ∷ suc pc ∷ []
+successors (instr.Return from) pc = []
+successors i pc = suc pc ∷ []
+
 -- the instruction at the pc calls the function
 abbrev pub CallsAt : Lowered → ℕ → ℕ → Type 0
 CallsAt l pc callee = (to : ℕ) × (first : ℕ) × (slice_get l.code pc ≡ Some (instr.Call to first callee))

@@ -3,8 +3,7 @@
 ghost use Rattle.std.specs.Prelude.{◌≡◌, ℕ, ◌<◌, ◌↔◌, true, Some, length, slice_get};
 ghost use Rattle.std.specs.List.{Contains};
 ghost use Rattle.asl_code.specs.declared.instr.Instr.{Instr};
-ghost use Rattle.asl_lower.specs.Region.{start_of, owner_of, returned, InBody, IsInner, GoesOn};
-ghost use Rattle.asl_lower.specs.Reach.{successors};
+ghost use Rattle.asl_lower.specs.Region.{start_of, owner_of, returned, InBody, IsInner, GoesOn, successors};
 ghost use Rattle.asl_lower.specs.Kept.{IsKept, lowered_of};
 
 use crate::draft::Draft;
@@ -133,7 +132,8 @@ impl Lowering {
     /// Where control may go on from a pc, in the same body.
     pub fn successors(&self, pc: u16) -> ArrayVec<u16, 2>
         requires { pc < length self.now.code }
-        ensures { (i : Instr) → slice_get self.now.code pc ≡ Some i → (to : ℕ) → Contains result.items to ↔ GoesOn i pc to }
+        ensures goes_on { (i : Instr) → slice_get self.now.code pc ≡ Some i → (to : ℕ) → Contains result.items to ↔ GoesOn i pc to }
+        ensures listed { (i : Instr) → slice_get self.now.code pc ≡ Some i → result.items ≡ successors i pc }
     {
         successors(&self.draft.out.code[usize::from(pc)], pc)
     }

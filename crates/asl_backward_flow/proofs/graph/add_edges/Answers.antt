@@ -11,7 +11,7 @@ loop-to-init c = (some_begin (map (λ r. r.items) c.args.rows.now.items) (IsEdge
 
 pub add_to_row-requires : goal.add_to_row-requires
 add_to_row-requires c =
-    let edge = next_edge c.args.lowering.now c.args.pc c.requires.there c.as_slice-to-items.result.now (λ i at to. subst (λ xs. Contains xs to ↔ GoesOn i c.args.pc to) (sym c.as_slice-to-items.ensures.value) (c.successors-next.ensures i at to)) c.loop-to.to-index 0 c.loop-to-test.true in
+    let edge = next_edge c.args.lowering.now c.args.pc c.requires.there c.as_slice-to-items.result.now (λ i at to. subst (λ xs. Contains xs to ↔ GoesOn i c.args.pc to) (sym c.as_slice-to-items.ensures.value) (c.successors-next.ensures.goes_on i at to)) c.loop-to.to-index 0 c.loop-to-test.true in
     let there = edge_there c.args.lowering.now c.requires.kept c.args.pc c.requires.there edge.0 _ edge.1 edge.2 in
     let same = c.from.ensures in
     let rows = c.requires.rows in
@@ -20,7 +20,7 @@ add_to_row-requires c =
 
 pub loop-to-preserved : goal.loop-to-preserved
 loop-to-preserved c =
-    let edge = next_edge c.args.lowering.now c.args.pc c.requires.there c.as_slice-to-items.result.now (λ i at to. subst (λ xs. Contains xs to ↔ GoesOn i c.args.pc to) (sym c.as_slice-to-items.ensures.value) (c.successors-next.ensures i at to)) c.loop-to.to-index 0 c.loop-to-test.true in
+    let edge = next_edge c.args.lowering.now c.args.pc c.requires.there c.as_slice-to-items.result.now (λ i at to. subst (λ xs. Contains xs to ↔ GoesOn i c.args.pc to) (sym c.as_slice-to-items.ensures.value) (c.successors-next.ensures.goes_on i at to)) c.loop-to.to-index 0 c.loop-to-test.true in
     let there = edge_there c.args.lowering.now c.requires.kept c.args.pc c.requires.there edge.0 _ edge.1 edge.2 in
     let same = c.from.ensures in
     let count = c.loop-to.invariant.1 in
@@ -38,4 +38,4 @@ returns-clause-rows c =
     let end = c.loop-to-test.false in
     let all = take_all c.loop-to.to-index c.as_slice-to-items.result.now end in
     some_end (map (λ r. r.items) c.loop-to.rows.items) (IsEdge c.args.lowering.now) c.args.pc c.as_slice-to-items.result.now (subst (HasSome (map (λ r. r.items) c.loop-to.rows.items) (IsEdge c.args.lowering.now) c.args.pc) all c.loop-to.invariant.0)
-    (edge_next c.args.lowering.now c.args.pc c.as_slice-to-items.result.now (λ i at to. subst (λ xs. Contains xs to ↔ GoesOn i c.args.pc to) (sym c.as_slice-to-items.ensures.value) (c.successors-next.ensures i at to)))
+    (edge_next c.args.lowering.now c.args.pc c.as_slice-to-items.result.now (λ i at to. subst (λ xs. Contains xs to ↔ GoesOn i c.args.pc to) (sym c.as_slice-to-items.ensures.value) (c.successors-next.ensures.goes_on i at to)))
