@@ -1,7 +1,7 @@
 -- Runs whose sections do not interleave, and images whose entries are guarded (docs/ATOMICITY.md). That two-phase sections have
 -- serial runs is K. P. Eswaran, J. N. Gray, R. A. Lorie, I. L. Traiger, "The Notions of Consistency and Predicate Locks in a
 -- Database System" (1976); lists that are evaluated at the entry are this project's.
-use Rattle.std.specs.Prelude.{◌≡◌, ◌≢◌, ◌<◌, ◌==◌, ◌⊎◌, ◌++◌, ℕ, List, [], ◌∷◌, Option, None, Some, All, slice_get, option_and_then, if◌then◌else◌}
+use Rattle.std.specs.Prelude.{◌≡◌, ◌≢◌, ◌<◌, ◌==◌, ◌⊎◌, ◌++◌, ℕ, true, List, [], ◌∷◌, Option, None, Some, All, slice_get, option_and_then, if◌then◌else◌}
 use Rattle.asl_code.specs.declared.image.Image.{Image}
 use Rattle.asl_code.specs.declared.instr.Instr.TheVariants as instr
 use Rattle.asl_code.specs.declared.value.Value.{Value}
@@ -12,7 +12,7 @@ use Rattle.asl_code.specs.declared.lock.Lock.TheVariants as lock
 use Rattle.asl_code.specs.declared.path.Op.{Op}
 use Rattle.asl_code.specs.declared.path.Op.TheVariants.{Deref, Off}
 use Rattle.asl_lock_expr.specs.Expression.{base_cell, walked}
-use Rattle.asl_lock_forest.specs.Holding.{Holding, Covers, grant}
+use Rattle.asl_lock_forest.specs.Holding.{Holding, Covers, can_grant, grant}
 use Rattle.asl_machine.specs.declared.reply.Reply.{Reply}
 use Rattle.asl_machine.specs.declared.reply.Reply.TheVariants as reply
 use Rattle.asl_machine.specs.State.{Object, Activity, Running, State, class_of, depth_at}
@@ -85,9 +85,10 @@ pub record IsAtEntry (image : Image) (s : State) (thread list : ℕ) (a : Activi
   pub at : slice_get image.code a.top.pc ≡ Some (instr.Acquire list)
   pub depth : a.depth ≡ 0
 
--- in each reached state, the list of an entry, were it granted there, covers what its expressions read
+-- in each reached state, who is granted the list of an entry covers what its expressions read
 abbrev pub IsGuarded : Image → ℕ → Type 0
 IsGuarded image count = (s : State) (thread list : ℕ) (a : Activity) → IsReached image count s → IsAtEntry image s thread list a →
+    can_grant s.holding thread (request_of s.objects a.top.regs (locks_of image list)) ≡ true →
     ListCovered (grant s.holding thread (request_of s.objects a.top.regs (locks_of image list))) thread s.objects a.top.regs (locks_of image list)
 
 -- any run of so many threads that makes no object inside a section has a serial one

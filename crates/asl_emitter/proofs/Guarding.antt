@@ -127,7 +127,7 @@ module _ (l : Lowered) (c : Classed) (stores : ℕ → ℕ → Bool) (longest : 
     list_covered (lock.Root effect ∷ ls) within = list_covered ls (λ n o. within n (inr o))
 
   pub inferred_guarded : (count : ℕ) → IsGuarded image count
-  inferred_guarded count s t list a reached entry =
+  inferred_guarded count s t list a reached entry granted =
       let good = reached_good l c stores longest (Needed l c stores longest) image A count s reached in
       let here = here_of image s t a good.structured.sound entry.runs in
       let q : Ready l c stores longest (Needed l c stores longest) image s t a = record { program = A; structured = good.structured; here = here; has = good.has t a here.is } in
