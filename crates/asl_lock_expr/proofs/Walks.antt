@@ -147,19 +147,25 @@ neither : (a b : Bool) → (a || b) ≡ false → (a ≡ false) × (b ≡ false)
 neither true b e = cc
 neither false b e = (refl, e)
 
--- a path that goes through no class to which is stored leads where it led
+-- a path that goes through no class to which is stored leads where it led, or to no cell as before
 pub not_through : (c : Classed) (classes : ℕ → Option ℕ) (h new : Seen) (c0 : Cell) (v : Value) → IsWrite h new c0 v → HeapAgrees c classes new →
-    (stores : ℕ → Bool) (hit : ℕ) → classes c0.object ≡ Some hit → stores hit ≡ true → (ops : List Op) (cell end : Cell) (x : ℕ) →
-    classes cell.object ≡ Some x → path_cell new ops (Some cell) ≡ Some end → goes_through c stores (Some x) ops ≡ false → path_cell h ops (Some cell) ≡ Some end
-not_through c classes h new c0 v w agrees stores hit of writes [] cell end x at e g = e
-not_through c classes h new c0 v w agrees stores hit of writes (Off places ∷ ops) cell end x at e g =
-    let s = first_step new (Off places) ops cell end e in
-    ap (path_cell h ops) (sym (moved_same h new w.sizes places cell) ∙ s.1)
-    ∙ not_through c classes h new c0 v w agrees stores hit of writes ops s.0 end x (ap classes (moved_stays new places cell s.0 s.1) ∙ at) s.2 g
-not_through c classes h new c0 v w agrees stores hit of writes (Deref ∷ ops) cell end x at e g =
-    let s = first_step new Deref ops cell end e in
-    let k = class_walk c classes new agrees Deref cell s.0 x at s.1 in
-    let both = neither (stores x) (goes_through c stores (inside c x) ops) g in
-    let other : cell ≢ c0 = λ is. (let u : Some x ≡ Some hit = sym at ∙ ap (λ (k : Cell). classes k.object) is ∙ of in let same : x ≡ hit = cc in let b = ap stores same in let n = both.0 in cc) in
-    ap (path_cell h ops) (sym (walked_same h new c0 v w cell other) ∙ s.1)
-    ∙ not_through c classes h new c0 v w agrees stores hit of writes ops s.0 end k.0 k.2 s.2 (ap (λ class. goes_through c stores class ops) (sym k.1) ∙ both.1)
+    (stores : ℕ → Bool) (hit : ℕ) → classes c0.object ≡ Some hit → stores hit ≡ true → (ops : List Op) (cell : Cell) (x : ℕ) →
+    classes cell.object ≡ Some x → goes_through c stores (Some x) ops ≡ false → path_cell new ops (Some cell) ≡ path_cell h ops (Some cell)
+not_through c classes h new c0 v w agrees stores hit of writes [] cell x at g = refl
+not_through c classes h new c0 v w agrees stores hit of writes (op ∷ ops) cell x at g =
+    let p = passes op ops cell x at g in
+    elim (walked new op cell) as (λ o. walked new op cell ≡ o → path_cell new ops o ≡ path_cell h ops o) [
+      | None ↦ λ is. no_cell_from_none new ops ∙ sym (no_cell_from_none h ops)
+      | Some next ↦ λ is.
+          let k = class_walk c classes new agrees op cell next x at is in
+          not_through c classes h new c0 v w agrees stores hit of writes ops next k.0 k.2 (ap (λ class. goes_through c stores class ops) (sym k.1) ∙ p.1)
+    ] refl
+    ∙ ap (path_cell h ops) p.0
+  where
+    passes : (op : Op) (ops : List Op) (cell : Cell) (x : ℕ) → classes cell.object ≡ Some x → goes_through c stores (Some x) (op ∷ ops) ≡ false →
+        (walked new op cell ≡ walked h op cell) × (goes_through c stores (step_class c op x) ops ≡ false)
+    passes (Off places) ops cell x at g = (moved_same h new w.sizes places cell, g)
+    passes Deref ops cell x at g =
+        let both = neither (stores x) (goes_through c stores (inside c x) ops) g in
+        let other : cell ≢ c0 = λ is. (let u : Some x ≡ Some hit = sym at ∙ ap (λ (k : Cell). classes k.object) is ∙ of in let same : x ≡ hit = cc in let b = ap stores same in let n = both.0 in cc) in
+        (walked_same h new c0 v w cell other, both.1)

@@ -43,13 +43,13 @@ pub fn stores_move_paths_as_links_say()
         ⊎ ((r : List Op) × IsOne (hits c (Some hit) b effect (Some x) ops) (on (Reg b) r effect) × (path_cell h r (pointed v) ≡ Some end)) }
 {}
 
-/// After a store a path leads where it led, if it goes through no class that is stored to, or if none of its dereferenced
-/// prefixes denotes the cell.
+/// After a store a path leads where it led, or to no cell as before, if it goes through no class that is stored to, or if
+/// none of its dereferenced prefixes denotes the cell.
 pub fn stores_elsewhere_move_no_path()
     ensures classes { (c : Classed) (classes : ℕ → Option ℕ) (h new : Seen) (c0 : Cell) (v : Value) → IsWrite h new c0 v → HeapAgrees c classes new
-        → (stores : ℕ → Bool) (hit : ℕ) → classes c0.object ≡ Some hit → stores hit ≡ true → (ops : List Op) (cell end : Cell) (x : ℕ)
-        → classes cell.object ≡ Some x → path_cell new ops (Some cell) ≡ Some end → goes_through c stores (Some x) ops ≡ false
-        → path_cell h ops (Some cell) ≡ Some end }
+        → (stores : ℕ → Bool) (hit : ℕ) → classes c0.object ≡ Some hit → stores hit ≡ true → (ops : List Op) (cell : Cell) (x : ℕ)
+        → classes cell.object ≡ Some x → goes_through c stores (Some x) ops ≡ false
+        → path_cell new ops (Some cell) ≡ path_cell h ops (Some cell) }
     ensures prefixes { (h new : Seen) (c0 : Cell) (v : Value) → IsWrite h new c0 v → (regs : List Value) (e : Expr)
         → ((d : Expr) → IsOne (prefixes e.base [] e.path) (on d.base d.path Read) → cell_denoted h regs d ≢ Some c0)
         → path_cell new e.path (base_cell regs e.base) ≡ cell_denoted h regs e }

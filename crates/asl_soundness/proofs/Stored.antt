@@ -101,9 +101,9 @@ module _ (k : Cover) (t : ℕ) (objects : List Object) (c0 : Cell) (value old : 
         protect k t new effect (path_cell (heap_of new) e.path (base_cell regs e.base)) (λ end d.
         let s = start_there (heap_of new) e.path (base_cell regs e.base) end d in
         let x = base_agrees v objects regs stands e.base s.0 there s.1 in
-        let old_end = not_through v.classes (class_of new) (heap_of objects) (heap_of new) c0 value write agrees stores hit (same c0.object ∙ of) writes e.path s.0 end x.0 (same s.0.object ∙ x.2)
-        (ap (path_cell (heap_of new) e.path) (sym s.1) ∙ d) (ap (λ o. goes_through v.classes stores o e.path) (sym x.1) ∙ past) in
-        recast effect end (protected_at k t objects effect _ end (ap (path_cell (heap_of objects) e.path) s.1 ∙ old_end) p))
+        let unmoved = not_through v.classes (class_of new) (heap_of objects) (heap_of new) c0 value write agrees stores hit (same c0.object ∙ of) writes e.path s.0 x.0 (same s.0.object ∙ x.2)
+        (ap (λ o. goes_through v.classes stores o e.path) (sym x.1) ∙ past) in
+        recast effect end (protected_at k t objects effect _ end (ap (path_cell (heap_of objects) e.path) s.1 ∙ sym unmoved ∙ ap (path_cell (heap_of new) e.path) (sym s.1) ∙ d) p))
 
   -- another's store to a cell that no dereferenced prefix denotes
   pub store_elsewhere : (regs : List Value) (e : Expr) (effect : Effect) → ((d : Expr) → IsOne (prefixes e.base [] e.path) (lock.Expr d Read) → cell_denoted (heap_of objects) regs d ≢ Some c0) →
