@@ -1,12 +1,19 @@
 -- Membership in lists of locks.
-use Rattle.std.proofs.Common.{◌≡◌, ◌⊎◌, ◌↔◌, ◌++◌, ℕ, List, [], ◌∷◌, Some, get_or, slice_get, Result, Ok, Err, IfOk, refl, ap, sym, ◌∙◌, subst, inl, inr}
+use Rattle.std.proofs.Common.{◌≡◌, ◌⊎◌, ◌↔◌, ◌++◌, ℕ, List, [], ◌∷◌, Some, get_or, slice_get, Result, Ok, Err, IfOk, refl, ap, sym, ◌∙◌, subst, inl, inr, append_assoc}
 use Rattle.std.specs.List.{flat_map}
 use Rattle.asl_code.specs.declared.lock.Lock.{Lock}
 use Rattle.asl_code.specs.declared.instr.Instr.{Instr}
 use Rattle.std.proofs.lemmas.Option.{get_or_from_slice_get}
 use Rattle.asl_points_to.specs.Classes.{Classed}
 use Rattle.asl_lock_expr.specs.Stores.{view_of}
-use Rattle.asl_lock_expr.specs.Links.{IsOne, IsLinked, View, link, dereferenced}
+use Rattle.asl_lock_expr.specs.Links.{IsOne, IsLinked, HasGrown, View, link, dereferenced}
+
+-- a list has grown where locks were added, and where it grew twice
+pub grown_more : (old new more : List Lock) → new ≡ old ++ more → HasGrown old new
+grown_more old new more e = (more, e)
+
+pub grown_twice : (old middle new : List Lock) → HasGrown old middle → HasGrown middle new → HasGrown old new
+grown_twice old middle new p q = (p.0 ++ q.0, q.1 ∙ ap (λ (xs : List Lock). xs ++ q.0) p.1 ∙ append_assoc old p.0 q.0)
 
 pub one_left : (ms ns : List Lock) (a : Lock) → IsOne ms a → IsOne (ms ++ ns) a
 one_left [] ns a e = absurd e

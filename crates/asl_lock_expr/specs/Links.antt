@@ -29,6 +29,10 @@ abbrev pub IsOne : List Lock → Lock → Type 0
 IsOne [] l = ⊥
 IsOne (m ∷ ms) l = (m ≡ l) ⊎ IsOne ms l
 
+-- what a list had, perhaps with more behind it
+abbrev pub HasGrown : List Lock → List Lock → Type 0
+HasGrown old new = (more : List Lock) × (new ≡ old ++ more)
+
 -- a lock on the expression of a base and a path
 abbrev pub on : Base → List Op → Effect → Lock
 on base path effect = lock.Expr (record { base = base; path = path }) effect

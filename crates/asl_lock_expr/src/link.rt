@@ -1,10 +1,10 @@
 //! What a lock that is needed behind an instruction becomes before it.
-ghost use Rattle.std.specs.Prelude.{◌≡◌, ◌≤◌, ◌+◌, ◌++◌, ◌∷◌, ◌&&◌, ◌||◌, [], length, OnOk, if◌then◌else◌};
+ghost use Rattle.std.specs.Prelude.{◌≡◌, ◌≤◌, ◌+◌, ◌++◌, ◌∷◌, ◌&&◌, ◌||◌, [], length, OnOk, OnErr, if◌then◌else◌};
 ghost use Rattle.std.specs.Option.{option_to_list};
 ghost use Rattle.std.specs.List.{flat_map};
 ghost use Rattle.asl_points_to.specs.Classes.{to};
 ghost use Rattle.asl_lock_expr.specs.ClassOf.{class_of, base_class};
-ghost use Rattle.asl_lock_expr.specs.Links.{on, settle, class_lock, is_register, is_class, is_stored_to, is_star, begins_with_star, hits, goes_through, replaced, before, link, accesses, renamed, prefixes, dereferenced};
+ghost use Rattle.asl_lock_expr.specs.Links.{HasGrown, on, settle, class_lock, is_register, is_class, is_stored_to, is_star, begins_with_star, hits, goes_through, replaced, before, link, accesses, renamed, prefixes, dereferenced};
 ghost use Rattle.asl_lock_expr.specs.LinksView.{seen};
 ghost use Rattle.asl_lock_expr.specs.Stores.{stores};
 
@@ -27,7 +27,8 @@ pub struct View<'a> {
     pub function: u16,
 }
 
-/// Adds the locks before the instruction that the lock behind it becomes (`docs/ANALYSIS.md`, "Links").
+/// Adds the locks before the instruction that the lock behind it becomes (`docs/ANALYSIS.md`, "Links"). After a refusal
+/// `into` has what it had, perhaps with more behind it.
 pub fn add_links(
     view: &View,
     instr: &Instr,
@@ -35,7 +36,8 @@ pub fn add_links(
     into: &mut Vec<Lock>,
 ) -> Result<(), AllocError>
     requires { view.now.longest ≤ 8 }
-    ensures { OnOk result (into.new.items ≡ into.old.items ++ link (seen view.now) instr.now lock.now) }
+    ensures ok { OnOk result (into.new.items ≡ into.old.items ++ link (seen view.now) instr.now lock.now) }
+    ensures err { OnErr result (HasGrown into.old.items into.new.items) }
 {
     match lock {
         Lock::Root(effect) => add(into, Lock::Root(*effect)),
@@ -44,10 +46,11 @@ pub fn add_links(
     }
 }
 
-/// Adds the lock that a load or a store itself needs.
+/// Adds the lock that a load or a store itself needs. After a refusal `into` has what it had, perhaps with more behind it.
 pub fn add_accesses(view: &View, instr: &Instr, into: &mut Vec<Lock>) -> Result<(), AllocError>
     requires { view.now.longest ≤ 8 }
-    ensures { OnOk result (into.new.items ≡ into.old.items ++ accesses (seen view.now) instr.now) }
+    ensures ok { OnOk result (into.new.items ≡ into.old.items ++ accesses (seen view.now) instr.now) }
+    ensures err { OnErr result (HasGrown into.old.items into.new.items) }
 {
     match *instr {
         Instr::Load { address, .. } => {
@@ -61,7 +64,7 @@ pub fn add_accesses(view: &View, instr: &Instr, into: &mut Vec<Lock>) -> Result<
 }
 
 /// Adds what a lock at the entry of a callee with so many parameters becomes at its call, whose arguments are in the
-/// registers from `first` on.
+/// registers from `first` on. After a refusal `into` has what it had, perhaps with more behind it.
 pub fn add_entered(
     view: &View,
     first: u8,
@@ -71,7 +74,8 @@ pub fn add_entered(
 ) -> Result<(), AllocError>
     requires short { view.now.longest ≤ 8 }
     requires registers { first + params ≤ 256 }
-    ensures { OnOk result (into.new.items ≡ into.old.items ++ flat_map (settle (seen view.now)) (renamed first params lock.now)) }
+    ensures ok { OnOk result (into.new.items ≡ into.old.items ++ flat_map (settle (seen view.now)) (renamed first params lock.now)) }
+    ensures err { OnErr result (HasGrown into.old.items into.new.items) }
 {
     match lock {
         Lock::Root(effect) => add(into, Lock::Root(*effect)),
@@ -96,9 +100,11 @@ pub fn add_entered(
     }
 }
 
-/// Adds the expressions before each `*` of the lock's path, with read: evaluating the lock reads their cells.
+/// Adds the expressions before each `*` of the lock's path, with read: evaluating the lock reads their cells. After a
+/// refusal `into` has what it had, perhaps with more behind it.
 pub fn add_dereferenced(lock: &Lock, into: &mut Vec<Lock>) -> Result<(), AllocError>
-    ensures { OnOk result (into.new.items ≡ into.old.items ++ dereferenced lock.now) }
+    ensures ok { OnOk result (into.new.items ≡ into.old.items ++ dereferenced lock.now) }
+    ensures err { OnErr result (HasGrown into.old.items into.new.items) }
 {
     match lock {
         Lock::Root(_) | Lock::Class(_, _) => Ok(()),
@@ -107,7 +113,8 @@ pub fn add_dereferenced(lock: &Lock, into: &mut Vec<Lock>) -> Result<(), AllocEr
 }
 
 fn add_prefixes(expr: &Expr, into: &mut Vec<Lock>) -> Result<(), AllocError>
-    ensures { OnOk result (into.new.items ≡ into.old.items ++ prefixes expr.now.base [] expr.now.path) }
+    ensures ok { OnOk result (into.new.items ≡ into.old.items ++ prefixes expr.now.base [] expr.now.path) }
+    ensures err { OnErr result (HasGrown into.old.items into.new.items) }
 {
     let ops = expr.path.as_slice();
     for (i, op) in ops.iter().enumerate() {
@@ -127,8 +134,9 @@ fn add_before(
     into: &mut Vec<Lock>,
 ) -> Result<(), AllocError>
     requires { view.now.longest ≤ 8 }
-    ensures { OnOk result (into.new.items
+    ensures ok { OnOk result (into.new.items
         ≡ into.old.items ++ flat_map (settle (seen view.now)) (before (seen view.now) instr.now expr.now effect)) }
+    ensures err { OnErr result (HasGrown into.old.items into.new.items) }
 {
     let ops = expr.path.as_slice();
     match *instr {
@@ -190,8 +198,9 @@ fn add_replaced(
 ) -> Result<(), AllocError>
     requires short { view.now.longest ≤ 8 }
     requires front { length front.now ≤ 1 }
-    ensures { OnOk result (into.new.items
+    ensures ok { OnOk result (into.new.items
         ≡ into.old.items ++ flat_map (settle (seen view.now)) (replaced to expr.now effect (on base (front.now ++ expr.now.path) effect ∷ []))) }
+    ensures err { OnErr result (HasGrown into.old.items into.new.items) }
 {
     let ops = expr.path.as_slice();
     if is_register(to, expr.base) {
@@ -210,8 +219,9 @@ fn add_other(
     into: &mut Vec<Lock>,
 ) -> Result<(), AllocError>
     requires { view.now.longest ≤ 8 }
-    ensures { OnOk result (into.new.items
+    ensures ok { OnOk result (into.new.items
         ≡ into.old.items ++ flat_map (settle (seen view.now)) (replaced to expr.now effect [])) }
+    ensures err { OnErr result (HasGrown into.old.items into.new.items) }
 {
     if is_register(to, expr.base) {
         Ok(())
@@ -231,8 +241,9 @@ fn add_stored(
     into: &mut Vec<Lock>,
 ) -> Result<(), AllocError>
     requires { view.now.longest ≤ 8 }
-    ensures { OnOk result (into.new.items
+    ensures ok { OnOk result (into.new.items
         ≡ into.old.items ++ flat_map (settle (seen view.now)) (before (seen view.now) (Instr.Store address from) expr.now effect)) }
+    ensures err { OnErr result (HasGrown into.old.items into.new.items) }
 {
     let ops = expr.path.as_slice();
     if !(is_register(address, expr.base) && begins_with_star(ops)) {
@@ -250,10 +261,11 @@ fn add_hits(
     into: &mut Vec<Lock>,
 ) -> Result<(), AllocError>
     requires { view.now.longest ≤ 8 }
-    ensures { OnOk result (into.new.items
+    ensures ok { OnOk result (into.new.items
         ≡ into.old.items ++ flat_map (settle (seen view.now))
         (hits view.now.classes.now (to view.now.classes.now view.now.function address) from effect
         (base_class view.now.classes.now view.now.function expr.now.base) expr.now.path)) }
+    ensures err { OnErr result (HasGrown into.old.items into.new.items) }
 {
     let hit = view.classes.to(view.function, address);
     let ops = expr.path.as_slice();
@@ -278,13 +290,14 @@ fn add_called(
     into: &mut Vec<Lock>,
 ) -> Result<(), AllocError>
     requires { view.now.longest ≤ 8 }
-    ensures { OnOk result (into.new.items
+    ensures ok { OnOk result (into.new.items
         ≡ into.old.items ++ flat_map (settle (seen view.now))
         (if is_register to expr.now.base
         || goes_through view.now.classes.now (stores view.now.writes.now callee)
         (base_class view.now.classes.now view.now.function expr.now.base) expr.now.path
         then class_lock effect (class_of view.now.classes.now view.now.function expr.now)
         else Lock.Expr expr.now effect ∷ [])) }
+    ensures err { OnErr result (HasGrown into.old.items into.new.items) }
 {
     if is_register(to, expr.base) || goes_through(view, callee, expr) {
         add_class(view, expr, effect, into)
@@ -339,8 +352,9 @@ fn add_class(
     effect: Effect,
     into: &mut Vec<Lock>,
 ) -> Result<(), AllocError>
-    ensures { OnOk result (into.new.items
+    ensures ok { OnOk result (into.new.items
         ≡ into.old.items ++ class_lock effect (class_of view.now.classes.now view.now.function expr.now)) }
+    ensures err { OnErr result (HasGrown into.old.items into.new.items) }
 {
     match class_of(view.classes, view.function, expr) {
         Some(class) => add(into, Lock::Class(class, effect)),
@@ -359,8 +373,9 @@ fn add_on(
 ) -> Result<(), AllocError>
     requires short { view.now.longest ≤ 8 }
     requires room { length front.now + length rest.now ≤ 9 }
-    ensures { OnOk result (into.new.items
+    ensures ok { OnOk result (into.new.items
         ≡ into.old.items ++ settle (seen view.now) (on base (front.now ++ rest.now) effect)) }
+    ensures err { OnErr result (HasGrown into.old.items into.new.items) }
 {
     match settled(view, base, front, rest, effect) {
         Some(lock) => add(into, lock),
@@ -406,7 +421,8 @@ fn extend(path: &mut Path, ops: &[Op])
 
 /// Adds a lock.
 fn add(into: &mut Vec<Lock>, lock: Lock) -> Result<(), AllocError>
-    ensures { OnOk result (into.new.items ≡ into.old.items ++ lock ∷ []) }
+    ensures ok { OnOk result (into.new.items ≡ into.old.items ++ lock ∷ []) }
+    ensures err { OnErr result (HasGrown into.old.items into.new.items) }
 {
     into.push(lock)?;
     Ok(())

@@ -10,7 +10,7 @@ returns-clause-ok c =
     let is = linked_list (read c.args.program.now) c.args.part c.args.pc _ _
     (stands_at c.args.program.now.spans.now c.args.program.now.spans.now c.from.result c.args.part _ refl c.from.ensures c.requires.there)
     (stands_at c.args.program.now.lowering.now.code c.code.result.now c.from-2.result c.args.pc _ c.code.ensures.code c.from-2.ensures c.requires.code)
-    _ c.view.ensures c.args.lock.now _ _ c.new-locks.ensures.items c.in_ok-add_links.ensures in
+    _ c.view.ensures c.args.lock.now _ _ c.new-locks.ensures.items c.in_ok-add_links.ensures.ok in
     added_list (read c.args.program.now) (table c.args.found.now) (table c.add_all.new.self) c.args.part c.args.pc _ _ (λ m. (is m).0) (λ m. (is m).1) c.requires.ready
     c.add_all.result c.add_all.ensures.whole c.add_all.ensures.has c.add_all.ensures.lists c.add_all.ensures.adds
 
@@ -19,5 +19,5 @@ returns-clause-err c =
     let is = linked_list (read c.args.program.now) c.args.part c.args.pc _ _
     (stands_at c.args.program.now.spans.now c.args.program.now.spans.now c.from.result c.args.part _ refl c.from.ensures c.requires.there)
     (stands_at c.args.program.now.lowering.now.code c.code.result.now c.from-2.result c.args.pc _ c.code.ensures.code c.from-2.ensures c.requires.code)
-    _ c.view.ensures c.args.lock.now _ _ c.new-locks.ensures.items c.in_ok-add_links.ensures in
+    _ c.view.ensures c.args.lock.now _ _ c.new-locks.ensures.items c.in_ok-add_links.ensures.ok in
     stopped_list (table c.args.found.now) (table c.add_all.new.self) c.args.part c.args.pc _ _ (λ m. (is m).0) c.add_all.result c.add_all.ensures.over c.add_all.ensures.adds

@@ -33,7 +33,7 @@ returns-in_ok-add_entered-in-Call c =
     let here = stands_at c.args.program.now.lowering.now.functions c.functions.result.now c.from-in-Call.result c.in-Call.function (record { params = 0; regs = 0; len = 0 }) c.functions.ensures.functions c.from-in-Call.ensures lt in
     entered_list (read c.args.program.now) c.args.part c.args.pc _
     (stands_at c.args.program.now.spans.now c.args.program.now.spans.now c.from.result c.args.part _ refl c.from.ensures c.requires.there)
-    c.in-Call.to c.in-Call.first c.in-Call.function _ c.args.lock.now stands here _ c.view-view.ensures _ _ c.new-locks.ensures.items c.in_ok-add_entered-in-Call.ensures
+    c.in-Call.to c.in-Call.first c.in-Call.function _ c.args.lock.now stands here _ c.view-view.ensures _ _ c.new-locks.ensures.items c.in_ok-add_entered-in-Call.ensures.ok
 
 pub returns-in_default : goal.returns-in_default
 returns-in_default c =
