@@ -68,6 +68,7 @@ impl<'p> Journaled<'p> {
         ensures image { self.new.image ≡ self.old.image }
         ensures count { self.new.count ≡ self.old.count }
         ensures spare { self.old.spare ≤ self.new.spare + 1 }
+        ensures kept { OnErr result (self.old.spare ≤ self.new.spare) }
         ensures full { IsErrOf result JournalFault.JournalFull ↔ (length self.old.events ≡ most_events) }
         ensures stranger { IsErrOf result JournalFault.BadThread
             ↔ ((length self.old.events < most_events) × (self.old.count ≤ t)) }
@@ -102,7 +103,7 @@ impl<'p> Journaled<'p> {
         ensures room { OnOk result (min m (most_events - length self.old.events) ≤ self.new.spare) }
         ensures grows { self.old.spare ≤ self.new.spare }
         ensures same { IsUnchanged self.old self.new }
-        ensures succeeds { m ≤ self.old.spare → IsOk result }
+        ensures succeeds { min m (most_events - length self.old.events) ≤ self.old.spare → IsOk result }
         ensures memory { IfErr result (λ fault. fault ≡ JournalFault.OutOfMemory) }
     {
         let left = MOST_EVENTS - self.events.len();

@@ -17,7 +17,7 @@ use Rattle.asl_tool.specs.Compile.{IsCompiled, IsRefusedSource}
 use Rattle.asl_tool.specs.Debug.{IsDebugged}
 use Rattle.asl_tool.specs.Replay.{IsReplayed, HasRefusedReplay}
 use Rattle.asl_tool.specs.RunFile.{IsFileFault}
-use Rattle.asl_tool.specs.Step.{IsStepped, HasRefusedRun}
+use Rattle.asl_tool.specs.Step.{IsStepped, IsSteppable, HasRefusedRun}
 
 -- the text is a program, and the bytes are its image
 pub record IsAssembled (text bytes : List ℕ) : Type 0 where
@@ -40,30 +40,31 @@ IsOutput (command.Compile longest as_text) input output = IsCompiled input longe
 IsOutput command.Replay input text = IsReplayed input text
 IsOutput (command.Debug words) input text = IsDebugged input words.items text
 
--- what each refusal of `step` says of the input; of want of memory nothing is said
+-- what each refusal of `step` says of the input; want of memory for the output comes only where the input is a program that
+-- may run over the schedule
 abbrev pub IsRefusedStep : List ℕ → ℕ → List ℕ → CommandFault → Type 0
 IsRefusedStep input threads schedule (fault.Program cause) = IsNoProgram input cause
 IsRefusedStep input threads schedule (fault.Journal cause) = HasRefusedRun input threads schedule cause
-IsRefusedStep input threads schedule fault.OutOfMemory = Unit {0}
+IsRefusedStep input threads schedule fault.OutOfMemory = IsSteppable input threads schedule
 IsRefusedStep input threads schedule f = ⊥
 
--- what each refusal of `asm` says of the text
+-- what each refusal of `asm` says of the text; want of memory for the image comes only where the text is a program
 abbrev pub IsRefusedText : List ℕ → CommandFault → Type 0
 IsRefusedText input (fault.Program (program.Text cause)) = text.IsFault input cause
-IsRefusedText input fault.OutOfMemory = Unit {0}
+IsRefusedText input fault.OutOfMemory = (image : Image) × IsProgramText input image
 IsRefusedText input f = ⊥
 
--- what each refusal of `dis` says of the image
+-- what each refusal of `dis` says of the image; want of memory for the text comes only where the bytes are a program's image
 abbrev pub IsRefusedImage : List ℕ → CommandFault → Type 0
-IsRefusedImage image (fault.Program (program.Image cause)) = bytes.IsFault image cause
-IsRefusedImage image fault.OutOfMemory = Unit {0}
-IsRefusedImage image f = ⊥
+IsRefusedImage input (fault.Program (program.Image cause)) = bytes.IsFault input cause
+IsRefusedImage input fault.OutOfMemory = (image : Image) × IsProgramImage input image
+IsRefusedImage input f = ⊥
 
--- what each refusal of a run file's command says of the file: it is none, or its journal is none of its program
+-- what each refusal of a run file's command says of the file: it is none, or its journal is none of its program; want of
+-- memory is one of the two
 abbrev pub IsRefusedReplay : List ℕ → CommandFault → Type 0
 IsRefusedReplay input (fault.File cause) = IsFileFault input cause
 IsRefusedReplay input (fault.Journal cause) = HasRefusedReplay input cause
-IsRefusedReplay input fault.OutOfMemory = Unit {0}
 IsRefusedReplay input f = ⊥
 
 -- what each refusal of a command says of the input

@@ -40,9 +40,10 @@ pub record HasRefusedTree (source : List ℕ) (longest : ℕ) (cause : InferFaul
   pub parsed : Parses source tree
   pub refused : IsRefused tree longest cause
 
--- what each refusal of `compile` says of the source
+-- what each refusal of `compile` says of the source; want of memory for the output comes only where a program is inferred for
+-- the source
 abbrev pub IsRefusedSource : List ℕ → ℕ → CommandFault → Type 0
 IsRefusedSource source longest (fault.Source cause) = syntax.IsFault source cause
 IsRefusedSource source longest (fault.Infer cause) = HasRefusedTree source longest cause
-IsRefusedSource source longest fault.OutOfMemory = Unit {0}
+IsRefusedSource source longest fault.OutOfMemory = (image : Image) × IsProgramFor source longest image
 IsRefusedSource source longest f = ⊥

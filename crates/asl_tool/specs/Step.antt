@@ -39,6 +39,12 @@ pub record IsStepped (input : List ℕ) (threads : ℕ) (schedule : List ℕ) (r
   pub recorded : IsRecord image threads schedule log
   pub output_is : output ≡ written record_it image log
 
+-- the input is a program that may run over the schedule
+pub record IsSteppable (input : List ℕ) (threads : ℕ) (schedule : List ℕ) : Type 0 where
+  pub image : Image
+  pub program : IsProgram input image
+  pub legal : IsSchedule image threads schedule
+
 -- What is wrong with a schedule, as its steps would meet it one by one: the program starts no so many threads, a step is of
 -- a thread that is not there, or a journal has no room for so many steps.
 abbrev pub IsFaultySchedule : Image → ℕ → List ℕ → JournalFault → Type 0

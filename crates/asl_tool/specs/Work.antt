@@ -29,6 +29,12 @@ pub record IsWorkOutput (team : Team) (input output : List ℕ) : Type 0 where
   pub worked : IsWorked image team log
   pub output_is : output ≡ written team.record image log
 
+-- the input is a program that so many workers may run
+pub record IsWorkable (team : Team) (input : List ℕ) : Type 0 where
+  pub image : Image
+  pub program : IsProgram input image
+  pub asked : IsAsked image team.threads team.workers team.limit
+
 -- the workers' run of the program is refused
 abbrev pub IsRefusedRunOf : Image → Team → RunFault → Type 0
 IsRefusedRunOf image team cause = (report : Option Report) × IsRefusal image team.threads team.workers team.limit cause report
@@ -39,9 +45,10 @@ pub record HasRefusedWork (team : Team) (input : List ℕ) (cause : RunFault) : 
   pub program : IsProgram input image
   pub refused : IsRefusedRunOf image team cause
 
--- what each refusal of `run` says of the input; of want of memory nothing is said
+-- what each refusal of `run` says of the input; want of memory for the output comes only where the input is a program that the
+-- workers may run
 abbrev pub IsRefusedWork : Team → List ℕ → CommandFault → Type 0
 IsRefusedWork team input (fault.Program cause) = IsNoProgram input cause
 IsRefusedWork team input (fault.Run cause) = HasRefusedWork team input cause
-IsRefusedWork team input fault.OutOfMemory = Unit {0}
+IsRefusedWork team input fault.OutOfMemory = IsWorkable team input
 IsRefusedWork team input f = ⊥
