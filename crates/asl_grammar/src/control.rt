@@ -3,7 +3,7 @@
 ghost use Rattle.std.specs.Prelude.{◌≡◌};
 ghost use Rattle.std.specs.Option.{option_map};
 ghost use Rattle.asl_grammar.specs.Written.{Assigns};
-ghost use Rattle.asl_grammar.specs.Automaton.{Keep, LineEnd, step, item_step, value_step, name_step, operand_step, argument_step};
+ghost use Rattle.asl_grammar.specs.Automaton.{Keep, LineEnd, ItemStart, FirstParameter, StatementStart, step, item_step, value_step, name_step, operand_step, argument_step};
 ghost use Rattle.asl_grammar.specs.View.{token_of};
 ghost use Rattle.asl_grammar.specs.ControlView.{control_of, right_of, act_of, transition_of};
 
@@ -121,6 +121,7 @@ pub struct Transition<'t> {
 }
 
 /// A token that completes nothing.
+#[inline(always)]
 fn keep(control: Control<'_>) -> Option<Transition<'_>>
     ensures { option_map transition_of result ≡ Some (control_of control.entry, Keep) }
 {
@@ -131,6 +132,7 @@ fn keep(control: Control<'_>) -> Option<Transition<'_>>
 }
 
 /// A token with which all but the semicolon of an assignment is read.
+#[inline(always)]
 fn assigned<'t>(target: &'t [u8], right: Right<'t>) -> Option<Transition<'t>>
     ensures { option_map transition_of result ≡ Some (LineEnd (Assigns target.now (right_of right.entry)), Keep) }
 {
@@ -138,6 +140,7 @@ fn assigned<'t>(target: &'t [u8], right: Right<'t>) -> Option<Transition<'t>>
 }
 
 /// A token that completes something.
+#[inline(always)]
 fn does<'t>(control: Control<'t>, act: Act<'t>) -> Option<Transition<'t>>
     ensures { option_map transition_of result ≡ Some (control_of control.entry, act_of act.entry) }
 {
@@ -145,196 +148,270 @@ fn does<'t>(control: Control<'t>, act: Act<'t>) -> Option<Transition<'t>>
 }
 
 /// The arguments of a call.
+#[inline(always)]
 fn argument_step<'t>(control: Control<'t>, token: Token<'t>) -> Option<Transition<'t>>
     ensures { option_map transition_of result ≡ argument_step (control_of control.entry) (token_of token.entry) }
 {
-    match (control, token) {
-        (Control::FirstArgument(x, f), Token::Name(a)) => does(
-            Control::AfterArgument(x, f),
-            Act::Argument(a),
-        ),
-        (Control::FirstArgument(x, f), Token::Fixed(Mark::CloseParen)) => keep(Control::CallEnd(
-            x, f,
-        )),
-        (Control::AfterArgument(x, f), Token::Fixed(Mark::Comma)) => keep(Control::NextArgument(
-            x, f,
-        )),
-        (Control::AfterArgument(x, f), Token::Fixed(Mark::CloseParen)) => keep(Control::CallEnd(
-            x, f,
-        )),
-        (Control::NextArgument(x, f), Token::Name(a)) => does(
-            Control::AfterArgument(x, f),
-            Act::Argument(a),
-        ),
-        (Control::CallEnd(x, f), Token::Fixed(Mark::Semicolon)) => does(
-            Control::StatementStart,
-            Act::EmitCall(x, f),
-        ),
+    match control {
+        Control::FirstArgument(x, f) => match token {
+            Token::Name(a) => does(Control::AfterArgument(x, f), Act::Argument(a)),
+            Token::Fixed(Mark::CloseParen) => keep(Control::CallEnd(x, f)),
+            _ => None,
+        },
+        Control::AfterArgument(x, f) => match token {
+            Token::Fixed(Mark::Comma) => keep(Control::NextArgument(x, f)),
+            Token::Fixed(Mark::CloseParen) => keep(Control::CallEnd(x, f)),
+            _ => None,
+        },
+        Control::NextArgument(x, f) => match token {
+            Token::Name(a) => does(Control::AfterArgument(x, f), Act::Argument(a)),
+            _ => None,
+        },
+        Control::CallEnd(x, f) => match token {
+            Token::Fixed(Mark::Semicolon) => does(Control::StatementStart, Act::EmitCall(x, f)),
+            _ => None,
+        },
         _ => None,
     }
 }
 
 /// Inside a value.
+#[inline(always)]
 fn operand_step<'t>(control: Control<'t>, token: Token<'t>) -> Option<Transition<'t>>
     ensures { option_map transition_of result ≡ operand_step (control_of control.entry) (token_of token.entry) }
 {
-    match (control, token) {
-        (Control::AfterMinus(x), Token::Number(n)) => assigned(x, Right::Literal(true, n)),
-        (Control::AfterOperator(x, y, o), Token::Name(z)) => assigned(x, Right::Binary(y, o, z)),
-        (Control::AfterAmpersand(x), Token::Name(y)) => keep(Control::AfterAddress(x, y)),
-        (Control::AfterAddress(x, y), Token::Fixed(Mark::Semicolon)) => does(
-            Control::StatementStart,
-            Act::Emit(Line::Assigns(x, Right::GlobalAddress(y))),
-        ),
-        (Control::AfterAddress(x, y), Token::Fixed(Mark::OpenBracket)) => keep(
-            Control::AfterBracket(x, y),
-        ),
-        (Control::AfterBracket(x, y), Token::Number(n)) => keep(Control::AfterIndex(x, y, n)),
-        (Control::AfterIndex(x, y, n), Token::Fixed(Mark::CloseBracket)) => assigned(
-            x,
-            Right::FieldAddress(y, n),
-        ),
-        (Control::AfterStar(x), Token::Name(y)) => assigned(x, Right::Loaded(y)),
-        (Control::AfterNew(x), Token::Number(n)) => assigned(x, Right::Created(n)),
+    match control {
+        Control::AfterMinus(x) => match token {
+            Token::Number(n) => assigned(x, Right::Literal(true, n)),
+            _ => None,
+        },
+        Control::AfterOperator(x, y, o) => match token {
+            Token::Name(z) => assigned(x, Right::Binary(y, o, z)),
+            _ => None,
+        },
+        Control::AfterAmpersand(x) => match token {
+            Token::Name(y) => keep(Control::AfterAddress(x, y)),
+            _ => None,
+        },
+        Control::AfterAddress(x, y) => match token {
+            Token::Fixed(Mark::Semicolon) => does(
+                Control::StatementStart,
+                Act::Emit(Line::Assigns(x, Right::GlobalAddress(y))),
+            ),
+            Token::Fixed(Mark::OpenBracket) => keep(Control::AfterBracket(x, y)),
+            _ => None,
+        },
+        Control::AfterBracket(x, y) => match token {
+            Token::Number(n) => keep(Control::AfterIndex(x, y, n)),
+            _ => None,
+        },
+        Control::AfterIndex(x, y, n) => match token {
+            Token::Fixed(Mark::CloseBracket) => assigned(x, Right::FieldAddress(y, n)),
+            _ => None,
+        },
+        Control::AfterStar(x) => match token {
+            Token::Name(y) => assigned(x, Right::Loaded(y)),
+            _ => None,
+        },
+        Control::AfterNew(x) => match token {
+            Token::Number(n) => assigned(x, Right::Created(n)),
+            _ => None,
+        },
         _ => argument_step(control, token),
     }
 }
 
 /// What may follow a name at the beginning of a value.
+#[inline(always)]
 fn name_step<'t>(control: Control<'t>, token: Token<'t>) -> Option<Transition<'t>>
     ensures { option_map transition_of result ≡ name_step (control_of control.entry) (token_of token.entry) }
 {
-    match (control, token) {
-        (Control::AfterValue(x, y), Token::Fixed(Mark::Semicolon)) => does(
-            Control::StatementStart,
-            Act::Emit(Line::Assigns(x, Right::Copied(y))),
-        ),
-        (Control::AfterValue(x, y), Token::Fixed(Mark::Plus)) => keep(Control::AfterOperator(
-            x,
-            y,
-            Operator::Add,
-        )),
-        (Control::AfterValue(x, y), Token::Fixed(Mark::Minus)) => keep(Control::AfterOperator(
-            x,
-            y,
-            Operator::Subtract,
-        )),
-        (Control::AfterValue(x, y), Token::Fixed(Mark::Less)) => keep(Control::AfterOperator(
-            x,
-            y,
-            Operator::IsLess,
-        )),
-        (Control::AfterValue(x, y), Token::Fixed(Mark::Same)) => keep(Control::AfterOperator(
-            x,
-            y,
-            Operator::IsEqual,
-        )),
-        (Control::AfterValue(x, y), Token::Fixed(Mark::OpenParen)) => keep(Control::FirstArgument(
-            x, y,
-        )),
+    match control {
+        Control::AfterValue(x, y) => match token {
+            Token::Fixed(Mark::Semicolon) => does(
+                Control::StatementStart,
+                Act::Emit(Line::Assigns(x, Right::Copied(y))),
+            ),
+            Token::Fixed(Mark::Plus) => keep(Control::AfterOperator(x, y, Operator::Add)),
+            Token::Fixed(Mark::Minus) => keep(Control::AfterOperator(x, y, Operator::Subtract)),
+            Token::Fixed(Mark::Less) => keep(Control::AfterOperator(x, y, Operator::IsLess)),
+            Token::Fixed(Mark::Same) => keep(Control::AfterOperator(x, y, Operator::IsEqual)),
+            Token::Fixed(Mark::OpenParen) => keep(Control::FirstArgument(x, y)),
+            _ => None,
+        },
         _ => operand_step(control, token),
     }
 }
 
 /// The beginning of a value.
+#[inline(always)]
 fn value_step<'t>(control: Control<'t>, token: Token<'t>) -> Option<Transition<'t>>
     ensures { option_map transition_of result ≡ value_step (control_of control.entry) (token_of token.entry) }
 {
-    match (control, token) {
-        (Control::AfterBecomes(x), Token::Fixed(Mark::Minus)) => keep(Control::AfterMinus(x)),
-        (Control::AfterBecomes(x), Token::Fixed(Mark::Null)) => assigned(x, Right::NullValue),
-        (Control::AfterBecomes(x), Token::Fixed(Mark::Ampersand)) => keep(Control::AfterAmpersand(
-            x,
-        )),
-        (Control::AfterBecomes(x), Token::Fixed(Mark::Star)) => keep(Control::AfterStar(x)),
-        (Control::AfterBecomes(x), Token::Fixed(Mark::New)) => keep(Control::AfterNew(x)),
-        (Control::AfterBecomes(x), Token::Name(y)) => keep(Control::AfterValue(x, y)),
-        (Control::AfterBecomes(x), Token::Number(n)) => assigned(x, Right::Literal(false, n)),
+    match control {
+        Control::AfterBecomes(x) => match token {
+            Token::Fixed(Mark::Minus) => keep(Control::AfterMinus(x)),
+            Token::Fixed(Mark::Null) => assigned(x, Right::NullValue),
+            Token::Fixed(Mark::Ampersand) => keep(Control::AfterAmpersand(x)),
+            Token::Fixed(Mark::Star) => keep(Control::AfterStar(x)),
+            Token::Fixed(Mark::New) => keep(Control::AfterNew(x)),
+            Token::Name(y) => keep(Control::AfterValue(x, y)),
+            Token::Number(n) => assigned(x, Right::Literal(false, n)),
+            Token::Fixed(_) => None,
+        },
         _ => name_step(control, token),
     }
 }
 
+/// The first token of an item.
+#[inline(always)]
+fn start_step(token: Token<'_>) -> Option<Transition<'_>>
+    ensures { option_map transition_of result ≡ item_step ItemStart (token_of token.entry) }
+{
+    match token {
+        Token::Fixed(Mark::Global) => keep(Control::AfterGlobal),
+        Token::Fixed(Mark::Fn) => keep(Control::AfterFn),
+        _ => None,
+    }
+}
+
+/// A first parameter, or the end of none.
+#[inline(always)]
+fn parameter_step(token: Token<'_>) -> Option<Transition<'_>>
+    ensures { option_map transition_of result ≡ item_step FirstParameter (token_of token.entry) }
+{
+    match token {
+        Token::Name(x) => does(Control::AfterParameter, Act::Parameter(x)),
+        Token::Fixed(Mark::CloseParen) => keep(Control::BodyStart),
+        _ => None,
+    }
+}
+
 /// Globals, the head of a function and its last line.
+#[inline(always)]
 fn item_step<'t>(control: Control<'t>, token: Token<'t>) -> Option<Transition<'t>>
     ensures { option_map transition_of result ≡ item_step (control_of control.entry) (token_of token.entry) }
 {
-    match (control, token) {
-        (Control::ItemStart, Token::Fixed(Mark::Global)) => keep(Control::AfterGlobal),
-        (Control::ItemStart, Token::Fixed(Mark::Fn)) => keep(Control::AfterFn),
-        (Control::AfterGlobal, Token::Name(x)) => keep(Control::GlobalNamed(x)),
-        (Control::GlobalNamed(x), Token::Fixed(Mark::Semicolon)) => does(
-            Control::ItemStart,
-            Act::Declare(x),
-        ),
-        (Control::AfterFn, Token::Name(x)) => keep(Control::FunctionNamed(x)),
-        (Control::FunctionNamed(x), Token::Fixed(Mark::OpenParen)) => does(
-            Control::FirstParameter,
-            Act::Start(x),
-        ),
-        (Control::FirstParameter, Token::Name(x)) => does(
-            Control::AfterParameter,
-            Act::Parameter(x),
-        ),
-        (Control::FirstParameter, Token::Fixed(Mark::CloseParen)) => keep(Control::BodyStart),
-        (Control::AfterParameter, Token::Fixed(Mark::Comma)) => keep(Control::NextParameter),
-        (Control::AfterParameter, Token::Fixed(Mark::CloseParen)) => keep(Control::BodyStart),
-        (Control::NextParameter, Token::Name(x)) => does(
-            Control::AfterParameter,
-            Act::Parameter(x),
-        ),
-        (Control::BodyStart, Token::Fixed(Mark::OpenBrace)) => keep(Control::StatementStart),
-        (Control::AfterReturn, Token::Name(x)) => keep(Control::Returned(x)),
-        (Control::Returned(x), Token::Fixed(Mark::Semicolon)) => keep(Control::BodyEnd(x)),
-        (Control::BodyEnd(x), Token::Fixed(Mark::CloseBrace)) => does(
-            Control::ItemStart,
-            Act::Finish(x),
-        ),
+    match control {
+        Control::ItemStart => start_step(token),
+        Control::AfterGlobal => match token {
+            Token::Name(x) => keep(Control::GlobalNamed(x)),
+            _ => None,
+        },
+        Control::GlobalNamed(x) => match token {
+            Token::Fixed(Mark::Semicolon) => does(Control::ItemStart, Act::Declare(x)),
+            _ => None,
+        },
+        Control::AfterFn => match token {
+            Token::Name(x) => keep(Control::FunctionNamed(x)),
+            _ => None,
+        },
+        Control::FunctionNamed(x) => match token {
+            Token::Fixed(Mark::OpenParen) => does(Control::FirstParameter, Act::Start(x)),
+            _ => None,
+        },
+        Control::FirstParameter => parameter_step(token),
+        Control::AfterParameter => match token {
+            Token::Fixed(Mark::Comma) => keep(Control::NextParameter),
+            Token::Fixed(Mark::CloseParen) => keep(Control::BodyStart),
+            _ => None,
+        },
+        Control::NextParameter => match token {
+            Token::Name(x) => does(Control::AfterParameter, Act::Parameter(x)),
+            _ => None,
+        },
+        Control::BodyStart => match token {
+            Token::Fixed(Mark::OpenBrace) => keep(Control::StatementStart),
+            _ => None,
+        },
+        Control::AfterReturn => match token {
+            Token::Name(x) => keep(Control::Returned(x)),
+            _ => None,
+        },
+        Control::Returned(x) => match token {
+            Token::Fixed(Mark::Semicolon) => keep(Control::BodyEnd(x)),
+            _ => None,
+        },
+        Control::BodyEnd(x) => match token {
+            Token::Fixed(Mark::CloseBrace) => does(Control::ItemStart, Act::Finish(x)),
+            _ => None,
+        },
         _ => value_step(control, token),
     }
 }
 
+/// The first token of a statement, or of what ends its block.
+#[inline(always)]
+fn statement_step(kind: Kind, token: Token<'_>) -> Option<Transition<'_>>
+    ensures { option_map transition_of result ≡ step StatementStart kind (token_of token.entry) }
+{
+    match token {
+        Token::Name(x) => keep(Control::Target(x)),
+        Token::Fixed(Mark::Star) => keep(Control::StoreStart),
+        Token::Fixed(Mark::Out) => keep(Control::AfterOut),
+        Token::Fixed(Mark::If) => keep(Control::AfterIf),
+        Token::Fixed(Mark::While) => keep(Control::AfterWhile),
+        Token::Fixed(Mark::Atomic) => keep(Control::AfterHeader(Opening::OfAtomic)),
+        Token::Fixed(Mark::Return) => match kind {
+            Kind::Body => keep(Control::AfterReturn),
+            Kind::Then | Kind::Inner => None,
+        },
+        Token::Fixed(Mark::CloseBrace) => match kind {
+            Kind::Body => None,
+            Kind::Then => does(Control::AfterThen, Act::Close),
+            Kind::Inner => does(Control::StatementStart, Act::Close),
+        },
+        _ => None,
+    }
+}
+
 /// The step at a token in a block of a kind, or nothing where the token may not stand.
+#[inline(always)]
 pub fn step<'t>(control: Control<'t>, kind: Kind, token: Token<'t>) -> Option<Transition<'t>>
     ensures { option_map transition_of result ≡ step (control_of control.entry) kind (token_of token.entry) }
 {
-    match (control, kind, token) {
-        (Control::StatementStart, _, Token::Name(x)) => keep(Control::Target(x)),
-        (Control::StatementStart, _, Token::Fixed(Mark::Star)) => keep(Control::StoreStart),
-        (Control::StatementStart, _, Token::Fixed(Mark::Out)) => keep(Control::AfterOut),
-        (Control::StatementStart, _, Token::Fixed(Mark::If)) => keep(Control::AfterIf),
-        (Control::StatementStart, _, Token::Fixed(Mark::While)) => keep(Control::AfterWhile),
-        (Control::StatementStart, _, Token::Fixed(Mark::Atomic)) => keep(Control::AfterHeader(
-            Opening::OfAtomic,
-        )),
-        (Control::StatementStart, Kind::Body, Token::Fixed(Mark::Return)) => keep(
-            Control::AfterReturn,
-        ),
-        (Control::StatementStart, Kind::Then, Token::Fixed(Mark::CloseBrace)) => does(
-            Control::AfterThen,
-            Act::Close,
-        ),
-        (Control::StatementStart, Kind::Inner, Token::Fixed(Mark::CloseBrace)) => does(
-            Control::StatementStart,
-            Act::Close,
-        ),
-        (Control::AfterThen, _, Token::Fixed(Mark::Else)) => keep(Control::AfterHeader(
-            Opening::OfElse,
-        )),
-        (Control::Target(x), _, Token::Fixed(Mark::Becomes)) => keep(Control::AfterBecomes(x)),
-        (Control::LineEnd(l), _, Token::Fixed(Mark::Semicolon)) => does(
-            Control::StatementStart,
-            Act::Emit(l),
-        ),
-        (Control::StoreStart, _, Token::Name(x)) => keep(Control::StoreTarget(x)),
-        (Control::StoreTarget(x), _, Token::Fixed(Mark::Becomes)) => keep(Control::StoreValue(x)),
-        (Control::StoreValue(x), _, Token::Name(y)) => keep(Control::LineEnd(Line::Stores(x, y))),
-        (Control::AfterOut, _, Token::Name(x)) => keep(Control::LineEnd(Line::Shows(x))),
-        (Control::AfterIf, _, Token::Name(x)) => keep(Control::AfterHeader(Opening::OfIf(x))),
-        (Control::AfterWhile, _, Token::Name(x)) => keep(Control::AfterHeader(Opening::OfWhile(x))),
-        (Control::AfterHeader(o), _, Token::Fixed(Mark::OpenBrace)) => does(
-            Control::StatementStart,
-            Act::Begin(o),
-        ),
+    match control {
+        Control::StatementStart => statement_step(kind, token),
+        Control::AfterThen => match token {
+            Token::Fixed(Mark::Else) => keep(Control::AfterHeader(Opening::OfElse)),
+            _ => None,
+        },
+        Control::Target(x) => match token {
+            Token::Fixed(Mark::Becomes) => keep(Control::AfterBecomes(x)),
+            _ => None,
+        },
+        Control::LineEnd(l) => match token {
+            Token::Fixed(Mark::Semicolon) => does(Control::StatementStart, Act::Emit(l)),
+            _ => None,
+        },
+        Control::StoreStart => match token {
+            Token::Name(x) => keep(Control::StoreTarget(x)),
+            _ => None,
+        },
+        Control::StoreTarget(x) => match token {
+            Token::Fixed(Mark::Becomes) => keep(Control::StoreValue(x)),
+            _ => None,
+        },
+        Control::StoreValue(x) => match token {
+            Token::Name(y) => keep(Control::LineEnd(Line::Stores(x, y))),
+            _ => None,
+        },
+        Control::AfterOut => match token {
+            Token::Name(x) => keep(Control::LineEnd(Line::Shows(x))),
+            _ => None,
+        },
+        Control::AfterIf => match token {
+            Token::Name(x) => keep(Control::AfterHeader(Opening::OfIf(x))),
+            _ => None,
+        },
+        Control::AfterWhile => match token {
+            Token::Name(x) => keep(Control::AfterHeader(Opening::OfWhile(x))),
+            _ => None,
+        },
+        Control::AfterHeader(o) => match token {
+            Token::Fixed(Mark::OpenBrace) => does(Control::StatementStart, Act::Begin(o)),
+            _ => None,
+        },
         _ => item_step(control, token),
     }
 }

@@ -129,6 +129,7 @@ struct Lexeme<'t> {
 }
 
 /// The name or word that `text`, which begins with a letter, begins with.
+#[inline(always)]
 fn letters(text: &[u8]) -> Lexeme<'_>
     ensures { front_view result ≡ letters_token text.now (leading is_name_byte text.now) }
 {
@@ -142,6 +143,7 @@ fn letters(text: &[u8]) -> Lexeme<'_>
 }
 
 /// The number that `text`, which begins with a digit, begins with.
+#[inline(always)]
 fn digits(text: &[u8]) -> Lexeme<'_>
     ensures { front_view result ≡ digits_token text.now (leading is_digit text.now) }
 {
@@ -153,6 +155,7 @@ fn digits(text: &[u8]) -> Lexeme<'_>
 }
 
 /// `=` or `==`, where `behind` are the bytes behind the first.
+#[inline(always)]
 fn equals<'t>(behind: &[u8]) -> Lexeme<'t>
     ensures { front_view result ≡ equals_token behind.now }
 {
@@ -170,6 +173,7 @@ fn equals<'t>(behind: &[u8]) -> Lexeme<'t>
 }
 
 /// The longest token at the front of `text`.
+#[inline(always)]
 fn longest_token(text: &[u8]) -> Option<Lexeme<'_>>
     ensures { option_map front_view result ≡ front text.now }
 {
@@ -241,6 +245,7 @@ impl<'t> Tokens<'t> {
     }
 
     /// The next token.
+    #[inline(always)]
     pub fn next(&mut self) -> Found<'t>
         ensures found { IsFound self.old result self.new }
         ensures shorter { IsShorter result self.old self.new }

@@ -25,12 +25,15 @@ fn innermost(kinds: &[Kind]) -> Kind
 }
 
 /// The control behind the block of an `if`, once the next token is known: only an `else` belongs to the `if`.
+#[inline(always)]
 pub fn settled<'t>(control: Control<'t>, token: Token<'t>) -> Control<'t>
     ensures { control_of result ≡ settled (control_of control.entry) (token_of token.entry) }
 {
-    match (control, token) {
-        (Control::AfterThen, Token::Fixed(Mark::Else)) => control,
-        (Control::AfterThen, _) => Control::StatementStart,
+    match control {
+        Control::AfterThen => match token {
+            Token::Fixed(Mark::Else) => control,
+            _ => Control::StatementStart,
+        },
         _ => control,
     }
 }

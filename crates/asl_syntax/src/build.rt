@@ -312,7 +312,10 @@ impl Builder {
         match step(settled(control, token), self.kind(), token) {
             None => Ok(None),
             Some(transition) => {
-                self.apply(transition.act)?;
+                match transition.act {
+                    Act::Keep => {}
+                    act => self.apply(act)?,
+                }
                 Ok(Some(transition.control))
             }
         }
