@@ -1,7 +1,7 @@
 pub mod Front
 pub mod Loads
 pub mod Logs
-pub mod Loop
+pub mod Kept
 pub mod Outcomes
 pub mod Parts
 pub mod Recordings

@@ -94,20 +94,23 @@ whole_refused bytes f fit e = whole_refused_from bytes (log_at bytes) f fit refl
 
 -- what the reader of all the bytes answered
 abbrev pub IsWhole : List ℕ → Result Log JournalFault → Type 0
-IsWhole bytes r = (r ≡ Err OutOfMemory) ⊎ (r ≡ whole_of bytes)
+IsWhole bytes r = ((r ≡ Err OutOfMemory) × ((log : Log) × (whole_of bytes ≡ Ok log))) ⊎ (r ≡ whole_of bytes)
 
 pub gets_found : (bytes : List ℕ) (r : Result Log JournalFault) → AreBytes bytes → IsWhole bytes r → IfOk r (λ log. SpellsLog log bytes)
-gets_found bytes (Ok i) fit w = elim w [ inl out ↦ let both : answered i ≡ refused OutOfMemory = out in absurd cc | inr e ↦ whole_found bytes i fit (sym e) ]
+gets_found bytes (Ok i) fit w = elim w [ inl out ↦ let both : answered i ≡ refused OutOfMemory = out.0 in absurd cc | inr e ↦ whole_found bytes i fit (sym e) ]
 gets_found bytes (Err f) fit w = tt
 
 pub gets_refused : (bytes : List ℕ) (r : Result Log JournalFault) → AreBytes bytes → IsWhole bytes r → IfErr r (IsBytesFault bytes)
 gets_refused bytes (Ok i) fit w = tt
 gets_refused bytes (Err f) fit w =
     elim w [
-      | inl out ↦ let both : refused f ≡ refused OutOfMemory = out in let same : OutOfMemory ≡ f = cc in subst (IsBytesFault bytes) same tt
+      | inl out ↦
+          let both : refused f ≡ refused OutOfMemory = out.0 in
+          let same : OutOfMemory ≡ f = cc in
+          subst (IsBytesFault bytes) same (out.1.0, whole_found bytes out.1.0 fit out.1.1)
       | inr e ↦ (whole_refused bytes f fit (sym e)).0
     ]
 
 -- what is spelled is what is answered, unless memory ran out
 pub gets_only : (bytes : List ℕ) (r : Result Log JournalFault) (log : Log) → IsWhole bytes r → SpellsLog log bytes → (r ≡ Ok log) ⊎ (r ≡ Err OutOfMemory)
-gets_only bytes r log w spells = elim w [ inl out ↦ inr out | inr e ↦ inl (e ∙ whole_again bytes log spells) ]
+gets_only bytes r log w spells = elim w [ inl out ↦ inr out.0 | inr e ↦ inl (e ∙ whole_again bytes log spells) ]

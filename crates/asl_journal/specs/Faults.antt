@@ -11,14 +11,15 @@ abbrev pub IsBadLogByte : List ℕ → ℕ → Type 0
 IsBadLogByte bytes at = HasBadByte Log HasBytes log_fields bytes at
 
 -- The fault is the first thing that is wrong with the bytes, from front to back. The field at byte 0 is the letters, and
--- the one at byte 4 the version. Want of memory says nothing of the bytes (docs/JOURNAL.md, Bytes).
+-- the one at byte 4 the version. Want of memory hides nothing that is wrong with the bytes: they spell a journal
+-- (docs/JOURNAL.md, Bytes).
 abbrev pub IsBytesFault : List ℕ → JournalFault → Type 0
 IsBytesFault bytes Magic = IsBadLogByte bytes 0
 IsBytesFault bytes Version = IsBadLogByte bytes 4
 IsBytesFault bytes (Truncated at) = (at ≡ length bytes) × EndsWithin Log HasBytes log_fields bytes
 IsBytesFault bytes (BadField at) = (at ≢ 0) × (at ≢ 4) × IsBadLogByte bytes at
 IsBytesFault bytes (Trailing at) = (at < length bytes) × ((log : Log) × SpellsLog log (take at bytes))
-IsBytesFault bytes OutOfMemory = Unit {0}
+IsBytesFault bytes OutOfMemory = (log : Log) × SpellsLog log bytes
 IsBytesFault bytes fault = ⊥
 
 -- The outcome of the bytes, where memory is there: the journal that they spell, or the refusal that they meet

@@ -1,7 +1,7 @@
 -- Machinery of the proofs, not of the promise: reading a journal from front to back, to the first field that is
 -- cut or bad, as the readers of src/ compute it (docs/JOURNAL.md, "Bytes"). The lemmas of proofs/ lead from here to the
 -- relations of specs/Bytes and specs/Faults, which contracts cite.
-use Rattle.std.specs.Prelude.{◌≡◌, ℕ, zero, suc, ◌-◌, Bool, nat_lt, nat_le, ◌==◌, ◌&&◌, if◌then◌else◌, List, length, Result, Ok, Err}
+use Rattle.std.specs.Prelude.{ℕ, zero, suc, ◌-◌, Bool, nat_lt, nat_le, ◌==◌, ◌&&◌, if◌then◌else◌, List, length, Result, Ok, Err}
 use Rattle.std.specs.Int.{w16, w32, cast_signed}
 use Rattle.asl_code.specs.Versions.{newest_threads, is_version, version_for}
 use Rattle.asl_code.specs.declared.value.Value.{Value}
@@ -16,20 +16,7 @@ use Rattle.asl_loader.specs.Reading.{◌>>=◌, passed, byte_at, number_at, belo
 use Rattle.asl_journal.specs.declared.event.Event.{Event}
 use Rattle.asl_journal.specs.declared.fault.JournalFault.{JournalFault}
 use Rattle.asl_journal.specs.declared.fault.JournalFault.TheVariants.{Magic, Version, Truncated, BadField, Trailing}
-use Rattle.asl_journal.specs.declared.fault.ReadError.{ReadError}
-use Rattle.asl_journal.specs.declared.fault.ReadError.TheVariants as errors
 use Rattle.asl_journal.specs.Journal.{Log, most_events}
-
--- what a function returned, seen by view, is what reading gives, unless memory ran out
-abbrev pub Fails : {Y : Type 0} → ReadError → Result Y Stop → Type 0
-Fails errors.Memory read = Unit {0}
-Fails errors.Short read = read ≡ Err Short
-Fails (errors.Bad left) read = read ≡ Err (Bad left)
-
--- the same of what was read
-abbrev pub Gives : {X Y : Type 0} → (X → Y) → Result X ReadError → Result Y Stop → Type 0
-Gives view (Ok x) read = read ≡ Ok (view x)
-Gives view (Err e) read = Fails e read
 
 -- the four letters
 unfoldable pub letters_at : List ℕ → Result (ℕ × List ℕ) Stop

@@ -1,10 +1,7 @@
 //! Why a call on journals, or the reading of one, was refused.
 
-ghost use Rattle.std.specs.Prelude.{◌≡◌};
-ghost use Rattle.asl_journal.specs.declared.fault.ReadError.TheVariants.{Memory};
-
 use asl_machine::MachineFault;
-use std::alloc::{AllocError, AllocFailed};
+use std::alloc::AllocError;
 use std::convert::From;
 use thiserror::Error;
 
@@ -66,24 +63,5 @@ impl From<MachineFault> for JournalFault {
             MachineFault::BadThread => JournalFault::BadThread,
             MachineFault::OutOfMemory => JournalFault::OutOfMemory,
         }
-    }
-}
-
-/// Why a reader gave up.
-#[derive(Debug, Drop)]
-pub enum ReadError {
-    /// Memory was refused.
-    Memory,
-    /// The bytes end within a field.
-    Short,
-    /// A field is bad, with so many bytes left from its first byte on.
-    Bad(usize),
-}
-
-impl<T: Drop> From<AllocFailed<T>> for ReadError {
-    ghost from_gives = { λ _ e. e ≡ Memory };
-
-    fn from(_: AllocFailed<T>) -> ReadError {
-        ReadError::Memory
     }
 }

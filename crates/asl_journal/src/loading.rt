@@ -3,11 +3,13 @@ ghost use Rattle.std.specs.Prelude.{◌≡◌, ◌⊎◌, IfOk, IfErr};
 ghost use Rattle.asl_journal.specs.Bytes.{SpellsLog};
 ghost use Rattle.asl_journal.specs.Faults.{IsBytesFault};
 ghost use Rattle.asl_journal.specs.Journal.{Log};
-ghost use Rattle.asl_journal.specs.Reading.{Gives, bad_fault, log_at, whole_of};
+ghost use Rattle.asl_loader.specs.Reading.{Keeps};
+ghost use Rattle.asl_journal.specs.Reading.{bad_fault, log_at, whole_of};
 
-use crate::fault::{JournalFault, ReadError};
+use crate::fault::JournalFault;
 use crate::journal::Journal;
 use crate::reading::parts_at;
+use asl_loader::Stop;
 use std::alloc::Global;
 
 /// The journal that the bytes spell, all of them.
@@ -23,23 +25,26 @@ pub fn get(alloc: Global, bytes: &[u8]) -> Result<Journal, JournalFault>
 
 #[tactic(auto, unfolding(crate::specs::Reading::whole_of))]
 fn whole_of(alloc: Global, bytes: &[u8]) -> Result<Journal, JournalFault>
-    ensures { (result ≡ Err JournalFault.OutOfMemory) ⊎ (result ≡ whole_of bytes.now) }
+    ensures { ((result ≡ Err JournalFault.OutOfMemory) × ((log : Log) × (whole_of bytes.now ≡ Ok log)))
+        ⊎ (result ≡ whole_of bytes.now) }
 {
     match journal_at(alloc, bytes) {
-        Ok((journal, [])) => Ok(journal),
+        Ok((journal, [])) => journal.ok_or(JournalFault::OutOfMemory),
         Ok((_journal, rest)) => Err(JournalFault::Trailing(bytes.len() - rest.len())),
-        Err(ReadError::Memory) => Err(JournalFault::OutOfMemory),
-        Err(ReadError::Short) => Err(JournalFault::Truncated(bytes.len())),
-        Err(ReadError::Bad(left)) => Err(bad_fault(bytes.len() - left)),
+        Err(Stop::Short) => Err(JournalFault::Truncated(bytes.len())),
+        Err(Stop::Bad(left)) => Err(bad_fault(bytes.len() - left)),
     }
 }
 
-/// The journal at the front of the bytes, and the bytes after it.
-fn journal_at(alloc: Global, bytes: &[u8]) -> Result<(Journal, &[u8]), ReadError>
-    ensures { Gives (λ x. (x.0, x.1.now)) result (log_at bytes.now) }
+/// The journal at the front of the bytes, as long as there is memory for it, and the bytes after it.
+fn journal_at(alloc: Global, bytes: &[u8]) -> Result<(Option<Journal>, &[u8]), Stop>
+    ensures { Keeps (λ x. x.0) (λ x. x.1.now) result (log_at bytes.now) }
 {
-    let ((threads, events), rest) = parts_at(alloc, bytes)?;
-    Ok((Journal::from_parts(threads, events), rest))
+    let (threads, events, rest) = parts_at(alloc, bytes)?;
+    match events {
+        Some(events) => Ok((Some(Journal::from_parts(threads, events.into_vec())), rest)),
+        None => Ok((None, rest)),
+    }
 }
 
 /// The fault of a bad byte: the field at byte 0 is the letters, and the one at byte 4 the version.

@@ -1,75 +1,24 @@
-//! Reading a journal from front to back.
-ghost use Rattle.std.specs.Prelude.{◌≡◌, ◌≤◌, ◌<◌, length, IfOk};
-ghost use Rattle.std.specs.Int.{w16, w32};
-ghost use Rattle.asl_loader.specs.Reading.{byte_at, number_at, below_at, effect_at, items_at};
-ghost use Rattle.asl_journal.specs.Journal.{IsCount, most_events};
-ghost use Rattle.asl_journal.specs.Reading.{Gives, letters_at, version_at, threads_at, count_at, value_at, unprotected_at};
+//! Reading a journal from front to back. Where memory is refused the reading goes on and keeps nothing, so that want of memory
+//! hides nothing that is wrong with the bytes.
+ghost use Rattle.std.specs.Prelude.{◌≡◌};
+ghost use Rattle.std.specs.Option.{option_map};
+ghost use Rattle.asl_loader.specs.Reading.{Gives, Keeps, items_at};
+ghost use Rattle.asl_journal.specs.Reading.{letters_at, version_at, threads_at, count_at, value_at, unprotected_at};
 ghost use Rattle.asl_journal.specs.Reading.{plain_fault, fault_at, reply_at, event_at, log_at};
 
 use crate::event::Event;
-use crate::fault::ReadError;
 use crate::limits::{MOST_EVENTS, MOST_THREADS};
-use asl_code::{Cell, Effect, Value, ValueFault, get_value, is_version, version_for};
+use asl_code::{Cell, Items, Value, ValueFault, get_value, is_version, version_for};
+use asl_loader::Stop;
+use asl_loader::parts::{bad, below_at, byte_at, effect_at, four_at, two_at, with_item};
 use asl_machine::{Fault, Reply};
 use std::alloc::Global;
 
 /// The four letters at the front of a journal, as a number.
 const LETTERS: u32 = 0x4153_4c4a;
 
-/// The field at the front of the bytes is bad.
-fn bad(bytes: &[u8]) -> ReadError
-    ensures { result ≡ ReadError.Bad (length bytes.now) }
-{
-    ReadError::Bad(bytes.len())
-}
-
-#[tactic(auto, unfolding(asl_loader::specs::Reading::byte_at))]
-fn byte_at(bytes: &[u8]) -> Result<(u8, &[u8]), ReadError>
-    ensures { Gives (λ x. (x.0, x.1.now)) result (byte_at bytes.now) }
-{
-    match bytes {
-        [] => Err(ReadError::Short),
-        [first, rest @ ..] => Ok((*first, rest)),
-    }
-}
-
-fn two_at(bytes: &[u8]) -> Result<(u16, &[u8]), ReadError>
-    ensures { Gives (λ x. (x.0, x.1.now)) result (number_at w16 bytes.now) }
-{
-    if bytes.len() < 2 {
-        return Err(ReadError::Short);
-    }
-    let (front, rest) = bytes.split_at(2);
-    Ok((u16::from_be_bytes([front[0], front[1]]), rest))
-}
-
-fn four_at(bytes: &[u8]) -> Result<(u32, &[u8]), ReadError>
-    ensures { Gives (λ x. (x.0, x.1.now)) result (number_at w32 bytes.now) }
-{
-    if bytes.len() < 4 {
-        return Err(ReadError::Short);
-    }
-    let (front, rest) = bytes.split_at(4);
-    let number = u32::from_be_bytes([front[0], front[1], front[2], front[3]]);
-    Ok((number, rest))
-}
-
-/// A byte below the limit.
-#[tactic(auto, unfolding(asl_loader::specs::Reading::below_at))]
-fn below_at(limit: u32, bytes: &[u8]) -> Result<(u8, &[u8]), ReadError>
-    ensures read { Gives (λ x. (x.0, x.1.now)) result (below_at limit bytes.now) }
-    ensures below { IfOk result (λ x. x.0 < limit) }
-{
-    let (byte, rest) = byte_at(bytes)?;
-    if u32::from(byte) < limit {
-        Ok((byte, rest))
-    } else {
-        Err(bad(bytes))
-    }
-}
-
 #[tactic(auto, unfolding(crate::specs::Reading::letters_at))]
-fn letters_at(bytes: &[u8]) -> Result<(u32, &[u8]), ReadError>
+fn letters_at(bytes: &[u8]) -> Result<(u32, &[u8]), Stop>
     ensures { Gives (λ x. (x.0, x.1.now)) result (letters_at bytes.now) }
 {
     let (letters, rest) = four_at(bytes)?;
@@ -81,7 +30,7 @@ fn letters_at(bytes: &[u8]) -> Result<(u32, &[u8]), ReadError>
 }
 
 #[tactic(auto, unfolding(crate::specs::Reading::version_at))]
-fn version_at(bytes: &[u8]) -> Result<(u16, &[u8]), ReadError>
+fn version_at(bytes: &[u8]) -> Result<(u16, &[u8]), Stop>
     ensures { Gives (λ x. (x.0, x.1.now)) result (version_at bytes.now) }
 {
     let (version, rest) = two_at(bytes)?;
@@ -94,7 +43,7 @@ fn version_at(bytes: &[u8]) -> Result<(u16, &[u8]), ReadError>
 
 /// How many threads: as many as journals of files of this version have.
 #[tactic(auto, unfolding(crate::specs::Reading::threads_at))]
-fn threads_at(version: u16, bytes: &[u8]) -> Result<(u32, &[u8]), ReadError>
+fn threads_at(version: u16, bytes: &[u8]) -> Result<(u32, &[u8]), Stop>
     ensures { Gives (λ x. (x.0, x.1.now)) result (threads_at version bytes.now) }
 {
     let (byte, rest) = byte_at(bytes)?;
@@ -108,7 +57,7 @@ fn threads_at(version: u16, bytes: &[u8]) -> Result<(u32, &[u8]), ReadError>
 
 /// How many events.
 #[tactic(auto, unfolding(crate::specs::Reading::count_at))]
-fn count_at(bytes: &[u8]) -> Result<(usize, &[u8]), ReadError>
+fn count_at(bytes: &[u8]) -> Result<(usize, &[u8]), Stop>
     ensures { Gives (λ x. (x.0, x.1.now)) result (count_at bytes.now) }
 {
     let (number, rest) = four_at(bytes)?;
@@ -120,31 +69,19 @@ fn count_at(bytes: &[u8]) -> Result<(usize, &[u8]), ReadError>
     }
 }
 
-fn value_at(bytes: &[u8]) -> Result<(Value, &[u8]), ReadError>
+fn value_at(bytes: &[u8]) -> Result<(Value, &[u8]), Stop>
     ensures { Gives (λ x. (x.0, x.1.now)) result (value_at bytes.now) }
 {
     match get_value(bytes) {
         Ok((value, count)) => Ok((value, &bytes[count..])),
-        Err(ValueFault::Short) => Err(ReadError::Short),
+        Err(ValueFault::Short) => Err(Stop::Short),
         Err(ValueFault::Bad) => Err(bad(bytes)),
-    }
-}
-
-#[tactic(auto, unfolding(asl_loader::specs::Reading::effect_at))]
-fn effect_at(bytes: &[u8]) -> Result<(Effect, &[u8]), ReadError>
-    ensures { Gives (λ x. (x.0, x.1.now)) result (effect_at bytes.now) }
-{
-    let (effect, rest) = below_at(2, bytes)?;
-    if effect == 0 {
-        Ok((Effect::Read, rest))
-    } else {
-        Ok((Effect::Write, rest))
     }
 }
 
 /// The cell and the effect of an unprotected access.
 #[tactic(auto, unfolding(crate::specs::Reading::unprotected_at))]
-fn unprotected_at(bytes: &[u8]) -> Result<(Fault, &[u8]), ReadError>
+fn unprotected_at(bytes: &[u8]) -> Result<(Fault, &[u8]), Stop>
     ensures { Gives (λ x. (x.0, x.1.now)) result (unprotected_at bytes.now) }
 {
     let (object, rest) = two_at(bytes)?;
@@ -170,7 +107,7 @@ fn plain_fault(number: u8) -> Fault
 }
 
 #[tactic(auto, unfolding(crate::specs::Reading::fault_at, crate::specs::Reading::fault_of))]
-fn fault_at(bytes: &[u8]) -> Result<(Fault, &[u8]), ReadError>
+fn fault_at(bytes: &[u8]) -> Result<(Fault, &[u8]), Stop>
     ensures { Gives (λ x. (x.0, x.1.now)) result (fault_at bytes.now) }
 {
     let (number, rest) = below_at(9, bytes)?;
@@ -181,7 +118,7 @@ fn fault_at(bytes: &[u8]) -> Result<(Fault, &[u8]), ReadError>
 }
 
 #[tactic(auto, unfolding(crate::specs::Reading::reply_at, crate::specs::Reading::reply_of))]
-fn reply_at(bytes: &[u8]) -> Result<(Reply, &[u8]), ReadError>
+fn reply_at(bytes: &[u8]) -> Result<(Reply, &[u8]), Stop>
     ensures { Gives (λ x. (x.0, x.1.now)) result (reply_at bytes.now) }
 {
     let (number, rest) = below_at(5, bytes)?;
@@ -201,7 +138,7 @@ fn reply_at(bytes: &[u8]) -> Result<(Reply, &[u8]), ReadError>
 }
 
 #[tactic(auto, unfolding(crate::specs::Reading::event_at))]
-fn event_at(threads: u32, bytes: &[u8]) -> Result<(Event, &[u8]), ReadError>
+fn event_at(threads: u32, bytes: &[u8]) -> Result<(Event, &[u8]), Stop>
     ensures { Gives (λ x. (x.0, x.1.now)) result (event_at threads bytes.now) }
 {
     let (thread, rest) = below_at(threads, bytes)?;
@@ -214,28 +151,31 @@ fn events_of(
     threads: u32,
     count: usize,
     bytes: &[u8],
-) -> Result<(Vec<Event>, &[u8]), ReadError>
-    ensures { Gives (λ x. (x.0.items, x.1.now)) result (items_at (event_at threads) count bytes.now) }
+) -> Result<(Option<Items<Event>>, &[u8]), Stop>
+    ensures { Keeps (λ x. x.0) (λ x. x.1.now) result (items_at (event_at threads) count bytes.now) }
 {
-    let mut events = Vec::new(alloc);
+    let mut events = Some(Items::new(alloc));
     let mut rest = bytes;
     for _ in 0..count {
         let (event, after) = event_at(threads, rest)?;
-        events.push(event)?;
+        events = with_item(events, event);
         rest = after;
     }
     Ok((events, rest))
 }
 
-/// The threads and the events at the front of the bytes, and the bytes after them.
+/// The threads and the events at the front of the bytes, as long as there is memory for these, and the bytes after them.
 #[tactic(auto, unfolding(crate::specs::Reading::log_at))]
-pub(crate) fn parts_at(alloc: Global, bytes: &[u8]) -> Result<((u32, Vec<Event>), &[u8]), ReadError>
-    ensures { Gives (λ x. (record { threads = x.0.0; events = x.0.1.items }, x.1.now)) result (log_at bytes.now) }
+pub(crate) fn parts_at(
+    alloc: Global,
+    bytes: &[u8],
+) -> Result<(u32, Option<Items<Event>>, &[u8]), Stop>
+    ensures { Keeps (λ x. option_map (λ events. record { threads = x.0; events = events }) x.1) (λ x. x.2.now) result (log_at bytes.now) }
 {
     let (_letters, rest) = letters_at(bytes)?;
     let (version, rest) = version_at(rest)?;
     let (threads, rest) = threads_at(version, rest)?;
     let (count, rest) = count_at(rest)?;
     let (events, rest) = events_of(alloc, threads, count, rest)?;
-    Ok(((threads, events), rest))
+    Ok((threads, events, rest))
 }

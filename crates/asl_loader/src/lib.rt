@@ -4,9 +4,10 @@
 mod fault;
 pub mod laws;
 mod loading;
+pub mod parts;
 mod reading;
 mod storing;
 
-pub use fault::LoadFault;
+pub use fault::{LoadFault, Stop};
 pub use loading::load;
 pub use storing::store;

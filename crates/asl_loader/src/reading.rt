@@ -12,6 +12,7 @@ ghost use Rattle.asl_loader.specs.Reading.{function_at, effect_at, op_at, items_
 ghost use Rattle.asl_loader.specs.Reading.{lock_at, list_at, image_at};
 
 use crate::fault::Stop;
+use crate::parts::{bad, below_at, byte_at, effect_at, four_at, two_at, with_item};
 use asl_code::{
     Base, Effect, Expr, Function, Image, Instr, Items, Lock, Op, Path, get_instr, is_version,
 };
@@ -19,58 +20,6 @@ use std::alloc::Global;
 
 /// The four letters at the front of an image, as a number.
 const MAGIC: u32 = 0x4153_4c4d;
-
-/// The field at the front of the bytes is bad.
-fn bad(bytes: &[u8]) -> Stop
-    ensures { result ≡ Stop.Bad (length bytes.now) }
-{
-    Stop::Bad(bytes.len())
-}
-
-#[tactic(auto, unfolding(crate::specs::Reading::byte_at))]
-fn byte_at(bytes: &[u8]) -> Result<(u8, &[u8]), Stop>
-    ensures { Gives (λ x. (x.0, x.1.now)) result (byte_at bytes.now) }
-{
-    match bytes {
-        [] => Err(Stop::Short),
-        [first, rest @ ..] => Ok((*first, rest)),
-    }
-}
-
-fn two_at(bytes: &[u8]) -> Result<(u16, &[u8]), Stop>
-    ensures { Gives (λ x. (x.0, x.1.now)) result (number_at w16 bytes.now) }
-{
-    if bytes.len() < 2 {
-        return Err(Stop::Short);
-    }
-    let (front, rest) = bytes.split_at(2);
-    Ok((u16::from_be_bytes([front[0], front[1]]), rest))
-}
-
-fn four_at(bytes: &[u8]) -> Result<(u32, &[u8]), Stop>
-    ensures { Gives (λ x. (x.0, x.1.now)) result (number_at w32 bytes.now) }
-{
-    if bytes.len() < 4 {
-        return Err(Stop::Short);
-    }
-    let (front, rest) = bytes.split_at(4);
-    let number = u32::from_be_bytes([front[0], front[1], front[2], front[3]]);
-    Ok((number, rest))
-}
-
-/// A byte below the limit.
-#[tactic(auto, unfolding(crate::specs::Reading::below_at))]
-fn below_at(limit: u8, bytes: &[u8]) -> Result<(u8, &[u8]), Stop>
-    ensures read { Gives (λ x. (x.0, x.1.now)) result (below_at limit bytes.now) }
-    ensures below { IfOk result (λ x. x.0 < limit) }
-{
-    let (byte, rest) = byte_at(bytes)?;
-    if byte < limit {
-        Ok((byte, rest))
-    } else {
-        Err(bad(bytes))
-    }
-}
 
 #[tactic(auto, unfolding(crate::specs::Reading::magic_at))]
 fn magic_at(bytes: &[u8]) -> Result<(u32, &[u8]), Stop>
@@ -127,18 +76,6 @@ fn function_at(bytes: &[u8]) -> Result<(Function, &[u8]), Stop>
     let (len, rest) = two_at(rest)?;
     let len = u32::from(len);
     Ok((Function { params, regs, len }, rest))
-}
-
-#[tactic(auto, unfolding(crate::specs::Reading::effect_at))]
-fn effect_at(bytes: &[u8]) -> Result<(Effect, &[u8]), Stop>
-    ensures { Gives (λ x. (x.0, x.1.now)) result (effect_at bytes.now) }
-{
-    let (effect, rest) = below_at(2, bytes)?;
-    if effect == 0 {
-        Ok((Effect::Read, rest))
-    } else {
-        Ok((Effect::Write, rest))
-    }
 }
 
 #[tactic(auto, unfolding(crate::specs::Reading::op_at))]
@@ -212,17 +149,6 @@ fn lock_at(bytes: &[u8]) -> Result<(Lock, &[u8]), Stop>
     let (kind, rest) = below_at(4, bytes)?;
     let (effect, rest) = effect_at(rest)?;
     lock_of(kind, effect, rest)
-}
-
-/// The items with one more, as long as there is memory for all.
-fn with_item<T: Drop>(kept: Option<Items<T>>, item: T) -> Option<Items<T>>
-    ensures { (front : List T) → IsKept kept front → IsKept result (front ++ item ∷ []) }
-{
-    let mut items = kept?;
-    match items.push(item) {
-        Ok(()) => Some(items),
-        Err(_refused) => None,
-    }
 }
 
 fn classes_of(alloc: Global, count: u16, bytes: &[u8]) -> Result<(Option<Items<u16>>, &[u8]), Stop>

@@ -3,7 +3,7 @@ use Rattle.asl_journal.proofs.Loads.{rest_within, left_within}
 use Rattle.asl_journal.proofs.loading.whole_of.Goals as goal
 
 pub overflow_sub-result : goal.overflow_sub-result
-overflow_sub-result c = rest_within c.args.bytes.now c.in-Ok._journal c.in-Ok.rest.now (λ i. omega (arith, c.type_inv.bytes i)) c.in-Ok.ensures
+overflow_sub-result c = rest_within c.args.bytes.now c.in-Ok.ensures.0 c.in-Ok.rest.now (λ i. omega (arith, c.type_inv.bytes i)) c.in-Ok.ensures.2
 
 pub overflow_sub-bytes : goal.overflow_sub-bytes
 overflow_sub-bytes c =

@@ -1,0 +1,89 @@
+//! Readers of the parts that images and journals share. Each answers what stands at the front of the bytes and the bytes behind
+//! it, or what stopped it. Where memory is refused the reading goes on and keeps nothing (`with_item`), so that want of memory
+//! hides nothing that is wrong with the bytes.
+
+ghost use Rattle.std.specs.Prelude.{◌≡◌, ◌<◌, List, [], ◌∷◌, ◌++◌, length, IfOk};
+ghost use Rattle.std.specs.Int.{w16, w32};
+ghost use Rattle.asl_loader.specs.Reading.{Gives, IsKept, byte_at, number_at, below_at, effect_at};
+
+use crate::fault::Stop;
+use asl_code::{Effect, Items};
+
+/// The field at the front of the bytes is bad.
+pub fn bad(bytes: &[u8]) -> Stop
+    ensures { result ≡ Stop.Bad (length bytes.now) }
+{
+    Stop::Bad(bytes.len())
+}
+
+/// A byte.
+#[tactic(auto, unfolding(crate::specs::Reading::byte_at))]
+pub fn byte_at(bytes: &[u8]) -> Result<(u8, &[u8]), Stop>
+    ensures { Gives (λ x. (x.0, x.1.now)) result (byte_at bytes.now) }
+{
+    match bytes {
+        [] => Err(Stop::Short),
+        [first, rest @ ..] => Ok((*first, rest)),
+    }
+}
+
+/// A number of two bytes, the high one first.
+pub fn two_at(bytes: &[u8]) -> Result<(u16, &[u8]), Stop>
+    ensures { Gives (λ x. (x.0, x.1.now)) result (number_at w16 bytes.now) }
+{
+    if bytes.len() < 2 {
+        return Err(Stop::Short);
+    }
+    let (front, rest) = bytes.split_at(2);
+    Ok((u16::from_be_bytes([front[0], front[1]]), rest))
+}
+
+/// A number of four bytes, the highest first.
+pub fn four_at(bytes: &[u8]) -> Result<(u32, &[u8]), Stop>
+    ensures { Gives (λ x. (x.0, x.1.now)) result (number_at w32 bytes.now) }
+{
+    if bytes.len() < 4 {
+        return Err(Stop::Short);
+    }
+    let (front, rest) = bytes.split_at(4);
+    let number = u32::from_be_bytes([front[0], front[1], front[2], front[3]]);
+    Ok((number, rest))
+}
+
+/// A byte below the limit; another is bad.
+#[tactic(auto, unfolding(crate::specs::Reading::below_at))]
+pub fn below_at(limit: u32, bytes: &[u8]) -> Result<(u8, &[u8]), Stop>
+    ensures read { Gives (λ x. (x.0, x.1.now)) result (below_at limit bytes.now) }
+    ensures below { IfOk result (λ x. x.0 < limit) }
+{
+    let (byte, rest) = byte_at(bytes)?;
+    if u32::from(byte) < limit {
+        Ok((byte, rest))
+    } else {
+        Err(bad(bytes))
+    }
+}
+
+/// An effect: 0 reads, 1 writes.
+#[tactic(auto, unfolding(crate::specs::Reading::effect_at))]
+pub fn effect_at(bytes: &[u8]) -> Result<(Effect, &[u8]), Stop>
+    ensures { Gives (λ x. (x.0, x.1.now)) result (effect_at bytes.now) }
+{
+    let (effect, rest) = below_at(2, bytes)?;
+    if effect == 0 {
+        Ok((Effect::Read, rest))
+    } else {
+        Ok((Effect::Write, rest))
+    }
+}
+
+/// The items with one more, as long as there is memory for all.
+pub fn with_item<T: Drop>(kept: Option<Items<T>>, item: T) -> Option<Items<T>>
+    ensures { (front : List T) → IsKept kept front → IsKept result (front ++ item ∷ []) }
+{
+    let mut items = kept?;
+    match items.push(item) {
+        Ok(()) => Some(items),
+        Err(_refused) => None,
+    }
+}
