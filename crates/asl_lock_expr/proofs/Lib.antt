@@ -7,3 +7,4 @@ pub mod Storings
 pub mod Leaves
 pub mod Walks
 pub mod Sets
+pub mod Partings

@@ -2,6 +2,7 @@ pub mod Expression
 pub mod ClassOf
 pub mod Links
 pub mod LinksView
+pub mod Partings
 pub mod Stores
 pub mod Order
 pub mod Agrees

@@ -6,6 +6,7 @@ ghost use Rattle.asl_code.specs.declared.value.Effect.{Effect};
 ghost use Rattle.asl_code.specs.declared.value.Effect.TheVariants.{Read};
 ghost use Rattle.asl_code.specs.declared.instr.Instr.{Instr};
 ghost use Rattle.asl_code.specs.declared.instr.Instr.TheVariants.{Call};
+ghost use Rattle.asl_code.specs.declared.lock.Base.{Base as AnyBase};
 ghost use Rattle.asl_code.specs.declared.lock.Base.TheVariants.{Reg};
 ghost use Rattle.asl_code.specs.declared.lock.Expr.{Expr};
 ghost use Rattle.asl_code.specs.declared.lock.Lock.{Lock};
@@ -17,6 +18,7 @@ ghost use Rattle.asl_points_to.specs.Classes.{Classed};
 ghost use Rattle.asl_lock_expr.specs.Expression.{Seen, pointed, base_cell, path_cell, cell_denoted};
 ghost use Rattle.asl_lock_expr.specs.ClassOf.{path_class, class_of, MayStore};
 ghost use Rattle.asl_lock_expr.specs.Links.{View, IsOne, IsSettled, on, hits, begins_with_star, goes_through, link, settle, prefixes, dereferenced};
+ghost use Rattle.asl_lock_expr.specs.Partings.{PartsAtStar};
 ghost use Rattle.asl_lock_expr.specs.Agrees.{HeapAgrees, IsWrite};
 ghost use Rattle.asl_lock_expr.specs.Order.{AreInOrder};
 
@@ -53,6 +55,20 @@ pub fn stores_elsewhere_move_no_path()
     ensures prefixes { (h new : Seen) (c0 : Cell) (v : Value) → IsWrite h new c0 v → (regs : List Value) (e : Expr)
         → ((d : Expr) → IsOne (prefixes e.base [] e.path) (on d.base d.path Read) → cell_denoted h regs d ≢ Some c0)
         → path_cell new e.path (base_cell regs e.base) ≡ cell_denoted h regs e }
+{}
+
+/// Links ask at each `*` of a path, that is, wherever the path parts into a front, a `*` and a rest: a store hits it if the front
+/// is of the class that is stored to, and goes on with the rest from the stored register; a call goes through it if the front
+/// is of a class that is stored to; and the front is read when the path is evaluated.
+pub fn links_ask_at_each_star()
+    ensures hits { (c : Classed) (hit : Option ℕ) (b : ℕ) (effect : Effect) (class : Option ℕ) (ops : List Op) (l : Lock)
+        → IsOne (hits c hit b effect class ops) l
+        ↔ PartsAtStar ops (λ front rest. (x : ℕ) × (path_class c front class ≡ Some x) × (hit ≡ Some x) × (l ≡ on (Reg b) rest effect)) }
+    ensures through { (c : Classed) (stores : ℕ → Bool) (class : Option ℕ) (ops : List Op)
+        → (goes_through c stores class ops ≡ true)
+        ↔ PartsAtStar ops (λ front rest. (x : ℕ) × (path_class c front class ≡ Some x) × (stores x ≡ true)) }
+    ensures prefixes { (base : AnyBase) (ops : List Op) (effect : Effect) (l : Lock)
+        → IsOne (dereferenced (on base ops effect)) l ↔ PartsAtStar ops (λ front rest. l ≡ on base front Read) }
 {}
 
 /// What is linked is no longer than it may be, and has a class.
