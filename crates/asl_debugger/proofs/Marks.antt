@@ -12,7 +12,16 @@ use Rattle.asl_debugger.specs.declared.fault.DebugFault.{DebugFault}
 use Rattle.asl_debugger.specs.declared.fault.DebugFault.TheVariants.{AtEnd, AtStart, NoSuchStep, Differs, OutOfMemory, BadCount}
 use Rattle.asl_debugger.specs.Opening.{IsOpenFault}
 use Rattle.asl_debugger.specs.Session.{machine_before}
-use Rattle.asl_debugger.specs.Kept.{AreCheckpoints, AreSoFar, IsKept}
+use Rattle.asl_debugger.specs.Kept.{AreCheckpoints, IsKept}
+
+-- the checkpoints of the events up to here, which are of the program's run: some stand at 0, the spacing, twice the
+-- spacing and so on, the last one here
+pub record AreSoFar (image : Image) (log : Log) (spacing here : ℕ) (checkpoints : List Configuration) : Type 0 where
+  pub counted : IsThreadCount image log.threads
+  pub each : AreCheckpoints image log spacing checkpoints
+  pub last : here + spacing ≡ length checkpoints * spacing
+  pub within : here ≤ length log.events
+  pub goes : GoesBy image (start_of image log.threads) (take here log.events)
 
 some : Configuration → Option Configuration
 some m = Some m

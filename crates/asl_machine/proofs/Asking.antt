@@ -22,11 +22,16 @@ use Rattle.asl_lock_forest.proofs.Grantable.{can_grant-tells}
 use Rattle.asl_machine.specs.State.{Object, class_of}
 use Rattle.asl_machine.specs.Access.{AreOfClasses}
 use Rattle.asl_machine.specs.Request.{LockOfClass, IsAsk, asks_of, all_asks, cell_asks, leaf_asks, joined_with, joined_all, request_of, effect_of, heap_of}
-use Rattle.asl_machine.specs.Asking.{leaf_of, node_of, asks_at, asks_for, AreFree, IsHeldUp}
+use Rattle.asl_machine.specs.Asking.{leaf_of, node_of, asks_at, AreFree, IsHeldUp}
 use Rattle.asl_machine.proofs.RequestLaws.{asked-joined_with, request_is_least}
 use Rattle.asl_machine.proofs.Asks.{asks_among}
 use Rattle.asl_machine.proofs.Joins.{joined_all-append}
 use Rattle.std.proofs.Math.Seq.{drop-cons}
+
+-- the asks of a lock that has this node, or none
+abbrev pub asks_for : Effect → Option Node → Request
+asks_for effect None = []
+asks_for effect (Some node) = asks_at effect node
 
 -- what a lock asks is what a lock on its node asks
 for_class : (cell : Cell) (effect : Effect) (class : Option ℕ) → option_map_or (leaf_asks cell effect) class [] ≡ asks_for effect (option_map (λ c. Leaf cell c) class)

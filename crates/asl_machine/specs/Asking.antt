@@ -31,11 +31,6 @@ asks_at effect Root = (Root, covering_mode effect) ∷ []
 asks_at effect (Class class) = (Root, upper_mode effect) ∷ (Class class, covering_mode effect) ∷ []
 asks_at effect (Leaf cell class) = leaf_asks cell effect class
 
--- the asks of a lock that has this node, or none
-abbrev pub asks_for : Effect → Option Node → Request
-asks_for effect None = []
-asks_for effect (Some node) = asks_at effect node
-
 -- each ask goes with what others hold
 abbrev pub AreFree : Holding → ℕ → Request → Type 0
 AreFree h t [] = Unit {0}

@@ -1,5 +1,5 @@
 use Rattle.std.proofs.Common.{length, ◌-◌}
-use Rattle.asl_debugger.specs.Kept.{AreSoFar}
+use Rattle.asl_debugger.proofs.Marks.{AreSoFar}
 use Rattle.asl_debugger.proofs.checkpoints.checkpoints_of.Given as goal
 
 abbrev pub invariant-loop-here : goal.invariant-loop-here
