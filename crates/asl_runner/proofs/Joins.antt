@@ -7,7 +7,7 @@ use Rattle.asl_turns.specs.Turn.{Word, Turn}
 use Rattle.asl_journal.specs.declared.event.Receipt.{Receipt}
 use Rattle.asl_runner.specs.declared.worker.Work.{Work}
 use Rattle.asl_runner.specs.Working.{AllTold, AreJoined, HasLeft}
-use Rattle.asl_runner.specs.Starting.{HaveWorkedFrom}
+use Rattle.asl_runner.specs.Starting.{IsOneRefused}
 
 -- a seat that has taken what another has
 abbrev pub together : Turn → Turn → Turn
@@ -40,6 +40,10 @@ one_joined word count workers seat other all mine old left =
       why = why_more count workers seat other all mine old.why stopped.why;
     }
 
+-- each of the workers from a number on has left what a worker leaves
+abbrev pub HaveWorkedFrom : Word → ℕ → ℕ → ℕ → List Work → Type 0
+HaveWorkedFrom word count workers first works = (k : ℕ) (w : Work) → slice_get works k ≡ Some w → HasLeft word count workers (first + k) w.seat w.receipts.items w.refused
+
 -- the first of the works, and those behind it
 pub first_worked : (word : Word) (count workers first : ℕ) (work : Work) (rest all : List Work) → all ≡ work ∷ rest → HaveWorkedFrom word count workers first all
     → HasLeft word count workers first work.seat work.receipts.items work.refused
@@ -50,6 +54,25 @@ pub rest_worked : (word : Word) (count workers first next : ℕ) (work : Work) (
 rest_worked word count workers first next work rest all is more h k w at =
     let number : next + k ≡ first + suc k = omega (arith, more) in
     rw number (h (suc k) w (ap (λ (ws : List Work). slice_get ws (suc k)) is ∙ at))
+
+-- the rest are the works from a number on
+abbrev pub AreFrom : ℕ → List Work → List Work → Type 0
+AreFrom first works rest = (k : ℕ) (w : Work) → slice_get rest k ≡ Some w → slice_get works (first + k) ≡ Some w
+
+-- the first of the rest, and those behind it
+pub first_from : (first : ℕ) (works : List Work) (work : Work) (rest all : List Work) → all ≡ work ∷ rest → AreFrom first works all → slice_get works first ≡ Some work
+first_from first works work rest all is h = ap (slice_get works) (sym (add-zero first)) ∙ h 0 work (ap (λ (ws : List Work). slice_get ws 0) is)
+
+pub rest_from : (first next : ℕ) (works : List Work) (work : Work) (rest all : List Work) → all ≡ work ∷ rest → next ≡ first + 1 → AreFrom first works all → AreFrom next works rest
+rest_from first next works work rest all is more h k w at =
+    let number : next + k ≡ first + suc k = omega (arith, more) in
+    ap (slice_get works) number ∙ h (suc k) w (ap (λ (ws : List Work). slice_get ws (suc k)) is ∙ at)
+
+-- where a refusal is told of those that have been joined and of one more, one of the works tells it
+pub refused_more : (works : List Work) (first : ℕ) (work : Work) (refused : Bool) → slice_get works first ≡ Some work → (refused ≡ true → IsOneRefused works)
+    → (refused || work.refused) ≡ true → IsOneRefused works
+refused_more works first work false at old is = (first, work, at, is)
+refused_more works first work true at old is = old refl
 
 -- one more worker is joined, as the loop has it
 pub work_joined : (word : Word) (count workers : ℕ) (seat now : Turn) (old new : List (Vec Receipt Global)) (work : Work) (refused : Bool) → now ≡ together seat work.seat → new ≡ old ++ work.receipts ∷ []

@@ -60,6 +60,10 @@ pub record IsHistory (image : Image) (count workers : ℕ) (events : List Event)
 abbrev pub AreTrue : State → List Receipt → Type 0
 AreTrue s receipts = (n : ℕ) (r : Receipt) → slice_get receipts n ≡ Some r → r.ended ≡ true → has_ended s r.thread ≡ true
 
+-- what each worker's receipts say of threads that have ended is true
+abbrev pub AreAllTrue : State → List (List Receipt) → Type 0
+AreAllTrue s receipts = (worker : ℕ) (mine : List Receipt) → slice_get receipts worker ≡ Some mine → AreTrue s mine
+
 -- each thread has ended
 abbrev pub HaveEnded : State → ℕ → Type 0
 HaveEnded s count = (t : ℕ) → t < count → has_ended s t ≡ true

@@ -1,5 +1,5 @@
 -- Machinery of the proofs, not of the promise: the workers' seats, and what workers leave (src/starting.rt, src/gather.rt).
-use Rattle.std.specs.Prelude.{◌≡◌, ◌+◌, ℕ, List, [], Some, slice_get}
+use Rattle.std.specs.Prelude.{◌≡◌, ℕ, true, List, [], Some, slice_get}
 use Rattle.asl_turns.specs.Turn.{Word, Turn}
 use Rattle.asl_runner.specs.declared.worker.Work.{Work}
 use Rattle.asl_runner.specs.Working.{HasLeft}
@@ -16,6 +16,6 @@ AreSeats word seats = (k : ℕ) (seat : Turn) → slice_get seats k ≡ Some sea
 abbrev pub HaveWorked : Word → ℕ → ℕ → List Work → Type 0
 HaveWorked word count workers works = (k : ℕ) (w : Work) → slice_get works k ≡ Some w → HasLeft word count workers k w.seat w.receipts.items w.refused
 
--- the same of those from a number on
-abbrev pub HaveWorkedFrom : Word → ℕ → ℕ → ℕ → List Work → Type 0
-HaveWorkedFrom word count workers first works = (k : ℕ) (w : Work) → slice_get works k ≡ Some w → HasLeft word count workers (first + k) w.seat w.receipts.items w.refused
+-- to one of the workers a growth was refused
+abbrev pub IsOneRefused : List Work → Type 0
+IsOneRefused works = (k : ℕ) × (w : Work) × (slice_get works k ≡ Some w) × (w.refused ≡ true)

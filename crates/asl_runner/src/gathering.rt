@@ -1,7 +1,7 @@
 //! The seats before the workers start, and what they have left when all have stopped.
-ghost use Rattle.std.specs.Prelude.{◌≡◌, ◌<◌, ◌≤◌, ◌+◌, ◌-◌, ℕ, false, [], map, OnOk, IfOk, IfErr, vec_len};
+ghost use Rattle.std.specs.Prelude.{◌≡◌, ◌<◌, ◌≤◌, ◌+◌, ◌-◌, ℕ, true, false, [], map, OnOk, IfOk, IfErr, vec_len};
 ghost use Rattle.asl_runner.specs.Working.{AreJoined};
-ghost use Rattle.asl_runner.specs.Starting.{AreSeats, HaveWorked};
+ghost use Rattle.asl_runner.specs.Starting.{AreSeats, HaveWorked, IsOneRefused};
 
 use crate::fault::RunFault;
 use crate::worker::Work;
@@ -57,6 +57,7 @@ pub fn gather(
     ensures seat { OnOk result ((seat.new.of ≡ turns.now) × (seat.new.left + seat.new.spent ≡ 64)) }
     ensures joined { IfOk result (λ gathered. gathered.refused ≡ false
         → AreJoined count (vec_len works) seat.new (map (λ mine. mine.items) gathered.receipts.items)) }
+    ensures refused { IfOk result (λ gathered. gathered.refused ≡ true → IsOneRefused works.items) }
     ensures other { IfErr result (λ fault. fault ≡ RunFault.OutOfMemory) }
 {
     let mut receipts = Vec::with_capacity(alloc, works.len())?;

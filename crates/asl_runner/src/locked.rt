@@ -1,7 +1,8 @@
 //! The machine and its journal under the lock.
-ghost use Rattle.std.specs.Prelude.{◌≡◌, ◌≢◌, ◌↔◌, ◌<◌, ◌++◌, ◌∷◌, [], length, IfOk, IsErrOf, OnErr, Err};
+ghost use Rattle.std.specs.Prelude.{◌≡◌, ◌≢◌, ◌↔◌, ◌⊎◌, ◌<◌, ◌++◌, ◌∷◌, [], length, IfOk, IfErr, IsErrOf, OnErr, Err};
+ghost use Rattle.asl_machine.specs.Sound.{MayWantMemory};
 ghost use Rattle.asl_journal.specs.Journal.{IsJournal, most_events, state_at};
-ghost use Rattle.asl_journal.specs.Recorded.{IsUnchanged, event_of};
+ghost use Rattle.asl_journal.specs.Recorded.{IsUnchanged, event_of, last_state};
 
 use asl_journal::{Journal, JournalFault, Journaled, Receipt};
 use asl_machine::Machine;
@@ -55,6 +56,9 @@ impl<'p, J: Named> Locked<'p, J> {
         ensures event { IfOk result (λ receipt. self.new.journaled.events ≡ self.old.journaled.events ++ event_of receipt ∷ []) }
         ensures full { IsErrOf result JournalFault.JournalFull ↔ (length self.old.journaled.events ≡ most_events) }
         ensures bad { result ≢ Err JournalFault.BadThread }
+        ensures memory { IsErrOf result JournalFault.OutOfMemory
+            → (self.old.journaled.spare ≡ 0) ⊎ MayWantMemory J.image (last_state self.old.journaled) t }
+        ensures other { IfErr result (λ fault. (fault ≡ JournalFault.JournalFull) ⊎ (fault ≡ JournalFault.OutOfMemory)) }
         ensures err { OnErr result (IsUnchanged self.old.journaled self.new.journaled) }
     {
         self.journaled.step(alloc, u32::from(t))

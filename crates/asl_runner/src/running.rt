@@ -1,7 +1,7 @@
 //! The run: a machine of the program under a lock, and workers that step it.
 ghost use Rattle.std.specs.Prelude.{◌≡◌, ◌<◌, ◌≤◌, ◌⊎◌, ℕ, map, length, vec_len, IfOk, IfErr, OnOk};
 ghost use Rattle.asl_journal.specs.Journal.{IsCount, IsJournal, most_events, state_at};
-ghost use Rattle.asl_runner.specs.History.{HaveEnded, IsAsked, IsHistory};
+ghost use Rattle.asl_runner.specs.History.{AreAllTrue, HaveEnded, IsAsked, IsHistory};
 ghost use Rattle.asl_runner.specs.Refused.{IsRefusal};
 ghost use Rattle.asl_runner.specs.Ending.{IsRun};
 
@@ -28,7 +28,8 @@ const MOST_EVENTS: u64 = 16_777_216;
 
 /// Runs n threads of the program by 1 to 8 workers, each a thread of the system. Worker j steps the threads t with
 /// t mod workers = j, as long as they have not ended, one ticket for each step, until all have ended or `limit` tickets are
-/// drawn. The journal is one that a single thread could have made; `docs/WORKERS.md` says more.
+/// drawn. The journal is one that a single thread could have made, and each thread of which a receipt says that it has ended
+/// has ended; `docs/WORKERS.md` says more.
 ///
 /// # Errors
 /// `BadCount` where n is not 1 to as many as the program's version sets, workers not 1 to 8, or limit above 16,777,216. `Spawn` and `OutOfMemory` where a
@@ -46,6 +47,7 @@ pub fn run<'p, R: Threads + Wait + Sync, G: Gate>(
     ensures asked { OnOk result (IsAsked program.now n workers limit) }
     ensures threads { IfOk result (λ report. report.journal.threads ≡ n) }
     ensures history { IfOk result (λ report. IsHistory program.now n workers report.journal.events (map (λ mine. mine.items) report.receipts.items)) }
+    ensures told { IfOk result (λ report. AreAllTrue (state_at program.now n report.journal.events) (map (λ mine. mine.items) report.receipts.items)) }
     ensures machine { IfOk result (λ report. report.machine ≡ record { image = program.now; state = state_at program.now n report.journal.events }) }
     ensures tickets { IfOk result (λ report. length report.journal.events ≡ report.tickets) }
     ensures limit { IfOk result (λ report. report.tickets ≤ limit) }

@@ -1,7 +1,7 @@
 use Rattle.std.proofs.Common.{rules, ◌≡◌, ◌+◌, length, vec_len, arith, ap, ◌∙◌}
 use Rattle.std.specs.Vec.Iter.{into_iter_items}
 use Rattle.asl_turns.specs.Turn.{Turn}
-use Rattle.asl_runner.proofs.Joins.{work_joined, first_worked, rest_worked}
+use Rattle.asl_runner.proofs.Joins.{first_from, first_worked, refused_more, rest_from, rest_worked, work_joined}
 use Rattle.asl_runner.proofs.gathering.gather.Goals as goal
 
 pub loop-work-preserved : goal.loop-work-preserved
@@ -27,4 +27,6 @@ loop-work-preserved c =
       omega (arith, left, spent, one, steps.1, inv.5),
       rest_worked word c.args.count workers done (vec_len c.push_reserved.new.self) c.in-Some.work rest all steps.0 more inv.6,
       work_joined word c.args.count workers c.loop-work.seat c.join.new.seat c.loop-work.receipts.items c.push_reserved.new.self.items c.in-Some.work c.loop-work.refused c.join.ensures c.push_reserved.ensures.items (rw number mine) inv.7,
+      rest_from done (vec_len c.push_reserved.new.self) c.args.works.items c.in-Some.work rest all steps.0 more inv.8,
+      refused_more c.args.works.items done c.in-Some.work c.loop-work.refused (first_from done c.args.works.items c.in-Some.work rest all steps.0 inv.8) inv.9,
     )

@@ -15,6 +15,14 @@ returns-in-None-clause-history g c =
       dealt = record { count = ran.dealers; each = λ worker mine at. (right worker mine at).0 };
     }
 
+pub returns-in-None-clause-told : goal.returns-in-None-clause-told
+returns-in-None-clause-told g c =
+    let ran = c.in-Ok-run_as.ensures.run in
+    let report = c.in-Ok-run_as.report in
+    let right = are_right c.args.workers report ran.dealers c.in-None.ensures in
+    let state = ap (λ (m : Configuration). m.state) ran.machine in
+    rw (← c.in-Ok.ensures.image, ← state) (λ worker mine at. (right worker mine at).1)
+
 pub returns-in-None-clause-tickets : goal.returns-in-None-clause-tickets
 returns-in-None-clause-tickets g c =
     let ran = c.in-Ok-run_as.ensures.run in
