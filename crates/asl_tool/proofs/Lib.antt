@@ -1,4 +1,5 @@
 mod Writing
+mod Parting
 mod Texts
 mod Lines
 mod Schedules

@@ -50,7 +50,7 @@ IsPartFault first f = ⊥
 -- what each refusal of the journal's part says of it (docs/JOURNAL.md, Run files)
 abbrev pub IsLogFault : List ℕ → FileFault → Type 0
 IsLogFault second (fault.Journal cause) = log_faults.IsBytesFault second cause × (cause ≢ journal.OutOfMemory)
-IsLogFault second fault.OutOfMemory = Unit {0}
+IsLogFault second fault.OutOfMemory = log_faults.IsBytesFault second journal.OutOfMemory
 IsLogFault second f = ⊥
 
 -- the image's part is refused (docs/JOURNAL.md, Run files)

@@ -1,5 +1,5 @@
 //! Reading the whole of the input, and writing the whole of the output.
-ghost use Rattle.std.specs.Prelude.{◌≡◌, ◌<◌, ◌≤◌, length, [], take, IfOk, IfErr, IfSome, OnOk, OnErr};
+ghost use Rattle.std.specs.Prelude.{◌≡◌, ◌<◌, ◌≤◌, ◌++◌, ℕ, List, length, [], take, IfOk, IfErr, IfSome, OnOk, OnErr};
 ghost use Rattle.std.specs.Io.KnownBytes.{Appends};
 ghost use Rattle.asl_tool.specs.Streams.{AppendsPart, IsReadFault};
 
@@ -29,26 +29,39 @@ pub enum ReadFault {
 #[error("Write")]
 pub struct WriteFault;
 
-/// Reads to the end of the input.
+/// Reads to the end of the input. Where memory is refused it is read on and not kept, so that want of memory hides neither an
+/// input that is too long nor a reader that fails.
 pub fn read_whole<R: Read>(alloc: Global, reader: &mut R) -> Result<Vec<u8>, ReadFault>
     ensures whole { IfOk result (λ all. IfSome (R.remaining reader.old) (λ bytes. all.items ≡ bytes)) }
     ensures short { IfOk result (λ all. length all.items ≤ MOST_INPUT) }
     ensures fault { IfErr result (IsReadFault (R.remaining reader.old)) }
 {
-    let mut all = Vec::new(alloc);
+    let mut kept = Some(Vec::new(alloc));
+    let mut read = 0;
     let mut buffer = [0u8; 4096];
     for _ in 0..u64::MAX {
         let count = reader.read(&mut buffer).map_err(|_| ReadFault::Read)?;
         if count == 0 {
-            return Ok(all);
+            return kept.ok_or(ReadFault::OutOfMemory);
         }
-        if count > MOST_INPUT - all.len() {
+        if count > MOST_INPUT - read {
             return Err(ReadFault::TooLong);
         }
-        all.extend_from_slice(&buffer[..count])
-            .map_err(|_| ReadFault::OutOfMemory)?;
+        read += count;
+        kept = with_bytes(kept, &buffer[..count]);
     }
     Err(ReadFault::TooLong)
+}
+
+/// What was kept with the bytes behind it, as long as there is memory for all.
+fn with_bytes(kept: Option<Vec<u8>>, bytes: &[u8]) -> Option<Vec<u8>>
+    ensures { (front : List ℕ) → IfSome kept (λ all. all.items ≡ front) → IfSome result (λ all. all.items ≡ front ++ bytes.now) }
+{
+    let mut all = kept?;
+    match all.extend_from_slice(bytes) {
+        Ok(()) => Some(all),
+        Err(_refused) => None,
+    }
 }
 
 /// Writes all of `bytes`; after a fault the writer holds a first part of them.

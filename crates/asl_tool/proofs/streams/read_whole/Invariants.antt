@@ -1,11 +1,13 @@
-use Rattle.std.proofs.Common.{◌≡◌, ◌≤◌, List, ℕ, ◌++◌, length, Some}
+use Rattle.std.proofs.Common.{◌≡◌, ◌≤◌, List, ℕ, Some, IfSome}
+use Rattle.asl_tool.proofs.Parting.{Sized, Parted}
 use Rattle.asl_tool.proofs.streams.read_whole.Given as goal
 
--- what was read, and then what the reader has left, is what it had at first
+-- what was read, and then what the reader has left, is what it had at first; it is kept, as long as there is memory for it
 abbrev pub invariant-loop : goal.invariant-loop
 invariant-loop g l = record {
-  grows : l.counter ≤ length l.all.items;
-  short : length l.all.items ≤ 268435456;
+  grows : l.counter ≤ l.read;
+  short : l.read ≤ 268435456;
+  sized : Sized l.read (λ front. IfSome l.kept (λ all. all.items ≡ front));
   told : (bytes : List ℕ) → g.R.Read.remaining l.initial.reader ≡ Some bytes
-      → (rest : List ℕ) × (g.R.Read.remaining l.reader ≡ Some rest) × (l.all.items ++ rest ≡ bytes);
+      → Parted bytes (g.R.Read.remaining l.reader) l.read (λ front. IfSome l.kept (λ all. all.items ≡ front));
 }
