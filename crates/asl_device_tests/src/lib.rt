@@ -7,6 +7,8 @@ mod commands;
 #[cfg(test)]
 mod devices;
 #[cfg(test)]
+mod outcome;
+#[cfg(test)]
 mod reading;
 #[cfg(test)]
 mod workers;

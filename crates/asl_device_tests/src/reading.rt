@@ -1,40 +1,9 @@
 //! Readers under each command.
 use crate::commands::{COMMANDS, Command, call, split};
 use crate::devices::{Endless, Feed, Trouble};
+use crate::outcome::Outcome;
 use std::alloc::Global;
 use std::io::Read;
-
-/// The status, what was written and what was said.
-#[derive(Drop)]
-struct Outcome {
-    status: Option<u8>,
-    output: Vec<u8>,
-    errors: Vec<u8>,
-}
-
-impl Outcome {
-    /// Whether nothing was written, and this was said.
-    fn is_refused(&self, said: &[u8]) -> bool {
-        self.status == Some(1) && self.output.is_empty() && self.errors.as_slice() == said
-    }
-
-    /// Whether all was written.
-    fn is_done(&self, output: &[u8]) -> bool {
-        self.status == Some(0) && self.output.as_slice() == output && self.errors.is_empty()
-    }
-
-    /// Whether a read is named that went wrong; nothing where none did, and the command is done.
-    fn names_read(&self, went_wrong: bool, output: &[u8]) -> Option<bool> {
-        if went_wrong {
-            return Some(self.is_refused(b"asl: Read\n"));
-        }
-        if self.is_done(output) {
-            None
-        } else {
-            Some(false)
-        }
-    }
-}
 
 /// What the words come to over a reader.
 fn outcome_of<R: Read>(alloc: Global, words: &[String], reader: &mut R) -> Outcome {

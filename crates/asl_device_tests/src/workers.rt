@@ -1,6 +1,7 @@
 //! Readers and writers under `run`, with one worker, whose run is the same each time.
 use crate::commands::split;
 use crate::devices::{Endless, Feed, Sink, Trouble};
+use crate::outcome::Outcome;
 use asl_tool::tool;
 use std::alloc::{AllocError, Global};
 use std::sync::Wait;
@@ -13,40 +14,41 @@ const COUNTER: &[u8] =
 
 const RUN: &[u8] = b"0 0 ran\n1 0 ran\n2 0 ran\n3 0 ran\n4 0 ran\n5 0 ran\n6 0 ran\n7 0 ran\n";
 
-/// The reader's call that goes wrong, the writer's, and how; 0 for none.
+/// Which device goes wrong.
 #[derive(Clone, Copy)]
-struct Wrong {
-    reading_at: u32,
-    writing_at: u32,
+enum Side {
+    Reader,
+    Writer,
+}
+
+/// How a device goes wrong: which, how, and how many bytes a call moves at most.
+#[derive(Clone, Copy)]
+struct Manner {
+    side: Side,
     kind: Trouble,
+    most: usize,
 }
 
-/// What a run comes to over devices that move so many bytes a call.
-#[derive(Drop)]
-struct Outcome {
-    status: u8,
-    reads: u32,
-    writes: u32,
-    written: Vec<u8>,
-    said: Vec<u8>,
-}
-
-/// Runs the counter over devices that move so many bytes a call, and go wrong so.
+/// What the counter comes to over devices of which one goes wrong at this call, and how often that one was called.
 fn run<R: Threads + Wait + Sync>(
     rt: &R,
     alloc: Global,
-    most: usize,
-    wrong: Wrong,
-) -> Result<Outcome, AllocError> {
+    manner: Manner,
+    at: u32,
+) -> Result<(Outcome, u32), AllocError> {
     let words = split(alloc, LINE)?;
+    let (reading_at, writing_at) = match manner.side {
+        Side::Reader => (at, 0),
+        Side::Writer => (0, at),
+    };
     let mut reader = Feed {
         bytes: COUNTER,
-        most,
-        wrong_at: wrong.reading_at,
-        kind: wrong.kind,
+        most: manner.most,
+        wrong_at: reading_at,
+        kind: manner.kind,
         calls: 0,
     };
-    let mut output = Sink::new(alloc, most, wrong.writing_at, wrong.kind);
+    let mut output = Sink::new(alloc, manner.most, writing_at, manner.kind);
     let mut errors = Vec::new(alloc);
     let status = tool(
         rt,
@@ -56,102 +58,43 @@ fn run<R: Threads + Wait + Sync>(
         &mut output,
         &mut errors,
     );
-    Ok(Outcome {
-        status,
-        reads: reader.calls,
-        writes: output.calls,
-        written: output.held,
-        said: errors,
-    })
-}
-
-/// Whether a run is whole.
-fn is_whole(outcome: &Outcome) -> bool {
-    outcome.status == 0 && outcome.written.as_slice() == RUN && outcome.said.is_empty()
-}
-
-/// Whether a run ends with this line, and with no more than a first part written.
-fn is_named(outcome: &Outcome, line: &[u8]) -> bool {
-    let less = outcome.written.len() < RUN.len() && RUN.starts_with(outcome.written.as_slice());
-    outcome.status == 1 && outcome.said.as_slice() == line && less
-}
-
-/// Whether a run's read that goes wrong at this call is named, with nothing written; nothing where there is no such call, and
-/// the run is whole.
-fn names_read<R: Threads + Wait + Sync>(
-    rt: &R,
-    alloc: Global,
-    most: usize,
-    at: u32,
-    kind: Trouble,
-) -> Option<bool> {
-    let wrong = Wrong {
-        reading_at: at,
-        writing_at: 0,
-        kind,
+    let calls = match manner.side {
+        Side::Reader => reader.calls,
+        Side::Writer => output.calls,
     };
-    let outcome = run(rt, alloc, most, wrong).ok()?;
-    if outcome.reads >= at {
-        return Some(is_named(&outcome, b"asl: Read\n") && outcome.written.is_empty());
-    }
-    if is_whole(&outcome) {
-        None
-    } else {
-        Some(false)
-    }
-}
-
-/// Whether a run's write that goes wrong at this call is named, with a first part written; nothing where there is no such
-/// call, and the run is whole.
-fn names_write<R: Threads + Wait + Sync>(
-    rt: &R,
-    alloc: Global,
-    most: usize,
-    at: u32,
-    kind: Trouble,
-) -> Option<bool> {
-    let wrong = Wrong {
-        reading_at: 0,
-        writing_at: at,
-        kind,
+    let outcome = Outcome {
+        status: Some(status),
+        output: output.held,
+        errors,
     };
-    let outcome = run(rt, alloc, most, wrong).ok()?;
-    if outcome.writes >= at {
-        return Some(is_named(&outcome, b"asl: Write\n"));
-    }
-    if is_whole(&outcome) {
-        None
-    } else {
-        Some(false)
+    Ok((outcome, calls))
+}
+
+/// Whether the device that goes wrong at this call is named; nothing where there is no such call, and the run is whole.
+fn is_named<R: Threads + Wait + Sync>(
+    rt: &R,
+    alloc: Global,
+    manner: Manner,
+    at: u32,
+) -> Option<bool> {
+    let (outcome, calls) = run(rt, alloc, manner, at).ok()?;
+    match manner.side {
+        Side::Reader => outcome.names_read(calls >= at, RUN),
+        Side::Writer => outcome.names_write(calls >= at, RUN),
     }
 }
 
-/// How many first calls of the reader go wrong and are named; none where one is not.
-fn named_reads<R: Threads + Wait + Sync>(
+/// How many first calls of the device go wrong and are named; none where one is not.
+fn named_calls<R: Threads + Wait + Sync>(
     rt: &R,
     alloc: Global,
+    side: Side,
     most: usize,
     kind: Trouble,
 ) -> Option<u32> {
+    let manner = Manner { side, kind, most };
     for at in 1..400u32 {
-        match names_read(rt, alloc, most, at, kind) {
-            Some(true) => {}
-            Some(false) => return None,
-            None => return Some(at - 1),
-        }
-    }
-    None
-}
-
-/// How many first calls of the writer go wrong and are named; none where one is not.
-fn named_writes<R: Threads + Wait + Sync>(
-    rt: &R,
-    alloc: Global,
-    most: usize,
-    kind: Trouble,
-) -> Option<u32> {
-    for at in 1..400u32 {
-        match names_write(rt, alloc, most, at, kind) {
+        match is_named(rt, alloc, manner, at) {
             Some(true) => {}
             Some(false) => return None,
             None => return Some(at - 1),
@@ -163,18 +106,18 @@ fn named_writes<R: Threads + Wait + Sync>(
 #[test]
 fn reads_that_go_wrong_are_named(rt: HostRuntime) {
     let calls = COUNTER.len() as u32 + 1;
-    assert!(rt; named_reads(&rt, rt.alloc(), 1, Trouble::Fails) == Some(calls));
-    assert!(rt; named_reads(&rt, rt.alloc(), 1, Trouble::Interrupted) == Some(calls));
-    assert!(rt; named_reads(&rt, rt.alloc(), 4096, Trouble::Fails) == Some(2));
+    assert!(rt; named_calls(&rt, rt.alloc(), Side::Reader, 1, Trouble::Fails) == Some(calls));
+    assert!(rt; named_calls(&rt, rt.alloc(), Side::Reader, 1, Trouble::Interrupted) == Some(calls));
+    assert!(rt; named_calls(&rt, rt.alloc(), Side::Reader, 4096, Trouble::Fails) == Some(2));
 }
 
 #[test]
 fn writes_that_go_wrong_are_named(rt: HostRuntime) {
     let calls = RUN.len() as u32;
-    assert!(rt; named_writes(&rt, rt.alloc(), 1, Trouble::Fails) == Some(calls));
-    assert!(rt; named_writes(&rt, rt.alloc(), 1, Trouble::Interrupted) == Some(calls));
-    assert!(rt; named_writes(&rt, rt.alloc(), 1, Trouble::Nothing) == Some(calls));
-    assert!(rt; named_writes(&rt, rt.alloc(), 4096, Trouble::Fails) == Some(1));
+    assert!(rt; named_calls(&rt, rt.alloc(), Side::Writer, 1, Trouble::Fails) == Some(calls));
+    assert!(rt; named_calls(&rt, rt.alloc(), Side::Writer, 1, Trouble::Interrupted) == Some(calls));
+    assert!(rt; named_calls(&rt, rt.alloc(), Side::Writer, 1, Trouble::Nothing) == Some(calls));
+    assert!(rt; named_calls(&rt, rt.alloc(), Side::Writer, 4096, Trouble::Fails) == Some(1));
 }
 
 /// What a run comes to over a reader without end.

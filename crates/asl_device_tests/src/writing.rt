@@ -1,8 +1,8 @@
 //! Writers under each command.
 use crate::commands::{COMMANDS, Command, call, split};
 use crate::devices::{Feed, Sink, Trouble};
+use crate::outcome::Outcome;
 use std::alloc::Global;
-use std::io::Write;
 
 /// A reader that gives all bytes, 64 a call.
 fn feed(bytes: &[u8]) -> Feed<'_> {
@@ -13,37 +13,6 @@ fn feed(bytes: &[u8]) -> Feed<'_> {
         kind: Trouble::Fails,
         calls: 0,
     }
-}
-
-/// The status, and what was said.
-#[derive(Drop)]
-struct Answer {
-    status: Option<u8>,
-    errors: Vec<u8>,
-}
-
-impl Answer {
-    /// Whether a write is named that went wrong behind a first part; nothing where none did, and the command is done.
-    fn names_write(&self, went_wrong: bool, written: &[u8], output: &[u8]) -> Option<bool> {
-        if went_wrong {
-            let named = self.errors.as_slice() == b"asl: Write\n".as_slice();
-            let first = output.starts_with(written) && written.len() < output.len();
-            return Some(self.status == Some(1) && named && first);
-        }
-        if self.status == Some(0) && written == output && self.errors.is_empty() {
-            None
-        } else {
-            Some(false)
-        }
-    }
-}
-
-/// What the words answer over a writer.
-fn answer_of<W: Write>(alloc: Global, words: &[String], input: &[u8], output: &mut W) -> Answer {
-    let mut reader = feed(input);
-    let mut errors = Vec::new(alloc);
-    let status = call(alloc, words, &mut reader, output, &mut errors);
-    Answer { status, errors }
 }
 
 /// How a writer takes its bytes: the most a call, and how a call goes wrong.
@@ -58,9 +27,17 @@ fn is_named_at(
     manner: Manner,
     wrong_at: u32,
 ) -> Option<bool> {
+    let mut reader = feed(command.input);
     let mut sink = Sink::new(alloc, manner.0, wrong_at, manner.1);
-    let answer = answer_of(alloc, words, command.input, &mut sink);
-    answer.names_write(sink.calls >= wrong_at, sink.held.as_slice(), command.output)
+    let mut errors = Vec::new(alloc);
+    let status = call(alloc, words, &mut reader, &mut sink, &mut errors);
+    let went_wrong = sink.calls >= wrong_at;
+    let outcome = Outcome {
+        status,
+        output: sink.held,
+        errors,
+    };
+    outcome.names_write(went_wrong, command.output)
 }
 
 /// Whether the words' write that goes wrong is named, at whichever call of the writer it is.
