@@ -14,8 +14,9 @@ pub use class::class_of;
 pub use evaluation::{HeapView, eval, go_on};
 pub use laws::{
     cells_are_of_their_expressions_classes, expressions_with_a_class_are_left, links_are_settled,
-    lists_in_order_are_one, paths_go_in_parts, prefixes_of_what_a_call_leaves_are_left,
-    stores_elsewhere_move_no_path, stores_move_paths_as_links_say, written_classes_pass_on,
+    links_ask_at_each_star, lists_in_order_are_one, paths_go_in_parts,
+    prefixes_of_what_a_call_leaves_are_left, stores_elsewhere_move_no_path,
+    stores_move_paths_as_links_say, written_classes_pass_on,
 };
 pub use link::{View, add_accesses, add_dereferenced, add_entered, add_links};
 pub use linked::links;
