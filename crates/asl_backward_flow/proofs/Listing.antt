@@ -1,5 +1,5 @@
 -- Lists of what the places of a list say, one after the other.
-use Rattle.std.proofs.Common.{◌≡◌, ◌↔◌, ◌⊎◌, ⊎_elim, ℕ, zero, suc, ◌+◌, ◌<◌, ◌≤◌, List, [], ◌∷◌, ◌++◌, Bool, true, false, Some, Result, Ok, Err, OnOk, length, map, slice_get, inl, inr, refl, ap, sym, subst, ◌∙◌, arith}
+use Rattle.std.proofs.Common.{◌≡◌, ◌↔◌, ◌⊎◌, ⊎_elim, ℕ, zero, suc, ◌+◌, ◌<◌, ◌≤◌, List, [], ◌∷◌, ◌++◌, Bool, true, false, Some, Result, Ok, Err, OnOk, length, map, take, drop, slice_get, inl, inr, refl, ap, sym, subst, ◌∙◌, arith}
 use Rattle.std.specs.List.{Contains}
 use Rattle.std.proofs.lemmas.Option.{slice_get_within, slice_get-get_or, get_or_from_slice_get}
 use Rattle.asl_code.specs.declared.lock.Lock.{Lock}
@@ -11,7 +11,7 @@ use Rattle.asl_backward_flow.specs.declared.region.Region.TheVariants as variant
 use Rattle.asl_backward_flow.specs.declared.part.Part as code_part
 use Rattle.asl_backward_flow.specs.Needed.{Part, IsOfPart, IsTold, region_of}
 use Rattle.asl_backward_flow.specs.Found.{IsAt, IsNamed, list_at}
-use Rattle.asl_backward_flow.specs.Parts.{part, needs_from, IsNumbered, IsToldAt, ListsBelow}
+use Rattle.asl_backward_flow.specs.Parts.{part, needs_from, IsNumbered, IsToldAt, ListsBelow, AreAtTheirNumbers}
 use Rattle.asl_lane_sets.specs.NumberSet.{IsIn, members_from, members_of}
 use Rattle.asl_backward_flow.proofs.Sets.{some_same, at_front}
 use Rattle.asl_backward_flow.proofs.SpanLaws.{below_or_at}
@@ -203,6 +203,29 @@ parts_all parts r pc end locks le so m = (
       let lt = slice_get_within parts k.0 k.1 k.2 in
       (so m).1 (inr (k.0, omega (arith, lt, le), (k.1, k.2, k.3, k.4))),
 )
+
+-- where the part of a section stands at the section's number, that part alone says all that is said of the section
+pub placed_told : (xs : List code_part.Part) (r : Region) (n pc : ℕ) (m : Lock) → r ≡ Inside n → AreAtTheirNumbers (map part xs)
+    → IsTold (map part (take 1 (drop n xs))) r pc m ↔ IsTold (map part xs) r pc m
+placed_told xs r n pc m is placed = (
+  λ (h : IsTold (map part (take 1 (drop n xs))) r pc m). (n, h.1, one_at n xs h.0 h.1 h.2, h.3, h.4),
+  λ (h : IsTold (map part xs) r pc m).
+      let same : h.0 ≡ n = placed h.0 n h.1 h.2 (h.3 ∙ is) in
+      (0, h.1, at_one n xs h.1 (ap (slice_get (map part xs)) (sym same) ∙ h.2), h.3, h.4),
+)
+  where
+    one_at : (n : ℕ) (xs : List code_part.Part) (k : ℕ) (p : Part) → slice_get (map part (take 1 (drop n xs))) k ≡ Some p → slice_get (map part xs) n ≡ Some p
+    one_at zero [] k p e = absurd cc
+    one_at zero (y ∷ ys) zero p e = e
+    one_at zero (y ∷ ys) (suc k) p e = absurd cc
+    one_at (suc n) [] k p e = absurd cc
+    one_at (suc n) (y ∷ ys) k p e = one_at n ys k p e
+
+    at_one : (n : ℕ) (xs : List code_part.Part) (p : Part) → slice_get (map part xs) n ≡ Some p → slice_get (map part (take 1 (drop n xs))) 0 ≡ Some p
+    at_one zero [] p e = absurd cc
+    at_one zero (y ∷ ys) p e = e
+    at_one (suc n) [] p e = absurd cc
+    at_one (suc n) (y ∷ ys) p e = at_one n ys p e
 
 -- a list that is another
 pub listed_same : (each : ℕ → Lock → Type 0) (first : List Lock) (i : ℕ) (new locks : List Lock) → new ≡ locks → AreInOrder locks → ListsBelow each i first locks

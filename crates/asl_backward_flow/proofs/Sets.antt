@@ -25,6 +25,13 @@ module _ {A : Type 0} where
   at_push (z ∷ xs) y zero x e = inl e
   at_push (z ∷ xs) y (suc n) x e = at_push xs y n x e
 
+  -- the same, with the place of that one
+  pub at_end : (xs : List A) (y : A) (n : ℕ) (x : A) → slice_get (xs ++ y ∷ []) n ≡ Some x → slice_get xs n ≡ Some x ⊎ ((n ≡ length xs) × (x ≡ y))
+  at_end [] y zero x e = inr (refl, sym (some_same e))
+  at_end [] y (suc n) x e = absurd cc
+  at_end (z ∷ xs) y zero x e = inl e
+  at_end (z ∷ xs) y (suc n) x e = ⊎_elim (λ h. inl h) (λ h. inr (ap suc h.0, h.1)) (at_end xs y n x e)
+
   pub at_last : (xs : List A) (y : A) → slice_get (xs ++ y ∷ []) (length xs) ≡ Some y
   at_last [] y = refl
   at_last (z ∷ xs) y = at_last xs y

@@ -13,8 +13,8 @@ use Rattle.std.proofs.lemmas.Bool.{cases_lt}
 use Rattle.asl_backward_flow.specs.declared.region.Region.TheVariants as variant
 use Rattle.asl_backward_flow.specs.declared.span.Span.{Span}
 use Rattle.asl_backward_flow.specs.Needed.{region_of}
-use Rattle.asl_backward_flow.specs.Spans.{IsSpan, AreOfRegions, HasSection, HasBody, AreSpans, AreSections, AreBodies}
-use Rattle.asl_backward_flow.proofs.Sets.{some_same, at_front, at_push, at_last}
+use Rattle.asl_backward_flow.specs.Spans.{IsSpan, AreOfRegions, HasSection, HasBody, AreInPlace, AreSpans, AreSections, AreBodies}
+use Rattle.asl_backward_flow.proofs.Sets.{some_same, at_front, at_push, at_end, at_last}
 
 -- a section as its span, and its bounds
 pub record Bounds (l : Lowered) (n : ℕ) (s : Section) : Type 0 where
@@ -98,6 +98,25 @@ section_still spans s n h = (h.0, h.1, at_front spans (s ∷ []) h.0 h.1 h.2, h.
 pub body_still : (spans : List Span) (s : Span) (g : ℕ) → HasBody spans g → HasBody (spans ++ s ∷ []) g
 body_still spans s g h = (h.0, h.1, at_front spans (s ∷ []) h.0 h.1 h.2, h.3)
 
+pub section_placed : (spans : List Span) (s : Span) → AreInPlace spans → s.region ≡ variant.Section (length spans) → AreInPlace (spans ++ s ∷ [])
+section_placed spans s so region k n t at is =
+    ⊎_elim (λ h. so k n t h is)
+    (λ h. h.0 ∙ section_number (length spans) n (sym region ∙ ap (λ (x : Span). x.region) (sym h.1) ∙ is))
+    (at_end spans s k t at)
+  where
+    number_of : ℕ → variant.the_data → ℕ
+    number_of d (variant.Section m) = m
+    number_of d (variant.Body m) = d
+
+    section_number : (a b : ℕ) → variant.Section a ≡ variant.Section b → a ≡ b
+    section_number a b e = ap (number_of 0) e
+
+pub body_placed : (spans : List Span) (s : Span) (g : ℕ) → AreInPlace spans → s.region ≡ variant.Body g → AreInPlace (spans ++ s ∷ [])
+body_placed spans s g so region k n t at is =
+    ⊎_elim (λ h. so k n t h is)
+    (λ h. let no : variant.Body g ≡ variant.Section n = sym region ∙ ap (λ (x : Span). x.region) (sym h.1) ∙ is in absurd cc)
+    (at_end spans s k t at)
+
 pub below_or_at : (n i : ℕ) → n < i + 1 → (n < i) ⊎ (n ≡ i)
 below_or_at n i lt = ⊎_elim (λ h. inl h) (λ h. inr (omega arith)) (cases_lt n i)
 
@@ -109,10 +128,11 @@ sections_more l spans s i so is region = record {
       (λ (h : n ≡ i). (length spans, s, at_last spans s, region ∙ ap variant.Section (sym h)))
       (below_or_at n i lt);
   count = length-append spans (s ∷ []) ∙ omega (arith, so.count);
+  placed = section_placed spans s so.placed (region ∙ ap variant.Section (sym so.count));
 }
 
 pub bodies_begin : (l : Lowered) (spans : List Span) → AreSections l spans (length l.sections) → AreBodies l spans 0
-bodies_begin l spans so = record { each = so.each; sections = so.all; all = λ g lt. absurd (omega arith); few = omega (arith, so.count) }
+bodies_begin l spans so = record { each = so.each; sections = so.all; all = λ g lt. absurd (omega arith); few = omega (arith, so.count); placed = so.placed }
 
 pub bodies_more : (l : Lowered) (spans : List Span) (s : Span) (i : ℕ) → AreBodies l spans i → IsSpan l s → s.region ≡ variant.Body i → AreBodies l (spans ++ s ∷ []) (i + 1)
 bodies_more l spans s i so is region = record {
@@ -123,6 +143,7 @@ bodies_more l spans s i so is region = record {
       (λ (h : g ≡ i). (length spans, s, at_last spans s, region ∙ ap variant.Body (sym h)))
       (below_or_at g i lt);
   few = let few = so.few in omega (arith, length-append spans (s ∷ []));
+  placed = body_placed spans s i so.placed region;
 }
 
 pub bodies_skip : (l : Lowered) (spans : List Span) (i : ℕ) → AreBodies l spans i → ¬ IsInner l i → AreBodies l spans (i + 1)
@@ -131,6 +152,7 @@ bodies_skip l spans i so not = record {
   sections = so.sections;
   all = λ g lt inner. ⊎_elim (λ h. so.all g h inner) (λ (h : g ≡ i). absurd (not (subst (IsInner l) h inner))) (below_or_at g i lt);
   few = let few = so.few in omega arith;
+  placed = so.placed;
 }
 
 pub all_spans : (l : Lowered) → IsKept l → (spans : List Span) → AreBodies l spans (length l.functions) → AreSpans l spans
@@ -140,6 +162,7 @@ all_spans l kept spans so =
       each = so.each;
       all = λ r f pc. go r f pc;
       few = let few = so.few in let s = layout.limits.few_sections in let f = layout.limits.few_functions in omega arith;
+      placed = so.placed;
     }
   where
     between_is : (n f pc : ℕ) → Between l n f pc → Section

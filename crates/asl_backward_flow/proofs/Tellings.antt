@@ -7,12 +7,13 @@ use Rattle.std.proofs.lemmas.Bool.{cases_lt}
 use Rattle.asl_code.specs.declared.lock.Lock.{Lock}
 use Rattle.asl_code.specs.declared.lock.Lock.TheVariants as root
 use Rattle.asl_code.specs.declared.value.Effect.TheVariants as write
-use Rattle.asl_lower.specs.Regions.{Region}
+use Rattle.asl_lower.specs.Regions.{Region, Inside}
 use Rattle.asl_lock_expr.specs.ClassOf.{TellsStores}
 use Rattle.asl_backward_flow.specs.declared.fault.FlowFault.{FlowFault}
 use Rattle.asl_backward_flow.specs.Flows.{IsFlow}
 use Rattle.asl_backward_flow.specs.declared.span.Span.{Span}
 use Rattle.asl_backward_flow.specs.declared.part.Part as code
+use Rattle.asl_backward_flow.specs.declared.region.Region.TheVariants as variant
 use Rattle.asl_backward_flow.specs.declared.found.Fact.{Fact}
 use Rattle.asl_lane_sets.specs.NumberSet.{IsIn}
 use Rattle.std.proofs.lemmas.List.{length-map}
@@ -20,10 +21,10 @@ use Rattle.asl_backward_flow.specs.declared.found.AddFault.TheVariants.{Many}
 use Rattle.asl_backward_flow.specs.Needed.{Needed, Part, IsOfPart, IsTold, TellsNeeded, NeedsMany, region_of}
 use Rattle.asl_backward_flow.specs.Found.{Table, table_of, list_at, AreApart, IsName, HasFact, locks_of, sets_of, first_of}
 use Rattle.asl_backward_flow.specs.Follows.{Read, IsRead, IsAll, Overflows}
-use Rattle.asl_backward_flow.specs.Parts.{part, TellsAll}
+use Rattle.asl_backward_flow.specs.Parts.{part, AreAtTheirNumbers, TellsAll}
 use Rattle.asl_backward_flow.proofs.Leasts.{needed_inside}
 use Rattle.asl_backward_flow.proofs.Blanks.{mapped, unmapped, some_there}
-use Rattle.asl_backward_flow.proofs.Listing.{of_part, part_of}
+use Rattle.asl_backward_flow.proofs.Listing.{of_part, part_of, region_one}
 use Rattle.asl_backward_flow.proofs.Sets.{some_same}
 
 module _ (r : Read) (read : IsRead r) (items : List code.Part) (list : List Fact) (all : IsAll r (table_of items list)) where
@@ -118,6 +119,16 @@ module _ (r : Read) (read : IsRead r) (items : List code.Part) (list : List Fact
         (λ ge. ⊎_elim (λ lt. absurd (many.different j i d lt below_i (one_number j i below_j below_i (sym e)))) (λ le. omega (arith, le, ge)) (cases_lt j i))
         (cases_lt i j)) in
         let over = many.many in let few = all.ready.whole.few first.0 in omega (arith, holds, over, few)
+
+  -- the part of a section stands at the section's number, as its span does
+  pub at_their_numbers : AreAtTheirNumbers (map part items)
+  at_their_numbers k n p at is =
+      let d = unmapped part items k p at in
+      let count = all.ready.count in
+      let within = slice_get_within items k d.0 d.1 in
+      let s = some_there r.spans k (let same = length-map items (λ (z : code.Part). z.locks.keys) in omega (arith, count, within, same)) in
+      let name : region_of s.0.region ≡ Inside n = ap region_of (sym (same_region k d.0 s.0 d.1 s.1)) ∙ ap (λ (x : Part). x.region) d.2 ∙ is in
+      read.spans.placed k n s.0 s.1 (region_one s.0.region (variant.Section n) name)
 
   pub tells_all : TellsAll r (map part items)
   tells_all = record {

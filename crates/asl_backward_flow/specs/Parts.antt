@@ -4,7 +4,7 @@ use Rattle.asl_code.specs.declared.lock.Lock.{Lock}
 use Rattle.asl_lane_sets.specs.NumberSet.{members_of}
 use Rattle.asl_lock_expr.specs.Links.{IsOne}
 use Rattle.asl_backward_flow.specs.declared.part.Part as code
-use Rattle.asl_lower.specs.Regions.{Region}
+use Rattle.asl_lower.specs.Regions.{Region, Inside}
 use Rattle.asl_backward_flow.specs.declared.fault.FlowFault.{FlowFault}
 use Rattle.asl_backward_flow.specs.declared.fault.FlowFault.TheVariants.{TooManyLocks, OutOfMemory}
 use Rattle.asl_backward_flow.specs.Needed.{Part, IsOfPart, TellsNeeded, NeedsMany, region_of}
@@ -17,6 +17,10 @@ needs_from first (set ∷ sets) = map (λ n. (first, n)) (members_of set) ++ nee
 
 abbrev pub part : code.Part → Part
 part p = record { region = region_of p.region; locks = p.locks.keys; needs = needs_from p.first p.needs.items }
+
+-- the part of a section stands at the section's number
+abbrev pub AreAtTheirNumbers : List Part → Type 0
+AreAtTheirNumbers parts = (k n : ℕ) (p : Part) → slice_get parts k ≡ Some p → p.region ≡ Inside n → k ≡ n
 
 -- the parts say exactly what is needed, and no region needs too many locks
 pub record TellsAll (r : Read) (parts : List Part) : Type 0 where

@@ -25,17 +25,23 @@ HasSection spans n = (k : ℕ) × (s : Span) × (slice_get spans k ≡ Some s) �
 abbrev pub HasBody : List Span → ℕ → Type 0
 HasBody spans g = (k : ℕ) × (s : Span) × (slice_get spans k ≡ Some s) × (s.region ≡ variant.Body g)
 
+-- the span of a section stands at the section's number
+abbrev pub AreInPlace : List Span → Type 0
+AreInPlace spans = (k n : ℕ) (s : Span) → slice_get spans k ≡ Some s → s.region ≡ variant.Section n → k ≡ n
+
 -- the spans of all regions, and of no other
 pub record AreSpans (l : Lowered) (spans : List Span) : Type 0 where
   pub each : AreOfRegions l spans
   pub all : (r : Region) (f pc : ℕ) → IsIn l r f pc → (k : ℕ) × (s : Span) × (slice_get spans k ≡ Some s) × (region_of s.region ≡ r)
   pub few : length spans ≤ 1280
+  pub placed : AreInPlace spans
 
 -- the spans of the sections below a number
 pub record AreSections (l : Lowered) (spans : List Span) (number : ℕ) : Type 0 where
   pub each : AreOfRegions l spans
   pub all : (n : ℕ) → n < number → HasSection spans n
   pub count : length spans ≡ number
+  pub placed : AreInPlace spans
 
 -- the spans of all sections, and of the bodies of the inner functions below a number
 pub record AreBodies (l : Lowered) (spans : List Span) (number : ℕ) : Type 0 where
@@ -43,3 +49,4 @@ pub record AreBodies (l : Lowered) (spans : List Span) (number : ℕ) : Type 0 w
   pub sections : (n : ℕ) → n < length l.sections → HasSection spans n
   pub all : (g : ℕ) → g < number → IsInner l g → HasBody spans g
   pub few : length spans ≤ length l.sections + number
+  pub placed : AreInPlace spans

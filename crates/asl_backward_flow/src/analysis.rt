@@ -1,5 +1,5 @@
 //! Which locks each region needs at each of its points.
-ghost use Rattle.std.specs.Prelude.{◌≡◌, ◌≤◌, IfOk, IfErr};
+ghost use Rattle.std.specs.Prelude.{◌≤◌, IfOk, IfErr};
 ghost use Rattle.asl_backward_flow.specs.Flows.{IsFlow, IsRefused};
 ghost use Rattle.asl_backward_flow.specs.Found.{table, Table};
 ghost use Rattle.asl_backward_flow.specs.Follows.{read, IsRead, IsAll, Overflows};

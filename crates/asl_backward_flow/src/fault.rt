@@ -2,7 +2,6 @@
 
 use crate::region::Region;
 use std::alloc::AllocError;
-use std::convert::From;
 use thiserror::Error;
 
 /// Why a program has no flow. The first that applies is answered; want of memory may come before

@@ -1,5 +1,5 @@
 //! What follows from the seeds, found one after the other.
-ghost use Rattle.std.specs.Prelude.{◌≡◌, ◌≤◌, ◌∷◌, [], OnOk, IfErr};
+ghost use Rattle.std.specs.Prelude.{◌≤◌, ◌∷◌, [], OnOk, IfErr};
 ghost use Rattle.asl_backward_flow.specs.Found.{table, Has, left};
 ghost use Rattle.asl_backward_flow.specs.Follows.{read, IsRead, IsFollowed, Overflows};
 

@@ -9,7 +9,6 @@ use crate::span::Span;
 use asl_code::Lock;
 use std::alloc::{AllocError, Global};
 use std::collections::VecDeque;
-use std::convert::From;
 
 /// The most locks that a region may need.
 const MOST: usize = 4096;

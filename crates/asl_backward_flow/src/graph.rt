@@ -1,5 +1,5 @@
 //! From where control comes to each pc, and from where each function is called.
-ghost use Rattle.std.specs.Prelude.{◌≡◌, ◌++◌, ◌∷◌, ◌+◌, [], ◌<◌, ◌≤◌, length, map, slice_set, vec_len, IfOk, OnOk, replicate};
+ghost use Rattle.std.specs.Prelude.{◌≡◌, ◌++◌, ◌∷◌, ◌+◌, [], ◌<◌, length, map, slice_set, vec_len, IfOk, OnOk, replicate};
 ghost use Rattle.asl_lower.specs.Kept.{IsKept};
 ghost use Rattle.asl_backward_flow.specs.Graph.{row, HasRows, IsEdge, IsCall};
 

@@ -1,10 +1,10 @@
 //! What each region needs at each of its points, region by region.
-ghost use Rattle.std.specs.Prelude.{◌≡◌, ◌↔◌, map, IfOk};
+ghost use Rattle.std.specs.Prelude.{◌≡◌, ◌↔◌, ℕ, map, IfOk};
 ghost use Rattle.asl_code.specs.declared.lock.Lock.{Lock};
 ghost use Rattle.asl_lock_expr.specs.Links.{IsOne};
 ghost use Rattle.asl_lock_expr.specs.Order.{AreInOrder};
 ghost use Rattle.asl_backward_flow.specs.Needed.{IsTold, region_of};
-ghost use Rattle.asl_backward_flow.specs.Parts.{part};
+ghost use Rattle.asl_backward_flow.specs.Parts.{part, AreAtTheirNumbers};
 
 use crate::part::Part;
 use crate::region::Region;
@@ -21,15 +21,18 @@ pub struct Flow {
 impl Model for Flow {
     ghost use Rattle.std.specs.Prelude.{List, map};
     ghost use Rattle.asl_backward_flow.specs.Needed.{Part as PartValue};
-    ghost use Rattle.asl_backward_flow.specs.Parts.{part};
+    ghost use Rattle.asl_backward_flow.specs.Parts.{part, AreAtTheirNumbers};
 
     ghost Value = { List PartValue };
 
     ghost view = { λ f. map part f.parts.items };
+
+    ghost invariant = { λ f. AreAtTheirNumbers (map part f.parts.items) };
 }
 
-/// The flow of these regions.
+/// The flow of these regions, of which each section stands at its number.
 pub fn flow_of(parts: Vec<Part>) -> Flow
+    requires { AreAtTheirNumbers (map part parts.items) }
     ensures { result ≡ map part parts.items }
 {
     Flow { parts }
@@ -46,13 +49,29 @@ impl Flow {
     }
 }
 
+/// Parts among which those of a region are: for a section the one that stands at its number.
+fn candidates(parts: &[Part], region: Region) -> &[Part]
+    requires { AreAtTheirNumbers (map part parts.now) }
+    ensures { (pc : ℕ) (m : Lock) → IsTold (map part result.now) (region_of region) pc m ↔ IsTold (map part parts.now) (region_of region) pc m }
+{
+    match region {
+        Region::Section(number) if usize::from(number) < parts.len() => {
+            let place = usize::from(number);
+            &parts[place..place + 1]
+        }
+        _ => parts,
+    }
+}
+
 /// The locks that the parts of a region say to be needed at a pc.
 fn told(alloc: Global, parts: &[Part], region: Region, pc: u32) -> Result<Vec<Lock>, AllocError>
+    requires { AreAtTheirNumbers (map part parts.now) }
     ensures order { IfOk result (λ v. AreInOrder v.items) }
     ensures locks { IfOk result (λ v. (m : Lock) → IsOne v.items m ↔ IsTold (map part parts.now) (region_of region) pc m) }
 {
     let mut locks = Vec::new(alloc);
-    for part in parts {
+    let candidates = candidates(parts, region);
+    for part in candidates {
         if part.region == region {
             part.add_needed(alloc, pc, &mut locks)?;
         }

@@ -1,8 +1,11 @@
 use Rattle.std.proofs.Common.{sym, subst}
 use Rattle.asl_backward_flow.specs.Follows.{read}
 use Rattle.asl_backward_flow.specs.Parts.{TellsAll}
-use Rattle.asl_backward_flow.proofs.Tellings.{tells_all}
+use Rattle.asl_backward_flow.proofs.Tellings.{tells_all, at_their_numbers}
 use Rattle.asl_backward_flow.proofs.analysis.flow.Goals as goal
+
+pub flow_of-requires : goal.flow_of-requires
+flow_of-requires c = at_their_numbers (read c.args.program.now) c.requires c.in-Ok.found.parts.items c.in-Ok.found.list.items c.in-Ok.ensures.ok
 
 pub returns-in-Ok-clause-ok : goal.returns-in-Ok-clause-ok
 returns-in-Ok-clause-ok c =

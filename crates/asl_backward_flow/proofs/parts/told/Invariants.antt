@@ -7,5 +7,5 @@ use Rattle.asl_backward_flow.proofs.parts.told.Given as goal
 abbrev pub invariant-loop-part : goal.invariant-loop-part
 invariant-loop-part l = record {
   order : AreInOrder l.locks.items;
-  locks : ListsBelow (IsToldAt (map part l.parts) (region_of l.region) l.pc) l.part-index [] l.locks.items;
+  locks : ListsBelow (IsToldAt (map part l.candidates) (region_of l.region) l.pc) l.part-index [] l.locks.items;
 }
