@@ -11,8 +11,8 @@ use Rattle.asl_journal.specs.Recorded.{has_ended}
 use Rattle.asl_code.specs.declared.image.Image.{Image}
 use Rattle.asl_runner.specs.History.{AreTrue, HaveEnded, IsDealt, IsWrong}
 use Rattle.asl_runner.specs.Refused.{IsWrongAt}
-use Rattle.asl_runner.specs.Working.{AllTold, AreJoined}
-use Rattle.asl_runner.specs.Ending.{all_receipts, IsRun}
+use Rattle.asl_runner.specs.Working.{AreJoined}
+use Rattle.asl_runner.specs.Ending.{AllTold, IsRun, all_receipts}
 use Rattle.asl_runner.specs.declared.report.Report.{Report}
 use Rattle.std.proofs.lemmas.Option.{slice_get_within}
 
@@ -41,14 +41,12 @@ list_of (x ∷ all) (suc k) m e = list_of all k m e
 -- the worker whose receipts are wrong has receipts
 pub wrong_at : (image : Image) (count workers limit worker : ℕ) (report : Report) → IsRun image count workers limit report → worker < workers
     → ((mine : Vec Receipt Global) → slice_get report.receipts.items worker ≡ Some mine → IsWrong workers worker report.machine.state report.journal.events mine.items)
-    → IsWrongAt image count workers worker report
+    → IsWrongAt image count workers limit worker report
 wrong_at image count workers limit worker report ran lt wrong =
     let there = element_at report.receipts.items worker (rw (sym (length-map report.receipts.items (λ (m : Vec Receipt Global). m.items)) ∙ ran.dealers) lt) in
     record {
+      run = ran;
       there = lt;
-      threads = ran.threads;
-      journal = ran.journal;
-      machine = ran.machine;
       receipts = there.0.items;
       its = list_of report.receipts.items worker there.0 there.1;
       wrong = wrong there.0 there.1;

@@ -6,7 +6,8 @@ use Rattle.std.proofs.lemmas.List.Sums.{sum_by_push}
 use Rattle.asl_turns.specs.Turn.{Word, Turn}
 use Rattle.asl_journal.specs.declared.event.Receipt.{Receipt}
 use Rattle.asl_runner.specs.declared.worker.Work.{Work}
-use Rattle.asl_runner.specs.Working.{AllTold, AreJoined, HasLeft}
+use Rattle.asl_runner.specs.Ending.{AllTold}
+use Rattle.asl_runner.specs.Working.{AreJoined, HasLeft}
 use Rattle.asl_runner.specs.Starting.{IsOneRefused}
 
 -- a seat that has taken what another has

@@ -8,7 +8,7 @@ use Rattle.std.proofs.lemmas.List.Sums.{sum_by-cons}
 use Rattle.asl_journal.specs.declared.event.Event.{Event}
 use Rattle.asl_journal.specs.declared.event.Receipt.{Receipt}
 use Rattle.asl_runner.specs.History.{Entry, entry, entry_of, entries_of, IsDealt}
-use Rattle.asl_runner.specs.Working.{receipts_in}
+use Rattle.asl_runner.specs.Ending.{receipts_in}
 
 -- how many entries so many workers have, from the first on
 abbrev sizes : ℕ → ℕ → ℕ → ℕ → List Event → ℕ

@@ -5,7 +5,8 @@ use Rattle.std.proofs.lemmas.Bool.{cases_eq}
 use Rattle.asl_machine.proofs.Lists.{get_other, get_before, get_last}
 use Rattle.asl_turns.specs.Turn.{Word, Turn}
 use Rattle.asl_journal.specs.declared.event.Receipt.{Receipt}
-use Rattle.asl_runner.specs.Working.{HasStopped, IsMine, IsToldEnded, IsWorking}
+use Rattle.asl_runner.specs.Ending.{IsMine, IsToldEnded}
+use Rattle.asl_runner.specs.Working.{HasStopped, IsWorking}
 
 -- a receipt more keeps what was told
 told_still : (rs : List Receipt) (r : Receipt) (t : ℕ) → IsToldEnded rs t → IsToldEnded (rs ++ r ∷ []) t

@@ -1,15 +1,30 @@
--- Machinery of the proofs, not of the promise: a run before its receipts are compared (src/running.rt).
-use Rattle.std.specs.Prelude.{◌≡◌, ◌≤◌, ◌⊎◌, ℕ, length, map, Some, slice_get}
+-- What a run by workers has come to before its receipts are compared with the journal (docs/WORKERS.md, "What a run leaves").
+use Rattle.std.specs.Prelude.{◌≡◌, ◌<◌, ◌≤◌, ◌⊎◌, ◌%◌, ℕ, true, List, length, map, Some, slice_get, sum_by}
 use Rattle.asl_code.specs.declared.image.Image.{Image}
 use Rattle.asl_journal.specs.declared.event.Receipt.{Receipt}
 use Rattle.asl_journal.specs.Journal.{IsJournal, state_at}
 use Rattle.asl_runner.specs.declared.report.Report.{Report}
-use Rattle.asl_runner.specs.Working.{AllTold, receipts_in}
-use Rattle.std.specs.Prelude.{List}
 
 -- the receipts of all workers
 abbrev pub all_receipts : Report → List (List Receipt)
 all_receipts report = map (λ mine. mine.items) report.receipts.items
+
+-- the thread is one of the worker's
+pub record IsMine (count workers worker t : ℕ) : Type 0 where
+  pub there : t < count
+  pub mine : (t % workers) ≡ worker
+
+-- some receipt says that the thread has ended
+abbrev pub IsToldEnded : List Receipt → ℕ → Type 0
+IsToldEnded receipts t = (n : ℕ) × (r : Receipt) × (slice_get receipts n ≡ Some r) × (r.thread ≡ t) × (r.ended ≡ true)
+
+-- each thread of the worker has a receipt that says that it has ended
+abbrev pub AllTold : ℕ → ℕ → ℕ → List Receipt → Type 0
+AllTold count workers worker receipts = (t : ℕ) → IsMine count workers worker t → IsToldEnded receipts t
+
+-- how many receipts there are in all
+abbrev pub receipts_in : List (List Receipt) → ℕ
+receipts_in all = sum_by (λ (mine : List Receipt). length mine) all
 
 -- a journal of the program with the machine behind it, as many receipts as tickets, and either the limit is reached or each
 -- worker was told that its threads have ended

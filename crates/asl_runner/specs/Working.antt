@@ -1,22 +1,10 @@
 -- Machinery of the proofs, not of the promise: what a worker knows of itself (src/worker.rt), and what is known of those
 -- that have been joined (src/gathering.rt).
-use Rattle.std.specs.Prelude.{◌≡◌, ◌<◌, ◌⊎◌, ◌%◌, ◌+◌, ℕ, Bool, true, false, List, length, Some, slice_get, sum_by}
+use Rattle.std.specs.Prelude.{◌≡◌, ◌<◌, ◌⊎◌, ◌+◌, ℕ, Bool, true, false, List, length, Some, slice_get}
 use Rattle.asl_code.specs.Versions.{newest_threads}
 use Rattle.asl_turns.specs.Turn.{Word, Turn}
 use Rattle.asl_journal.specs.declared.event.Receipt.{Receipt}
-
--- the thread is one of the worker's
-pub record IsMine (count workers worker t : ℕ) : Type 0 where
-  pub there : t < count
-  pub mine : (t % workers) ≡ worker
-
--- some receipt says that the thread has ended
-abbrev pub IsToldEnded : List Receipt → ℕ → Type 0
-IsToldEnded receipts t = (n : ℕ) × (r : Receipt) × (slice_get receipts n ≡ Some r) × (r.thread ≡ t) × (r.ended ≡ true)
-
--- each thread of the worker has a receipt that says that it has ended
-abbrev pub AllTold : ℕ → ℕ → ℕ → List Receipt → Type 0
-AllTold count workers worker receipts = (t : ℕ) → IsMine count workers worker t → IsToldEnded receipts t
+use Rattle.asl_runner.specs.Ending.{IsMine, IsToldEnded, AllTold, receipts_in}
 
 -- a worker between two calls: it has its pass and a receipt for each ticket, and each of its threads goes on or has a receipt
 -- that says that it has ended
@@ -43,10 +31,6 @@ pub record HasStopped (word : Word) (count workers worker : ℕ) (seat : Turn) (
 pub record HasLeft (word : Word) (count workers worker : ℕ) (seat : Turn) (receipts : List Receipt) (refused : Bool) : Type 0 where
   pub pass : HasPass word seat
   pub stopped : refused ≡ false → HasStopped word count workers worker seat receipts
-
--- how many receipts there are in all
-abbrev pub receipts_in : List (List Receipt) → ℕ
-receipts_in all = sum_by (λ (mine : List Receipt). length mine) all
 
 -- workers that have been joined, the first ones, with nothing refused to any: as many receipts as tickets, and each has all
 -- its threads told ended, or a pass is spent

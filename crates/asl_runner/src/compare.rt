@@ -1,5 +1,5 @@
 //! Compares receipts with the journal and the machine.
-ghost use Rattle.std.specs.Prelude.{◌≡◌, ◌≢◌, ◌<◌, ℕ, vec_len, map, slice_get, Some, IfSome, MatchBool, MatchOption};
+ghost use Rattle.std.specs.Prelude.{◌≡◌, ◌≢◌, ◌<◌, ℕ, slice_get, Some, MatchBool, MatchOption};
 ghost use Rattle.asl_journal.specs.Recorded.{has_ended};
 ghost use Rattle.asl_runner.specs.History.{AreTrue, IsDealt, IsWrong, entry, entry_of};
 

@@ -1,6 +1,5 @@
 //! Why a run by workers has no good end.
 use std::alloc::AllocError;
-use std::convert::From;
 use thiserror::Error;
 
 /// Why `run` was refused (`docs/WORKERS.md`, "Refusals").

@@ -1,5 +1,5 @@
 //! The seats before the workers start, and what they have left when all have stopped.
-ghost use Rattle.std.specs.Prelude.{◌≡◌, ◌<◌, ◌≤◌, ◌+◌, ◌-◌, ℕ, true, false, [], map, OnOk, IfOk, IfErr, vec_len};
+ghost use Rattle.std.specs.Prelude.{◌≡◌, ◌<◌, ◌≤◌, ◌+◌, ◌-◌, true, false, [], map, OnOk, IfOk, IfErr, vec_len};
 ghost use Rattle.asl_runner.specs.Working.{AreJoined};
 ghost use Rattle.asl_runner.specs.Starting.{AreSeats, HaveWorked, IsOneRefused};
 

@@ -1,6 +1,6 @@
 //! The run: a machine of the program under a lock, and workers that step it.
-ghost use Rattle.std.specs.Prelude.{◌≡◌, ◌<◌, ◌≤◌, ◌⊎◌, ℕ, map, length, vec_len, IfOk, IfErr, OnOk};
-ghost use Rattle.asl_journal.specs.Journal.{IsCount, IsJournal, most_events, state_at};
+ghost use Rattle.std.specs.Prelude.{◌≡◌, ◌<◌, ◌≤◌, ◌⊎◌, map, length, IfOk, IfErr, OnOk};
+ghost use Rattle.asl_journal.specs.Journal.{state_at};
 ghost use Rattle.asl_runner.specs.History.{AreAllTrue, HaveEnded, IsAsked, IsHistory};
 ghost use Rattle.asl_runner.specs.Refused.{IsRefusal};
 ghost use Rattle.asl_runner.specs.Ending.{IsRun};

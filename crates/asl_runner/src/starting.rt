@@ -1,7 +1,6 @@
 //! Starts a thread of the system for each worker, and waits for all of them.
-ghost use Rattle.std.specs.Prelude.{◌≡◌, ◌<◌, ◌≤◌, ◌⊎◌, ℕ, [], IfOk, IfErr, vec_len};
+ghost use Rattle.std.specs.Prelude.{◌≡◌, ◌<◌, ◌≤◌, ◌⊎◌, [], IfOk, IfErr, vec_len};
 ghost use Rattle.asl_code.specs.Versions.{newest_threads};
-ghost use Rattle.asl_turns.specs.Turn.{Turn};
 ghost use Rattle.asl_runner.specs.Working.{HasLeft};
 ghost use Rattle.asl_runner.specs.Starting.{AreSeats, HaveWorked};
 ghost use Rattle.asl_runner.specs.Turning.{IsAt};

@@ -1,7 +1,8 @@
 //! A worker: it draws tickets, and with each steps one of its threads, until all have ended or no ticket is left.
 ghost use Rattle.std.specs.Prelude.{◌≡◌, ◌≢◌, ◌<◌, ◌≤◌, ◌%◌, ℕ, true, [], length, Some, slice_get, MatchOption};
 ghost use Rattle.asl_code.specs.Versions.{newest_threads};
-ghost use Rattle.asl_runner.specs.Working.{IsMine, HasLeft};
+ghost use Rattle.asl_runner.specs.Working.{HasLeft};
+ghost use Rattle.asl_runner.specs.Ending.{IsMine};
 ghost use Rattle.asl_runner.specs.Turning.{AfterTurn, IsAt, IsReadyAt};
 
 use crate::gate::Gate;
