@@ -12,6 +12,7 @@ pub mod Table
 pub mod Unique
 pub mod Reached
 pub mod Runs
+pub mod TableRuns
 pub mod Others
 pub mod Freshness
 pub mod Rising

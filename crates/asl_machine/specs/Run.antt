@@ -1,6 +1,7 @@
 -- Runs of a program: the state in which its threads start, and the replies and states of a schedule, by the computed
 -- step (docs/INSTRUCTIONS.md, "State" and "A step"). In each state of a run that step is the one that the instruction
--- table allows: the law steps_have_one_line.
+-- table allows: the law steps_have_one_line. So the replies and the state after a schedule are those of the table alone:
+-- the law runs_are_the_tables.
 use Rattle.std.specs.Prelude.{◌≡◌, ◌<◌, ◌≤◌, ℕ, zero, suc, List, [], ◌∷◌, ◌++◌, map, All, None, pos}
 use Rattle.asl_code.specs.Versions.{most_threads}
 use Rattle.asl_code.specs.declared.image.Image.{Image}
@@ -9,6 +10,7 @@ use Rattle.asl_lock_forest.specs.Holding.{no_holding}
 use Rattle.asl_machine.specs.declared.reply.Reply.{Reply}
 use Rattle.asl_machine.specs.State.{Object, Activity, Thread, Running, State}
 use Rattle.asl_machine.specs.Calls.{first_frame}
+use Rattle.asl_machine.specs.Step.{Step}
 use Rattle.asl_machine.specs.Twin.{step_of}
 
 -- the object of a global: one cell, which holds Int 0 (docs/INSTRUCTIONS.md, State)
@@ -46,6 +48,13 @@ replies_of image s (t ∷ ts) = (step_of image s t).reply ∷ replies_of image (
 abbrev pub state_after : Image → State → List ℕ → State
 state_after image s [] = s
 state_after image s (t ∷ ts) = state_after image (step_of image s t).state ts
+
+-- the schedule leads from a state to an end, each step by a line of the instruction table, with these replies: by the table
+-- alone, and by no computed step (docs/INSTRUCTIONS.md, A step)
+abbrev pub RunsBy : Image → State → List ℕ → List Reply → State → Type 0
+RunsBy image s [] [] end = end ≡ s
+RunsBy image s (t ∷ ts) (r ∷ rs) end = (new : State) × Step image s t r new × RunsBy image new ts rs end
+RunsBy image s ts rs end = ⊥
 
 -- some schedule of threads below the count leads so many threads of the program from their start to the state
 -- (docs/INSTRUCTIONS.md, What always holds)

@@ -1,11 +1,10 @@
 //! A program as a machine steps through it: where each function begins is told at once.
-ghost use Rattle.std.specs.Prelude.{◌≡◌, ◌<◌, ◌≤◌, ◌^◌, IfOk, IsSome, Some, length, slice_get};
+ghost use Rattle.std.specs.Prelude.{◌≡◌, ◌<◌, ◌^◌, IfOk, IsSome, Some, length, slice_get};
 ghost use Rattle.asl_code.specs.Bodies.{first_of, total_len};
-ghost use Rattle.asl_code.specs.Verified.{IsVerified};
 ghost use Rattle.asl_machine.specs.Calls.{function_of};
 ghost use Rattle.asl_machine.specs.Ready.{firsts_from};
 
-use asl_code::{Function, Instr, Items, Lock, Program};
+use asl_code::{Function, Instr, Program};
 use std::alloc::{AllocError, Global};
 use std::marker::Model;
 
@@ -19,7 +18,6 @@ pub struct Code<'p> {
 impl<'p> Model for Code<'p> {
     ghost use Rattle.std.specs.Prelude.{◌≡◌};
     ghost use Rattle.asl_code.specs.declared.image.Image.{Image};
-    ghost use Rattle.asl_code.specs.Verified.{IsVerified};
     ghost use Rattle.asl_machine.specs.Ready.{firsts_from};
 
     ghost Value = { Image };

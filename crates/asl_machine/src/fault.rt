@@ -2,7 +2,6 @@
 
 use asl_code::{Cell, Effect};
 use std::alloc::AllocError;
-use std::convert::From;
 
 /// Why a thread failed.
 #[derive(Clone, Copy, Debug, PartialEq, Eq)]

@@ -1,5 +1,5 @@
 //! The objects of a machine and what their cells hold.
-ghost use Rattle.std.specs.Prelude.{◌≡◌, ◌<◌, ◌++◌, ◌∷◌, [], ℕ, IfOk, OnOk, OnErr, Some, length, slice_get, map, option_map, replicate, pos, IsSome};
+ghost use Rattle.std.specs.Prelude.{◌≡◌, ◌<◌, ◌++◌, ◌∷◌, [], IfOk, OnOk, OnErr, Some, length, slice_get, map, replicate, pos, IsSome};
 
 use asl_code::{Cell, Value};
 use asl_lock_expr::HeapView;

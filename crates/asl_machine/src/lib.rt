@@ -28,7 +28,7 @@ pub use laws::{
 };
 pub use machine::Machine;
 pub use reply::{Reply, Status};
-pub use run_laws::{runs_go_on, runs_reach};
+pub use run_laws::{runs_are_the_tables, runs_go_on, runs_reach};
 pub use step_laws::{
     grants_cover_their_locks, new_objects_change_no_cell, steps_leave_others_alone,
     stores_change_one_cell,

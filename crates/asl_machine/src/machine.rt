@@ -57,7 +57,7 @@ impl<'p> Machine<'p> {
     ghost use Rattle.asl_machine.specs.Nodes.{IsNode};
     ghost use Rattle.asl_machine.specs.Cover.{is_fresh};
     ghost use Rattle.asl_machine.specs.Fresh.{fresh_at};
-    ghost use Rattle.asl_machine.specs.Sound.{IsSound, MayWantMemory};
+    ghost use Rattle.asl_machine.specs.Sound.{MayWantMemory};
 
     /// The machine in which n threads of the program start: 1 to as many as the program's version sets.
     pub fn new(alloc: Global, program: &'p Program, n: u32) -> Result<Machine<'p>, MachineFault>

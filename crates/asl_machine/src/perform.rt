@@ -1,5 +1,5 @@
 //! What one instruction does for the thread that is at it.
-ghost use Rattle.std.specs.Prelude.{◌≡◌, ◌<◌, ◌+◌, ◌^◌, IfOk, OnOk, OnErr, length};
+ghost use Rattle.std.specs.Prelude.{◌≡◌, ◌<◌, ◌+◌, ◌^◌, IfOk, OnErr, length};
 ghost use Rattle.asl_machine.specs.Ready.{IsReady, CanDo};
 ghost use Rattle.asl_machine.specs.Twin.{place, left_with, left_by, WantsMemory, fate_of, activity_set, address_moved, register_of};
 

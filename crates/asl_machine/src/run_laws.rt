@@ -4,7 +4,7 @@ ghost use Rattle.asl_code.specs.declared.image.Image.{Image};
 ghost use Rattle.asl_code.specs.Verified.{IsVerified};
 ghost use Rattle.asl_machine.specs.declared.reply.Reply.{Reply};
 ghost use Rattle.asl_machine.specs.State.{State};
-ghost use Rattle.asl_machine.specs.Run.{start_of, replies_of, state_after, IsReached};
+ghost use Rattle.asl_machine.specs.Run.{start_of, replies_of, state_after, RunsBy, IsReached};
 ghost use Rattle.asl_machine.specs.Step.{Step};
 ghost use Rattle.asl_machine.specs.Twin.{step_of};
 
@@ -27,4 +27,14 @@ pub fn runs_reach()
     ensures run { (image : Image) (count : ℕ) (s : State) (schedule : List ℕ) → IsReached image count s
         → All (λ t. t < count) schedule → IsReached image count (state_after image s schedule) }
     ensures count { (image : Image) (count : ℕ) (s : State) → IsReached image count s → length s.threads ≡ count }
+{}
+
+/// A run of a verified program, from the start of so many threads, goes by the table at each step, and by the table there is
+/// no other run over its schedule: the computed replies and the computed end are those of the table alone.
+pub fn runs_are_the_tables()
+    ensures some { (image : Image) (count : ℕ) (schedule : List ℕ) → IsVerified image → All (λ t. t < count) schedule
+        → RunsBy image (start_of image count) schedule (replies_of image (start_of image count) schedule) (state_after image (start_of image count) schedule) }
+    ensures one { (image : Image) (count : ℕ) (schedule : List ℕ) (replies : List Reply) (end : State) → IsVerified image
+        → RunsBy image (start_of image count) schedule replies end
+        → (replies ≡ replies_of image (start_of image count) schedule) × (end ≡ state_after image (start_of image count) schedule) }
 {}

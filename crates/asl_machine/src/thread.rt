@@ -1,9 +1,9 @@
 //! A thread of the machine, and its step.
-ghost use Rattle.std.specs.Prelude.{◌≡◌, ◌<◌, IfOk, OnOk, OnErr, IsSome, IsSomeAnd, Some, length, slice_get};
+ghost use Rattle.std.specs.Prelude.{◌≡◌, ◌<◌, IfOk, OnOk, OnErr, IsSomeAnd, Some, slice_get};
 ghost use Rattle.asl_machine.specs.Ready.{IsReady, CanDo};
 ghost use Rattle.asl_machine.specs.Sound.{ThreadWantsMemory};
 ghost use Rattle.asl_machine.specs.Ready.{ThreadReady};
-ghost use Rattle.asl_machine.specs.Twin.{place, left_with, left_at, turn_of, reply_of, thread_after, holding_after, WantsMemory};
+ghost use Rattle.asl_machine.specs.Twin.{place, left_with, left_at, turn_of, reply_of, holding_after, WantsMemory};
 
 use crate::code::Code;
 use crate::fate::Fate;
