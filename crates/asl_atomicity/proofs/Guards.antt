@@ -22,7 +22,7 @@ use Rattle.asl_lock_forest.proofs.Grantable.{CanGrant-tested, can_grant-tells}
 use Rattle.asl_machine.proofs.RequestLaws.{request_asks_modes, request_is_rooted}
 use Rattle.asl_machine.proofs.Soundness.{here_of, outside_here, instr_here}
 use Rattle.asl_atomicity.specs.Serial.{heard, IsGuarded, ListCovered}
-use Rattle.asl_atomicity.specs.Swapping.{EntriesUnseen}
+use Rattle.asl_atomicity.proofs.Swapping.{EntriesUnseen}
 use Rattle.asl_atomicity.proofs.Uniform.{ObjectsEdit, Same, Stored, Made, put, Acquired, edit, uniform, place_at}
 use Rattle.asl_atomicity.proofs.Unseen.{WroteBy, covered_kept}
 use Rattle.asl_atomicity.proofs.Reaching.{is_reached, run_apart}

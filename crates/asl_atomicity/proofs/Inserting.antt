@@ -16,7 +16,7 @@ use Rattle.asl_machine.specs.Twin.{step_of, step_at}
 use Rattle.asl_machine.specs.Sound.{IsSound}
 use Rattle.asl_machine.proofs.Soundness.{here_of, instr_here, step_sound}
 use Rattle.asl_atomicity.specs.Serial.{heard, told, AllCount, IsSerial, IsGuarded}
-use Rattle.asl_atomicity.specs.Swapping.{AreOthers, Stands, InSection}
+use Rattle.asl_atomicity.proofs.Swapping.{AreOthers, Stands, InSection}
 use Rattle.asl_atomicity.specs.Renamed.{Renaming, reply_by, thread_by, IsRenamed, Keeps}
 use Rattle.asl_atomicity.proofs.Uniform.{IsNew}
 use Rattle.asl_atomicity.proofs.Swaps.{swapped}

@@ -1,3 +1,4 @@
+pub mod Swapping
 pub mod Moves
 pub mod Serials
 pub mod Uniform

@@ -11,7 +11,7 @@ use Rattle.asl_machine.specs.Twin.{step_of, step_at}
 use Rattle.asl_machine.proofs.Lists.{get_other}
 use Rattle.asl_machine.proofs.Soundness.{step_sound}
 use Rattle.asl_atomicity.specs.Serial.{heard, told, AllCount, IsSerial, AreAlike, IsInside}
-use Rattle.asl_atomicity.specs.Swapping.{AreOthers, Stands, CanSwap}
+use Rattle.asl_atomicity.proofs.Swapping.{AreOthers, Stands, CanSwap}
 
 -- a step of one thread leaves the others where they are
 pub others_stay : (image : Image) (s : State) (u t : ℕ) → t ≢ u → slice_get (step_of image s u).state.threads t ≡ slice_get s.threads t

@@ -11,7 +11,7 @@ use Rattle.asl_machine.specs.Fresh.{AreApart}
 use Rattle.asl_machine.proofs.Reached.{step_count}
 use Rattle.asl_machine.proofs.ReachedApart.{reached_apart}
 use Rattle.asl_machine.proofs.Soundness.{length-first_threads}
-use Rattle.asl_atomicity.specs.Swapping.{Stands}
+use Rattle.asl_atomicity.proofs.Swapping.{Stands}
 
 -- a schedule of threads below the count that leads from one state to the other
 record Leads (image : Image) (count : ℕ) (s to : State) : Type 0 where

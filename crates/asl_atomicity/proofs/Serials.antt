@@ -21,7 +21,7 @@ use Rattle.asl_machine.proofs.Soundness.{start_sound}
 use Rattle.asl_machine.proofs.Reached.{step_count}
 use Rattle.asl_machine.proofs.Table.{step_is}
 use Rattle.asl_atomicity.specs.Serial.{heard, told, AllCount, IsSerial, AreAlike, IsInside, MakesOutside, HasSerial}
-use Rattle.asl_atomicity.specs.Swapping.{AreOthers, Stands, CanSwap}
+use Rattle.asl_atomicity.proofs.Swapping.{AreOthers, Stands, CanSwap}
 use Rattle.asl_atomicity.proofs.Moves.{others_stay, state_parts, step_stands, inside_stays, moves, moved_counts, moved_serial}
 
 -- ---- runs in two parts

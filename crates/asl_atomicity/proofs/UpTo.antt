@@ -14,7 +14,7 @@ use Rattle.asl_machine.specs.Run.{start_of, state_after}
 use Rattle.asl_machine.specs.Twin.{step_of}
 use Rattle.asl_machine.proofs.Soundness.{start_sound, length-first_threads}
 use Rattle.asl_atomicity.specs.Serial.{heard, told, AllCount, IsSerial, IsGuarded}
-use Rattle.asl_atomicity.specs.Swapping.{Stands, InSection}
+use Rattle.asl_atomicity.proofs.Swapping.{Stands, InSection}
 use Rattle.asl_atomicity.specs.Renamed.{Renaming, reply_by, activity_by, thread_by, IsRenamed, Keeps, FindsRoomInside, HasSerialRunsUpTo}
 use Rattle.asl_atomicity.proofs.Moves.{state_parts}
 use Rattle.asl_atomicity.proofs.Serials.{told_parts, counts_split, counts_join, last_of, last_end, serial_split, serial_join, run_stands, run_length, stays, LastAt, find_last, unheard, tell_heard, quiet, slot_depth, start_outside}

@@ -32,7 +32,7 @@ use Rattle.asl_machine.specs.Request.{heap_of, request_of, locks_of}
 use Rattle.asl_machine.specs.Run.{IsReached}
 use Rattle.asl_machine.specs.Cover.{cover}
 use Rattle.asl_machine.proofs.Soundness.{here_of, outside_here}
-use Rattle.asl_soundness.specs.Analysed.{IsAnalysed}
+use Rattle.asl_soundness.proofs.Analysed.{IsAnalysed}
 use Rattle.asl_soundness.specs.Coded.{classed}
 use Rattle.asl_soundness.specs.Over.{StandsOver}
 use Rattle.asl_soundness.specs.Protected.{CellProtected, Protected}

@@ -1,3 +1,4 @@
+pub mod There
 pub mod Same
 pub mod Reducing
 pub mod Absorbing

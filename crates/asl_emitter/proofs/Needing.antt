@@ -15,7 +15,7 @@ use Rattle.asl_backward_flow.specs.Based.{HasBase, IsLockOf}
 use Rattle.asl_backward_flow.proofs.Leasts.{needed_inside}
 use Rattle.asl_backward_flow.proofs.Basing.{needed_of}
 use Rattle.asl_emitter.specs.Lists.{HasClass}
-use Rattle.asl_emitter.specs.There.{IsBaseIn, IsLockIn}
+use Rattle.asl_emitter.proofs.There.{IsBaseIn, IsLockIn}
 
 needed_at : (l : Lowered) (c : Classed) (stores : ℕ → ℕ → Bool) (longest : ℕ) → IsKept l → AreClasses l c → (n pc : ℕ) (s : Section) (a : Lock) → slice_get l.sections n ≡ Some s → Needed l c stores longest (Inside n) pc a → IsLockOf l c longest s.function a
 needed_at l c stores longest kept are n pc s a there needed =

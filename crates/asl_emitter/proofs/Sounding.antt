@@ -7,7 +7,7 @@ use Rattle.asl_lower.specs.Kept.{IsKept}
 use Rattle.asl_points_to.specs.Classes.{Classed, AreClasses}
 use Rattle.asl_lock_expr.specs.ClassOf.{TellsStores}
 use Rattle.asl_backward_flow.specs.Needed.{Needed}
-use Rattle.asl_soundness.specs.Analysed.{IsAnalysed}
+use Rattle.asl_soundness.proofs.Analysed.{IsAnalysed}
 use Rattle.asl_soundness.specs.Coded.{IsImageOf}
 use Rattle.asl_soundness.specs.Safe.{StandOver, NeverUnprotected}
 use Rattle.asl_soundness.proofs.Soundness.{sound_program}

@@ -35,7 +35,7 @@ use Rattle.asl_soundness.specs.Coded.{classed}
 use Rattle.asl_emitter.specs.Lists.{as_class}
 use Rattle.asl_emitter.specs.Inferred.{IsInferred}
 use Rattle.asl_emitter.specs.Parts.{HasSites}
-use Rattle.asl_emitter.specs.There.{IsLockIn, IsBaseIn}
+use Rattle.asl_emitter.proofs.There.{IsLockIn, IsBaseIn}
 use Rattle.asl_emitter.proofs.Needing.{needed_in}
 use Rattle.asl_emitter.proofs.Reducing.{one_at}
 use Rattle.asl_emitter.proofs.Fits.{fitted_short, fitted_all}

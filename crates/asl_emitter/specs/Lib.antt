@@ -4,4 +4,3 @@ pub mod Refused
 -- Machinery of the proofs, not of the promise:
 pub mod Faults
 pub mod Parts
-pub mod There

@@ -1,5 +1,5 @@
 //! Lists of at most 256 locks.
-ghost use Rattle.std.specs.Prelude.{◌≡◌, ◌<◌, IfOk, length};
+ghost use Rattle.std.specs.Prelude.{◌≡◌, ◌<◌, IfOk};
 ghost use Rattle.std.specs.List.{flat_map};
 ghost use Rattle.asl_code.specs.Versions.{newest_locks};
 ghost use Rattle.asl_lock_expr.specs.Links.{IsOne};

@@ -1,5 +1,5 @@
 //! The parts of the image that is inferred for a program.
-ghost use Rattle.std.specs.Prelude.{◌≡◌, ◌<◌, ℕ, IfOk, Some, length, map, slice_get};
+ghost use Rattle.std.specs.Prelude.{◌≡◌, ◌<◌, ℕ, IfOk, length, map};
 ghost use Rattle.asl_code.specs.declared.instr.Instr.TheVariants.{New as NewInstr};
 ghost use Rattle.asl_soundness.specs.Coded.{classed};
 ghost use Rattle.asl_emitter.specs.Parts.{HasSites, AreFitted};

@@ -1,5 +1,5 @@
 //! The program that is inferred for a tree.
-ghost use Rattle.std.specs.Prelude.{◌≡◌, ◌≤◌, ℕ, IfOk, IfErr, OnOk};
+ghost use Rattle.std.specs.Prelude.{◌≤◌, ℕ, IfOk, IfErr, OnOk};
 ghost use Rattle.asl_syntax.specs.AstView.{tree_of};
 ghost use Rattle.asl_lower.specs.Kept.{IsKept};
 ghost use Rattle.asl_points_to.specs.Classes.{AreClasses};

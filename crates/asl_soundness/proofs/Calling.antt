@@ -32,11 +32,12 @@ use Rattle.asl_machine.specs.Sound.{IsSuspended, AreSuspended}
 use Rattle.asl_machine.specs.Step.{placed_at, returned}
 use Rattle.asl_machine.specs.Request.{heap_of}
 use Rattle.asl_machine.specs.Cover.{Cover, cover}
-use Rattle.asl_soundness.specs.Analysed.{IsAnalysed}
+use Rattle.asl_soundness.proofs.Analysed.{IsAnalysed}
 use Rattle.asl_soundness.specs.Agrees.{FrameAgrees, FramesAgree, ThreadAgrees, CellsAgree}
 use Rattle.asl_soundness.specs.Nested.{is_inside, region_of}
 use Rattle.asl_soundness.specs.Protected.{CellProtected, Protected, BaseThere, LockThere}
-use Rattle.asl_soundness.specs.Wanted.{IsLeft, WaitingHave, HasWanted}
+use Rattle.asl_soundness.specs.Wanted.{IsLeft, WaitingHave}
+use Rattle.asl_soundness.proofs.Having.{HasWanted}
 use Rattle.asl_soundness.proofs.Protecting.{GlobalsAgree, Stands, settle_protects}
 use Rattle.asl_soundness.proofs.Standing.{body_of, call_at, globals_agree}
 use Rattle.asl_soundness.proofs.Stored.{store_below, return_row}

@@ -8,7 +8,7 @@ use Rattle.asl_code.specs.declared.value.Value.{Value}
 use Rattle.asl_code.specs.declared.value.Value.TheVariants.{Addr}
 use Rattle.asl_code.specs.declared.value.Cell.{Cell}
 use Rattle.asl_code.specs.declared.value.Effect.{Effect}
-use Rattle.asl_code.specs.declared.value.Effect.TheVariants.{Read, Write}
+use Rattle.asl_code.specs.declared.value.Effect.TheVariants.{Read}
 use Rattle.asl_code.specs.declared.lock.Expr.{Expr}
 use Rattle.asl_code.specs.declared.lock.Lock.{Lock}
 use Rattle.asl_code.specs.declared.lock.Lock.TheVariants as lock
@@ -34,7 +34,8 @@ use Rattle.asl_machine.specs.Request.{heap_of}
 use Rattle.asl_machine.specs.Cover.{is_fresh, Cover, cover, Allows}
 use Rattle.asl_machine.proofs.Freshness.{or_split}
 use Rattle.asl_soundness.specs.Protected.{is_class_covered, Protected, LockThere}
-use Rattle.asl_soundness.specs.Wanted.{AreProtected, IsLeft, WaitingHave, HasWanted}
+use Rattle.asl_soundness.specs.Wanted.{AreProtected, IsLeft, WaitingHave}
+use Rattle.asl_soundness.proofs.Having.{HasWanted}
 use Rattle.asl_soundness.proofs.Protecting.{protect, protected_at}
 use Rattle.asl_soundness.proofs.Stored.{store_elsewhere}
 use Rattle.asl_soundness.proofs.Avoiding.{MayWrite, Shun, prefix_avoids}
@@ -77,15 +78,16 @@ held_covers_class h new t more x effect covers =
       | false ↦ λ own e. or_right (is_at_most (covering_mode effect) (held new t (Class x))) _ (at_most_trans (covering_mode effect) _ _ e (more Root))
     ] refl covers
 
+-- a lock that is protected for a thread stays so where the thread is covered for at least what it was covered for
+pub more_protects : (t : ℕ) (k after : Cover) (objects : List Object) (regs : List Value) → IsAtLeast k after t → (n : Lock) → Protected k t objects regs n → Protected after t objects regs n
+more_protects t k after objects regs more (lock.Root effect) p = at_most_trans (covering_mode effect) _ _ p (more.holds Root)
+more_protects t k after objects regs more (lock.Class x effect) p = held_covers_class k.holding after.holding t more.holds x effect p
+more_protects t k after objects regs more (lock.Expr e effect) p =
+    protect after t objects effect (cell_denoted (heap_of objects) regs e) (λ cell d x of. still_allows k after t more cell x effect (protected_at k t objects effect _ cell d p x of))
+
 -- a thread that is covered for at least what it was covered for
 pub more_keeps : (c : Classed) (t : ℕ) (k after : Cover) (objects : List Object) → IsAtLeast k after t → Keeps c t NoneShunned k objects after objects
-more_keeps c t k after objects more regs W points away whole all n wanted = by_lock n (all n wanted)
-  where
-    by_lock : (n : Lock) → Protected k t objects regs n → Protected after t objects regs n
-    by_lock (lock.Root effect) p = at_most_trans (covering_mode effect) _ _ p (more.holds Root)
-    by_lock (lock.Class x effect) p = held_covers_class k.holding after.holding t more.holds x effect p
-    by_lock (lock.Expr e effect) p =
-        protect after t objects effect (cell_denoted (heap_of objects) regs e) (λ cell d x of. still_allows k after t more cell x effect (protected_at k t objects effect _ cell d p x of))
+more_keeps c t k after objects more regs W points away whole all n wanted = more_protects t k after objects regs more n (all n wanted)
 
 -- another thread's store: it may write the cell, so no prefix of a protected lock reads it
 pub stored_keeps : (c : Classed) (image : Image) (s : State) → IsSound image s → AreApart image s → image.globals ≡ c.globals → (t u : ℕ) (a : Activity) → t ≢ u → activity_at s.threads t ≡ Some a → (cell : Cell) (value : Value) → MayWrite s u cell →

@@ -1,3 +1,5 @@
+pub mod Having
+pub mod Analysed
 pub mod Protecting
 pub mod Rows
 pub mod Stored
@@ -26,3 +28,5 @@ pub mod Safety
 pub mod Soundness
 pub mod Based
 pub mod NeededLaws
+pub mod LinkLines
+pub mod LinkOthers

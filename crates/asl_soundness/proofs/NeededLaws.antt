@@ -9,7 +9,7 @@ use Rattle.asl_backward_flow.specs.Needed.{Needed}
 use Rattle.asl_backward_flow.proofs.Leasts.{needed_closed}
 use Rattle.asl_soundness.specs.Coded.{IsImageOf}
 use Rattle.asl_soundness.specs.Safe.{StandOver, TellsAllStores}
-use Rattle.asl_soundness.specs.Analysed.{IsAnalysed}
+use Rattle.asl_soundness.proofs.Analysed.{IsAnalysed}
 use Rattle.asl_soundness.proofs.Based.{needed_there}
 
 -- a program whose lists stand over the needed locks is analysed

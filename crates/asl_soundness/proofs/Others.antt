@@ -1,6 +1,6 @@
 -- What a line of the table changes for the other threads: nothing, one cell that its thread may write, or objects that are
 -- added; and so each other thread keeps what it wants.
-use Rattle.std.proofs.Common.{◌≡◌, ◌≢◌, ℕ, ◌++◌, Bool, false, List, [], ◌∷◌, Some, refl, ap, sym, ◌∙◌, subst, inl, inr}
+use Rattle.std.proofs.Common.{◌≡◌, ◌≢◌, ℕ, ◌++◌, Bool, List, [], ◌∷◌, Some, refl, ap, sym, ◌∙◌, subst, inl, inr}
 use Rattle.std.specs.Prelude.{unwrap_or, slice_get}
 use Rattle.asl_code.specs.declared.image.Image.{Image}
 use Rattle.asl_code.specs.declared.value.Value.{Value}
@@ -29,8 +29,8 @@ use Rattle.asl_machine.proofs.Table.{at_of}
 use Rattle.asl_machine.proofs.Others.{step_leaves_held}
 use Rattle.asl_soundness.specs.Coded.{classed}
 use Rattle.asl_soundness.specs.Agrees.{Agrees}
-use Rattle.asl_soundness.specs.Analysed.{IsAnalysed}
-use Rattle.asl_soundness.specs.Wanted.{HasWanted}
+use Rattle.asl_soundness.proofs.Analysed.{IsAnalysed}
+use Rattle.asl_soundness.proofs.Having.{HasWanted}
 use Rattle.asl_soundness.proofs.Protecting.{get_some}
 use Rattle.asl_soundness.proofs.Standing.{globals_point}
 use Rattle.asl_soundness.proofs.Faults.{line_fails}

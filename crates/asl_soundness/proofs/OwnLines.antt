@@ -36,7 +36,7 @@ use Rattle.asl_soundness.specs.Coded.{classed}
 use Rattle.asl_soundness.specs.Agrees.{Agrees}
 use Rattle.asl_soundness.specs.Nested.{IsNestedAt}
 use Rattle.asl_soundness.specs.Protected.{Protected, BaseThere}
-use Rattle.asl_soundness.specs.Wanted.{HasWanted}
+use Rattle.asl_soundness.proofs.Having.{HasWanted}
 use Rattle.asl_soundness.proofs.Protecting.{AllProtected, get_some}
 use Rattle.asl_soundness.proofs.Standing.{globals_point}
 use Rattle.asl_soundness.proofs.Owning.{runs_on, ends_on}

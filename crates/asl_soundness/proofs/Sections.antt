@@ -10,7 +10,7 @@ use Rattle.asl_code.specs.declared.lock.Lock.{Lock}
 use Rattle.asl_code.specs.declared.lock.Lock.TheVariants as lock
 use Rattle.asl_code.specs.declared.instr.Instr.{Instr}
 use Rattle.asl_code.specs.declared.instr.Instr.TheVariants as instr
-use Rattle.asl_lock_forest.specs.Holding.{Holding, grant}
+use Rattle.asl_lock_forest.specs.Holding.{grant}
 use Rattle.asl_lower.specs.declared.section.Section.{Section}
 use Rattle.asl_lower.specs.Lowered.{Lowered}
 use Rattle.asl_lower.specs.Region.{open_at, open_behind, is_acquire, InBody, GoesOn}
@@ -28,11 +28,12 @@ use Rattle.asl_machine.specs.Step.{placed_at, going_on}
 use Rattle.asl_machine.specs.Request.{request_of}
 use Rattle.asl_machine.specs.Cover.{Cover, cover}
 use Rattle.asl_machine.proofs.Soundness.{Here, outside_here}
-use Rattle.asl_soundness.specs.Analysed.{IsAnalysed}
+use Rattle.asl_soundness.proofs.Analysed.{IsAnalysed}
 use Rattle.asl_soundness.specs.Nested.{is_inside, opened, IsNestedAt, region_of}
 use Rattle.asl_soundness.specs.Over.{StandsOver}
 use Rattle.asl_soundness.specs.Protected.{Protected, BaseThere}
-use Rattle.asl_soundness.specs.Wanted.{WaitingHave, HasWanted}
+use Rattle.asl_soundness.specs.Wanted.{WaitingHave}
+use Rattle.asl_soundness.proofs.Having.{HasWanted}
 use Rattle.asl_soundness.proofs.Protecting.{Stands, AllProtected}
 use Rattle.asl_soundness.proofs.Standing.{body_of, globals_agree}
 use Rattle.asl_soundness.proofs.Links.{GlobalsThere, link_protects}

@@ -15,8 +15,8 @@ use Rattle.asl_machine.specs.Fresh.{AreApart}
 use Rattle.asl_machine.proofs.Soundness.{Here}
 use Rattle.asl_machine.proofs.ReachedApart.{start_apart, step_of_apart}
 use Rattle.asl_soundness.specs.Safe.{IsSafe, NeverUnprotected}
-use Rattle.asl_soundness.specs.Analysed.{IsAnalysed}
-use Rattle.asl_soundness.specs.Wanted.{HasWanted, HaveWanted}
+use Rattle.asl_soundness.proofs.Analysed.{IsAnalysed}
+use Rattle.asl_soundness.proofs.Having.{HasWanted, HaveWanted}
 use Rattle.asl_soundness.proofs.Regions.{no_region}
 use Rattle.asl_soundness.proofs.Stepping.{each_step, each_thread, still, reached_keeps, first_at}
 use Rattle.asl_soundness.proofs.Structure.{IsStructured, start_outside, start_structured, step_structured}

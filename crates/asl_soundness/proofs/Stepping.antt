@@ -39,6 +39,19 @@ pub record Does (l : Lowered) (c : Classed) (image : Image) (s : State) (t : ℕ
 pub sites_there : (l : Lowered) (c : Classed) (image : Image) → IsImageOf l c image → HasLayout l → (pc a n site : ℕ) → slice_get l.code pc ≡ Some (instr.New a n site) → site < length c.sites
 sites_there l c image made lay pc a n site at = let lt = lay.numbered.known_sites pc a n site at in let same = made.legal.sites in omega (arith, lt, same)
 
+-- a thread that is at something runs
+runs_at : (thread : Thread) (a : Activity) → activity_of thread ≡ Some a → thread ≡ Running a
+runs_at (Running b) a e = ap (λ x. Running x) (same_Some b a e)
+runs_at (Done v) a e = cc
+runs_at (Failed f) a e = cc
+
+running_there : (threads : List Thread) (t : ℕ) (a : Activity) → activity_at threads t ≡ Some a → slice_get threads t ≡ Some (Running a)
+running_there threads t a e =
+    elim (slice_get threads t) as (λ o. slice_get threads t ≡ o → option_and_then activity_of o ≡ Some a → slice_get threads t ≡ Some (Running a)) [
+      | None ↦ λ is f. cc
+      | Some thread ↦ λ is f. is ∙ ap (λ x. Some x) (runs_at thread a f)
+    ] refl e
+
 module _ (l : Lowered) (c : Classed) (image : Image) (made : IsImageOf l c image) where
   does : (s : State) (t : ℕ) (a : Activity) (h : Here image s t a) (r : Reply) (new : State) → StepOf image s t (Some (Running a)) r new → (i : Instr) × Does l c image s t a h i r new
   does s t a h r new step =
@@ -54,6 +67,17 @@ module _ (l : Lowered) (c : Classed) (image : Image) (made : IsImageOf l c image
           fits = h.sound.fits.instr_fits a.top.function a.top.pc h.placed.function (classed c i.0) h.placed.lies here;
           line = subst (λ j. Line (at_of image s t a) j r new) (sym i.2) step.2;
         },
+      )
+
+  -- the step of a running thread is its line
+  pub own_step : (s : State) (t : ℕ) (a : Activity) → IsSound image s → activity_at s.threads t ≡ Some a →
+      (h : Here image s t a) × ((i : Instr) × Does l c image s t a h i (step_of image s t).reply (step_of image s t).state)
+  own_step s t a sound is =
+      let e = running_there s.threads t a is in
+      let h = here_of image s t a sound e in (
+        h,
+        does s t a h (step_of image s t).reply (step_of image s t).state
+            (subst (λ o. StepOf image s t o (step_of image s t).reply (step_of image s t).state) e (step_is image s t sound h.there)),
       )
 
   -- what holds of each step: of each running thread's line, and where nothing is done

@@ -10,8 +10,8 @@ use Rattle.asl_points_to.specs.Classes.{Classed}
 use Rattle.asl_lock_expr.specs.Links.{IsOne, link}
 use Rattle.asl_backward_flow.specs.Needed.{view}
 use Rattle.asl_backward_flow.specs.Closed.{Family}
-use Rattle.asl_machine.specs.State.{Object, Frame, Activity, State, activity_at}
-use Rattle.asl_machine.specs.Cover.{Cover, cover}
+use Rattle.asl_machine.specs.State.{Object, Frame}
+use Rattle.asl_machine.specs.Cover.{Cover}
 use Rattle.asl_soundness.specs.Nested.{region_of}
 use Rattle.asl_soundness.specs.Protected.{Protected}
 
@@ -42,13 +42,3 @@ WaitingHave l c stores longest K k t objects [] = Unit {0}
 WaitingHave l c stores longest K k t objects (f ∷ below) =
     ((r : Region) → region_of l f below ≡ Some r → AreProtected k t objects f.regs (IsLeft l c stores longest K f r))
     × WaitingHave l c stores longest K k t objects below
-
--- all frames of a thread have what is wanted
-pub record HasWanted (l : Lowered) (c : Classed) (stores : ℕ → ℕ → Bool) (longest : ℕ) (K : Family) (k : Cover) (t : ℕ) (objects : List Object) (a : Activity) : Type 0 where
-  pub top : TopHas l K k t objects a.top a.below
-  pub waiting : WaitingHave l c stores longest K k t objects a.below
-
--- so it is of each running thread
-abbrev pub HaveWanted : Lowered → Classed → (ℕ → ℕ → Bool) → ℕ → Family → State → Type 0
-HaveWanted l c stores longest K s =
-    (t : ℕ) (a : Activity) → activity_at s.threads t ≡ Some a → HasWanted l c stores longest K (cover s.holding a.fresh) t s.objects a

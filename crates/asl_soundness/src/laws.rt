@@ -1,17 +1,43 @@
-//! The second and the third pass, and the end: laws of the runs of a program whose lists stand over the locks that it needs, as
-//! functions that do nothing: what each ensures is the law.
-ghost use Rattle.std.specs.Prelude.{◌≡◌, ℕ, Bool, Some};
+//! The second and the third pass, and the end: a law of one step, whatever the lists, and laws of the runs of a program whose
+//! lists stand over the locks that it needs, as functions that do nothing: what each ensures is the law.
+ghost use Rattle.std.specs.Prelude.{◌≡◌, ◌≢◌, ◌<◌, ℕ, ◌∷◌, Bool, Some, slice_get};
 ghost use Rattle.asl_code.specs.declared.image.Image.{Image};
+ghost use Rattle.asl_code.specs.declared.instr.Instr.{Instr};
+ghost use Rattle.asl_code.specs.declared.lock.Lock.{Lock};
 ghost use Rattle.asl_lower.specs.Lowered.{Lowered};
 ghost use Rattle.asl_lower.specs.Kept.{IsKept};
 ghost use Rattle.asl_points_to.specs.Classes.{Classed};
-ghost use Rattle.asl_backward_flow.specs.Needed.{Needed};
-ghost use Rattle.asl_machine.specs.State.{Activity, State, activity_at};
+ghost use Rattle.asl_lock_expr.specs.Links.{IsOne, link, dereferenced};
+ghost use Rattle.asl_backward_flow.specs.Needed.{Needed, view};
+ghost use Rattle.asl_machine.specs.State.{Frame, Activity, State, activity_at};
 ghost use Rattle.asl_machine.specs.Run.{IsReached};
 ghost use Rattle.asl_machine.specs.Cover.{cover};
+ghost use Rattle.asl_machine.specs.Twin.{step_of};
 ghost use Rattle.asl_soundness.specs.Coded.{IsImageOf};
+ghost use Rattle.asl_soundness.specs.Protected.{Protected, LockThere};
 ghost use Rattle.asl_soundness.specs.Safe.{StandOver, TellsAllStores, NeverUnprotected};
-ghost use Rattle.asl_soundness.specs.Wanted.{TopHas, WaitingHave};
+ghost use Rattle.asl_soundness.specs.Wanted.{AreProtected, TopHas, WaitingHave};
+
+/// One step from a reached state, for any one lock. Of the thread's own step, in a section before and behind it and in the same
+/// frame, as over any instruction but a `call` and a `ret`: where each lock that the link over its instruction gives is
+/// protected before it, the lock is protected behind it. Of another thread's step: a lock that is protected for a frame with
+/// its dereferenced prefixes stays protected. Neither asks anything of the lists.
+pub fn links_keep_locks_protected()
+    ensures own { (l : Lowered) (c : Classed) (stores : ℕ → ℕ → Bool) (longest : ℕ) (image : Image) (count : ℕ) (s : State) (t : ℕ) (a b : Activity) (i : Instr) (n : Lock)
+        → IsKept l → IsImageOf l c image → IsReached image count s
+        → activity_at s.threads t ≡ Some a → slice_get l.code a.top.pc ≡ Some i
+        → activity_at (step_of image s t).state.threads t ≡ Some b → 0 < a.depth → 0 < b.depth → b.below ≡ a.below
+        → LockThere c n
+        → AreProtected (cover s.holding a.fresh) t s.objects a.top.regs (IsOne (link (view c stores longest a.top.function) i n))
+        → Protected (cover (step_of image s t).state.holding b.fresh) t (step_of image s t).state.objects b.top.regs n }
+    ensures others { (l : Lowered) (c : Classed) (image : Image) (count : ℕ) (s : State) (t u : ℕ) (a : Activity) (place : ℕ) (f : Frame) (n : Lock)
+        → IsKept l → IsImageOf l c image → IsReached image count s
+        → activity_at s.threads t ≡ Some a → slice_get (a.top ∷ a.below) place ≡ Some f → t ≢ u
+        → LockThere c n
+        → AreProtected (cover s.holding a.fresh) t s.objects f.regs (IsOne (dereferenced n))
+        → Protected (cover s.holding a.fresh) t s.objects f.regs n
+        → Protected (cover (step_of image s u).state.holding a.fresh) t (step_of image s u).state.objects f.regs n }
+{}
 
 /// In each reached state all locks that the region of a thread's top frame needs where the frame stands are protected: over
 /// the frame's own steps, its loops, and the steps of other threads.

@@ -6,7 +6,8 @@ mod laws;
 mod structure_laws;
 
 pub use laws::{
-    locks_of_waiting_frames_are_protected, needed_locks_are_protected, never_unprotected,
+    links_keep_locks_protected, locks_of_waiting_frames_are_protected, needed_locks_are_protected,
+    never_unprotected,
 };
 pub use structure_laws::{
     accesses_are_in_sections, depths_count_open_sections, sections_are_entered_and_left,

@@ -1,4 +1,4 @@
--- Machinery of the proofs, not of the promise: what soundness rests on, for any closed family of locks. The needed locks are
+-- What soundness rests on, for any closed family of locks. The needed locks are
 -- one, so the laws name these alone.
 use Rattle.std.specs.Prelude.{ℕ, Bool}
 use Rattle.asl_code.specs.declared.image.Image.{Image}

@@ -1,4 +1,4 @@
--- Machinery of the proofs, not of the promise: neighbouring steps that change places.
+-- Neighbouring steps that change places.
 use Rattle.std.specs.Prelude.{◌≡◌, ◌≢◌, ◌<◌, ℕ, List, [], ◌∷◌, Some, slice_get}
 use Rattle.asl_code.specs.declared.image.Image.{Image}
 use Rattle.asl_code.specs.declared.instr.Instr.TheVariants as instr

@@ -1,4 +1,4 @@
--- Machinery of the proofs, not of the promise: what a lock is on is there.
+-- What a lock is on is there.
 use Rattle.std.specs.Prelude.{◌<◌, ℕ, length}
 use Rattle.asl_code.specs.declared.lock.Base.{Base}
 use Rattle.asl_code.specs.declared.lock.Base.TheVariants.{Reg, Global}
