@@ -1,6 +1,6 @@
 //! From bytes to a program: reading them to their end, then judging the image.
 
-ghost use Rattle.std.specs.Prelude.{◌≡◌, ◌≤◌, ◌⊎◌, length, IfOk, IfErr};
+ghost use Rattle.std.specs.Prelude.{◌≡◌, ◌⊎◌, IfOk, IfErr};
 ghost use Rattle.asl_code.specs.declared.image.Image.{Image};
 ghost use Rattle.asl_code.specs.Verified.{IsVerified};
 ghost use Rattle.asl_loader.specs.Bytes.{SpellsImage};

@@ -1,8 +1,8 @@
 //! Reading the fields of an image from the front of bytes. Where memory is refused the reading goes on and keeps nothing,
 //! so that want of memory hides nothing that is wrong with the bytes.
 
-ghost use Rattle.std.specs.Prelude.{◌≡◌, ◌≤◌, ◌<◌, ℕ, List, [], ◌∷◌, ◌++◌, length, take, IfOk};
-ghost use Rattle.std.specs.Int.{w16, w32};
+ghost use Rattle.std.specs.Prelude.{◌≡◌, ◌≤◌, ◌<◌, ℕ, List, [], ◌∷◌, ◌++◌, length, take};
+ghost use Rattle.std.specs.Int.{w16};
 ghost use Rattle.asl_code.specs.declared.image.Function.{Function};
 ghost use Rattle.asl_code.specs.declared.instr.Instr.{Instr};
 ghost use Rattle.asl_code.specs.declared.lock.Lock.{Lock};
