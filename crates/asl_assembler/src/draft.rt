@@ -1,12 +1,11 @@
 //! Taking one line after the other into the image that a text spells so far.
 
 ghost use Rattle.std.specs.Prelude.{◌≡◌, IfOk};
-ghost use Rattle.asl_assembler.specs.Words.{words_of};
 ghost use Rattle.asl_assembler.specs.Reading.{longer, next, finished, step_line, paired, open_of, kept, is_over};
 
 use crate::line::{Line, meaning};
 use crate::words::next_word;
-use asl_code::{Function, Image, Instr, Items, Lock, NEWEST_LIMITS};
+use asl_code::{Function, Image, Items, Lock, NEWEST_LIMITS};
 use std::alloc::{AllocError, Global};
 
 /// The most lists of an image that the verifier takes.

@@ -1,7 +1,7 @@
 //! Numbers in words: decimal digits, alone or behind a mark.
 
 ghost use Rattle.std.specs.Prelude.{◌≡◌};
-ghost use Rattle.std.specs.Option.{option_map, option_copied};
+ghost use Rattle.std.specs.Option.{option_copied};
 ghost use Rattle.asl_assembler.specs.Reading.{decimal_of, number_of, after_mark, marked_of, integer_of};
 
 /// The value of a word of one to ten decimal digits.

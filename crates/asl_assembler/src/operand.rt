@@ -63,24 +63,28 @@ pub(crate) fn operation(word: &[u8]) -> Option<Op>
     }
 }
 
+/// Of a line the only word as a register, if it is so.
 pub(crate) fn one_register(line: &[u8]) -> Option<u8>
     ensures { result ≡ one register_of (words_of line.now) }
 {
     register(one_word_in(line)?)
 }
 
+/// Of a line the only word as a number below 65,536, if it is so.
 pub(crate) fn one_short(line: &[u8]) -> Option<u16>
     ensures { result ≡ one (number_of 65536) (words_of line.now) }
 {
     short(one_word_in(line)?)
 }
 
+/// Of a line the only word as an effect, if it is so.
 pub(crate) fn one_effect(line: &[u8]) -> Option<Effect>
     ensures { result ≡ one effect_of (words_of line.now) }
 {
     effect(one_word_in(line)?)
 }
 
+/// Of a line its two words as registers, if it is so.
 pub(crate) fn two_registers(line: &[u8]) -> Option<(u8, u8)>
     ensures { result ≡ registers_2 (words_of line.now) }
 {
@@ -88,6 +92,7 @@ pub(crate) fn two_registers(line: &[u8]) -> Option<(u8, u8)>
     Some((register(first)?, register(second)?))
 }
 
+/// Of a line its two words as numbers below 256, if it is so.
 pub(crate) fn two_bytes(line: &[u8]) -> Option<(u8, u8)>
     ensures { result ≡ two (number_of 256) (number_of 256) (words_of line.now) }
 {
@@ -95,6 +100,7 @@ pub(crate) fn two_bytes(line: &[u8]) -> Option<(u8, u8)>
     Some((byte(first)?, byte(second)?))
 }
 
+/// Of a line its two words as a register and an integer, if it is so.
 pub(crate) fn register_and_integer(line: &[u8]) -> Option<(u8, i32)>
     ensures { result ≡ two register_of integer_of (words_of line.now) }
 {
@@ -102,6 +108,7 @@ pub(crate) fn register_and_integer(line: &[u8]) -> Option<(u8, i32)>
     Some((register(first)?, integer(second)?))
 }
 
+/// Of a line its two words as a register and a global, if it is so.
 pub(crate) fn register_and_global(line: &[u8]) -> Option<(u8, u16)>
     ensures { result ≡ two register_of global_of (words_of line.now) }
 {
@@ -109,6 +116,7 @@ pub(crate) fn register_and_global(line: &[u8]) -> Option<(u8, u16)>
     Some((register(first)?, global(second)?))
 }
 
+/// Of a line its two words as a register and a number below 65,536, if it is so.
 pub(crate) fn register_and_short(line: &[u8]) -> Option<(u8, u16)>
     ensures { result ≡ two register_of (number_of 65536) (words_of line.now) }
 {
@@ -116,6 +124,7 @@ pub(crate) fn register_and_short(line: &[u8]) -> Option<(u8, u16)>
     Some((register(first)?, short(second)?))
 }
 
+/// Of a line its two words as a number below 65,536 and an effect, if it is so.
 pub(crate) fn short_and_effect(line: &[u8]) -> Option<(u16, Effect)>
     ensures { result ≡ two (number_of 65536) effect_of (words_of line.now) }
 {
@@ -123,6 +132,7 @@ pub(crate) fn short_and_effect(line: &[u8]) -> Option<(u16, Effect)>
     Some((short(first)?, effect(second)?))
 }
 
+/// Of a line its three words as registers, if it is so.
 pub(crate) fn three_registers(line: &[u8]) -> Option<(u8, u8, u8)>
     ensures { result ≡ registers_3 (words_of line.now) }
 {
@@ -130,6 +140,7 @@ pub(crate) fn three_registers(line: &[u8]) -> Option<(u8, u8, u8)>
     Some((register(first)?, register(second)?, register(third)?))
 }
 
+/// Of a line its three words as two registers and a number below 256, if it is so.
 pub(crate) fn two_registers_and_byte(line: &[u8]) -> Option<(u8, u8, u8)>
     ensures { result ≡ three register_of register_of (number_of 256) (words_of line.now) }
 {
@@ -137,6 +148,7 @@ pub(crate) fn two_registers_and_byte(line: &[u8]) -> Option<(u8, u8, u8)>
     Some((register(first)?, register(second)?, byte(third)?))
 }
 
+/// Of a line its three words as two registers and a number below 65,536, if it is so.
 pub(crate) fn two_registers_and_short(line: &[u8]) -> Option<(u8, u8, u16)>
     ensures { result ≡ three register_of register_of (number_of 65536) (words_of line.now) }
 {
@@ -144,6 +156,7 @@ pub(crate) fn two_registers_and_short(line: &[u8]) -> Option<(u8, u8, u16)>
     Some((register(first)?, register(second)?, short(third)?))
 }
 
+/// Of a line its three words as a register, a number below 256 and one below 65,536, if it is so.
 pub(crate) fn register_byte_and_short(line: &[u8]) -> Option<(u8, u8, u16)>
     ensures { result ≡ three register_of (number_of 256) (number_of 65536) (words_of line.now) }
 {

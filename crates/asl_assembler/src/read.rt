@@ -1,6 +1,6 @@
 //! Reading the lines of a text to its end, or to the first that is wrong.
 
-ghost use Rattle.std.specs.Prelude.{◌≡◌, ℕ, Result, Ok, Err, [], ◌∷◌};
+ghost use Rattle.std.specs.Prelude.{◌≡◌, Result, Ok, Err};
 ghost use Rattle.asl_assembler.specs.Words.{lines_of};
 ghost use Rattle.asl_assembler.specs.Reading.{image_from, blank_image, Answers};
 ghost use Rattle.asl_assembler.specs.declared.read.ReadFault.TheVariants.{OutOfMemory};

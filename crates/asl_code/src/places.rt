@@ -2,9 +2,8 @@
 
 ghost use Rattle.std.specs.Prelude.{◌≡◌, ◌+◌, ◌&&◌, nat_le, nat_lt, IsTrue, not, position};
 ghost use Rattle.std.specs.List.{list_all};
-ghost use Rattle.asl_code.specs.Bodies.{Body};
 ghost use Rattle.asl_code.specs.Lines.{test_of, body_at, IsLowestFailing};
-ghost use Rattle.asl_code.specs.Verified.{keeps_limits, has_ranges, has_target, has_register, has_arguments, has_registers, has_operands, has_lock_base, has_list_bases};
+ghost use Rattle.asl_code.specs.Verified.{keeps_limits, has_ranges, has_target, has_arguments, has_registers, has_operands, has_lock_base, has_list_bases};
 
 use crate::image::{Function, Image};
 use crate::instr::Instr;

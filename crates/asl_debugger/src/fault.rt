@@ -1,9 +1,6 @@
 //! Why a debugger refused a call.
 
-use asl_journal::JournalFault;
-use asl_machine::MachineFault;
 use std::alloc::{AllocError, AllocFailed};
-use std::convert::From;
 use thiserror::Error;
 
 /// Why a debugger refused a call. Where several apply, the first is answered, but `BadCount` before `Differs`.

@@ -1,6 +1,6 @@
 //! Reading bytes as tokens: the longest token first, blanks between.
 
-ghost use Rattle.std.specs.Prelude.{◌≡◌, ℕ, ◌+◌, ◌-◌, ◌^◌, ◌<◌, ◌≤◌, length, drop};
+ghost use Rattle.std.specs.Prelude.{◌≡◌, ◌+◌, ◌-◌, ◌^◌, ◌<◌, ◌≤◌, length, drop};
 ghost use Rattle.std.specs.Option.{option_map};
 ghost use Rattle.asl_grammar.specs.Lex.{is_blank, is_digit, is_letter, is_name_byte, leading, word_of, symbol_of_byte, tokens_of, bad_place, letters_token, digits_token, equals_token, front};
 ghost use Rattle.asl_grammar.specs.View.{front_view};

@@ -5,7 +5,7 @@ ghost use Rattle.std.specs.Option.{option_map};
 ghost use Rattle.asl_grammar.specs.Lex.{tokens_of};
 ghost use Rattle.asl_grammar.specs.Seen.{innermost, settled, kinds_after, next_place, fault_at_end};
 ghost use Rattle.asl_grammar.specs.View.{token_of};
-ghost use Rattle.asl_grammar.specs.ControlView.{control_of, act_of, opening_of};
+ghost use Rattle.asl_grammar.specs.ControlView.{control_of, act_of};
 ghost use Rattle.asl_grammar.specs.SeenView.{place_in};
 ghost use Rattle.asl_grammar.specs.Grammar.{Judges};
 

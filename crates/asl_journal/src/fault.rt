@@ -2,7 +2,6 @@
 
 use asl_machine::MachineFault;
 use std::alloc::AllocError;
-use std::convert::From;
 use thiserror::Error;
 
 /// Why a call on journals was refused. Where several apply, the first is answered.

@@ -1,5 +1,5 @@
 //! Journals as values.
-ghost use Rattle.std.specs.Prelude.{◌≡◌, ◌<◌, All, IsOk, IfOk, IfErr, MatchBool};
+ghost use Rattle.std.specs.Prelude.{◌≡◌, ◌<◌, IsOk, IfOk, IfErr, MatchBool};
 ghost use Rattle.asl_journal.specs.Journal.{AreThere, HasStranger, IsLog, IsNoLog};
 
 use crate::event::Event;

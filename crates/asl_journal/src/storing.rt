@@ -1,5 +1,5 @@
 //! Writing the bytes of a journal.
-ghost use Rattle.std.specs.Prelude.{◌≡◌, ◌<◌, ◌^◌, ℕ, List, [], ◌∷◌, length, IfOk, OnOk};
+ghost use Rattle.std.specs.Prelude.{◌<◌, ◌^◌, ℕ, [], ◌∷◌, IfOk, OnOk};
 ghost use Rattle.asl_code.specs.Spelling.{IsValue};
 ghost use Rattle.asl_code.specs.declared.value.Effect.{Effect};
 ghost use Rattle.asl_code.specs.declared.value.Value.{Value};

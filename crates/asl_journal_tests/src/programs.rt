@@ -1,5 +1,5 @@
 //! Programs, journals of them, and what machines show.
-ghost use Rattle.std.specs.Prelude.{◌≡◌, ◌<◌, length};
+ghost use Rattle.std.specs.Prelude.{◌<◌, length};
 
 use asl_assembler::assemble;
 use asl_code::{Cell, Program};

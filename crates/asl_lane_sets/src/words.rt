@@ -1,5 +1,5 @@
 //! Words of 64 bits, four at a time.
-ghost use Rattle.std.specs.Prelude.{◌≡◌, ◌≢◌, ◌<◌, ◌≤◌, ◌+◌, ◌%◌, ◌↔◌, ℕ, IsTrue, length, slice_index, bit_or};
+ghost use Rattle.std.specs.Prelude.{◌≡◌, ◌≤◌, ◌+◌, ◌%◌, ◌↔◌, IsTrue, length};
 ghost use Rattle.asl_lane_sets.specs.Packed.{AreWords, AreJoined, Differ, JoinsAt};
 
 use std::simd::prelude::*;

@@ -1,5 +1,5 @@
 //! The rows of the leaves that some thread holds, found by cell and class.
-ghost use Rattle.std.specs.Prelude.{◌≡◌, ◌≢◌, ℕ, ◌<◌, ◌+◌, ◌≤◌, slice_set, IsTrue, ◌↔◌, IfOk, OnOk, OnErr};
+ghost use Rattle.std.specs.Prelude.{◌≡◌, ◌≢◌, ℕ, ◌<◌, ◌+◌, slice_set, IsTrue, ◌↔◌, IfOk, OnOk};
 ghost use Rattle.asl_mode_lanes.specs.Row.{IsCode};
 ghost use Rattle.asl_lock_forest.specs.Leaves.{Leaf, key_of_leaf, leaf_row, IsKept, HasRoom, SameLeaves, IsBare, zeros, width};
 

@@ -1,6 +1,5 @@
 //! The rows of codes: what each thread holds at the root, at each class and at each leaf.
-ghost use Rattle.std.specs.Prelude.{◌≡◌, ◌≢◌, ℕ, ◌<◌, ◌+◌, ◌≤◌, ◌↔◌, true, false, Contains, length, slice_set, All, IsTrue, IfOk, OnOk, OnErr};
-ghost use Rattle.asl_mode_lanes.specs.Mode.{code_of, AreCompatible};
+ghost use Rattle.std.specs.Prelude.{◌≡◌, ◌≢◌, ℕ, ◌<◌, ◌+◌, true, false, length, All, IsTrue, IfOk};
 ghost use Rattle.asl_mode_lanes.specs.Row.{IsCode, mode_at};
 ghost use Rattle.asl_lock_forest.specs.declared.node.Node.{Node};
 ghost use Rattle.asl_lock_forest.specs.Node.{IsThere};

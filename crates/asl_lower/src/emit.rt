@@ -1,12 +1,12 @@
 //! Emitting the code of values.
 
 ghost use Rattle.std.specs.Prelude.{◌≡◌, ◌+◌, ◌<◌, ◌≤◌, [], length, IfOk};
-ghost use Rattle.asl_syntax.specs.View.{value_of, statement_of, block_of};
-ghost use Rattle.asl_syntax.specs.Tree.{CallValue, IfStatement, WhileStatement, AtomicStatement};
-ghost use Rattle.asl_lower.specs.Names.{value_arguments, stmt_arguments, block_arguments};
-ghost use Rattle.asl_lower.specs.Place.{next, past_moves, past_value, past_stmt, past_block};
+ghost use Rattle.asl_syntax.specs.View.{value_of};
+ghost use Rattle.asl_syntax.specs.Tree.{CallValue};
+ghost use Rattle.asl_lower.specs.Names.{value_arguments};
+ghost use Rattle.asl_lower.specs.Place.{past_moves, past_value};
 ghost use Rattle.asl_lower.specs.Lowered.{operator_instr, first_argument};
-ghost use Rattle.asl_lower.specs.Layout.{moves, value_code, stmt_code, block_code, stmt_sections, block_sections};
+ghost use Rattle.asl_lower.specs.Layout.{moves, value_code};
 ghost use Rattle.asl_lower.specs.OutputView.{Adds, place_of};
 ghost use Rattle.asl_lower.specs.ScopeView.{scope_view};
 
@@ -14,7 +14,7 @@ use crate::output::Output;
 use crate::scope::Scope;
 use asl_code::Instr;
 use asl_syntax::Name;
-use asl_syntax::tree::{Operator, Statement, Value};
+use asl_syntax::tree::{Operator, Value};
 use std::alloc::AllocError;
 
 /// The instruction of an operator.

@@ -1,8 +1,8 @@
 //! The registers of a function: its locals, and its longest call.
 
-ghost use Rattle.std.specs.Prelude.{◌≡◌, ◌<◌, ◌≤◌, length, IfOk, OnErr};
+ghost use Rattle.std.specs.Prelude.{◌≡◌, ◌<◌, length, IfOk, OnErr};
 ghost use Rattle.asl_syntax.specs.View.{value_of, statement_of, block_of};
-ghost use Rattle.asl_lower.specs.Names.{has_name, with_name, stmt_locals, block_locals, value_arguments, stmt_arguments, block_arguments};
+ghost use Rattle.asl_lower.specs.Names.{with_name, stmt_locals, block_locals, value_arguments, stmt_arguments, block_arguments};
 ghost use Rattle.asl_lower.specs.NamesView.{names_of};
 
 use crate::names::number_of;

@@ -2,7 +2,7 @@
 
 ghost use Rattle.std.specs.Prelude.{◌≡◌, ◌≤◌, length, map, bytes_eq};
 ghost use Rattle.asl_syntax.specs.Tree.{globals_of, functions_of};
-ghost use Rattle.asl_lower.specs.Names.{has_name, number_of, function_names};
+ghost use Rattle.asl_lower.specs.Names.{number_of, function_names};
 ghost use Rattle.asl_lower.specs.NamesView.{names_of};
 ghost use Rattle.asl_syntax.specs.View.{item_of};
 

@@ -1,6 +1,6 @@
 //! Which functions calls lead to from inside sections.
 
-ghost use Rattle.std.specs.Prelude.{◌≡◌, ℕ, ◌+◌, ◌<◌, ◌≤◌, ◌⊎◌, ◌^◌, ◌↔◌, [], true, false, Some, length, slice_get, vec_len, IsTrue, MatchOption};
+ghost use Rattle.std.specs.Prelude.{◌≡◌, ℕ, ◌+◌, ◌<◌, ◌≤◌, ◌⊎◌, ◌^◌, ◌↔◌, [], true, false, Some, slice_get, vec_len, IsTrue, MatchOption};
 ghost use Rattle.asl_lower.specs.Region.{open_at, IsInner};
 ghost use Rattle.asl_lower.specs.Facts.{HasLayout};
 ghost use Rattle.asl_lower.specs.Kept.{lowered_of};

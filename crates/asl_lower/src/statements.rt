@@ -1,6 +1,6 @@
 //! Emitting the code of statements, each by its template.
 
-ghost use Rattle.std.specs.Prelude.{◌≡◌, ◌+◌, ◌<◌, ◌≤◌, length, IfOk};
+ghost use Rattle.std.specs.Prelude.{◌+◌, ◌<◌, ◌≤◌, length, IfOk};
 ghost use Rattle.asl_syntax.specs.View.{statement_of, block_of};
 ghost use Rattle.asl_lower.specs.Names.{stmt_arguments, block_arguments};
 ghost use Rattle.asl_lower.specs.Place.{past_stmt, past_block};

@@ -436,6 +436,7 @@ fn laws_are_there() {
     asl_machine::no_world_is_blocked();
     asl_machine::runs_go_on();
     asl_machine::runs_reach();
+    asl_machine::runs_are_the_tables();
     asl_machine::steps_leave_others_alone();
     asl_machine::stores_change_one_cell();
     asl_machine::new_objects_change_no_cell();

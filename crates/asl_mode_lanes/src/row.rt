@@ -1,5 +1,5 @@
 //! Rows of codes, one a thread, read and written 16 at a time.
-ghost use Rattle.std.specs.Prelude.{◌≡◌, ◌≢◌, ◌↔◌, ◌≤◌, ◌<◌, ◌+◌, ◌==◌, ◌&&◌, nat_le, nat_lt, not, map, ℕ, length, slice_index, bit_and, bit_or, IsTrue, IsBitSet, false, if◌then◌else◌};
+ghost use Rattle.std.specs.Prelude.{◌≡◌, ◌≢◌, ◌↔◌, ◌≤◌, ◌<◌, ◌+◌, ◌&&◌, nat_le, nat_lt, map, ℕ, length, slice_index, bit_or, IsBitSet, if◌then◌else◌};
 ghost use Rattle.std.specs.Simd.Lanes.{chunk, mask_l};
 ghost use Rattle.asl_mode_lanes.specs.Mode.{join_of};
 ghost use Rattle.asl_mode_lanes.specs.Row.{IsRow, mode_at, IsConflict};

@@ -5,7 +5,7 @@ ghost use Rattle.asl_lower.specs.Region.{returned, returned_by};
 ghost use Rattle.asl_points_to.specs.Flows.{plain_flow, call_flows, Stands, AddsFlows, AreFlows};
 
 use crate::flow::{Flow, Place};
-use asl_code::{Function, Instr};
+use asl_code::Instr;
 use asl_lower::Lowering;
 use std::alloc::{AllocError, Global};
 

@@ -1,6 +1,6 @@
 //! The numbers of classes, by their first members.
 
-ghost use Rattle.std.specs.Prelude.{◌≡◌, ◌<◌, ◌≤◌, ℕ, Some, IfOk, IfSome, length, map, slice_index};
+ghost use Rattle.std.specs.Prelude.{◌≡◌, ◌<◌, ◌≤◌, ℕ, Some, IfOk, IfSome, length, map};
 ghost use Rattle.std.specs.List.{All};
 ghost use Rattle.asl_points_to.specs.Classes.{some_at};
 ghost use Rattle.asl_code.specs.declared.image.Function.{Function as FunctionValue};

@@ -1,6 +1,6 @@
 //! Building the tree of a text that the grammar and the limits allow.
 
-ghost use Rattle.std.specs.Prelude.{◌≡◌, ℤ, ◌≤◌, [], ◌∷◌, ◌++◌, map, reverse, length, IfOk};
+ghost use Rattle.std.specs.Prelude.{◌≡◌, ◌≤◌, [], ◌∷◌, ◌++◌, map, IfOk};
 ghost use Rattle.asl_grammar.specs.Written.{Literal};
 ghost use Rattle.asl_grammar.specs.Automaton.{ItemStart, EmitCall, Begin, Close, Finish};
 ghost use Rattle.asl_grammar.specs.Lex.{number_value, tokens_of};
@@ -9,7 +9,7 @@ ghost use Rattle.asl_grammar.specs.ControlView.{control_of, act_of, opening_of, 
 ghost use Rattle.asl_syntax.specs.View.{value_of, statement_of, block_of, items_of};
 ghost use Rattle.std.specs.Option.{option_map};
 ghost use Rattle.asl_syntax.specs.Spelled.{literal, right_meaning, line_meaning};
-ghost use Rattle.asl_syntax.specs.Fits.{NameFits, RightFits, LineFits, OpeningFits, ActFits, NextFits, ActsFit};
+ghost use Rattle.asl_syntax.specs.Fits.{RightFits, LineFits, OpeningFits, ActFits, NextFits, ActsFit};
 ghost use Rattle.asl_syntax.specs.Built.{no_part, no_stack, settle_part, put, header_of, closed, apply, kind_of, ready, next, whole_at, built_from};
 ghost use Rattle.asl_syntax.specs.BuildView.{part_of, pending_of, header_in};
 

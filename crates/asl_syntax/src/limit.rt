@@ -1,6 +1,6 @@
 //! The limits of a source text.
 
-ghost use Rattle.std.specs.Prelude.{◌≡◌, ◌≤◌, length, min, false, []};
+ghost use Rattle.std.specs.Prelude.{◌≡◌, ◌≤◌, min, false, []};
 ghost use Rattle.std.specs.Option.{option_map, ForSome};
 ghost use Rattle.asl_grammar.specs.Lex.{number_value, tokens_of};
 ghost use Rattle.asl_grammar.specs.View.{token_of};

@@ -1,7 +1,6 @@
 //! Names of the source.
 
 ghost use Rattle.std.specs.Prelude.{◌≡◌, ◌≤◌, length};
-ghost use Rattle.std.specs.Option.{SomeIff};
 
 use arrayvec::ArrayVec;
 use std::fmt;
@@ -40,17 +39,6 @@ impl Name {
             name.push(*b);
         }
         Name { bytes: name }
-    }
-
-    /// The name of these bytes, if they are not too many.
-    pub fn try_from_slice(bytes: &[u8]) -> Option<Name>
-        ensures { SomeIff result (length bytes.now ≤ 64) bytes.now }
-    {
-        if bytes.len() > Name::MOST {
-            None
-        } else {
-            Some(Name::from_slice(bytes))
-        }
     }
 
     /// The bytes of the name.

@@ -1,12 +1,12 @@
 //! The rules of names.
 
-ghost use Rattle.std.specs.Prelude.{◌≡◌, ℕ, List, map, length, is_some, if◌then◌else◌, Some, None, IfOk};
+ghost use Rattle.std.specs.Prelude.{◌≡◌, map, if◌then◌else◌, Some, None, IfOk};
 ghost use Rattle.std.specs.List.{list_any};
 ghost use Rattle.std.specs.Option.{option_copied};
 ghost use Rattle.asl_syntax.specs.MentionView.{mention_of, mentions_of};
-ghost use Rattle.asl_syntax.specs.Rules.{no_count, with_count, no_name, with_name, first_twice, declared_in, names_in, unknown_use, first_unknown_use, unknown_in_function, first_unknown, parameter_counts, is_wrong_call, wrong_call_from, name_places, places_with, is_main, has_main};
+ghost use Rattle.asl_syntax.specs.Rules.{no_count, with_count, no_name, with_name, first_twice, declared_in, names_in, unknown_use, unknown_in_function, first_unknown, parameter_counts, is_wrong_call, wrong_call_from, name_places, places_with, is_main, has_main};
 ghost use Rattle.asl_grammar.specs.Lex.{tokens_of};
-ghost use Rattle.asl_grammar.specs.Reader.{spots_left, bytes_left};
+ghost use Rattle.asl_grammar.specs.Reader.{spots_left};
 ghost use Rattle.asl_syntax.specs.Mentions.{function_mentions};
 ghost use Rattle.asl_syntax.specs.View.{function_of, item_of};
 ghost use Rattle.asl_syntax.specs.declared.names.Space.TheVariants.{Globals, Functions};

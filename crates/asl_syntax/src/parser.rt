@@ -2,10 +2,8 @@
 
 ghost use Rattle.std.specs.Prelude.{◌≡◌, [], IfOk, IfErr, OnOk, map, None};
 ghost use Rattle.asl_grammar.specs.Lex.{tokens_of};
-ghost use Rattle.asl_grammar.specs.Grammar.{IsProgram, bare};
 ghost use Rattle.asl_syntax.specs.View.{items_of, item_of};
 ghost use Rattle.asl_syntax.specs.AstView.{tree_of};
-ghost use Rattle.asl_syntax.specs.Spelled.{Spells};
 ghost use Rattle.asl_syntax.specs.Limit.{first_limit, tally_of};
 ghost use Rattle.asl_syntax.specs.Tallied.{over_from};
 ghost use Rattle.asl_syntax.specs.Parsed.{first_wide, IsLexed, IsSpelled, Parses};

@@ -1,6 +1,5 @@
 //! The command `compile`: from a source to the program that is inferred for it.
 ghost use Rattle.std.specs.Prelude.{IfOk, IfErr};
-ghost use Rattle.asl_syntax.specs.AstView.{tree_of};
 ghost use Rattle.asl_tool.specs.Compile.{IsCompiled, IsProgramFor, IsProgramWritten, IsRefusedSource};
 
 use crate::command::CommandFault;

@@ -6,12 +6,14 @@ use asl_code::{Cell, Effect, Value};
 use asl_machine::{Fault, Reply};
 use std::alloc::AllocError;
 
+/// Appends an address: the object, a point, the offset.
 pub fn push_address(text: &mut String, object: u16, offset: u8) -> Result<(), AllocError>
     ensures { OnOk result (string_bytes text.new ≡ string_bytes text.old ++ address_text object offset) }
 {
     write!(text, "{object}.{offset}")
 }
 
+/// Appends a value: its kind, and the number or the address behind it.
 pub fn push_value(text: &mut String, value: Value) -> Result<(), AllocError>
     ensures { OnOk result (string_bytes text.new ≡ string_bytes text.old ++ value_text value) }
 {
@@ -25,6 +27,7 @@ pub fn push_value(text: &mut String, value: Value) -> Result<(), AllocError>
     }
 }
 
+/// Appends an effect.
 fn push_effect(text: &mut String, effect: Effect) -> Result<(), AllocError>
     ensures { OnOk result (string_bytes text.new ≡ string_bytes text.old ++ effect_text effect) }
 {
@@ -34,6 +37,7 @@ fn push_effect(text: &mut String, effect: Effect) -> Result<(), AllocError>
     }
 }
 
+/// Appends a cell and the effect of an access to it.
 fn push_access(text: &mut String, cell: Cell, effect: Effect) -> Result<(), AllocError>
     ensures { OnOk result (string_bytes text.new ≡ string_bytes text.old ++ access_text cell effect) }
 {
@@ -42,6 +46,7 @@ fn push_access(text: &mut String, cell: Cell, effect: Effect) -> Result<(), Allo
     push_effect(text, effect)
 }
 
+/// Appends a fault: its name, and what was accessed without a lock.
 pub fn push_fault(text: &mut String, fault: Fault) -> Result<(), AllocError>
     ensures { OnOk result (string_bytes text.new ≡ string_bytes text.old ++ fault_text fault) }
 {

@@ -1,8 +1,7 @@
 //! Run files: a program and a journal, as the bytes of one file.
-ghost use Rattle.std.specs.Prelude.{◌≡◌, ◌≢◌, ◌<◌, ◌^◌, ◌⊎◌, length, IfOk, IfErr, MatchOption};
+ghost use Rattle.std.specs.Prelude.{◌≡◌, ◌<◌, ◌⊎◌, length, IfOk, IfErr, MatchOption};
 ghost use Rattle.std.specs.Int.{w32, from_be_bytes};
 ghost use Rattle.asl_code.specs.declared.image.Image.{Image};
-ghost use Rattle.asl_loader.specs.Bytes.{SpellsImage};
 ghost use Rattle.asl_journal.specs.Journal.{Log};
 ghost use Rattle.asl_journal.specs.Bytes.{SpellsLog};
 ghost use Rattle.asl_loader.specs.Faults.{IsProgramImage};

@@ -1,9 +1,7 @@
 //! The view of a machine as text.
 ghost use Rattle.std.specs.Prelude.{◌≡◌, ◌<◌, ◌≤◌, ◌++◌, Some, length, min, option_map, OnOk, string_bytes};
-ghost use Rattle.std.specs.Option.{option_map_or};
 ghost use Rattle.asl_lock_forest.specs.declared.node.Node.TheVariants.{Class, Leaf, Root};
-ghost use Rattle.asl_machine.specs.State.{class_of};
-ghost use Rattle.asl_tool.specs.View.{HasNumbers, cell_count, cell_line, cell_of, held_line, holding_text, leaves_at, leaves_text};
+ghost use Rattle.asl_tool.specs.View.{HasNumbers, cell_count, cell_line, held_line, holding_text, leaves_at, leaves_text};
 ghost use Rattle.asl_tool.specs.View.{fresh_line, fresh_text, lines_from, mode_name, node_text, object_text, place_at, register_at, thread_text, view_text};
 
 use crate::replies::{push_address, push_fault, push_value};

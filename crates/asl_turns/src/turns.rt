@@ -1,11 +1,10 @@
 //! The calls: a first seat, drawing, splitting, joining, and the count at the end.
-ghost use Rattle.std.specs.Prelude.{◌≡◌, ℕ, ◌+◌, ◌-◌, ◌<◌, ◌≤◌, ◌++◌, [], ◌∷◌, length, None, IfOk, IfErr, OnErr, MatchOption};
+ghost use Rattle.std.specs.Prelude.{◌≡◌, ℕ, ◌+◌, ◌-◌, ◌<◌, ◌≤◌, ◌++◌, [], ◌∷◌, length, None, IfOk, IfErr, MatchOption};
 ghost use Rattle.asl_turns.specs.Turn.{times, once_below};
 
 use crate::rule::{Draws, Hand, Looks, Passes, Ticketed};
 use atomic_table::{Seat, Table};
 use std::alloc::{AllocError, Global};
-use std::convert::From;
 use std::marker::Model;
 
 /// How many passes the first seat has.

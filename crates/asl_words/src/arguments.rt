@@ -1,5 +1,5 @@
 //! The commands and their arguments, as `clap` is told them.
-ghost use Rattle.std.specs.Prelude.{◌≡◌, false, IfOk, codes};
+ghost use Rattle.std.specs.Prelude.{◌≡◌, false, IfOk};
 ghost use Rattle.clap.specs.Words.{app_of, new_app, rule_of, with_rule, with_subcommand};
 ghost use Rattle.clap.specs.declared.builder.command.Command.TheViews.{out-Command};
 ghost use Rattle.asl_words.specs.Arguments.{asl_app, asm_app, bare_app, compile_app, debug_app, dis_app, flag_rule, needed_rule, replay_app, run_app, step_app, value_rule, words_rule};

@@ -9,6 +9,7 @@ pub struct Page {
     pub more: &'static str,
 }
 
+/// The page of the program without a command.
 pub const PROGRAM: Page = Page {
     about: "Programs with atomic sections: infers the locks of sections, runs programs step by step, and goes back and forth in recorded runs",
     more: "Each command reads standard input to its end and writes standard output.\n\
@@ -23,6 +24,7 @@ pub const PROGRAM: Page = Page {
         asl 1, proved with rattle-kit-13b logic dac8208d650f15bf",
 };
 
+/// The page of the command `compile`.
 pub const COMPILE: Page = Page {
     about: "Infers the locks of a source's sections; no run of the program faults for want of a lock",
     more: "Input: a source (docs/SOURCE.md)\n\
@@ -54,6 +56,7 @@ pub const COMPILE: Page = Page {
         asl 1, proved with rattle-kit-13b logic dac8208d650f15bf",
 };
 
+/// The page of the command `asm`.
 pub const ASM: Page = Page {
     about: "Assembles a program",
     more: "Input: assembly text (docs/ASSEMBLY.md)\n\
@@ -76,6 +79,7 @@ pub const ASM: Page = Page {
         asl 1, proved with rattle-kit-13b logic dac8208d650f15bf",
 };
 
+/// The page of the command `dis`.
 pub const DIS: Page = Page {
     about: "Disassembles an image",
     more: "Input: a program's image (docs/BYTES.md)\n\
@@ -101,6 +105,7 @@ pub const DIS: Page = Page {
         asl 1, proved with rattle-kit-13b logic dac8208d650f15bf",
 };
 
+/// The page of the command `step`.
 pub const STEP: Page = Page {
     about: "Steps the threads of a program in the given order",
     more: "Input: a program: an image where it begins with ASLM, and else assembly text\n\
@@ -127,6 +132,7 @@ pub const STEP: Page = Page {
         asl 1, proved with rattle-kit-13b logic dac8208d650f15bf",
 };
 
+/// The page of the command `run`.
 pub const RUN: Page = Page {
     about: "Lets worker threads step a program side by side, until its threads have ended or the limit is reached",
     more: "Input: a program: an image where it begins with ASLM, and else assembly text\n\
@@ -153,6 +159,7 @@ pub const RUN: Page = Page {
         asl 1, proved with rattle-kit-13b logic dac8208d650f15bf",
 };
 
+/// The page of the command `replay`.
 pub const REPLAY: Page = Page {
     about: "Makes the steps of a recorded run again, and compares each reply",
     more: "Input: a run file (docs/JOURNAL.md)\n\
@@ -178,6 +185,7 @@ pub const REPLAY: Page = Page {
         asl 1, proved with rattle-kit-13b logic dac8208d650f15bf",
 };
 
+/// The page of the command `debug`.
 pub const DEBUG: Page = Page {
     about: "Goes back and forth in a recorded run",
     more: "Input: a run file (docs/JOURNAL.md)\n\

@@ -1,5 +1,5 @@
 //! Numbers as words.
-ghost use Rattle.std.specs.Prelude.{◌≡◌, ℕ, MatchOption, IfOk, IfErr};
+ghost use Rattle.std.specs.Prelude.{ℕ, MatchOption, IfOk, IfErr};
 ghost use Rattle.clap.specs.Walk.{texts};
 ghost use Rattle.asl_words.specs.Number.{AreNumbers, IsNumber};
 ghost use Rattle.asl_words.specs.Reading.{IsNumbersFault};

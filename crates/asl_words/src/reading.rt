@@ -1,7 +1,7 @@
 //! Reads the words of a command line.
-ghost use Rattle.std.specs.Prelude.{◌≡◌, ◌≤◌, ◌≢◌, ℕ, map, IfOk, IfErr, MatchOption, string_bytes, codes};
+ghost use Rattle.std.specs.Prelude.{◌≤◌, ◌≢◌, ℕ, map, IfOk, IfErr, MatchOption, string_bytes, codes};
 ghost use Rattle.clap.specs.Words.{found_of, kind_of, rows_of, subcommand_rows_of};
-ghost use Rattle.asl_words.specs.Words.{AreDebugWords, AreNoNumbersAt, AsksFor, IsFlagAt, IsLengthAt, IsNoLengthAt, IsNoNumberAt, IsNumberAt, IsReading, IsTaken, words_at};
+ghost use Rattle.asl_words.specs.Words.{AreDebugWords, AsksFor, IsFlagAt, IsLengthAt, IsNoLengthAt, IsNoNumberAt, IsNumberAt, IsReading, IsTaken, words_at};
 ghost use Rattle.asl_words.specs.Number.{AreNumbers, IsNumber};
 ghost use Rattle.asl_words.specs.Reading.{IsNumbersFault, IsRefusal, IsTalkFault, IsWrongUsage};
 
