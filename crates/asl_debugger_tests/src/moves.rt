@@ -1,5 +1,5 @@
 //! Moves, stops and refusals.
-use crate::runs::{SCHEDULE, counter, is_shown, journal_of, opened};
+use crate::runs::{APART, SCHEDULE, WAITING, counter, is_shown, journal_of, opened};
 use asl_code::Program;
 use asl_debugger::{DebugFault, Debugger};
 use asl_journal::Journal;
@@ -13,18 +13,42 @@ static SPACINGS: [u32; 5] = [1, 2, 3, 5, 100];
 fn is_pair_shown(
     alloc: Global,
     program: &Program,
+    schedule: &[u8],
     debugger: &mut Debugger<'_>,
-    pair: u32,
+    pair: (u32, u32),
 ) -> Option<bool> {
-    let from = is_shown(alloc, program, &SCHEDULE, debugger, pair / 19)?;
-    let to = is_shown(alloc, program, &SCHEDULE, debugger, pair % 19)?;
+    let from = is_shown(alloc, program, schedule, debugger, pair.0)?;
+    let to = is_shown(alloc, program, schedule, debugger, pair.1)?;
     Some(from && to)
 }
 
+/// Whether each position is shown behind this one.
+fn visits_from(
+    alloc: Global,
+    program: &Program,
+    schedule: &[u8],
+    debugger: &mut Debugger<'_>,
+    from: u32,
+) -> Option<bool> {
+    let last = u32::try_from(schedule.len()).ok()?;
+    for to in 0..=last {
+        if !is_pair_shown(alloc, program, schedule, debugger, (from, to))? {
+            return Some(false);
+        }
+    }
+    Some(true)
+}
+
 /// Whether each position is shown behind each other.
-fn visits(alloc: Global, program: &Program, debugger: &mut Debugger<'_>) -> Option<bool> {
-    for pair in 0..361 {
-        if !is_pair_shown(alloc, program, debugger, pair)? {
+fn visits(
+    alloc: Global,
+    program: &Program,
+    schedule: &[u8],
+    debugger: &mut Debugger<'_>,
+) -> Option<bool> {
+    let last = u32::try_from(schedule.len()).ok()?;
+    for from in 0..=last {
+        if !visits_from(alloc, program, schedule, debugger, from)? {
             return Some(false);
         }
     }
@@ -32,21 +56,24 @@ fn visits(alloc: Global, program: &Program, debugger: &mut Debugger<'_>) -> Opti
 }
 
 /// Whether a debugger with this spacing shows each position behind each other.
-fn is_right(alloc: Global, program: &Program, spacing: u32) -> Option<bool> {
-    let mut debugger = opened(alloc, program, &SCHEDULE, spacing)?;
-    visits(alloc, program, &mut debugger)
+fn is_right(alloc: Global, program: &Program, schedule: &[u8], spacing: u32) -> Option<bool> {
+    let mut debugger = opened(alloc, program, schedule, spacing)?;
+    visits(alloc, program, schedule, &mut debugger)
 }
 
-/// Whether a debugger with this spacing does over the counter's run.
-fn are_shown(alloc: Global, spacing: u32) -> Option<bool> {
+/// Whether a debugger with this spacing does over the counter's run by the schedule.
+fn are_shown(alloc: Global, schedule: &[u8], spacing: u32) -> Option<bool> {
     let program = counter(alloc)?;
-    is_right(alloc, &program, spacing)
+    is_right(alloc, &program, schedule, spacing)
 }
 
 #[test]
 fn each_position_shows_its_state(rt: HostRuntime) {
-    for spacing in SPACINGS.iter() {
-        assert!(rt; are_shown(rt.alloc(), *spacing) == Some(true), "{spacing}");
+    for schedule in [WAITING.as_slice(), APART.as_slice(), SCHEDULE.as_slice()] {
+        for spacing in SPACINGS.iter() {
+            let shown = are_shown(rt.alloc(), schedule, *spacing);
+            assert!(rt; shown == Some(true), "{} events, {spacing}", schedule.len());
+        }
     }
 }
 

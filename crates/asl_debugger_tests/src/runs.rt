@@ -16,8 +16,20 @@ static COUNTER: &[u8] =
 static SUM: &[u8] =
     b"version 1\nclasses 1\nglobal 0\nentry 0\nfn 1 5\nglob r1, g0\nacq 0\nload r2, r1\nadd r2, r2, r0\nout r2\nstore r1, r2\nrel\njmp 1\nlist\nexpr r1 write\n";
 
+/// The one cell of the one global.
+static GLOBAL: Cell = Cell {
+    object: 0,
+    offset: 0,
+};
+
 /// A schedule in which thread 1 waits for thread 0, and both end.
 pub static SCHEDULE: [u8; 18] = [0, 0, 1, 1, 0, 0, 0, 0, 1, 0, 1, 0, 1, 1, 1, 1, 1, 1];
+
+/// A schedule in which thread 1 waits for thread 0, and neither ends.
+pub static WAITING: [u8; 4] = [0, 0, 1, 1];
+
+/// A schedule in which neither thread waits for the other, and both end.
+pub static APART: [u8; 16] = [0, 1, 0, 0, 0, 0, 0, 0, 0, 1, 1, 1, 1, 1, 1, 1];
 
 /// The program of the text. Where the text is known, what `assemble` ensures of it is dear to prove.
 fn program(alloc: Global, text: &[u8]) -> Option<Program> {
@@ -110,12 +122,16 @@ fn place(machine: &Machine<'_>, t: u32) -> Option<(Status, Option<u32>, u32)> {
     Some((machine.status(t), machine.pc(t), machine.depth(t)))
 }
 
-/// What thread t holds at the root and at the only class.
-fn holding(machine: &Machine<'_>, t: u32) -> Option<(Mode, Mode)> {
+/// What thread t holds at the root, at the only class, and at the global's cell.
+fn holding(machine: &Machine<'_>, t: u32) -> Option<[Mode; 3]> {
     if t >= machine.threads() {
         return None;
     }
-    Some((machine.held(t, Node::Root), machine.held(t, Node::Class(0))))
+    Some([
+        machine.held(t, Node::Root),
+        machine.held(t, Node::Class(0)),
+        machine.held(t, Node::Leaf(GLOBAL, 0)),
+    ])
 }
 
 /// What a register of thread t has.
@@ -135,11 +151,7 @@ fn shows_thread(left: &Machine<'_>, right: &Machine<'_>, t: u32) -> bool {
 
 /// Whether the machines show the same of their threads, their locks, and the global.
 fn shows_same(left: &Machine<'_>, right: &Machine<'_>) -> bool {
-    let global = Cell {
-        object: 0,
-        offset: 0,
-    };
     left.threads() == right.threads()
         && (0..left.threads()).all(|t| shows_thread(left, right, t))
-        && left.cell(global) == right.cell(global)
+        && left.cell(GLOBAL) == right.cell(GLOBAL)
 }

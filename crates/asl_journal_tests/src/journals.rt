@@ -38,10 +38,23 @@ fn events_of_strangers_are_no_journal(rt: HostRuntime) {
     }
 }
 
-/// The refusal of one event too many, and how many come back.
+/// Whether each event is a step of thread 0 that ran.
+fn have_run(events: &[Event]) -> bool {
+    for event in events {
+        if *event != RAN {
+            return false;
+        }
+    }
+    true
+}
+
+/// The refusal of one event too many, and how many come back, if each is as it was.
 fn too_many(alloc: Global) -> Option<(JournalFault, usize)> {
     let events = vec![in alloc; RAN; 16_777_217].ok()?;
     let (fault, events) = Journal::of(1, events).err()?;
+    if !have_run(events.as_slice()) {
+        return None;
+    }
     Some((fault, events.len()))
 }
 
@@ -50,19 +63,25 @@ fn one_event_too_many_is_no_journal(rt: HostRuntime) {
     assert!(rt; too_many(rt.alloc()) == Some((JournalFault::JournalFull, 16_777_217)));
 }
 
-/// Steps thread 0 so often.
+/// Steps thread 0 so often, if each step runs.
 fn step_on(alloc: Global, journaled: &mut Journaled<'_>, steps: u32) -> Option<()> {
     for _ in 0..steps {
-        journaled.step(alloc, 0).ok()?;
+        if journaled.step(alloc, 0).ok()?.reply != Reply::Ran {
+            return None;
+        }
     }
     Some(())
 }
 
-/// What the machine says of a step behind the last event for which a journal has room, and how many events there are.
+/// What the machine says of a step behind the last event for which a journal has room, and how many events there are then, if
+/// each is as it was.
 fn behind_the_last(alloc: Global, program: &Program) -> Option<(JournalFault, usize)> {
     let mut journaled = Journaled::start(alloc, program, 1).ok()?;
     step_on(alloc, &mut journaled, 16_777_216)?;
     let fault = journaled.step(alloc, 0).err()?;
+    if !have_run(journaled.events()) {
+        return None;
+    }
     Some((fault, journaled.events().len()))
 }
 

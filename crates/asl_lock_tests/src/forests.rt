@@ -133,20 +133,55 @@ fn the_empty_request_is_granted(rt: HostRuntime) -> Result<(), Fail> {
     Ok(())
 }
 
+/// A forest over two classes and two threads, at the second try where a growth is refused.
+fn forest_in_the_end(alloc: Global) -> Result<Forest, AllocError>
+    ensures classes { IfOk result (λ forest. forest.classes ≡ 2) }
+    ensures threads { IfOk result (λ forest. forest.threads ≡ 2) }
+    ensures nothing { IfOk result (λ forest. (thread : ℕ) → HoldsNothing forest.holding thread) }
+{
+    match Forest::new(alloc, 2, 2) {
+        Err(_refused) => Forest::new(alloc, 2, 2),
+        answer => answer,
+    }
+}
+
+/// A copy, at the second try where a growth is refused.
+fn copy_in_the_end(alloc: Global, forest: &Forest) -> Result<Forest, AllocError>
+    ensures { IfOk result (λ copy. copy ≡ forest.now) }
+{
+    match forest.try_copy(alloc) {
+        Err(_refused) => forest.try_copy(alloc),
+        answer => answer,
+    }
+}
+
+/// Expects in which modes thread 0 holds the root, the class and the second cell.
+fn expect_held(rt: &impl Abort, forest: &Forest, root: Mode, class: Mode, cell: Mode)
+    requires classes { forest.now.classes ≡ 2 }
+    requires threads { forest.now.threads ≡ 2 }
+{
+    assert!(rt; forest.mode(0, Node::Root) == root);
+    assert!(rt; forest.mode(0, Node::Class(1)) == class);
+    assert!(rt; forest.mode(0, Node::Leaf(SECOND, 1)) == cell);
+}
+
 /// Asks for the locks. Where a growth is refused, no answer has changed, and the same call then succeeds.
-fn ask_in_the_end(rt: &(impl Abort + AllocGlobal), forest: &mut Forest) -> Result<bool, AllocError>
+fn ask_in_the_end(
+    rt: &(impl Abort + AllocGlobal),
+    forest: &mut Forest,
+    asked: Asked,
+) -> Result<bool, AllocError>
     requires classes { forest.old.classes ≡ 2 }
     requires threads { forest.old.threads ≡ 2 }
     requires nothing { HoldsNothing forest.old.holding 0 }
     ensures classes { forest.new.classes ≡ 2 }
     ensures threads { forest.new.threads ≡ 2 }
 {
-    match ask(rt.alloc(), forest, 0, Asked::Class) {
+    match ask(rt.alloc(), forest, 0, asked) {
         Ok(all) => Ok(all),
         Err(_refused) => {
-            assert!(rt; forest.mode(0, Node::Root) == Mode::NL);
-            assert!(rt; forest.mode(0, Node::Class(1)) == Mode::NL);
-            ask(rt.alloc(), forest, 0, Asked::Class)
+            expect_held(rt, forest, Mode::NL, Mode::NL, Mode::NL);
+            ask(rt.alloc(), forest, 0, asked)
         }
     }
 }
@@ -154,11 +189,23 @@ fn ask_in_the_end(rt: &(impl Abort + AllocGlobal), forest: &mut Forest) -> Resul
 /// Under an allocator that refuses some growth, a refused call leaves every answer, and can be made again.
 #[test]
 fn want_of_memory_changes_nothing(rt: HostRuntime) -> Result<(), Fail> {
-    let mut forest = Forest::new(rt.alloc(), 2, 2)?;
-    let all = ask_in_the_end(&rt, &mut forest)?;
+    let mut forest = forest_in_the_end(rt.alloc())?;
+    let all = ask_in_the_end(&rt, &mut forest, Asked::Class)?;
     assert!(rt; all);
-    assert!(rt; forest.mode(0, Node::Root) == Mode::IX);
-    assert!(rt; forest.mode(0, Node::Class(1)) == Mode::SIX);
+    expect_held(&rt, &forest, Mode::IX, Mode::SIX, Mode::NL);
+    Ok(())
+}
+
+/// The same where a row for a cell is made, and copied.
+#[test]
+fn want_of_memory_for_a_cell_and_a_copy_changes_nothing(rt: HostRuntime) -> Result<(), Fail> {
+    let mut forest = forest_in_the_end(rt.alloc())?;
+    let all = ask_in_the_end(&rt, &mut forest, Asked::Second)?;
+    assert!(rt; all);
+    expect_held(&rt, &forest, Mode::IX, Mode::IX, Mode::X);
+    let copy = copy_in_the_end(rt.alloc(), &forest)?;
+    expect_held(&rt, &forest, Mode::IX, Mode::IX, Mode::X);
+    expect_held(&rt, &copy, Mode::IX, Mode::IX, Mode::X);
     Ok(())
 }
 

@@ -7,7 +7,9 @@ use asl_code::{Cell, Program, Value};
 use asl_lock_forest::Node;
 use asl_machine::{Fault, Machine, MachineFault, Reply, Status};
 use asl_mode_lanes::Mode;
-use programs::{COUNTER, FAILING, GROWING, program, program_in_the_end, program_of_version_2};
+use programs::{
+    COUNTER, FAILING, GROWING, NAMING, program, program_in_the_end, program_of_version_2,
+};
 use readers::{
     CELL, Locks, ObjectSeen, ThreadSeen, is_same_thread, see_held, see_object, see_register,
     see_thread,
@@ -70,6 +72,12 @@ const DONE: ThreadSeen = ThreadSeen {
     locks: NOTHING,
 };
 
+/// Thread 0 where it has returned its number.
+const FIRST_DONE: ThreadSeen = ThreadSeen {
+    status: Status::Done(Value::Int(0)),
+    ..DONE
+};
+
 /// A thread that has failed.
 const FAILED: ThreadSeen = ThreadSeen {
     status: Status::Failed(Fault::BadType),
@@ -81,6 +89,12 @@ const GLOBAL: ObjectSeen = ObjectSeen {
     class: Some(0),
     size: Some(1),
     value: Some(Value::Int(1)),
+};
+
+/// The global where two threads have counted.
+const GLOBAL_OF_TWO: ObjectSeen = ObjectSeen {
+    value: Some(Value::Int(2)),
+    ..GLOBAL
 };
 
 const NO_OBJECT: ObjectSeen = ObjectSeen {
@@ -237,6 +251,24 @@ fn what_is_there_is_told_and_nothing_else(rt: HostRuntime) -> Result<(), Fail> {
     let program = program(rt.alloc(), COUNTER.as_slice())?;
     expect_told(&rt, &program)?;
     Ok(())
+}
+
+/// Steps each of two threads to its end, one behind the other, and the first once more.
+fn expect_both_end(rt: &(impl Abort + AllocGlobal), program: &Program) -> Result<(), Fail> {
+    let mut machine = Machine::new(rt.alloc(), program, 2)?;
+    for step in 0..16u32 {
+        assert!(rt; machine.step(rt.alloc(), step / 8) == Ok(Reply::Ran));
+    }
+    expect_threads(rt, &machine, FIRST_DONE, DONE);
+    assert!(rt; see_object(&machine, 0).is(GLOBAL_OF_TWO));
+    expect_steps(rt, &mut machine, 1, Reply::Ended);
+    Ok(())
+}
+
+#[test]
+fn both_threads_count_and_return_their_numbers(rt: HostRuntime) -> Result<(), Fail> {
+    let program = program(rt.alloc(), NAMING.as_slice())?;
+    expect_both_end(&rt, &program)
 }
 
 /// Expects that no machine has so many threads.

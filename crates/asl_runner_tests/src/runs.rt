@@ -206,19 +206,22 @@ fn eight_workers_meet_and_count_to_eight(rt: HostRuntime) -> Result<(), Fail> {
     Ok(())
 }
 
+/// What one thread of several workers comes to.
+const ONE: Told = Told {
+    events: 8,
+    tickets: 8,
+    receipts: [8, 0, 0, 0, 0, 0, 0, 0],
+    counter: Some(Value::Int(1)),
+    ended: 1,
+};
+
 #[test]
-fn one_thread_of_eight_workers_is_stepped_by_the_first(rt: HostRuntime) -> Result<(), Fail> {
+fn one_thread_of_several_workers_is_stepped_by_the_first(rt: HostRuntime) -> Result<(), Fail> {
     let program = counter(rt.alloc()).ok_or("no program")?;
-    let ran = outcome(&rt, rt.alloc(), &program, (1, 8, 10_000), &Open);
-    assert!(rt;
-        ran == Some(Ok(Told {
-            events: 8,
-            tickets: 8,
-            receipts: [8, 0, 0, 0, 0, 0, 0, 0],
-            counter: Some(Value::Int(1)),
-            ended: 1,
-        }))
-    );
+    for workers in [2, 8] {
+        let ran = outcome(&rt, rt.alloc(), &program, (1, workers, 10_000), &Open);
+        assert!(rt; ran == Some(Ok(ONE)), "{workers} workers");
+    }
     Ok(())
 }
 

@@ -1,4 +1,5 @@
-//! Tests that run inferred programs: none faults for want of a lock, and one does whose list lacks a lock.
+//! Tests that run inferred programs: none faults for want of a lock, and one does whose list lacks a lock; each step replies as
+//! the rules say, and the threads hold what they say.
 #![tactic(auto)]
 
 #[cfg(test)]
@@ -9,3 +10,5 @@ mod running;
 mod serial;
 #[cfg(test)]
 mod sources;
+#[cfg(test)]
+mod stepped;

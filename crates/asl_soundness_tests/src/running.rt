@@ -48,7 +48,7 @@ fn unsafe_in_all(alloc: Global, program: &Program) -> Option<u32> {
 }
 
 /// The program that is inferred for a source, with paths of at most three operations.
-fn inferred(alloc: Global, source: &str) -> Option<Program> {
+pub fn inferred(alloc: Global, source: &str) -> Option<Program> {
     let ast = parse(alloc, source.as_bytes()).ok()?;
     infer(alloc, &ast, 3).ok()
 }

@@ -47,3 +47,24 @@ pub const MOVE: &str =
 /// Transfers between two accounts, which the first section makes.
 pub const BANK: &str =
     "global first; global second; fn open() { zero = 0; hundred = 100; p = &first; q = &second; atomic { x = *p; if x { } else { a = new 2; *a = hundred; *p = a; b = new 2; *b = hundred; *q = b; } } return zero; } fn transfer(from, to, amount) { done = 0; atomic { f = *from; g = *to; x = *f; low = x < amount; if low { } else { x = x - amount; *f = x; y = *g; y = y + amount; *g = y; done = 1; } } return done; } fn main(t) { p = &first; q = &second; r = open(); ten = 10; if t { r = transfer(q, p, ten); } else { r = transfer(p, q, ten); } out r; atomic { f = *p; g = *q; x = *f; y = *g; sum = x + y; } out sum; return sum; }";
+
+/// Counts a global up.
+pub const COUNTER: &str =
+    "global g; fn main(t) { p = &g; atomic { x = *p; one = 1; y = x + one; *p = y; } return t; }";
+
+/// Stores in a section, and then adds an address there.
+pub const FAILING: &str =
+    "global g; fn main(t) { p = &g; atomic { *p = t; y = t + p; } return t; }";
+
+/// Stores in a section inside a section, and behind the inner one.
+pub const NESTING: &str =
+    "global g; fn main(t) { p = &g; atomic { atomic { *p = t; } *p = t; } return t; }";
+
+/// Makes a cell in the section and stores into it.
+pub const FRESH: &str = "global g; fn main(t) { atomic { n = new 1; *n = t; } return t; }";
+
+/// Calls itself without end.
+pub const BOTTOMLESS: &str = "fn main(t) { x = main(t); return x; }";
+
+/// Makes cells without end.
+pub const GREEDY: &str = "fn main(t) { o = 1; while o { n = new 1; } return t; }";

@@ -1,7 +1,10 @@
 //! What is fresh for whom: the machine lets a thread use by images of version 2 what its section has made.
 use super::programs::{EARLY, LATE, LINKING, MAKING, NESTING, unlocked};
+use super::readers::see_held;
 use asl_code::{Cell, Effect, Instr};
+use asl_lock_forest::Node;
 use asl_machine::{Fault, Machine, Reply};
+use asl_mode_lanes::Mode;
 use std::process::Abort;
 use std::test::Fail;
 
@@ -9,13 +12,13 @@ use std::test::Fail;
 /// thread then.
 type Row = (u32, u8, Reply, bool);
 
-const UNPROTECTED: Reply = Reply::Fault(Fault::Unprotected(
-    Cell {
-        object: 1,
-        offset: 0,
-    },
-    Effect::Write,
-));
+/// The only cell of object 1.
+const MADE: Cell = Cell {
+    object: 1,
+    offset: 0,
+};
+
+const UNPROTECTED: Reply = Reply::Fault(Fault::Unprotected(MADE, Effect::Write));
 
 /// Steps thread 0 of two as the row says, and compares what is told.
 fn expect_row(rt: &(impl Abort + AllocGlobal), code: &[Instr], row: Row) -> Result<(), Fail> {
@@ -27,7 +30,15 @@ fn expect_row(rt: &(impl Abort + AllocGlobal), code: &[Instr], row: Row) -> Resu
     }
     assert!(rt; machine.step(rt.alloc(), 0) == Ok(last));
     expect_fresh(rt, &machine, fresh);
+    expect_nothing_held(rt, &machine);
     Ok(())
+}
+
+/// Expects that thread 0 holds nothing at the root, at the class and at the cell that it made.
+fn expect_nothing_held(rt: &impl Abort, machine: &Machine<'_>) {
+    for node in [Node::Root, Node::Class(0), Node::Leaf(MADE, 0)] {
+        assert!(rt; see_held(machine, 0, node) == Mode::NL);
+    }
 }
 
 /// Expects that no object but 1 is fresh, this one for nobody but thread 0, and for this if so it is told.

@@ -28,6 +28,25 @@ pub const COUNTER: [Instr; 8] = [
     Instr::Return { from: 4 },
 ];
 
+/// The same, but returns the thread's number.
+pub const NAMING: [Instr; 8] = [
+    POINT,
+    ENTER,
+    Instr::Load { to: 2, address: 1 },
+    Instr::SetInt { to: 3, value: 1 },
+    Instr::Add {
+        to: 4,
+        left: 2,
+        right: 3,
+    },
+    Instr::Store {
+        address: 1,
+        from: 4,
+    },
+    Instr::Release,
+    END,
+];
+
 /// Adds an address in a section inside a section.
 pub const FAILING: [Instr; 5] = [
     POINT,
