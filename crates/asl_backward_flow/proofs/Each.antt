@@ -20,8 +20,8 @@ each_point r part j p q m = (p ≡ part) × (q ≡ j) × IsSeed r p q m
 abbrev pub each_region : Read → ℕ → ℕ → ℕ → Lock → Type 0
 each_region r j p q m = (p ≡ j) × IsSeed r p q m
 
-abbrev pub each_call : Read → ℕ → Lock → ℕ → ℕ → ℕ → Lock → Type 0
-each_call r pc lock j p q m = (p ≡ j) × (q ≡ pc) × IsAtPoint r p q × IsEntered r p q lock m
+abbrev pub each_call : Read → ℕ → Lock → List ℕ → ℕ → ℕ → ℕ → Lock → Type 0
+each_call r pc lock parts j p q m = (slice_get parts j ≡ Some p) × (q ≡ pc) × IsAtPoint r p q × IsEntered r p q lock m
 
 abbrev pub each_caller : Read → Lock → List ℕ → ℕ → ℕ → ℕ → Lock → Type 0
 each_caller r lock pcs j p q m = (slice_get pcs j ≡ Some q) × IsCalledAt r q lock p q m
@@ -69,26 +69,28 @@ pub regions_end : (r : Read) (initial now : Table) (part : ℕ) → length r.spa
 regions_end r initial now part end so = below_end r initial now (each_region r) part (IsSeed r) (λ j p q m h. h.1)
     (λ p q m h. let lt = slice_get_within r.spans p h.0.0 h.0.1 in (p, omega (arith, lt, end), (refl, h))) so
 
--- the turns over the regions that may have a call
-pub calls_more : (r : Read) (initial now new : Table) (part pc : ℕ) (lock : Lock) → IsAtPoint r part pc → AddedBelow r initial now (each_call r pc lock) part
-    → Added r now new (At part pc (IsEntered r part pc lock)) → AddedBelow r initial new (each_call r pc lock) (part + 1)
-calls_more r initial now new part pc lock point so x = below_more r initial now new (each_call r pc lock) part _
-    (λ p q m h. (h.0, h.1, at_point r part pc point p q h.0 h.1, to_point r part pc (λ a b. IsEntered r a b lock) p q m h))
-    (λ p q m h. from_point r part pc (λ a b. IsEntered r a b lock) p q m h.0 h.1 h.3) so x
+-- the turns over the regions that have a call
+pub calls_more : (r : Read) (initial now new : Table) (j part pc : ℕ) (lock : Lock) (parts : List ℕ) → slice_get parts j ≡ Some part → IsAtPoint r part pc → AddedBelow r initial now (each_call r pc lock parts) j
+    → Added r now new (At part pc (IsEntered r part pc lock)) → AddedBelow r initial new (each_call r pc lock parts) (j + 1)
+calls_more r initial now new j part pc lock parts at point so x = below_more r initial now new (each_call r pc lock parts) j _
+    (λ p q m h. (at ∙ ap Some (sym h.0), h.1, at_point r part pc point p q h.0 h.1, to_point r part pc (λ a b. IsEntered r a b lock) p q m h))
+    (λ p q m h. from_point r part pc (λ a b. IsEntered r a b lock) p q m (some_same (sym h.0 ∙ at)) h.1 h.3) so x
 
-pub calls_skip : (r : Read) (initial now : Table) (part pc : ℕ) (lock : Lock) → ¬ IsAtPoint r part pc → AddedBelow r initial now (each_call r pc lock) part → AddedBelow r initial now (each_call r pc lock) (part + 1)
-calls_skip r initial now part pc lock not so = below_skip r initial now (each_call r pc lock) part
-    (λ p q m h. not (subst (λ x. IsAtPoint r x pc) h.0 (subst (λ y. IsAtPoint r p y) h.1 h.2))) so
-
-pub calls_stopped : (r : Read) (initial now new : Table) (part pc : ℕ) (lock : Lock) (fault : AddFault) → IsAtPoint r part pc → AddedBelow r initial now (each_call r pc lock) part
+pub calls_stopped : (r : Read) (initial now new : Table) (j part pc : ℕ) (lock : Lock) (parts : List ℕ) (fault : AddFault) → slice_get parts j ≡ Some part → IsAtPoint r part pc → AddedBelow r initial now (each_call r pc lock parts) j
     → Stopped now new (At part pc (IsEntered r part pc lock)) fault → Stopped initial new (IsCalledAt r pc lock) fault
-calls_stopped r initial now new part pc lock fault point so x = below_stopped r initial now new (each_call r pc lock) part _ (IsCalledAt r pc lock) fault
-    (λ j p q m h. (h.1, h.2, h.3))
+calls_stopped r initial now new j part pc lock parts fault at point so x = below_stopped r initial now new (each_call r pc lock parts) j _ (IsCalledAt r pc lock) fault
+    (λ k p q m h. (h.1, h.2, h.3))
     (λ p q m h. (h.1, at_point r part pc point p q h.0 h.1, to_point r part pc (λ a b. IsEntered r a b lock) p q m h)) so x
 
-pub calls_end : (r : Read) (initial now : Table) (part pc : ℕ) (lock : Lock) → length r.spans ≤ part → AddedBelow r initial now (each_call r pc lock) part → Added r initial now (IsCalledAt r pc lock)
-calls_end r initial now part pc lock end so = below_end r initial now (each_call r pc lock) part (IsCalledAt r pc lock) (λ j p q m h. (h.1, h.2, h.3))
-    (λ p q m h. let lt = slice_get_within r.spans p h.1.0 h.1.1 in (p, omega (arith, lt, end), (refl, h.0, h.1, h.2))) so
+pub calls_end : (r : Read) (initial now : Table) (j pc : ℕ) (lock : Lock) (parts : List ℕ) → parts ≡ row r.regions pc → IsRead r → length parts ≤ j
+    → AddedBelow r initial now (each_call r pc lock parts) j → Added r initial now (IsCalledAt r pc lock)
+calls_end r initial now j pc lock parts is read end so = below_end r initial now (each_call r pc lock parts) j (IsCalledAt r pc lock) (λ k p q m h. (h.1, h.2, h.3))
+    (λ p q m h.
+    let point : IsAtPoint r p pc = subst (λ y. IsAtPoint r p y) h.0 h.1 in
+    let at = read.regions.all pc p (slice_get_within r.spans p point.0 point.1) point in
+    let here : slice_get parts at.0 ≡ Some p = ap (λ l. slice_get l at.0) is ∙ at.1 in
+    let lt = slice_get_within parts at.0 p here in
+    (at.0, omega (arith, lt, end), (here, h.0, h.1, h.2))) so
 
 -- what is read where there is no span
 abbrev pub no_span : Span

@@ -1,5 +1,5 @@
 -- Rows of pcs.
-use Rattle.std.proofs.Common.{◌≡◌, ◌≢◌, ◌⊎◌, ◌↔◌, ⊎_elim, ℕ, zero, suc, ◌+◌, ◌<◌, List, [], ◌∷◌, ◌++◌, Some, length, map, slice_get, slice_set, get_or, replicate, inl, inr, refl, ap, sym, subst, ◌∙◌, length-set, arith}
+use Rattle.std.proofs.Common.{◌≡◌, ◌≢◌, ◌⊎◌, ◌↔◌, ⊎_elim, ℕ, zero, suc, ◌+◌, ◌<◌, ◌≤◌, List, [], ◌∷◌, ◌++◌, Some, length, map, slice_get, slice_set, get_or, replicate, inl, inr, refl, ap, sym, subst, ◌∙◌, length-set, arith}
 use Rattle.std.proofs.lemmas.Bool.Decides.{eqb_tells}
 use Rattle.std.proofs.lemmas.List.{length-map, length-replicate}
 use Rattle.std.proofs.lemmas.Option.{get_or_from_slice_get, slice_get-get_or, slice_get_within}
@@ -9,8 +9,9 @@ use Rattle.asl_lower.specs.Lowered.{Lowered}
 use Rattle.asl_lower.specs.Kept.{IsKept}
 use Rattle.asl_lower.specs.Region.{GoesOn}
 use Rattle.asl_lower.proofs.Layouts.{kept_layout}
+use Rattle.asl_backward_flow.specs.declared.span.Span.{Span}
 use Rattle.asl_backward_flow.specs.Found.{IsAt}
-use Rattle.asl_backward_flow.specs.Graph.{row, HasRows, HasSome, IsCall, IsEdge}
+use Rattle.asl_backward_flow.specs.Graph.{row, HasRows, HasSome, HasPc, IsCall, IsEdge}
 use Rattle.std.specs.List.{Contains}
 use Rattle.asl_backward_flow.proofs.Sets.{some_same, at_front, at_push, at_last}
 use Rattle.asl_backward_flow.proofs.Tables.{map_set}
@@ -200,3 +201,31 @@ next_edge l pc lt next tells k d there =
 
 pub edge_next : (l : Lowered) (pc : ℕ) (next : List ℕ) → Tells l pc next → (to : ℕ) → IsEdge l to pc → IsAt next to
 edge_next l pc next tells to e = at_of_contains next to ((tells e.0 e.1 to).1 e.2)
+
+-- the rows have the regions below one, and that one at its pcs below a pc
+abbrev pub HasRange : List (List ℕ) → List Span → ℕ → Span → ℕ → Type 0
+HasRange rows spans part span pc =
+    (added : List ℕ) × HasSome rows (HasPc spans) part added × ((n : ℕ) → span.first ≤ n → n < pc → IsAt added n)
+
+pub range_begin : (rows : List (List ℕ)) (spans : List Span) (part : ℕ) (span : Span) → HasRows rows (HasPc spans) part → HasRange rows spans part span span.first
+range_begin rows spans part span has = ([], some_begin rows (HasPc spans) part has, λ n ge lt. absurd (omega (arith, ge, lt)))
+
+pub range_more : (rows new : List (List ℕ)) (spans : List Span) (part : ℕ) (span : Span) (pc number : ℕ) → slice_get spans part ≡ Some span → number ≡ pc → span.first ≤ pc → pc < span.end → number < length rows
+    → new ≡ slice_set rows number (row rows number ++ part ∷ []) → HasRange rows spans part span pc → HasRange new spans part span (pc + 1)
+range_more rows new spans part span pc number at same first end there made has = (
+  has.0 ++ number ∷ [],
+  some_more rows new (HasPc spans) part number has.0 there (span, at, omega (arith, same, first), omega (arith, same, end)) made has.1,
+  λ n ge lt. ⊎_elim
+      (λ below. let old = has.2 n ge below in (old.0, at_front has.0 (number ∷ []) old.0 n old.1))
+      (λ (e : n ≡ pc). (length has.0, at_last has.0 number ∙ ap Some (same ∙ sym e)))
+      (below_or_at n pc lt),
+)
+
+pub range_end : (rows : List (List ℕ)) (spans : List Span) (part : ℕ) (span : Span) (pc : ℕ) → slice_get spans part ≡ Some span → span.end ≤ pc → HasRange rows spans part span pc → HasRows rows (HasPc spans) (part + 1)
+range_end rows spans part span pc at end has =
+    some_end rows (HasPc spans) part has.0 has.1
+    (λ n r.
+    let same : r.0 ≡ span = some_same (sym r.1 ∙ at) in
+    let ge : span.first ≤ n = subst (λ (s : Span). s.first ≤ n) same r.2 in
+    let lt : n < span.end = subst (λ (s : Span). n < s.end) same r.3 in
+    has.2 n ge (omega (arith, lt, end)))

@@ -15,7 +15,7 @@ use Rattle.asl_backward_flow.specs.declared.program.Program.{Program}
 use Rattle.asl_backward_flow.specs.declared.found.Fact.{Fact}
 use Rattle.asl_backward_flow.specs.declared.found.AddFault.{AddFault}
 use Rattle.asl_backward_flow.specs.Found.{Table, Has, HasPoint, HasFact, IsAt, IsName, IsWhole, IsOver, Adds, Lists, fact, locks_of}
-use Rattle.asl_backward_flow.specs.Graph.{HasRows, IsEdge, IsCall}
+use Rattle.asl_backward_flow.specs.Graph.{HasRows, HasPc, IsEdge, IsCall}
 use Rattle.asl_backward_flow.specs.Needed.{Needed, view, region_of}
 use Rattle.asl_backward_flow.specs.Spans.{AreSpans}
 
@@ -28,6 +28,7 @@ pub record Read : Type 0 where
   pub spans : List Span
   pub predecessors : List (List ℕ)
   pub callers : List (List ℕ)
+  pub regions : List (List ℕ)
 
 abbrev pub read : Program → Read
 read p = record {
@@ -38,6 +39,7 @@ read p = record {
   spans = p.spans.now;
   predecessors = map (λ r. r.items) p.predecessors.now;
   callers = map (λ r. r.items) p.callers.now;
+  regions = map (λ r. r.items) p.regions.now;
 }
 
 pub record IsRead (r : Read) : Type 0 where
@@ -46,6 +48,7 @@ pub record IsRead (r : Read) : Type 0 where
   pub spans : AreSpans r.lowered r.spans
   pub predecessors : HasRows r.predecessors (IsEdge r.lowered) (length r.lowered.code)
   pub callers : HasRows r.callers (IsCall r.lowered) (length r.lowered.code)
+  pub regions : HasRows r.regions (HasPc r.spans) (length r.spans)
 
 abbrev pub seen : Read → ℕ → View
 seen r function = view r.classes r.stores r.longest function

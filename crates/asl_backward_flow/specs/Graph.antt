@@ -1,13 +1,22 @@
 -- Machinery of the proofs, not of the promise: from where control comes, and from where functions are called (src/graph.rt).
-use Rattle.std.specs.Prelude.{◌≡◌, ◌+◌, ◌<◌, ℕ, List, [], Some, slice_get, unwrap_or}
+use Rattle.std.specs.Prelude.{◌≡◌, ◌+◌, ◌<◌, ◌≤◌, ℕ, List, [], Some, slice_get, unwrap_or}
 use Rattle.asl_code.specs.declared.instr.Instr.{Instr}
 use Rattle.asl_lower.specs.Lowered.{Lowered}
 use Rattle.asl_lower.specs.Region.{CallsAt, GoesOn}
+use Rattle.asl_backward_flow.specs.declared.span.Span.{Span}
 use Rattle.asl_backward_flow.specs.Found.{IsAt}
 
 -- the row of a number
 abbrev pub row : List (List ℕ) → ℕ → List ℕ
 row rows n = unwrap_or (slice_get rows n) []
+
+-- the region of this number has the pc
+abbrev pub HasPc : List Span → ℕ → ℕ → Type 0
+HasPc spans pc part = (s : Span) × (slice_get spans part ≡ Some s) × (s.first ≤ pc) × (pc < s.end)
+
+-- each region ends within so many pcs
+abbrev pub EndWithin : List Span → ℕ → Type 0
+EndWithin spans count = (part : ℕ) (s : Span) → slice_get spans part ≡ Some s → s.end ≤ count
 
 -- control goes on from the pc to another
 abbrev pub IsEdge : Lowered → ℕ → ℕ → Type 0

@@ -8,7 +8,7 @@ ghost use Rattle.asl_backward_flow.specs.Parts.{TellsAll, HasMany};
 use crate::fault::FlowFault;
 use crate::flow::follow_all;
 use crate::found::{AddFault, Found};
-use crate::graph::{callers, predecessors};
+use crate::graph::{callers, predecessors, regions};
 use crate::parts::{Flow, flow_of};
 use crate::program::Program;
 use crate::span::spans;
@@ -34,6 +34,7 @@ pub fn needed(
     let spans = spans(alloc, lowering)?;
     let predecessors = predecessors(alloc, lowering)?;
     let callers = callers(alloc, lowering)?;
+    let regions = regions(alloc, lowering.code().len(), spans.as_slice())?;
     let program = Program {
         lowering,
         classes,
@@ -42,6 +43,7 @@ pub fn needed(
         spans: spans.as_slice(),
         predecessors: predecessors.as_slice(),
         callers: callers.as_slice(),
+        regions: regions.as_slice(),
     };
     flow(alloc, &program)
 }

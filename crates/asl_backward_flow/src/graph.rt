@@ -1,8 +1,9 @@
 //! From where control comes to each pc, and from where each function is called.
-ghost use Rattle.std.specs.Prelude.{◌≡◌, ◌++◌, ◌∷◌, ◌+◌, [], ◌<◌, length, map, slice_set, vec_len, IfOk, OnOk, replicate};
+ghost use Rattle.std.specs.Prelude.{◌≡◌, ◌++◌, ◌∷◌, ◌+◌, [], ◌<◌, ◌≤◌, length, map, slice_set, vec_len, IfOk, OnOk, replicate};
 ghost use Rattle.asl_lower.specs.Kept.{IsKept};
-ghost use Rattle.asl_backward_flow.specs.Graph.{row, HasRows, IsEdge, IsCall};
+ghost use Rattle.asl_backward_flow.specs.Graph.{row, HasRows, HasPc, EndWithin, IsEdge, IsCall};
 
+use crate::span::Span;
 use asl_code::Instr;
 use asl_lower::Lowering;
 use std::alloc::{AllocError, Global};
@@ -70,4 +71,32 @@ pub fn callers(alloc: Global, lowering: &Lowering) -> Result<Vec<Vec<u16>>, Allo
         }
     }
     Ok(rows)
+}
+
+/// For each of so many pcs, the regions that have it, by their places among the spans.
+pub fn regions(alloc: Global, count: usize, spans: &[Span]) -> Result<Vec<Vec<u16>>, AllocError>
+    requires few { length spans.now ≤ 1280 }
+    requires within { EndWithin spans.now count }
+    ensures { IfOk result (λ rows. HasRows (map (λ r. r.items) rows.items) (HasPc spans.now) (length spans.now)) }
+{
+    let mut rows = empty_rows(alloc, count)?;
+    for part in 0..spans.len() {
+        add_region(spans, part as u16, &mut rows)?;
+    }
+    Ok(rows)
+}
+
+/// Adds a region to the rows of its pcs.
+fn add_region(spans: &[Span], part: u16, rows: &mut Vec<Vec<u16>>) -> Result<(), AllocError>
+    requires there { part < length spans.now }
+    requires within { EndWithin spans.now (vec_len rows.old) }
+    requires before { HasRows (map (λ r. r.items) rows.old.items) (HasPc spans.now) part }
+    ensures rows { OnOk result (HasRows (map (λ r. r.items) rows.new.items) (HasPc spans.now) (part + 1)) }
+    ensures count { OnOk result (vec_len rows.new ≡ vec_len rows.old) }
+{
+    let span = spans[usize::from(part)];
+    for pc in span.first..span.end {
+        add_to_row(rows, usize::from(pc), part)?;
+    }
+    Ok(())
 }

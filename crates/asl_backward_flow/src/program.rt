@@ -22,4 +22,6 @@ pub struct Program<'a> {
     pub predecessors: &'a [Vec<u16>],
     /// For each function, the pcs at which it is called.
     pub callers: &'a [Vec<u16>],
+    /// For each pc, the regions that have it, by their places among the spans.
+    pub regions: &'a [Vec<u16>],
 }

@@ -239,9 +239,9 @@ fn add_call(
     ensures ok { OnOk result (Added (read program.now) (table found.old) (table found.new) (IsCalledAt (read program.now) pc lock.now)) }
     ensures err { IfErr result (Stopped (table found.old) (table found.new) (IsCalledAt (read program.now) pc lock.now)) }
 {
-    for (part, span) in program.spans.iter().enumerate() {
-        if span.has(pc) {
-            add_entered_in(alloc, program, part as u16, pc, lock, found)?;
+    if let Some(parts) = program.regions.get(usize::from(pc)) {
+        for part in parts.as_slice() {
+            add_entered_in(alloc, program, *part, pc, lock, found)?;
         }
     }
     Ok(())
