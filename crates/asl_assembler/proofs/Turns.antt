@@ -6,8 +6,18 @@ use Rattle.asl_assembler.specs.declared.line.Line.TheVariants as line
 use Rattle.asl_assembler.specs.declared.draft.Place.{Place}
 use Rattle.asl_assembler.specs.declared.draft.Place.TheVariants as place
 use Rattle.asl_assembler.specs.declared.order.Turn.{Turn}
+use Rattle.asl_assembler.specs.declared.order.Turn.TheVariants as turn
 use Rattle.asl_assembler.specs.Words.{lines_of, words_of}
-use Rattle.asl_assembler.specs.Reading.{◌>>=◌, State, next, finished, meaning_of, step_words, step_line, or_line, image_from, blank_image, turn_of, turn_behind, turn_words, turn_line, may_end}
+use Rattle.asl_assembler.specs.Reading.{◌>>=◌, State, next, finished, meaning_of, step_words, step_line, or_line, image_from, blank_image, turn_behind, turn_words, turn_line, may_end}
+
+-- which line comes next at a place, without what is open there
+abbrev pub turn_of : Place → Turn
+turn_of place.Version = turn.Version
+turn_of place.Classes = turn.Classes
+turn_of place.Globals = turn.Globals
+turn_of place.Functions = turn.Functions
+turn_of (place.Body f) = turn.Body
+turn_of (place.Locks locks) = turn.Locks
 
 -- which line comes behind a state, if there is one
 abbrev turns : Option State → Option Turn

@@ -350,15 +350,6 @@ Answers (Err (fault.Line n)) answer = answer ≡ Err n
 Answers (Err fault.Over) answer = (image : Image) → answer ≡ Ok image → IsOver image
 Answers (Err fault.OutOfMemory) answer = Unit {0}
 
--- which line comes next at a place, without what is open there
-abbrev pub turn_of : Place → Turn
-turn_of place.Version = turn.Version
-turn_of place.Classes = turn.Classes
-turn_of place.Globals = turn.Globals
-turn_of place.Functions = turn.Functions
-turn_of (place.Body f) = turn.Body
-turn_of (place.Locks locks) = turn.Locks
-
 -- which line comes behind one that opens a function or a list
 abbrev pub turn_opened : Line → Option Turn
 turn_opened (line.Function params regs) = Some turn.Body

@@ -39,6 +39,11 @@ fn line_or(text: &[u8], fault: AsmFault) -> AsmFault
 }
 
 /// The program that an assembly text spells (`docs/ASSEMBLY.md`).
+///
+/// # Errors
+///
+/// The first line that is not as its place asks; where all lines are right, the first rule that the image breaks; or
+/// `OutOfMemory`, which hides no wrong line.
 pub fn assemble(alloc: Global, text: &[u8]) -> Result<Program, AsmFault>
     ensures spelled { IfOk result (λ program. Spells text.now program) }
     ensures verified { IfOk result (λ program. IsVerified program) }

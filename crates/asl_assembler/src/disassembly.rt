@@ -16,12 +16,20 @@ use crate::print::{put_instr, put_lock};
 use asl_code::{Function, Image, Instr, Items, Lock, Program};
 use std::alloc::{AllocError, Global};
 
-/// The canonical text of the program (`docs/ASSEMBLY.md`). Nothing is refused, unless memory runs out.
+/// Bytes of text that are asked for at first for each instruction: lines are seldom longer.
+const LINE: usize = 16;
+
+/// The canonical text of the program (`docs/ASSEMBLY.md`).
+///
+/// # Errors
+///
+/// Nothing is refused, unless memory runs out.
 pub fn disassemble(alloc: Global, program: &Program) -> Result<Vec<u8>, AllocError>
     ensures canonical { IfOk result (λ text. text.items ≡ canonical_text program.now) }
     ensures spelled { IfOk result (λ text. Spells text.items program.now) }
 {
-    let mut text = String::new(alloc);
+    let room = program.code().len().saturating_mul(LINE);
+    let mut text = String::with_capacity(alloc, room)?;
     put_image(&mut text, program.image())?;
     Ok(text.into_bytes())
 }

@@ -39,6 +39,7 @@ pub(crate) enum Keyword {
 }
 
 /// The keyword that the word is, if it is one.
+#[inline(always)]
 #[tactic(auto, unfolding(crate::specs::Reading::keyword_of))]
 pub(crate) fn find_keyword(word: &[u8]) -> Option<Keyword>
     ensures { result ≡ keyword_of word.now }
@@ -96,69 +97,35 @@ fn find_directive(word: &[u8]) -> Option<Keyword>
 fn find_setter(word: &[u8]) -> Option<Keyword>
     ensures { result ≡ first_named setters word.now }
 {
-    if word == b"int".as_slice() {
-        return Some(Keyword::Int);
+    match word {
+        b"int" => Some(Keyword::Int),
+        b"null" => Some(Keyword::Null),
+        b"mov" => Some(Keyword::Mov),
+        b"add" => Some(Keyword::Add),
+        b"sub" => Some(Keyword::Sub),
+        b"lt" => Some(Keyword::Lt),
+        b"eq" => Some(Keyword::Eq),
+        b"glob" => Some(Keyword::Glob),
+        b"field" => Some(Keyword::Field),
+        _ => None,
     }
-    if word == b"null".as_slice() {
-        return Some(Keyword::Null);
-    }
-    if word == b"mov".as_slice() {
-        return Some(Keyword::Mov);
-    }
-    if word == b"add".as_slice() {
-        return Some(Keyword::Add);
-    }
-    if word == b"sub".as_slice() {
-        return Some(Keyword::Sub);
-    }
-    if word == b"lt".as_slice() {
-        return Some(Keyword::Lt);
-    }
-    if word == b"eq".as_slice() {
-        return Some(Keyword::Eq);
-    }
-    if word == b"glob".as_slice() {
-        return Some(Keyword::Glob);
-    }
-    if word == b"field".as_slice() {
-        return Some(Keyword::Field);
-    }
-    None
 }
 
 /// The same of the other instructions.
 fn find_other(word: &[u8]) -> Option<Keyword>
     ensures { result ≡ first_named others word.now }
 {
-    if word == b"load".as_slice() {
-        return Some(Keyword::Load);
+    match word {
+        b"load" => Some(Keyword::Load),
+        b"store" => Some(Keyword::Store),
+        b"new" => Some(Keyword::New),
+        b"jmp" => Some(Keyword::Jmp),
+        b"jz" => Some(Keyword::Jz),
+        b"call" => Some(Keyword::Call),
+        b"ret" => Some(Keyword::Ret),
+        b"out" => Some(Keyword::Out),
+        b"acq" => Some(Keyword::Acq),
+        b"rel" => Some(Keyword::Rel),
+        _ => None,
     }
-    if word == b"store".as_slice() {
-        return Some(Keyword::Store);
-    }
-    if word == b"new".as_slice() {
-        return Some(Keyword::New);
-    }
-    if word == b"jmp".as_slice() {
-        return Some(Keyword::Jmp);
-    }
-    if word == b"jz".as_slice() {
-        return Some(Keyword::Jz);
-    }
-    if word == b"call".as_slice() {
-        return Some(Keyword::Call);
-    }
-    if word == b"ret".as_slice() {
-        return Some(Keyword::Ret);
-    }
-    if word == b"out".as_slice() {
-        return Some(Keyword::Out);
-    }
-    if word == b"acq".as_slice() {
-        return Some(Keyword::Acq);
-    }
-    if word == b"rel".as_slice() {
-        return Some(Keyword::Rel);
-    }
-    None
 }

@@ -162,6 +162,7 @@ fn line_named(name: Keyword, rest: &[u8]) -> Option<Line>
 }
 
 /// What the line says, if it says something by itself. A blank line says nothing.
+#[inline(always)]
 #[tactic(auto, unfolding(crate::specs::Reading::meaning_of))]
 pub(crate) fn meaning(line: &[u8]) -> Option<Line>
     ensures { result ≡ meaning_of (words_of line.now) }

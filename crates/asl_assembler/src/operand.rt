@@ -85,6 +85,7 @@ pub(crate) fn one_effect(line: &[u8]) -> Option<Effect>
 }
 
 /// Of a line its two words as registers, if it is so.
+#[inline(always)]
 pub(crate) fn two_registers(line: &[u8]) -> Option<(u8, u8)>
     ensures { result ≡ registers_2 (words_of line.now) }
 {
@@ -133,6 +134,7 @@ pub(crate) fn short_and_effect(line: &[u8]) -> Option<(u16, Effect)>
 }
 
 /// Of a line its three words as registers, if it is so.
+#[inline(always)]
 pub(crate) fn three_registers(line: &[u8]) -> Option<(u8, u8, u8)>
     ensures { result ≡ registers_3 (words_of line.now) }
 {

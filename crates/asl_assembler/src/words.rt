@@ -70,6 +70,7 @@ pub(crate) fn no_word_in(line: &[u8]) -> Option<()>
 }
 
 /// The one word of a line.
+#[inline(always)]
 pub(crate) fn one_word_in(line: &[u8]) -> Option<&[u8]>
     ensures { option_map (λ x. x.now) result ≡ one_word (words_of line.now) }
 {
@@ -79,6 +80,7 @@ pub(crate) fn one_word_in(line: &[u8]) -> Option<&[u8]>
 }
 
 /// The two words of a line.
+#[inline(always)]
 pub(crate) fn two_words_in(line: &[u8]) -> Option<(&[u8], &[u8])>
     ensures { option_map (λ x. (x.0.now, x.1.now)) result ≡ two_words (words_of line.now) }
 {
@@ -88,6 +90,7 @@ pub(crate) fn two_words_in(line: &[u8]) -> Option<(&[u8], &[u8])>
 }
 
 /// The three words of a line.
+#[inline(always)]
 pub(crate) fn three_words_in(line: &[u8]) -> Option<(&[u8], &[u8], &[u8])>
     ensures { option_map (λ x. (x.0.now, x.1.now, x.2.now)) result ≡ three_words (words_of line.now) }
 {
