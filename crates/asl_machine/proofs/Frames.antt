@@ -1,28 +1,26 @@
 -- The frames of a thread, which the code keeps with the nearest one last.
-use Rattle.std.proofs.Common.{◌≡◌, ℕ, ◌+◌, ◌++◌, List, [], ◌∷◌, length, set, get_or, reverse, replicate, refl, ap, ◌∙◌}
-use Rattle.std.proofs.lemmas.List.{reverse-append, append_assoc, replicate_more}
+use Rattle.std.proofs.Common.{◌≡◌, ℕ, ◌+◌, ◌<◌, ◌≤◌, ◌++◌, List, [], ◌∷◌, length, take, set, reverse, replicate, ap, sym, subst, ◌∙◌}
+use Rattle.std.proofs.lemmas.List.{reverse-append, append_assoc, replicate_more, length-set, take-set, take_more_set, take-append-le}
 use Rattle.asl_code.specs.declared.value.Value.{Value}
 use Rattle.asl_machine.specs.State.{Frame, Activity}
 
-set_last : {X : Type 0} (xs : List X) (x y : X) → set (xs ++ x ∷ []) (length xs) y ≡ xs ++ y ∷ []
-set_last [] x y = refl
-set_last {X = X} (z ∷ xs) x y = ap {B = List X} (λ ys. z ∷ ys) (set_last xs x y)
+-- the frame that came in place of the first that is no longer below is the nearest below
+pub nearest_is : (frames : List Frame) (k : ℕ) (begun waiting : Frame) → k < length frames → reverse (take (k + 1) (set (set frames k begun) k waiting)) ≡ waiting ∷ reverse (take k frames)
+nearest_is frames k begun waiting lt =
+    let there : k < length (set frames k begun) = subst (λ n. k < n) (sym (length-set frames k begun)) lt in
+    ap reverse (take_more_set (set frames k begun) k waiting there ∙ ap (λ (xs : List Frame). xs ++ waiting ∷ []) (take-set frames k begun))
+    ∙ reverse-append (take k frames) (waiting ∷ [])
 
--- the frame that was pushed last, in whose place another came, is the nearest
-pub nearest_is : (frames : List Frame) (pushed waiting : Frame) → reverse (set (frames ++ pushed ∷ []) (length frames) waiting) ≡ waiting ∷ reverse frames
-nearest_is frames pushed waiting = ap reverse (set_last frames pushed waiting) ∙ reverse-append frames (waiting ∷ [])
+-- a frame behind those that are below is none of them
+pub same_below : (frames more : List Frame) (ended : Frame) (k : ℕ) → k ≤ length frames → more ≡ frames ++ ended ∷ [] → reverse (take k more) ≡ reverse (take k frames)
+same_below frames more ended k le e = ap (λ (xs : List Frame). reverse (take k xs)) e ∙ ap reverse (take-append-le k frames (ended ∷ []) le)
 
-abbrev act : ℕ → Frame → List Frame → List ℕ → Activity
+abbrev pub act : ℕ → Frame → List Frame → List ℕ → Activity
 act d top below fresh = record { depth = d; top = top; below = below; fresh = fresh }
 
 -- what threads are at is the same where its parts are
 pub same_activity : (d : ℕ) (a b : Frame) (xs ys : List Frame) (fresh : List ℕ) → a ≡ b → xs ≡ ys → act d a xs fresh ≡ act d b ys fresh
 same_activity d a b xs ys fresh p q = λ i. record { depth = d; top = p i; below = q i; fresh = fresh }
-
--- the frame that was pushed last, by its place
-pub pushed_is : (frames : List Frame) (pushed other : Frame) → get_or (frames ++ pushed ∷ []) (length frames) other ≡ pushed
-pushed_is [] pushed other = refl
-pushed_is (f ∷ frames) pushed other = pushed_is frames pushed other
 
 -- one more register after the arguments
 pub one_filled : (arguments : List Value) (k n : ℕ) (z : Value) → k + 1 ≡ n → (arguments ++ replicate k z) ++ z ∷ [] ≡ arguments ++ replicate n z

@@ -75,6 +75,7 @@ pub fn call(
 }
 
 /// Returns the value to the frame below. The last frame ends the thread with it, or fails inside a section.
+#[inline(always)]
 pub fn give(activity: &mut Activity, value: Value) -> Fate
     requires { IsAwaited activity.old.top.result activity.old.below }
     ensures fate { result ≡ fate_returned activity.old value activity.old.below }

@@ -51,6 +51,16 @@ impl Frame {
         })
     }
 
+    /// A frame without registers, which stands for none.
+    fn ended(alloc: Global) -> Frame {
+        Frame {
+            function: 0,
+            pc: 0,
+            regs: Vec::new(alloc),
+            result: None,
+        }
+    }
+
     /// An equal frame.
     fn try_copy(&self, alloc: Global) -> Result<Frame, AllocError>
         ensures { IfOk result (λ frame. frame ≡ self.now) }
@@ -63,30 +73,30 @@ impl Frame {
         })
     }
 
-    /// The frame that this one begins by calling the function with its registers from `first` on.
-    pub fn call(
-        &self,
-        alloc: Global,
+    /// Becomes the frame that the caller begins by calling the function with its registers from `first` on. The room for
+    /// registers is kept.
+    fn begin(
+        &mut self,
+        caller: &Frame,
         code: &Code<'_>,
         to: u8,
         first: u8,
         function: u16,
-    ) -> Result<Frame, AllocError>
+    ) -> Result<(), AllocError>
         requires fits { FitsImage code.now }
         requires there { function < length code.now.functions }
-        requires arguments { first + (function_of code.now function).params ≤ length self.now.regs }
-        ensures { IfOk result (λ frame. frame ≡ first_frame code.now function
-            (values_from self.now.regs first (function_of code.now function).params) (Some to)) }
+        requires arguments { first + (function_of code.now function).params ≤ length caller.now.regs }
+        ensures { OnOk result (self.new ≡ first_frame code.now function
+            (values_from caller.now.regs first (function_of code.now function).params) (Some to)) }
     {
         let callee = code.function(function);
         let first = usize::from(first);
-        let arguments = &self.regs[first..first + usize::from(callee.params)];
-        Ok(Frame {
-            function,
-            pc: code.first(function),
-            regs: registers(alloc, arguments, callee.regs)?,
-            result: Some(to),
-        })
+        let arguments = &caller.regs[first..first + usize::from(callee.params)];
+        fill(&mut self.regs, arguments, callee.regs)?;
+        self.function = function;
+        self.pc = code.first(function);
+        self.result = Some(to);
+        Ok(())
     }
 
     /// The place of the next instruction.
@@ -153,9 +163,19 @@ fn registers(alloc: Global, arguments: &[Value], count: u8) -> Result<Vec<Value>
     ensures { IfOk result (λ regs. regs.items ≡ first_registers arguments.now count) }
 {
     let mut regs = Vec::with_capacity(alloc, usize::from(count))?;
-    regs.extend_from_slice(arguments)?;
-    regs.resize(usize::from(count), Value::Int(0))?;
+    fill(&mut regs, arguments, count)?;
     Ok(regs)
+}
+
+/// Puts so many registers, of which the first are the parameters, in place of what is there.
+fn fill(regs: &mut Vec<Value>, arguments: &[Value], count: u8) -> Result<(), AllocError>
+    requires { length arguments.now ≤ count }
+    ensures { OnOk result (regs.new.items ≡ first_registers arguments.now count) }
+{
+    regs.clear();
+    regs.reserve_exact(usize::from(count))?;
+    regs.extend_from_slice(arguments)?;
+    regs.resize(usize::from(count), Value::Int(0))
 }
 
 /// Equal frames.
@@ -169,27 +189,30 @@ fn copies(alloc: Global, frames: &[Frame]) -> Result<Vec<Frame>, AllocError>
     Ok(copies)
 }
 
-/// What a running thread is at: how many sections it is in, its top frame, the frames below, the nearest last, and the
-/// objects that are fresh for it, whose numbers rise.
+/// What a running thread is at: how many sections it is in, its top frame, how many frames are below, these frames, the
+/// nearest last, and the objects that are fresh for it, whose numbers rise.
+///
+/// Behind the frames below are some that have ended: the next calls use their room.
 #[derive(Drop)]
 pub struct Activity {
     depth: u8,
     top: Frame,
-    below: Vec<Frame>,
+    below: usize,
+    frames: Vec<Frame>,
     fresh: Vec<u32>,
 }
 
 impl Model for Activity {
-    ghost use Rattle.std.specs.Prelude.{reverse};
+    ghost use Rattle.std.specs.Prelude.{◌≤◌, take, length, reverse};
     ghost use Rattle.asl_machine.specs.State.{Activity};
 
     ghost Value = { Activity };
 
-    ghost view = { λ a. record { depth = a.depth; top = a.top; below = reverse a.below.items; fresh = a.fresh.items } };
+    ghost view = { λ a. record { depth = a.depth; top = a.top; below = reverse (take a.below a.frames.items); fresh = a.fresh.items } };
 
     ghost use Rattle.std.specs.List.Sorted.{IsNonDecreasing};
 
-    ghost invariant = { λ a. IsNonDecreasing a.fresh.items };
+    ghost invariant = { λ a. (a.below ≤ length a.frames.items) × IsNonDecreasing a.fresh.items };
 }
 
 impl Activity {
@@ -210,7 +233,8 @@ impl Activity {
         Ok(Activity {
             depth: 0,
             top: Frame::entry(alloc, code, t)?,
-            below: Vec::new(alloc),
+            below: 0,
+            frames: Vec::new(alloc),
             fresh: Vec::new(alloc),
         })
     }
@@ -222,7 +246,8 @@ impl Activity {
         Ok(Activity {
             depth: self.depth,
             top: self.top.try_copy(alloc)?,
-            below: copies(alloc, self.below.as_slice())?,
+            below: self.below,
+            frames: copies(alloc, &self.frames[..self.below])?,
             fresh: self.fresh.as_slice().to_vec(alloc)?,
         })
     }
@@ -238,7 +263,7 @@ impl Activity {
     pub fn frames(&self) -> usize
         ensures { result ≡ frame_count self.now }
     {
-        self.below.len() + 1
+        self.below + 1
     }
 
     /// The place of the next instruction.
@@ -359,27 +384,30 @@ impl Activity {
         ensures called { OnOk result (self.new ≡ called code.now self.old to first function) }
         ensures err { OnErr result (self.new ≡ self.old) }
     {
-        let frame = self.top.call(alloc, code, to, first, function)?;
-        self.below.push(frame)?;
+        if self.below == self.frames.len() {
+            self.frames.push(Frame::ended(alloc))?;
+        }
+        self.frames[self.below].begin(&self.top, code, to, first, function)?;
         self.top.advance();
-        let last = self.below.len() - 1;
-        mem::swap(&mut self.top, &mut self.below[last]);
+        mem::swap(&mut self.top, &mut self.frames[self.below]);
+        self.below += 1;
         Ok(())
     }
 
     /// Ends the top frame, if one is below, which gets the value: whether one is below.
+    #[inline(always)]
     pub fn give(&mut self, value: Value) -> bool
         requires { IsAwaited self.old.top.result self.old.below }
         ensures below { IsTrue result ↔ (self.old.below ≢ []) }
         ensures activity { self.new ≡ activity_returned self.old value self.old.below }
     {
-        match self.below.pop() {
-            Some(mut caller) => {
-                caller.receive(self.top.result, value);
-                self.top = caller;
-                true
-            }
-            None => false,
+        if self.below == 0 {
+            return false;
         }
+        self.below -= 1;
+        mem::swap(&mut self.top, &mut self.frames[self.below]);
+        let awaiting = self.frames[self.below].result;
+        self.top.receive(awaiting, value);
+        true
     }
 }

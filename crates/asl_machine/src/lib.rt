@@ -9,6 +9,7 @@ mod frame;
 mod fresh_laws;
 mod heap;
 mod laws;
+mod local;
 mod machine;
 mod memory;
 mod perform;

@@ -90,6 +90,25 @@ impl<'p> Machine<'p> {
             return Err(MachineFault::BadThread);
         }
         let thread = &mut self.threads[t as usize];
+        if thread.stepped_at_once(&self.code, &self.heap, &self.forest, t) {
+            return Ok(Reply::Ran);
+        }
+        self.step_fully(alloc, t)
+    }
+
+    /// Steps thread t, whatever it is at.
+    fn step_fully(&mut self, alloc: Global, t: u32) -> Result<Reply, MachineFault>
+        requires there { t < length self.old.state.threads }
+        ensures step { IfOk result (λ reply. Step self.old.image self.old.state t reply self.new.state) }
+        ensures reply { IfOk result (λ reply. reply ≡ (step_of self.old.image self.old.state t).reply) }
+        ensures state { IfOk result (λ _. self.new.state ≡ (step_of self.old.image self.old.state t).state) }
+        ensures image { self.new.image ≡ self.old.image }
+        ensures blocked { IfOk result (λ reply. reply ≡ Reply.Blocked → SomeoneGoesOn self.old.image self.old.state) }
+        ensures memory { IsErrOf result MachineFault.OutOfMemory → MayWantMemory self.old.image self.old.state t }
+        ensures fault { IfErr result (λ fault. fault ≡ MachineFault.OutOfMemory) }
+        ensures err { OnErr result (self.new ≡ self.old) }
+    {
+        let thread = &mut self.threads[t as usize];
         Ok(thread.step(
             alloc,
             &self.code,

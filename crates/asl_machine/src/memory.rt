@@ -127,6 +127,7 @@ fn make_fresh(
 }
 
 /// The cell that the register holds the address of, where the thread may access it so.
+#[inline(always)]
 fn target(
     heap: &Heap,
     forest: &Forest,
@@ -146,6 +147,7 @@ fn target(
 }
 
 /// The cell that the value is the address of, where thread t may access it so.
+#[inline(always)]
 fn access(
     heap: &Heap,
     forest: &Forest,
@@ -175,6 +177,7 @@ fn access(
 }
 
 /// The cell, where the access is allowed.
+#[inline(always)]
 fn allow(
     heap: &Heap,
     forest: &Forest,
@@ -196,6 +199,7 @@ fn allow(
 
 /// Whether the thread is in a section, and the cell is covered for it: its object is fresh for the thread, or the
 /// thread's locks cover it for the effect.
+#[inline(always)]
 fn is_allowed(
     heap: &Heap,
     forest: &Forest,

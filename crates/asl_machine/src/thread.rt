@@ -1,5 +1,5 @@
 //! A thread of the machine, and its step.
-ghost use Rattle.std.specs.Prelude.{◌≡◌, ◌<◌, IfOk, OnOk, OnErr, IsSomeAnd, Some, slice_get};
+ghost use Rattle.std.specs.Prelude.{◌≡◌, ◌<◌, IsTrue, false, IfOk, OnOk, OnErr, IsSomeAnd, Some, slice_get};
 ghost use Rattle.asl_machine.specs.Ready.{IsReady, CanDo};
 ghost use Rattle.asl_machine.specs.Sound.{ThreadWantsMemory};
 ghost use Rattle.asl_machine.specs.Ready.{ThreadReady};
@@ -10,6 +10,7 @@ use crate::fate::Fate;
 use crate::fault::Fault;
 use crate::frame::Activity;
 use crate::heap::Heap;
+use crate::local::done_at_once;
 use crate::perform::perform;
 use crate::reply::{Reply, Status};
 use asl_code::Value;
@@ -107,6 +108,22 @@ impl Thread {
         }
     }
 
+    /// Steps thread t if it is at a local instruction that does not fail: whether it is.
+    #[inline(always)]
+    pub fn stepped_at_once(&mut self, code: &Code<'_>, heap: &Heap, forest: &Forest, t: u32) -> bool
+        requires ready { ThreadReady code.now forest.now heap.now t self.old }
+        ensures reply { IsTrue result → (turn_of code.now t self.old heap.now forest.now.holding).reply ≡ Reply.Ran }
+        ensures thread { IsTrue result → self.new ≡ (turn_of code.now t self.old heap.now forest.now.holding).thread }
+        ensures objects { IsTrue result → heap.now ≡ (turn_of code.now t self.old heap.now forest.now.holding).objects }
+        ensures holding { IsTrue result → forest.now.holding ≡ (turn_of code.now t self.old heap.now forest.now.holding).holding }
+        ensures otherwise { result ≡ false → self.new ≡ self.old }
+    {
+        let Stage::Running(activity) = &mut self.stage else {
+            return false;
+        };
+        advanced_at_once(code, heap, forest, t, activity)
+    }
+
     /// Steps thread t.
     pub fn step(
         &mut self,
@@ -142,6 +159,26 @@ impl Thread {
         give_back(forest, t, fate);
         Ok(reply(fate))
     }
+}
+
+/// Does the instruction that a running thread is at, if it is local and does not fail: whether it is so.
+#[inline(always)]
+fn advanced_at_once(
+    code: &Code<'_>,
+    heap: &Heap,
+    forest: &Forest,
+    t: u32,
+    activity: &mut Activity,
+) -> bool
+    requires ready { IsReady code.now forest.now heap.now t activity.old }
+    requires fits { IsSomeAnd (slice_get code.now.code activity.old.top.pc) (CanDo code.now activity.old.top) }
+    ensures done { IsTrue result → left_with Fate.GoesOn activity.new heap.now forest.now
+        ≡ left_at code.now (place t activity.old heap.now forest.now)
+        (slice_get code.now.code activity.old.top.pc) }
+    ensures otherwise { result ≡ false → activity.new ≡ activity.old }
+{
+    let instr = code.fetch(activity.pc());
+    done_at_once(code, heap, activity, instr)
 }
 
 /// Does the instruction that a running thread is at.

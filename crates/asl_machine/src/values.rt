@@ -46,6 +46,7 @@ pub fn comparison(activity: &Activity, left: u8, right: u8) -> Result<Value, Fau
 }
 
 /// Whether two registers have the same value: 1 or 0.
+#[inline(always)]
 pub fn equality(activity: &Activity, left: u8, right: u8) -> Value
     requires left_there { left < length activity.now.top.regs }
     requires right_there { right < length activity.now.top.regs }
@@ -54,6 +55,7 @@ pub fn equality(activity: &Activity, left: u8, right: u8) -> Value
     integer_for(is_same(activity.read(left), activity.read(right)))
 }
 
+#[inline(always)]
 fn is_same(left: Value, right: Value) -> bool
     ensures { result ≡ same_value left right }
 {
@@ -66,6 +68,7 @@ fn is_same(left: Value, right: Value) -> bool
 }
 
 /// 1 where the test holds, else 0.
+#[inline(always)]
 fn integer_for(holds: bool) -> Value
     ensures { result ≡ truth holds }
 {
@@ -73,6 +76,7 @@ fn integer_for(holds: bool) -> Value
 }
 
 /// Whether a jump that asks for zero goes to its target.
+#[inline(always)]
 pub fn is_zero(value: Value) -> bool
     ensures { result ≡ is_zero value }
 {
@@ -84,6 +88,7 @@ pub fn is_zero(value: Value) -> bool
 }
 
 /// The address so many cells on, in the same object.
+#[inline(always)]
 pub fn moved_on(heap: &Heap, places: u8, value: Value) -> Result<Value, Fault>
     ensures { result ≡ address_moved heap.now places value }
 {

@@ -1,59 +1,50 @@
-use Rattle.std.proofs.Common.{◌<◌, ◌∙◌, sym, subst, refl, length, arith}
-use Rattle.std.specs.Prelude.{IsSomeAnd}
+use Rattle.std.proofs.Common.{◌<◌, ◌∙◌, sym, refl, length, arith}
 use Rattle.std.proofs.lemmas.Option.{slice_get_read}
-use Rattle.asl_machine.specs.Sound.{ThreadWantsMemory}
+use Rattle.asl_machine.specs.declared.reply.Reply.TheVariants as reply
 use Rattle.asl_machine.proofs.Soundness.{thread_ready}
-use Rattle.asl_machine.proofs.Machines.{step_machine, step_state, step_reply, step_table, step_blocked}
+use Rattle.asl_machine.proofs.Machines.{step_machine, step_state, step_reply, step_table}
 use Rattle.asl_machine.proofs.machine.Machine.step.Goals as goal
 
-pub step-requires-clause-ready : goal.step-requires-clause-ready
-step-requires-clause-ready c =
+pub stepped_at_once-requires : goal.stepped_at_once-requires
+stepped_at_once-requires c =
     let lt : c.args.t < length c.self.inside.threads.items = omega arith in
     let at = slice_get_read c.self.inside.threads.items _ c.args.t c.index_mut-thread.result.now refl lt c.index_mut-thread.ensures.value in
-    thread_ready c.self.inside.code c.self.inside.heap c.self.inside.forest c.self.inside.threads.items c.args.t c.index_mut-thread.result.now c.self.invariant at
+    record { ready = thread_ready c.self.inside.code c.self.inside.heap c.self.inside.forest c.self.inside.threads.items c.args.t c.index_mut-thread.result.now c.self.invariant at }
 
-pub returns-in_err-step-clause-memory : goal.returns-in_err-step-clause-memory
-returns-in_err-step-clause-memory c =
+pub invariant_of-self : goal.invariant_of-self
+invariant_of-self c =
     let lt : c.args.t < length c.self.inside.threads.items = omega arith in
     let at = slice_get_read c.self.inside.threads.items _ c.args.t c.index_mut-thread.result.now refl lt c.index_mut-thread.ensures.value in
-    λ _. rw (← c.self.view_is) (subst (λ o. IsSomeAnd o (ThreadWantsMemory c.self.inside.code c.self.inside.heap)) (sym at) c.in_err-step.ensures.memory)
+    let told = c.stepped_at_once.ensures in
+    let is = c.if-stepped_at_once.true in
+    step_machine c.self.inside.code c.self.inside.heap c.self.inside.heap c.self.inside.forest c.self.inside.forest c.self.inside.threads.items c.args.t
+    c.index_mut-thread.result.now c.stepped_at_once.new.self c.self.invariant at (told.thread is) (told.objects is) (told.holding is) refl refl
 
-pub invariant_of-self-2 : goal.invariant_of-self-2
-invariant_of-self-2 c =
+pub returns-then-stepped_at_once-clause-reply : goal.returns-then-stepped_at_once-clause-reply
+returns-then-stepped_at_once-clause-reply c =
     let lt : c.args.t < length c.self.inside.threads.items = omega arith in
     let at = slice_get_read c.self.inside.threads.items _ c.args.t c.index_mut-thread.result.now refl lt c.index_mut-thread.ensures.value in
-    let told = c.in_ok-step.ensures in
-    step_machine c.self.inside.code c.self.inside.heap c.step.new.heap c.self.inside.forest c.step.new.forest c.self.inside.threads.items c.args.t
-    c.index_mut-thread.result.now c.step.new.self c.self.invariant at told.thread told.objects told.holding told.classes told.threads
-
-pub returns-clause-reply : goal.returns-clause-reply
-returns-clause-reply c =
-    let lt : c.args.t < length c.self.inside.threads.items = omega arith in
-    let at = slice_get_read c.self.inside.threads.items _ c.args.t c.index_mut-thread.result.now refl lt c.index_mut-thread.ensures.value in
-    rw (← c.self.view_is) (c.in_ok-step.ensures.reply
+    let told = c.stepped_at_once.ensures in
+    let is = c.if-stepped_at_once.true in
+    rw (← c.self.view_is) (sym (told.reply is)
     ∙ step_reply c.self.inside.code c.self.inside.heap c.self.inside.forest c.self.inside.threads.items c.args.t c.index_mut-thread.result.now c.self.invariant at)
 
-pub returns-clause-state : goal.returns-clause-state
-returns-clause-state c =
+pub returns-then-stepped_at_once-clause-state : goal.returns-then-stepped_at_once-clause-state
+returns-then-stepped_at_once-clause-state c =
     let lt : c.args.t < length c.self.inside.threads.items = omega arith in
     let at = slice_get_read c.self.inside.threads.items _ c.args.t c.index_mut-thread.result.now refl lt c.index_mut-thread.ensures.value in
-    let told = c.in_ok-step.ensures in
-    rw (← c.self.view_is) (step_state c.self.inside.code c.self.inside.heap c.step.new.heap c.self.inside.forest c.step.new.forest c.self.inside.threads.items c.args.t
-    c.index_mut-thread.result.now c.step.new.self c.self.invariant at told.thread told.objects told.holding)
+    let told = c.stepped_at_once.ensures in
+    let is = c.if-stepped_at_once.true in
+    rw (← c.self.view_is) (step_state c.self.inside.code c.self.inside.heap c.self.inside.heap c.self.inside.forest c.self.inside.forest c.self.inside.threads.items c.args.t
+    c.index_mut-thread.result.now c.stepped_at_once.new.self c.self.invariant at (told.thread is) (told.objects is) (told.holding is))
 
-pub returns-clause-step : goal.returns-clause-step
-returns-clause-step c =
+pub returns-then-stepped_at_once-clause-step : goal.returns-then-stepped_at_once-clause-step
+returns-then-stepped_at_once-clause-step c =
     let lt : c.args.t < length c.self.inside.threads.items = omega arith in
     let at = slice_get_read c.self.inside.threads.items _ c.args.t c.index_mut-thread.result.now refl lt c.index_mut-thread.ensures.value in
-    let told = c.in_ok-step.ensures in
-    rw (← c.self.view_is) (step_table c.self.inside.code c.self.inside.heap c.self.inside.forest c.self.inside.threads.items c.args.t c.in_ok-step.field-0 _ c.self.invariant lt
-    (told.reply ∙ step_reply c.self.inside.code c.self.inside.heap c.self.inside.forest c.self.inside.threads.items c.args.t c.index_mut-thread.result.now c.self.invariant at)
-    (step_state c.self.inside.code c.self.inside.heap c.step.new.heap c.self.inside.forest c.step.new.forest c.self.inside.threads.items c.args.t
-    c.index_mut-thread.result.now c.step.new.self c.self.invariant at told.thread told.objects told.holding))
-
-pub returns-clause-blocked : goal.returns-clause-blocked
-returns-clause-blocked c =
-    let lt : c.args.t < length c.self.inside.threads.items = omega arith in
-    let at = slice_get_read c.self.inside.threads.items _ c.args.t c.index_mut-thread.result.now refl lt c.index_mut-thread.ensures.value in
-    λ b. rw (← c.self.view_is) (step_blocked c.self.inside.code c.self.inside.heap c.self.inside.forest c.self.inside.threads.items c.args.t c.in_ok-step.field-0 c.self.invariant
-    (c.in_ok-step.ensures.reply ∙ step_reply c.self.inside.code c.self.inside.heap c.self.inside.forest c.self.inside.threads.items c.args.t c.index_mut-thread.result.now c.self.invariant at) b)
+    let told = c.stepped_at_once.ensures in
+    let is = c.if-stepped_at_once.true in
+    rw (← c.self.view_is) (step_table c.self.inside.code c.self.inside.heap c.self.inside.forest c.self.inside.threads.items c.args.t reply.Ran _ c.self.invariant lt
+    (sym (told.reply is) ∙ step_reply c.self.inside.code c.self.inside.heap c.self.inside.forest c.self.inside.threads.items c.args.t c.index_mut-thread.result.now c.self.invariant at)
+    (step_state c.self.inside.code c.self.inside.heap c.self.inside.heap c.self.inside.forest c.self.inside.forest c.self.inside.threads.items c.args.t
+    c.index_mut-thread.result.now c.stepped_at_once.new.self c.self.invariant at (told.thread is) (told.objects is) (told.holding is)))
