@@ -5,9 +5,9 @@ use Rattle.asl_code.specs.declared.lock.Lock.{Lock}
 use Rattle.asl_backward_flow.specs.declared.found.AddFault.{AddFault}
 use Rattle.asl_backward_flow.specs.declared.region.Region.TheVariants as variant
 use Rattle.asl_backward_flow.specs.declared.span.Span.{Span}
-use Rattle.asl_backward_flow.specs.Graph.{row}
+use Rattle.asl_backward_flow.specs.Graph.{row, IsCall}
 use Rattle.asl_backward_flow.specs.Found.{Table}
-use Rattle.asl_backward_flow.specs.Follows.{Read, IsRead, IsAtPoint, IsLinked, IsEntered, IsSeed, IsSeedIn, IsAccessed, IsBack, IsCalledAt, IsAtCall, At, Added, Stopped, AddedBelow}
+use Rattle.asl_backward_flow.specs.Follows.{Read, IsRead, IsAtPoint, IsLinked, IsEntered, IsSeed, IsSeedIn, IsAccessed, IsBackOver, IsCalledAt, IsAtCall, At, Added, Stopped, AddedBelow}
 use Rattle.asl_backward_flow.proofs.Sets.{some_same}
 use Rattle.asl_backward_flow.proofs.Adding.{below_more, below_skip, below_end, below_stopped}
 
@@ -87,7 +87,8 @@ pub calls_end : (r : Read) (initial now : Table) (j pc : ℕ) (lock : Lock) (par
 calls_end r initial now j pc lock parts is read end so = below_end r initial now (each_call r pc lock parts) j (IsCalledAt r pc lock) (λ k p q m h. (h.1, h.2, h.3))
     (λ p q m h.
     let point : IsAtPoint r p pc = subst (λ y. IsAtPoint r p y) h.0 h.1 in
-    let at = read.regions.all pc p (slice_get_within r.spans p point.0 point.1) point in
+    let call : (callee : ℕ) × IsCall r.lowered callee pc = subst (λ y. (callee : ℕ) × IsCall r.lowered callee y) h.0 (h.2.function, (h.2.to, h.2.first, h.2.stands)) in
+    let at = read.regions.all pc p (slice_get_within r.spans p point.0 point.1) (point, call) in
     let here : slice_get parts at.0 ≡ Some p = ap (λ l. slice_get l at.0) is ∙ at.1 in
     let lt = slice_get_within parts at.0 p here in
     (at.0, omega (arith, lt, end), (here, h.0, h.1, h.2))) so
@@ -119,7 +120,7 @@ callers_end r initial now j lock pcs g is read end so = below_end r initial now 
     let lt = slice_get_within pcs at.0 q here in
     (at.0, omega (arith, lt, end), (here, h.1))) so
 
--- the turns over the pcs from which control goes on to one
+-- the turns over the other pcs from which control goes on to one
 pub back_more : (r : Read) (initial now new : Table) (j part q : ℕ) (lock : Lock) (pcs : List ℕ) → slice_get pcs j ≡ Some q → IsAtPoint r part q → AddedBelow r initial now (each_back r part lock pcs) j
     → Added r now new (At part q (IsLinked r part q lock)) → AddedBelow r initial new (each_back r part lock pcs) (j + 1)
 back_more r initial now new j part q lock pcs at point so x = below_more r initial now new (each_back r part lock pcs) j _
@@ -131,18 +132,18 @@ pub back_skip : (r : Read) (initial now : Table) (j part q : ℕ) (lock : Lock) 
 back_skip r initial now j part q lock pcs at not so = below_skip r initial now (each_back r part lock pcs) j
     (λ p y m h. let same : y ≡ q = some_same (sym h.1 ∙ at) in not (subst (λ x. IsAtPoint r x q) h.0 (subst (λ z. IsAtPoint r p z) same h.2))) so
 
-pub back_stopped : (r : Read) (initial now new : Table) (j part q : ℕ) (lock : Lock) (pcs : List ℕ) (pc : ℕ) (fault : AddFault) → pcs ≡ row r.predecessors pc → IsRead r → slice_get pcs j ≡ Some q → IsAtPoint r part q
-    → AddedBelow r initial now (each_back r part lock pcs) j → Stopped now new (At part q (IsLinked r part q lock)) fault → Stopped initial new (IsBack r part pc lock) fault
-back_stopped r initial now new j part q lock pcs pc fault is read at point so x = below_stopped r initial now new (each_back r part lock pcs) j _ (IsBack r part pc lock) fault
-    (λ k p y m h. (h.0, (read.predecessors.only pc y (k, ap (λ l. slice_get l k) (sym is) ∙ h.1)).1, h.2, h.3))
-    (λ p y m h. (h.0, (read.predecessors.only pc y (j, ap (λ l. slice_get l j) (sym is) ∙ at ∙ ap Some (sym h.1))).1, at_point r part q point p y h.0 h.1, to_point r part q (λ a b. IsLinked r a b lock) p y m h)) so x
+pub back_stopped : (r : Read) (initial now new : Table) (j part q : ℕ) (lock : Lock) (pcs : List ℕ) (pc : ℕ) (fault : AddFault) → pcs ≡ row r.jumps pc → IsRead r → slice_get pcs j ≡ Some q → IsAtPoint r part q
+    → AddedBelow r initial now (each_back r part lock pcs) j → Stopped now new (At part q (IsLinked r part q lock)) fault → Stopped initial new (IsBackOver r part pc lock) fault
+back_stopped r initial now new j part q lock pcs pc fault is read at point so x = below_stopped r initial now new (each_back r part lock pcs) j _ (IsBackOver r part pc lock) fault
+    (λ k p y m h. (h.0, (read.jumps.only pc y (k, ap (λ l. slice_get l k) (sym is) ∙ h.1)).1, h.2, h.3))
+    (λ p y m h. (h.0, (read.jumps.only pc y (j, ap (λ l. slice_get l j) (sym is) ∙ at ∙ ap Some (sym h.1))).1, at_point r part q point p y h.0 h.1, to_point r part q (λ a b. IsLinked r a b lock) p y m h)) so x
 
-pub back_end : (r : Read) (initial now : Table) (j part : ℕ) (lock : Lock) (pcs : List ℕ) (pc : ℕ) → pcs ≡ row r.predecessors pc → IsRead r → length pcs ≤ j
-    → AddedBelow r initial now (each_back r part lock pcs) j → Added r initial now (IsBack r part pc lock)
-back_end r initial now j part lock pcs pc is read end so = below_end r initial now (each_back r part lock pcs) j (IsBack r part pc lock)
-    (λ k p y m h. (h.0, (read.predecessors.only pc y (k, ap (λ l. slice_get l k) (sym is) ∙ h.1)).1, h.2, h.3))
+pub back_end : (r : Read) (initial now : Table) (j part : ℕ) (lock : Lock) (pcs : List ℕ) (pc : ℕ) → pcs ≡ row r.jumps pc → IsRead r → length pcs ≤ j
+    → AddedBelow r initial now (each_back r part lock pcs) j → Added r initial now (IsBackOver r part pc lock)
+back_end r initial now j part lock pcs pc is read end so = below_end r initial now (each_back r part lock pcs) j (IsBackOver r part pc lock)
+    (λ k p y m h. (h.0, (read.jumps.only pc y (k, ap (λ l. slice_get l k) (sym is) ∙ h.1)).1, h.2, h.3))
     (λ p y m h.
-    let at = read.predecessors.all pc y (slice_get_within r.lowered.code y _ h.1.1) h.1 in
+    let at = read.jumps.all pc y (slice_get_within r.lowered.code y _ h.1.0.1) h.1 in
     let here : slice_get pcs at.0 ≡ Some y = ap (λ l. slice_get l at.0) is ∙ at.1 in
     let lt = slice_get_within pcs at.0 y here in
     (at.0, omega (arith, lt, end), (h.0, here, h.2, h.3))) so

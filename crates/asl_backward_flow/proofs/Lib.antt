@@ -6,8 +6,10 @@ mod Steps
 mod SpanLaws
 mod Rows
 mod Adding
+mod Numbering
 mod Points
 mod Each
+mod Backs
 mod Chains
 pub mod Leasts
 mod Sound

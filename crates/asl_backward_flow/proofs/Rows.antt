@@ -11,7 +11,7 @@ use Rattle.asl_lower.specs.Region.{GoesOn}
 use Rattle.asl_lower.proofs.Layouts.{kept_layout}
 use Rattle.asl_backward_flow.specs.declared.span.Span.{Span}
 use Rattle.asl_backward_flow.specs.Found.{IsAt}
-use Rattle.asl_backward_flow.specs.Graph.{row, HasRows, HasSome, HasPc, IsCall, IsEdge}
+use Rattle.asl_backward_flow.specs.Graph.{row, HasRows, HasSome, HasCall, IsCall, IsEdge, IsJump}
 use Rattle.std.specs.List.{Contains}
 use Rattle.asl_backward_flow.proofs.Sets.{some_same, at_front, at_push, at_last}
 use Rattle.asl_backward_flow.proofs.Tables.{map_set}
@@ -202,30 +202,88 @@ next_edge l pc lt next tells k d there =
 pub edge_next : (l : Lowered) (pc : ℕ) (next : List ℕ) → Tells l pc next → (to : ℕ) → IsEdge l to pc → IsAt next to
 edge_next l pc next tells to e = at_of_contains next to ((tells e.0 e.1 to).1 e.2)
 
--- the rows have the regions below one, and that one at its pcs below a pc
-abbrev pub HasRange : List (List ℕ) → List Span → ℕ → Span → ℕ → Type 0
-HasRange rows spans part span pc =
-    (added : List ℕ) × HasSome rows (HasPc spans) part added × ((n : ℕ) → span.first ≤ n → n < pc → IsAt added n)
+-- the rows have the pcs below one that are related to their own number, and that one as far as it was added
+abbrev pub HasTargets : List (List ℕ) → Lowered → ℕ → List ℕ → ℕ → Type 0
+HasTargets rows l pc next below =
+    (added : List ℕ) × HasSome rows (IsJump l) pc added × ((j n : ℕ) → j < below → slice_get next j ≡ Some n → n ≢ pc + 1 → IsAt added n)
 
-pub range_begin : (rows : List (List ℕ)) (spans : List Span) (part : ℕ) (span : Span) → HasRows rows (HasPc spans) part → HasRange rows spans part span span.first
-range_begin rows spans part span has = ([], some_begin rows (HasPc spans) part has, λ n ge lt. absurd (omega (arith, ge, lt)))
+module _ (l : Lowered) (pc : ℕ) (next : List ℕ) where
+  pub targets_begin : (rows : List (List ℕ)) → HasRows rows (IsJump l) pc → HasTargets rows l pc next 0
+  targets_begin rows has = ([], some_begin rows (IsJump l) pc has, λ j n lt. absurd (omega (arith, lt)))
 
-pub range_more : (rows new : List (List ℕ)) (spans : List Span) (part : ℕ) (span : Span) (pc number : ℕ) → slice_get spans part ≡ Some span → number ≡ pc → span.first ≤ pc → pc < span.end → number < length rows
-    → new ≡ slice_set rows number (row rows number ++ part ∷ []) → HasRange rows spans part span pc → HasRange new spans part span (pc + 1)
-range_more rows new spans part span pc number at same first end there made has = (
-  has.0 ++ number ∷ [],
-  some_more rows new (HasPc spans) part number has.0 there (span, at, omega (arith, same, first), omega (arith, same, end)) made has.1,
-  λ n ge lt. ⊎_elim
-      (λ below. let old = has.2 n ge below in (old.0, at_front has.0 (number ∷ []) old.0 n old.1))
-      (λ (e : n ≡ pc). (length has.0, at_last has.0 number ∙ ap Some (same ∙ sym e)))
-      (below_or_at n pc lt),
-)
+  pub targets_more : (rows new : List (List ℕ)) (j number : ℕ) → slice_get next j ≡ Some number → IsEdge l number pc → number ≢ pc + 1 → number < length rows
+      → new ≡ slice_set rows number (row rows number ++ pc ∷ []) → HasTargets rows l pc next j → HasTargets new l pc next (j + 1)
+  targets_more rows new j number at edge other there made has = (
+    has.0 ++ number ∷ [],
+    some_more rows new (IsJump l) pc number has.0 there (edge, other) made has.1,
+    λ k n lt e no. ⊎_elim
+        (λ below. let old = has.2 k n below e no in (old.0, at_front has.0 (number ∷ []) old.0 n old.1))
+        (λ (is : k ≡ j). (length has.0, at_last has.0 number ∙ sym at ∙ ap (slice_get next) (sym is) ∙ e))
+        (below_or_at k j lt),
+  )
 
-pub range_end : (rows : List (List ℕ)) (spans : List Span) (part : ℕ) (span : Span) (pc : ℕ) → slice_get spans part ≡ Some span → span.end ≤ pc → HasRange rows spans part span pc → HasRows rows (HasPc spans) (part + 1)
-range_end rows spans part span pc at end has =
-    some_end rows (HasPc spans) part has.0 has.1
-    (λ n r.
-    let same : r.0 ≡ span = some_same (sym r.1 ∙ at) in
-    let ge : span.first ≤ n = subst (λ (s : Span). s.first ≤ n) same r.2 in
-    let lt : n < span.end = subst (λ (s : Span). n < s.end) same r.3 in
-    has.2 n ge (omega (arith, lt, end)))
+  pub targets_skip : (rows : List (List ℕ)) (j number : ℕ) → slice_get next j ≡ Some number → number ≡ pc + 1 → HasTargets rows l pc next j → HasTargets rows l pc next (j + 1)
+  targets_skip rows j number at is has = (
+    has.0,
+    has.1,
+    λ k n lt e no. ⊎_elim
+        (λ below. has.2 k n below e no)
+        (λ (same : k ≡ j). absurd (no (some_same (sym e ∙ ap (slice_get next) same ∙ at) ∙ is)))
+        (below_or_at k j lt),
+  )
+
+  pub targets_end : (rows : List (List ℕ)) (j : ℕ) → length next ≤ j → Tells l pc next → HasTargets rows l pc next j → HasRows rows (IsJump l) (pc + 1)
+  targets_end rows j end tells has =
+      some_end rows (IsJump l) pc has.0 has.1
+      (λ n r.
+      let at = edge_next l pc next tells n r.0 in
+      let lt = slice_get_within next at.0 n at.1 in
+      has.2 at.0 n (omega (arith, lt, end)) at.1 r.1)
+
+-- a function is called at the pc
+abbrev pub IsCalled : Lowered → ℕ → Type 0
+IsCalled l pc = (callee : ℕ) × IsCall l callee pc
+
+pub called_at : (l : Lowered) (code : List Instr) → code ≡ l.code → (pc k : ℕ) → k ≡ pc → pc < length code → (d : Instr) (to first g : ℕ) → get_or code k d ≡ instr.Call to first g → IsCalled l pc
+called_at l code same pc k is lt d to first g at =
+    (g, (to, first, ap (λ c. slice_get c pc) (sym same) ∙ slice_get-get_or code pc d lt ∙ ap Some (ap (λ n. get_or code n d) (sym is) ∙ at)))
+
+pub not_called_at : (l : Lowered) (code : List Instr) → code ≡ l.code → (pc k : ℕ) → k ≡ pc → (d : Instr) → ((to first g : ℕ) → get_or code k d ≡ instr.Call to first g → ⊥) → ¬ IsCalled l pc
+not_called_at l code same pc k is d not c =
+    not c.1.0 c.1.1 c.0 (ap (λ n. get_or code n d) is ∙ get_or_from_slice_get code pc (instr.Call c.1.0 c.1.1 c.0) d (ap (λ x. slice_get x pc) same ∙ c.1.2))
+
+-- the rows have the regions below one, and that one at its calls below a pc
+abbrev pub HasRange : List (List ℕ) → Lowered → List Span → ℕ → Span → ℕ → Type 0
+HasRange rows l spans part span pc =
+    (added : List ℕ) × HasSome rows (HasCall l spans) part added × ((n : ℕ) → span.first ≤ n → n < pc → IsCalled l n → IsAt added n)
+
+module _ (l : Lowered) (spans : List Span) (part : ℕ) (span : Span) where
+  pub range_begin : (rows : List (List ℕ)) → HasRows rows (HasCall l spans) part → HasRange rows l spans part span span.first
+  range_begin rows has = ([], some_begin rows (HasCall l spans) part has, λ n ge lt c. absurd (omega (arith, ge, lt)))
+
+  pub range_more : (rows new : List (List ℕ)) (pc number : ℕ) → slice_get spans part ≡ Some span → IsCalled l pc → number ≡ pc → span.first ≤ pc → pc < span.end → number < length rows
+      → new ≡ slice_set rows number (row rows number ++ part ∷ []) → HasRange rows l spans part span pc → HasRange new l spans part span (pc + 1)
+  range_more rows new pc number at call same first end there made has = (
+    has.0 ++ number ∷ [],
+    some_more rows new (HasCall l spans) part number has.0 there ((span, at, omega (arith, same, first), omega (arith, same, end)), subst (IsCalled l) (sym same) call) made has.1,
+    λ n ge lt c. ⊎_elim
+        (λ below. let old = has.2 n ge below c in (old.0, at_front has.0 (number ∷ []) old.0 n old.1))
+        (λ (e : n ≡ pc). (length has.0, at_last has.0 number ∙ ap Some (same ∙ sym e)))
+        (below_or_at n pc lt),
+  )
+
+  pub range_skip : (rows : List (List ℕ)) (pc : ℕ) → ¬ IsCalled l pc → HasRange rows l spans part span pc → HasRange rows l spans part span (pc + 1)
+  range_skip rows pc not has = (
+    has.0,
+    has.1,
+    λ n ge lt c. ⊎_elim (λ below. has.2 n ge below c) (λ (e : n ≡ pc). absurd (not (subst (IsCalled l) e c))) (below_or_at n pc lt),
+  )
+
+  pub range_end : (rows : List (List ℕ)) (pc : ℕ) → slice_get spans part ≡ Some span → span.end ≤ pc → HasRange rows l spans part span pc → HasRows rows (HasCall l spans) (part + 1)
+  range_end rows pc at end has =
+      some_end rows (HasCall l spans) part has.0 has.1
+      (λ n r.
+      let same : r.0.0 ≡ span = some_same (sym r.0.1 ∙ at) in
+      let ge : span.first ≤ n = subst (λ (s : Span). s.first ≤ n) same r.0.2 in
+      let lt : n < span.end = subst (λ (s : Span). n < s.end) same r.0.3 in
+      has.2 n ge (omega (arith, lt, end)) r.1)

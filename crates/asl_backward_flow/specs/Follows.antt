@@ -1,5 +1,5 @@
 -- Machinery of the proofs, not of the promise: what is needed at once, and what follows from a fact (src/step.rt).
-use Rattle.std.specs.Prelude.{◌≡◌, ◌⊎◌, ◌<◌, ◌≤◌, ℕ, Bool, List, length, map, Some, slice_get}
+use Rattle.std.specs.Prelude.{◌≡◌, ◌⊎◌, ◌+◌, ◌<◌, ◌≤◌, ℕ, Bool, List, length, map, Some, slice_get}
 use Rattle.asl_code.specs.declared.image.Function as entry
 use Rattle.asl_code.specs.declared.instr.Instr.{Instr}
 use Rattle.asl_code.specs.declared.instr.Instr.TheVariants as instr
@@ -15,7 +15,7 @@ use Rattle.asl_backward_flow.specs.declared.program.Program.{Program}
 use Rattle.asl_backward_flow.specs.declared.found.Fact.{Fact}
 use Rattle.asl_backward_flow.specs.declared.found.AddFault.{AddFault}
 use Rattle.asl_backward_flow.specs.Found.{Table, Has, HasPoint, HasFact, IsAt, IsName, IsWhole, IsOver, Adds, Lists, fact, locks_of}
-use Rattle.asl_backward_flow.specs.Graph.{HasRows, HasPc, IsEdge, IsCall}
+use Rattle.asl_backward_flow.specs.Graph.{HasRows, HasCall, IsEdge, IsJump, IsCall}
 use Rattle.asl_backward_flow.specs.Needed.{Needed, view, region_of}
 use Rattle.asl_backward_flow.specs.Spans.{AreSpans}
 
@@ -26,7 +26,7 @@ pub record Read : Type 0 where
   pub stores : ℕ → ℕ → Bool
   pub longest : ℕ
   pub spans : List Span
-  pub predecessors : List (List ℕ)
+  pub jumps : List (List ℕ)
   pub callers : List (List ℕ)
   pub regions : List (List ℕ)
 
@@ -37,7 +37,7 @@ read p = record {
   stores = stores p.writes.now;
   longest = p.longest;
   spans = p.spans.now;
-  predecessors = map (λ r. r.items) p.predecessors.now;
+  jumps = map (λ r. r.items) p.jumps.now;
   callers = map (λ r. r.items) p.callers.now;
   regions = map (λ r. r.items) p.regions.now;
 }
@@ -46,9 +46,9 @@ pub record IsRead (r : Read) : Type 0 where
   pub short : r.longest ≤ 8
   pub kept : IsKept r.lowered
   pub spans : AreSpans r.lowered r.spans
-  pub predecessors : HasRows r.predecessors (IsEdge r.lowered) (length r.lowered.code)
+  pub jumps : HasRows r.jumps (IsJump r.lowered) (length r.lowered.code)
   pub callers : HasRows r.callers (IsCall r.lowered) (length r.lowered.code)
-  pub regions : HasRows r.regions (HasPc r.spans) (length r.spans)
+  pub regions : HasRows r.regions (HasCall r.lowered r.spans) (length r.spans)
 
 abbrev pub seen : Read → ℕ → View
 seen r function = view r.classes r.stores r.longest function
@@ -102,9 +102,19 @@ IsSeedIn r part p q m = (p ≡ part) × IsSeed r p q m
 abbrev pub IsPrefix : ℕ → ℕ → Lock → ℕ → ℕ → Lock → Type 0
 IsPrefix part pc lock = At part pc (IsOne (dereferenced lock))
 
--- the second lock comes by a link over an instruction from which control goes on to the pc
+-- the second lock comes by a link over an instruction that is related to the pc
+abbrev pub IsBackBy : (ℕ → ℕ → Type 0) → Read → ℕ → ℕ → Lock → ℕ → ℕ → Lock → Type 0
+IsBackBy related r part pc lock p q m = (p ≡ part) × related pc q × IsAtPoint r p q × IsLinked r p q lock m
+
+-- the same over an instruction from which control goes on to the pc: over the one before it, or over another
 abbrev pub IsBack : Read → ℕ → ℕ → Lock → ℕ → ℕ → Lock → Type 0
-IsBack r part pc lock p q m = (p ≡ part) × IsEdge r.lowered pc q × IsAtPoint r p q × IsLinked r p q lock m
+IsBack r = IsBackBy (IsEdge r.lowered) r
+
+abbrev pub IsBackBefore : Read → ℕ → ℕ → Lock → ℕ → ℕ → Lock → Type 0
+IsBackBefore r = IsBackBy (λ to pc. IsEdge r.lowered to pc × (to ≡ pc + 1)) r
+
+abbrev pub IsBackOver : Read → ℕ → ℕ → Lock → ℕ → ℕ → Lock → Type 0
+IsBackOver r = IsBackBy (IsJump r.lowered) r
 
 -- the second lock is needed at the call at the pc, at the entry of whose callee the first is needed
 abbrev pub IsCalledAt : Read → ℕ → Lock → ℕ → ℕ → Lock → Type 0

@@ -1,5 +1,5 @@
 -- Machinery of the proofs, not of the promise: from where control comes, and from where functions are called (src/graph.rt).
-use Rattle.std.specs.Prelude.{◌≡◌, ◌+◌, ◌<◌, ◌≤◌, ℕ, List, [], Some, slice_get, unwrap_or}
+use Rattle.std.specs.Prelude.{◌≡◌, ◌≢◌, ◌+◌, ◌<◌, ◌≤◌, ℕ, List, [], Some, slice_get, unwrap_or}
 use Rattle.asl_code.specs.declared.instr.Instr.{Instr}
 use Rattle.asl_lower.specs.Lowered.{Lowered}
 use Rattle.asl_lower.specs.Region.{CallsAt, GoesOn}
@@ -14,17 +14,25 @@ row rows n = unwrap_or (slice_get rows n) []
 abbrev pub HasPc : List Span → ℕ → ℕ → Type 0
 HasPc spans pc part = (s : Span) × (slice_get spans part ≡ Some s) × (s.first ≤ pc) × (pc < s.end)
 
--- each region ends within so many pcs
-abbrev pub EndWithin : List Span → ℕ → Type 0
-EndWithin spans count = (part : ℕ) (s : Span) → slice_get spans part ≡ Some s → s.end ≤ count
-
 -- control goes on from the pc to another
 abbrev pub IsEdge : Lowered → ℕ → ℕ → Type 0
 IsEdge l to pc = (i : Instr) × (slice_get l.code pc ≡ Some i) × GoesOn i pc to
 
+-- control goes on from the pc to another that is not the next
+abbrev pub IsJump : Lowered → ℕ → ℕ → Type 0
+IsJump l to pc = IsEdge l to pc × (to ≢ pc + 1)
+
 -- the function is called at the pc
 abbrev pub IsCall : Lowered → ℕ → ℕ → Type 0
 IsCall l callee pc = CallsAt l pc callee
+
+-- the region of this number has the pc, at which a function is called
+abbrev pub HasCall : Lowered → List Span → ℕ → ℕ → Type 0
+HasCall l spans pc part = HasPc spans pc part × ((callee : ℕ) × IsCall l callee pc)
+
+-- each region ends within so many pcs
+abbrev pub EndWithin : List Span → ℕ → Type 0
+EndWithin spans count = (part : ℕ) (s : Span) → slice_get spans part ≡ Some s → s.end ≤ count
 
 -- the rows have the pcs below a number that are related to their own number
 pub record HasRows (rows : List (List ℕ)) (related : ℕ → ℕ → Type 0) (below : ℕ) : Type 0 where

@@ -8,7 +8,7 @@ ghost use Rattle.asl_backward_flow.specs.Parts.{TellsAll, HasMany};
 use crate::fault::FlowFault;
 use crate::flow::follow_all;
 use crate::found::{AddFault, Found};
-use crate::graph::{callers, predecessors, regions};
+use crate::graph::{callers, jumps, regions};
 use crate::parts::{Flow, flow_of};
 use crate::program::Program;
 use crate::span::spans;
@@ -32,16 +32,16 @@ pub fn needed(
 {
     let writes = writes(alloc, lowering, classes)?;
     let spans = spans(alloc, lowering)?;
-    let predecessors = predecessors(alloc, lowering)?;
+    let jumps = jumps(alloc, lowering)?;
     let callers = callers(alloc, lowering)?;
-    let regions = regions(alloc, lowering.code().len(), spans.as_slice())?;
+    let regions = regions(alloc, lowering, spans.as_slice())?;
     let program = Program {
         lowering,
         classes,
         writes: &writes,
         longest: k as usize,
         spans: spans.as_slice(),
-        predecessors: predecessors.as_slice(),
+        jumps: jumps.as_slice(),
         callers: callers.as_slice(),
         regions: regions.as_slice(),
     };

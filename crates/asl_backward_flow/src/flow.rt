@@ -20,7 +20,7 @@ fn follow(alloc: Global, program: &Program, fact: Fact, found: &mut Found) -> Re
 {
     let locks = found.parts[usize::from(fact.part)].locks.as_slice();
     let lock = copied(&locks[usize::from(fact.lock)]);
-    add_following(alloc, program, fact.part, fact.pc, &lock, found)
+    add_following(alloc, program, fact.part, fact.pc, fact.lock, &lock, found)
 }
 
 /// Adds what follows from each fact on the list, also from those that are put on it on the way.

@@ -1,8 +1,8 @@
 //! What is found to be needed so far, region by region, and what of it is still to be followed.
-ghost use Rattle.std.specs.Prelude.{◌≡◌, ◌<◌, ◌∷◌, ◌++◌, [], if◌then◌else◌, vec_len, IfOk, OnOk, OnErr, IfErr};
+ghost use Rattle.std.specs.Prelude.{◌≡◌, ◌<◌, ◌∷◌, ◌++◌, [], Some, slice_get, if◌then◌else◌, vec_len, IfOk, OnOk, OnErr, IfErr};
 ghost use Rattle.asl_code.specs.declared.lock.Lock.{Lock};
 ghost use Rattle.asl_lock_expr.specs.Links.{IsOne};
-ghost use Rattle.asl_backward_flow.specs.Found.{table, IsBlank, HasPoint, HasFact, IsWhole, IsOver, Adds, Lists};
+ghost use Rattle.asl_backward_flow.specs.Found.{table, locks_of, IsBlank, HasPoint, HasFact, IsWhole, IsOver, Adds, Lists};
 
 use crate::part::{Part, mark, number};
 use crate::span::Span;
@@ -94,6 +94,33 @@ impl Found {
         let is_new = mark(alloc, &mut region.needs, place, number)?;
         let lock = number as u16;
         put(&mut self.list, is_new, Fact { part, pc, lock })?;
+        Ok(())
+    }
+
+    /// Adds that a region needs at a pc its lock of this number, and lists it if that is new.
+    pub fn add_numbered(
+        &mut self,
+        alloc: Global,
+        part: u16,
+        pc: u16,
+        lock: u16,
+    ) -> Result<(), AddFault>
+        requires there { part < vec_len self.old.parts }
+        requires point { HasPoint (table self.old) part pc }
+        requires whole { IsWhole (table self.old) }
+        requires named { (m : Lock) × (slice_get (locks_of (table self.old) part) lock ≡ Some m) }
+        ensures whole { OnOk result (IsWhole (table self.new)) }
+        ensures has { OnOk result ((m : Lock) → slice_get (locks_of (table self.old) part) lock ≡ Some m → HasFact (table self.new) part pc m) }
+        ensures lists { OnOk result (Lists (table self.old) (table self.new)) }
+        ensures adds { Adds (table self.old) (table self.new)
+            (λ p q m. (p ≡ part) × (q ≡ pc) × (slice_get (locks_of (table self.old) part) lock ≡ Some m)) }
+        ensures over { IfErr result (IsOver (table self.new)) }
+    {
+        let needing = &mut self.parts[usize::from(part)];
+        let place = usize::from(pc - needing.first);
+        let is_new = mark(alloc, &mut needing.needs, place, usize::from(lock))?;
+        let fact = Fact { part, pc, lock };
+        put(&mut self.list, is_new, fact)?;
         Ok(())
     }
 

@@ -1,7 +1,7 @@
 //! From where control comes to each pc, and from where each function is called.
-ghost use Rattle.std.specs.Prelude.{◌≡◌, ◌++◌, ◌∷◌, ◌+◌, [], ◌<◌, ◌≤◌, length, map, slice_set, vec_len, IfOk, OnOk, replicate};
+ghost use Rattle.std.specs.Prelude.{◌≡◌, ◌↔◌, IsTrue, ◌++◌, ◌∷◌, ◌+◌, [], ◌<◌, ◌≤◌, length, map, slice_set, vec_len, IfOk, OnOk, replicate};
 ghost use Rattle.asl_lower.specs.Kept.{IsKept};
-ghost use Rattle.asl_backward_flow.specs.Graph.{row, HasRows, HasPc, EndWithin, IsEdge, IsCall};
+ghost use Rattle.asl_backward_flow.specs.Graph.{row, HasRows, HasCall, EndWithin, IsEdge, IsJump, IsCall};
 
 use crate::span::Span;
 use asl_code::Instr;
@@ -30,31 +30,42 @@ fn add_to_row(rows: &mut Vec<Vec<u16>>, number: usize, pc: u16) -> Result<(), Al
     Ok(())
 }
 
-/// For each pc, the pcs from which control goes on to it.
-pub fn predecessors(alloc: Global, lowering: &Lowering) -> Result<Vec<Vec<u16>>, AllocError>
+/// Whether control goes on from a pc to another.
+pub fn goes_on(lowering: &Lowering, pc: u16, to: u16) -> bool
+    requires { pc < length lowering.now.code }
+    ensures { IsTrue result ↔ IsEdge lowering.now to pc }
+{
+    lowering.successors(pc).as_slice().contains(&to)
+}
+
+/// For each pc, the pcs from which control goes on to it, without the one before it.
+pub fn jumps(alloc: Global, lowering: &Lowering) -> Result<Vec<Vec<u16>>, AllocError>
     ensures kept { IsKept lowering.now }
-    ensures rows { IfOk result (λ rows. HasRows (map (λ r. r.items) rows.items) (IsEdge lowering.now) (length lowering.now.code)) }
+    ensures rows { IfOk result (λ rows. HasRows (map (λ r. r.items) rows.items) (IsJump lowering.now) (length lowering.now.code)) }
 {
     let count = lowering.code().len();
     let mut rows = empty_rows(alloc, count)?;
     for pc in 0..count {
-        add_edges(lowering, pc as u16, &mut rows)?;
+        add_jumps(lowering, pc as u16, &mut rows)?;
     }
     Ok(rows)
 }
 
-/// Adds the pc to the rows of those to which control goes on from it.
-fn add_edges(lowering: &Lowering, pc: u16, rows: &mut Vec<Vec<u16>>) -> Result<(), AllocError>
+/// Adds the pc to the rows of those to which control goes on from it, but for the next.
+fn add_jumps(lowering: &Lowering, pc: u16, rows: &mut Vec<Vec<u16>>) -> Result<(), AllocError>
     requires kept { IsKept lowering.now }
     requires there { pc < length lowering.now.code }
     requires rows { length lowering.now.code ≡ vec_len rows.old }
-    requires before { HasRows (map (λ r. r.items) rows.old.items) (IsEdge lowering.now) pc }
-    ensures rows { OnOk result (HasRows (map (λ r. r.items) rows.new.items) (IsEdge lowering.now) (pc + 1)) }
+    requires before { HasRows (map (λ r. r.items) rows.old.items) (IsJump lowering.now) pc }
+    ensures rows { OnOk result (HasRows (map (λ r. r.items) rows.new.items) (IsJump lowering.now) (pc + 1)) }
     ensures count { OnOk result (vec_len rows.new ≡ vec_len rows.old) }
 {
     let next = lowering.successors(pc);
     for to in next.as_slice() {
-        add_to_row(rows, usize::from(*to), pc)?;
+        let to = usize::from(*to);
+        if to != usize::from(pc) + 1 {
+            add_to_row(rows, to, pc)?;
+        }
     }
     Ok(())
 }
@@ -73,30 +84,43 @@ pub fn callers(alloc: Global, lowering: &Lowering) -> Result<Vec<Vec<u16>>, Allo
     Ok(rows)
 }
 
-/// For each of so many pcs, the regions that have it, by their places among the spans.
-pub fn regions(alloc: Global, count: usize, spans: &[Span]) -> Result<Vec<Vec<u16>>, AllocError>
+/// For each pc at which a function is called, the regions that have it, by their places among the spans.
+pub fn regions(
+    alloc: Global,
+    lowering: &Lowering,
+    spans: &[Span],
+) -> Result<Vec<Vec<u16>>, AllocError>
     requires few { length spans.now ≤ 1280 }
-    requires within { EndWithin spans.now count }
-    ensures { IfOk result (λ rows. HasRows (map (λ r. r.items) rows.items) (HasPc spans.now) (length spans.now)) }
+    requires within { EndWithin spans.now (length lowering.now.code) }
+    ensures { IfOk result (λ rows. HasRows (map (λ r. r.items) rows.items) (HasCall lowering.now spans.now) (length spans.now)) }
 {
-    let mut rows = empty_rows(alloc, count)?;
+    let mut rows = empty_rows(alloc, lowering.code().len())?;
     for part in 0..spans.len() {
-        add_region(spans, part as u16, &mut rows)?;
+        add_region(lowering, spans, part as u16, &mut rows)?;
     }
     Ok(rows)
 }
 
-/// Adds a region to the rows of its pcs.
-fn add_region(spans: &[Span], part: u16, rows: &mut Vec<Vec<u16>>) -> Result<(), AllocError>
+/// Adds a region to the rows of its calls.
+fn add_region(
+    lowering: &Lowering,
+    spans: &[Span],
+    part: u16,
+    rows: &mut Vec<Vec<u16>>,
+) -> Result<(), AllocError>
     requires there { part < length spans.now }
-    requires within { EndWithin spans.now (vec_len rows.old) }
-    requires before { HasRows (map (λ r. r.items) rows.old.items) (HasPc spans.now) part }
-    ensures rows { OnOk result (HasRows (map (λ r. r.items) rows.new.items) (HasPc spans.now) (part + 1)) }
+    requires within { EndWithin spans.now (length lowering.now.code) }
+    requires rows { length lowering.now.code ≡ vec_len rows.old }
+    requires before { HasRows (map (λ r. r.items) rows.old.items) (HasCall lowering.now spans.now) part }
+    ensures rows { OnOk result (HasRows (map (λ r. r.items) rows.new.items) (HasCall lowering.now spans.now) (part + 1)) }
     ensures count { OnOk result (vec_len rows.new ≡ vec_len rows.old) }
 {
     let span = spans[usize::from(part)];
+    let code = lowering.code();
     for pc in span.first..span.end {
-        add_to_row(rows, usize::from(pc), part)?;
+        if let Instr::Call { .. } = code[usize::from(pc)] {
+            add_to_row(rows, usize::from(pc), part)?;
+        }
     }
     Ok(())
 }

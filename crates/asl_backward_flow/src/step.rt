@@ -1,15 +1,16 @@
 //! What is needed at once, and what follows from what is needed.
-ghost use Rattle.std.specs.Prelude.{◌≡◌, ◌<◌, ◌↔◌, length, OnOk, IfOk, IfErr};
+ghost use Rattle.std.specs.Prelude.{◌≡◌, ◌<◌, ◌↔◌, Some, length, slice_get, OnOk, IfOk, IfErr};
 ghost use Rattle.asl_lock_expr.specs.Links.{IsOne};
 ghost use Rattle.asl_lock_expr.specs.LinksView.{seen as seen_by};
-ghost use Rattle.asl_backward_flow.specs.Found.{table};
-ghost use Rattle.asl_backward_flow.specs.Follows.{read, seen, IsRead, IsReady, IsAtPoint, IsAccessed, IsLinked, IsEntered, At, IsSeed, IsSeedIn, IsPrefix, IsBack, IsCalledAt, IsAtCall, IsEntry, Follows, Added, Stopped};
+ghost use Rattle.asl_backward_flow.specs.Found.{table, locks_of};
+ghost use Rattle.asl_backward_flow.specs.Follows.{read, seen, IsRead, IsReady, IsAtPoint, IsAccessed, IsLinked, IsEntered, At, IsSeed, IsSeedIn, IsPrefix, IsBack, IsBackBefore, IsBackOver, IsCalledAt, IsAtCall, IsEntry, Follows, Added, Stopped};
 
 use crate::found::{AddFault, Found};
+use crate::graph::goes_on;
 use crate::program::Program;
 use crate::region::Region;
 use asl_code::{Instr, Lock};
-use asl_lock_expr::{View, add_accesses, add_dereferenced, add_entered, add_links};
+use asl_lock_expr::{View, add_accesses, add_dereferenced, add_entered, add_links, stays};
 use std::alloc::{AllocError, Global};
 
 /// What links are read against in a function.
@@ -83,12 +84,13 @@ fn add_seeds_at(
     found.add_all(alloc, part, pc, locks)
 }
 
-/// Adds what follows from a lock that is needed at a point.
+/// Adds what follows from the lock of this number that is needed at a point.
 pub fn add_following(
     alloc: Global,
     program: &Program,
     part: u16,
     pc: u16,
+    number: u16,
     lock: &Lock,
     found: &mut Found,
 ) -> Result<(), AddFault>
@@ -96,12 +98,13 @@ pub fn add_following(
     requires ready { IsReady (read program.now) (table found.old) }
     requires point { IsAtPoint (read program.now) part pc }
     requires there { part < length program.now.spans.now }
+    requires named { slice_get (locks_of (table found.old) part) number ≡ Some lock.now }
     requires code { pc < length program.now.lowering.now.code }
     ensures ok { OnOk result (Added (read program.now) (table found.old) (table found.new) (Follows (read program.now) part pc lock.now)) }
     ensures err { IfErr result (Stopped (table found.old) (table found.new) (Follows (read program.now) part pc lock.now)) }
 {
     add_prefixes(alloc, program, part, pc, lock, found)?;
-    add_back(alloc, program, part, pc, lock, found)?;
+    add_back(alloc, program, part, pc, number, lock, found)?;
     add_entry(alloc, program, part, pc, lock, found)
 }
 
@@ -125,39 +128,90 @@ fn add_prefixes(
     found.add_all(alloc, part, pc, locks)
 }
 
-/// Adds what the lock becomes over each instruction of the region from which control goes on to the pc.
+/// Adds what the lock of this number becomes over each instruction of the region from which control goes on to the pc.
 fn add_back(
     alloc: Global,
     program: &Program,
     part: u16,
     pc: u16,
+    number: u16,
     lock: &Lock,
     found: &mut Found,
 ) -> Result<(), AddFault>
     requires program { IsRead (read program.now) }
     requires ready { IsReady (read program.now) (table found.old) }
     requires there { part < length program.now.spans.now }
+    requires named { slice_get (locks_of (table found.old) part) number ≡ Some lock.now }
     requires code { pc < length program.now.lowering.now.code }
     ensures ok { OnOk result (Added (read program.now) (table found.old) (table found.new) (IsBack (read program.now) part pc lock.now)) }
     ensures err { IfErr result (Stopped (table found.old) (table found.new) (IsBack (read program.now) part pc lock.now)) }
 {
+    add_back_before(alloc, program, part, pc, number, lock, found)?;
+    add_back_over(alloc, program, part, pc, number, lock, found)
+}
+
+/// Adds what the lock of this number becomes over the instruction before the pc, if the region has that and control goes on
+/// from there.
+fn add_back_before(
+    alloc: Global,
+    program: &Program,
+    part: u16,
+    pc: u16,
+    number: u16,
+    lock: &Lock,
+    found: &mut Found,
+) -> Result<(), AddFault>
+    requires program { IsRead (read program.now) }
+    requires ready { IsReady (read program.now) (table found.old) }
+    requires there { part < length program.now.spans.now }
+    requires named { slice_get (locks_of (table found.old) part) number ≡ Some lock.now }
+    requires code { pc < length program.now.lowering.now.code }
+    ensures ok { OnOk result (Added (read program.now) (table found.old) (table found.new) (IsBackBefore (read program.now) part pc lock.now)) }
+    ensures err { IfErr result (Stopped (table found.old) (table found.new) (IsBackBefore (read program.now) part pc lock.now)) }
+{
     let span = program.spans[usize::from(part)];
-    if let Some(predecessors) = program.predecessors.get(usize::from(pc)) {
-        for from in predecessors.as_slice() {
+    if pc > 0 && span.has(pc - 1) && goes_on(program.lowering, pc - 1, pc) {
+        return add_linked(alloc, program, part, pc - 1, number, lock, found);
+    }
+    Ok(())
+}
+
+/// Adds what the lock of this number becomes over each other instruction of the region from which control goes on to the pc.
+fn add_back_over(
+    alloc: Global,
+    program: &Program,
+    part: u16,
+    pc: u16,
+    number: u16,
+    lock: &Lock,
+    found: &mut Found,
+) -> Result<(), AddFault>
+    requires program { IsRead (read program.now) }
+    requires ready { IsReady (read program.now) (table found.old) }
+    requires there { part < length program.now.spans.now }
+    requires named { slice_get (locks_of (table found.old) part) number ≡ Some lock.now }
+    requires code { pc < length program.now.lowering.now.code }
+    ensures ok { OnOk result (Added (read program.now) (table found.old) (table found.new) (IsBackOver (read program.now) part pc lock.now)) }
+    ensures err { IfErr result (Stopped (table found.old) (table found.new) (IsBackOver (read program.now) part pc lock.now)) }
+{
+    let span = program.spans[usize::from(part)];
+    if let Some(jumps) = program.jumps.get(usize::from(pc)) {
+        for from in jumps.as_slice() {
             if span.has(*from) {
-                add_linked(alloc, program, part, *from, lock, found)?;
+                add_linked(alloc, program, part, *from, number, lock, found)?;
             }
         }
     }
     Ok(())
 }
 
-/// Adds what the lock becomes over the instruction.
+/// Adds what the lock of this number becomes over the instruction.
 fn add_linked(
     alloc: Global,
     program: &Program,
     part: u16,
     pc: u16,
+    number: u16,
     lock: &Lock,
     found: &mut Found,
 ) -> Result<(), AddFault>
@@ -165,18 +219,19 @@ fn add_linked(
     requires ready { IsReady (read program.now) (table found.old) }
     requires point { IsAtPoint (read program.now) part pc }
     requires there { part < length program.now.spans.now }
+    requires named { slice_get (locks_of (table found.old) part) number ≡ Some lock.now }
     requires code { pc < length program.now.lowering.now.code }
     ensures ok { OnOk result (Added (read program.now) (table found.old) (table found.new) (At part pc (IsLinked (read program.now) part pc lock.now))) }
     ensures err { IfErr result (Stopped (table found.old) (table found.new) (At part pc (IsLinked (read program.now) part pc lock.now))) }
 {
     let span = program.spans[usize::from(part)];
+    let view = view(program, span.function);
+    let instr = &program.lowering.code()[usize::from(pc)];
+    if stays(&view, instr, lock) {
+        return found.add_numbered(alloc, part, pc, number);
+    }
     let mut locks = Vec::new(alloc);
-    add_links(
-        &view(program, span.function),
-        &program.lowering.code()[usize::from(pc)],
-        lock,
-        &mut locks,
-    )?;
+    add_links(&view, instr, lock, &mut locks)?;
     found.add_all(alloc, part, pc, locks)
 }
 

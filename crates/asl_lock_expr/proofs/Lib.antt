@@ -1,6 +1,7 @@
 pub mod Paths
 pub mod Ones
 pub mod Steps
+pub mod Staying
 pub mod Orders
 pub mod Derived
 pub mod Storings

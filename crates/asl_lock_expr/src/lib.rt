@@ -7,6 +7,7 @@ mod laws;
 mod link;
 mod linked;
 mod order;
+mod stay;
 mod storing;
 mod written;
 
@@ -21,5 +22,6 @@ pub use laws::{
 pub use link::{View, add_accesses, add_dereferenced, add_entered, add_links};
 pub use linked::links;
 pub use order::add_in_order;
+pub use stay::stays;
 pub use storing::writes;
 pub use written::Writes;

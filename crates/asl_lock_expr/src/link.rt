@@ -307,7 +307,7 @@ fn add_called(
 }
 
 /// Whether a `*` of the path is at an address of a class that the function may store to.
-fn goes_through(view: &View, callee: u16, expr: &Expr) -> bool
+pub fn goes_through(view: &View, callee: u16, expr: &Expr) -> bool
     ensures { result ≡ goes_through view.now.classes.now ((seen view.now).stores callee)
         (base_class view.now.classes.now view.now.function expr.now.base) expr.now.path }
 {
@@ -322,7 +322,7 @@ fn goes_through(view: &View, callee: u16, expr: &Expr) -> bool
 }
 
 /// Whether the operation is a `*` at an address of this class.
-fn is_hit(op: Op, class: Option<u16>, hit: Option<u16>) -> bool
+pub fn is_hit(op: Op, class: Option<u16>, hit: Option<u16>) -> bool
     ensures { result ≡ (is_star op && is_class class hit) }
 {
     is_star(op) && is_class(class, hit)
@@ -428,7 +428,8 @@ fn add(into: &mut Vec<Lock>, lock: Lock) -> Result<(), AllocError>
     Ok(())
 }
 
-fn is_register(register: u8, base: Base) -> bool
+/// Whether the base is the register.
+pub fn is_register(register: u8, base: Base) -> bool
     ensures { result ≡ is_register register base }
 {
     match base {
@@ -455,7 +456,8 @@ fn is_star(op: Op) -> bool
     }
 }
 
-fn begins_with_star(ops: &[Op]) -> bool
+/// Whether the path begins with `*`.
+pub fn begins_with_star(ops: &[Op]) -> bool
     ensures { result ≡ begins_with_star ops.now }
 {
     match ops.first() {

@@ -25,6 +25,13 @@ add_following-requires-clause-code c =
     let point = fact_point (read c.args.program.now) c.requires.program (table c.args.found.now) _ c.requires.followed c.args.fact.part c.args.fact.pc c.args.fact.lock c.requires.there in
     point_in_code (read c.args.program.now) c.requires.program c.args.fact.part c.args.fact.pc point
 
+pub add_following-requires-clause-named : goal.add_following-requires-clause-named
+add_following-requires-clause-named c =
+    let named = c.requires.followed.ready.whole.named c.args.fact.part c.args.fact.pc c.args.fact.lock c.requires.there in
+    let there = parts_there c.args.found.now.parts.items c.args.found.now.list.items c.args.fact.part c.args.fact.lock named.0 named.1 in
+    lock_read c.args.found.now.parts.items c.args.found.now.list.items c.args.fact.part c.from.result c.index.result.now c.as_slice-locks.result.now c.args.fact.lock c.from-2.result _ named.0 c.copied-lock.result
+    c.from.ensures there c.index.ensures c.as_slice-locks.ensures.keys c.from-2.ensures (c.copied-lock.ensures ∙ c.index-locks-from.is) named.1
+
 pub returns-clause-ok : goal.returns-clause-ok
 returns-clause-ok c =
     let named = c.requires.followed.ready.whole.named c.args.fact.part c.args.fact.pc c.args.fact.lock c.requires.there in
