@@ -1,35 +1,19 @@
--- The readers of a journal's letters, version and counts read their fields.
-use Rattle.std.proofs.Common.{◌≡◌, ℕ, ◌<◌, ◌≤◌, ◌^◌, ◌&&◌, Bool, true, false, eqb, ltb, leb, [], ◌∷◌, refl, sym, ◌∙◌, inl, inr, arith, lit<, lit≤, w16, w32}
+-- The readers of a journal's counts read their fields.
+use Rattle.std.proofs.Common.{◌≡◌, ℕ, ◌<◌, ◌≤◌, ◌^◌, ◌&&◌, Bool, true, false, eqb, ltb, leb, [], ◌∷◌, refl, sym, ◌∙◌, inl, inr, arith, lit<, lit≤, w32}
 use Rattle.std.specs.Int.{to_be_bytes}
 use Rattle.std.proofs.lemmas.Bool.{eqb-true, eq-eqb, ltb-true, lt-ltb, leb-true, le-leb}
-use Rattle.asl_code.specs.Versions.{IsVersion, is_version, version_for}
-use Rattle.asl_code.proofs.Versions.{is_version-true, IsVersion-is_version, small_version, version_of_few, version_of_many}
-use Rattle.asl_loader.specs.Bytes.{one, two}
+use Rattle.asl_code.specs.Versions.{IsVersion, version_for}
+use Rattle.asl_code.proofs.Versions.{version_of_few, version_of_many}
+use Rattle.asl_loader.specs.Bytes.{one}
 use Rattle.asl_loader.specs.Reading.{byte_at, number_at}
 use Rattle.asl_loader.proofs.Reader.{Reads}
-use Rattle.asl_loader.proofs.Fields.{reads_as, reads_number, reads_tested, byte_number, two_number, four_number}
+use Rattle.asl_loader.proofs.Fields.{reads_as, reads_number, reads_tested, byte_number, four_number}
 use Rattle.asl_journal.specs.Journal.{IsCount, most_events}
 use Rattle.asl_journal.specs.Bytes.{four}
-use Rattle.asl_journal.specs.Reading.{is_count, letters_at, version_at, threads_at, count_at}
+use Rattle.asl_journal.specs.Reading.{is_count, threads_at, count_at}
 
 pub four_reads : Reads ℕ (λ n. n < 2 ^ 32) (λ n. four n ∷ []) (number_at w32)
 four_reads = reads_number (λ n. n < 2 ^ 32) (λ n. to_be_bytes w32 n) 4 (number_at w32) four_number 0 (lit< tt)
-
-pub letters_reads : Reads ℕ (λ n. n ≡ 1095978058) (λ n. four n ∷ []) letters_at
-unfolding letters_at
-letters_reads =
-    reads_as ℕ (λ x. (x < 2 ^ 32) × (eqb x 1095978058 ≡ true)) (λ n. n ≡ 1095978058) (λ n. four n ∷ []) letters_at
-    (reads_tested (λ n. n < 2 ^ 32) (λ n. to_be_bytes w32 n) 4 (number_at w32) four_number (λ x. eqb x 1095978058) 1095978058 (lit< tt) refl)
-    (λ x is. eqb-true x 1095978058 is.1)
-    (λ x is. (omega (arith, is), eq-eqb x 1095978058 is))
-
-pub version_reads : Reads ℕ IsVersion (λ n. two n ∷ []) version_at
-unfolding version_at
-version_reads =
-    reads_as ℕ (λ x. (x < 2 ^ 16) × (is_version x ≡ true)) IsVersion (λ n. two n ∷ []) version_at
-    (reads_tested (λ n. n < 2 ^ 16) (λ n. to_be_bytes w16 n) 2 (number_at w16) two_number is_version 1 (lit< tt) (IsVersion-is_version 1 (inl refl)))
-    (λ x is. is_version-true x is.1)
-    (λ x is. (small_version x is, IsVersion-is_version x is))
 
 both_true : (a b : Bool) → (a && b) ≡ true → (a ≡ true) × (b ≡ true)
 both_true true b e = (refl, e)

@@ -8,14 +8,15 @@ use Rattle.asl_code.proofs.Versions.{version_is_there}
 use Rattle.asl_machine.specs.declared.reply.Reply.TheVariants as reply
 use Rattle.asl_loader.specs.Bytes.{one, two}
 use Rattle.asl_loader.specs.declared.fault.Stop.{Stop}
-use Rattle.asl_loader.specs.Reading.{◌>>=◌, items_at}
+use Rattle.asl_loader.specs.Reading.{◌>>=◌, letters_at, version_at, items_at}
 use Rattle.asl_loader.proofs.Reader.{Reads, reads_key, reads_nothing, done, ok_is}
+use Rattle.asl_loader.proofs.Fields.{letters_reads, version_reads}
 use Rattle.asl_loader.proofs.Items.{AreSoMany, items_reads}
 use Rattle.asl_journal.specs.declared.event.Event.{Event}
 use Rattle.asl_journal.specs.Journal.{Log, IsCount, AreThere, most_events}
 use Rattle.asl_journal.specs.Bytes.{four, event_fields, log_fields, IsEvent, HasBytes, LogOfSpellingIsOne}
-use Rattle.asl_journal.specs.Reading.{letters_at, version_at, threads_at, count_at, event_at, log_at}
-use Rattle.asl_journal.proofs.Front.{IsCountIn, some_count, letters_reads, version_reads, threads_reads, count_reads}
+use Rattle.asl_journal.specs.Reading.{threads_at, count_at, event_at, log_at}
+use Rattle.asl_journal.proofs.Front.{IsCountIn, some_count, threads_reads, count_reads}
 use Rattle.asl_journal.proofs.Parts.{event_reads}
 
 -- events whose fields hold them are of threads that are there
@@ -128,8 +129,8 @@ reads_version m is_m =
 pub log_reads : Reads Log HasBytes log_fields log_at
 unfolding log_at behind_letters behind_version behind_threads behind_count behind_events log
 log_reads =
-    reads_key ℕ Log (λ n. n ≡ 1095978058) HasBytes (λ n. four n ∷ []) log_fields letters_at (λ m bytes. behind_letters bytes)
-    (λ l. 1095978058) (λ l. two (version_for l.threads) ∷ one l.threads ∷ four (length l.events) ∷ flat_map event_fields l.events) letters_reads
+    reads_key ℕ Log (λ n. n ≡ 1095978058) HasBytes (λ n. four n ∷ []) log_fields (letters_at 1095978058) (λ m bytes. behind_letters bytes)
+    (λ l. 1095978058) (λ l. two (version_for l.threads) ∷ one l.threads ∷ four (length l.events) ∷ flat_map event_fields l.events) (letters_reads 1095978058 (lit< tt))
     reads_version
     (λ l is. refl) (λ l is. refl)
     (λ m is_m. (log 1 [], has_bytes 1 0 [] (lit< tt, lit≤ tt) (lit≤ tt) (record { each = tt; count = refl }), sym is_m))

@@ -1,8 +1,7 @@
 -- The readers of values, faults, replies and events read their fields.
-use Rattle.std.proofs.Common.{◌≡◌, ℕ, zero, suc, ◌<◌, ◌≤◌, ◌^◌, inl, inr, Bool, true, false, eqb, List, [], ◌∷◌, ◌++◌, drop, Ok, refl, sym, ap, subst, ◌∙◌, arith, lit<, lit≤, w16, w32}
-use Rattle.std.specs.Prelude.{ℤ, FitsSigned, if◌then◌else◌}
+use Rattle.std.proofs.Common.{◌≡◌, ℕ, zero, suc, ◌<◌, ◌≤◌, ◌^◌, Option, Some, None, List, [], ◌∷◌, ◌++◌, drop, Ok, refl, sym, ap, ◌∙◌, arith, lit<, lit≤, w16, w32}
+use Rattle.std.specs.Prelude.{ℤ, FitsSigned}
 use Rattle.std.specs.Int.{cast_signed, cast_unsigned}
-use Rattle.std.proofs.lemmas.Bool.{cases_Bool, eqb-true}
 use Rattle.std.proofs.lemmas.List.{append-nil}
 use Rattle.std.proofs.lemmas.Int.{of_z-to_z, to_z-of_z}
 use Rattle.std.proofs.Math.Facts.{sfits_to_z, Fits-of_z}
@@ -22,7 +21,7 @@ use Rattle.asl_loader.proofs.Fields.{byte_reads, two_reads, below_reads}
 use Rattle.asl_loader.proofs.Images.{effect_reads}
 use Rattle.asl_journal.specs.declared.event.Event.{Event}
 use Rattle.asl_journal.specs.Bytes.{four, value_fields, fault_fields, reply_fields, event_fields, IsFault, IsReply, IsEvent}
-use Rattle.asl_journal.specs.Reading.{value_of, value_at, unprotected_at, plain_fault, fault_of, fault_at, reply_of, reply_at, event_at}
+use Rattle.asl_journal.specs.Reading.{value_of, value_at, unprotected_at, fault_of, fault_at, reply_of, reply_at, event_at}
 use Rattle.asl_journal.proofs.Front.{four_reads}
 
 -- ---- values
@@ -144,32 +143,37 @@ fault_shows fault.Open = refl
 fault_shows fault.Deep = refl
 fault_shows fault.NoSection = refl
 
--- a fault whose number is not 3 is the one of its number
-fault_is : (f : Fault) (n : ℕ) → fault_number f ≡ n → (n ≡ 3 → ⊥) → f ≡ plain_fault n
-unfolding fault_number
-fault_is fault.BadType n h other = ap plain_fault h
-fault_is fault.Null n h other = ap plain_fault h
-fault_is fault.Bounds n h other = ap plain_fault h
-fault_is (fault.Unprotected cell effect) n h other = absurd (other (sym h))
-fault_is fault.Full n h other = ap plain_fault h
-fault_is fault.Stack n h other = ap plain_fault h
-fault_is fault.Open n h other = ap plain_fault h
-fault_is fault.Deep n h other = ap plain_fault h
-fault_is fault.NoSection n h other = ap plain_fault h
+-- the fault of a number that names nothing more
+plain_fault : ℕ → Option Fault
+plain_fault zero = Some fault.BadType
+plain_fault (suc zero) = Some fault.Null
+plain_fault (suc (suc zero)) = Some fault.Bounds
+plain_fault (suc (suc (suc zero))) = None
+plain_fault (suc (suc (suc (suc zero)))) = Some fault.Full
+plain_fault (suc (suc (suc (suc (suc zero))))) = Some fault.Stack
+plain_fault (suc (suc (suc (suc (suc (suc zero)))))) = Some fault.Open
+plain_fault (suc (suc (suc (suc (suc (suc (suc zero))))))) = Some fault.Deep
+plain_fault (suc (suc (suc (suc (suc (suc (suc (suc n)))))))) = Some fault.NoSection
 
--- and each number but 3 is that of a fault with nothing more
-plain_is : (n : ℕ) → n < 9 → (n ≡ 3 → ⊥) → IsFault (plain_fault n) × (fault_number (plain_fault n) ≡ n) × (after_fault (plain_fault n) ≡ [])
-unfolding fault_number after_fault
-plain_is zero is other = (tt, refl, refl)
-plain_is (suc zero) is other = (tt, refl, refl)
-plain_is (suc (suc zero)) is other = (tt, refl, refl)
-plain_is (suc (suc (suc zero))) is other = absurd (other refl)
-plain_is (suc (suc (suc (suc zero)))) is other = (tt, refl, refl)
-plain_is (suc (suc (suc (suc (suc zero))))) is other = (tt, refl, refl)
-plain_is (suc (suc (suc (suc (suc (suc zero)))))) is other = (tt, refl, refl)
-plain_is (suc (suc (suc (suc (suc (suc (suc zero))))))) is other = (tt, refl, refl)
-plain_is (suc (suc (suc (suc (suc (suc (suc (suc zero)))))))) is other = (tt, refl, refl)
-plain_is (suc (suc (suc (suc (suc (suc (suc (suc (suc n))))))))) is other = absurd (omega arith)
+abbrev nothing : Option Fault
+nothing = None
+
+-- a fault with such a number is that one
+fault_is : (f g : Fault) (n : ℕ) → fault_number f ≡ n → plain_fault n ≡ Some g → f ≡ g
+unfolding fault_number plain_fault
+fault_is fault.BadType g n h e = let same : Some fault.BadType ≡ Some g = ap plain_fault h ∙ e in cc
+fault_is fault.Null g n h e = let same : Some fault.Null ≡ Some g = ap plain_fault h ∙ e in cc
+fault_is fault.Bounds g n h e = let same : Some fault.Bounds ≡ Some g = ap plain_fault h ∙ e in cc
+fault_is (fault.Unprotected cell effect) g n h e = let none : nothing ≡ Some g = ap plain_fault h ∙ e in absurd cc
+fault_is fault.Full g n h e = let same : Some fault.Full ≡ Some g = ap plain_fault h ∙ e in cc
+fault_is fault.Stack g n h e = let same : Some fault.Stack ≡ Some g = ap plain_fault h ∙ e in cc
+fault_is fault.Open g n h e = let same : Some fault.Open ≡ Some g = ap plain_fault h ∙ e in cc
+fault_is fault.Deep g n h e = let same : Some fault.Deep ≡ Some g = ap plain_fault h ∙ e in cc
+fault_is fault.NoSection g n h e = let same : Some fault.NoSection ≡ Some g = ap plain_fault h ∙ e in cc
+
+-- nothing more is read of it
+plain_reads : (g : Fault) (n : ℕ) → plain_fault n ≡ Some g → IsFault g → fault_number g ≡ n → after_fault g ≡ [] → Reads Fault (λ f. IsFault f × (fault_number f ≡ n)) after_fault (λ bytes. Ok (g, bytes))
+plain_reads g n e is number nothing = reads_nothing Fault (λ f. IsFault f × (fault_number f ≡ n)) after_fault g (is, number) (λ f is_f. fault_is f g n is_f.1 e) nothing
 
 -- an unprotected access to this cell
 access : ℕ → ℕ → Effect → Fault
@@ -228,23 +232,29 @@ unprotected_reads =
 
 fault_filled : (n : ℕ) → n < 9 → (f : Fault) × IsFault f × (fault_number f ≡ n)
 unfolding fault_number
-fault_filled n is =
-    elim (cases_Bool (eqb n 3)) [
-      | inl three ↦ (fault.Unprotected (record { object = 0; offset = 0 }) Read, (lit< tt, lit< tt), sym (eqb-true n 3 three))
-      | inr other ↦ let p = plain_is n is (λ e. let y : eqb n 3 ≡ true = rw e refl in absurd cc) in (plain_fault n, p.0, p.1)
-    ]
-
--- the rest of a fault, where the test of its number gave this
-fault_rest : (n : ℕ) → n < 9 → (b : Bool) → eqb n 3 ≡ b → Reads Fault (λ f. IsFault f × (fault_number f ≡ n)) after_fault (λ bytes. if b then unprotected_at bytes else Ok (plain_fault n, bytes))
-fault_rest n is true e = subst (λ (k : ℕ). Reads Fault (λ f. IsFault f × (fault_number f ≡ k)) after_fault unprotected_at) (sym (eqb-true n 3 e)) unprotected_reads
-fault_rest n is false e =
-    let other : n ≡ 3 → ⊥ = λ z. let y : eqb n 3 ≡ true = rw z refl in absurd cc in
-    let p = plain_is n is other in
-    reads_nothing Fault (λ f. IsFault f × (fault_number f ≡ n)) after_fault (plain_fault n) (p.0, p.1) (λ f is_f. fault_is f n is_f.1 other) p.2
+fault_filled zero is = (fault.BadType, tt, refl)
+fault_filled (suc zero) is = (fault.Null, tt, refl)
+fault_filled (suc (suc zero)) is = (fault.Bounds, tt, refl)
+fault_filled (suc (suc (suc zero))) is = (fault.Unprotected (record { object = 0; offset = 0 }) Read, (lit< tt, lit< tt), refl)
+fault_filled (suc (suc (suc (suc zero)))) is = (fault.Full, tt, refl)
+fault_filled (suc (suc (suc (suc (suc zero))))) is = (fault.Stack, tt, refl)
+fault_filled (suc (suc (suc (suc (suc (suc zero)))))) is = (fault.Open, tt, refl)
+fault_filled (suc (suc (suc (suc (suc (suc (suc zero))))))) is = (fault.Deep, tt, refl)
+fault_filled (suc (suc (suc (suc (suc (suc (suc (suc zero)))))))) is = (fault.NoSection, tt, refl)
+fault_filled (suc (suc (suc (suc (suc (suc (suc (suc (suc n))))))))) is = absurd (omega arith)
 
 fault_reads_rest : (n : ℕ) → n < 9 → Reads Fault (λ f. IsFault f × (fault_number f ≡ n)) after_fault (fault_of n)
-unfolding fault_of
-fault_reads_rest n is = fault_rest n is (eqb n 3) refl
+unfolding fault_of fault_number plain_fault after_fault
+fault_reads_rest zero is = plain_reads fault.BadType 0 refl tt refl refl
+fault_reads_rest (suc zero) is = plain_reads fault.Null 1 refl tt refl refl
+fault_reads_rest (suc (suc zero)) is = plain_reads fault.Bounds 2 refl tt refl refl
+fault_reads_rest (suc (suc (suc zero))) is = unprotected_reads
+fault_reads_rest (suc (suc (suc (suc zero)))) is = plain_reads fault.Full 4 refl tt refl refl
+fault_reads_rest (suc (suc (suc (suc (suc zero))))) is = plain_reads fault.Stack 5 refl tt refl refl
+fault_reads_rest (suc (suc (suc (suc (suc (suc zero)))))) is = plain_reads fault.Open 6 refl tt refl refl
+fault_reads_rest (suc (suc (suc (suc (suc (suc (suc zero))))))) is = plain_reads fault.Deep 7 refl tt refl refl
+fault_reads_rest (suc (suc (suc (suc (suc (suc (suc (suc zero)))))))) is = plain_reads fault.NoSection 8 refl tt refl refl
+fault_reads_rest (suc (suc (suc (suc (suc (suc (suc (suc (suc n))))))))) is = absurd (omega arith)
 
 pub fault_reads : Reads Fault IsFault fault_fields fault_at
 unfolding fault_at

@@ -1,9 +1,9 @@
 -- Machinery of the proofs, not of the promise: reading a journal from front to back, to the first field that is
 -- cut or bad, as the readers of src/ compute it (docs/JOURNAL.md, "Bytes"). The lemmas of proofs/ lead from here to the
 -- relations of specs/Bytes and specs/Faults, which contracts cite.
-use Rattle.std.specs.Prelude.{ℕ, zero, suc, ◌-◌, Bool, nat_lt, nat_le, ◌==◌, ◌&&◌, if◌then◌else◌, List, length, Result, Ok, Err}
+use Rattle.std.specs.Prelude.{ℕ, zero, suc, Bool, nat_lt, nat_le, ◌==◌, ◌&&◌, if◌then◌else◌, List, length, Result, Ok}
 use Rattle.std.specs.Int.{w16, w32, cast_signed}
-use Rattle.asl_code.specs.Versions.{newest_threads, is_version, version_for}
+use Rattle.asl_code.specs.Versions.{newest_threads, version_for}
 use Rattle.asl_code.specs.declared.value.Value.{Value}
 use Rattle.asl_code.specs.declared.value.Value.TheVariants.{Int, Null, Addr}
 use Rattle.asl_machine.specs.declared.fault.Fault.{Fault}
@@ -11,24 +11,11 @@ use Rattle.asl_machine.specs.declared.fault.Fault.TheVariants as fault
 use Rattle.asl_machine.specs.declared.reply.Reply.{Reply}
 use Rattle.asl_machine.specs.declared.reply.Reply.TheVariants as reply
 use Rattle.asl_loader.specs.declared.fault.Stop.{Stop}
-use Rattle.asl_loader.specs.declared.fault.Stop.TheVariants.{Short, Bad}
-use Rattle.asl_loader.specs.Reading.{◌>>=◌, passed, byte_at, number_at, below_at, effect_at, items_at}
+use Rattle.asl_loader.specs.Reading.{◌>>=◌, passed, byte_at, number_at, letters_at, version_at, below_at, effect_at, items_at, whole_from}
 use Rattle.asl_journal.specs.declared.event.Event.{Event}
 use Rattle.asl_journal.specs.declared.fault.JournalFault.{JournalFault}
 use Rattle.asl_journal.specs.declared.fault.JournalFault.TheVariants.{Magic, Version, Truncated, BadField, Trailing}
 use Rattle.asl_journal.specs.Journal.{Log, most_events}
-
--- the four letters
-unfoldable pub letters_at : List ℕ → Result (ℕ × List ℕ) Stop
-letters_at bytes = do
-  n ← number_at w32 bytes
-  passed (n.0 == 1095978058) n bytes
-
--- the version
-unfoldable pub version_at : List ℕ → Result (ℕ × List ℕ) Stop
-version_at bytes = do
-  n ← number_at w16 bytes
-  passed (is_version n.0) n bytes
 
 -- whether there may be so many threads in a file of this version
 abbrev pub is_count : ℕ → ℕ → Bool
@@ -71,21 +58,17 @@ unprotected_at bytes = do
   effect ← effect_at offset.1
   Ok (fault.Unprotected (record { object = object.0; offset = offset.0 }) effect.0, effect.1)
 
--- the fault of a number that names nothing more
-abbrev pub plain_fault : ℕ → Fault
-plain_fault zero = fault.BadType
-plain_fault (suc zero) = fault.Null
-plain_fault (suc (suc zero)) = fault.Bounds
-plain_fault (suc (suc (suc zero))) = fault.Full
-plain_fault (suc (suc (suc (suc zero)))) = fault.Full
-plain_fault (suc (suc (suc (suc (suc zero))))) = fault.Stack
-plain_fault (suc (suc (suc (suc (suc (suc zero)))))) = fault.Open
-plain_fault (suc (suc (suc (suc (suc (suc (suc zero))))))) = fault.Deep
-plain_fault (suc (suc (suc (suc (suc (suc (suc (suc n)))))))) = fault.NoSection
-
 -- the rest of a fault of this number
 unfoldable pub fault_of : ℕ → List ℕ → Result (Fault × List ℕ) Stop
-fault_of number bytes = if number == 3 then unprotected_at bytes else Ok (plain_fault number, bytes)
+fault_of zero bytes = Ok (fault.BadType, bytes)
+fault_of (suc zero) bytes = Ok (fault.Null, bytes)
+fault_of (suc (suc zero)) bytes = Ok (fault.Bounds, bytes)
+fault_of (suc (suc (suc zero))) bytes = unprotected_at bytes
+fault_of (suc (suc (suc (suc zero)))) bytes = Ok (fault.Full, bytes)
+fault_of (suc (suc (suc (suc (suc zero))))) bytes = Ok (fault.Stack, bytes)
+fault_of (suc (suc (suc (suc (suc (suc zero)))))) bytes = Ok (fault.Open, bytes)
+fault_of (suc (suc (suc (suc (suc (suc (suc zero))))))) bytes = Ok (fault.Deep, bytes)
+fault_of (suc (suc (suc (suc (suc (suc (suc (suc number)))))))) bytes = Ok (fault.NoSection, bytes)
 
 -- a fault
 unfoldable pub fault_at : List ℕ → Result (Fault × List ℕ) Stop
@@ -121,7 +104,7 @@ event_at threads bytes = do
 -- a journal
 unfoldable pub log_at : List ℕ → Result (Log × List ℕ) Stop
 log_at bytes = do
-  front ← letters_at bytes
+  front ← letters_at 1095978058 bytes
   v ← version_at front.1
   threads ← threads_at v.0 v.1
   count ← count_at threads.1
@@ -132,20 +115,6 @@ log_at bytes = do
 abbrev pub bad_fault : ℕ → JournalFault
 bad_fault at = if at == 0 then Magic else if at == 4 then Version else BadField at
 
--- the fault of what stopped the reading of so many bytes
-abbrev pub stop_fault : Stop → ℕ → JournalFault
-stop_fault Short len = Truncated len
-stop_fault (Bad left) len = bad_fault (len - left)
-
--- a journal, if no bytes are left
-abbrev pub ended : Log → ℕ → ℕ → Result Log JournalFault
-ended log left len = if left == 0 then Ok log else Err (Trailing (len - left))
-
--- the journal that was read, or the fault
-abbrev pub whole_from : ℕ → Result (Log × List ℕ) Stop → Result Log JournalFault
-whole_from len (Ok x) = ended x.0 (length x.1) len
-whole_from len (Err stop) = Err (stop_fault stop len)
-
 -- the journal of all the bytes
 unfoldable pub whole_of : List ℕ → Result Log JournalFault
-whole_of bytes = whole_from (length bytes) (log_at bytes)
+whole_of bytes = whole_from (λ n. Truncated n) bad_fault (λ n. Trailing n) (length bytes) (log_at bytes)

@@ -4,7 +4,7 @@ ghost use Rattle.asl_journal.specs.Journal.{AreThere, HasStranger, IsLog, IsNoLo
 
 use crate::event::Event;
 use crate::fault::JournalFault;
-use crate::limits::{MOST_EVENTS, MOST_THREADS};
+use crate::limits::{EVENT_LIMIT, THREAD_LIMIT};
 use std::marker::Model;
 
 /// How many threads a run has, and its events in order: 1 to 128 threads, at most 16,777,216 events, and each event of a
@@ -33,10 +33,10 @@ impl Journal {
         ensures refused { IfErr result (λ refusal. IsNoLog (record { threads = n; events = events.items }) refusal.0) }
         ensures back { IfErr result (λ refusal. refusal.1.items ≡ events.items) }
     {
-        if events.len() > MOST_EVENTS {
+        if events.len() > EVENT_LIMIT {
             return Err((JournalFault::JournalFull, events));
         }
-        if n == 0 || n > MOST_THREADS {
+        if n == 0 || n > THREAD_LIMIT {
             return Err((JournalFault::BadCount, events));
         }
         if !are_there(n, events.as_slice()) {

@@ -8,7 +8,7 @@ ghost use Rattle.asl_journal.specs.Journal.{IsCount, IsJournal, most_events};
 use crate::event::{Event, Receipt};
 use crate::fault::JournalFault;
 use crate::journal::Journal;
-use crate::limits::MOST_EVENTS;
+use crate::limits::EVENT_LIMIT;
 use asl_code::Program;
 use asl_machine::Machine;
 use std::alloc::Global;
@@ -78,7 +78,7 @@ impl<'p> Journaled<'p> {
             ⊎ (fault ≡ JournalFault.OutOfMemory)) }
         ensures err { OnErr result (IsUnchanged self.old self.new) }
     {
-        if self.events.len() >= MOST_EVENTS {
+        if self.events.len() >= EVENT_LIMIT {
             return Err(JournalFault::JournalFull);
         }
         if t >= self.machine.threads() {
@@ -106,7 +106,7 @@ impl<'p> Journaled<'p> {
         ensures succeeds { min m (most_events - length self.old.events) ≤ self.old.spare → IsOk result }
         ensures memory { IfErr result (λ fault. fault ≡ JournalFault.OutOfMemory) }
     {
-        let left = MOST_EVENTS - self.events.len();
+        let left = EVENT_LIMIT - self.events.len();
         self.events.reserve(left.min(m as usize))?;
         Ok(())
     }
@@ -116,7 +116,7 @@ impl<'p> Journaled<'p> {
         ensures spare { result ≡ self.now.spare }
         ensures limit { result + length self.now.events ≤ most_events }
     {
-        let room = self.events.capacity().min(MOST_EVENTS) - self.events.len();
+        let room = self.events.capacity().min(EVENT_LIMIT) - self.events.len();
         room as u32
     }
 

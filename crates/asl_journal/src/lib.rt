@@ -16,6 +16,7 @@ pub use event::{Event, Receipt};
 pub use fault::JournalFault;
 pub use journal::Journal;
 pub use journaled::Journaled;
+pub use limits::EVENT_LIMIT;
 pub use loading::get;
 pub use replaying::{follow, replay};
 pub use storing::put;

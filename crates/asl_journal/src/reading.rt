@@ -3,43 +3,20 @@
 ghost use Rattle.std.specs.Prelude.{◌≡◌};
 ghost use Rattle.std.specs.Option.{option_map};
 ghost use Rattle.asl_loader.specs.Reading.{Gives, Keeps, items_at};
-ghost use Rattle.asl_journal.specs.Reading.{letters_at, version_at, threads_at, count_at, value_at, unprotected_at};
-ghost use Rattle.asl_journal.specs.Reading.{plain_fault, fault_at, reply_at, event_at, log_at};
+ghost use Rattle.asl_journal.specs.Reading.{threads_at, count_at, value_at, unprotected_at, fault_at, reply_at, event_at, log_at};
 
 use crate::event::Event;
-use crate::limits::{MOST_EVENTS, MOST_THREADS};
-use asl_code::{Cell, Items, Value, ValueFault, get_value, is_version, version_for};
+use crate::limits::{EVENT_LIMIT, THREAD_LIMIT};
+use asl_code::{Cell, Items, Value, ValueFault, get_value, version_for};
 use asl_loader::Stop;
-use asl_loader::parts::{bad, below_at, byte_at, effect_at, four_at, two_at, with_item};
+use asl_loader::parts::{
+    bad, below_at, byte_at, effect_at, four_at, letters_at, two_at, version_at, with_item,
+};
 use asl_machine::{Fault, Reply};
 use std::alloc::Global;
 
 /// The four letters at the front of a journal, as a number.
 const LETTERS: u32 = 0x4153_4c4a;
-
-#[tactic(auto, unfolding(crate::specs::Reading::letters_at))]
-fn letters_at(bytes: &[u8]) -> Result<(u32, &[u8]), Stop>
-    ensures { Gives (λ x. (x.0, x.1.now)) result (letters_at bytes.now) }
-{
-    let (letters, rest) = four_at(bytes)?;
-    if letters == LETTERS {
-        Ok((letters, rest))
-    } else {
-        Err(bad(bytes))
-    }
-}
-
-#[tactic(auto, unfolding(crate::specs::Reading::version_at))]
-fn version_at(bytes: &[u8]) -> Result<(u16, &[u8]), Stop>
-    ensures { Gives (λ x. (x.0, x.1.now)) result (version_at bytes.now) }
-{
-    let (version, rest) = two_at(bytes)?;
-    if is_version(u32::from(version)) {
-        Ok((version, rest))
-    } else {
-        Err(bad(bytes))
-    }
-}
 
 /// How many threads: as many as journals of files of this version have.
 #[tactic(auto, unfolding(crate::specs::Reading::threads_at))]
@@ -48,7 +25,7 @@ fn threads_at(version: u16, bytes: &[u8]) -> Result<(u32, &[u8]), Stop>
 {
     let (byte, rest) = byte_at(bytes)?;
     let threads = u32::from(byte);
-    if 0 < threads && threads <= MOST_THREADS && version_for(threads) == u32::from(version) {
+    if 0 < threads && threads <= THREAD_LIMIT && version_for(threads) == u32::from(version) {
         Ok((threads, rest))
     } else {
         Err(bad(bytes))
@@ -62,7 +39,7 @@ fn count_at(bytes: &[u8]) -> Result<(usize, &[u8]), Stop>
 {
     let (number, rest) = four_at(bytes)?;
     let count = number as usize;
-    if count <= MOST_EVENTS {
+    if count <= EVENT_LIMIT {
         Ok((count, rest))
     } else {
         Err(bad(bytes))
@@ -90,31 +67,22 @@ fn unprotected_at(bytes: &[u8]) -> Result<(Fault, &[u8]), Stop>
     Ok((Fault::Unprotected(Cell { object, offset }, effect), rest))
 }
 
-/// The fault of a number that names nothing more.
-fn plain_fault(number: u8) -> Fault
-    ensures { result ≡ plain_fault number }
-{
-    match number {
-        0 => Fault::BadType,
-        1 => Fault::Null,
-        2 => Fault::Bounds,
-        3 | 4 => Fault::Full,
-        5 => Fault::Stack,
-        6 => Fault::Open,
-        7 => Fault::Deep,
-        _ => Fault::NoSection,
-    }
-}
-
 #[tactic(auto, unfolding(crate::specs::Reading::fault_at, crate::specs::Reading::fault_of))]
 fn fault_at(bytes: &[u8]) -> Result<(Fault, &[u8]), Stop>
     ensures { Gives (λ x. (x.0, x.1.now)) result (fault_at bytes.now) }
 {
     let (number, rest) = below_at(9, bytes)?;
-    if number == 3 {
-        return unprotected_at(rest);
+    match number {
+        0 => Ok((Fault::BadType, rest)),
+        1 => Ok((Fault::Null, rest)),
+        2 => Ok((Fault::Bounds, rest)),
+        3 => unprotected_at(rest),
+        4 => Ok((Fault::Full, rest)),
+        5 => Ok((Fault::Stack, rest)),
+        6 => Ok((Fault::Open, rest)),
+        7 => Ok((Fault::Deep, rest)),
+        _ => Ok((Fault::NoSection, rest)),
     }
-    Ok((plain_fault(number), rest))
 }
 
 #[tactic(auto, unfolding(crate::specs::Reading::reply_at, crate::specs::Reading::reply_of))]
@@ -172,7 +140,7 @@ pub(crate) fn parts_at(
 ) -> Result<(u32, Option<Items<Event>>, &[u8]), Stop>
     ensures { Keeps (λ x. option_map (λ events. record { threads = x.0; events = events }) x.1) (λ x. x.2.now) result (log_at bytes.now) }
 {
-    let (_letters, rest) = letters_at(bytes)?;
+    let (_letters, rest) = letters_at(LETTERS, bytes)?;
     let (version, rest) = version_at(rest)?;
     let (threads, rest) = threads_at(version, rest)?;
     let (count, rest) = count_at(rest)?;

@@ -1,22 +1,24 @@
 //! Writing the bytes of a journal.
 ghost use Rattle.std.specs.Prelude.{◌<◌, ◌^◌, ℕ, [], ◌∷◌, IfOk, OnOk};
 ghost use Rattle.asl_code.specs.Spelling.{IsValue};
-ghost use Rattle.asl_code.specs.declared.value.Effect.{Effect};
 ghost use Rattle.asl_code.specs.declared.value.Value.{Value};
 ghost use Rattle.asl_machine.specs.declared.fault.Fault.{Fault};
 ghost use Rattle.asl_machine.specs.declared.reply.Reply.{Reply};
-ghost use Rattle.asl_loader.specs.Bytes.{one, two, effect_field};
 ghost use Rattle.asl_loader.specs.Writing.{Writes, WritesEach};
 ghost use Rattle.asl_journal.specs.declared.event.Event.{Event};
 ghost use Rattle.asl_journal.specs.Bytes.{four, value_fields, fault_fields, reply_fields, event_fields, IsFault, IsReply, SpellsLog};
 
 use crate::event::Event;
 use crate::journal::Journal;
-use asl_code::{Effect, Value, put_value, version_for};
+use asl_code::{Value, put_value, version_for};
+use asl_loader::parts::{put_byte, put_effect, put_two};
 use asl_machine::{Fault, Reply};
 use std::alloc::{AllocError, Global};
 
 /// The bytes of the journal, in the first version that has so many threads.
+///
+/// # Errors
+/// A growth was refused.
 pub fn put(alloc: Global, journal: &Journal) -> Result<Vec<u8>, AllocError>
     ensures { IfOk result (λ bytes. SpellsLog journal.now bytes.items) }
 {
@@ -29,24 +31,10 @@ pub fn put(alloc: Global, journal: &Journal) -> Result<Vec<u8>, AllocError>
     Ok(out)
 }
 
-fn put_byte(out: &mut Vec<u8>, n: u8) -> Result<(), AllocError>
-    ensures { OnOk result (Writes ℕ (λ n. n < 256) (λ n. one n ∷ []) out.old.items out.new.items n) }
+fn put_four(out: &mut Vec<u8>, number: u32) -> Result<(), AllocError>
+    ensures { OnOk result (Writes ℕ (λ n. n < 2 ^ 32) (λ n. four n ∷ []) out.old.items out.new.items number) }
 {
-    out.push(n)?;
-    Ok(())
-}
-
-fn put_two(out: &mut Vec<u8>, n: u16) -> Result<(), AllocError>
-    ensures { OnOk result (Writes ℕ (λ n. n < 2 ^ 16) (λ n. two n ∷ []) out.old.items out.new.items n) }
-{
-    out.extend_from_slice(&n.to_be_bytes())?;
-    Ok(())
-}
-
-fn put_four(out: &mut Vec<u8>, n: u32) -> Result<(), AllocError>
-    ensures { OnOk result (Writes ℕ (λ n. n < 2 ^ 32) (λ n. four n ∷ []) out.old.items out.new.items n) }
-{
-    out.extend_from_slice(&n.to_be_bytes())?;
+    out.extend_from_slice(&number.to_be_bytes())?;
     Ok(())
 }
 
@@ -109,14 +97,5 @@ fn put_fault(out: &mut Vec<u8>, fault: Fault) -> Result<(), AllocError>
         Fault::Open => put_byte(out, 6),
         Fault::Deep => put_byte(out, 7),
         Fault::NoSection => put_byte(out, 8),
-    }
-}
-
-fn put_effect(out: &mut Vec<u8>, effect: Effect) -> Result<(), AllocError>
-    ensures { OnOk result (Writes Effect (λ e. Unit {0}) (λ e. effect_field e ∷ []) out.old.items out.new.items effect) }
-{
-    match effect {
-        Effect::Read => put_byte(out, 0),
-        Effect::Write => put_byte(out, 1),
     }
 }

@@ -12,7 +12,7 @@ use Rattle.asl_code.proofs.Instrs.{instr_of-found, instr_of-again, instr_of-refu
 use Rattle.asl_loader.specs.Bytes.{Field, Plain, Eight, bytes_of, text_of, one, two, instr_fields, EndsWithin, IsLike, IsBadByte}
 use Rattle.asl_loader.specs.declared.fault.Stop.{Stop}
 use Rattle.asl_loader.specs.declared.fault.Stop.TheVariants.{Short, Bad}
-use Rattle.asl_loader.specs.Reading.{◌>>=◌, passed, byte_at, number_at, below_at, magic_at, version_at, instr_at, judged}
+use Rattle.asl_loader.specs.Reading.{◌>>=◌, passed, byte_at, number_at, below_at, letters_at, version_at, instr_at, judged}
 use Rattle.asl_code.specs.Versions.{IsVersion, is_version}
 use Rattle.asl_code.proofs.Values.{AreBytes}
 use Rattle.asl_code.proofs.Versions.{is_version-true, IsVersion-is_version, small_version}
@@ -353,13 +353,13 @@ version_reads =
     (λ x is. is_version-true x is.1)
     (λ x is. (small_version x is, IsVersion-is_version x is))
 
-pub magic_reads : Reads ℕ (λ n. n ≡ 1095978061) (λ n. Plain (to_be_bytes w32 n) ∷ []) magic_at
-unfolding magic_at
-magic_reads =
-    reads_as ℕ (λ x. (x < 2 ^ 32) × (eqb x 1095978061 ≡ true)) (λ n. n ≡ 1095978061) (λ n. Plain (to_be_bytes w32 n) ∷ []) magic_at
-    (reads_tested (λ n. n < 2 ^ 32) (λ n. to_be_bytes w32 n) 4 (number_at w32) four_number (λ x. eqb x 1095978061) 1095978061 (lit< tt) refl)
-    (λ x is. eqb-true x 1095978061 is.1)
-    (λ x is. (omega (arith, is), eq-eqb x 1095978061 is))
+pub letters_reads : (letters : ℕ) → letters < 2 ^ 32 → Reads ℕ (λ n. n ≡ letters) (λ n. Plain (to_be_bytes w32 n) ∷ []) (letters_at letters)
+unfolding letters_at
+letters_reads letters fits =
+    reads_as ℕ (λ x. (x < 2 ^ 32) × (eqb x letters ≡ true)) (λ n. n ≡ letters) (λ n. Plain (to_be_bytes w32 n) ∷ []) (letters_at letters)
+    (reads_tested (λ n. n < 2 ^ 32) (λ n. to_be_bytes w32 n) 4 (number_at w32) four_number (λ x. eqb x letters) letters fits (eq-eqb letters letters refl))
+    (λ x is. eqb-true x letters is.1)
+    (λ x is. (omega (arith, is, fits), eq-eqb x letters is))
 
 -- ---- instructions
 

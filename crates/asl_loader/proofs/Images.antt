@@ -18,8 +18,8 @@ use Rattle.asl_code.specs.declared.value.Effect.TheVariants.{Read, Write}
 use Rattle.asl_code.specs.Spelling.{IsInstr}
 use Rattle.asl_code.specs.Versions.{IsVersion}
 use Rattle.asl_loader.specs.Bytes.{Field, Plain, one, two, counted, class_fields, function_fields, instr_fields, effect_field, op_fields, path_fields, expr_fields, lock_fields, list_fields, image_fields, IsFunction, IsOp, IsBase, IsPath, IsLock, AreItems, IsList, IsImage, ImageOfSpellingIsOne}
-use Rattle.asl_loader.specs.Reading.{◌>>=◌, byte_at, number_at, below_at, magic_at, version_at, instr_at, function_at, effect_of, effect_at, op_of, op_at, items_at, counted_at, path_at, expr_at, lock_of, lock_at, list_at, image_at}
-use Rattle.asl_loader.proofs.Fields.{reads_as, byte_reads, two_reads, below_reads, version_reads, magic_reads, instr_reads}
+use Rattle.asl_loader.specs.Reading.{◌>>=◌, byte_at, number_at, below_at, letters_at, version_at, instr_at, function_at, effect_of, effect_at, op_of, op_at, items_at, counted_at, path_at, expr_at, lock_of, lock_at, list_at, image_at}
+use Rattle.asl_loader.proofs.Fields.{reads_as, byte_reads, two_reads, below_reads, version_reads, letters_reads, instr_reads}
 use Rattle.asl_loader.proofs.Items.{AreSoMany, items_reads, counted_reads}
 use Rattle.asl_loader.proofs.Reader.{Reads, reads_both, reads_key, reads_nothing, done, ok_is}
 
@@ -397,9 +397,9 @@ image_reads_version m is_m =
 pub image_reads : Reads Image IsImage image_fields image_at
 unfolding image_at
 image_reads =
-    reads_key ℕ Image (λ n. n ≡ 1095978061) IsImage (λ n. Plain (to_be_bytes w32 n) ∷ []) image_fields magic_at
+    reads_key ℕ Image (λ n. n ≡ 1095978061) IsImage (λ n. Plain (to_be_bytes w32 n) ∷ []) image_fields (letters_at 1095978061)
     (λ m bytes. version_at bytes >>= λ v_at. (number_at w16) v_at.1 >>= λ k_at. (counted_at (number_at w16)) k_at.1 >>= λ g_at. (counted_at function_at) g_at.1 >>= λ f_at. (number_at w16) f_at.1 >>= λ s_at. (counted_at instr_at) s_at.1 >>= λ c_at. (counted_at list_at) c_at.1 >>= λ l_at. Ok (record { version = v_at.0; classes = k_at.0; globals = g_at.0; functions = f_at.0; start = s_at.0; code = c_at.0; lists = l_at.0 }, l_at.1))
-    (λ (i : Image). 1095978061) (λ (i : Image). two i.version ∷ two i.classes ∷ counted class_fields i.globals ++ (counted function_fields i.functions ++ (two i.start ∷ counted instr_fields i.code ++ counted list_fields i.lists))) magic_reads
+    (λ (i : Image). 1095978061) (λ (i : Image). two i.version ∷ two i.classes ∷ counted class_fields i.globals ++ (counted function_fields i.functions ++ (two i.start ∷ counted instr_fields i.code ++ counted list_fields i.lists))) (letters_reads 1095978061 (lit< tt))
     (λ m is_m. image_reads_version m is_m)
     (λ i is. refl) (λ i is. refl)
     (λ m is_m. (record { version = 1; classes = 0; globals = []; functions = []; start = 0; code = []; lists = [] }, record { version_is = inl refl; classes_fits = lit< tt; globals_fit = record { counted = lit< tt; each = tt }; functions_fit = record { counted = lit< tt; each = tt }; start_fits = lit< tt; code_fits = record { counted = lit< tt; each = tt }; lists_fit = record { counted = lit< tt; each = tt } }, sym is_m))

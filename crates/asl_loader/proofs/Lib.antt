@@ -7,4 +7,5 @@ pub mod Loop
 pub mod Outcomes
 pub mod Reader
 pub mod Stores
+pub mod Whole
 pub mod Writes

@@ -1,27 +1,22 @@
 -- What the reader of all the bytes answers is the image that they spell, or the first thing that is wrong with them.
-use Rattle.std.proofs.Common.{◌≡◌, ◌≢◌, ℕ, ◌-◌, ◌≤◌, ◌<◌, Bool, true, false, eqb, ◌⊎◌, inl, inr, List, [], ◌++◌, length, take, Result, Ok, Err, refl, sym, ap, ap₂, subst, ◌∙◌, arith, length-append}
+use Rattle.std.proofs.Common.{◌≡◌, ◌≢◌, ℕ, Bool, true, false, eqb, ◌⊎◌, inl, inr, List, Result, Ok, Err, refl, sym, subst, ◌∙◌}
 use Rattle.std.proofs.lemmas.Bool.{eqb-true}
-use Rattle.std.proofs.lemmas.List.{append-nil, nil_from_length, take_at}
 use Rattle.asl_code.specs.declared.fault.VerifyFault.{VerifyFault}
 use Rattle.asl_code.specs.declared.image.Image.{Image}
 use Rattle.asl_code.specs.Verified.{applies, IsAnswer, IsVerified}
-use Rattle.asl_loader.specs.Bytes.{text_of, image_fields, SpellsImage}
+use Rattle.asl_loader.specs.Bytes.{image_fields, IsImage, SpellsImage}
 use Rattle.asl_loader.specs.Faults.{IsBadImageByte, IsFault}
-use Rattle.asl_loader.specs.Reading.{image_at, bad_fault, ended, whole_from, whole_of}
+use Rattle.asl_loader.specs.Reading.{image_at, bad_fault, whole_of}
 use Rattle.asl_loader.specs.declared.fault.LoadFault.{LoadFault}
 use Rattle.asl_loader.specs.declared.fault.LoadFault.TheVariants.{Truncated, Trailing, OutOfMemory}
-use Rattle.asl_loader.specs.declared.fault.Stop.{Stop}
-use Rattle.asl_loader.specs.declared.fault.Stop.TheVariants.{Short, Bad}
 use Rattle.asl_code.proofs.Values.{AreBytes}
 use Rattle.asl_loader.proofs.Images.{image_reads}
+use Rattle.asl_loader.proofs.Whole as whole
+use Rattle.asl_loader.proofs.Whole.{IsWrong}
 
-pub rest_within : (bytes : List ℕ) (i : Image) (rest : List ℕ) → AreBytes bytes → image_at bytes ≡ Ok (i, rest) → length rest ≤ length bytes
-rest_within bytes i rest fit e =
-    let f = image_reads.found bytes i rest fit e in
-    omega (arith, ap length f.1, length-append (text_of (image_fields i)) rest)
-
-pub left_within : (bytes : List ℕ) (left : ℕ) → AreBytes bytes → image_at bytes ≡ Err (Bad left) → left ≤ length bytes
-left_within bytes left fit e = let b = image_reads.bad bytes left fit e in omega (arith, b.1)
+-- the fault is the first thing that is wrong with the bytes of an image
+abbrev pub Wrong : List ℕ → LoadFault → Type 0
+Wrong bytes f = IsWrong Image LoadFault IsImage image_fields (λ n. Truncated n) bad_fault (λ n. Trailing n) bytes f
 
 abbrev answered : Image → Result Image LoadFault
 answered i = Ok i
@@ -29,32 +24,15 @@ answered i = Ok i
 abbrev refused : LoadFault → Result Image LoadFault
 refused f = Err f
 
-ended_ok : (i : Image) (left len : ℕ) (b : Bool) → eqb left 0 ≡ b → (j : Image) → ended i left len ≡ Ok j → (left ≡ 0) × (i ≡ j)
-ended_ok i left len true t j e = let both : answered i ≡ answered j = rw t at e in (eqb-true left 0 t, cc)
-ended_ok i left len false t j e = let both : refused (Trailing (len - left)) ≡ answered j = rw t at e in absurd cc
-
-ended_err : (i : Image) (left len : ℕ) (b : Bool) → eqb left 0 ≡ b → (f : LoadFault) → ended i left len ≡ Err f → (left ≢ 0) × (f ≡ Trailing (len - left))
-ended_err i left len true t f e = let both : answered i ≡ refused f = rw t at e in absurd cc
-ended_err i left len false t f e = let both : refused (Trailing (len - left)) ≡ refused f = rw t at e in (λ z. let y : eqb left 0 ≡ true = rw z refl in absurd cc, cc)
-
-whole_found_from : (bytes : List ℕ) (r : Result (Image × List ℕ) Stop) (i : Image) → AreBytes bytes → image_at bytes ≡ r → whole_from (length bytes) r ≡ Ok i → SpellsImage i bytes
-whole_found_from bytes (Ok x) i fit r e =
-    let w = ended_ok x.0 (length x.1) (length bytes) (eqb (length x.1) 0) refl i e in
-    let f = image_reads.found bytes x.0 x.1 fit r in
-    let nothing : x.1 ≡ [] = nil_from_length x.1 w.0 in
-    let spelled : bytes ≡ text_of (image_fields x.0) = f.1 ∙ ap (λ (t : List ℕ). text_of (image_fields x.0) ++ t) nothing ∙ append-nil (text_of (image_fields x.0)) in
-    subst (λ (j : Image). SpellsImage j bytes) w.1 (record { fits = f.0; spelled = spelled })
-whole_found_from bytes (Err stop) i fit r e = absurd cc
-
 pub whole_found : (bytes : List ℕ) (i : Image) → AreBytes bytes → whole_of bytes ≡ Ok i → SpellsImage i bytes
 unfolding whole_of
-whole_found bytes i fit e = whole_found_from bytes (image_at bytes) i fit refl e
+whole_found bytes i fit e =
+    let w = whole.whole_found Image LoadFault IsImage image_fields image_at image_reads (λ n. Truncated n) bad_fault (λ n. Trailing n) bytes i fit e in
+    record { fits = w.0; spelled = w.1 }
 
 pub whole_again : (bytes : List ℕ) (i : Image) → SpellsImage i bytes → whole_of bytes ≡ Ok i
 unfolding whole_of
-whole_again bytes i s =
-    let r : image_at bytes ≡ Ok (i, []) = ap image_at (s.spelled ∙ sym (append-nil (text_of (image_fields i)))) ∙ image_reads.again i [] s.fits in
-    ap (whole_from (length bytes)) r
+whole_again bytes i s = whole.whole_again Image LoadFault IsImage image_fields image_at image_reads (λ n. Truncated n) bad_fault (λ n. Trailing n) bytes i s.fits s.spelled
 
 -- the fault of a bad byte names it, and is not want of memory
 bad_is : (bytes : List ℕ) (at : ℕ) (p q : Bool) → eqb at 0 ≡ p → eqb at 4 ≡ q → IsBadImageByte bytes at → IsFault bytes (bad_fault at) × (bad_fault at ≢ OutOfMemory)
@@ -65,30 +43,19 @@ bad_is bytes at false false e f bad =
     let nor : at ≢ 4 = λ z. let y : eqb at 4 ≡ true = rw z refl in absurd cc in
     rw (e, f) ((no, nor, bad), λ z. absurd cc)
 
-whole_refused_from : (bytes : List ℕ) (r : Result (Image × List ℕ) Stop) (f : LoadFault) → AreBytes bytes → image_at bytes ≡ r → whole_from (length bytes) r ≡ Err f → IsFault bytes f × (f ≢ OutOfMemory)
-whole_refused_from bytes (Ok x) f fit r e =
-    let w = ended_err x.0 (length x.1) (length bytes) (eqb (length x.1) 0) refl f e in
-    let g = image_reads.found bytes x.0 x.1 fit r in
-    let text = text_of (image_fields x.0) in
-    let len : length bytes - length x.1 ≡ length text = omega (arith, ap length g.1, length-append text x.1) in
-    let front : take (length bytes - length x.1) bytes ≡ text = ap₂ (λ (n : ℕ) (t : List ℕ). take n t) len g.1 ∙ take_at text x.1 (length text) refl in
-    let short : length bytes - length x.1 < length bytes = omega (arith, w.0, ap length g.1, length-append text x.1) in
-    let is : IsFault bytes (Trailing (length bytes - length x.1)) = (short, (x.0, record { fits = g.0; spelled = front })) in
-    (subst (IsFault bytes) (sym w.1) is, λ z. let both : OutOfMemory ≡ Trailing (length bytes - length x.1) = sym z ∙ w.1 in absurd cc)
-whole_refused_from bytes (Err Short) f fit r e =
-    let same : Truncated (length bytes) ≡ f = let both : refused (Truncated (length bytes)) ≡ refused f = e in cc in
-    let is : IsFault bytes (Truncated (length bytes)) = (refl, image_reads.cut bytes fit r) in
-    (subst (IsFault bytes) same is, λ z. let both : Truncated (length bytes) ≡ OutOfMemory = same ∙ z in absurd cc)
-whole_refused_from bytes (Err (Bad left)) f fit r e =
-    let same : bad_fault (length bytes - left) ≡ f = let both : refused (bad_fault (length bytes - left)) ≡ refused f = e in cc in
-    let b = image_reads.bad bytes left fit r in
-    let at : b.0 ≡ length bytes - left = omega (arith, b.1) in
-    let w = bad_is bytes (length bytes - left) (eqb (length bytes - left) 0) (eqb (length bytes - left) 4) refl refl (subst (IsBadImageByte bytes) at b.2) in
-    (subst (IsFault bytes) same w.0, λ z. w.1 (same ∙ z))
+wrong_is : (bytes : List ℕ) (f : LoadFault) → Wrong bytes f → IsFault bytes f × (f ≢ OutOfMemory)
+wrong_is bytes f (whole.ends_within cut e) = rw e ((refl, cut), λ z. absurd cc)
+wrong_is bytes f (whole.has_bad at bad e) = rw e (bad_is bytes at (eqb at 0) (eqb at 4) refl refl bad)
+wrong_is bytes f (whole.goes_on at i lt is spelled e) = rw e ((lt, (i, record { fits = is; spelled = spelled })), λ z. absurd cc)
 
 pub whole_refused : (bytes : List ℕ) (f : LoadFault) → AreBytes bytes → whole_of bytes ≡ Err f → IsFault bytes f × (f ≢ OutOfMemory)
 unfolding whole_of
-whole_refused bytes f fit e = whole_refused_from bytes (image_at bytes) f fit refl e
+whole_refused bytes f fit e =
+    wrong_is bytes f (whole.whole_refused Image LoadFault IsImage image_fields image_at image_reads (λ n. Truncated n) bad_fault (λ n. Trailing n) bytes f fit e)
+
+pub refused_again : (bytes : List ℕ) (f : LoadFault) → AreBytes bytes → Wrong bytes f → whole_of bytes ≡ Err f
+unfolding whole_of
+refused_again bytes f fit wrong = whole.refused_again Image LoadFault IsImage image_fields image_at image_reads (λ n. Truncated n) bad_fault (λ n. Trailing n) bytes f fit wrong
 
 -- ---- the clauses of load
 

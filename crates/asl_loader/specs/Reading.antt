@@ -61,11 +61,11 @@ below_at limit bytes = do
   n ← byte_at bytes
   passed (nat_lt n.0 limit) n bytes
 
--- the four letters
-unfoldable pub magic_at : List ℕ → Result (ℕ × List ℕ) Stop
-magic_at bytes = do
+-- these four letters, as a number
+unfoldable pub letters_at : ℕ → List ℕ → Result (ℕ × List ℕ) Stop
+letters_at letters bytes = do
   n ← number_at w32 bytes
-  passed (n.0 == 1095978061) n bytes
+  passed (n.0 == letters) n bytes
 
 -- the version
 unfoldable pub version_at : List ℕ → Result (ℕ × List ℕ) Stop
@@ -167,7 +167,7 @@ list_at bytes = counted_at lock_at bytes
 -- an image
 unfoldable pub image_at : List ℕ → Result (Image × List ℕ) Stop
 image_at bytes = do
-  front ← magic_at bytes
+  front ← letters_at 1095978061 bytes
   version ← version_at front.1
   classes ← number_at w16 version.1
   globals ← counted_at (number_at w16) classes.1
@@ -177,24 +177,20 @@ image_at bytes = do
   lists ← counted_at list_at code.1
   Ok (record { version = version.0; classes = classes.0; globals = globals.0; functions = functions.0; start = start.0; code = code.0; lists = lists.0 }, lists.1)
 
+-- the thing, if no bytes are left
+abbrev pub ended : {X F : Type 0} → (ℕ → F) → X → ℕ → ℕ → Result X F
+ended trailing x left len = if left == 0 then Ok x else Err (trailing (len - left))
+
+-- the thing that was read of so many bytes, or the fault: of bytes that end within a field, have a bad byte, or go on
+abbrev pub whole_from : {X F : Type 0} → (ℕ → F) → (ℕ → F) → (ℕ → F) → ℕ → Result (X × List ℕ) Stop → Result X F
+whole_from cut bad trailing len (Ok x) = ended trailing x.0 (length x.1) len
+whole_from cut bad trailing len (Err Short) = Err (cut len)
+whole_from cut bad trailing len (Err (Bad left)) = Err (bad (len - left))
+
 -- the fault of a bad byte
 abbrev pub bad_fault : ℕ → LoadFault
 bad_fault at = if at == 0 then Magic else if at == 4 then Version else BadField at
 
--- the fault of what stopped the reading of so many bytes
-abbrev pub stop_fault : Stop → ℕ → LoadFault
-stop_fault Short len = Truncated len
-stop_fault (Bad left) len = bad_fault (len - left)
-
--- an image, if no bytes are left
-abbrev pub ended : Image → ℕ → ℕ → Result Image LoadFault
-ended image left len = if left == 0 then Ok image else Err (Trailing (len - left))
-
--- the image that was read, or the fault
-abbrev pub whole_from : ℕ → Result (Image × List ℕ) Stop → Result Image LoadFault
-whole_from len (Ok x) = ended x.0 (length x.1) len
-whole_from len (Err stop) = Err (stop_fault stop len)
-
 -- the image of all the bytes
 unfoldable pub whole_of : List ℕ → Result Image LoadFault
-whole_of bytes = whole_from (length bytes) (image_at bytes)
+whole_of bytes = whole_from (λ n. Truncated n) bad_fault (λ n. Trailing n) (length bytes) (image_at bytes)

@@ -1,13 +1,18 @@
-//! Readers of the parts that images and journals share. Each answers what stands at the front of the bytes and the bytes behind
-//! it, or what stopped it. Where memory is refused the reading goes on and keeps nothing (`with_item`), so that want of memory
-//! hides nothing that is wrong with the bytes.
+//! Readers and writers of the parts that images and journals share. A reader answers what stands at the front of the bytes and
+//! the bytes behind it, or what stopped it. Where memory is refused the reading goes on and keeps nothing (`with_item`), so that
+//! want of memory hides nothing that is wrong with the bytes. A writer adds the part's bytes to those before; where memory is
+//! refused, what it has added of them is not told.
 
-ghost use Rattle.std.specs.Prelude.{◌≡◌, ◌<◌, List, [], ◌∷◌, ◌++◌, length, IfOk};
+ghost use Rattle.std.specs.Prelude.{◌≡◌, ◌<◌, ◌^◌, ℕ, List, [], ◌∷◌, ◌++◌, length, IfOk, OnOk};
 ghost use Rattle.std.specs.Int.{w16, w32};
-ghost use Rattle.asl_loader.specs.Reading.{Gives, IsKept, byte_at, number_at, below_at, effect_at};
+ghost use Rattle.asl_code.specs.declared.value.Effect.{Effect};
+ghost use Rattle.asl_loader.specs.Bytes.{one, two, effect_field};
+ghost use Rattle.asl_loader.specs.Reading.{Gives, IsKept, byte_at, number_at, below_at, letters_at, version_at, effect_at};
+ghost use Rattle.asl_loader.specs.Writing.{Writes};
 
 use crate::fault::Stop;
-use asl_code::{Effect, Items};
+use asl_code::{Effect, Items, is_version};
+use std::alloc::AllocError;
 
 /// The field at the front of the bytes is bad.
 pub fn bad(bytes: &[u8]) -> Stop
@@ -50,6 +55,32 @@ pub fn four_at(bytes: &[u8]) -> Result<(u32, &[u8]), Stop>
     Ok((number, rest))
 }
 
+/// The four letters, as a number; others are bad.
+#[tactic(auto, unfolding(crate::specs::Reading::letters_at))]
+pub fn letters_at(letters: u32, bytes: &[u8]) -> Result<(u32, &[u8]), Stop>
+    ensures { Gives (λ x. (x.0, x.1.now)) result (letters_at letters bytes.now) }
+{
+    let (number, rest) = four_at(bytes)?;
+    if number == letters {
+        Ok((number, rest))
+    } else {
+        Err(bad(bytes))
+    }
+}
+
+/// A version that there is; another is bad.
+#[tactic(auto, unfolding(crate::specs::Reading::version_at))]
+pub fn version_at(bytes: &[u8]) -> Result<(u16, &[u8]), Stop>
+    ensures { Gives (λ x. (x.0, x.1.now)) result (version_at bytes.now) }
+{
+    let (version, rest) = two_at(bytes)?;
+    if is_version(u32::from(version)) {
+        Ok((version, rest))
+    } else {
+        Err(bad(bytes))
+    }
+}
+
 /// A byte below the limit; another is bad.
 #[tactic(auto, unfolding(crate::specs::Reading::below_at))]
 pub fn below_at(limit: u32, bytes: &[u8]) -> Result<(u8, &[u8]), Stop>
@@ -85,5 +116,40 @@ pub fn with_item<T: Drop>(kept: Option<Items<T>>, item: T) -> Option<Items<T>>
     match items.push(item) {
         Ok(()) => Some(items),
         Err(_refused) => None,
+    }
+}
+
+/// Writes a byte.
+///
+/// # Errors
+/// A growth was refused.
+pub fn put_byte(out: &mut Vec<u8>, number: u8) -> Result<(), AllocError>
+    ensures { OnOk result (Writes ℕ (λ n. n < 256) (λ n. one n ∷ []) out.old.items out.new.items number) }
+{
+    out.push(number)?;
+    Ok(())
+}
+
+/// Writes a number of two bytes, the high one first.
+///
+/// # Errors
+/// A growth was refused.
+pub fn put_two(out: &mut Vec<u8>, number: u16) -> Result<(), AllocError>
+    ensures { OnOk result (Writes ℕ (λ n. n < 2 ^ 16) (λ n. two n ∷ []) out.old.items out.new.items number) }
+{
+    out.extend_from_slice(&number.to_be_bytes())?;
+    Ok(())
+}
+
+/// Writes an effect: 0 reads, 1 writes.
+///
+/// # Errors
+/// A growth was refused.
+pub fn put_effect(out: &mut Vec<u8>, effect: Effect) -> Result<(), AllocError>
+    ensures { OnOk result (Writes Effect (λ e. Unit {0}) (λ e. effect_field e ∷ []) out.old.items out.new.items effect) }
+{
+    match effect {
+        Effect::Read => put_byte(out, 0),
+        Effect::Write => put_byte(out, 1),
     }
 }

@@ -7,43 +7,17 @@ ghost use Rattle.asl_code.specs.declared.image.Function.{Function};
 ghost use Rattle.asl_code.specs.declared.instr.Instr.{Instr};
 ghost use Rattle.asl_code.specs.declared.lock.Lock.{Lock};
 ghost use Rattle.asl_code.specs.declared.value.Effect.{Effect};
-ghost use Rattle.asl_loader.specs.Reading.{Gives, Keeps, IsKept, byte_at, number_at, below_at, magic_at, version_at, instr_at};
-ghost use Rattle.asl_loader.specs.Reading.{function_at, effect_at, op_at, items_at, counted_at, path_at, expr_at, lock_of};
+ghost use Rattle.asl_loader.specs.Reading.{Gives, Keeps, IsKept, byte_at, number_at, instr_at};
+ghost use Rattle.asl_loader.specs.Reading.{function_at, op_at, items_at, counted_at, path_at, expr_at, lock_of};
 ghost use Rattle.asl_loader.specs.Reading.{lock_at, list_at, image_at};
 
 use crate::fault::Stop;
-use crate::parts::{bad, below_at, byte_at, effect_at, four_at, two_at, with_item};
-use asl_code::{
-    Base, Effect, Expr, Function, Image, Instr, Items, Lock, Op, Path, get_instr, is_version,
-};
+use crate::parts::{below_at, byte_at, effect_at, letters_at, two_at, version_at, with_item};
+use asl_code::{Base, Effect, Expr, Function, Image, Instr, Items, Lock, Op, Path, get_instr};
 use std::alloc::Global;
 
 /// The four letters at the front of an image, as a number.
-const MAGIC: u32 = 0x4153_4c4d;
-
-#[tactic(auto, unfolding(crate::specs::Reading::magic_at))]
-fn magic_at(bytes: &[u8]) -> Result<(u32, &[u8]), Stop>
-    ensures { Gives (λ x. (x.0, x.1.now)) result (magic_at bytes.now) }
-{
-    let (magic, rest) = four_at(bytes)?;
-    if magic == MAGIC {
-        Ok((magic, rest))
-    } else {
-        Err(bad(bytes))
-    }
-}
-
-#[tactic(auto, unfolding(crate::specs::Reading::version_at))]
-fn version_at(bytes: &[u8]) -> Result<(u16, &[u8]), Stop>
-    ensures { Gives (λ x. (x.0, x.1.now)) result (version_at bytes.now) }
-{
-    let (version, rest) = two_at(bytes)?;
-    if is_version(u32::from(version)) {
-        Ok((version, rest))
-    } else {
-        Err(bad(bytes))
-    }
-}
+const LETTERS: u32 = 0x4153_4c4d;
 
 fn instr_at(bytes: &[u8]) -> Result<(Instr, &[u8]), Stop>
     ensures { Gives (λ x. (x.0, x.1.now)) result (instr_at bytes.now) }
@@ -249,7 +223,7 @@ fn lists_of(
 pub(crate) fn image_at(alloc: Global, bytes: &[u8]) -> Result<(Option<Image>, &[u8]), Stop>
     ensures { Keeps (λ x. x.0) (λ x. x.1.now) result (image_at bytes.now) }
 {
-    let (_magic, rest) = magic_at(bytes)?;
+    let (_letters, rest) = letters_at(LETTERS, bytes)?;
     let (version, rest) = version_at(rest)?;
     let (classes, rest) = two_at(rest)?;
     let (count, rest) = two_at(rest)?;

@@ -6,14 +6,14 @@ ghost use Rattle.asl_code.specs.declared.image.Function.{Function};
 ghost use Rattle.asl_code.specs.declared.instr.Instr.{Instr};
 ghost use Rattle.asl_code.specs.declared.lock.Lock.{Lock};
 ghost use Rattle.asl_code.specs.declared.path.Op.{Op};
-ghost use Rattle.asl_code.specs.declared.value.Effect.{Effect};
 ghost use Rattle.asl_code.specs.Spelling.{IsInstr};
-ghost use Rattle.asl_loader.specs.Bytes.{one, two, counted, class_fields, function_fields, instr_fields};
-ghost use Rattle.asl_loader.specs.Bytes.{effect_field, op_fields, path_fields, lock_fields, list_fields};
+ghost use Rattle.asl_loader.specs.Bytes.{counted, class_fields, function_fields, instr_fields};
+ghost use Rattle.asl_loader.specs.Bytes.{op_fields, path_fields, lock_fields, list_fields};
 ghost use Rattle.asl_loader.specs.Bytes.{IsFunction, IsOp, IsPath, IsLock, IsList, AreItems, SpellsImage};
 ghost use Rattle.asl_loader.specs.Writing.{Writes, WritesEach, HasFields};
 
-use asl_code::{Base, Effect, Function, Image, Instr, Items, Lock, Op, Path, Program, put_instr};
+use crate::parts::{put_byte, put_effect, put_two};
+use asl_code::{Base, Function, Image, Instr, Items, Lock, Op, Path, Program, put_instr};
 use std::alloc::{AllocError, Global};
 
 /// The bytes of the program.
@@ -38,20 +38,6 @@ fn put_image(out: &mut Vec<u8>, image: &Image) -> Result<(), AllocError>
     put_two(out, image.start)?;
     put_code(out, image.code.as_slice())?;
     put_lists(out, image.lists.as_slice())
-}
-
-fn put_byte(out: &mut Vec<u8>, n: u8) -> Result<(), AllocError>
-    ensures { OnOk result (Writes ℕ (λ n. n < 256) (λ n. one n ∷ []) out.old.items out.new.items n) }
-{
-    out.push(n)?;
-    Ok(())
-}
-
-fn put_two(out: &mut Vec<u8>, n: u16) -> Result<(), AllocError>
-    ensures { OnOk result (Writes ℕ (λ n. n < 2 ^ 16) (λ n. two n ∷ []) out.old.items out.new.items n) }
-{
-    out.extend_from_slice(&n.to_be_bytes())?;
-    Ok(())
 }
 
 fn put_globals(out: &mut Vec<u8>, globals: &[u16]) -> Result<(), AllocError>
@@ -190,15 +176,6 @@ fn put_lock(out: &mut Vec<u8>, lock: &Lock) -> Result<(), AllocError>
                 put_path(out, &expr.path)
             }
         },
-    }
-}
-
-fn put_effect(out: &mut Vec<u8>, effect: Effect) -> Result<(), AllocError>
-    ensures { OnOk result (Writes Effect (λ e. Unit {0}) (λ e. effect_field e ∷ []) out.old.items out.new.items effect) }
-{
-    match effect {
-        Effect::Read => put_byte(out, 0),
-        Effect::Write => put_byte(out, 1),
     }
 }
 

@@ -8,17 +8,17 @@ ghost use Rattle.asl_runner.specs.Turning.{AfterTurn, IsAt, IsReadyAt};
 use crate::gate::Gate;
 use crate::locked::Steps;
 use asl_code::NEWEST_LIMITS;
-use asl_journal::{JournalFault, Receipt};
+use asl_journal::{EVENT_LIMIT, JournalFault, Receipt};
 use asl_machine::Reply;
 use asl_turns::{TurnSeat, Turns};
 use std::alloc::Global;
 use std::sync::Wait;
 
 /// No journal has an entry with this number.
-const NO_ENTRY: u32 = 16_777_216;
+const NO_ENTRY: u32 = EVENT_LIMIT as u32;
 
 /// How many threads a run has at most.
-const MOST_THREADS: usize = NEWEST_LIMITS.threads as usize;
+const THREAD_LIMIT: usize = NEWEST_LIMITS.threads as usize;
 
 /// Which worker it is, of how many, and how many threads there are: its threads are those t with t mod workers = worker.
 #[derive(Clone, Copy, Drop)]
@@ -34,7 +34,7 @@ pub struct Post {
 pub struct Working {
     pub seat: TurnSeat,
     pub receipts: Vec<Receipt>,
-    pub going: [bool; MOST_THREADS],
+    pub going: [bool; THREAD_LIMIT],
     pub from: u32,
 }
 
@@ -55,7 +55,7 @@ enum Next {
 }
 
 /// The first of the worker's threads from low to below high that goes on.
-fn first_going(post: Post, going: &[bool; MOST_THREADS], low: u32, high: u32) -> Option<u8>
+fn first_going(post: Post, going: &[bool; THREAD_LIMIT], low: u32, high: u32) -> Option<u8>
     requires high { high ≤ newest_threads }
     requires some { 0 < post.workers }
     ensures { MatchOption result
@@ -71,7 +71,7 @@ fn first_going(post: Post, going: &[bool; MOST_THREADS], low: u32, high: u32) ->
 }
 
 /// A thread of the worker that goes on, in turn from the number on.
-fn next_thread(post: Post, going: &[bool; MOST_THREADS], from: u32) -> Option<u8>
+fn next_thread(post: Post, going: &[bool; THREAD_LIMIT], from: u32) -> Option<u8>
     requires count { post.count ≤ newest_threads }
     requires some { 0 < post.workers }
     ensures { MatchOption result
@@ -171,11 +171,11 @@ pub fn run_worker<R: Wait, S: Steps, G: Gate>(
 }
 
 /// All threads go on.
-fn all_going() -> [bool; MOST_THREADS]
+fn all_going() -> [bool; THREAD_LIMIT]
     ensures count { length result ≡ newest_threads }
     ensures each { (t : ℕ) → t < newest_threads → slice_get result t ≡ Some true }
 {
-    [true; MOST_THREADS]
+    [true; THREAD_LIMIT]
 }
 
 /// What the worker leaves.

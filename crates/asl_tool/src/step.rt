@@ -6,11 +6,8 @@ ghost use Rattle.asl_tool.specs.Step.{AllThere, IsSchedule, IsRecord, IsRefusedR
 
 use crate::replies::push_line;
 use asl_code::Program;
-use asl_journal::{Event, Journal, JournalFault, Journaled};
+use asl_journal::{EVENT_LIMIT, Event, Journal, JournalFault, Journaled};
 use std::alloc::{AllocError, Global};
-
-/// How many steps a journal has at most.
-const MOST_STEPS: usize = 16_777_216;
 
 /// The journal of the program's run over the schedule. The schedule is judged before the first step.
 pub fn record_run(
@@ -37,11 +34,11 @@ fn judge(threads: u32, schedule: &[u32], program: &Program) -> Result<(), Journa
     if threads == 0 || threads > program.limits().threads {
         return Err(JournalFault::BadCount);
     }
-    let most = schedule.len().min(MOST_STEPS);
+    let most = schedule.len().min(EVENT_LIMIT);
     if !all_there(threads, &schedule[..most]) {
         return Err(JournalFault::BadThread);
     }
-    if schedule.len() > MOST_STEPS {
+    if schedule.len() > EVENT_LIMIT {
         return Err(JournalFault::JournalFull);
     }
     Ok(())
