@@ -6,7 +6,8 @@ use Rattle.asl_grammar.specs.declared.control.Operator.TheVariants.{Add, Subtrac
 use Rattle.asl_grammar.specs.Token.{Token, Fixed, Name}
 use Rattle.asl_grammar.specs.Written.{Literal, NullValue, Copied, Binary, GlobalAddress, FieldAddress, Loaded, Created, Line, Assigns, Calls, Stores, Shows, Stmt, Simple, IfStmt, WhileStmt, AtomicStmt, Block, End, More, Else, NoElse, Otherwise, Function, Item, GlobalItem, FunctionItem}
 use Rattle.asl_grammar.specs.Spelling.{later_names_on, names_on, line_on, stmt_on, block_on, else_on, function_on, item_on, program_on}
-use Rattle.asl_grammar.specs.Automaton.{Control, FirstParameter, AfterParameter, BodyStart, StatementStart, AfterThen, FirstArgument, AfterArgument, CallEnd, Header, ThenBlock, ElseBlock, WhileBlock, AtomicBlock, Frame, Stack, State, state_of, to_block, settle, run}
+use Rattle.asl_grammar.specs.Automaton.{Control, FirstParameter, AfterParameter, BodyStart, StatementStart, AfterThen, FirstArgument, AfterArgument, CallEnd}
+use Rattle.asl_grammar.proofs.Stacks.{Header, ThenBlock, ElseBlock, WhileBlock, AtomicBlock, Frame, Stack, State, state_of, to_block, settle, run}
 
 -- inside a function: no call is open and no `if` waits
 abbrev pub stack_in : List Item → List ℕ → List (List ℕ) → List Stmt → List Frame → Stack

@@ -7,9 +7,11 @@ use Rattle.asl_grammar.specs.declared.control.Kind.TheVariants.{Inner}
 use Rattle.asl_grammar.specs.Token.{Token, Fixed, Spot}
 use Rattle.asl_grammar.specs.Written.{Block, Item}
 use Rattle.asl_grammar.specs.Spelling.{program_on}
-use Rattle.asl_grammar.specs.Automaton.{Opening, OfIf, OfElse, OfWhile, OfAtomic, Control, ItemStart, AfterThen, Act, Keep, Declare, Start, Parameter, Argument, Emit, EmitCall, Begin, Close, Finish, step, Frame, Stack, State, state_of, apply, close_frames, else_header, kind_of, header_kind, ready, ready_then, moved, next_ready, next, run, run_with, whole, whole_at}
+use Rattle.asl_grammar.specs.Automaton.{Opening, OfIf, OfElse, OfWhile, OfAtomic, Control, ItemStart, AfterThen, Act, Keep, Declare, Start, Parameter, Argument, Emit, EmitCall, Begin, Close, Finish, step}
+use Rattle.asl_grammar.proofs.Stacks.{Frame, Stack, State, state_of, apply, close_frames, else_header, kind_of, header_kind, ready, ready_then, moved, next_ready, next, run, run_with, whole, whole_at}
 use Rattle.asl_grammar.specs.Grammar.{IsProgram, IsViable, IsGrammarFault, bare, Judges}
-use Rattle.asl_grammar.specs.Seen.{Place, start_place, innermost, settled, settled_by, opening_kind, outer_kinds, kinds_after, placed, next_place, fault_at_end, fault_with, fault_from}
+use Rattle.asl_grammar.specs.Seen.{Place, innermost, settled, settled_by, opening_kind, outer_kinds, kinds_after, placed, next_place, fault_at_end}
+use Rattle.asl_grammar.proofs.Stopping.{start_place, fault_with, fault_from}
 use Rattle.asl_grammar.proofs.Complete.{run_program}
 use Rattle.asl_grammar.proofs.Sound.{Fits, Kept, run_keeps}
 use Rattle.asl_grammar.proofs.Viable.{CanEnd, can_end, run-append}

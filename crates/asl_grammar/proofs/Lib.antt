@@ -1,8 +1,11 @@
+pub mod Stopping
+pub mod Stacks
 pub mod Complete
 pub mod Sound
 pub mod Scan
 pub mod Viable
 pub mod Judged
+pub mod Deepening
 pub mod Reading
 pub mod Real
 pub mod Apart

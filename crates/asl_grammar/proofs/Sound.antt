@@ -6,7 +6,8 @@ use Rattle.asl_grammar.specs.declared.control.Kind.TheVariants.{Body, Then, Inne
 use Rattle.asl_grammar.specs.Token.{Token, Fixed, Name, Number}
 use Rattle.asl_grammar.specs.Written.{Copied, GlobalAddress, Assigns, Calls, Stmt, Simple, IfStmt, Block, NoElse, Item, GlobalItem}
 use Rattle.asl_grammar.specs.Spelling.{symbol_of, later_names_on, names_on, line_on, stmt_on, block_on, item_on, program_on}
-use Rattle.asl_grammar.specs.Automaton.{Opening, OfIf, OfElse, OfWhile, OfAtomic, Control, ItemStart, AfterGlobal, GlobalNamed, AfterFn, FunctionNamed, FirstParameter, AfterParameter, NextParameter, BodyStart, StatementStart, AfterThen, Target, AfterBecomes, AfterMinus, AfterValue, AfterOperator, AfterAmpersand, AfterAddress, AfterBracket, AfterIndex, AfterStar, AfterNew, FirstArgument, AfterArgument, NextArgument, CallEnd, LineEnd, StoreStart, StoreTarget, StoreValue, AfterOut, AfterIf, AfterWhile, AfterHeader, AfterReturn, Returned, BodyEnd, Act, Begin, Close, step, Header, ThenBlock, ElseBlock, WhileBlock, AtomicBlock, Part, Frame, Stack, State, no_part, to_block, settle, put, push, else_header, close_frames, closed, function_of, apply, kind_of, header_kind, ready, ready_then, moved, next_ready, next, run, run_with}
+use Rattle.asl_grammar.specs.Automaton.{Opening, OfIf, OfElse, OfWhile, OfAtomic, Control, ItemStart, AfterGlobal, GlobalNamed, AfterFn, FunctionNamed, FirstParameter, AfterParameter, NextParameter, BodyStart, StatementStart, AfterThen, Target, AfterBecomes, AfterMinus, AfterValue, AfterOperator, AfterAmpersand, AfterAddress, AfterBracket, AfterIndex, AfterStar, AfterNew, FirstArgument, AfterArgument, NextArgument, CallEnd, LineEnd, StoreStart, StoreTarget, StoreValue, AfterOut, AfterIf, AfterWhile, AfterHeader, AfterReturn, Returned, BodyEnd, Act, Begin, Close, step}
+use Rattle.asl_grammar.proofs.Stacks.{Header, ThenBlock, ElseBlock, WhileBlock, AtomicBlock, Part, Frame, Stack, State, no_part, to_block, settle, put, push, else_header, close_frames, closed, function_of, apply, kind_of, header_kind, ready, ready_then, moved, next_ready, next, run, run_with}
 
 -- the tokens of a list of statements
 abbrev pub stmts_on : List Stmt → List Token → List Token

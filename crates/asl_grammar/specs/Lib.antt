@@ -3,6 +3,7 @@ pub mod Written
 pub mod Spelling
 pub mod Lex
 pub mod Grammar
+pub mod Depth
 pub mod View
 pub mod Bytes
 pub mod Readings

@@ -1,21 +1,17 @@
 -- Machinery of the proofs, not of the promise: the automaton of docs/SOURCE.md's grammar without the trees: the control
 -- and the kinds of the open blocks, and where it stops. What contracts about texts say of the place is `IsGrammarFault`
 -- of specs/Grammar.
-use Rattle.std.specs.Prelude.{ℕ, List, [], ◌∷◌, Option, Some, None}
+use Rattle.std.specs.Prelude.{ℕ, ◌≤◌, List, [], ◌∷◌, Option, Some, None, length}
 use Rattle.asl_grammar.specs.declared.token.Mark.TheVariants as mark
 use Rattle.asl_grammar.specs.declared.control.Kind.{Kind}
 use Rattle.asl_grammar.specs.declared.control.Kind.TheVariants.{Body, Then, Inner}
-use Rattle.asl_grammar.specs.Token.{Token, Fixed, Spot}
+use Rattle.asl_grammar.specs.Token.{Token, Fixed}
 use Rattle.asl_grammar.specs.Automaton.{Opening, OfIf, OfElse, OfWhile, OfAtomic, Control, ItemStart, StatementStart, AfterThen, Act, Begin, Close, step}
 
 -- a control, and the kinds of the open blocks, the innermost first
 pub record Place : Type 0 where
   pub control : Control
   pub kinds : List Kind
-
--- before a program
-abbrev pub start_place : Place
-start_place = record { control = ItemStart; kinds = [] }
 
 -- the kind of the innermost block
 abbrev pub innermost : List Kind → Kind
@@ -50,6 +46,16 @@ kinds_after (Begin o) ks = opening_kind o ∷ ks
 kinds_after Close ks = outer_kinds ks
 kinds_after _ ks = ks
 
+-- an act opens a block
+abbrev pub IsBegin : Act → Type 0
+IsBegin (Begin o) = Unit {0}
+IsBegin _ = ⊥
+
+-- a step, if there is one, opens a block where 64 are open
+abbrev pub OpensFull : Option (Control × Act) → List Kind → Type 0
+OpensFull None ks = ⊥
+OpensFull (Some (c, a)) ks = IsBegin a × (64 ≤ length ks)
+
 -- a step, if there is one
 abbrev pub placed : Option (Control × Act) → List Kind → Option Place
 placed None ks = None
@@ -59,17 +65,11 @@ placed (Some (c, a)) ks = Some (record { control = c; kinds = kinds_after a ks }
 abbrev pub next_place : Place → Token → Option Place
 next_place p t = placed (step (settled p.control t) (innermost p.kinds) t) p.kinds
 
+-- the token opens a block where 64 are open
+abbrev pub IsFull : Place → Token → Type 0
+IsFull p t = OpensFull (step (settled p.control t) (innermost p.kinds) t) p.kinds
+
 -- a program may end only before an item
 abbrev pub fault_at_end : Control → ℕ → Option ℕ
 fault_at_end ItemStart end = None
 fault_at_end _ end = Some end
-
--- the place itself, or what is answered behind a token
-abbrev pub fault_with : Option Place → ℕ → (Place → Option ℕ) → Option ℕ
-fault_with None at go = Some at
-fault_with (Some p) at go = go p
-
--- the place where tokens stop being the beginning of a program, from a place on
-abbrev pub fault_from : Place → List Spot → ℕ → Option ℕ
-fault_from p [] end = fault_at_end p.control end
-fault_from p (s ∷ ss) end = fault_with (next_place p s.token) s.at (λ q. fault_from q ss end)

@@ -19,8 +19,9 @@ pub enum Operator {
 }
 
 /// What the innermost open block is: the body of a function, the block of an `if`, or another.
-#[derive(Clone, Copy)]
+#[derive(Clone, Copy, Default)]
 pub enum Kind {
+    #[default]
     Body,
     Then,
     Inner,

@@ -2,6 +2,7 @@
 #![tactic(auto)]
 
 pub mod control;
+mod kinds;
 pub mod laws;
 pub mod lexer;
 pub mod recognizer;

@@ -1,28 +1,20 @@
 //! Telling whether tokens are a program, and where they stop being the beginning of one.
 
-ghost use Rattle.std.specs.Prelude.{◌≡◌, length, reverse, IfOk};
+ghost use Rattle.std.specs.Prelude.{◌≡◌, ◌≤◌, length, reverse, IfOk, OnErr};
 ghost use Rattle.std.specs.Option.{option_map};
 ghost use Rattle.asl_grammar.specs.Lex.{tokens_of};
-ghost use Rattle.asl_grammar.specs.Seen.{innermost, settled, kinds_after, next_place, fault_at_end};
+ghost use Rattle.asl_grammar.specs.Seen.{settled, kinds_after, next_place, fault_at_end, IsBegin, IsFull};
 ghost use Rattle.asl_grammar.specs.View.{token_of};
 ghost use Rattle.asl_grammar.specs.ControlView.{control_of, act_of};
-ghost use Rattle.asl_grammar.specs.SeenView.{place_in};
+ghost use Rattle.asl_grammar.specs.SeenView.{kinds_in, place_in};
 ghost use Rattle.asl_grammar.specs.Grammar.{Judges};
+ghost use Rattle.asl_grammar.specs.Depth.{IsDeep};
 
 use crate::control::{Act, Control, Kind, Opening, step};
+use crate::kinds::Kinds;
 use crate::lexer::{Found, Tokens};
 use crate::token::{Mark, Token};
 use std::alloc::{AllocError, Global};
-
-/// The kind of the innermost open block, the last of `kinds`.
-fn innermost(kinds: &[Kind]) -> Kind
-    ensures { result ≡ innermost (reverse kinds.now) }
-{
-    match kinds.last() {
-        Some(kind) => *kind,
-        None => Kind::Body,
-    }
-}
 
 /// The control behind the block of an `if`, once the next token is known: only an `else` belongs to the `if`.
 #[inline(always)]
@@ -39,15 +31,14 @@ pub fn settled<'t>(control: Control<'t>, token: Token<'t>) -> Control<'t>
 }
 
 /// Opens or closes a block.
-fn nest(kinds: &mut Vec<Kind>, act: Act<'_>) -> Result<(), AllocError>
-    ensures { IfOk result (λ _. reverse kinds.new.items ≡ kinds_after (act_of act.entry) (reverse kinds.old.items)) }
+fn nest(kinds: &mut Kinds, act: Act<'_>) -> Result<(), AllocError>
+    ensures ok { IfOk result (λ _. reverse (kinds_in kinds.new) ≡ kinds_after (act_of act.entry) (reverse (kinds_in kinds.old))) }
+    ensures err { OnErr result (IsBegin (act_of act.entry) × (64 ≤ length (kinds_in kinds.old))) }
 {
     match act {
         Act::Begin(Opening::OfIf(_)) => kinds.push(Kind::Then)?,
         Act::Begin(_) => kinds.push(Kind::Inner)?,
-        Act::Close => {
-            let _ = kinds.pop();
-        }
+        Act::Close => kinds.pop(),
         _ => {}
     }
     Ok(())
@@ -56,13 +47,14 @@ fn nest(kinds: &mut Vec<Kind>, act: Act<'_>) -> Result<(), AllocError>
 /// The control behind a token, or nothing where no program goes on with it.
 fn advance<'t>(
     control: Control<'t>,
-    kinds: &mut Vec<Kind>,
+    kinds: &mut Kinds,
     token: Token<'t>,
 ) -> Result<Option<Control<'t>>, AllocError>
-    ensures { IfOk result (λ next. option_map (λ c. place_in c kinds.new.items) next
-        ≡ next_place (place_in control.entry kinds.old.items) (token_of token.entry)) }
+    ensures ok { IfOk result (λ next. option_map (λ c. place_in c (kinds_in kinds.new)) next
+        ≡ next_place (place_in control.entry (kinds_in kinds.old)) (token_of token.entry)) }
+    ensures err { OnErr result (IsFull (place_in control.entry (kinds_in kinds.old)) (token_of token.entry)) }
 {
-    match step(settled(control, token), innermost(kinds), token) {
+    match step(settled(control, token), kinds.innermost(), token) {
         None => Ok(None),
         Some(transition) => {
             nest(kinds, transition.act)?;
@@ -84,12 +76,14 @@ fn fault_at_end(control: Control<'_>, end: usize) -> Option<usize>
 /// The place of the first token with which no program goes on, or the text's length where it stops too early; nothing
 /// where the tokens are a program.
 ///
-/// A text is read up to its first place where no token stands. Takes a byte of memory for each open block.
+/// A text is read up to its first place where no token stands. Takes memory only where more than 64 blocks are open at
+/// once, a byte for each of the others.
 pub fn first_fault(alloc: Global, text: &[u8]) -> Result<Option<usize>, AllocError>
-    ensures { IfOk result (Judges (tokens_of text.now) (length text.now)) }
+    ensures ok { IfOk result (Judges (tokens_of text.now) (length text.now)) }
+    ensures err { OnErr result (IsDeep (tokens_of text.now)) }
 {
     let mut tokens = Tokens::new(text);
-    let mut kinds = Vec::new(alloc);
+    let mut kinds = Kinds::new(alloc);
     let mut control = Control::ItemStart;
     'reading: while let Found::Token(spot) = tokens.next() {
         match advance(control, &mut kinds, spot.token)? {

@@ -117,14 +117,18 @@ fn first_fault_is_named(rt: HostRuntime) -> Result<(), Fail> {
 }
 
 /// Under an allocator that refuses some growth, a refused call answers so, and made again it answers as ever.
+/// 70 blocks in one another, in a function that returns nothing.
+const DEEP: &str =
+    "fn f(a){if a{if a{if a{if a{if a{if a{if a{if a{if a{if a{if a{if a{if a{if a{if a{if a{if a{if a{if a{if a{if a{if a{if a{if a{if a{if a{if a{if a{if a{if a{if a{if a{if a{if a{if a{if a{if a{if a{if a{if a{if a{if a{if a{if a{if a{if a{if a{if a{if a{if a{if a{if a{if a{if a{if a{if a{if a{if a{if a{if a{if a{if a{if a{if a{if a{if a{if a{if a{if a{if a{}}}}}}}}}}}}}}}}}}}}}}}}}}}}}}}}}}}}}}}}}}}}}}}}}}}}}}}}}}}}}}}}}}}}}}}";
+
 #[test]
 fn want_of_memory_is_answered(rt: HostRuntime) -> Result<(), Fail> {
-    let text = b"fn f(a){if a{if a{if a{if a{if a{if a{if a{if a{if a{}}}}}}}}}}";
+    let text = DEEP.as_bytes();
     let place = match first_fault(rt.alloc(), text) {
         Err(_error) => first_fault(rt.alloc(), text)?,
         Ok(place) => place,
     };
-    assert!(rt; place == Some(62));
+    assert!(rt; place == Some(428));
     Ok(())
 }
 

@@ -78,3 +78,17 @@ fn faults_are_told(rt: HostRuntime) {
     assert!(rt; arity == Some(SyntaxFault::Arity(12)));
     assert!(rt; grammar == Some(SyntaxFault::Grammar(23)));
 }
+
+/// A function with 64 braces open, and a token that may not stand there.
+const DEEP: &str =
+    "fn f(a){if a{if a{if a{if a{if a{if a{if a{if a{if a{if a{if a{if a{if a{if a{if a{if a{if a{if a{if a{if a{if a{if a{if a{if a{if a{if a{if a{if a{if a{if a{if a{if a{if a{if a{if a{if a{if a{if a{if a{if a{if a{if a{if a{if a{if a{if a{if a{if a{if a{if a{if a{if a{if a{if a{if a{if a{if a{if a{if a{if a{if a{if a{if a{;";
+
+#[test]
+fn want_of_memory_hides_no_line_and_no_limit(rt: HostRuntime) {
+    let short = parse(rt.alloc(), b"fn f(a){if a{if a{if a{").err();
+    let deep = parse(rt.alloc(), DEEP.as_bytes()).err();
+    let limit = parse(rt.alloc(), b"fn f(a,b,c,d,e){return a;}").err();
+    assert!(rt; short == Some(SyntaxFault::Grammar(23)));
+    assert!(rt; deep == Some(SyntaxFault::Grammar(323)));
+    assert!(rt; limit == Some(SyntaxFault::Limit(13)));
+}

@@ -1,27 +1,60 @@
--- One token of the builder's loop.
-use Rattle.std.proofs.Common.{◌≡◌, List, ◌∷◌, Option, Some, None, sym, ap, ◌∙◌, subst}
+-- One token of the builder's loop, and what the whole loop tells of a text.
+use Rattle.std.proofs.Common.{◌≡◌, ℕ, List, [], ◌∷◌, Bool, true, false, Option, Some, None, if◌then◌else◌, refl, sym, ap, ◌∙◌}
 use Rattle.asl_grammar.specs.Token.{Spot}
-use Rattle.asl_grammar.specs.Automaton.{Control, Act, step}
-use Rattle.asl_grammar.specs.Seen.{settled}
+use Rattle.asl_grammar.specs.Automaton.{Control}
 use Rattle.asl_syntax.specs.Tree.{Item}
-use Rattle.asl_syntax.specs.Built.{Stack, State, apply, kind_of, ready, moved, next, built_with, built_from}
-use Rattle.asl_syntax.specs.Fits.{ActsFit-with, ActsFit}
+use Rattle.asl_syntax.specs.Limit.{Tally, is_over}
+use Rattle.asl_syntax.specs.Tallied.{noted, over_from}
+use Rattle.asl_syntax.specs.Built.{Stack, State, next, built_with, whole_at, whole_text, read_from}
+use Rattle.asl_syntax.proofs.Whole.{built_from}
+
+-- from one token within the limits on
+pub read_on : (y : Tally) (c : Control) (s : Stack) (x : Spot) (xs : List Spot) (bad : Option ℕ) → is_over y x.token ≡ false → read_from y c s (x ∷ xs) bad ≡ built_with (next c s x.token) (λ d r. read_from (noted y x.token) d r xs bad)
+read_on y c s x xs bad h =
+    ap (λ (b : Bool). if b then None else built_with (next c s x.token) (λ d r. read_from (noted y x.token) d r xs bad)) h
 
 -- what is left builds the same
-pub same_next : (c d : Control) (s r : Stack) (x : Spot) (all : Option (List Item)) (rest left : List Spot) → built_from c s rest ≡ all → rest ≡ x ∷ left → Some (record { control = d; stack = r }) ≡ next c s x.token → built_from d r left ≡ all
-same_next c d s r x all rest left h e n =
-    ap (λ (o : Option State). built_with o (λ f q. built_from f q left)) n ∙ ap (built_from c s) (sym e) ∙ h
+pub same_next : (y z : Tally) (c d : Control) (s r : Stack) (x : Spot) (all : Option (List Item)) (rest left : List Spot) (bad after : Option ℕ) → read_from y c s rest bad ≡ all → rest ≡ x ∷ left → bad ≡ after → is_over y x.token ≡ false → Some (record { control = d; stack = r }) ≡ next c s x.token → z ≡ noted y x.token → read_from z d r left after ≡ all
+same_next y z c d s r x all rest left bad after h e b o n f =
+    ap (λ (t : Tally). read_from t d r left after) f
+    ∙ ap (λ (p : Option State). built_with p (λ g q. read_from (noted y x.token) g q left after)) n
+    ∙ sym (read_on y c s x left after o)
+    ∙ ap (λ (p : Option ℕ). read_from y c s (x ∷ left) p) (sym b)
+    ∙ ap (λ (ss : List Spot). read_from y c s ss bad) (sym e)
+    ∙ h
 
-moved_fits : (o : Option (Control × Act)) (q : Stack) (d : Control) (r : Stack) (go : Control → Stack → Type 0) → ActsFit-with o q go → Some (record { control = d; stack = r }) ≡ moved o q → go d r
-moved_fits None q d r go h e = cc
-moved_fits (Some (f, a)) q d r go h e =
-    let P : State → Type 0 = λ w. go w.control w.stack in
-    let g : record { control = f; stack = apply a q } ≡ record { control = d; stack = r } = cc in
-    subst P g h.1
+-- a text that is read keeps all that reading asks
+pub record IsReadWhole (y : Tally) (c : Control) (s : Stack) (xs : List Spot) (bad : Option ℕ) (v : List Item) : Type 0 where
+  pub tokens : bad ≡ None
+  pub limits : over_from y xs ≡ None
+  pub built : built_from c s xs ≡ Some v
 
--- and fits
-pub fits_next : (c d : Control) (s r : Stack) (x : Spot) (rest left : List Spot) → ActsFit c s rest → rest ≡ x ∷ left → Some (record { control = d; stack = r }) ≡ next c s x.token → ActsFit d r left
-fits_next c d s r x rest left h e n =
-    let P : List Spot → Type 0 = λ ss. ActsFit c s ss in
-    let q = ready c x.token s in
-    moved_fits (step (settled c x.token) (kind_of q.frames) x.token) q d r (λ f p. ActsFit f p left) (subst P e h) n
+at_end : (y : Tally) (c : Control) (s : Stack) (bad : Option ℕ) (v : List Item) → whole_text c s bad ≡ Some v → IsReadWhole y c s [] bad v
+at_end y c s None v e = record { tokens = refl; limits = refl; built = e }
+at_end y c s (Some at) v e = cc
+
+-- behind a token
+abbrev Goes : Tally → Option State → List Spot → Option ℕ → List Item → Type 0
+Goes y o xs bad v = (bad ≡ None) × ((over_from y xs ≡ None) × (built_with o (λ d r. built_from d r xs) ≡ Some v))
+
+goes : (y : Tally) (o : Option State) (xs : List Spot) (bad : Option ℕ) (v : List Item) → ((d : Control) (r : Stack) → read_from y d r xs bad ≡ Some v → IsReadWhole y d r xs bad v) → built_with o (λ d r. read_from y d r xs bad) ≡ Some v → Goes y o xs bad v
+goes y None xs bad v go e = cc
+goes y (Some w) xs bad v go e =
+    let h = go w.control w.stack e in
+    (h.tokens, (h.limits, h.built))
+
+with_token : (y : Tally) (c : Control) (s : Stack) (x : Spot) (xs : List Spot) (bad : Option ℕ) (v : List Item) (b : Bool) → is_over y x.token ≡ b → (built_with (next c s x.token) (λ d r. read_from (noted y x.token) d r xs bad) ≡ Some v → Goes (noted y x.token) (next c s x.token) xs bad v) → (if b then None else built_with (next c s x.token) (λ d r. read_from (noted y x.token) d r xs bad)) ≡ Some v → IsReadWhole y c s (x ∷ xs) bad v
+with_token y c s x xs bad v true h go e = cc
+with_token y c s x xs bad v false h go e =
+    let g = go e in
+    record {
+      tokens = g.0;
+      limits = ap (λ (b : Bool). if b then Some x.at else over_from (noted y x.token) xs) h ∙ g.1.0;
+      built = g.1.1;
+    }
+
+pub read_whole : (xs : List Spot) (y : Tally) (c : Control) (s : Stack) (bad : Option ℕ) (v : List Item) → read_from y c s xs bad ≡ Some v → IsReadWhole y c s xs bad v
+read_whole [] y c s bad v e = at_end y c s bad v e
+read_whole (x ∷ xs) y c s bad v e =
+    with_token y c s x xs bad v (is_over y x.token) refl
+    (goes (noted y x.token) (next c s x.token) xs bad v (λ d r. read_whole xs (noted y x.token) d r bad v)) e

@@ -1,15 +1,16 @@
--- Where no limit is passed, what the automaton completes fits the code's tree.
-use Rattle.std.proofs.Common.{◌≡◌, ℕ, ◌≤◌, List, [], ◌∷◌, Bool, true, false, Option, Some, None, cond, ◌||◌, ◌==◌, nat_lt, length, refl, sym, ap, ◌∙◌}
+-- Behind a token that passes no limit, what the automaton completes fits the code's tree.
+use Rattle.std.proofs.Common.{◌≡◌, ℕ, ◌≤◌, true, false, Option, Some, None, ◌||◌, ◌==◌, nat_lt, length, refl, sym, ap, ◌∙◌, subst}
 use Rattle.std.proofs.lemmas.Bool.{ltb-false, or_parts}
 use Rattle.asl_grammar.specs.declared.token.Mark.TheVariants as mark
 use Rattle.asl_grammar.specs.declared.control.Kind.{Kind}
 use Rattle.asl_grammar.specs.declared.control.Kind.TheVariants.{Body, Then, Inner}
-use Rattle.asl_grammar.specs.Token.{Token, Fixed, Name, Number, Spot}
+use Rattle.asl_grammar.specs.Token.{Token, Fixed, Name, Number}
 use Rattle.asl_grammar.specs.Automaton.{Control, Act, ItemStart, AfterGlobal, GlobalNamed, AfterFn, FunctionNamed, FirstParameter, AfterParameter, NextParameter, BodyStart, StatementStart, AfterThen, Target, AfterBecomes, AfterMinus, AfterValue, AfterOperator, AfterAmpersand, AfterAddress, AfterBracket, AfterIndex, AfterStar, AfterNew, FirstArgument, AfterArgument, NextArgument, CallEnd, LineEnd, StoreStart, StoreTarget, StoreValue, AfterOut, AfterIf, AfterWhile, AfterHeader, AfterReturn, Returned, BodyEnd, step}
 use Rattle.asl_grammar.specs.Seen.{settled, settled_by}
-use Rattle.asl_syntax.specs.Built.{Stack, kind_of, ready, apply, no_stack}
-use Rattle.asl_syntax.specs.Limit.{tally_of, last_of, is_over, number_over, limit_from}
-use Rattle.asl_syntax.specs.Fits.{NameFits, LineFits, OpeningFits, ActFits, ActsFit-with, ActsFit}
+use Rattle.asl_syntax.specs.Built.{Stack, State, kind_of, ready, apply, moved, next}
+use Rattle.asl_syntax.specs.Limit.{Tally, is_over, number_over}
+use Rattle.asl_syntax.specs.Fits.{NameFits, LineFits, OpeningFits, ActFits, NextFits}
+use Rattle.asl_syntax.specs.Fits as fits
 
 -- those of a line so far; a number is to come behind the token that says its range
 abbrev pub ControlFits : Control → Option Token → Type 0
@@ -71,11 +72,11 @@ negative_fits last n e h = ltb-false 2147483648 n (ap (λ o. number_over o n) (s
 plain_fits : (last : Option Token) (n : ℕ) → last ≡ Some (Fixed mark.Becomes) → number_over last n ≡ false → n ≤ 2147483647
 plain_fits last n e h = ltb-false 2147483647 n (ap (λ o. number_over o n) (sym e) ∙ h)
 
-abbrev StepFits : Token → Option (Control × Act) → Type 0
-StepFits t None = Unit {0}
-StepFits t (Some (c, a)) = ControlFits c (Some t) × ActFits a
+abbrev StepKeeps : Token → Option (Control × Act) → Type 0
+StepKeeps t None = Unit {0}
+StepKeeps t (Some (c, a)) = ControlFits c (Some t) × ActFits a
 
-step_fits : (c : Control) (k : Kind) (t : Token) (last : Option Token) → ControlFits c last → TokenFits last t → StepFits t (step c k t)
+step_fits : (c : Control) (k : Kind) (t : Token) (last : Option Token) → ControlFits c last → TokenFits last t → StepKeeps t (step c k t)
 step_fits (AfterMinus x) k (Number n) last fits ok = ((fits.0, negative_fits last n fits.1 ok), tt)
 step_fits (AfterOperator x y o) k (Name z) last fits ok = ((fits.0, (fits.1, ok)), tt)
 step_fits (AfterAmpersand x) k (Name y) last fits ok = ((fits, ok), tt)
@@ -148,28 +149,34 @@ settled_fits : (c : Control) (t : Token) (last : Option Token) → ControlFits c
 settled_fits AfterThen t last f = settled_by_fits t last
 settled_fits _ t last f = f
 
-token_fits : (before : List Token) (t : Token) → is_over (tally_of before) t ≡ false → TokenFits (last_of before) t
-token_fits before (Fixed m) h = tt
-token_fits before (Name x) h = ltb-false 64 (length x) (or_parts _ _ h).0
-token_fits before (Number n) h = h
+token_fits : (y : Tally) (t : Token) → is_over y t ≡ false → TokenFits y.last t
+token_fits y (Fixed m) h = tt
+token_fits y (Name x) h = ltb-false 64 (length x) (or_parts _ _ h).0
+token_fits y (Number n) h = h
 
-not_over : (before : List Token) (s : Spot) (ss : List Spot) (b : Bool) → b ≡ is_over (tally_of before) s.token → cond b (Some s.at) (limit_from (s.token ∷ before) ss) ≡ None → (is_over (tally_of before) s.token ≡ false) × (limit_from (s.token ∷ before) ss ≡ None)
-not_over before s ss true e h = cc
-not_over before s ss false e h = (sym e, h)
+act_of_step : (t : Token) (o : Option (Control × Act)) → StepKeeps t o → fits.StepFits o
+act_of_step t None f = tt
+act_of_step t (Some (c, a)) f = f.1
 
-with_fits : (t : Token) (o : Option (Control × Act)) (r : Stack) (go : Control → Stack → Type 0) → StepFits t o → ((d : Control) (q : Stack) → ControlFits d (Some t) → go d q) → ActsFit-with o r go
-with_fits t None r go f h = tt
-with_fits t (Some (d, a)) r go f h = (f.1, h d (apply a r) f.0)
+-- what the step at a token keeps
+step_keeps : (c : Control) (s : Stack) (y : Tally) (t : Token) → ControlFits c y.last → is_over y t ≡ false → StepKeeps t (step (settled c t) (kind_of (ready c t s).frames) t)
+step_keeps c s y t f h =
+    step_fits (settled c t) (kind_of (ready c t s).frames) t y.last (settled_fits c t y.last f) (token_fits y t h)
 
-acts_fit_from : (ss : List Spot) (before : List Token) (c : Control) (s : Stack) → limit_from before ss ≡ None → ControlFits c (last_of before) → ActsFit c s ss
-acts_fit_from [] before c s h f = tt
-acts_fit_from (x ∷ xs) before c s h f =
-    let n = not_over before x xs (is_over (tally_of before) x.token) refl h in
-    let r = ready c x.token s in
-    with_fits x.token (step (settled c x.token) (kind_of r.frames) x.token) r (λ d q. ActsFit d q xs)
-    (step_fits (settled c x.token) (kind_of r.frames) x.token (last_of before) (settled_fits c x.token (last_of before) f) (token_fits before x.token n.0))
-    (λ d q g. acts_fit_from xs (x.token ∷ before) d q n.1 g)
+-- the act fits
+pub next_fits : (c : Control) (s : Stack) (y : Tally) (t : Token) → ControlFits c y.last → is_over y t ≡ false → NextFits c s t
+next_fits c s y t f h =
+    act_of_step t (step (settled c t) (kind_of (ready c t s).frames) t) (step_keeps c s y t f h)
 
--- a text that passes no limit
-pub acts_fit : (ss : List Spot) → limit_from [] ss ≡ None → ActsFit ItemStart no_stack ss
-acts_fit ss h = acts_fit_from ss [] ItemStart no_stack h tt
+moved_keeps : (t : Token) (o : Option (Control × Act)) (q : Stack) (d : Control) (r : Stack) → StepKeeps t o → Some (record { control = d; stack = r }) ≡ moved o q → ControlFits d (Some t)
+moved_keeps t None q d r f e = cc
+moved_keeps t (Some (b, a)) q d r f e =
+    let P : State → Type 0 = λ w. ControlFits w.control (Some t) in
+    let g : record { control = b; stack = apply a q } ≡ record { control = d; stack = r } = cc in
+    subst P g f.0
+
+-- and what stands behind it fits
+pub keeps_fitting : (c d : Control) (s r : Stack) (y : Tally) (t : Token) → ControlFits c y.last → is_over y t ≡ false → Some (record { control = d; stack = r }) ≡ next c s t → ControlFits d (Some t)
+keeps_fitting c d s r y t f h e =
+    let q = ready c t s in
+    moved_keeps t (step (settled c t) (kind_of q.frames) t) q d r (step_keeps c s y t f h) e

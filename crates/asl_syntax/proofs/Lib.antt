@@ -1,3 +1,4 @@
+pub mod Whole
 pub mod Numbers
 pub mod Tallying
 pub mod Plain

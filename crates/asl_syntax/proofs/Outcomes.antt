@@ -3,7 +3,7 @@ use Rattle.std.proofs.Common.{◌≡◌, ℕ, ◌⊎◌, List, Bool, true, false
 use Rattle.asl_grammar.specs.Token.{Spot}
 use Rattle.asl_grammar.specs.Lex.{tokens_of, bad_place}
 use Rattle.asl_grammar.specs.Grammar.{IsProgram, IsGrammarFault, Judges, bare}
-use Rattle.asl_grammar.specs.Seen.{start_place, fault_from}
+use Rattle.asl_grammar.proofs.Stopping.{start_place, fault_from}
 use Rattle.asl_grammar.specs.Automaton.{ItemStart}
 use Rattle.asl_grammar.proofs.Judged.{judged}
 use Rattle.asl_grammar.proofs.OneFault.{one_fault}
@@ -14,7 +14,8 @@ use Rattle.asl_syntax.specs.Spelled.{Spells}
 use Rattle.asl_syntax.specs.Limit.{first_limit}
 use Rattle.asl_syntax.specs.Rules.{twice, unknown, wrong_call, has_main}
 use Rattle.asl_syntax.specs.Parsed.{first_wide, IsLexed, IsSpelled, Parses}
-use Rattle.asl_syntax.specs.Built.{no_stack, built_from}
+use Rattle.asl_syntax.specs.Built.{no_stack}
+use Rattle.asl_syntax.proofs.Whole.{built_from}
 use Rattle.asl_syntax.specs.Fault.{IsFault}
 use Rattle.asl_syntax.proofs.Plain.{built_meaning}
 

@@ -7,7 +7,7 @@ use Rattle.asl_grammar.specs.Token.{Token, Fixed, Spot}
 use Rattle.asl_grammar.specs.Written as w
 use Rattle.asl_grammar.specs.Spelling.{program_on}
 use Rattle.asl_grammar.specs.Automaton.{Opening, OfIf, OfElse, OfWhile, OfAtomic, Control, ItemStart, StatementStart, AfterThen, Act, Keep, Declare, Start, Parameter, Argument, Emit, EmitCall, Begin, Close, Finish, step}
-use Rattle.asl_grammar.specs.Automaton as a
+use Rattle.asl_grammar.proofs.Stacks as a
 use Rattle.asl_grammar.specs.Grammar.{bare}
 use Rattle.asl_grammar.specs.Seen.{settled, settled_by}
 use Rattle.asl_grammar.proofs.Complete.{run_program}
@@ -15,7 +15,8 @@ use Rattle.asl_grammar.proofs.Judged.{spelled}
 use Rattle.asl_syntax.specs.Tree.{Statement, Block, Then, Item}
 use Rattle.asl_syntax.specs.View.{block}
 use Rattle.asl_syntax.specs.Spelled.{stmt_meaning, block_meaning, item_meaning, Spells}
-use Rattle.asl_syntax.specs.Built.{Header, ThenBlock, ElseBlock, WhileBlock, AtomicBlock, Part, Frame, Stack, no_stack, settle_pending, else_header, closed, close_frames, apply, header_kind, kind_of, ready, ready_then, State, moved, next_ready, next, whole_at, built_with, built_from}
+use Rattle.asl_syntax.specs.Built.{Header, ThenBlock, ElseBlock, WhileBlock, AtomicBlock, Part, Frame, Stack, no_stack, settle_pending, else_header, closed, close_frames, apply, header_kind, kind_of, ready, ready_then, State, moved, next_ready, next, whole_at, built_with}
+use Rattle.asl_syntax.proofs.Whole.{built_from}
 
 abbrev statements : List w.Stmt → List Statement
 statements ss = map stmt_meaning ss

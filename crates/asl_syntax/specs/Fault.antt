@@ -1,14 +1,16 @@
 -- What each fault says of a text: no fault before it in the list applies, and it names the first place (docs/SOURCE.md,
 -- "Refusals").
-use Rattle.std.specs.Prelude.{◌≡◌, ℕ, List, Some, None, length, false}
+use Rattle.std.specs.Prelude.{◌≡◌, ◌⊎◌, ℕ, List, Some, None, length, false}
 use Rattle.asl_grammar.specs.Lex.{tokens_of, bad_place}
 use Rattle.asl_grammar.specs.Grammar.{IsProgram, IsGrammarFault, bare}
+use Rattle.asl_grammar.specs.Depth.{IsDeep}
 use Rattle.asl_syntax.specs.declared.fault.SyntaxFault as code
 use Rattle.asl_syntax.specs.declared.fault.SyntaxFault.TheVariants as fault
 use Rattle.asl_syntax.specs.Tree.{Item}
 use Rattle.asl_syntax.specs.Limit.{first_limit}
 use Rattle.asl_syntax.specs.Rules.{twice, unknown, wrong_call, has_main}
 use Rattle.asl_syntax.specs.Parsed.{first_wide, IsLexed, IsSpelled}
+use Rattle.asl_syntax.specs.Checked.{IsWritten}
 
 -- the first byte that is not ASCII
 abbrev pub IsWide : List ℕ → ℕ → Type 0
@@ -60,7 +62,13 @@ pub record IsWithoutMain (text : List ℕ) : Type 0 where
   pub arity : wrong_call tree (tokens_of text) ≡ None
   pub none : has_main tree ≡ false
 
--- the fault that a text has. Bytes and tokens are judged without memory, so want of memory hides neither
+-- want of memory hides no byte, token, line or limit: the text is a program within the limits, of which names alone are
+-- left to judge. Only where more than 64 braces are open at once does it take memory to tell whether the text is a program
+pub record IsOutOfMemory (text : List ℕ) : Type 0 where
+  pub lexed : IsLexed text
+  pub hidden : IsWritten text ⊎ IsDeep (tokens_of text)
+
+-- the fault that a text has
 abbrev pub IsFault : List ℕ → code.SyntaxFault → Type 0
 IsFault text (fault.NotAscii at) = IsWide text at
 IsFault text (fault.Token at) = IsNoToken text at
@@ -70,4 +78,4 @@ IsFault text (fault.Twice x) = IsTwice text x
 IsFault text (fault.Unknown x) = IsUnknown text x
 IsFault text (fault.Arity at) = IsArity text at
 IsFault text fault.NoMain = IsWithoutMain text
-IsFault text fault.OutOfMemory = IsLexed text
+IsFault text fault.OutOfMemory = IsOutOfMemory text

@@ -1,11 +1,11 @@
 -- Machinery of the proofs, not of the promise: which names and numbers the code's tree has room for. Texts within the
 -- limits of docs/SOURCE.md, which are those of specs/Limit, have no others.
-use Rattle.std.specs.Prelude.{ℕ, ◌≤◌, List, [], ◌∷◌, true, false, Option, Some, None, length}
-use Rattle.asl_grammar.specs.Token.{Token, Spot}
+use Rattle.std.specs.Prelude.{ℕ, ◌≤◌, List, true, false, Option, Some, None, length}
+use Rattle.asl_grammar.specs.Token.{Token}
 use Rattle.asl_grammar.specs.Written.{Right, Line, Literal, NullValue, Copied, Binary, GlobalAddress, FieldAddress, Loaded, Created, Assigns, Calls, Stores, Shows}
 use Rattle.asl_grammar.specs.Automaton.{Opening, Control, Act, OfIf, OfElse, OfWhile, OfAtomic, Keep, Declare, Start, Parameter, Argument, Emit, EmitCall, Begin, Close, Finish, step}
 use Rattle.asl_grammar.specs.Seen.{settled}
-use Rattle.asl_syntax.specs.Built.{Stack, kind_of, ready, apply}
+use Rattle.asl_syntax.specs.Built.{Stack, kind_of, ready}
 
 -- a name is short enough
 abbrev pub NameFits : List ℕ → Type 0
@@ -58,14 +58,3 @@ StepFits (Some (c, a)) = ActFits a
 -- the act at the next token fits
 abbrev pub NextFits : Control → Stack → Token → Type 0
 NextFits c s t = StepFits (step (settled c t) (kind_of (ready c t s).frames) t)
-
--- each act fits, along the automaton's run
-abbrev pub ActsFit-with : Option (Control × Act) → Stack → (Control → Stack → Type 0) → Type 0
-ActsFit-with None s go = Unit {0}
-ActsFit-with (Some (c, a)) s go = ActFits a × go c (apply a s)
-
--- the same from a state on
-abbrev pub ActsFit : Control → Stack → List Spot → Type 0
-ActsFit c s [] = Unit {0}
-ActsFit c s (x ∷ xs) =
-    ActsFit-with (step (settled c x.token) (kind_of (ready c x.token s).frames) x.token) (ready c x.token s) (λ d r. ActsFit d r xs)

@@ -1,19 +1,20 @@
-//! Building the tree of a text that the grammar and the limits allow.
+//! Building the tree of a text, as far as the grammar and the limits allow it.
 
 ghost use Rattle.std.specs.Prelude.{◌≡◌, ◌≤◌, [], ◌∷◌, ◌++◌, map, IfOk};
 ghost use Rattle.asl_grammar.specs.Written.{Literal};
 ghost use Rattle.asl_grammar.specs.Automaton.{ItemStart, EmitCall, Begin, Close, Finish};
-ghost use Rattle.asl_grammar.specs.Lex.{number_value, tokens_of};
+ghost use Rattle.asl_grammar.specs.Lex.{number_value, tokens_of, bad_place};
 ghost use Rattle.asl_grammar.specs.View.{token_of};
 ghost use Rattle.asl_grammar.specs.ControlView.{control_of, act_of, opening_of, line_of, right_of};
 ghost use Rattle.asl_syntax.specs.View.{value_of, statement_of, block_of, items_of};
 ghost use Rattle.std.specs.Option.{option_map};
 ghost use Rattle.asl_syntax.specs.Spelled.{literal, right_meaning, line_meaning};
-ghost use Rattle.asl_syntax.specs.Fits.{RightFits, LineFits, OpeningFits, ActFits, NextFits, ActsFit};
-ghost use Rattle.asl_syntax.specs.Built.{no_part, no_stack, settle_part, put, header_of, closed, apply, kind_of, ready, next, whole_at, built_from};
+ghost use Rattle.asl_syntax.specs.Fits.{RightFits, LineFits, OpeningFits, ActFits, NextFits};
+ghost use Rattle.asl_syntax.specs.Built.{no_part, no_stack, settle_part, put, header_of, closed, apply, kind_of, ready, next, whole_at, read_from};
 ghost use Rattle.asl_syntax.specs.BuildView.{part_of, pending_of, header_in};
+ghost use Rattle.asl_syntax.specs.Limit.{tally_of};
 
-use crate::limit::capped_value;
+use crate::limit::{Counts, capped_value};
 use crate::name::Name;
 use crate::tree::{Function, Item, Statement, Value};
 use asl_grammar::control::{Act, Control, Kind, Line, Opening, Right, step};
@@ -332,19 +333,29 @@ impl Builder {
     }
 }
 
-/// The items of a text, if its tokens are a program.
+/// The items of a text, read once, if it is blanks and tokens throughout and its tokens are a program within the limits.
 pub fn build(alloc: Global, text: &[u8]) -> Result<Option<Vec<Item>>, AllocError>
-    requires { ActsFit ItemStart no_stack (tokens_of text.now) }
-    ensures { IfOk result (λ items. option_map items_of items ≡ built_from ItemStart no_stack (tokens_of text.now)) }
+    ensures { IfOk result (λ items. option_map items_of items
+        ≡ read_from (tally_of []) ItemStart no_stack (tokens_of text.now) (bad_place text.now)) }
 {
     let mut tokens = Tokens::new(text);
+    let mut counts = Counts::new();
     let mut builder = Builder::new(alloc);
     let mut control = Control::ItemStart;
-    'reading: while let Found::Token(spot) = tokens.next() {
-        match builder.advance(control, spot.token)? {
-            None => return Ok(None),
-            Some(next) => control = next,
+    'reading: loop {
+        match tokens.next() {
+            Found::Token(spot) => {
+                if counts.is_over(spot.token) {
+                    return Ok(None);
+                }
+                match builder.advance(control, spot.token)? {
+                    None => return Ok(None),
+                    Some(next) => control = next,
+                }
+                counts.note(spot.token);
+            }
+            Found::End => return Ok(builder.into_items(control)),
+            Found::Bad(_) => return Ok(None),
         }
     }
-    Ok(builder.into_items(control))
 }

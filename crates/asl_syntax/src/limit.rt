@@ -6,7 +6,7 @@ ghost use Rattle.asl_grammar.specs.Lex.{number_value, tokens_of};
 ghost use Rattle.asl_grammar.specs.View.{token_of};
 ghost use Rattle.asl_syntax.specs.Limit.{number_over, tally_of, byte_over, first_place, first_limit};
 ghost use Rattle.asl_syntax.specs.Reached.{IsReach};
-ghost use Rattle.asl_syntax.specs.Tallied.{functions_after, globals_after, atomics_after, braces_after, head_after, over_from};
+ghost use Rattle.asl_syntax.specs.Tallied.{over_from};
 
 use asl_grammar::lexer::{Found, Tokens};
 use asl_grammar::token::{Mark, Token};
@@ -56,71 +56,13 @@ pub struct Counts<'t> {
     ghost few_names: { ForSome head (λ n. n ≤ 5) },
 }
 
-/// How many functions there are up to and with `token`, where `functions` is their number before it.
-fn functions_after(functions: u32, token: Token<'_>) -> u32
-    requires { functions ≤ 256 }
-    ensures { result ≡ functions_after functions (token_of token.entry) }
-{
-    match token {
-        Token::Fixed(Mark::Fn) => functions + 1,
-        _ => functions,
-    }
-}
-
-/// The same of globals.
-fn globals_after(globals: u32, token: Token<'_>) -> u32
-    requires { globals ≤ 1024 }
-    ensures { result ≡ globals_after globals (token_of token.entry) }
-{
-    match token {
-        Token::Fixed(Mark::Global) => globals + 1,
-        _ => globals,
-    }
-}
-
-/// The same of `atomic`s.
-fn atomics_after(atomics: u32, token: Token<'_>) -> u32
-    requires { atomics ≤ 1024 }
-    ensures { result ≡ atomics_after atomics (token_of token.entry) }
-{
-    match token {
-        Token::Fixed(Mark::Atomic) => atomics + 1,
-        _ => atomics,
-    }
-}
-
-/// The same of open braces.
-fn braces_after(braces: u32, token: Token<'_>) -> u32
-    requires { braces ≤ 64 }
-    ensures { result ≡ braces_after braces (token_of token.entry) }
-{
-    match token {
-        Token::Fixed(Mark::OpenBrace) => braces + 1,
-        Token::Fixed(Mark::CloseBrace) => braces.saturating_sub(1),
-        _ => braces,
-    }
-}
-
-/// The same of the names in the head of a function, or nothing where `token` belongs to no head.
-fn head_after(head: Option<u32>, token: Token<'_>) -> Option<u32>
-    requires { ForSome head (λ n. n ≤ 5) }
-    ensures { result ≡ head_after head (token_of token.entry) }
-{
-    match token {
-        Token::Fixed(Mark::Fn) => Some(0),
-        Token::Fixed(Mark::OpenParen | Mark::Comma) => head,
-        Token::Name(_) => head.map(|n| n + 1),
-        _ => None,
-    }
-}
-
 impl<'t> Counts<'t> {
     ghost use Rattle.asl_syntax.specs.Limit.{is_over, is_fifth, tally_of};
-    ghost use Rattle.asl_syntax.specs.Tallied.{noted};
+    ghost use Rattle.asl_syntax.specs.Tallied.{noted, head_after};
     ghost use Rattle.asl_syntax.specs.TallyView.{tally_in};
 
     /// No token so far.
-    fn new() -> Counts<'t>
+    pub fn new() -> Counts<'t>
         ensures { tally_in result ≡ tally_of [] }
     {
         Counts {
@@ -133,8 +75,20 @@ impl<'t> Counts<'t> {
         }
     }
 
+    /// Whether a name here would be a function's fifth parameter.
+    #[inline(always)]
+    fn is_fifth(&self) -> bool
+        ensures { result ≡ is_fifth self.now.head }
+    {
+        match self.head {
+            None => false,
+            Some(n) => n >= 5,
+        }
+    }
+
     /// Whether the token goes past a limit.
-    fn is_over(&self, token: Token<'_>) -> bool
+    #[inline(always)]
+    pub fn is_over(&self, token: Token<'_>) -> bool
         ensures { result ≡ is_over (tally_in self.now) (token_of token.entry) }
     {
         match token {
@@ -148,28 +102,38 @@ impl<'t> Counts<'t> {
         }
     }
 
-    /// Whether a name here would be a function's fifth parameter.
-    fn is_fifth(&self) -> bool
-        ensures { result ≡ is_fifth self.now.head }
+    /// Counts a token that goes past no limit.
+    #[inline(always)]
+    pub fn note(&mut self, token: Token<'t>)
+        requires { is_over (tally_in self.old) (token_of token) ≡ false }
+        ensures { tally_in self.new ≡ noted (tally_in self.old) (token_of token.entry) }
     {
-        match self.head {
-            None => false,
-            Some(n) => n >= 5,
+        self.head = self.head_after(token);
+        match token {
+            Token::Fixed(Mark::Fn) => self.functions += 1,
+            Token::Fixed(Mark::Global) => self.globals += 1,
+            Token::Fixed(Mark::Atomic) => self.atomics += 1,
+            Token::Fixed(Mark::OpenBrace) => self.braces += 1,
+            Token::Fixed(Mark::CloseBrace) => self.braces = self.braces.saturating_sub(1),
+            _ => {}
         }
+        self.last = Some(token);
     }
 
-    /// The counts behind a token that goes past no limit.
-    fn noted(self, token: Token<'t>) -> Counts<'t>
-        requires { is_over (tally_in self) (token_of token) ≡ false }
-        ensures { tally_in result ≡ noted (tally_in self.entry) (token_of token.entry) }
+    /// How many names stand in the head of a function behind one more token, or nothing where that belongs to no head.
+    #[inline(always)]
+    fn head_after(&self, token: Token<'_>) -> Option<u32>
+        ensures told { result ≡ head_after self.now.head (token_of token.entry) }
+        ensures few { is_over (tally_in self.now) (token_of token.entry) ≡ false → ForSome result (λ n. n ≤ 5) }
     {
-        Counts {
-            last: Some(token),
-            functions: functions_after(self.functions, token),
-            globals: globals_after(self.globals, token),
-            atomics: atomics_after(self.atomics, token),
-            braces: braces_after(self.braces, token),
-            head: head_after(self.head, token),
+        match token {
+            Token::Fixed(Mark::Fn) => Some(0),
+            Token::Fixed(Mark::OpenParen | Mark::Comma) => self.head,
+            Token::Name(_) => match self.head {
+                None => None,
+                Some(names) => Some(names + 1),
+            },
+            _ => None,
         }
     }
 }
@@ -197,7 +161,7 @@ pub fn reach(text: &[u8]) -> Extent
                 if counts.is_over(spot.token) {
                     return Extent::Over(spot.at);
                 }
-                counts = counts.noted(spot.token);
+                counts.note(spot.token);
             }
             Found::End => return Extent::End,
             Found::Bad(at) => return Extent::Bad(at),

@@ -13,7 +13,7 @@ ghost use Rattle.asl_syntax.specs.Checked.{IsWritten};
 use crate::ast::Ast;
 use crate::build::build;
 use crate::fault::SyntaxFault;
-use crate::limit::{Extent, first_limit, reach};
+use crate::limit::{Extent, MOST_BYTES, first_limit, reach};
 use crate::mentions::mentions;
 use crate::names::{first_twice, has_main, parameter_counts, unknown, wrong_call};
 use crate::tree::Item;
@@ -47,13 +47,12 @@ fn check_tokens(text: &[u8]) -> Result<Option<usize>, SyntaxFault>
     }
 }
 
-/// Whether the tokens are a program within the limits, where `over` is the place of the first token that goes past one.
-fn check_grammar(alloc: Global, text: &[u8], over: Option<usize>) -> Result<(), SyntaxFault>
-    requires lexed { IsLexed text.now }
-    requires over { over ≡ over_from (tally_of []) (tokens_of text.now) }
+/// Whether the tokens of a text are a program within the limits.
+fn check_text(alloc: Global, text: &[u8]) -> Result<(), SyntaxFault>
     ensures ok { OnOk result (IsWritten text.now) }
     ensures err { IfErr result (IsFault text.now) }
 {
+    let over = check_tokens(text)?;
     if let Some(at) = first_fault(alloc, text)? {
         return Err(SyntaxFault::Grammar(at));
     }
@@ -63,16 +62,18 @@ fn check_grammar(alloc: Global, text: &[u8], over: Option<usize>) -> Result<(), 
     Ok(())
 }
 
-/// The items of a program within the limits.
+/// The items of a program within the limits. Most texts are one, and are read once; any other is judged fault by fault.
 fn make_items(alloc: Global, text: &[u8]) -> Result<Vec<Item>, SyntaxFault>
-    requires { IsWritten text.now }
     ensures ok { IfOk result (λ v. IsSpelled text.now (items_of v)) }
     ensures err { IfErr result (IsFault text.now) }
 {
-    match build(alloc, text)? {
-        Some(items) => Ok(items),
-        None => Err(SyntaxFault::Grammar(text.len())),
+    if first_wide(text).is_none() && text.len() <= MOST_BYTES {
+        if let Ok(Some(items)) = build(alloc, text) {
+            return Ok(items);
+        }
     }
+    check_text(alloc, text)?;
+    Err(SyntaxFault::OutOfMemory)
 }
 
 /// Whether the names of a program break no rule.
@@ -104,8 +105,6 @@ pub fn parse(alloc: Global, text: &[u8]) -> Result<Ast, SyntaxFault>
     ensures ok { IfOk result (λ a. Parses text.now (tree_of a)) }
     ensures err { IfErr result (IsFault text.now) }
 {
-    let over = check_tokens(text)?;
-    check_grammar(alloc, text, over)?;
     let items = make_items(alloc, text)?;
     check_names(alloc, &items, text)?;
     Ok(Ast::new(items))

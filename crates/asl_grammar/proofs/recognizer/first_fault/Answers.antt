@@ -1,15 +1,31 @@
-use Rattle.std.proofs.Common.{◌≡◌, subst, sym, length, Option, ℕ, []}
+use Rattle.std.proofs.Common.{◌≡◌, subst, sym, length, Option, Some, ℕ, []}
 use Rattle.asl_grammar.specs.Lex.{tokens_of}
 use Rattle.asl_grammar.specs.Grammar.{Judges}
 use Rattle.asl_grammar.specs.Reader.{spots_left}
-use Rattle.asl_grammar.specs.SeenView.{place_in}
+use Rattle.asl_grammar.specs.SeenView.{kinds_in, place_in}
+use Rattle.asl_grammar.specs.View.{spot_of, token_of}
+use Rattle.asl_grammar.specs.Seen.{next_place}
 use Rattle.asl_grammar.proofs.Judged.{stopped, ended}
+use Rattle.asl_grammar.proofs.Deepening.{goes_on, behind_next}
 use Rattle.asl_grammar.proofs.Reading.{none_left}
 use Rattle.asl_grammar.proofs.recognizer.first_fault.Goals as goal
 
+pub reading-preserved : goal.reading-preserved
+reading-preserved c =
+    let p = place_in c.reading.control (kinds_in c.reading.kinds) in
+    let q = place_in c.in-Some.next (kinds_in c.advance.new.kinds) in
+    let x = spot_of c.in-Token.spot in
+    let rest = spots_left c.reading.tokens in
+    let left = spots_left c.next.new.self in
+    let n : Some q ≡ next_place p x.token = rw c.in-Some.is at c.in_ok-advance.ensures.ok in
+    record {
+      same = goes_on p q x rest left (length c.args.text.now) _ c.reading.invariant.same c.in-Token.ensures.found.0 n;
+      behind = behind_next (tokens_of c.args.text.now) p q x rest left c.reading.invariant.behind c.in-Token.ensures.found.0 n;
+    }
+
 pub returns-in-None : goal.returns-in-None
 returns-in-None c =
-    stopped _ _ _ _ _ _ c.reading.invariant c.in-Token.ensures.found.0 (rw c.in-None.is at c.in_ok-advance.ensures)
+    record { ok = stopped _ _ _ _ _ _ c.reading.invariant.same c.in-Token.ensures.found.0 (rw c.in-None.is at c.in_ok-advance.ensures.ok); err = tt }
 
 pub returns : goal.returns
 returns c =
@@ -17,4 +33,4 @@ returns c =
     let end = length c.args.text.now in
     let P : Option ℕ → Type 0 = λ o. Judges all end o in
     let none : spots_left c.reading.tokens ≡ [] = none_left c.reading.tokens c.next.new.self c.next.result c.next.ensures.found c.in_default.not-Token in
-    subst P (sym c.fault_at_end.ensures) (ended all (spots_left c.reading.tokens) end (place_in c.reading.control c.reading.kinds.items) c.reading.invariant none)
+    record { ok = subst P (sym c.fault_at_end.ensures) (ended all (spots_left c.reading.tokens) end (place_in c.reading.control (kinds_in c.reading.kinds)) c.reading.invariant.same none); err = tt }

@@ -1,0 +1,164 @@
+-- The blocks that are open are fewer than the braces, so that memory is asked for in deep texts only.
+use Rattle.std.proofs.Common.{◌≡◌, ℕ, suc, ◌+◌, ◌-◌, ◌<◌, ◌≤◌, List, [], ◌∷◌, ◌++◌, Option, Some, None, length, reverse, map, refl, sym, ap, ◌∙◌, subst, append_assoc, arith}
+use Rattle.std.proofs.lemmas.List.{map-append, reverse-append}
+use Rattle.asl_grammar.specs.declared.token.Mark.TheVariants as mark
+use Rattle.asl_grammar.specs.declared.control.Kind.{Kind}
+use Rattle.asl_grammar.specs.declared.control.Kind.TheVariants.{Body, Then, Inner}
+use Rattle.asl_grammar.specs.Token.{Token, Fixed, Name, Number, Spot}
+use Rattle.asl_grammar.specs.Automaton.{Control, Act, Keep, Declare, Start, Parameter, Argument, Emit, EmitCall, Begin, Close, Finish, ItemStart, AfterGlobal, GlobalNamed, AfterFn, FunctionNamed, FirstParameter, AfterParameter, NextParameter, BodyStart, StatementStart, AfterThen, Target, AfterBecomes, AfterMinus, AfterValue, AfterOperator, AfterAmpersand, AfterAddress, AfterBracket, AfterIndex, AfterStar, AfterNew, FirstArgument, AfterArgument, NextArgument, CallEnd, LineEnd, StoreStart, StoreTarget, StoreValue, AfterOut, AfterIf, AfterWhile, AfterHeader, AfterReturn, Returned, BodyEnd, step}
+use Rattle.asl_grammar.specs.Seen.{Place, innermost, settled, settled_by, kinds_after, placed, next_place, OpensFull, IsFull}
+use Rattle.asl_grammar.proofs.Stopping.{start_place, fault_with, fault_from}
+use Rattle.asl_grammar.specs.Grammar.{bare}
+use Rattle.asl_grammar.specs.Depth.{open_braces, IsDeep}
+
+-- whether the brace of a function's body is open
+abbrev inside : Control → ℕ
+inside ItemStart = 0
+inside AfterGlobal = 0
+inside (GlobalNamed x) = 0
+inside AfterFn = 0
+inside (FunctionNamed x) = 0
+inside FirstParameter = 0
+inside AfterParameter = 0
+inside NextParameter = 0
+inside BodyStart = 0
+inside _ = 1
+
+-- the braces are as many as the blocks, or more
+abbrev HasRoom : ℕ → Option (Control × Act) → List Kind → Type 0
+HasRoom n None ks = Unit {0}
+HasRoom n (Some (d, a)) ks = length (kinds_after a ks) + inside d ≤ n
+
+step_room : (c : Control) (ks : List Kind) (t : Token) (before : List Token) → length ks + inside c ≤ open_braces before → HasRoom (open_braces (t ∷ before)) (step c (innermost ks) t) ks
+step_room (AfterMinus x) ks (Number n) before h = h
+step_room (AfterOperator x y o) ks (Name z) before h = h
+step_room (AfterAmpersand x) ks (Name y) before h = h
+step_room (AfterAddress x y) ks (Fixed mark.Semicolon) before h = h
+step_room (AfterAddress x y) ks (Fixed mark.OpenBracket) before h = h
+step_room (AfterBracket x y) ks (Number n) before h = h
+step_room (AfterIndex x y n) ks (Fixed mark.CloseBracket) before h = h
+step_room (AfterStar x) ks (Name y) before h = h
+step_room (AfterNew x) ks (Number n) before h = h
+step_room (FirstArgument x f) ks (Name a) before h = h
+step_room (FirstArgument x f) ks (Fixed mark.CloseParen) before h = h
+step_room (AfterArgument x f) ks (Fixed mark.Comma) before h = h
+step_room (AfterArgument x f) ks (Fixed mark.CloseParen) before h = h
+step_room (NextArgument x f) ks (Name a) before h = h
+step_room (CallEnd x f) ks (Fixed mark.Semicolon) before h = h
+step_room (AfterBecomes x) ks (Fixed mark.Minus) before h = h
+step_room (AfterBecomes x) ks (Fixed mark.Null) before h = h
+step_room (AfterBecomes x) ks (Fixed mark.Ampersand) before h = h
+step_room (AfterBecomes x) ks (Fixed mark.Star) before h = h
+step_room (AfterBecomes x) ks (Fixed mark.New) before h = h
+step_room (AfterBecomes x) ks (Name y) before h = h
+step_room (AfterBecomes x) ks (Number n) before h = h
+step_room (AfterValue x y) ks (Fixed mark.Semicolon) before h = h
+step_room (AfterValue x y) ks (Fixed mark.Plus) before h = h
+step_room (AfterValue x y) ks (Fixed mark.Minus) before h = h
+step_room (AfterValue x y) ks (Fixed mark.Less) before h = h
+step_room (AfterValue x y) ks (Fixed mark.Same) before h = h
+step_room (AfterValue x y) ks (Fixed mark.OpenParen) before h = h
+step_room ItemStart ks (Fixed mark.Global) before h = h
+step_room ItemStart ks (Fixed mark.Fn) before h = h
+step_room AfterGlobal ks (Name x) before h = h
+step_room (GlobalNamed x) ks (Fixed mark.Semicolon) before h = h
+step_room AfterFn ks (Name x) before h = h
+step_room (FunctionNamed x) ks (Fixed mark.OpenParen) before h = h
+step_room FirstParameter ks (Name x) before h = h
+step_room FirstParameter ks (Fixed mark.CloseParen) before h = h
+step_room AfterParameter ks (Fixed mark.Comma) before h = h
+step_room AfterParameter ks (Fixed mark.CloseParen) before h = h
+step_room NextParameter ks (Name x) before h = h
+step_room BodyStart ks (Fixed mark.OpenBrace) before h = omega (arith, h)
+step_room AfterReturn ks (Name x) before h = h
+step_room (Returned x) ks (Fixed mark.Semicolon) before h = h
+step_room (BodyEnd x) ks (Fixed mark.CloseBrace) before h = omega (arith, h)
+step_room StatementStart ks (Name x) before h = h
+step_room StatementStart ks (Fixed mark.Star) before h = h
+step_room StatementStart ks (Fixed mark.Out) before h = h
+step_room StatementStart ks (Fixed mark.If) before h = h
+step_room StatementStart ks (Fixed mark.While) before h = h
+step_room StatementStart ks (Fixed mark.Atomic) before h = h
+step_room StatementStart [] (Fixed mark.Return) before h = h
+step_room StatementStart (Body ∷ ks) (Fixed mark.Return) before h = h
+step_room StatementStart (Then ∷ ks) (Fixed mark.CloseBrace) before h = omega (arith, h)
+step_room StatementStart (Inner ∷ ks) (Fixed mark.CloseBrace) before h = omega (arith, h)
+step_room AfterThen ks (Fixed mark.Else) before h = h
+step_room (Target x) ks (Fixed mark.Becomes) before h = h
+step_room (LineEnd l) ks (Fixed mark.Semicolon) before h = h
+step_room StoreStart ks (Name x) before h = h
+step_room (StoreTarget x) ks (Fixed mark.Becomes) before h = h
+step_room (StoreValue x) ks (Name y) before h = h
+step_room AfterOut ks (Name x) before h = h
+step_room AfterIf ks (Name x) before h = h
+step_room AfterWhile ks (Name x) before h = h
+step_room (AfterHeader o) ks (Fixed mark.OpenBrace) before h = omega (arith, h)
+step_room _ ks t before h = tt
+
+settled_by_inside : (t : Token) → inside (settled_by t) ≡ 1
+settled_by_inside (Fixed mark.Else) = refl
+settled_by_inside _ = refl
+
+settled_inside : (c : Control) (t : Token) → inside (settled c t) ≡ inside c
+settled_inside AfterThen t = settled_by_inside t
+settled_inside _ t = refl
+
+-- the tokens before a place, with as many open braces as the place has blocks, or more
+pub record IsBehind (all : List Spot) (p : Place) (left : List Spot) : Type 0 where
+  pub before : List Spot
+  pub split : all ≡ before ++ left
+  pub room : length p.kinds + inside p.control ≤ open_braces (reverse (bare before))
+
+pub behind_start : (all : List Spot) → IsBehind all start_place all
+behind_start all = record { before = []; split = refl; room = omega arith }
+
+bare_more : (before : List Spot) (x : Spot) → reverse (bare (before ++ x ∷ [])) ≡ x.token ∷ reverse (bare before)
+bare_more before x =
+    ap reverse (map-append (λ (s : Spot). s.token) before (x ∷ [])) ∙ reverse-append (bare before) (x.token ∷ [])
+
+-- behind one more token
+room_next : (p : Place) (x : Spot) (before : List Spot) → length p.kinds + inside p.control ≤ open_braces (reverse (bare before)) → HasRoom (open_braces (reverse (bare (before ++ x ∷ [])))) (step (settled p.control x.token) (innermost p.kinds) x.token) p.kinds
+room_next p x before h =
+    let o = step (settled p.control x.token) (innermost p.kinds) x.token in
+    let g : length p.kinds + inside (settled p.control x.token) ≤ open_braces (reverse (bare before)) = subst (λ (n : ℕ). length p.kinds + n ≤ open_braces (reverse (bare before))) (sym (settled_inside p.control x.token)) h in
+    subst (λ (ts : List Token). HasRoom (open_braces ts) o p.kinds) (sym (bare_more before x)) (step_room (settled p.control x.token) p.kinds x.token (reverse (bare before)) g)
+
+placed_room : (n : ℕ) (o : Option (Control × Act)) (ks : List Kind) (q : Place) → HasRoom n o ks → Some q ≡ placed o ks → length q.kinds + inside q.control ≤ n
+placed_room n None ks q h e = cc
+placed_room n (Some (c, a)) ks q h e =
+    let P : Place → Type 0 = λ w. length w.kinds + inside w.control ≤ n in
+    let f : record { control = c; kinds = kinds_after a ks } ≡ q = cc in
+    subst P f h
+
+split_more : (all before rest left : List Spot) (x : Spot) → all ≡ before ++ rest → rest ≡ x ∷ left → all ≡ (before ++ x ∷ []) ++ left
+split_more all before rest left x e f =
+    e ∙ ap (λ (ss : List Spot). before ++ ss) f ∙ sym (append_assoc before (x ∷ []) left)
+
+-- the answer stays the same behind a token
+pub goes_on : (p q : Place) (x : Spot) (rest left : List Spot) (end : ℕ) (all : Option ℕ) → fault_from p rest end ≡ all → rest ≡ x ∷ left → Some q ≡ next_place p x.token → fault_from q left end ≡ all
+goes_on p q x rest left end all h e n =
+    ap (λ (o : Option Place). fault_with o x.at (λ w. fault_from w left end)) n
+    ∙ ap (λ (ss : List Spot). fault_from p ss end) (sym e)
+    ∙ h
+
+pub behind_next : (all : List Spot) (p q : Place) (x : Spot) (rest left : List Spot) → IsBehind all p rest → rest ≡ x ∷ left → Some q ≡ next_place p x.token → IsBehind all q left
+behind_next all p q x rest left h e n =
+    record {
+      before = h.before ++ x ∷ [];
+      split = split_more all h.before rest left x h.split e;
+      room = placed_room _ (step (settled p.control x.token) (innermost p.kinds) x.token) p.kinds q (room_next p x h.before h.room) n;
+    }
+
+opens_deep : (n : ℕ) (o : Option (Control × Act)) (ks : List Kind) → HasRoom n o ks → OpensFull o ks → 64 < n
+opens_deep n None ks h f = absurd f
+opens_deep n (Some (c, Begin o)) ks h f = omega (arith, h, f.1)
+opens_deep n (Some (c, a)) ks h f = absurd f.0
+
+pub behind_full : (all : List Spot) (p : Place) (x : Spot) (rest left : List Spot) → IsBehind all p rest → rest ≡ x ∷ left → IsFull p x.token → IsDeep all
+behind_full all p x rest left h e f =
+    record {
+      before = h.before ++ x ∷ [];
+      rest = left;
+      split = split_more all h.before rest left x h.split e;
+      deep = opens_deep _ (step (settled p.control x.token) (innermost p.kinds) x.token) p.kinds (room_next p x h.before h.room) f;
+    }
