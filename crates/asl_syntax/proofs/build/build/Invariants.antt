@@ -14,7 +14,7 @@ use Rattle.asl_syntax.proofs.build.build.Given as goal
 abbrev pub invariant-reading : goal.invariant-reading
 invariant-reading l = record {
   same : read_from (tally_in l.counts) (control_of l.control) (stack_of l.builder) (spots_left l.tokens) (bad_left l.tokens)
-        ≡ read_from (tally_of []) ItemStart no_stack (tokens_of l.fn.text) (bad_place l.fn.text);
+      ≡ read_from (tally_of []) ItemStart no_stack (tokens_of l.fn.text) (bad_place l.fn.text);
   fits : ControlFits (control_of l.control) (tally_in l.counts).last;
 }
 
