@@ -21,10 +21,10 @@ abbrev kinds_of : List Frame → List Kind
 kinds_of fs = map (λ (f : Frame). header_kind f.header) fs
 
 -- a state without its trees
-abbrev place_of : State → Place
+abbrev pub place_of : State → Place
 place_of w = record { control = w.control; kinds = kinds_of w.stack.frames }
 
-abbrev place_of_option : Option State → Option Place
+abbrev pub place_of_option : Option State → Option Place
 place_of_option None = None
 place_of_option (Some w) = Some (place_of w)
 
@@ -82,7 +82,7 @@ next_ready_place v c fs t e f =
     ∙ ap (λ (d : Control). placed (step d (kind_of fs) t) (kinds_of fs)) e
     ∙ ap (λ (k : Kind). placed (step c k t) (kinds_of fs)) (sym (innermost_kind fs))
 
-next_as : (w : State) (t : Token) → place_of_option (next w t) ≡ next_place (place_of w) t
+pub next_as : (w : State) (t : Token) → place_of_option (next w t) ≡ next_place (place_of w) t
 next_as w t =
     let h = ready_as w.control t w.stack in
     next_ready_place (ready w.control t w.stack) (settled w.control t) w.stack.frames t h.0 h.1
@@ -109,7 +109,7 @@ program_runs : (ts : List Token) → (p : IsProgram ts) → run (state_of []) ts
 program_runs ts p = ap (run (state_of [])) (sym p.spelled) ∙ run_program p.program
 
 -- what has been read can go on
-viable : (ts : List Token) (w : State) → run (state_of []) ts ≡ Some w → IsViable ts
+pub viable : (ts : List Token) (w : State) → run (state_of []) ts ≡ Some w → IsViable ts
 viable ts w e =
     let c : CanEnd w = can_end w.control w.stack in
     record {
@@ -166,7 +166,7 @@ judged_stop s rest before end w e n = record {
 }
 
 -- one token further
-pushed : (s : Spot) (before : List Spot) (w v : State) → run (state_of []) (bare before) ≡ Some w → next w s.token ≡ Some v → run (state_of []) (bare (before ++ s ∷ [])) ≡ Some v
+pub pushed : (s : Spot) (before : List Spot) (w v : State) → run (state_of []) (bare before) ≡ Some w → next w s.token ≡ Some v → run (state_of []) (bare (before ++ s ∷ [])) ≡ Some v
 pushed s before w v e n =
     ap (run (state_of [])) (map-append (λ (x : Spot). x.token) before (s ∷ []))
     ∙ run-append (bare before) (s.token ∷ []) (state_of [])

@@ -1,6 +1,6 @@
 -- Machinery of the proofs, not of the promise: the automaton of docs/SOURCE.md's grammar without the trees: the control
--- and the kinds of the open blocks, and where it stops. What contracts about texts say of the place is `IsGrammarFault`
--- of specs/Grammar.
+-- and the kinds of the open blocks, and where it may end. What contracts about texts say of the place where it stops is
+-- `IsGrammarFault` of specs/Grammar.
 use Rattle.std.specs.Prelude.{ℕ, ◌≤◌, List, [], ◌∷◌, Option, Some, None, length}
 use Rattle.asl_grammar.specs.declared.token.Mark.TheVariants as mark
 use Rattle.asl_grammar.specs.declared.control.Kind.{Kind}
@@ -51,23 +51,27 @@ abbrev pub IsBegin : Act → Type 0
 IsBegin (Begin o) = Unit {0}
 IsBegin _ = ⊥
 
--- a step, if there is one, opens a block where 64 are open
+-- a step, if there is one, opens a block where 63 are open
 abbrev pub OpensFull : Option (Control × Act) → List Kind → Type 0
 OpensFull None ks = ⊥
-OpensFull (Some (c, a)) ks = IsBegin a × (64 ≤ length ks)
+OpensFull (Some (c, a)) ks = IsBegin a × (63 ≤ length ks)
 
 -- a step, if there is one
 abbrev pub placed : Option (Control × Act) → List Kind → Option Place
 placed None ks = None
 placed (Some (c, a)) ks = Some (record { control = c; kinds = kinds_after a ks })
 
+-- the step at a token
+abbrev pub step_at : Place → Token → Option (Control × Act)
+step_at p t = step (settled p.control t) (innermost p.kinds) t
+
 -- one token
 abbrev pub next_place : Place → Token → Option Place
-next_place p t = placed (step (settled p.control t) (innermost p.kinds) t) p.kinds
+next_place p t = placed (step_at p t) p.kinds
 
--- the token opens a block where 64 are open
+-- the token opens a block where 63 are open
 abbrev pub IsFull : Place → Token → Type 0
-IsFull p t = OpensFull (step (settled p.control t) (innermost p.kinds) t) p.kinds
+IsFull p t = OpensFull (step_at p t) p.kinds
 
 -- a program may end only before an item
 abbrev pub fault_at_end : Control → ℕ → Option ℕ

@@ -18,7 +18,8 @@ pub enum Operator {
     IsEqual,
 }
 
-/// What the innermost open block is: the body of a function, the block of an `if`, or another.
+/// What the innermost open block is: the body of a function, the block of an `if`, or another. The default fills the places
+/// of an `ArrayVec` that no kind stands in.
 #[derive(Clone, Copy, Default)]
 pub enum Kind {
     #[default]

@@ -7,12 +7,12 @@ use crate::control::Kind;
 use arrayvec::ArrayVec;
 use std::alloc::{AllocError, Global};
 
-/// The kinds of the open blocks, the innermost last. The first 64 take no memory.
+/// The kinds of the open blocks, the innermost last. The first 63 take no memory.
 #[derive(Drop)]
 pub struct Kinds {
-    shallow: ArrayVec<Kind, 64>,
+    shallow: ArrayVec<Kind, 63>,
     deep: Vec<Kind>,
-    ghost in_order: { length shallow.items < 64 → length deep.items ≡ 0 },
+    ghost in_order: { length shallow.items < 63 → length deep.items ≡ 0 },
 }
 
 /// The last of some kinds; that of a body, where there is none.
@@ -51,12 +51,12 @@ impl Kinds {
         }
     }
 
-    /// Opens a block. Memory is asked for only where 64 are open.
+    /// Opens a block. Memory is asked for only where 63 are open.
     pub fn push(&mut self, kind: Kind) -> Result<(), AllocError>
         ensures ok { IfOk result (λ _. kinds_in self.new ≡ kinds_in self.old ++ kind ∷ []) }
-        ensures err { OnErr result (64 ≤ length (kinds_in self.old)) }
+        ensures err { OnErr result (63 ≤ length (kinds_in self.old)) }
     {
-        if self.shallow.len() < 64 {
+        if self.shallow.len() < 63 {
             self.shallow.push(kind);
         } else {
             self.deep.push(kind)?;

@@ -33,7 +33,7 @@ pub fn settled<'t>(control: Control<'t>, token: Token<'t>) -> Control<'t>
 /// Opens or closes a block.
 fn nest(kinds: &mut Kinds, act: Act<'_>) -> Result<(), AllocError>
     ensures ok { IfOk result (λ _. reverse (kinds_in kinds.new) ≡ kinds_after (act_of act.entry) (reverse (kinds_in kinds.old))) }
-    ensures err { OnErr result (IsBegin (act_of act.entry) × (64 ≤ length (kinds_in kinds.old))) }
+    ensures err { OnErr result (IsBegin (act_of act.entry) × (63 ≤ length (kinds_in kinds.old))) }
 {
     match act {
         Act::Begin(Opening::OfIf(_)) => kinds.push(Kind::Then)?,
@@ -76,8 +76,12 @@ fn fault_at_end(control: Control<'_>, end: usize) -> Option<usize>
 /// The place of the first token with which no program goes on, or the text's length where it stops too early; nothing
 /// where the tokens are a program.
 ///
-/// A text is read up to its first place where no token stands. Takes memory only where more than 64 blocks are open at
-/// once, a byte for each of the others.
+/// A text is read up to its first place where no token stands.
+///
+/// # Errors
+///
+/// A growth was refused: for each brace that is open behind 64 others, the function's own among them, a byte is asked
+/// for. Then the tokens up to that brace begin a program.
 pub fn first_fault(alloc: Global, text: &[u8]) -> Result<Option<usize>, AllocError>
     ensures ok { IfOk result (Judges (tokens_of text.now) (length text.now)) }
     ensures err { OnErr result (IsDeep (tokens_of text.now)) }

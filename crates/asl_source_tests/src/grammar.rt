@@ -116,11 +116,11 @@ fn first_fault_is_named(rt: HostRuntime) -> Result<(), Fail> {
     Ok(())
 }
 
-/// Under an allocator that refuses some growth, a refused call answers so, and made again it answers as ever.
 /// 70 blocks in one another, in a function that returns nothing.
 const DEEP: &str =
     "fn f(a){if a{if a{if a{if a{if a{if a{if a{if a{if a{if a{if a{if a{if a{if a{if a{if a{if a{if a{if a{if a{if a{if a{if a{if a{if a{if a{if a{if a{if a{if a{if a{if a{if a{if a{if a{if a{if a{if a{if a{if a{if a{if a{if a{if a{if a{if a{if a{if a{if a{if a{if a{if a{if a{if a{if a{if a{if a{if a{if a{if a{if a{if a{if a{if a{if a{if a{if a{if a{if a{if a{}}}}}}}}}}}}}}}}}}}}}}}}}}}}}}}}}}}}}}}}}}}}}}}}}}}}}}}}}}}}}}}}}}}}}}}";
 
+/// Under an allocator that refuses some growth, a refused call answers so, and made again it answers as ever.
 #[test]
 fn want_of_memory_is_answered(rt: HostRuntime) -> Result<(), Fail> {
     let text = DEEP.as_bytes();

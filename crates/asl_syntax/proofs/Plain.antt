@@ -15,8 +15,8 @@ use Rattle.asl_grammar.proofs.Judged.{spelled}
 use Rattle.asl_syntax.specs.Tree.{Statement, Block, Then, Item}
 use Rattle.asl_syntax.specs.View.{block}
 use Rattle.asl_syntax.specs.Spelled.{stmt_meaning, block_meaning, item_meaning, Spells}
-use Rattle.asl_syntax.specs.Built.{Header, ThenBlock, ElseBlock, WhileBlock, AtomicBlock, Part, Frame, Stack, no_stack, settle_pending, else_header, closed, close_frames, apply, header_kind, kind_of, ready, ready_then, State, moved, next_ready, next, whole_at, built_with}
-use Rattle.asl_syntax.proofs.Whole.{built_from}
+use Rattle.asl_syntax.specs.Built.{Header, ThenBlock, ElseBlock, WhileBlock, AtomicBlock, Part, Frame, Stack, no_stack, settle_pending, else_header, closed, close_frames, apply, header_kind, kind_of, ready, ready_then, State, moved, next_ready, next, whole_at}
+use Rattle.asl_syntax.proofs.Whole.{built_with, built_from}
 
 abbrev statements : List w.Stmt → List Statement
 statements ss = map stmt_meaning ss

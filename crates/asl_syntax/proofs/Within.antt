@@ -9,8 +9,8 @@ use Rattle.asl_syntax.specs.Tree.{Item}
 use Rattle.asl_syntax.specs.Spelled.{Spells}
 use Rattle.asl_syntax.specs.Writing.{writing}
 use Rattle.asl_syntax.specs.Limit.{Tally, tally_of, is_over, limit_from}
-use Rattle.asl_syntax.specs.Tallied.{noted, over_from}
-use Rattle.asl_syntax.proofs.Tallying.{over_is_limit}
+use Rattle.asl_syntax.specs.Tallied.{noted}
+use Rattle.asl_syntax.proofs.Tallying.{over_from, over_is_limit}
 use Rattle.asl_syntax.proofs.Leaner.{Keeps, leaner}
 
 -- no token goes past a limit, from a tally on

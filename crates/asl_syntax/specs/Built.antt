@@ -1,18 +1,16 @@
 -- Machinery of the proofs, not of the promise: the automaton of docs/SOURCE.md's grammar with the trees that the code
--- builds. What contracts cite is `Spells` of specs/Spelled. asl_grammar's automaton builds other trees, those of
+-- builds. What contracts cite is `Spells` of specs/Spelled. The proofs of asl_grammar build other trees, those of its
 -- specs/Written, which keep an empty `else`.
-use Rattle.std.specs.Prelude.{ℕ, List, [], ◌∷◌, ◌++◌, Option, Some, None, if◌then◌else◌}
+use Rattle.std.specs.Prelude.{ℕ, List, [], ◌∷◌, ◌++◌, Option, Some, None}
 use Rattle.asl_grammar.specs.declared.token.Mark.TheVariants as mark
 use Rattle.asl_grammar.specs.declared.control.Kind.{Kind}
 use Rattle.asl_grammar.specs.declared.control.Kind.TheVariants as kind
-use Rattle.asl_grammar.specs.Token.{Token, Fixed, Spot}
+use Rattle.asl_grammar.specs.Token.{Token, Fixed}
 use Rattle.asl_grammar.specs.Automaton.{Opening, OfIf, OfElse, OfWhile, OfAtomic, Control, ItemStart, AfterThen, Act, Keep, Declare, Start, Parameter, Argument, Emit, EmitCall, Begin, Close, Finish, step}
 use Rattle.asl_grammar.specs.Seen.{settled}
 use Rattle.asl_syntax.specs.Tree.{Statement, IfStatement, WhileStatement, AtomicStatement, AssignStatement, CallValue, Block, NoMore, Function, Item, GlobalItem, FunctionItem}
 use Rattle.asl_syntax.specs.View.{block}
 use Rattle.asl_syntax.specs.Spelled.{line_meaning}
-use Rattle.asl_syntax.specs.Limit.{Tally, is_over}
-use Rattle.asl_syntax.specs.Tallied.{noted}
 
 -- whose block an open block is
 pub data Header : Type 0 where
@@ -153,19 +151,3 @@ next c s t = next_ready (settled c t) (ready c t s) t
 abbrev pub whole_at : Control → Stack → Option (List Item)
 whole_at ItemStart s = Some s.items
 whole_at _ s = None
-
--- goes on from a state, if there is one
-abbrev pub built_with : Option State → (Control → Stack → Option (List Item)) → Option (List Item)
-built_with None go = None
-built_with (Some w) go = go w.control w.stack
-
--- the items, where the text ends and not at a place where no token stands
-abbrev pub whole_text : Control → Stack → Option ℕ → Option (List Item)
-whole_text c s None = whole_at c s
-whole_text c s (Some at) = None
-
--- the items that are built from a tally and a state on, up to the end of the text, if no token passes a limit before
-abbrev pub read_from : Tally → Control → Stack → List Spot → Option ℕ → Option (List Item)
-read_from y c s [] bad = whole_text c s bad
-read_from y c s (x ∷ xs) bad =
-    if is_over y x.token then None else built_with (next c s x.token) (λ d r. read_from (noted y x.token) d r xs bad)

@@ -63,7 +63,8 @@ pub record IsWithoutMain (text : List ℕ) : Type 0 where
   pub none : has_main tree ≡ false
 
 -- want of memory hides no byte, token, line or limit: the text is a program within the limits, of which names alone are
--- left to judge. Only where more than 64 braces are open at once does it take memory to tell whether the text is a program
+-- left to judge. Only behind the beginning of a program that has more than 64 braces open does it take memory to tell
+-- whether the text is one
 pub record IsOutOfMemory (text : List ℕ) : Type 0 where
   pub lexed : IsLexed text
   pub hidden : IsWritten text ⊎ IsDeep (tokens_of text)

@@ -4,11 +4,10 @@ use Rattle.std.specs.Prelude.{◌≡◌, ℕ, List, [], Some, None}
 use Rattle.asl_grammar.specs.Lex.{tokens_of, bad_place}
 use Rattle.asl_syntax.specs.declared.limit.Extent as code
 use Rattle.asl_syntax.specs.declared.limit.Extent.TheVariants as reach
-use Rattle.asl_syntax.specs.Limit.{tally_of}
-use Rattle.asl_syntax.specs.Tallied.{over_from}
+use Rattle.asl_syntax.specs.Limit.{limit_from}
 
 -- to the end with no place past a limit, to the place where no token stands, or to the first token past a limit
 abbrev pub IsReach : List ℕ → code.Extent → Type 0
-IsReach text reach.End = (bad_place text ≡ None) × (over_from (tally_of []) (tokens_of text) ≡ None)
+IsReach text reach.End = (bad_place text ≡ None) × (limit_from [] (tokens_of text) ≡ None)
 IsReach text (reach.Bad at) = bad_place text ≡ Some at
-IsReach text (reach.Over at) = over_from (tally_of []) (tokens_of text) ≡ Some at
+IsReach text (reach.Over at) = limit_from [] (tokens_of text) ≡ Some at

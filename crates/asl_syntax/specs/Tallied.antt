@@ -1,9 +1,9 @@
 -- Machinery of the proofs, not of the promise: the limits of docs/SOURCE.md counted token by token, as src/limit.rt
--- counts them. What contracts cite is specs/Limit.
-use Rattle.std.specs.Prelude.{ℕ, suc, ◌-◌, List, [], ◌∷◌, Option, Some, None, if◌then◌else◌}
+-- counts them. What public contracts cite is specs/Limit.
+use Rattle.std.specs.Prelude.{ℕ, suc, ◌-◌, Option, Some, None}
 use Rattle.asl_grammar.specs.declared.token.Mark.TheVariants as mark
-use Rattle.asl_grammar.specs.Token.{Token, Fixed, Name, Spot}
-use Rattle.asl_syntax.specs.Limit.{Tally, one_more, is_over}
+use Rattle.asl_grammar.specs.Token.{Token, Fixed, Name}
+use Rattle.asl_syntax.specs.Limit.{Tally, one_more}
 
 -- the names in a head behind one more token
 abbrev pub head_after : Option ℕ → Token → Option ℕ
@@ -40,8 +40,3 @@ noted y t = record {
   braces = braces_after y.braces t;
   head = head_after y.head t;
 }
-
--- the first token that goes past a limit, from a tally on
-abbrev pub over_from : Tally → List Spot → Option ℕ
-over_from y [] = None
-over_from y (s ∷ ss) = if is_over y s.token then Some s.at else over_from (noted y s.token) ss

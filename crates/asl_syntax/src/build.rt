@@ -1,20 +1,21 @@
 //! Building the tree of a text, as far as the grammar and the limits allow it.
 
-ghost use Rattle.std.specs.Prelude.{◌≡◌, ◌≤◌, [], ◌∷◌, ◌++◌, map, IfOk};
+ghost use Rattle.std.specs.Prelude.{◌≡◌, ◌≤◌, [], ◌∷◌, ◌++◌, map, IfOk, MatchOption};
 ghost use Rattle.asl_grammar.specs.Written.{Literal};
 ghost use Rattle.asl_grammar.specs.Automaton.{ItemStart, EmitCall, Begin, Close, Finish};
-ghost use Rattle.asl_grammar.specs.Lex.{number_value, tokens_of, bad_place};
+ghost use Rattle.asl_grammar.specs.Lex.{number_value};
 ghost use Rattle.asl_grammar.specs.View.{token_of};
 ghost use Rattle.asl_grammar.specs.ControlView.{control_of, act_of, opening_of, line_of, right_of};
 ghost use Rattle.asl_syntax.specs.View.{value_of, statement_of, block_of, items_of};
 ghost use Rattle.std.specs.Option.{option_map};
 ghost use Rattle.asl_syntax.specs.Spelled.{literal, right_meaning, line_meaning};
 ghost use Rattle.asl_syntax.specs.Fits.{RightFits, LineFits, OpeningFits, ActFits, NextFits};
-ghost use Rattle.asl_syntax.specs.Built.{no_part, no_stack, settle_part, put, header_of, closed, apply, kind_of, ready, next, whole_at, read_from};
+ghost use Rattle.asl_syntax.specs.Built.{no_part, no_stack, settle_part, put, header_of, closed, apply, kind_of, ready, next, whole_at};
 ghost use Rattle.asl_syntax.specs.BuildView.{part_of, pending_of, header_in};
-ghost use Rattle.asl_syntax.specs.Limit.{tally_of};
+ghost use Rattle.asl_syntax.specs.Parsed.{IsSpelled};
+ghost use Rattle.asl_syntax.specs.Checked.{IsWritten};
 
-use crate::limit::{Counts, capped_value};
+use crate::limit::{Counts, MOST_BYTES, capped_value, first_wide};
 use crate::name::Name;
 use crate::tree::{Function, Item, Statement, Value};
 use asl_grammar::control::{Act, Control, Kind, Line, Opening, Right, step};
@@ -333,11 +334,13 @@ impl Builder {
     }
 }
 
-/// The items of a text, read once, if it is blanks and tokens throughout and its tokens are a program within the limits.
+/// The items of a text, or nothing where it is no program within the limits. Its tokens are read once.
 pub fn build(alloc: Global, text: &[u8]) -> Result<Option<Vec<Item>>, AllocError>
-    ensures { IfOk result (λ items. option_map items_of items
-        ≡ read_from (tally_of []) ItemStart no_stack (tokens_of text.now) (bad_place text.now)) }
+    ensures { IfOk result (λ items. MatchOption items (IsWritten text.now → ⊥) (λ v. IsSpelled text.now (items_of v))) }
 {
+    if first_wide(text).is_some() || text.len() > MOST_BYTES {
+        return Ok(None);
+    }
     let mut tokens = Tokens::new(text);
     let mut counts = Counts::new();
     let mut builder = Builder::new(alloc);

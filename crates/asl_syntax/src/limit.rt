@@ -4,15 +4,22 @@ ghost use Rattle.std.specs.Prelude.{◌≡◌, ◌≤◌, min, false, []};
 ghost use Rattle.std.specs.Option.{option_map, ForSome};
 ghost use Rattle.asl_grammar.specs.Lex.{number_value, tokens_of};
 ghost use Rattle.asl_grammar.specs.View.{token_of};
-ghost use Rattle.asl_syntax.specs.Limit.{number_over, tally_of, byte_over, first_place, first_limit};
+ghost use Rattle.asl_syntax.specs.Limit.{number_over, limit_from, byte_over, first_place, first_limit};
+ghost use Rattle.asl_syntax.specs.Parsed.{first_wide};
 ghost use Rattle.asl_syntax.specs.Reached.{IsReach};
-ghost use Rattle.asl_syntax.specs.Tallied.{over_from};
 
 use asl_grammar::lexer::{Found, Tokens};
 use asl_grammar::token::{Mark, Token};
 
 /// The most bytes that a text has.
 pub const MOST_BYTES: usize = 1_048_576;
+
+/// The place of the first byte that is not ASCII.
+pub fn first_wide(text: &[u8]) -> Option<usize>
+    ensures { result ≡ first_wide text.now }
+{
+    text.iter().position(|b| *b >= 128)
+}
 
 /// The value of decimal digits, or the greatest number where that is greater.
 pub fn capped_value(digits: &[u8]) -> u32
@@ -193,7 +200,7 @@ fn first_place(one: Option<usize>, other: Option<usize>) -> Option<usize>
 
 /// The first place of `text` where a limit is passed, where `over` is that of a token.
 pub fn first_limit(text: &[u8], over: Option<usize>) -> Option<usize>
-    requires { over ≡ over_from (tally_of []) (tokens_of text.now) }
+    requires { over ≡ limit_from [] (tokens_of text.now) }
     ensures { result ≡ first_limit text.now }
 {
     first_place(over, byte_over(text.len()))

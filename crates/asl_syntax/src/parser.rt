@@ -1,19 +1,18 @@
 //! From a text to its tree, or to its first fault.
 
-ghost use Rattle.std.specs.Prelude.{◌≡◌, [], IfOk, IfErr, OnOk, map, None};
+ghost use Rattle.std.specs.Prelude.{◌≡◌, [], IfOk, IfErr, OnOk, map};
 ghost use Rattle.asl_grammar.specs.Lex.{tokens_of};
 ghost use Rattle.asl_syntax.specs.View.{items_of, item_of};
 ghost use Rattle.asl_syntax.specs.AstView.{tree_of};
-ghost use Rattle.asl_syntax.specs.Limit.{first_limit, tally_of};
-ghost use Rattle.asl_syntax.specs.Tallied.{over_from};
-ghost use Rattle.asl_syntax.specs.Parsed.{first_wide, IsLexed, IsSpelled, Parses};
+ghost use Rattle.asl_syntax.specs.Limit.{limit_from};
+ghost use Rattle.asl_syntax.specs.Parsed.{IsLexed, IsSpelled, Parses};
 ghost use Rattle.asl_syntax.specs.Fault.{IsFault};
 ghost use Rattle.asl_syntax.specs.Checked.{IsWritten};
 
 use crate::ast::Ast;
 use crate::build::build;
 use crate::fault::SyntaxFault;
-use crate::limit::{Extent, MOST_BYTES, first_limit, reach};
+use crate::limit::{Extent, first_limit, first_wide, reach};
 use crate::mentions::mentions;
 use crate::names::{first_twice, has_main, parameter_counts, unknown, wrong_call};
 use crate::tree::Item;
@@ -21,17 +20,10 @@ use asl_grammar::lexer::first_bad;
 use asl_grammar::recognizer::first_fault;
 use std::alloc::Global;
 
-/// The place of the first byte that is not ASCII.
-fn first_wide(text: &[u8]) -> Option<usize>
-    ensures { result ≡ first_wide text.now }
-{
-    text.iter().position(|b| *b >= 128)
-}
-
 /// Whether the text is blanks and tokens throughout; if so, the place of the first token that goes past a limit.
 fn check_tokens(text: &[u8]) -> Result<Option<usize>, SyntaxFault>
     ensures ok { OnOk result (IsLexed text.now) }
-    ensures over { IfOk result (λ over. over ≡ over_from (tally_of []) (tokens_of text.now)) }
+    ensures over { IfOk result (λ over. over ≡ limit_from [] (tokens_of text.now)) }
     ensures err { IfErr result (IsFault text.now) }
 {
     if let Some(at) = first_wide(text) {
@@ -62,15 +54,14 @@ fn check_text(alloc: Global, text: &[u8]) -> Result<(), SyntaxFault>
     Ok(())
 }
 
-/// The items of a program within the limits. Most texts are one, and are read once; any other is judged fault by fault.
+/// The items of a program within the limits, which is read once. Any other text, and one for which memory ran out, is judged
+/// fault by fault; if there is no fault, memory was all that was wanting.
 fn make_items(alloc: Global, text: &[u8]) -> Result<Vec<Item>, SyntaxFault>
     ensures ok { IfOk result (λ v. IsSpelled text.now (items_of v)) }
     ensures err { IfErr result (IsFault text.now) }
 {
-    if first_wide(text).is_none() && text.len() <= MOST_BYTES {
-        if let Ok(Some(items)) = build(alloc, text) {
-            return Ok(items);
-        }
+    if let Ok(Some(items)) = build(alloc, text) {
+        return Ok(items);
     }
     check_text(alloc, text)?;
     Err(SyntaxFault::OutOfMemory)
@@ -101,6 +92,11 @@ fn check_names(alloc: Global, items: &[Item], text: &[u8]) -> Result<(), SyntaxF
 
 /// The tree that a text spells, or the first fault of the text. Each kind of fault is judged over the whole text before
 /// the next kind.
+///
+/// # Errors
+///
+/// The first fault; `OutOfMemory` where a growth was refused, and then only for a program within the limits or a text with
+/// more than 64 braces open at once.
 pub fn parse(alloc: Global, text: &[u8]) -> Result<Ast, SyntaxFault>
     ensures ok { IfOk result (λ a. Parses text.now (tree_of a)) }
     ensures err { IfErr result (IsFault text.now) }

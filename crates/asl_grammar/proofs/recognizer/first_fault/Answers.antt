@@ -1,14 +1,31 @@
-use Rattle.std.proofs.Common.{◌≡◌, subst, sym, length, Option, Some, ℕ, []}
+use Rattle.std.proofs.Common.{rules, ◌≡◌, ap, subst, sym, ◌∙◌, length, List, Option, Some, ℕ, []}
+use Rattle.asl_grammar.specs.declared.control.Control.TheVariants as control
+use Rattle.asl_grammar.specs.declared.control.Kind.{Kind}
 use Rattle.asl_grammar.specs.Lex.{tokens_of}
+use Rattle.asl_grammar.specs.Token.{Spot}
 use Rattle.asl_grammar.specs.Grammar.{Judges}
+use Rattle.asl_grammar.specs.Depth.{IsDeep}
 use Rattle.asl_grammar.specs.Reader.{spots_left}
 use Rattle.asl_grammar.specs.SeenView.{kinds_in, place_in}
 use Rattle.asl_grammar.specs.View.{spot_of, token_of}
-use Rattle.asl_grammar.specs.Seen.{next_place}
+use Rattle.asl_grammar.specs.Seen.{Place, next_place}
+use Rattle.asl_grammar.proofs.Stopping.{start_place, fault_from}
 use Rattle.asl_grammar.proofs.Judged.{stopped, ended}
-use Rattle.asl_grammar.proofs.Deepening.{goes_on, behind_next}
+use Rattle.asl_grammar.proofs.Deepening.{goes_on, behind_start, behind_next, behind_full}
 use Rattle.asl_grammar.proofs.Reading.{none_left}
 use Rattle.asl_grammar.proofs.recognizer.first_fault.Goals as goal
+
+pub reading-init : goal.reading-init
+reading-init c =
+    let end = length c.args.text.now in
+    let p = place_in control.ItemStart (kinds_in c.new-kinds.result) in
+    let left = spots_left c.new-tokens.result in
+    let none : p ≡ start_place = ap (λ (ks : List Kind). place_in control.ItemStart ks) c.new-kinds.ensures in
+    let whole : left ≡ tokens_of c.args.text.now = c.new-tokens.ensures.tokens in
+    record {
+      same = ap (λ (q : Place). fault_from q left end) none ∙ ap (λ (ss : List Spot). fault_from start_place ss end) whole;
+      behind = behind_start (tokens_of c.args.text.now) left p whole none;
+    }
 
 pub reading-preserved : goal.reading-preserved
 reading-preserved c =
@@ -34,3 +51,8 @@ returns c =
     let P : Option ℕ → Type 0 = λ o. Judges all end o in
     let none : spots_left c.reading.tokens ≡ [] = none_left c.reading.tokens c.next.new.self c.next.result c.next.ensures.found c.in_default.not-Token in
     record { ok = subst P (sym c.fault_at_end.ensures) (ended all (spots_left c.reading.tokens) end (place_in c.reading.control (kinds_in c.reading.kinds)) c.reading.invariant.same none); err = tt }
+
+pub returns-in_err-advance-clause-err : goal.returns-in_err-advance-clause-err
+returns-in_err-advance-clause-err c =
+    let deep : IsDeep (tokens_of c.args.text.now) = behind_full (tokens_of c.args.text.now) (place_in c.reading.control (kinds_in c.reading.kinds)) (spot_of c.in-Token.spot) (spots_left c.reading.tokens) (spots_left c.next.new.self) c.reading.invariant.behind c.in-Token.ensures.found.0 c.in_err-advance.ensures.err in
+    search rules

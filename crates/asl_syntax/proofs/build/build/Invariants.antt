@@ -6,8 +6,9 @@ use Rattle.asl_grammar.specs.Reader.{spots_left, bad_left, bytes_left}
 use Rattle.asl_grammar.specs.ControlView.{control_of}
 use Rattle.asl_syntax.specs.Limit.{tally_of}
 use Rattle.asl_syntax.specs.TallyView.{tally_in}
-use Rattle.asl_syntax.specs.Built.{no_stack, read_from}
+use Rattle.asl_syntax.specs.Built.{no_stack}
 use Rattle.asl_syntax.specs.BuilderView.{stack_of}
+use Rattle.asl_syntax.proofs.Whole.{read_from}
 use Rattle.asl_syntax.proofs.Fitting.{ControlFits}
 use Rattle.asl_syntax.proofs.build.build.Given as goal
 

@@ -2,14 +2,14 @@
 use Rattle.std.proofs.Common.{◌≡◌, []}
 use Rattle.asl_grammar.specs.Lex.{tokens_of, bad_place}
 use Rattle.asl_grammar.specs.Reader.{spots_left, bad_left, bytes_left}
-use Rattle.asl_syntax.specs.Limit.{tally_of}
-use Rattle.asl_syntax.specs.Tallied.{over_from}
+use Rattle.asl_syntax.specs.Limit.{limit_from}
 use Rattle.asl_syntax.specs.TallyView.{tally_in}
+use Rattle.asl_syntax.proofs.Tallying.{over_from}
 use Rattle.asl_syntax.proofs.limit.reach.Given as goal
 
 abbrev pub invariant-reading : goal.invariant-reading
 invariant-reading l =
-    (over_from (tally_in l.counts) (spots_left l.tokens) ≡ over_from (tally_of []) (tokens_of l.fn.text))
+    (over_from (tally_in l.counts) (spots_left l.tokens) ≡ limit_from [] (tokens_of l.fn.text))
     × (bad_left l.tokens ≡ bad_place l.fn.text)
 
 abbrev pub decreases-reading : goal.decreases-reading
