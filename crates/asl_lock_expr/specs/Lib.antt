@@ -9,3 +9,4 @@ pub mod Agrees
 -- Machinery of the proofs, not of the promise:
 pub mod Storing
 pub mod Placing
+pub mod Meeting

@@ -77,11 +77,6 @@ hits c hit b effect class (op ∷ ops) =
     (if is_star op && is_class class hit then on (Reg b) ops effect ∷ [] else [])
     ++ hits c hit b effect (option_and_then (step_class c op) class) ops
 
--- whether there is such a `*`
-abbrev pub meets : Classed → Option ℕ → Option ℕ → List Op → Bool
-meets c hit class [] = false
-meets c hit class (op ∷ ops) = (is_star op && is_class class hit) || meets c hit (option_and_then (step_class c op) class) ops
-
 -- whether a `*` of the path is at an address of a class that is stored to
 abbrev pub is_stored_to : (ℕ → Bool) → Option ℕ → Bool
 is_stored_to stores None = false

@@ -29,6 +29,10 @@ pub struct View<'a> {
 
 /// Adds the locks before the instruction that the lock behind it becomes (`docs/ANALYSIS.md`, "Links"). After a refusal
 /// `into` has what it had, perhaps with more behind it.
+///
+/// # Errors
+///
+/// A growth was refused.
 pub fn add_links(
     view: &View,
     instr: &Instr,
@@ -47,6 +51,10 @@ pub fn add_links(
 }
 
 /// Adds the lock that a load or a store itself needs. After a refusal `into` has what it had, perhaps with more behind it.
+///
+/// # Errors
+///
+/// A growth was refused.
 pub fn add_accesses(view: &View, instr: &Instr, into: &mut Vec<Lock>) -> Result<(), AllocError>
     requires { view.now.longest ≤ 8 }
     ensures ok { OnOk result (into.new.items ≡ into.old.items ++ accesses (seen view.now) instr.now) }
@@ -65,6 +73,10 @@ pub fn add_accesses(view: &View, instr: &Instr, into: &mut Vec<Lock>) -> Result<
 
 /// Adds what a lock at the entry of a callee with so many parameters becomes at its call, whose arguments are in the
 /// registers from `first` on. After a refusal `into` has what it had, perhaps with more behind it.
+///
+/// # Errors
+///
+/// A growth was refused.
 pub fn add_entered(
     view: &View,
     first: u8,
@@ -102,6 +114,10 @@ pub fn add_entered(
 
 /// Adds the expressions before each `*` of the lock's path, with read: evaluating the lock reads their cells. After a
 /// refusal `into` has what it had, perhaps with more behind it.
+///
+/// # Errors
+///
+/// A growth was refused.
 pub fn add_dereferenced(lock: &Lock, into: &mut Vec<Lock>) -> Result<(), AllocError>
     ensures ok { OnOk result (into.new.items ≡ into.old.items ++ dereferenced lock.now) }
     ensures err { OnErr result (HasGrown into.old.items into.new.items) }

@@ -17,6 +17,10 @@ use std::alloc::{AllocError, Global};
 
 /// The locks before the instruction at `pc` that the lock behind it becomes, where paths have at most `k` operations, with
 /// their dereferenced prefixes: each once, in order (`docs/ANALYSIS.md`, "Links").
+///
+/// # Errors
+///
+/// A growth was refused.
 pub fn links(
     alloc: Global,
     lowering: &Lowering,

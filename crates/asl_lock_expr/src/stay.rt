@@ -1,19 +1,24 @@
 //! Locks that stay as they are over an instruction.
-ghost use Rattle.std.specs.Prelude.{◌≡◌, ◌∷◌, ◌↔◌, ◌&&◌, ◌||◌, [], IsTrue};
+ghost use Rattle.std.specs.Prelude.{◌≡◌, ◌≢◌, ◌∷◌, ◌↔◌, ◌&&◌, ◌||◌, [], IsTrue};
 ghost use Rattle.asl_code.specs.declared.value.Effect.{Effect as AnyEffect};
+ghost use Rattle.asl_code.specs.declared.lock.Expr.{Expr as AnyExpr};
 ghost use Rattle.asl_points_to.specs.Classes.{to};
 ghost use Rattle.asl_lock_expr.specs.ClassOf.{base_class};
-ghost use Rattle.asl_lock_expr.specs.Links.{IsSettled, is_register, begins_with_star, before, link, meets};
+ghost use Rattle.asl_lock_expr.specs.Links.{IsSettled, is_register, begins_with_star, before, link};
 ghost use Rattle.asl_lock_expr.specs.LinksView.{seen};
+ghost use Rattle.asl_lock_expr.specs.Meeting.{meets};
 
 use crate::class::{base_class, class_of, next_class};
 use crate::link::{View, begins_with_star, goes_through, is_hit, is_register};
 use asl_code::{Expr, Instr, Lock};
 
-/// Whether it is seen without a copy that the lock behind the instruction is the only one that it becomes before it: a class
-/// is, and so is an expression that the instruction does not touch.
+/// Whether the lock behind the instruction stays as it is before it, and becomes no other: a lock on the root or a class does,
+/// and so does an expression that has a class and no path that is too long, where the instruction does not touch it.
 pub fn stays(view: &View, instr: &Instr, lock: &Lock) -> bool
-    ensures { IsTrue result → link (seen view.now) instr.now lock.now ≡ lock.now ∷ [] }
+    ensures stays { IsTrue result → link (seen view.now) instr.now lock.now ≡ lock.now ∷ [] }
+    ensures untouched { (e : AnyExpr) (effect : AnyEffect) → lock.now ≡ Lock.Expr e effect → IsSettled (seen view.now) lock.now
+        → before (seen view.now) instr.now e effect ≡ lock.now ∷ [] → IsTrue result }
+    ensures others { ((e : AnyExpr) (effect : AnyEffect) → lock.now ≢ Lock.Expr e effect) → IsTrue result }
 {
     match lock {
         Lock::Root(_) | Lock::Class(_, _) => true,
@@ -31,11 +36,11 @@ fn is_settled(view: &View, expr: &Expr) -> bool
 /// Whether the instruction leaves the expression as it is: it sets another register, and it stores to no cell that the
 /// expression reads.
 fn is_untouched(view: &View, instr: &Instr, expr: &Expr) -> bool
-    ensures { (effect : AnyEffect) → IsTrue result → before (seen view.now) instr.now expr.now effect ≡ Lock.Expr expr.now effect ∷ [] }
+    ensures { (effect : AnyEffect) → IsTrue result ↔ (before (seen view.now) instr.now expr.now effect ≡ Lock.Expr expr.now effect ∷ []) }
 {
     match *instr {
-        Instr::Move { to, .. }
-        | Instr::GlobalAddress { to, .. }
+        Instr::Move { to, from } => to == from || !is_register(to, expr.base),
+        Instr::GlobalAddress { to, .. }
         | Instr::FieldAddress { to, .. }
         | Instr::Load { to, .. }
         | Instr::SetInt { to, .. }

@@ -1,7 +1,7 @@
 use Rattle.std.proofs.Common.{◌≡◌, drop}
 use Rattle.asl_points_to.specs.Classes.{to}
 use Rattle.asl_lock_expr.specs.ClassOf.{base_class}
-use Rattle.asl_lock_expr.specs.Links.{meets}
+use Rattle.asl_lock_expr.specs.Meeting.{meets}
 use Rattle.asl_lock_expr.proofs.stay.meets.Given as goal
 
 abbrev pub invariant-loop-op : goal.invariant-loop-op
