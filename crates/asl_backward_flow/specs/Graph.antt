@@ -1,4 +1,5 @@
--- Machinery of the proofs, not of the promise: from where control comes, and from where functions are called (src/graph.rt).
+-- Machinery of the proofs, not of the promise: the jumps to each pc, the calls of each function, and the regions that have
+-- each call (src/graph.rt).
 use Rattle.std.specs.Prelude.{◌≡◌, ◌≢◌, ◌+◌, ◌<◌, ◌≤◌, ℕ, List, [], Some, slice_get, unwrap_or}
 use Rattle.asl_code.specs.declared.instr.Instr.{Instr}
 use Rattle.asl_lower.specs.Lowered.{Lowered}

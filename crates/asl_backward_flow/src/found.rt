@@ -103,23 +103,27 @@ impl Found {
         alloc: Global,
         part: u16,
         pc: u16,
-        lock: u16,
+        number: u16,
     ) -> Result<(), AddFault>
         requires there { part < vec_len self.old.parts }
         requires point { HasPoint (table self.old) part pc }
         requires whole { IsWhole (table self.old) }
-        requires named { (m : Lock) × (slice_get (locks_of (table self.old) part) lock ≡ Some m) }
+        requires named { (m : Lock) × (slice_get (locks_of (table self.old) part) number ≡ Some m) }
         ensures whole { OnOk result (IsWhole (table self.new)) }
-        ensures has { OnOk result ((m : Lock) → slice_get (locks_of (table self.old) part) lock ≡ Some m → HasFact (table self.new) part pc m) }
+        ensures has { OnOk result ((m : Lock) → slice_get (locks_of (table self.old) part) number ≡ Some m → HasFact (table self.new) part pc m) }
         ensures lists { OnOk result (Lists (table self.old) (table self.new)) }
         ensures adds { Adds (table self.old) (table self.new)
-            (λ p q m. (p ≡ part) × (q ≡ pc) × (slice_get (locks_of (table self.old) part) lock ≡ Some m)) }
+            (λ p q m. (p ≡ part) × (q ≡ pc) × (slice_get (locks_of (table self.old) part) number ≡ Some m)) }
         ensures over { IfErr result (IsOver (table self.new)) }
     {
         let needing = &mut self.parts[usize::from(part)];
         let place = usize::from(pc - needing.first);
-        let is_new = mark(alloc, &mut needing.needs, place, usize::from(lock))?;
-        let fact = Fact { part, pc, lock };
+        let is_new = mark(alloc, &mut needing.needs, place, usize::from(number))?;
+        let fact = Fact {
+            part,
+            pc,
+            lock: number,
+        };
         put(&mut self.list, is_new, fact)?;
         Ok(())
     }

@@ -1,4 +1,4 @@
-//! From where control comes to each pc, and from where each function is called.
+//! The jumps to each pc, the calls of each function, and the regions that have each call.
 ghost use Rattle.std.specs.Prelude.{◌≡◌, ◌↔◌, IsTrue, ◌++◌, ◌∷◌, ◌+◌, [], ◌<◌, ◌≤◌, length, map, slice_set, vec_len, IfOk, OnOk, replicate};
 ghost use Rattle.asl_lower.specs.Kept.{IsKept};
 ghost use Rattle.asl_backward_flow.specs.Graph.{row, HasRows, HasCall, EndWithin, IsEdge, IsJump, IsCall};

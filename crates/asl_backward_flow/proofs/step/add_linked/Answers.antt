@@ -11,7 +11,7 @@ returns-then-stays-clause-ok c =
     let is = linked_list (read c.args.program.now) c.args.part c.args.pc _ _
     (stands_at c.args.program.now.spans.now c.args.program.now.spans.now c.from.result c.args.part _ refl c.from.ensures c.requires.there)
     (stands_at c.args.program.now.lowering.now.code c.code.result.now c.from-2.result c.args.pc _ c.code.ensures.code c.from-2.ensures c.requires.code)
-    _ c.view-view.ensures c.args.lock.now [] (c.args.lock.now ∷ []) refl (sym (c.stays.ensures c.if-stays.true)) in
+    _ c.view-view.ensures c.args.lock.now [] (c.args.lock.now ∷ []) refl (sym (c.stays.ensures.stays c.if-stays.true)) in
     numbered_added (table c.args.found.now) (table c.add_numbered.new.self) c.args.part c.args.pc c.args.number c.args.lock.now c.requires.named _ (λ m. (is m).0)
     (read c.args.program.now) (λ m. (is m).1) c.requires.ready c.add_numbered.result c.add_numbered.ensures.whole c.add_numbered.ensures.has c.add_numbered.ensures.lists c.add_numbered.ensures.adds
 
@@ -20,7 +20,7 @@ returns-then-stays-clause-err c =
     let is = linked_list (read c.args.program.now) c.args.part c.args.pc _ _
     (stands_at c.args.program.now.spans.now c.args.program.now.spans.now c.from.result c.args.part _ refl c.from.ensures c.requires.there)
     (stands_at c.args.program.now.lowering.now.code c.code.result.now c.from-2.result c.args.pc _ c.code.ensures.code c.from-2.ensures c.requires.code)
-    _ c.view-view.ensures c.args.lock.now [] (c.args.lock.now ∷ []) refl (sym (c.stays.ensures c.if-stays.true)) in
+    _ c.view-view.ensures c.args.lock.now [] (c.args.lock.now ∷ []) refl (sym (c.stays.ensures.stays c.if-stays.true)) in
     numbered_stopped (table c.args.found.now) (table c.add_numbered.new.self) c.args.part c.args.pc c.args.number c.args.lock.now c.requires.named _ (λ m. (is m).0)
     c.add_numbered.result c.add_numbered.ensures.over c.add_numbered.ensures.adds
 

@@ -21,20 +21,20 @@ mark-requires-clause-there c =
 
 pub mark-requires-clause-small : goal.mark-requires-clause-small
 mark-requires-clause-small c =
-    let small = number_small c.args.self.now.parts.items c.args.part c.from.result c.index_mut-needing.result.now c.args.self.now.list.items (search (rules, c.from.ensures)) (omega (arith, c.requires.there)) c.index_mut-needing.ensures.value c.requires.whole c.args.lock c.requires.named in
+    let small = number_small c.args.self.now.parts.items c.args.part c.from.result c.index_mut-needing.result.now c.args.self.now.list.items (search (rules, c.from.ensures)) (omega (arith, c.requires.there)) c.index_mut-needing.ensures.value c.requires.whole c.args.number c.requires.named in
     let same = c.from-2.ensures in
     omega (arith, small, same)
 
 pub returns-in_err-is_new-clause-adds : goal.returns-in_err-is_new-clause-adds
 returns-in_err-is_new-clause-adds c =
-    numbered_none c.args.self.now.parts.items c.args.part c.from.result c.index_mut-needing.result.now c.args.self.now.list.items (search (rules, c.from.ensures)) (omega (arith, c.requires.there)) c.index_mut-needing.ensures.value c.requires.whole c.args.lock c.requires.named c.mark.new.sets c.args.self.now.list.items c.args.pc c.in_err-is_new.ensures.err
+    numbered_none c.args.self.now.parts.items c.args.part c.from.result c.index_mut-needing.result.now c.args.self.now.list.items (search (rules, c.from.ensures)) (omega (arith, c.requires.there)) c.index_mut-needing.ensures.value c.requires.whole c.args.number c.requires.named c.mark.new.sets c.args.self.now.list.items c.args.pc c.in_err-is_new.ensures.err
 
 pub returns-in_err-put-clause-adds : goal.returns-in_err-put-clause-adds
 returns-in_err-put-clause-adds c =
     let point = c.requires.point.1 in
     let first = first_before c.args.self.now.parts.items c.args.part c.from.result c.index_mut-needing.result.now c.args.self.now.list.items (search (rules, c.from.ensures)) (omega (arith, c.requires.there)) c.index_mut-needing.ensures.value in
     let place = c.from-place.ensures in
-    numbered_adds c.args.self.now.parts.items c.args.part c.from.result c.index_mut-needing.result.now c.args.self.now.list.items (search (rules, c.from.ensures)) (omega (arith, c.requires.there)) c.index_mut-needing.ensures.value c.requires.whole c.args.lock c.requires.named c.mark.new.sets c.put.new.list.items
+    numbered_adds c.args.self.now.parts.items c.args.part c.from.result c.index_mut-needing.result.now c.args.self.now.list.items (search (rules, c.from.ensures)) (omega (arith, c.requires.there)) c.index_mut-needing.ensures.value c.requires.whole c.args.number c.requires.named c.mark.new.sets c.put.new.list.items
     c.from-place.result c.in_ok-is_new.is_new (subst (λ k. IsMarked c.index_mut-needing.result.now.needs.items c.mark.new.sets.items c.from-place.result k c.in_ok-is_new.is_new) c.from-2.ensures c.in_ok-is_new.ensures.marked) c.args.pc (omega (arith, point, first, place))
 
 pub returns-clause-adds : goal.returns-clause-adds
@@ -42,7 +42,7 @@ returns-clause-adds c =
     let point = c.requires.point.1 in
     let first = first_before c.args.self.now.parts.items c.args.part c.from.result c.index_mut-needing.result.now c.args.self.now.list.items (search (rules, c.from.ensures)) (omega (arith, c.requires.there)) c.index_mut-needing.ensures.value in
     let place = c.from-place.ensures in
-    numbered_adds c.args.self.now.parts.items c.args.part c.from.result c.index_mut-needing.result.now c.args.self.now.list.items (search (rules, c.from.ensures)) (omega (arith, c.requires.there)) c.index_mut-needing.ensures.value c.requires.whole c.args.lock c.requires.named c.mark.new.sets c.put.new.list.items
+    numbered_adds c.args.self.now.parts.items c.args.part c.from.result c.index_mut-needing.result.now c.args.self.now.list.items (search (rules, c.from.ensures)) (omega (arith, c.requires.there)) c.index_mut-needing.ensures.value c.requires.whole c.args.number c.requires.named c.mark.new.sets c.put.new.list.items
     c.from-place.result c.in_ok-is_new.is_new (subst (λ k. IsMarked c.index_mut-needing.result.now.needs.items c.mark.new.sets.items c.from-place.result k c.in_ok-is_new.is_new) c.from-2.ensures c.in_ok-is_new.ensures.marked) c.args.pc (omega (arith, point, first, place))
 
 pub returns-clause-has : goal.returns-clause-has
@@ -50,7 +50,7 @@ returns-clause-has c =
     let point = c.requires.point.1 in
     let first = first_before c.args.self.now.parts.items c.args.part c.from.result c.index_mut-needing.result.now c.args.self.now.list.items (search (rules, c.from.ensures)) (omega (arith, c.requires.there)) c.index_mut-needing.ensures.value in
     let place = c.from-place.ensures in
-    numbered_has c.args.self.now.parts.items c.args.part c.from.result c.index_mut-needing.result.now c.args.self.now.list.items (search (rules, c.from.ensures)) (omega (arith, c.requires.there)) c.index_mut-needing.ensures.value c.requires.whole c.args.lock c.requires.named c.mark.new.sets c.put.new.list.items
+    numbered_has c.args.self.now.parts.items c.args.part c.from.result c.index_mut-needing.result.now c.args.self.now.list.items (search (rules, c.from.ensures)) (omega (arith, c.requires.there)) c.index_mut-needing.ensures.value c.requires.whole c.args.number c.requires.named c.mark.new.sets c.put.new.list.items
     c.from-place.result c.in_ok-is_new.is_new (subst (λ k. IsMarked c.index_mut-needing.result.now.needs.items c.mark.new.sets.items c.from-place.result k c.in_ok-is_new.is_new) c.from-2.ensures c.in_ok-is_new.ensures.marked) c.args.pc (omega (arith, point, first, place))
 
 pub returns-clause-whole : goal.returns-clause-whole
@@ -58,7 +58,7 @@ returns-clause-whole c =
     let point = c.requires.point.1 in
     let first = first_before c.args.self.now.parts.items c.args.part c.from.result c.index_mut-needing.result.now c.args.self.now.list.items (search (rules, c.from.ensures)) (omega (arith, c.requires.there)) c.index_mut-needing.ensures.value in
     let place = c.from-place.ensures in
-    numbered_whole c.args.self.now.parts.items c.args.part c.from.result c.index_mut-needing.result.now c.args.self.now.list.items (search (rules, c.from.ensures)) (omega (arith, c.requires.there)) c.index_mut-needing.ensures.value c.requires.whole c.args.lock c.requires.named c.mark.new.sets c.put.new.list.items
+    numbered_whole c.args.self.now.parts.items c.args.part c.from.result c.index_mut-needing.result.now c.args.self.now.list.items (search (rules, c.from.ensures)) (omega (arith, c.requires.there)) c.index_mut-needing.ensures.value c.requires.whole c.args.number c.requires.named c.mark.new.sets c.put.new.list.items
     c.from-place.result c.in_ok-is_new.is_new (subst (λ k. IsMarked c.index_mut-needing.result.now.needs.items c.mark.new.sets.items c.from-place.result k c.in_ok-is_new.is_new) c.from-2.ensures c.in_ok-is_new.ensures.marked) c.args.pc (omega (arith, point, first, place)) c.in_ok-put.ensures.ok
 
 pub returns-clause-lists : goal.returns-clause-lists
@@ -66,5 +66,5 @@ returns-clause-lists c =
     let point = c.requires.point.1 in
     let first = first_before c.args.self.now.parts.items c.args.part c.from.result c.index_mut-needing.result.now c.args.self.now.list.items (search (rules, c.from.ensures)) (omega (arith, c.requires.there)) c.index_mut-needing.ensures.value in
     let place = c.from-place.ensures in
-    numbered_lists c.args.self.now.parts.items c.args.part c.from.result c.index_mut-needing.result.now c.args.self.now.list.items (search (rules, c.from.ensures)) (omega (arith, c.requires.there)) c.index_mut-needing.ensures.value c.requires.whole c.args.lock c.requires.named c.mark.new.sets c.put.new.list.items
+    numbered_lists c.args.self.now.parts.items c.args.part c.from.result c.index_mut-needing.result.now c.args.self.now.list.items (search (rules, c.from.ensures)) (omega (arith, c.requires.there)) c.index_mut-needing.ensures.value c.requires.whole c.args.number c.requires.named c.mark.new.sets c.put.new.list.items
     c.from-place.result c.in_ok-is_new.is_new (subst (λ k. IsMarked c.index_mut-needing.result.now.needs.items c.mark.new.sets.items c.from-place.result k c.in_ok-is_new.is_new) c.from-2.ensures c.in_ok-is_new.ensures.marked) c.args.pc (omega (arith, point, first, place)) c.in_ok-put.ensures.ok
