@@ -53,28 +53,17 @@ CanDo image f (Output from) = from < length f.regs
 CanDo image f (Acquire list) = (list < length image.lists) × All (LockOfClass image.classes) (locks_of image list)
 CanDo image f Release = Unit {0}
 
--- whether the instruction sets a register or goes elsewhere in the code, by what its thread's frames hold
+-- whether the instruction changes the frames of its thread alone, asks for no lock and no memory, and shows nothing
 -- (docs/INSTRUCTIONS.md, A step)
 abbrev pub is_local : Instr → Bool
-is_local (SetInt to number) = true
-is_local (SetNull to) = true
-is_local (Move to from) = true
-is_local (Add to left right) = true
-is_local (Subtract to left right) = true
-is_local (LessThan to left right) = true
-is_local (Equals to left right) = true
-is_local (GlobalAddress to global) = true
-is_local (FieldAddress to from places) = true
 is_local (Load to address) = false
 is_local (Store address from) = false
 is_local (New to cells class) = false
-is_local (Jump target) = true
-is_local (JumpIfZero test target) = true
 is_local (Call to first function) = false
-is_local (Return from) = true
 is_local (Output from) = false
 is_local (Acquire list) = false
 is_local Release = false
+is_local i = true
 
 -- what an instruction of a thread stands on: the cells that its registers point to are there, outside all sections
 -- the thread holds nothing, a frame below has the register that awaits the value of the one above, and what is fresh for

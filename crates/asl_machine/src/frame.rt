@@ -51,8 +51,8 @@ impl Frame {
         })
     }
 
-    /// A frame without registers, which stands for none.
-    fn ended(alloc: Global) -> Frame {
+    /// A frame without registers, for `begin` to make a frame of.
+    fn blank(alloc: Global) -> Frame {
         Frame {
             function: 0,
             pc: 0,
@@ -73,8 +73,7 @@ impl Frame {
         })
     }
 
-    /// Becomes the frame that the caller begins by calling the function with its registers from `first` on. The room for
-    /// registers is kept.
+    /// Becomes the frame that the caller begins by calling the function with its registers from `first` on.
     fn begin(
         &mut self,
         caller: &Frame,
@@ -162,7 +161,7 @@ fn registers(alloc: Global, arguments: &[Value], count: u8) -> Result<Vec<Value>
     requires { length arguments.now ≤ count }
     ensures { IfOk result (λ regs. regs.items ≡ first_registers arguments.now count) }
 {
-    let mut regs = Vec::with_capacity(alloc, usize::from(count))?;
+    let mut regs = Vec::new(alloc);
     fill(&mut regs, arguments, count)?;
     Ok(regs)
 }
@@ -192,7 +191,8 @@ fn copies(alloc: Global, frames: &[Frame]) -> Result<Vec<Frame>, AllocError>
 /// What a running thread is at: how many sections it is in, its top frame, how many frames are below, these frames, the
 /// nearest last, and the objects that are fresh for it, whose numbers rise.
 ///
-/// Behind the frames below are some that have ended: the next calls use their room.
+/// Behind the frames below are others that wait for nothing, since they have ended or a refused call left them blank: the
+/// next calls use their room.
 #[derive(Drop)]
 pub struct Activity {
     depth: u8,
@@ -385,7 +385,7 @@ impl Activity {
         ensures err { OnErr result (self.new ≡ self.old) }
     {
         if self.below == self.frames.len() {
-            self.frames.push(Frame::ended(alloc))?;
+            self.frames.push(Frame::blank(alloc))?;
         }
         self.frames[self.below].begin(&self.top, code, to, first, function)?;
         self.top.advance();

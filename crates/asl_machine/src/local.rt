@@ -1,4 +1,4 @@
-//! Local instructions: they set a register or go elsewhere in the code, by what their thread's frames hold.
+//! Local instructions: they change the frames of their thread alone, and want no memory. Most steps of a run are at one.
 ghost use Rattle.std.specs.Prelude.{◌≡◌, ◌≢◌, ◌<◌, ◌+◌, ◌^◌, ℕ, IsTrue, false, length};
 ghost use Rattle.asl_lock_forest.specs.Held.{Held};
 ghost use Rattle.asl_machine.specs.declared.fate.Fate.TheVariants.{GoesOn};
@@ -15,16 +15,18 @@ use crate::heap::Heap;
 use crate::values::{comparison, difference, equality, moved_on, sum};
 use asl_code::{Instr, Value};
 
-/// Does the instruction if it is local and does not fail: whether it is so. This is all that most steps do, so it is
-/// tried first, by code that keeps nothing aside.
+/// Does the instruction if it is local and the thread goes on behind it: whether that is so. This is all that most steps do,
+/// so it is tried first, by code that keeps nothing aside.
 #[inline(always)]
-pub fn done_at_once(code: &Code<'_>, heap: &Heap, activity: &mut Activity, instr: Instr) -> bool
+pub fn try_local(code: &Code<'_>, heap: &Heap, activity: &mut Activity, instr: Instr) -> bool
     requires fits { CanDo code.now activity.old.top instr }
     requires room { activity.old.top.pc + 1 < 2 ^ 16 }
     requires awaited { IsAwaited activity.old.top.result activity.old.below }
     ensures done { IsTrue result → (t : ℕ) (forest : Held) → left_with GoesOn activity.new heap.now forest
         ≡ left_by code.now (place t activity.old heap.now forest) instr }
     ensures otherwise { result ≡ false → activity.new ≡ activity.old }
+    ensures tried { result ≡ false → IsTrue (is_local instr) → (t : ℕ) (forest : Held)
+        → (left_by code.now (place t activity.old heap.now forest) instr).fate ≢ GoesOn }
 {
     match perform_local(code, heap, activity, instr) {
         Fate::GoesOn => true,

@@ -60,6 +60,10 @@ impl<'p> Machine<'p> {
     ghost use Rattle.asl_machine.specs.Sound.{MayWantMemory};
 
     /// The machine in which n threads of the program start: 1 to as many as the program's version sets.
+    ///
+    /// # Errors
+    ///
+    /// `BadCount` for another number; `OutOfMemory` where a growth was refused.
     pub fn new(alloc: Global, program: &'p Program, n: u32) -> Result<Machine<'p>, MachineFault>
         ensures image { IfOk result (λ machine. machine.image ≡ program.now) }
         ensures start { IfOk result (λ machine. machine.state ≡ start_of program.now n) }
@@ -75,6 +79,10 @@ impl<'p> Machine<'p> {
     /// Steps thread t: one instruction, or nothing where the thread has ended. The step is one that the instruction table
     /// allows, and the only one. Only a thread that is at a `new` or a `call` for which there is room, or at an `acq`
     /// outside all sections, may want memory.
+    ///
+    /// # Errors
+    ///
+    /// `BadThread` where there is no such thread; `OutOfMemory` where a growth was refused. Then the machine is as it was.
     pub fn step(&mut self, alloc: Global, t: u32) -> Result<Reply, MachineFault>
         ensures step { IfOk result (λ reply. Step self.old.image self.old.state t reply self.new.state) }
         ensures reply { IfOk result (λ reply. reply ≡ (step_of self.old.image self.old.state t).reply) }
@@ -90,13 +98,13 @@ impl<'p> Machine<'p> {
             return Err(MachineFault::BadThread);
         }
         let thread = &mut self.threads[t as usize];
-        if thread.stepped_at_once(&self.code, &self.heap, &self.forest, t) {
+        if thread.try_local_step(&self.code, &self.heap, &self.forest, t) {
             return Ok(Reply::Ran);
         }
         self.step_fully(alloc, t)
     }
 
-    /// Steps thread t, whatever it is at.
+    /// Steps thread t by the whole table of instructions, the local ones among them. Memory may be wanted.
     fn step_fully(&mut self, alloc: Global, t: u32) -> Result<Reply, MachineFault>
         requires there { t < length self.old.state.threads }
         ensures step { IfOk result (λ reply. Step self.old.image self.old.state t reply self.new.state) }
@@ -120,6 +128,10 @@ impl<'p> Machine<'p> {
     }
 
     /// A machine of the same program in an equal state. The two go on apart.
+    ///
+    /// # Errors
+    ///
+    /// `OutOfMemory` where a growth was refused.
     pub fn try_copy(&self, alloc: Global) -> Result<Machine<'p>, MachineFault>
         ensures equal { IfOk result (λ machine. machine ≡ self.now) }
         ensures other { IfErr result (λ fault. fault ≡ MachineFault.OutOfMemory) }

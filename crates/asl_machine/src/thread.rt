@@ -1,16 +1,20 @@
 //! A thread of the machine, and its step.
-ghost use Rattle.std.specs.Prelude.{◌≡◌, ◌<◌, IsTrue, false, IfOk, OnOk, OnErr, IsSomeAnd, Some, slice_get};
-ghost use Rattle.asl_machine.specs.Ready.{IsReady, CanDo};
+ghost use Rattle.std.specs.Prelude.{◌≡◌, ◌≢◌, ◌<◌, ◌+◌, ◌^◌, ℕ, IsTrue, false, IfOk, OnOk, OnErr, IsSomeAnd, Some, slice_get};
+ghost use Rattle.asl_code.specs.declared.instr.Instr.{Instr as AnyInstr};
+ghost use Rattle.asl_lock_forest.specs.Held.{Held};
+ghost use Rattle.asl_machine.specs.State.{Activity as AnyActivity, Running};
+ghost use Rattle.asl_machine.specs.Calls.{IsAwaited};
+ghost use Rattle.asl_machine.specs.Ready.{IsReady, CanDo, is_local};
 ghost use Rattle.asl_machine.specs.Sound.{ThreadWantsMemory};
 ghost use Rattle.asl_machine.specs.Ready.{ThreadReady};
-ghost use Rattle.asl_machine.specs.Twin.{place, left_with, left_at, turn_of, reply_of, holding_after, WantsMemory};
+ghost use Rattle.asl_machine.specs.Twin.{place, left_by, left_with, left_at, turn_of, reply_of, holding_after, WantsMemory};
 
 use crate::code::Code;
 use crate::fate::Fate;
 use crate::fault::Fault;
 use crate::frame::Activity;
 use crate::heap::Heap;
-use crate::local::done_at_once;
+use crate::local::try_local;
 use crate::perform::perform;
 use crate::reply::{Reply, Status};
 use asl_code::Value;
@@ -108,20 +112,22 @@ impl Thread {
         }
     }
 
-    /// Steps thread t if it is at a local instruction that does not fail: whether it is.
+    /// Steps thread t if it is at a local instruction and goes on behind it: whether that is so.
     #[inline(always)]
-    pub fn stepped_at_once(&mut self, code: &Code<'_>, heap: &Heap, forest: &Forest, t: u32) -> bool
+    pub fn try_local_step(&mut self, code: &Code<'_>, heap: &Heap, forest: &Forest, t: u32) -> bool
         requires ready { ThreadReady code.now forest.now heap.now t self.old }
         ensures reply { IsTrue result → (turn_of code.now t self.old heap.now forest.now.holding).reply ≡ Reply.Ran }
         ensures thread { IsTrue result → self.new ≡ (turn_of code.now t self.old heap.now forest.now.holding).thread }
         ensures objects { IsTrue result → heap.now ≡ (turn_of code.now t self.old heap.now forest.now.holding).objects }
         ensures holding { IsTrue result → forest.now.holding ≡ (turn_of code.now t self.old heap.now forest.now.holding).holding }
         ensures otherwise { result ≡ false → self.new ≡ self.old }
+        ensures tried { result ≡ false → (a : AnyActivity) (i : AnyInstr) → self.old ≡ Running a → slice_get code.now.code a.top.pc ≡ Some i
+            → IsTrue (is_local i) → (left_by code.now (place t a heap.now forest.now) i).fate ≢ Fate.GoesOn }
     {
         let Stage::Running(activity) = &mut self.stage else {
             return false;
         };
-        advanced_at_once(code, heap, forest, t, activity)
+        try_local_instruction(code, heap, activity)
     }
 
     /// Steps thread t.
@@ -161,24 +167,21 @@ impl Thread {
     }
 }
 
-/// Does the instruction that a running thread is at, if it is local and does not fail: whether it is so.
+/// Does the instruction that a running thread is at, if it is local and the thread goes on behind it: whether that is so.
 #[inline(always)]
-fn advanced_at_once(
-    code: &Code<'_>,
-    heap: &Heap,
-    forest: &Forest,
-    t: u32,
-    activity: &mut Activity,
-) -> bool
-    requires ready { IsReady code.now forest.now heap.now t activity.old }
+fn try_local_instruction(code: &Code<'_>, heap: &Heap, activity: &mut Activity) -> bool
     requires fits { IsSomeAnd (slice_get code.now.code activity.old.top.pc) (CanDo code.now activity.old.top) }
-    ensures done { IsTrue result → left_with Fate.GoesOn activity.new heap.now forest.now
-        ≡ left_at code.now (place t activity.old heap.now forest.now)
+    requires room { activity.old.top.pc + 1 < 2 ^ 16 }
+    requires awaited { IsAwaited activity.old.top.result activity.old.below }
+    ensures done { IsTrue result → (t : ℕ) (forest : Held) → left_with Fate.GoesOn activity.new heap.now forest
+        ≡ left_at code.now (place t activity.old heap.now forest)
         (slice_get code.now.code activity.old.top.pc) }
     ensures otherwise { result ≡ false → activity.new ≡ activity.old }
+    ensures tried { result ≡ false → (i : AnyInstr) → slice_get code.now.code activity.old.top.pc ≡ Some i → IsTrue (is_local i)
+        → (t : ℕ) (forest : Held) → (left_by code.now (place t activity.old heap.now forest) i).fate ≢ Fate.GoesOn }
 {
     let instr = code.fetch(activity.pc());
-    done_at_once(code, heap, activity, instr)
+    try_local(code, heap, activity, instr)
 }
 
 /// Does the instruction that a running thread is at.

@@ -13,7 +13,7 @@ returns-clause-called c =
       | then-self-len+in_ok-push w ↦ rw w.self-inside-is (
         same_activity c.self.inside.depth _ _ _ _ c.self.inside.fresh.items refl (same_below c.self.inside.frames.items _ _ c.self.inside.below c.self.invariant.0 w.in_ok-push.ensures.items)
             ∙ c.self.view_is,
-        omega (arith, ap length w.in_ok-push.ensures.items, length-append c.self.inside.frames.items (w.ended.result ∷ []), c.self.invariant.0),
+        omega (arith, ap length w.in_ok-push.ensures.items, length-append c.self.inside.frames.items (w.blank.result ∷ []), c.self.invariant.0),
       )
       | else-self-len w ↦ rw w.self-inside-is (c.self.view_is, omega (arith, c.self.invariant.0, w.if-self-len.false, c.len.ensures, c.self.inside.frames.ok.0))
     ] in

@@ -5,8 +5,8 @@ use Rattle.asl_machine.proofs.Soundness.{thread_ready}
 use Rattle.asl_machine.proofs.Machines.{step_machine, step_state, step_reply, step_table}
 use Rattle.asl_machine.proofs.machine.Machine.step.Goals as goal
 
-pub stepped_at_once-requires : goal.stepped_at_once-requires
-stepped_at_once-requires c =
+pub try_local_step-requires : goal.try_local_step-requires
+try_local_step-requires c =
     let lt : c.args.t < length c.self.inside.threads.items = omega arith in
     let at = slice_get_read c.self.inside.threads.items _ c.args.t c.index_mut-thread.result.now refl lt c.index_mut-thread.ensures.value in
     record { ready = thread_ready c.self.inside.code c.self.inside.heap c.self.inside.forest c.self.inside.threads.items c.args.t c.index_mut-thread.result.now c.self.invariant at }
@@ -15,36 +15,36 @@ pub invariant_of-self : goal.invariant_of-self
 invariant_of-self c =
     let lt : c.args.t < length c.self.inside.threads.items = omega arith in
     let at = slice_get_read c.self.inside.threads.items _ c.args.t c.index_mut-thread.result.now refl lt c.index_mut-thread.ensures.value in
-    let told = c.stepped_at_once.ensures in
-    let is = c.if-stepped_at_once.true in
+    let told = c.try_local_step.ensures in
+    let is = c.if-try_local_step.true in
     step_machine c.self.inside.code c.self.inside.heap c.self.inside.heap c.self.inside.forest c.self.inside.forest c.self.inside.threads.items c.args.t
-    c.index_mut-thread.result.now c.stepped_at_once.new.self c.self.invariant at (told.thread is) (told.objects is) (told.holding is) refl refl
+    c.index_mut-thread.result.now c.try_local_step.new.self c.self.invariant at (told.thread is) (told.objects is) (told.holding is) refl refl
 
-pub returns-then-stepped_at_once-clause-reply : goal.returns-then-stepped_at_once-clause-reply
-returns-then-stepped_at_once-clause-reply c =
+pub returns-then-try_local_step-clause-reply : goal.returns-then-try_local_step-clause-reply
+returns-then-try_local_step-clause-reply c =
     let lt : c.args.t < length c.self.inside.threads.items = omega arith in
     let at = slice_get_read c.self.inside.threads.items _ c.args.t c.index_mut-thread.result.now refl lt c.index_mut-thread.ensures.value in
-    let told = c.stepped_at_once.ensures in
-    let is = c.if-stepped_at_once.true in
+    let told = c.try_local_step.ensures in
+    let is = c.if-try_local_step.true in
     rw (← c.self.view_is) (sym (told.reply is)
     ∙ step_reply c.self.inside.code c.self.inside.heap c.self.inside.forest c.self.inside.threads.items c.args.t c.index_mut-thread.result.now c.self.invariant at)
 
-pub returns-then-stepped_at_once-clause-state : goal.returns-then-stepped_at_once-clause-state
-returns-then-stepped_at_once-clause-state c =
+pub returns-then-try_local_step-clause-state : goal.returns-then-try_local_step-clause-state
+returns-then-try_local_step-clause-state c =
     let lt : c.args.t < length c.self.inside.threads.items = omega arith in
     let at = slice_get_read c.self.inside.threads.items _ c.args.t c.index_mut-thread.result.now refl lt c.index_mut-thread.ensures.value in
-    let told = c.stepped_at_once.ensures in
-    let is = c.if-stepped_at_once.true in
+    let told = c.try_local_step.ensures in
+    let is = c.if-try_local_step.true in
     rw (← c.self.view_is) (step_state c.self.inside.code c.self.inside.heap c.self.inside.heap c.self.inside.forest c.self.inside.forest c.self.inside.threads.items c.args.t
-    c.index_mut-thread.result.now c.stepped_at_once.new.self c.self.invariant at (told.thread is) (told.objects is) (told.holding is))
+    c.index_mut-thread.result.now c.try_local_step.new.self c.self.invariant at (told.thread is) (told.objects is) (told.holding is))
 
-pub returns-then-stepped_at_once-clause-step : goal.returns-then-stepped_at_once-clause-step
-returns-then-stepped_at_once-clause-step c =
+pub returns-then-try_local_step-clause-step : goal.returns-then-try_local_step-clause-step
+returns-then-try_local_step-clause-step c =
     let lt : c.args.t < length c.self.inside.threads.items = omega arith in
     let at = slice_get_read c.self.inside.threads.items _ c.args.t c.index_mut-thread.result.now refl lt c.index_mut-thread.ensures.value in
-    let told = c.stepped_at_once.ensures in
-    let is = c.if-stepped_at_once.true in
+    let told = c.try_local_step.ensures in
+    let is = c.if-try_local_step.true in
     rw (← c.self.view_is) (step_table c.self.inside.code c.self.inside.heap c.self.inside.forest c.self.inside.threads.items c.args.t reply.Ran _ c.self.invariant lt
     (sym (told.reply is) ∙ step_reply c.self.inside.code c.self.inside.heap c.self.inside.forest c.self.inside.threads.items c.args.t c.index_mut-thread.result.now c.self.invariant at)
     (step_state c.self.inside.code c.self.inside.heap c.self.inside.heap c.self.inside.forest c.self.inside.forest c.self.inside.threads.items c.args.t
-    c.index_mut-thread.result.now c.stepped_at_once.new.self c.self.invariant at (told.thread is) (told.objects is) (told.holding is)))
+    c.index_mut-thread.result.now c.try_local_step.new.self c.self.invariant at (told.thread is) (told.objects is) (told.holding is)))
