@@ -27,6 +27,10 @@ impl Model for Journal {
 
 impl Journal {
     /// The journal of n threads with these events, with no copy. Where it is none, the events come back.
+    ///
+    /// # Errors
+    ///
+    /// The first that applies of `JournalFull`, `BadCount` and `BadThread`, with the events.
     pub fn of(n: u32, events: Vec<Event>) -> Result<Journal, (JournalFault, Vec<Event>)>
         ensures journal { IfOk result (λ journal. journal ≡ record { threads = n; events = events.items }) }
         ensures only { IsLog (record { threads = n; events = events.items }) → IsOk result }

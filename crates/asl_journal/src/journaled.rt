@@ -42,6 +42,10 @@ impl<'p> Journaled<'p> {
     ghost use Rattle.asl_journal.specs.Recorded.{IsUnchanged, event_of, has_ended, last_state, log_of, machine_of};
 
     /// The machine in which n threads of the program start, with an empty journal.
+    ///
+    /// # Errors
+    ///
+    /// `BadCount` for no thread and for more than the program's version sets; `OutOfMemory` where a growth was refused.
     pub fn start(alloc: Global, program: &'p Program, n: u32) -> Result<Journaled<'p>, JournalFault>
         ensures image { IfOk result (λ journaled. journaled.image ≡ program.now) }
         ensures threads { IfOk result (λ journaled. journaled.count ≡ n) }
@@ -58,6 +62,11 @@ impl<'p> Journaled<'p> {
 
     /// Steps thread t, and writes the step down, also where it is blocked or the thread has ended. Room for the event is
     /// made before anything changes.
+    ///
+    /// # Errors
+    ///
+    /// `JournalFull` behind 16,777,216 events; else `BadThread` where there is no such thread; else `OutOfMemory` where a growth was
+    /// refused. Then no event is written, and the machine is where it was.
     pub fn step(&mut self, alloc: Global, t: u32) -> Result<Receipt, JournalFault>
         ensures event { IfOk result (λ receipt. self.new.events ≡ self.old.events ++ event_of receipt ∷ []) }
         ensures step { IfOk result (λ receipt. Step self.old.image (last_state self.old) t receipt.reply (last_state self.new)) }
@@ -99,6 +108,10 @@ impl<'p> Journaled<'p> {
     }
 
     /// Makes room for m events, or for as many as the limit leaves where that is less.
+    ///
+    /// # Errors
+    ///
+    /// `OutOfMemory` where a growth was refused.
     pub fn reserve(&mut self, m: u32) -> Result<(), JournalFault>
         ensures room { OnOk result (min m (most_events - length self.old.events) ≤ self.new.spare) }
         ensures grows { self.old.spare ≤ self.new.spare }

@@ -1,12 +1,13 @@
 //! Laws of the definitions that the contracts of this crate cite.
 ghost use Rattle.std.specs.Prelude.{◌≡◌, ◌++◌, ℕ, List, take};
 ghost use Rattle.asl_code.specs.declared.image.Image.{Image};
+ghost use Rattle.asl_code.specs.Verified.{IsVerified};
 ghost use Rattle.asl_machine.specs.State.{State};
-ghost use Rattle.asl_machine.specs.Run.{state_after};
+ghost use Rattle.asl_machine.specs.Run.{IsThreadCount, start_of, state_after, RunsBy};
 ghost use Rattle.asl_journal.specs.declared.event.Event.{Event};
 ghost use Rattle.asl_journal.specs.Bytes.{LogOfSpellingIsOne, SpellingOfLogIsOne};
 ghost use Rattle.asl_journal.specs.Faults.{BytesHaveAnOutcome, OutcomeIsOne};
-ghost use Rattle.asl_journal.specs.Journal.{GoesBy, IsJournal, schedule_of};
+ghost use Rattle.asl_journal.specs.Journal.{AreThere, GoesBy, IsJournal, schedule_of, replies_in, state_at};
 ghost use Rattle.asl_journal.specs.Replay.{DiffersAt};
 
 /// A journal and its bytes belong to no other. So to get what was put gives the same journal.
@@ -19,6 +20,16 @@ pub fn journal_and_bytes_are_one()
 pub fn bytes_have_one_outcome()
     ensures some { BytesHaveAnOutcome }
     ensures one { OutcomeIsOne }
+{}
+
+/// A journal of a verified program goes by the instruction table: by it alone the program's threads run over the journal's
+/// schedule with these replies, to the state where the journal leads. And events that go by the table so are a journal.
+pub fn journals_go_by_the_table()
+    ensures some { (image : Image) (count : ℕ) (events : List Event) → IsVerified image → IsJournal image count events
+        → RunsBy image (start_of image count) (schedule_of events) (replies_in events) (state_at image count events) }
+    ensures only { (image : Image) (count : ℕ) (events : List Event) (end : State) → IsVerified image → IsThreadCount image count
+        → AreThere count events → RunsBy image (start_of image count) (schedule_of events) (replies_in events) end
+        → IsJournal image count events × (end ≡ state_at image count events) }
 {}
 
 /// A run in two parts: the events of the whole are a run's where the first are, and the others are from where the first

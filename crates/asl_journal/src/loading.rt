@@ -13,6 +13,10 @@ use asl_loader::Stop;
 use std::alloc::Global;
 
 /// The journal that the bytes spell, all of them.
+///
+/// # Errors
+///
+/// The first refusal from front to back; `OutOfMemory` where a growth was refused, and then the bytes spell a journal.
 pub fn get(alloc: Global, bytes: &[u8]) -> Result<Journal, JournalFault>
     ensures found { IfOk result (λ journal. SpellsLog journal bytes.now) }
     // What is spelled is answered, unless memory was refused.

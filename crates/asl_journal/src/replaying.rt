@@ -13,6 +13,11 @@ use std::alloc::Global;
 
 /// The machine to which the journal leads, if it is one of this program; else that the program starts no so many threads,
 /// or the first event to which its run replies something else.
+///
+/// # Errors
+///
+/// `BadCount` where the program's version sets fewer threads; `Differs` with the first event that differs; `OutOfMemory` where a
+/// growth was refused.
 pub fn replay<'p>(
     alloc: Global,
     program: &'p Program,
@@ -33,6 +38,10 @@ pub fn replay<'p>(
 }
 
 /// The machine to which the events lead from the state of this one, which stays as it is.
+///
+/// # Errors
+///
+/// `Differs` with the first event that differs; `OutOfMemory` where a growth was refused.
 pub fn follow<'p>(
     alloc: Global,
     from: &Machine<'p>,
