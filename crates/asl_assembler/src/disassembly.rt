@@ -17,7 +17,7 @@ use asl_code::{Function, Image, Instr, Items, Lock, Program};
 use std::alloc::{AllocError, Global};
 
 /// Bytes of text that are asked for at first for each instruction: lines are seldom longer.
-const LINE: usize = 16;
+const LINE_ROOM: usize = 16;
 
 /// The canonical text of the program (`docs/ASSEMBLY.md`).
 ///
@@ -28,7 +28,7 @@ pub fn disassemble(alloc: Global, program: &Program) -> Result<Vec<u8>, AllocErr
     ensures canonical { IfOk result (λ text. text.items ≡ canonical_text program.now) }
     ensures spelled { IfOk result (λ text. Spells text.items program.now) }
 {
-    let room = program.code().len().saturating_mul(LINE);
+    let room = program.code().len().saturating_mul(LINE_ROOM);
     let mut text = String::with_capacity(alloc, room)?;
     put_image(&mut text, program.image())?;
     Ok(text.into_bytes())

@@ -13,6 +13,11 @@ use asl_code::{Image, Program};
 use std::alloc::Global;
 
 /// The program that the bytes spell, all of them.
+///
+/// # Errors
+///
+/// The first refusal from front to back, then that of the verifier; `OutOfMemory` where a growth was refused, and then the
+/// bytes spell an image.
 pub fn load(alloc: Global, bytes: &[u8]) -> Result<Program, LoadFault>
     ensures found { IfOk result (λ program. SpellsImage program bytes.now) }
     ensures verified { IfOk result (λ program. IsVerified program) }

@@ -22,6 +22,10 @@ pub fn bad(bytes: &[u8]) -> Stop
 }
 
 /// A byte.
+///
+/// # Errors
+///
+/// `Stop::Short` where there is none.
 #[tactic(auto, unfolding(crate::specs::Reading::byte_at))]
 pub fn byte_at(bytes: &[u8]) -> Result<(u8, &[u8]), Stop>
     ensures { Gives (λ x. (x.0, x.1.now)) result (byte_at bytes.now) }
@@ -33,6 +37,10 @@ pub fn byte_at(bytes: &[u8]) -> Result<(u8, &[u8]), Stop>
 }
 
 /// A number of two bytes, the high one first.
+///
+/// # Errors
+///
+/// `Stop::Short` where the bytes end before it does.
 pub fn two_at(bytes: &[u8]) -> Result<(u16, &[u8]), Stop>
     ensures { Gives (λ x. (x.0, x.1.now)) result (number_at w16 bytes.now) }
 {
@@ -44,6 +52,10 @@ pub fn two_at(bytes: &[u8]) -> Result<(u16, &[u8]), Stop>
 }
 
 /// A number of four bytes, the highest first.
+///
+/// # Errors
+///
+/// `Stop::Short` where the bytes end before it does.
 pub fn four_at(bytes: &[u8]) -> Result<(u32, &[u8]), Stop>
     ensures { Gives (λ x. (x.0, x.1.now)) result (number_at w32 bytes.now) }
 {
@@ -56,6 +68,10 @@ pub fn four_at(bytes: &[u8]) -> Result<(u32, &[u8]), Stop>
 }
 
 /// The four letters, as a number; others are bad.
+///
+/// # Errors
+///
+/// `Stop::Short` where the bytes end before it does; `Stop::Bad`, with how many bytes are left at its front, for other bytes.
 #[tactic(auto, unfolding(crate::specs::Reading::letters_at))]
 pub fn letters_at(letters: u32, bytes: &[u8]) -> Result<(u32, &[u8]), Stop>
     ensures { Gives (λ x. (x.0, x.1.now)) result (letters_at letters bytes.now) }
@@ -69,6 +85,10 @@ pub fn letters_at(letters: u32, bytes: &[u8]) -> Result<(u32, &[u8]), Stop>
 }
 
 /// A version that there is; another is bad.
+///
+/// # Errors
+///
+/// `Stop::Short` where the bytes end before it does; `Stop::Bad`, with how many bytes are left at its front, for another.
 #[tactic(auto, unfolding(crate::specs::Reading::version_at))]
 pub fn version_at(bytes: &[u8]) -> Result<(u16, &[u8]), Stop>
     ensures { Gives (λ x. (x.0, x.1.now)) result (version_at bytes.now) }
@@ -82,6 +102,10 @@ pub fn version_at(bytes: &[u8]) -> Result<(u16, &[u8]), Stop>
 }
 
 /// A byte below the limit; another is bad.
+///
+/// # Errors
+///
+/// `Stop::Short` where there is none; `Stop::Bad`, with how many bytes are left at its front, for another.
 #[tactic(auto, unfolding(crate::specs::Reading::below_at))]
 pub fn below_at(limit: u32, bytes: &[u8]) -> Result<(u8, &[u8]), Stop>
     ensures read { Gives (λ x. (x.0, x.1.now)) result (below_at limit bytes.now) }
@@ -96,6 +120,10 @@ pub fn below_at(limit: u32, bytes: &[u8]) -> Result<(u8, &[u8]), Stop>
 }
 
 /// An effect: 0 reads, 1 writes.
+///
+/// # Errors
+///
+/// `Stop::Short` where there is none; `Stop::Bad`, with how many bytes are left at its front, for another byte.
 #[tactic(auto, unfolding(crate::specs::Reading::effect_at))]
 pub fn effect_at(bytes: &[u8]) -> Result<(Effect, &[u8]), Stop>
     ensures { Gives (λ x. (x.0, x.1.now)) result (effect_at bytes.now) }

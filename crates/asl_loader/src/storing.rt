@@ -1,6 +1,6 @@
 //! Writing a program as bytes, field by field.
 
-ghost use Rattle.std.specs.Prelude.{◌≡◌, ◌<◌, ◌^◌, ℕ, List, [], ◌∷◌, length, IfOk, OnOk};
+ghost use Rattle.std.specs.Prelude.{◌≡◌, ◌<◌, ◌^◌, ℕ, List, [], length, IfOk, OnOk};
 ghost use Rattle.std.specs.List.{AllByRecursion};
 ghost use Rattle.asl_code.specs.declared.image.Function.{Function};
 ghost use Rattle.asl_code.specs.declared.instr.Instr.{Instr};
@@ -17,6 +17,10 @@ use asl_code::{Base, Function, Image, Instr, Items, Lock, Op, Path, Program, put
 use std::alloc::{AllocError, Global};
 
 /// The bytes of the program.
+///
+/// # Errors
+///
+/// A growth was refused.
 pub fn store(alloc: Global, program: &Program) -> Result<Vec<u8>, AllocError>
     ensures { IfOk result (λ bytes. SpellsImage program.now bytes.items) }
 {
