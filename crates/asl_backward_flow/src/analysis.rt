@@ -20,6 +20,10 @@ use std::alloc::Global;
 
 /// Which locks each region needs at each of its points, where paths have at most `k` operations (`docs/ANALYSIS.md`, "Needed
 /// locks"). A region that needs more than 4,096 different locks is refused.
+///
+/// # Errors
+///
+/// `TooManyLocks` with a region that needs more than 4,096 locks; `OutOfMemory` where a growth was refused.
 pub fn needed(
     alloc: Global,
     lowering: &Lowering,

@@ -41,6 +41,10 @@ pub fn flow_of(parts: Vec<Part>) -> Flow
 impl Flow {
     /// The locks that a region needs at a pc, each once, in order; of a flow that `needed` answered none where there is no such
     /// region, or where the pc is none of the region's.
+    ///
+    /// # Errors
+    ///
+    /// A growth was refused.
     pub fn at(&self, alloc: Global, region: Region, pc: u32) -> Result<Vec<Lock>, AllocError>
         ensures order { IfOk result (λ v. AreInOrder v.items) }
         ensures locks { IfOk result (λ v. (m : Lock) → IsOne v.items m ↔ IsTold self.now (region_of region) pc m) }

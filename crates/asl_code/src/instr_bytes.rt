@@ -47,6 +47,10 @@ pub fn put_instr(instr: &Instr) -> [u8; 8]
 }
 
 /// The instruction of the bytes, or the place of the first bad field: 0 is op, 1 to 3 are a, b and c, and 4 is d.
+///
+/// # Errors
+///
+/// The place of the first bad field.
 pub fn get_instr(bytes: &[u8; 8]) -> Result<Instr, usize>
     ensures found { IfOk result (λ instr. SpellsInstr instr bytes.now) }
     ensures only { (instr : Instr) → SpellsInstr instr bytes.now → result ≡ Ok instr }

@@ -53,6 +53,10 @@ pub fn put_value(value: Value) -> ArrayVec<u8, 5>
 }
 
 /// The value whose bytes begin the given ones, and how many bytes it has.
+///
+/// # Errors
+///
+/// `Short` where the bytes end before the value does; `Bad` where no value begins so.
 pub fn get_value(bytes: &[u8]) -> Result<(Value, usize), ValueFault>
     ensures found { IfOk result (λ found. TakesValue bytes.now found.0 found.1) }
     ensures only { (value : Value) → (text rest : List ℕ) → SpellsValue value text

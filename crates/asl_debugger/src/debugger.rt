@@ -48,6 +48,11 @@ impl<'p> Debugger<'p> {
     ghost use Rattle.asl_debugger.specs.Session.{IsNextStop, IsLastStop, machine_before, moved, with_breaks};
 
     /// A debugger at position 0 of the journal, if it is one of the program. Else it is handed back.
+    ///
+    /// # Errors
+    ///
+    /// `BadCount` where the program starts no so many threads; else `Differs` with the first event that differs; `OutOfMemory` where a
+    /// growth was refused. The journal comes back with the fault.
     pub fn open(
         alloc: Global,
         program: &'p Program,
@@ -82,6 +87,10 @@ impl<'p> Debugger<'p> {
     }
 
     /// Goes to position k.
+    ///
+    /// # Errors
+    ///
+    /// `NoSuchStep` where the journal has no such position; `OutOfMemory` where a growth was refused. Then nothing has moved.
     pub fn goto(&mut self, alloc: Global, k: u32) -> Result<(), DebugFault>
         ensures moves { OnOk result (self.new ≡ moved self.old k) }
         ensures none { IsErrOf result DebugFault.NoSuchStep ↔ (length self.old.log.events < k) }
@@ -98,6 +107,10 @@ impl<'p> Debugger<'p> {
     }
 
     /// Goes on by one event, which takes one step.
+    ///
+    /// # Errors
+    ///
+    /// `AtEnd` behind the last event; `OutOfMemory` where a growth was refused. Then nothing has moved.
     pub fn forward(&mut self, alloc: Global) -> Result<(), DebugFault>
         ensures moves { OnOk result (self.new ≡ moved self.old (self.old.position + 1)) }
         ensures end { IsErrOf result DebugFault.AtEnd ↔ (self.old.position ≡ length self.old.log.events) }
@@ -114,6 +127,10 @@ impl<'p> Debugger<'p> {
     }
 
     /// Goes back by one event.
+    ///
+    /// # Errors
+    ///
+    /// `AtStart` before the first event; `OutOfMemory` where a growth was refused. Then nothing has moved.
     pub fn back(&mut self, alloc: Global) -> Result<(), DebugFault>
         ensures moves { OnOk result (self.new ≡ moved self.old (self.old.position - 1)) }
         ensures start { IsErrOf result DebugFault.AtStart ↔ (self.old.position ≡ 0) }
@@ -131,6 +148,10 @@ impl<'p> Debugger<'p> {
     }
 
     /// Goes on to the least later stop, or to the end where there is none.
+    ///
+    /// # Errors
+    ///
+    /// `AtEnd` behind the last event; `OutOfMemory` where a growth was refused. Then nothing has moved.
     pub fn forward_to_break(&mut self, alloc: Global) -> Result<(), DebugFault>
         ensures moves { OnOk result (self.new ≡ moved self.old self.new.position) }
         ensures stop { OnOk result (IsNextStop self.old self.new.position) }
@@ -148,6 +169,10 @@ impl<'p> Debugger<'p> {
     }
 
     /// Goes back to the greatest earlier stop, or to the start where there is none.
+    ///
+    /// # Errors
+    ///
+    /// `AtStart` before the first event; `OutOfMemory` where a growth was refused. Then nothing has moved.
     pub fn back_to_break(&mut self, alloc: Global) -> Result<(), DebugFault>
         ensures moves { OnOk result (self.new ≡ moved self.old self.new.position) }
         ensures stop { OnOk result (IsLastStop self.old self.new.position) }
@@ -166,6 +191,10 @@ impl<'p> Debugger<'p> {
     }
 
     /// Makes the place a breakpoint. A place out of the code never stops.
+    ///
+    /// # Errors
+    ///
+    /// `OutOfMemory` where a growth was refused.
     pub fn break_at(&mut self, pc: u32) -> Result<(), DebugFault>
         ensures same { self.new ≡ with_breaks self.old self.new.breakpoints }
         ensures has { OnOk result (HasBreak self.old.breakpoints self.new.breakpoints pc) }

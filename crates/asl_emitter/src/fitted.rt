@@ -17,6 +17,10 @@ pub const MOST_LOCKS: usize = NEWEST_LIMITS.locks;
 
 /// The locks of a function fitted to a list of at most 256, as many as the newest version has: reduced; where more are left,
 /// their classes, reduced; where more are left still, one lock on the root with the strongest effect (`docs/ANALYSIS.md`, "Lists").
+///
+/// # Errors
+///
+/// A growth was refused.
 pub fn fit(
     alloc: Global,
     classes: &Classes,

@@ -25,6 +25,10 @@ use std::alloc::{AllocError, Global};
 /// want of a lock, for a section that was not entered, or for one left open; and each run ends as one whose sections do
 /// not interleave: exactly where no section makes an object, and up to the numbers of objects where none of them runs out of these
 /// (`docs/SOUNDNESS.md`, `docs/ATOMICITY.md`).
+///
+/// # Errors
+///
+/// The first fault of lowering, of the classes and of the needed locks, in this order; `OutOfMemory` where a growth was refused.
 pub fn infer(alloc: Global, ast: &Ast, k: u32) -> Result<Program, InferFault>
     requires { k ≤ 8 }
     ensures inferred { IfOk result (IsInferredFor (tree_of ast.now) k) }

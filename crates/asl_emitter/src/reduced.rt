@@ -10,6 +10,10 @@ use asl_points_to::Classes;
 use std::alloc::{AllocError, Global};
 
 /// The locks of a function that no other of them absorbs, each once, in order (`docs/ANALYSIS.md`, "Lists").
+///
+/// # Errors
+///
+/// A growth was refused.
 pub fn reduce(
     alloc: Global,
     classes: &Classes,

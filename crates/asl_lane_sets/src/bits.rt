@@ -30,6 +30,10 @@ impl Model for Bits {
 
 impl Bits {
     /// The empty set of numbers below `len`. A length of 0 takes no memory.
+    ///
+    /// # Errors
+    ///
+    /// A growth was refused.
     pub fn with_len(alloc: Global, len: usize) -> Result<Bits, AllocError>
         ensures { IfOk result (λ set. set ≡ replicate len false) }
     {
@@ -80,6 +84,10 @@ impl Bits {
     }
 
     /// The numbers of the set, rising.
+    ///
+    /// # Errors
+    ///
+    /// A growth was refused.
     pub fn members(&self, alloc: Global) -> Result<Vec<usize>, AllocError>
         ensures numbers { IfOk result (λ members. (k : ℕ) → Contains members.items k ↔ IsIn self.now k) }
         ensures rising { IfOk result (λ members. IsRising members.items) }

@@ -13,6 +13,10 @@ use asl_points_to::Classes;
 use std::alloc::{AllocError, Global};
 
 /// The classes that each function of the program may store to: those of its own stores, and of the functions that it calls.
+///
+/// # Errors
+///
+/// A growth was refused.
 pub fn writes(alloc: Global, lowering: &Lowering, classes: &Classes) -> Result<Writes, AllocError>
     ensures { IfOk result (λ w. TellsStores lowering.now classes.now (stores w)) }
 {

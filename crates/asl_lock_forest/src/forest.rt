@@ -65,6 +65,10 @@ impl Forest {
     ghost use Rattle.asl_lock_forest.specs.Held.{IsForest};
 
     /// The forest over classes 0 to `classes - 1` in which none of the threads holds anything.
+    ///
+    /// # Errors
+    ///
+    /// A growth was refused.
     pub fn new(alloc: Global, classes: u32, threads: u32) -> Result<Self, AllocError>
         requires some_threads { 1 ≤ threads }
         requires few_threads { threads ≤ newest_threads }
@@ -83,6 +87,10 @@ impl Forest {
     }
 
     /// A forest over the same classes and threads, in which the same is held.
+    ///
+    /// # Errors
+    ///
+    /// A growth was refused.
     pub fn try_copy(&self, alloc: Global) -> Result<Self, AllocError>
         ensures { IfOk result (λ forest. forest ≡ self.now) }
     {
@@ -95,6 +103,10 @@ impl Forest {
     }
 
     /// Grants all that is asked, and answers `true`; or grants nothing, where another thread is in the way.
+    ///
+    /// # Errors
+    ///
+    /// A growth was refused. Then nothing is granted.
     pub fn try_acquire(
         &mut self,
         alloc: Global,
@@ -135,6 +147,10 @@ impl Forest {
     }
 
     /// Grants all that is asked, where no other thread is in the way.
+    ///
+    /// # Errors
+    ///
+    /// A growth was refused. Then nothing is granted.
     pub fn grant(&mut self, thread: u32, request: &[(Node, Mode)]) -> Result<(), AllocError>
         requires thread_there { thread < self.old.threads }
         requires nothing_held { HoldsNothing self.old.holding thread }

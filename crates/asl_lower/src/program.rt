@@ -46,6 +46,10 @@ fn lower_items(alloc: Global, items: &[Item]) -> Result<Lowering, LowerFault>
 
 /// The code of a program by its templates, or the first fault of the program. Each kind of fault is judged over the whole
 /// program before the next kind.
+///
+/// # Errors
+///
+/// The first fault of the program; `OutOfMemory` where a growth was refused.
 pub fn lower(alloc: Global, ast: &Ast) -> Result<Lowering, LowerFault>
     ensures lowering { IfOk result (λ l. IsLowering (tree_of ast.now) l) }
     ensures room { IfOk result (λ _. HasRoom (tree_of ast.now)) }

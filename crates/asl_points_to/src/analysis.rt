@@ -37,6 +37,10 @@ fn settled(alloc: Global, lowering: &Lowering) -> Result<Draft, AllocError>
 }
 
 /// The classes of a program: the least legal ones, numbered by their first members, globals before sites.
+///
+/// # Errors
+///
+/// `TooManyClasses` for more than 1,024; `OutOfMemory` where a growth was refused.
 pub fn classes(alloc: Global, lowering: &Lowering) -> Result<Classes, ClassesFault>
     ensures classes { IfOk result (AreClasses lowering.now) }
     ensures few { IfOk result (λ c. c.count ≤ 1024) }

@@ -39,6 +39,10 @@ impl Ast {
     }
 
     /// The globals in the order of the text.
+    ///
+    /// # Errors
+    ///
+    /// A growth was refused.
     pub fn globals(&self, alloc: Global) -> Result<Vec<&Name>, AllocError>
         ensures { IfOk result (λ v. map (λ x. x.now) v.items ≡ globals_of (tree_of self.now)) }
     {
@@ -52,6 +56,10 @@ impl Ast {
     }
 
     /// The functions in the order of the text.
+    ///
+    /// # Errors
+    ///
+    /// A growth was refused.
     pub fn functions(&self, alloc: Global) -> Result<Vec<&Function>, AllocError>
         ensures { IfOk result (λ v. map (λ f. function_of f.now) v.items ≡ functions_of (tree_of self.now)) }
     {

@@ -369,6 +369,10 @@ fn print_items(alloc: Global, items: &[Item]) -> Result<Vec<u8>, AllocError>
 }
 
 /// The text of a tree: its tokens, numbers without needless zeros, with one space between and a newline at the end.
+///
+/// # Errors
+///
+/// A growth was refused.
 pub fn print(alloc: Global, ast: &Ast) -> Result<Vec<u8>, AllocError>
     ensures { IfOk result (λ v. v.items ≡ printed (tree_of ast.now)) }
 {

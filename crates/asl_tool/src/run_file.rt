@@ -41,6 +41,10 @@ pub fn put_run(alloc: Global, program: &Program, journal: &Journal) -> Result<Ve
 
 /// The program and the journal that the bytes spell, all of them. The journal need not be one of the program: that is for
 /// replay to judge.
+///
+/// # Errors
+///
+/// The first refusal from front to back, then that of the verifier; `OutOfMemory` where a growth was refused.
 pub fn get_run(alloc: Global, bytes: &[u8]) -> Result<(Program, Journal), FileFault>
     ensures found { IfOk result (λ run. SpellsRun run.0 run.1 bytes.now) }
     // What is spelled is answered, unless memory was refused.

@@ -76,6 +76,10 @@ impl Model for TurnSeat {
 impl Turns {
     /// Tickets 0 to `limit - 1`, of which none is drawn, and the first seat, which has 64 passes. Only want of memory
     /// refuses it.
+    ///
+    /// # Errors
+    ///
+    /// A growth was refused.
     pub fn new(alloc: Global, limit: u64) -> Result<(Turns, TurnSeat), TurnFault>
         requires { limit ≤ 16777216 }
         ensures limit { IfOk result (λ made. made.0.limit ≡ limit) }
@@ -108,6 +112,10 @@ impl Turns {
     }
 
     /// A new seat with one of the passes that this one has left. It is refused only where fewer than two are left.
+    ///
+    /// # Errors
+    ///
+    /// `NoPass` where fewer than two passes are left.
     pub fn split(&self, seat: &mut TurnSeat) -> Result<TurnSeat, TurnFault>
         requires { seat.old.of ≡ self.now }
         ensures ok { IfOk result (λ new. (1 < seat.old.left) × (new ≡ record { of = seat.old.of; left = 1; spent = 0; tickets = [] })
