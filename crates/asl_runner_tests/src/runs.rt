@@ -103,6 +103,65 @@ impl Gate for Relay {
     }
 }
 
+/// A gate that remembers for each of the first eight calls of two workers the number of the event that it was handed behind it,
+/// from 1; and whether there was any other call.
+#[derive(Drop)]
+struct Witness {
+    handed: [[AtomicU64; 8]; 2],
+    strays: AtomicU64,
+}
+
+impl Witness {
+    fn new() -> Witness {
+        Witness {
+            handed: [words(), words()],
+            strays: AtomicU64::new(0),
+        }
+    }
+
+    /// The word for the worker's call, if there is one.
+    fn word(&self, worker: u8, call: u64) -> Option<&AtomicU64> {
+        let mine = self.handed.get(usize::from(worker))?;
+        let place = usize::try_from(call.checked_sub(1)?).ok()?;
+        mine.get(place)
+    }
+
+    /// The number, from 1, of the event that it was handed behind the worker's call, if it remembers any.
+    fn number(&self, worker: u8, call: u64) -> Option<u64> {
+        let word = self.word(worker, call)?;
+        Some(word.load(Ordering::SeqCst))
+    }
+
+    /// Whether it was handed the worker's receipts, one by one, and nothing behind them.
+    fn has_seen(&self, worker: u8, receipts: &[Receipt]) -> bool {
+        for (place, call) in (0..8usize).zip(1..=8u64) {
+            if self.number(worker, call) != Some(number_of(receipts.get(place))) {
+                return false;
+            }
+        }
+        receipts.len() <= 8
+    }
+}
+
+/// The number, from 1, of the receipt's event, or 0 where there is no receipt.
+fn number_of(receipt: Option<&Receipt>) -> u64 {
+    match receipt {
+        Some(receipt) => u64::from(receipt.index) + 1,
+        None => 0,
+    }
+}
+
+impl Gate for Witness {
+    fn before(&self, _worker: u8, _call: u64) {}
+
+    fn after(&self, worker: u8, call: u64, receipt: &Receipt) {
+        match self.word(worker, call) {
+            Some(word) => word.store(number_of(Some(receipt)), Ordering::SeqCst),
+            None => self.strays.store(1, Ordering::SeqCst),
+        }
+    }
+}
+
 /// What a report says in numbers: events, tickets, receipts of each worker, what the counter is at, and how many threads
 /// have ended.
 #[derive(Clone, Copy, Debug, PartialEq, Eq)]
@@ -221,6 +280,43 @@ fn one_thread_of_several_workers_is_stepped_by_the_first(rt: HostRuntime) -> Res
     for workers in [2, 8] {
         let ran = outcome(&rt, rt.alloc(), &program, (1, workers, 10_000), &Open);
         assert!(rt; ran == Some(Ok(ONE)), "{workers} workers");
+    }
+    Ok(())
+}
+
+/// Whether the gate was handed each receipt of the report's two workers behind its call, and nothing else, and there are so many.
+fn is_seen(gate: &Witness, report: &Report<'_>, events: u64) -> bool {
+    let mut count: usize = 0;
+    for (worker, receipts) in (0..2u8).zip(report.receipts.iter()) {
+        if !gate.has_seen(worker, receipts.as_slice()) {
+            return false;
+        }
+        count = count.saturating_add(receipts.len());
+    }
+    count as u64 == events && gate.strays.load(Ordering::SeqCst) == 0
+}
+
+/// Whether it was in a run of so many of the counter's threads by two workers up to the limit.
+fn is_handed<R: Threads + Wait + Sync>(
+    rt: &R,
+    alloc: Global,
+    program: &Program,
+    asked: (u32, u64),
+) -> Option<bool> {
+    let (n, limit) = asked;
+    let gate = Witness::new();
+    match run(rt, alloc, program, n, 2, limit, &gate) {
+        Ok(report) => Some(is_seen(&gate, &report, limit)),
+        Err(_) => None,
+    }
+}
+
+#[test]
+fn the_gate_is_handed_each_receipt(rt: HostRuntime) -> Result<(), Fail> {
+    let program = counter(rt.alloc()).ok_or("no program")?;
+    for asked in [(1, 8), (1, 3), (2, 8)] {
+        let handed = is_handed(&rt, rt.alloc(), &program, asked);
+        assert!(rt; handed == Some(true), "{} threads", asked.0);
     }
     Ok(())
 }
