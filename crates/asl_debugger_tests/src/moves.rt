@@ -1,5 +1,7 @@
 //! Moves, stops and refusals.
-use crate::runs::{APART, SCHEDULE, WAITING, counter, is_shown, journal_of, opened};
+use crate::runs::{
+    APART, PUBLISHING, SCHEDULE, WAITING, counter, fresh, is_shown, journal_of, opened, publish,
+};
 use asl_code::Program;
 use asl_debugger::{DebugFault, Debugger};
 use asl_journal::Journal;
@@ -74,6 +76,77 @@ fn each_position_shows_its_state(rt: HostRuntime) {
             let shown = are_shown(rt.alloc(), schedule, *spacing);
             assert!(rt; shown == Some(true), "{} events, {spacing}", schedule.len());
         }
+    }
+}
+
+/// Whether a debugger with this spacing does over the run of the program that publishes.
+fn are_published(alloc: Global, spacing: u32) -> Option<bool> {
+    let program = publish(alloc)?;
+    is_right(alloc, &program, &PUBLISHING, spacing)
+}
+
+#[test]
+fn each_position_shows_its_objects(rt: HostRuntime) {
+    for spacing in SPACINGS.iter() {
+        assert!(rt;
+            are_published(rt.alloc(), *spacing) == Some(true),
+            "{spacing}"
+        );
+    }
+}
+
+/// Positions of that run in no order; and whether object 1 is fresh there for threads 0 and 1, and object 2 for them: the one
+/// that a thread has made in its section, until it leaves it.
+static FRESH: [(u32, [bool; 4]); 11] = [
+    (2, [false, false, false, false]),
+    (3, [true, false, false, false]),
+    (7, [true, false, false, false]),
+    (8, [false, false, false, false]),
+    (9, [false, false, false, false]),
+    (10, [false, false, false, true]),
+    (13, [false, false, false, true]),
+    (14, [false, false, false, false]),
+    (5, [true, false, false, false]),
+    (15, [false, false, false, false]),
+    (0, [false, false, false, false]),
+];
+
+/// For whom the objects 1 and 2 are fresh at the position.
+fn fresh_at(alloc: Global, debugger: &mut Debugger<'_>, position: u32) -> Option<[bool; 4]> {
+    debugger.goto(alloc, position).ok()?;
+    let machine = debugger.view();
+    Some([
+        fresh(machine, 0, 1)?,
+        fresh(machine, 1, 1)?,
+        fresh(machine, 0, 2)?,
+        fresh(machine, 1, 2)?,
+    ])
+}
+
+/// How many positions show the fresh objects that they are to, up to the first that doesn't.
+fn right_positions(alloc: Global, debugger: &mut Debugger<'_>) -> Option<usize> {
+    for (number, (position, wanted)) in FRESH.iter().enumerate() {
+        if fresh_at(alloc, debugger, *position)? != *wanted {
+            return Some(number);
+        }
+    }
+    Some(FRESH.len())
+}
+
+/// How many do with this spacing.
+fn positions_right(alloc: Global, spacing: u32) -> Option<usize> {
+    let program = publish(alloc)?;
+    let mut debugger = opened(alloc, &program, &PUBLISHING, spacing)?;
+    right_positions(alloc, &mut debugger)
+}
+
+#[test]
+fn an_object_is_fresh_inside_its_section_alone(rt: HostRuntime) {
+    for spacing in SPACINGS.iter() {
+        assert!(rt;
+            positions_right(rt.alloc(), *spacing) == Some(11),
+            "{spacing}"
+        );
     }
 }
 

@@ -16,6 +16,10 @@ static COUNTER: &[u8] =
 static SUM: &[u8] =
     b"version 1\nclasses 1\nglobal 0\nentry 0\nfn 1 5\nglob r1, g0\nacq 0\nload r2, r1\nadd r2, r2, r0\nout r2\nstore r1, r2\nrel\njmp 1\nlist\nexpr r1 write\n";
 
+/// A program in which each thread makes a cell in a section, stores into it, and then stores its address where others find it.
+static PUBLISH: &[u8] =
+    b"version 2\nclasses 2\nglobal 0\nentry 0\nfn 1 3\nglob r1, g0\nacq 0\nnew r2, 1, 1\nstore r2, r0\nstore r1, r2\nrel\nret r0\nlist\nexpr r1 write\n";
+
 /// The one cell of the one global.
 static GLOBAL: Cell = Cell {
     object: 0,
@@ -31,6 +35,10 @@ pub static WAITING: [u8; 4] = [0, 0, 1, 1];
 /// A schedule in which neither thread waits for the other, and both end.
 pub static APART: [u8; 16] = [0, 1, 0, 0, 0, 0, 0, 0, 0, 1, 1, 1, 1, 1, 1, 1];
 
+/// A schedule of the program that publishes. Thread 0 makes object 1 in its third step and leaves its section in the eighth of
+/// all; in between, thread 1 waits for it. Thread 1 makes object 2 in the tenth step and leaves in the fourteenth. Both end.
+pub static PUBLISHING: [u8; 15] = [0, 0, 0, 1, 1, 0, 0, 0, 1, 1, 0, 1, 1, 1, 1];
+
 /// The program of the text. Where the text is known, what `assemble` ensures of it is dear to prove.
 fn program(alloc: Global, text: &[u8]) -> Option<Program> {
     assemble(alloc, text).ok()
@@ -44,6 +52,11 @@ pub fn counter(alloc: Global) -> Option<Program> {
 /// The sum.
 pub fn sum(alloc: Global) -> Option<Program> {
     program(alloc, SUM)
+}
+
+/// The program that publishes.
+pub fn publish(alloc: Global) -> Option<Program> {
+    program(alloc, PUBLISH)
 }
 
 /// The number behind this one in a row of numbers in no order.
@@ -142,6 +155,35 @@ fn register(machine: &Machine<'_>, t: u32, register: u32) -> Option<Value> {
     machine.reg(t, register)
 }
 
+/// Whether the object is fresh for thread t, where the thread is there.
+pub fn fresh(machine: &Machine<'_>, t: u32, object: u32) -> Option<bool> {
+    if t >= machine.threads() {
+        return None;
+    }
+    Some(machine.fresh(t, object))
+}
+
+/// What the first cell of the object holds.
+fn first_cell(machine: &Machine<'_>, object: u32) -> Option<Value> {
+    let object = u16::try_from(object).ok()?;
+    machine.cell(Cell { object, offset: 0 })
+}
+
+/// Whether the machines show the same of the object: its size, its class, its first cell, and for which of the first two
+/// threads it is fresh.
+fn shows_object(left: &Machine<'_>, right: &Machine<'_>, object: u32) -> bool {
+    left.size(object) == right.size(object)
+        && left.class(object) == right.class(object)
+        && first_cell(left, object) == first_cell(right, object)
+        && (0..2).all(|t| fresh(left, t, object) == fresh(right, t, object))
+}
+
+/// Whether the machines show the same of their objects.
+fn shows_objects(left: &Machine<'_>, right: &Machine<'_>) -> bool {
+    left.objects() == right.objects()
+        && (0..left.objects()).all(|object| shows_object(left, right, object))
+}
+
 /// Whether the machines show the same of thread t.
 fn shows_thread(left: &Machine<'_>, right: &Machine<'_>, t: u32) -> bool {
     place(left, t) == place(right, t)
@@ -149,9 +191,9 @@ fn shows_thread(left: &Machine<'_>, right: &Machine<'_>, t: u32) -> bool {
         && (0..5).all(|number| register(left, t, number) == register(right, t, number))
 }
 
-/// Whether the machines show the same of their threads, their locks, and the global.
+/// Whether the machines show the same of their threads, their locks, and their objects, the global's among them.
 fn shows_same(left: &Machine<'_>, right: &Machine<'_>) -> bool {
     left.threads() == right.threads()
         && (0..left.threads()).all(|t| shows_thread(left, right, t))
-        && left.cell(GLOBAL) == right.cell(GLOBAL)
+        && shows_objects(left, right)
 }
