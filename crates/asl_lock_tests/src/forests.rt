@@ -209,6 +209,21 @@ fn want_of_memory_for_a_cell_and_a_copy_changes_nothing(rt: HostRuntime) -> Resu
     Ok(())
 }
 
+/// A grant without a test holds what the same request holds that a copy has tested, and no other thread holds anything.
+#[test]
+fn a_grant_holds_what_is_asked(rt: HostRuntime) -> Result<(), Fail> {
+    let mut forest = Forest::new(rt.alloc(), 2, 2)?;
+    let mut copy = forest.try_copy(rt.alloc())?;
+    let asks = request(Asked::Second);
+    let all = copy.try_acquire(rt.alloc(), 0, asks)?;
+    assert!(rt; all);
+    forest.grant(0, asks)?;
+    expect_held(&rt, &forest, Mode::IX, Mode::IX, Mode::X);
+    expect_held(&rt, &copy, Mode::IX, Mode::IX, Mode::X);
+    assert!(rt; forest.mode(1, Node::Root) == Mode::NL);
+    Ok(())
+}
+
 #[test]
 fn covers_by_the_leaf(rt: HostRuntime) -> Result<(), Fail> {
     let mut forest = Forest::new(rt.alloc(), 2, 1)?;
