@@ -1,8 +1,10 @@
 //! Journals as values, machines that write theirs down, and replay.
-use crate::programs::{COUNTER, LOOP, WAITING, journal_of, program, recorded, shows_same};
+use crate::programs::{
+    COUNTER, LOOP, PUBLISH, PUBLISHING, WAITING, journal_of, program, recorded, shows_same,
+};
 use asl_code::{Cell, Program, Value};
-use asl_journal::{Event, Journal, JournalFault, Journaled, Receipt, replay};
-use asl_machine::Reply;
+use asl_journal::{Event, Journal, JournalFault, Journaled, Receipt, follow, replay};
+use asl_machine::{Machine, Reply};
 use std::alloc::Global;
 
 const RAN: Event = Event {
@@ -176,11 +178,11 @@ fn room_is_made_for_what_is_asked(rt: HostRuntime) {
     }
 }
 
-/// Whether replay leads where the counter's run led.
-fn is_replayed(alloc: Global, program: &Program) -> Option<bool> {
+/// Whether replay leads where the run by the schedule led.
+fn is_replayed(alloc: Global, program: &Program, schedule: &[u8]) -> Option<bool> {
     let mut journaled = Journaled::start(alloc, program, 2).ok()?;
-    for thread in WAITING {
-        journaled.step(alloc, u32::from(thread)).ok()?;
+    for thread in schedule {
+        journaled.step(alloc, u32::from(*thread)).ok()?;
     }
     let (journal, machine) = journaled.into_parts();
     let replayed = replay(alloc, program, &journal).ok()?;
@@ -190,7 +192,65 @@ fn is_replayed(alloc: Global, program: &Program) -> Option<bool> {
 #[test]
 fn replay_leads_where_the_run_led(rt: HostRuntime) {
     if let Some(program) = program(rt.alloc(), COUNTER) {
-        assert!(rt; is_replayed(rt.alloc(), &program) == Some(true));
+        assert!(rt; is_replayed(rt.alloc(), &program, &WAITING) == Some(true));
+    } else {
+        assert!(rt; false);
+    }
+}
+
+/// The machine behind so many steps of the schedule of the program that publishes.
+fn begun<'p>(alloc: Global, program: &'p Program, steps: usize) -> Option<Machine<'p>> {
+    let (first, _rest) = PUBLISHING.split_at_checked(steps)?;
+    let journal = journal_of(alloc, program, first)?;
+    replay(alloc, program, &journal).ok()
+}
+
+/// The journal's events behind so many, as a journal of their own.
+fn rest_of(alloc: Global, journal: &Journal, steps: usize) -> Option<Journal> {
+    let (_first, rest) = journal.events().split_at_checked(steps)?;
+    let mut events = Vec::new(alloc);
+    for event in rest {
+        events.push(*event).ok()?;
+    }
+    Journal::of(journal.threads(), events).ok()
+}
+
+/// The machine to which the events of a journal lead from this one.
+fn followed<'p>(alloc: Global, from: &Machine<'p>, rest: &Journal) -> Option<Machine<'p>> {
+    if from.threads() != rest.threads() {
+        return None;
+    }
+    follow(alloc, from, rest.events()).ok()
+}
+
+/// The machine to which the rest of the journal leads from behind so many of its events.
+fn gone_on<'p>(
+    alloc: Global,
+    program: &'p Program,
+    journal: &Journal,
+    steps: usize,
+) -> Option<Machine<'p>> {
+    let rest = rest_of(alloc, journal, steps)?;
+    let from = begun(alloc, program, steps)?;
+    followed(alloc, &from, &rest)
+}
+
+/// Whether it leads where replay of the whole does.
+fn is_followed(alloc: Global, program: &Program, steps: usize) -> Option<bool> {
+    let journal = journal_of(alloc, program, &PUBLISHING)?;
+    let machine = gone_on(alloc, program, &journal, steps)?;
+    let replayed = replay(alloc, program, &journal).ok()?;
+    Some(shows_same(&machine, &replayed))
+}
+
+#[test]
+fn the_rest_of_a_journal_leads_where_the_whole_does(rt: HostRuntime) {
+    if let Some(program) = program(rt.alloc(), PUBLISH) {
+        assert!(rt; is_replayed(rt.alloc(), &program, &PUBLISHING) == Some(true));
+        for steps in [0, 3, 7, 12, 15] {
+            let followed = is_followed(rt.alloc(), &program, steps);
+            assert!(rt; followed == Some(true), "behind {steps}");
+        }
     } else {
         assert!(rt; false);
     }

@@ -15,6 +15,13 @@ pub const COUNTER: &[u8] =
 /// A loop that does nothing.
 pub const LOOP: &[u8] = b"version 1\nclasses 0\nentry 0\nfn 1 1\njmp 0\n";
 
+/// A program in which each thread makes a cell in a section, stores into it, and then stores its address where others find it.
+pub const PUBLISH: &[u8] =
+    b"version 2\nclasses 2\nglobal 0\nentry 0\nfn 1 3\nglob r1, g0\nacq 0\nnew r2, 1, 1\nstore r2, r0\nstore r1, r2\nrel\nret r0\nlist\nexpr r1 write\n";
+
+/// A schedule of it in which thread 1 waits for thread 0, makes its object behind it, and both end.
+pub const PUBLISHING: [u8; 15] = [0, 0, 0, 1, 1, 0, 0, 0, 1, 1, 0, 1, 1, 1, 1];
+
 /// The schedule of the counter in which thread 1 waits for thread 0.
 pub const WAITING: [u8; 4] = [0, 0, 1, 1];
 
@@ -53,7 +60,23 @@ fn shows_thread(left: &Machine<'_>, right: &Machine<'_>, t: u32) -> bool
     place && locks && (0..5).all(|register| left.reg(t, register) == right.reg(t, register))
 }
 
-/// Whether the machines show the same of their threads, their locks, and the global.
+/// Whether in the machines the same objects are fresh for thread t.
+fn shows_fresh(left: &Machine<'_>, right: &Machine<'_>, t: u32) -> bool
+    requires left { t < length left.now.state.threads }
+    requires right { t < length right.now.state.threads }
+{
+    (0..left.objects()).all(|object| left.fresh(t, object) == right.fresh(t, object))
+}
+
+/// Whether the machines have the same objects, as far as their sizes and classes go.
+fn shows_objects(left: &Machine<'_>, right: &Machine<'_>) -> bool {
+    left.objects() == right.objects()
+        && (0..left.objects()).all(|object| {
+            left.size(object) == right.size(object) && left.class(object) == right.class(object)
+        })
+}
+
+/// Whether the machines show the same of their threads, their locks, their objects, and the global.
 pub fn shows_same(left: &Machine<'_>, right: &Machine<'_>) -> bool {
     let global = Cell {
         object: 0,
@@ -63,9 +86,9 @@ pub fn shows_same(left: &Machine<'_>, right: &Machine<'_>) -> bool {
         return false;
     }
     for t in 0..left.threads() {
-        if !shows_thread(left, right, t) {
+        if !shows_thread(left, right, t) || !shows_fresh(left, right, t) {
             return false;
         }
     }
-    left.objects() == right.objects() && left.cell(global) == right.cell(global)
+    shows_objects(left, right) && left.cell(global) == right.cell(global)
 }
