@@ -1,5 +1,5 @@
 -- What is built is what the text spells, and a program within the limits is built.
-use Rattle.std.proofs.Common.{◌≡◌, ℕ, ◌<◌, ◌≤◌, List, [], Bool, Option, Some, None, if◌then◌else◌, nat_lt, refl, sym, ap, ◌∙◌, length, MatchOption}
+use Rattle.std.proofs.Common.{◌≡◌, ℕ, ◌<◌, ◌≤◌, List, [], Option, Some, None, nat_lt, refl, sym, ap, ◌∙◌, length, MatchOption}
 use Rattle.std.specs.Option.{option_map}
 use Rattle.std.proofs.lemmas.Bool.{cond-true, cond-false, lt-ltb, le-ltb}
 use Rattle.asl_grammar.specs.Automaton.{ItemStart}

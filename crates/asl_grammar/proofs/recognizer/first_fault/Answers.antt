@@ -7,7 +7,7 @@ use Rattle.asl_grammar.specs.Grammar.{Judges}
 use Rattle.asl_grammar.specs.Depth.{IsDeep}
 use Rattle.asl_grammar.specs.Reader.{spots_left}
 use Rattle.asl_grammar.specs.SeenView.{kinds_in, place_in}
-use Rattle.asl_grammar.specs.View.{spot_of, token_of}
+use Rattle.asl_grammar.specs.View.{spot_of}
 use Rattle.asl_grammar.specs.Seen.{Place, next_place}
 use Rattle.asl_grammar.proofs.Stopping.{start_place, fault_from}
 use Rattle.asl_grammar.proofs.Judged.{stopped, ended}

@@ -1,7 +1,5 @@
-use Rattle.std.proofs.Common.{◌≡◌, ◌⊎◌, ℕ, Bool, true, false, cond, List, [], ◌∷◌, Some, length, refl, sym, subst, inl, inr}
+use Rattle.std.proofs.Common.{◌⊎◌, Bool, true, false, cond, [], ◌∷◌, length, refl, sym, subst, inl, inr}
 use Rattle.std.specs.Prelude.{nat_le}
-use Rattle.asl_code.specs.declared.value.Effect.{Effect}
-use Rattle.asl_code.specs.declared.lock.Expr.{Expr}
 use Rattle.asl_code.specs.declared.lock.Lock.TheVariants as lock
 use Rattle.asl_lock_expr.specs.Links.{IsOne, settled}
 use Rattle.asl_lock_expr.proofs.laws.expressions_with_a_class_are_left.Goals as goal

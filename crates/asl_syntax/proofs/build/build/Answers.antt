@@ -1,11 +1,10 @@
-use Rattle.std.proofs.Common.{rules, arith, ◌≡◌, List, None, Some, true, false, sym, ap, ◌∙◌, subst}
-use Rattle.asl_grammar.specs.Token.{Spot, Token}
+use Rattle.std.proofs.Common.{rules, arith, ◌≡◌, None, Some, true, false, sym, ◌∙◌, subst}
 use Rattle.asl_grammar.specs.Reader.{spots_left, bad_left}
-use Rattle.asl_grammar.specs.View.{token_of, spot_of}
+use Rattle.asl_grammar.specs.View.{spot_of}
 use Rattle.asl_grammar.specs.ControlView.{control_of}
 use Rattle.asl_syntax.specs.Limit.{Tally, is_over}
 use Rattle.asl_syntax.specs.TallyView.{tally_in}
-use Rattle.asl_syntax.specs.Built.{State, next}
+use Rattle.asl_syntax.specs.Built.{next}
 use Rattle.asl_syntax.specs.BuilderView.{stack_of, state_in}
 use Rattle.asl_syntax.proofs.Fitting.{ControlFits, keeps_fitting}
 use Rattle.asl_syntax.specs.Parsed.{first_wide}

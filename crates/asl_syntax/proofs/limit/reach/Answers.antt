@@ -3,7 +3,6 @@ use Rattle.asl_grammar.specs.Token.{Spot}
 use Rattle.asl_grammar.specs.Lex.{tokens_of}
 use Rattle.asl_grammar.specs.Reader.{spots_left}
 use Rattle.asl_syntax.specs.Limit.{Tally, tally_of}
-use Rattle.asl_syntax.specs.TallyView.{tally_in}
 use Rattle.asl_syntax.proofs.Tallying.{over_from, over_is_limit}
 use Rattle.asl_syntax.proofs.limit.reach.Goals as goal
 
