@@ -1,6 +1,6 @@
 //! The cell that a lock expression denotes.
-ghost use Rattle.std.specs.Prelude.{◌≡◌};
-ghost use Rattle.asl_lock_expr.specs.Expression.{Seen, cell_denoted, base_cell, walked, moved, pointed};
+ghost use Rattle.std.specs.Prelude.{◌≡◌, Some};
+ghost use Rattle.asl_lock_expr.specs.Expression.{Seen, cell_denoted, base_cell, path_cell, walked, moved, pointed};
 
 use asl_code::{Base, Cell, Expr, Op, Value};
 
@@ -23,8 +23,17 @@ pub trait HeapView {
 pub fn eval<H: HeapView>(expr: &Expr, regs: &[Value], heap: &H) -> Option<Cell>
     ensures { result ≡ cell_denoted (H.seen heap.now) regs.now expr.now }
 {
-    let mut cell = begin(expr.base, regs)?;
-    for op in expr.path.as_slice() {
+    follow(expr.path.as_slice(), begin(expr.base, regs)?, heap)
+}
+
+/// The cell to which a path leads from this one, if it leads to one: the evaluation of an expression, for registers that are
+/// kept otherwise than as a slice of values.
+#[tactic(auto, using(crate::proofs::Paths::no_cell_from_none))]
+pub fn follow<H: HeapView>(path: &[Op], start: Cell, heap: &H) -> Option<Cell>
+    ensures { result ≡ path_cell (H.seen heap.now) path.now (Some start) }
+{
+    let mut cell = start;
+    for op in path {
         cell = walk(heap, *op, cell)?;
     }
     Some(cell)
@@ -52,7 +61,7 @@ fn begin(base: Base, regs: &[Value]) -> Option<Cell>
 {
     match base {
         Base::Reg(register) => match regs.get(usize::from(register)) {
-            Some(value) => address(*value),
+            Some(value) => pointed(*value),
             None => None,
         },
         Base::Global(global) => Some(Cell {
@@ -63,7 +72,7 @@ fn begin(base: Base, regs: &[Value]) -> Option<Cell>
 }
 
 /// The cell that the value is the address of.
-fn address(value: Value) -> Option<Cell>
+pub fn pointed(value: Value) -> Option<Cell>
     ensures { result ≡ pointed value }
 {
     match value {
@@ -78,7 +87,7 @@ fn walk<H: HeapView>(heap: &H, op: Op, cell: Cell) -> Option<Cell>
 {
     match op {
         Op::Deref => match heap.cell(cell) {
-            Some(value) => address(value),
+            Some(value) => pointed(value),
             None => None,
         },
         Op::Off(places) => go_on(heap, places, cell),

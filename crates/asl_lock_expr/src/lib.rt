@@ -12,7 +12,7 @@ mod storing;
 mod written;
 
 pub use class::class_of;
-pub use evaluation::{HeapView, eval, go_on};
+pub use evaluation::{HeapView, eval, follow, go_on, pointed};
 pub use laws::{
     cells_are_of_their_expressions_classes, expressions_with_a_class_are_left, links_are_settled,
     links_ask_at_each_star, lists_in_order_are_one, paths_go_in_parts,

@@ -8,6 +8,7 @@ pub mod Frames
 pub mod Codes
 pub mod Nodes
 pub mod Soundness
+pub mod Words
 pub mod Table
 pub mod Unique
 pub mod Reached

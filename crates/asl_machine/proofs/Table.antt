@@ -1,9 +1,8 @@
 -- The computed step is the one line of the table that applies, at each state that a verified program reaches.
-use Rattle.std.proofs.Common.{◌≡◌, ◌≢◌, ℕ, ℤ, ◌+◌, ◌-◌, ◌<◌, ◌≤◌, ◌==◌, ◌&&◌, ltb, ◌++◌, Bool, true, false, cond, List, [], ◌∷◌, Option, Some, None, Ok, length, slice_get, refl, ap, sym, ◌∙◌, subst, inl, inr, arith, eqb-true, eq-eqb}
+use Rattle.std.proofs.Common.{◌≡◌, ◌≢◌, ℕ, ℤ, ◌+◌, ◌-◌, ◌<◌, ◌≤◌, ◌==◌, ltb, ◌++◌, Bool, true, false, cond, List, [], ◌∷◌, Option, Some, None, Ok, length, slice_get, refl, ap, sym, ◌∙◌, subst, inl, inr, arith, eqb-true, eq-eqb}
 use Rattle.std.specs.Prelude.{IsSome, IsSomeAnd, unwrap_or}
 use Rattle.std.specs.Prelude.{int_lt, option_map, option_and_then}
 use Rattle.std.proofs.lemmas.Bool.{ltb-true, ltb-false}
-use Rattle.std.proofs.lemmas.Bool.Decides.{Decides-int_eq}
 use Rattle.std.proofs.lemmas.Int.{ints}
 use Rattle.std.proofs.lemmas.Option.{slice_get_cases}
 use Rattle.asl_code.specs.declared.image.Image.{Image}
@@ -28,6 +27,7 @@ use Rattle.asl_machine.specs.Step.{At, advanced, advanced_with, going_on, called
 use Rattle.asl_machine.specs.Twin.{Left, set_left, computed, added, subtracted, compared, truth, same_value, jump_left, address_or_bounds, address_moved, make_left, allowed_cell, loaded, accessed, store_left, left_alone, call_left, return_left, activity_moved, release_left, left_by, left_at, turn_by, step_at, step_of, register_of}
 use Rattle.asl_machine.specs.Sound.{IsSound}
 use Rattle.asl_lock_forest.proofs.Grantable.{can_grant-tells, CanGrant-tested}
+use Rattle.asl_machine.proofs.Words.{same_is, same_self}
 use Rattle.asl_machine.proofs.Soundness.{Here, here_of, here_place, instr_here, after_same, awaited_below}
 
 -- the line that a step by what an instruction leaves would be
@@ -68,31 +68,6 @@ below_line at to left right x y p q =
       | true ↦ λ e. inl (record { x = x; y = y; reads_left = p; reads_right = q; below = omega (arith, ints); sets = refl })
       | false ↦ λ e. inr (record { x = x; y = y; reads_left = p; reads_right = q; not_below = omega (arith, ints); sets = refl })
     ] refl
-
--- two values of which the test says that they are the same, are
-pub same_is : (x y : Value) → same_value x y ≡ true → x ≡ y
-same_is (Int x) (Int y) e = ap (λ z. Int z) ((Decides-int_eq x y).0 e)
-same_is (Int x) Null e = cc
-same_is (Int x) (Addr p j) e = cc
-same_is Null (Int y) e = cc
-same_is Null Null e = refl
-same_is Null (Addr p j) e = cc
-same_is (Addr o i) (Int y) e = cc
-same_is (Addr o i) Null e = cc
-same_is (Addr o i) (Addr p j) e =
-    let both = and_parts (o == p) (i == j) e in
-    ap (λ n. Addr n i) (eqb-true o p both.0) ∙ ap (λ n. Addr p n) (eqb-true i j both.1)
-  where
-    and_parts : (a b : Bool) → (a && b) ≡ true → (a ≡ true) × (b ≡ true)
-    and_parts true true e = (refl, refl)
-    and_parts true false e = cc
-    and_parts false b e = cc
-
--- a value is the same as itself
-pub same_self : (x : Value) → same_value x x ≡ true
-same_self (Int x) = (Decides-int_eq x x).1 refl
-same_self Null = refl
-same_self (Addr o i) = ap (λ b. b && (i == i)) (eq-eqb o o refl) ∙ eq-eqb i i refl
 
 equal_line : (at : At) (to left right : ℕ) (x y : Value) → Reads at left x → Reads at right y →
     IsLine at (instr.Equals to left right) (set_left (here_place at.state at.thread at.activity) to (Ok (truth (same_value x y))))

@@ -28,7 +28,8 @@ use Rattle.asl_machine.specs.Twin.{Left, set_left, computed, added, subtracted, 
 use Rattle.asl_machine.specs.Sound.{IsSound}
 use Rattle.asl_lock_forest.proofs.Grantable.{can_grant-tells, CanGrant-tested}
 use Rattle.asl_machine.proofs.Soundness.{here_place, after_same}
-use Rattle.asl_machine.proofs.Table.{at_of, same_is, same_self}
+use Rattle.asl_machine.proofs.Table.{at_of}
+use Rattle.asl_machine.proofs.Words.{same_is, same_self}
 
 -- the reply and the state are those that an instruction leaves
 abbrev pub IsLeft : At → Left → Reply → State → Type 0

@@ -14,3 +14,4 @@ pub mod World
 -- Machinery of the proofs, not of the promise:
 pub mod Ready
 pub mod Asking
+pub mod Word

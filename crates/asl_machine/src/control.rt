@@ -10,6 +10,7 @@ use crate::fate::Fate;
 use crate::fault::Fault;
 use crate::frame::Activity;
 use crate::values::is_zero;
+use crate::word::Word;
 use asl_code::Value;
 use std::alloc::{AllocError, Global};
 
@@ -76,7 +77,7 @@ pub fn call(
 
 /// Returns the value to the frame below. The last frame ends the thread with it, or fails inside a section.
 #[inline(always)]
-pub fn give(activity: &mut Activity, value: Value) -> Fate
+pub fn give(activity: &mut Activity, value: Word) -> Fate
     requires { IsAwaited activity.old.top.result activity.old.below }
     ensures fate { result ≡ fate_returned activity.old value activity.old.below }
     ensures activity { activity.new ≡ activity_returned activity.old value activity.old.below }
@@ -84,7 +85,7 @@ pub fn give(activity: &mut Activity, value: Value) -> Fate
     if activity.give(value) {
         Fate::GoesOn
     } else if activity.depth() == 0 {
-        Fate::Ends(value)
+        Fate::Ends(value.value())
     } else {
         Fate::Fails(Fault::Open)
     }

@@ -1,6 +1,7 @@
 //! The objects of a machine and what their cells hold.
 ghost use Rattle.std.specs.Prelude.{◌≡◌, ◌<◌, ◌++◌, ◌∷◌, [], IfOk, OnOk, OnErr, Some, length, slice_get, map, replicate, pos, IsSome};
 
+use crate::word::Word;
 use asl_code::{Cell, Value};
 use asl_lock_expr::HeapView;
 use std::alloc::{AllocError, Global};
@@ -10,7 +11,7 @@ use std::marker::Model;
 #[derive(Drop)]
 struct Object {
     class: u16,
-    cells: Vec<Value>,
+    cells: Vec<Word>,
 }
 
 impl Model for Object {
@@ -68,13 +69,13 @@ impl Object {
         self.cells.len() as u8
     }
 
-    fn cell(&self, offset: usize) -> Option<Value>
+    fn cell(&self, offset: usize) -> Option<Word>
         ensures { result ≡ slice_get self.now.cells offset }
     {
         self.cells.get(offset).copied()
     }
 
-    fn write(&mut self, offset: usize, value: Value)
+    fn write(&mut self, offset: usize, value: Word)
         requires { offset < length self.old.cells }
         ensures { self.new ≡ with_cell self.old offset value }
     {
@@ -83,11 +84,11 @@ impl Object {
 }
 
 /// So many cells that hold 0.
-fn zeros(alloc: Global, count: u8) -> Result<Vec<Value>, AllocError>
+fn zeros(alloc: Global, count: u8) -> Result<Vec<Word>, AllocError>
     ensures { IfOk result (λ cells. cells.items ≡ replicate count (Value.Int (pos 0))) }
 {
     let mut cells = Vec::with_capacity(alloc, usize::from(count))?;
-    cells.resize(usize::from(count), Value::Int(0))?;
+    cells.resize(usize::from(count), Word::of(Value::Int(0)))?;
     Ok(cells)
 }
 
@@ -143,34 +144,26 @@ impl Heap {
     pub fn size(&self, number: usize) -> Option<u8>
         ensures { result ≡ size_of self.now number }
     {
-        match self.objects.get(number) {
-            Some(object) => Some(object.size()),
-            None => None,
-        }
+        Some(self.objects.get(number)?.size())
     }
 
     /// The class of the object, if it is there.
     pub fn class(&self, number: usize) -> Option<u16>
         ensures { result ≡ class_of self.now number }
     {
-        match self.objects.get(number) {
-            Some(object) => Some(object.class()),
-            None => None,
-        }
+        Some(self.objects.get(number)?.class())
     }
 
     /// What the cell holds, if it is there.
-    pub fn cell(&self, cell: Cell) -> Option<Value>
+    pub fn cell(&self, cell: Cell) -> Option<Word>
         ensures { result ≡ cell_at self.now cell }
     {
-        match self.objects.get(usize::from(cell.object)) {
-            Some(object) => object.cell(usize::from(cell.offset)),
-            None => None,
-        }
+        let object = self.objects.get(usize::from(cell.object))?;
+        object.cell(usize::from(cell.offset))
     }
 
     /// What a cell that is there holds.
-    pub fn read(&self, cell: Cell) -> Value
+    pub fn read(&self, cell: Cell) -> Word
         requires { IsSome (cell_at self.now cell) }
         ensures { cell_at self.now cell ≡ Some result }
     {
@@ -191,7 +184,7 @@ impl Heap {
     }
 
     /// Puts the value into the cell.
-    pub fn write(&mut self, cell: Cell, value: Value)
+    pub fn write(&mut self, cell: Cell, value: Word)
         requires { IsSome (cell_at self.old cell) }
         ensures { self.new ≡ written self.old cell value }
     {
@@ -206,7 +199,7 @@ impl HeapView for Heap {
     ghost seen = { heap_of };
 
     fn cell(&self, cell: Cell) -> Option<Value> {
-        self.cell(cell)
+        Some(self.cell(cell)?.value())
     }
 
     fn size(&self, object: u16) -> Option<u8> {

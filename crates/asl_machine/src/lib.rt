@@ -20,6 +20,7 @@ mod sections;
 mod step_laws;
 mod thread;
 mod values;
+mod word;
 
 pub use fault::{Fault, MachineFault};
 pub use fresh_laws::fresh_objects_stay_apart;

@@ -13,6 +13,7 @@ use crate::fault::Fault;
 use crate::frame::Activity;
 use crate::heap::Heap;
 use crate::values::{comparison, difference, equality, moved_on, sum};
+use crate::word::Word;
 use asl_code::{Instr, Value};
 
 /// Does the instruction if it is local and the thread goes on behind it: whether that is so. This is all that most steps do,
@@ -46,14 +47,18 @@ pub fn perform_local(code: &Code<'_>, heap: &Heap, activity: &mut Activity, inst
     ensures unchanged { result ≢ GoesOn → activity.new ≡ activity.old }
 {
     match instr {
-        Instr::SetInt { to, value } => set(activity, to, Ok(Value::Int(value))),
-        Instr::SetNull { to } => set(activity, to, Ok(Value::Null)),
+        Instr::SetInt { to, value } => set(activity, to, Ok(Word::of(Value::Int(value)))),
+        Instr::SetNull { to } => set(activity, to, Ok(Word::of(Value::Null))),
         Instr::Move { to, from } => set(activity, to, Ok(activity.read(from))),
         Instr::Add { to, left, right } => set(activity, to, sum(activity, left, right)),
         Instr::Subtract { to, left, right } => set(activity, to, difference(activity, left, right)),
         Instr::LessThan { to, left, right } => set(activity, to, comparison(activity, left, right)),
         Instr::Equals { to, left, right } => set(activity, to, Ok(equality(activity, left, right))),
-        Instr::GlobalAddress { to, global } => set(activity, to, Ok(Value::Addr(global, 0))),
+        Instr::GlobalAddress { to, global } => set(
+            activity,
+            to,
+            Ok(Word::of(Value::Addr(global, 0))),
+        ),
         Instr::FieldAddress { to, from, offset } => move_on(heap, activity, to, from, offset),
         Instr::Jump { target } => jump(activity, target),
         Instr::JumpIfZero { test, target } => jump_if_zero(activity, test, target),
@@ -78,7 +83,7 @@ fn move_on(heap: &Heap, activity: &mut Activity, to: u8, from: u8, places: u8) -
 
 /// Puts the value into the register, or fails.
 #[inline(always)]
-pub fn set(activity: &mut Activity, to: u8, value: Result<Value, Fault>) -> Fate
+pub fn set(activity: &mut Activity, to: u8, value: Result<Word, Fault>) -> Fate
     requires there { to < length activity.old.top.regs }
     requires room { activity.old.top.pc + 1 < 2 ^ 16 }
     ensures fate { result ≡ fate_of value }

@@ -171,10 +171,8 @@ impl<'p> Machine<'p> {
         requires { t < length self.now.state.threads }
         ensures { result ≡ option_map (λ activity. activity.top.pc) (activity_at self.now.state.threads t) }
     {
-        match self.threads[t as usize].activity() {
-            Some(activity) => Some(u32::from(activity.pc())),
-            None => None,
-        }
+        let activity = self.threads[t as usize].activity()?;
+        Some(u32::from(activity.pc()))
     }
 
     /// The value of a register of thread t's top frame, if the thread runs and the register is there.
@@ -182,10 +180,9 @@ impl<'p> Machine<'p> {
         requires { t < length self.now.state.threads }
         ensures { result ≡ option_and_then (λ activity. slice_get activity.top.regs register) (activity_at self.now.state.threads t) }
     {
-        match self.threads[t as usize].activity() {
-            Some(activity) => activity.regs().get(register as usize).copied(),
-            None => None,
-        }
+        let activity = self.threads[t as usize].activity()?;
+        let word = activity.regs().get(register as usize)?;
+        Some(word.value())
     }
 
     /// How many sections thread t is in: none where it has ended.
@@ -210,27 +207,21 @@ impl<'p> Machine<'p> {
     pub fn size(&self, object: u32) -> Option<u32>
         ensures { result ≡ size_of self.now.state.objects object }
     {
-        match self.heap.size(object as usize) {
-            Some(size) => Some(u32::from(size)),
-            None => None,
-        }
+        Some(u32::from(self.heap.size(object as usize)?))
     }
 
     /// The class of the object, if it is there.
     pub fn class(&self, object: u32) -> Option<u32>
         ensures { result ≡ class_of self.now.state.objects object }
     {
-        match self.heap.class(object as usize) {
-            Some(class) => Some(u32::from(class)),
-            None => None,
-        }
+        Some(u32::from(self.heap.class(object as usize)?))
     }
 
     /// What the cell holds, if it is there.
     pub fn cell(&self, cell: Cell) -> Option<Value>
         ensures { result ≡ cell_at self.now.state.objects cell }
     {
-        self.heap.cell(cell)
+        Some(self.heap.cell(cell)?.value())
     }
 
     /// The mode in which thread t holds the node: NL where it does not, or where there is no such node.

@@ -12,6 +12,7 @@ use crate::fate::Fate;
 use crate::fault::Fault;
 use crate::frame::Activity;
 use crate::heap::Heap;
+use crate::word::Word;
 use asl_code::{Cell, Effect, Value};
 use asl_lock_forest::Forest;
 use std::alloc::{AllocError, Global};
@@ -23,7 +24,7 @@ pub fn load(
     t: u32,
     activity: &Activity,
     register: u8,
-) -> Result<Value, Fault>
+) -> Result<Word, Fault>
     requires there { register < length activity.now.top.regs }
     requires thread { t < forest.now.threads }
     requires classes { AreOfClasses forest.now.classes heap.now }
@@ -98,7 +99,7 @@ pub fn make(
     } else {
         heap.make(alloc, cells, class)?
     };
-    activity.advance_with(to, Value::Addr(number, 0));
+    activity.advance_with(to, Word::of(Value::Addr(number, 0)));
     Ok(Fate::GoesOn)
 }
 
@@ -154,7 +155,7 @@ fn access(
     t: u32,
     activity: &Activity,
     effect: Effect,
-    value: Value,
+    value: Word,
 ) -> Result<Cell, Fault>
     requires thread { t < forest.now.threads }
     requires classes { AreOfClasses forest.now.classes heap.now }
@@ -162,7 +163,7 @@ fn access(
     ensures value { result ≡ accessed (cover forest.now.holding activity.now.fresh) heap.now t activity.now.depth effect value }
     ensures there { IfOk result (λ cell. IsSome (cell_at heap.now cell)) }
 {
-    match value {
+    match value.value() {
         Value::Addr(object, offset) => allow(
             heap,
             forest,

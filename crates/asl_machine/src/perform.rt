@@ -50,7 +50,7 @@ pub fn perform(
             first,
             function,
         } => call(alloc, code, activity, to, first, function)?,
-        Instr::Output { from } => show(activity, activity.read(from)),
+        Instr::Output { from } => show(activity, activity.read(from).value()),
         Instr::Acquire { list } => acquire(code, heap, forest, asks, t, activity, list)?,
         Instr::Release => leave(forest, t, activity),
         _ => perform_local(code, heap, activity, instr),

@@ -1,14 +1,16 @@
 //! What a section asks for at its entry.
 ghost use Rattle.std.specs.Prelude.{◌≡◌, IsTrue, false, All, IfOk, OnOk, position};
+ghost use Rattle.asl_lock_expr.specs.Expression.{cell_denoted, base_cell};
 ghost use Rattle.asl_lock_forest.specs.Node.{same_node, IsThere};
 ghost use Rattle.asl_lock_forest.specs.Holding.{covering_mode, can_grant};
 ghost use Rattle.asl_machine.specs.Access.{AreOfClasses};
-ghost use Rattle.asl_machine.specs.Request.{LockOfClass, asks_of, upper_mode, effect_of, joined_with, joined_all, request_of};
+ghost use Rattle.asl_machine.specs.Request.{LockOfClass, heap_of, asks_of, upper_mode, effect_of, joined_with, joined_all, request_of};
 ghost use Rattle.asl_machine.specs.Asking.{leaf_of, node_of, asks_at, AreFree, IsHeldUp};
 
 use crate::heap::Heap;
-use asl_code::{Cell, Effect, Lock, Value};
-use asl_lock_expr::eval;
+use crate::word::Word;
+use asl_code::{Base, Cell, Effect, Expr, Lock};
+use asl_lock_expr::{follow, pointed};
 use asl_lock_forest::{Forest, Node};
 use asl_mode_lanes::{Mode, join};
 use std::alloc::AllocError;
@@ -18,7 +20,7 @@ use std::alloc::AllocError;
 pub fn request(
     asks: &mut Vec<(Node, Mode)>,
     locks: &[Lock],
-    regs: &[Value],
+    regs: &[Word],
     heap: &Heap,
     forest: &Forest,
     t: u32,
@@ -41,7 +43,7 @@ pub fn request(
 fn add_lock(
     request: &mut Vec<(Node, Mode)>,
     lock: &Lock,
-    regs: &[Value],
+    regs: &[Word],
     heap: &Heap,
     forest: &Forest,
     t: u32,
@@ -64,13 +66,31 @@ fn add_lock(
 }
 
 /// The lock's own node, if it has one.
-fn node_of(lock: &Lock, regs: &[Value], heap: &Heap) -> Option<Node>
+fn node_of(lock: &Lock, regs: &[Word], heap: &Heap) -> Option<Node>
     ensures { result ≡ node_of heap.now regs.now lock.now }
 {
     match lock {
         Lock::Root(_) => Some(Node::Root),
         Lock::Class(class, _) => Some(Node::Class(*class)),
-        Lock::Expr(expr, _) => leaf_of(eval(expr, regs, heap), heap),
+        Lock::Expr(expr, _) => leaf_of(denoted(expr, regs, heap), heap),
+    }
+}
+
+/// The cell that the expression denotes, if it denotes one.
+#[tactic(auto, using(asl_lock_expr::proofs::Paths::no_cell_from_none))]
+fn denoted(expr: &Expr, regs: &[Word], heap: &Heap) -> Option<Cell>
+    ensures { result ≡ cell_denoted (heap_of heap.now) regs.now expr.now }
+{
+    follow(expr.path.as_slice(), base_cell(expr.base, regs)?, heap)
+}
+
+/// The cell at which the evaluation of an expression on the base begins.
+fn base_cell(base: Base, regs: &[Word]) -> Option<Cell>
+    ensures { result ≡ base_cell regs.now base }
+{
+    match base {
+        Base::Reg(register) => pointed(regs.get(usize::from(register))?.value()),
+        Base::Global(object) => Some(Cell { object, offset: 0 }),
     }
 }
 

@@ -6,81 +6,79 @@ ghost use Rattle.asl_machine.specs.Twin.{register_of, address_moved, computed, a
 use crate::fault::Fault;
 use crate::frame::Activity;
 use crate::heap::Heap;
+use crate::word::Word;
 use asl_code::{Cell, Value};
 use asl_lock_expr::go_on;
 
 /// The sum of the integers in two registers, which wraps at 32 bits.
-pub fn sum(activity: &Activity, left: u8, right: u8) -> Result<Value, Fault>
+pub fn sum(activity: &Activity, left: u8, right: u8) -> Result<Word, Fault>
     requires left_there { left < length activity.now.top.regs }
     requires right_there { right < length activity.now.top.regs }
     ensures { result ≡ computed added (register_of activity.now.top left) (register_of activity.now.top right) }
 {
-    match (activity.read(left), activity.read(right)) {
-        (Value::Int(x), Value::Int(y)) => Ok(Value::Int(x.wrapping_add(y))),
+    match (
+        activity.read(left).integer(),
+        activity.read(right).integer(),
+    ) {
+        (Some(x), Some(y)) => Ok(Word::of(Value::Int(x.wrapping_add(y)))),
         _ => Err(Fault::BadType),
     }
 }
 
 /// The difference of the integers in two registers, which wraps at 32 bits.
-pub fn difference(activity: &Activity, left: u8, right: u8) -> Result<Value, Fault>
+pub fn difference(activity: &Activity, left: u8, right: u8) -> Result<Word, Fault>
     requires left_there { left < length activity.now.top.regs }
     requires right_there { right < length activity.now.top.regs }
     ensures { result ≡ computed subtracted (register_of activity.now.top left) (register_of activity.now.top right) }
 {
-    match (activity.read(left), activity.read(right)) {
-        (Value::Int(x), Value::Int(y)) => Ok(Value::Int(x.wrapping_sub(y))),
+    match (
+        activity.read(left).integer(),
+        activity.read(right).integer(),
+    ) {
+        (Some(x), Some(y)) => Ok(Word::of(Value::Int(x.wrapping_sub(y)))),
         _ => Err(Fault::BadType),
     }
 }
 
 /// Whether the integer in one register is below that in another: 1 or 0.
-pub fn comparison(activity: &Activity, left: u8, right: u8) -> Result<Value, Fault>
+pub fn comparison(activity: &Activity, left: u8, right: u8) -> Result<Word, Fault>
     requires left_there { left < length activity.now.top.regs }
     requires right_there { right < length activity.now.top.regs }
     ensures { result ≡ computed compared (register_of activity.now.top left) (register_of activity.now.top right) }
 {
-    match (activity.read(left), activity.read(right)) {
-        (Value::Int(x), Value::Int(y)) => Ok(integer_for(x < y)),
+    match (
+        activity.read(left).integer(),
+        activity.read(right).integer(),
+    ) {
+        (Some(x), Some(y)) => Ok(integer_for(x < y)),
         _ => Err(Fault::BadType),
     }
 }
 
 /// Whether two registers have the same value: 1 or 0.
 #[inline(always)]
-pub fn equality(activity: &Activity, left: u8, right: u8) -> Value
+pub fn equality(activity: &Activity, left: u8, right: u8) -> Word
     requires left_there { left < length activity.now.top.regs }
     requires right_there { right < length activity.now.top.regs }
     ensures { result ≡ truth (same_value (register_of activity.now.top left) (register_of activity.now.top right)) }
 {
-    integer_for(is_same(activity.read(left), activity.read(right)))
-}
-
-#[inline(always)]
-fn is_same(left: Value, right: Value) -> bool
-    ensures { result ≡ same_value left right }
-{
-    match (left, right) {
-        (Value::Int(x), Value::Int(y)) => x == y,
-        (Value::Null, Value::Null) => true,
-        (Value::Addr(o, i), Value::Addr(p, j)) => o == p && i == j,
-        _ => false,
-    }
+    integer_for(activity.read(left).is_same(activity.read(right)))
 }
 
 /// 1 where the test holds, else 0.
 #[inline(always)]
-fn integer_for(holds: bool) -> Value
+fn integer_for(holds: bool) -> Word
     ensures { result ≡ truth holds }
 {
-    if holds { Value::Int(1) } else { Value::Int(0) }
+    Word::of(Value::Int(i32::from(holds)))
 }
 
 /// Whether a jump that asks for zero goes to its target.
 #[inline(always)]
-pub fn is_zero(value: Value) -> bool
+pub fn is_zero(value: Word) -> bool
     ensures { result ≡ is_zero value }
 {
-    match value {
+    match value.value() {
         Value::Int(x) => x == 0,
         Value::Null => true,
         Value::Addr(_, _) => false,
@@ -89,12 +87,12 @@ pub fn is_zero(value: Value) -> bool
 
 /// The address so many cells on, in the same object.
 #[inline(always)]
-pub fn moved_on(heap: &Heap, places: u8, value: Value) -> Result<Value, Fault>
+pub fn moved_on(heap: &Heap, places: u8, value: Word) -> Result<Word, Fault>
     ensures { result ≡ address_moved heap.now places value }
 {
-    match value {
+    match value.value() {
         Value::Addr(object, offset) => match go_on(heap, places, Cell { object, offset }) {
-            Some(cell) => Ok(Value::Addr(cell.object, cell.offset)),
+            Some(cell) => Ok(Word::of(Value::Addr(cell.object, cell.offset))),
             None => Err(Fault::Bounds),
         },
         Value::Null => Err(Fault::Null),
