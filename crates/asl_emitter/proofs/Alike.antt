@@ -21,7 +21,7 @@ same_test true false h k = let t : false ≡ true = h refl in cc
 same_test false true h k = let t : false ≡ true = k refl in cc
 same_test false false h k = refl
 
-one_test : (l : Lowered) (c : Classed) (stores other : ℕ → ℕ → Bool) → TellsStores l c stores → TellsStores l c other → stores ≡ other
+pub one_test : (l : Lowered) (c : Classed) (stores other : ℕ → ℕ → Bool) → TellsStores l c stores → TellsStores l c other → stores ≡ other
 one_test l c stores other h k =
     let same = λ (f x : ℕ). same_test (stores f x) (other f x) (λ t. (k f x).1 ((h f x).0 t)) (λ t. (h f x).1 ((k f x).0 t)) in
     λ i f x. same f x i

@@ -10,4 +10,5 @@ pub mod Needing
 pub mod Refusing
 pub mod Sounding
 pub mod Alike
+pub mod Outcomes
 pub mod Guarding

@@ -23,7 +23,7 @@ use std::alloc::{AllocError, Global};
 /// The program of a tree whose sections ask for the locks that they need, where paths have at most `k` operations
 /// (`docs/ANALYSIS.md`, "The inferred image"). With any number of threads, and in any order of their steps, it never faults for
 /// want of a lock, for a section that was not entered, or for one left open; and each run ends as one whose sections do
-/// not interleave: exactly where no section makes an object, and up to the numbers of objects where none of them runs out of these
+/// not interleave: the very same where no section makes an object, and up to the numbers of objects where none of them runs out of these
 /// (`docs/SOUNDNESS.md`, `docs/ATOMICITY.md`).
 ///
 /// # Errors

@@ -11,7 +11,11 @@ ghost use Rattle.asl_lock_expr.specs.ClassOf.{TellsStores};
 ghost use Rattle.asl_lock_expr.specs.Links.{IsOne};
 ghost use Rattle.asl_soundness.specs.Over.{StandsOver};
 ghost use Rattle.asl_soundness.specs.Safe.{NeverUnprotected};
+ghost use Rattle.asl_atomicity.specs.Serial.{HasSerialRuns};
+ghost use Rattle.asl_atomicity.specs.Renamed.{HasSerialRunsUpTo};
+ghost use Rattle.asl_emitter.specs.declared.fault.InferFault.{InferFault as AnyFault};
 ghost use Rattle.asl_emitter.specs.Inferred.{IsInferred, IsInferredFor};
+ghost use Rattle.asl_emitter.specs.Refused.{IsAccepted, IsRefused};
 ghost use Rattle.asl_emitter.specs.Lists.{Absorbs, IsReduced, IsFitted, HasClass};
 
 /// Absorbing is a strict order, so each lock of a set is kept or absorbed by one that is kept.
@@ -39,13 +43,34 @@ pub fn fitted_lists_stand_over_their_sets()
         → IsOne given a → HasClass c f a → (m : AnyLock) × IsOne list m × StandsOver c f m a }
 {}
 
-/// The image that is inferred for a lowering is verified, and no run of it ever faults for want of a lock, for a section that
-/// was not entered, or for one left open.
+/// The image that is inferred for a lowering is verified, no run of it ever faults for want of a lock, for a section that
+/// was not entered, or for one left open, and its sections are atomic: each run ends as one that is serial.
 pub fn inferred_images_are_sound()
     ensures verified { (l : Lowered) (c : Classed) (stores : ℕ → ℕ → Bool) (longest : ℕ) (image : Image) → IsKept l → AreClasses l c → c.count ≤ 1024
         → IsInferred l c stores longest image → FitsImage image }
     ensures sound { (l : Lowered) (c : Classed) (stores : ℕ → ℕ → Bool) (longest : ℕ) (image : Image) → IsKept l → AreClasses l c → c.count ≤ 1024
         → TellsStores l c stores → IsInferred l c stores longest image → NeverUnprotected image }
+    ensures atomic { (l : Lowered) (c : Classed) (stores : ℕ → ℕ → Bool) (longest : ℕ) (image : Image) → IsKept l → AreClasses l c → c.count ≤ 1024
+        → TellsStores l c stores → IsInferred l c stores longest image → (count : ℕ) → HasSerialRuns image count }
+    ensures atomic_up_to_numbers { (l : Lowered) (c : Classed) (stores : ℕ → ℕ → Bool) (longest : ℕ) (image : Image) → IsKept l → AreClasses l c → c.count ≤ 1024
+        → TellsStores l c stores → IsInferred l c stores longest image → (count : ℕ) → HasSerialRunsUpTo image count }
+{}
+
+/// A program has one outcome, where memory is there: a fault of its lowering keeps out all else, too many classes keep out
+/// too many locks, and a program for which an image is inferred has no fault. Of several regions with too many locks any is told.
+pub fn programs_have_one_outcome()
+    ensures registers { (is : List Item) (longest function : ℕ) (other : AnyFault) → IsRefused is longest (AnyFault.Registers function)
+        → IsRefused is longest other → other ≡ AnyFault.Registers function }
+    ensures code_size { (is : List Item) (longest : ℕ) (other : AnyFault) → IsRefused is longest AnyFault.CodeSize
+        → IsRefused is longest other → other ≡ AnyFault.CodeSize }
+    ensures access { (is : List Item) (longest function pc : ℕ) (other : AnyFault) → IsRefused is longest (AnyFault.AccessOutsideSection function pc)
+        → IsRefused is longest other → other ≡ AnyFault.AccessOutsideSection function pc }
+    ensures classes { (is : List Item) (longest : ℕ) (other : AnyFault) → IsRefused is longest AnyFault.TooManyClasses
+        → IsRefused is longest other → (other ≡ AnyFault.TooManyClasses) ⊎ (other ≡ AnyFault.OutOfMemory) }
+    ensures locks { (is : List Item) (longest : ℕ) (region : _) (other : AnyFault) → IsRefused is longest (AnyFault.TooManyLocks region)
+        → IsRefused is longest other → ((another : _) × (other ≡ AnyFault.TooManyLocks another)) ⊎ (other ≡ AnyFault.OutOfMemory) }
+    ensures accepted { (is : List Item) (longest : ℕ) (other : AnyFault) → IsAccepted is longest
+        → IsRefused is longest other → other ≡ AnyFault.OutOfMemory }
 {}
 
 /// A program has one inferred image for each longest path, at the most.

@@ -14,6 +14,6 @@ pub use fitted::{MOST_LOCKS, fit};
 pub use inferred::infer;
 pub use laws::{
     absorbing_is_a_strict_order, fitted_lists_stand_over_their_sets, inferred_images_are_one,
-    inferred_images_are_sound, lists_depend_on_the_set_alone,
+    inferred_images_are_sound, lists_depend_on_the_set_alone, programs_have_one_outcome,
 };
 pub use reduced::reduce;

@@ -1,5 +1,5 @@
 -- All passes together: in each state of a run of an analysed program every frame has what it wants, and so each reply is safe.
-use Rattle.std.proofs.Common.{◌≡◌, ℕ, Bool, List, [], ◌∷◌, Some, All, refl, subst}
+use Rattle.std.proofs.Common.{◌≡◌, ℕ, Bool, List, [], ◌∷◌, Some, All, refl, sym, subst}
 use Rattle.std.proofs.lemmas.List.Elements.{All-nil, All-cons}
 use Rattle.asl_code.specs.declared.image.Image.{Image}
 use Rattle.asl_lower.specs.Lowered.{Lowered}
@@ -14,6 +14,7 @@ use Rattle.asl_machine.specs.Twin.{step_of}
 use Rattle.asl_machine.specs.Fresh.{AreApart}
 use Rattle.asl_machine.proofs.Soundness.{Here}
 use Rattle.asl_machine.proofs.ReachedApart.{start_apart, step_of_apart}
+use Rattle.asl_machine.proofs.TableRuns.{run_only}
 use Rattle.asl_soundness.specs.Safe.{IsSafe, NeverUnprotected}
 use Rattle.asl_soundness.proofs.Analysed.{IsAnalysed}
 use Rattle.asl_soundness.proofs.Having.{HasWanted, HaveWanted}
@@ -75,4 +76,7 @@ module _ (l : Lowered) (c : Classed) (stores : ℕ → ℕ → Bool) (longest : 
 
   -- no reply of any schedule is a fault for want of a lock, for a section that was not entered, or for one left open
   pub sound_program : NeverUnprotected image
-  sound_program count schedule threads = replies_safe schedule (start_of image count) (start_good count)
+  sound_program count schedule replies end run =
+      let good = start_good count in
+      let computed = run_only image schedule (start_of image count) good.structured.sound replies end run in
+      subst (All IsSafe) (sym computed.0) (replies_safe schedule (start_of image count) good)

@@ -1,5 +1,5 @@
 -- The promise: no run of an image ever faults for want of a lock (docs/SOUNDNESS.md, "The statement").
-use Rattle.std.specs.Prelude.{◌≡◌, ◌<◌, ℕ, suc, Bool, true, List, Some, slice_get, All}
+use Rattle.std.specs.Prelude.{◌≡◌, ℕ, suc, Bool, true, List, Some, slice_get, All}
 use Rattle.asl_code.specs.declared.image.Image.{Image}
 use Rattle.asl_code.specs.declared.lock.Lock.{Lock}
 use Rattle.asl_lower.specs.declared.section.Section.{Section}
@@ -12,7 +12,8 @@ use Rattle.asl_backward_flow.specs.Closed.{Family}
 use Rattle.asl_machine.specs.declared.fault.Fault.TheVariants as fault
 use Rattle.asl_machine.specs.declared.reply.Reply.{Reply}
 use Rattle.asl_machine.specs.declared.reply.Reply.TheVariants as reply
-use Rattle.asl_machine.specs.Run.{start_of, replies_of}
+use Rattle.asl_machine.specs.State.{State}
+use Rattle.asl_machine.specs.Run.{start_of, RunsBy}
 use Rattle.asl_soundness.specs.Over.{StandsOver}
 
 -- a reply that is no fault for want of a lock, for leaving a section that was not entered, or for one that was left open
@@ -22,10 +23,10 @@ IsSafe (reply.Fault fault.NoSection) = ⊥
 IsSafe (reply.Fault fault.Open) = ⊥
 IsSafe r = Unit {0}
 
--- with any number of threads, and in any order of their steps, each reply is safe
+-- with any number of threads, and in any order of their steps: where the instruction table gives these replies, each is safe
 abbrev pub NeverUnprotected : Image → Type 0
 NeverUnprotected image =
-    (count : ℕ) (schedule : List ℕ) → All (λ t. t < count) schedule → All IsSafe (replies_of image (start_of image count) schedule)
+    (count : ℕ) (schedule : List ℕ) (replies : List Reply) (end : State) → RunsBy image (start_of image count) schedule replies end → All IsSafe replies
 
 -- for each lock that the family has behind the `acq` of a section, a lock of the section's list stands over it
 abbrev pub StandOver : Lowered → Classed → Family → Image → Type 0
