@@ -1,5 +1,5 @@
 pub mod Bytes
 pub mod Faults
--- Machinery of the proofs, not of the promise:
+-- Machinery of the proofs, not of the promise to users:
 pub mod Reading
 pub mod Writing

@@ -1,6 +1,6 @@
--- Machinery of the proofs, not of the promise: reading an image from front to back, to the first field that is
+-- Machinery of the proofs, not of the promise to users: reading an image from front to back, to the first field that is
 -- cut or bad, computed (docs/BYTES.md, "Images"). The lemmas of proofs/ lead from here to the relations of specs/Bytes and
--- specs/Faults, which public calls cite.
+-- specs/Faults, which the calls for images cite; those of src/parts, for crates with formats of their own, cite this file.
 use Rattle.std.specs.Prelude.{◌≡◌, ℕ, zero, suc, ◌-◌, Bool, nat_lt, ◌==◌, if◌then◌else◌, List, [], ◌∷◌, length, take, drop, Option, Some, None, Result, Ok, Err}
 use Rattle.std.specs.Int.{Width, w16, w32, byte_len, from_be_bytes}
 use Rattle.asl_code.specs.declared.image.Function.{Function}

@@ -1,5 +1,5 @@
--- Machinery of the proofs, not of the promise: what the writers of src/ add to the bytes before (docs/BYTES.md,
--- "Images").
+-- Machinery of the proofs, not of the promise to users: what the writers of src/ add to the bytes before (docs/BYTES.md,
+-- "Images"). The writers of src/parts, for crates with formats of their own, cite this file.
 use Rattle.std.specs.Prelude.{◌≡◌, ℕ, ◌<◌, ◌^◌, List, ◌++◌, length}
 use Rattle.std.specs.List.{flat_map, AllByRecursion}
 use Rattle.asl_code.specs.declared.image.Image.{Image}

@@ -1,9 +1,9 @@
 //! Readers and writers of the parts that images and journals share. A reader answers what stands at the front of the bytes and
 //! the bytes behind it, or what stopped it. Where memory is refused the reading goes on and keeps nothing (`with_item`), so that
 //! want of memory hides nothing that is wrong with the bytes. A writer adds the part's bytes to those before; where memory is
-//! refused, what it has added of them is not told.
+//! refused, it adds none.
 
-ghost use Rattle.std.specs.Prelude.{◌≡◌, ◌<◌, ◌^◌, ℕ, List, [], ◌∷◌, ◌++◌, length, IfOk, OnOk};
+ghost use Rattle.std.specs.Prelude.{◌≡◌, ◌<◌, ◌^◌, ℕ, List, [], ◌∷◌, ◌++◌, length, IfOk, OnOk, OnErr};
 ghost use Rattle.std.specs.Int.{w16, w32};
 ghost use Rattle.asl_code.specs.declared.value.Effect.{Effect};
 ghost use Rattle.asl_loader.specs.Bytes.{one, two, effect_field};
@@ -152,7 +152,8 @@ pub fn with_item<T: Drop>(kept: Option<Items<T>>, item: T) -> Option<Items<T>>
 /// # Errors
 /// A growth was refused.
 pub fn put_byte(out: &mut Vec<u8>, number: u8) -> Result<(), AllocError>
-    ensures { OnOk result (Writes ℕ (λ n. n < 256) (λ n. one n ∷ []) out.old.items out.new.items number) }
+    ensures added { OnOk result (Writes ℕ (λ n. n < 256) (λ n. one n ∷ []) out.old.items out.new.items number) }
+    ensures kept { OnErr result (out.new.items ≡ out.old.items) }
 {
     out.push(number)?;
     Ok(())
@@ -163,7 +164,8 @@ pub fn put_byte(out: &mut Vec<u8>, number: u8) -> Result<(), AllocError>
 /// # Errors
 /// A growth was refused.
 pub fn put_two(out: &mut Vec<u8>, number: u16) -> Result<(), AllocError>
-    ensures { OnOk result (Writes ℕ (λ n. n < 2 ^ 16) (λ n. two n ∷ []) out.old.items out.new.items number) }
+    ensures added { OnOk result (Writes ℕ (λ n. n < 2 ^ 16) (λ n. two n ∷ []) out.old.items out.new.items number) }
+    ensures kept { OnErr result (out.new.items ≡ out.old.items) }
 {
     out.extend_from_slice(&number.to_be_bytes())?;
     Ok(())
@@ -174,7 +176,8 @@ pub fn put_two(out: &mut Vec<u8>, number: u16) -> Result<(), AllocError>
 /// # Errors
 /// A growth was refused.
 pub fn put_effect(out: &mut Vec<u8>, effect: Effect) -> Result<(), AllocError>
-    ensures { OnOk result (Writes Effect (λ e. Unit {0}) (λ e. effect_field e ∷ []) out.old.items out.new.items effect) }
+    ensures added { OnOk result (Writes Effect (λ e. Unit {0}) (λ e. effect_field e ∷ []) out.old.items out.new.items effect) }
+    ensures kept { OnErr result (out.new.items ≡ out.old.items) }
 {
     match effect {
         Effect::Read => put_byte(out, 0),

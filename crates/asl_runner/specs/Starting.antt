@@ -1,4 +1,4 @@
--- Machinery of the proofs, not of the promise: the workers' seats, and what workers leave (src/starting.rt, src/gather.rt).
+-- Machinery of the proofs, not of the promise: the workers' seats, and what workers leave (src/starting.rt, src/gathering.rt).
 use Rattle.std.specs.Prelude.{◌≡◌, ℕ, true, List, [], Some, slice_get}
 use Rattle.asl_turns.specs.Turn.{Word, Turn}
 use Rattle.asl_runner.specs.declared.worker.Work.{Work}

@@ -9,19 +9,23 @@ use Rattle.asl_emitter.specs.declared.fault.InferFault.{InferFault}
 use Rattle.asl_emitter.specs.Inferred.{IsInferredFor}
 use Rattle.asl_emitter.specs.Refused.{IsAccepted, IsRefused}
 use Rattle.asl_soundness.specs.Safe.{NeverUnprotected}
+use Rattle.asl_atomicity.specs.Serial.{HasSerialRuns}
+use Rattle.asl_atomicity.specs.Renamed.{HasSerialRunsUpTo}
 use Rattle.asl_assembler.specs.Canonical.{canonical_text}
 use Rattle.asl_loader.specs.Bytes.{SpellsImage}
 use Rattle.asl_tool.specs.declared.command.CommandFault.{CommandFault}
 use Rattle.asl_tool.specs.declared.command.CommandFault.TheVariants as fault
 
 -- the source is a program's, and this image is inferred for it, with paths of at most so many operations; no run of the
--- image faults for want of a lock
+-- image faults for want of a lock, and its sections are atomic
 pub record IsProgramFor (source : List ℕ) (longest : ℕ) (image : Image) : Type 0 where
   pub tree : List Item
   pub parsed : Parses source tree
   pub accepted : IsAccepted tree longest
   pub inferred : IsInferredFor tree longest image
   pub safe : NeverUnprotected image
+  pub atomic : (count : ℕ) → HasSerialRuns image count
+  pub atomic_up_to_numbers : (count : ℕ) → HasSerialRunsUpTo image count
 
 -- what is written of a program: its image, or its canonical text
 abbrev pub IsProgramWritten : Bool → Image → List ℕ → Type 0

@@ -16,9 +16,7 @@ mod view;
 mod working;
 
 pub use command::{CommandFault, output_of};
-pub use debugging::Answer;
-pub use performing::{ToolFault, perform, perform_run, tool, tool_alone};
-pub use program::{ProgramFault, read_program};
+pub use performing::{tool, tool_alone};
+pub use program::ProgramFault;
 pub use run_file::{FileFault, get_run, put_run};
 pub use streams::{ReadFault, WriteFault, read_whole, write_whole};
-pub use working::run_output;

@@ -21,7 +21,7 @@ pub const PROGRAM: Page = Page {
         Status: 0 done; 1 refused, with one line 'asl: NAME' on standard error; 2 wrong usage.\n\
         A command's --help lists the names of its refusals.\n\
         \n\
-        asl 1, proved with rattle-kit-13b logic dac8208d650f15bf",
+        asl 1, proved with rattle-kit-13f logic dac8208d650f15bf",
 };
 
 /// The page of the command `compile`.
@@ -53,7 +53,7 @@ pub const COMPILE: Page = Page {
         \u{20} Write                        standard output failed; a part of the output may have been written\n\
         \u{20} OutOfMemory                  memory ran out\n\
         \n\
-        asl 1, proved with rattle-kit-13b logic dac8208d650f15bf",
+        asl 1, proved with rattle-kit-13f logic dac8208d650f15bf",
 };
 
 /// The page of the command `asm`.
@@ -76,7 +76,7 @@ pub const ASM: Page = Page {
         \u{20} Write         standard output failed; a part of the output may have been written\n\
         \u{20} OutOfMemory   memory ran out\n\
         \n\
-        asl 1, proved with rattle-kit-13b logic dac8208d650f15bf",
+        asl 1, proved with rattle-kit-13f logic dac8208d650f15bf",
 };
 
 /// The page of the command `dis`.
@@ -102,7 +102,7 @@ pub const DIS: Page = Page {
         \u{20} Write           standard output failed; a part of the output may have been written\n\
         \u{20} OutOfMemory     memory ran out\n\
         \n\
-        asl 1, proved with rattle-kit-13b logic dac8208d650f15bf",
+        asl 1, proved with rattle-kit-13f logic dac8208d650f15bf",
 };
 
 /// The page of the command `step`.
@@ -129,7 +129,7 @@ pub const STEP: Page = Page {
         \u{20} Write                 standard output failed; a part of the output may have been written\n\
         \u{20} OutOfMemory           memory ran out\n\
         \n\
-        asl 1, proved with rattle-kit-13b logic dac8208d650f15bf",
+        asl 1, proved with rattle-kit-13f logic dac8208d650f15bf",
 };
 
 /// The page of the command `run`.
@@ -156,7 +156,7 @@ pub const RUN: Page = Page {
         \u{20} Write                 standard output failed; a part of the output may have been written\n\
         \u{20} OutOfMemory           memory ran out\n\
         \n\
-        asl 1, proved with rattle-kit-13b logic dac8208d650f15bf",
+        asl 1, proved with rattle-kit-13f logic dac8208d650f15bf",
 };
 
 /// The page of the command `replay`.
@@ -182,7 +182,7 @@ pub const REPLAY: Page = Page {
         \u{20} Write          standard output failed; a part of the output may have been written\n\
         \u{20} OutOfMemory    memory ran out\n\
         \n\
-        asl 1, proved with rattle-kit-13b logic dac8208d650f15bf",
+        asl 1, proved with rattle-kit-13f logic dac8208d650f15bf",
 };
 
 /// The page of the command `debug`.
@@ -209,7 +209,7 @@ pub const DEBUG: Page = Page {
         \u{20} Write          standard output failed; a part of the output may have been written\n\
         \u{20} OutOfMemory    memory ran out\n\
         \n\
-        asl 1, proved with rattle-kit-13b logic dac8208d650f15bf",
+        asl 1, proved with rattle-kit-13f logic dac8208d650f15bf",
 };
 
 /// The argument `--k`.
