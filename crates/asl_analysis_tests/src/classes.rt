@@ -1,6 +1,9 @@
-//! The classes of source texts. The rows of `SAMPLES` are answers of another program, made from the same rules by other hands.
+//! The classes of source texts, and of expressions in them. The rows of `SAMPLES` are answers of another program, made from the same rules by other hands.
 ghost use Rattle.asl_points_to.specs.Classes.{AreClasses};
 
+use crate::spelling::lock;
+use asl_code::Lock;
+use asl_lock_expr::class_of;
 use asl_lower::{Lowering, lower};
 use asl_points_to::{Classes, ClassesFault, classes};
 use asl_syntax::parse;
@@ -189,6 +192,50 @@ fn worked_programs_have_their_classes(rt: HostRuntime) -> Result<(), Fail> {
 #[test]
 fn samples_have_their_classes(rt: HostRuntime) -> Result<(), Fail> {
     assert!(rt; are_listed(rt.alloc(), &SAMPLES)?);
+    Ok(())
+}
+
+/// Source texts, and expressions of their only function with the classes that they have.
+const EXPRESSIONS: [(&[u8], &[(&str, Option<u16>)]); 2] = [
+    // push
+    (
+        b"global h; fn main(t) { n = new 2; p = &h; atomic { y = *p; g = &n[1]; *g = y; *p = n; } return t; }",
+        &[
+            ("expr r1 read", Some(1)),
+            ("expr r2 read", Some(0)),
+            ("expr r2 * read", Some(1)),
+            ("expr r2 * .1 * read", Some(1)),
+            ("expr r0 read", None),
+            ("expr g0 read", Some(0)),
+            ("expr g0 * read", Some(1)),
+        ],
+    ),
+    // nothing stores an address into the global
+    (
+        b"global h; fn main(t) { p = &h; atomic { x = *p; } return t; }",
+        &[("expr g0 * read", None), ("expr g0 * .1 * read", None)],
+    ),
+];
+
+/// The class of the text's expression in function 0.
+fn class_spelled(classes: &Classes, text: &str) -> Result<Option<u16>, Fail> {
+    let Some(Lock::Expr(expr, _)) = lock(text) else {
+        return Err(Fail::from("no expression"));
+    };
+    Ok(class_of(classes, 0, &expr))
+}
+
+#[test]
+fn expressions_have_the_classes_at_their_ends(rt: HostRuntime) -> Result<(), Fail> {
+    for (source, rows) in EXPRESSIONS {
+        let ast = parse(rt.alloc(), source)?;
+        let lowering = lower(rt.alloc(), &ast)?;
+        let classes = classes(rt.alloc(), &lowering)?;
+        for (text, class) in rows {
+            let found = class_spelled(&classes, text)?;
+            assert!(rt; found == *class, "{found:?} for {text}");
+        }
+    }
     Ok(())
 }
 

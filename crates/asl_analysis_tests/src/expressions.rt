@@ -1,7 +1,7 @@
 //! The cells that expressions denote.
 use crate::spelling::lock;
 use asl_code::{Cell, Lock, Value};
-use asl_lock_expr::{HeapView, eval};
+use asl_lock_expr::{HeapView, eval, follow, pointed};
 use std::test::Fail;
 
 /// A heap whose only object has the number 1 and three cells.
@@ -27,6 +27,9 @@ impl HeapView for OneObject {
         if object == 1 { Some(3) } else { None }
     }
 }
+
+/// What the cells of the heap hold.
+const CELLS: [Value; 3] = [Value::Addr(1, 2), Value::Null, Value::Int(7)];
 
 /// An expression, and the cell that it denotes.
 const ROWS: [(&str, Option<(u16, u8)>); 15] = [
@@ -55,9 +58,7 @@ fn expressions_denote_cells(rt: HostRuntime) -> Result<(), Fail> {
         Value::Addr(1, 0),
         Value::Addr(1, 2),
     ];
-    let heap = OneObject {
-        cells: [Value::Addr(1, 2), Value::Null, Value::Int(7)],
-    };
+    let heap = OneObject { cells: CELLS };
     for (text, cell) in ROWS {
         let Some(Lock::Expr(expr, _)) = lock(text) else {
             return Err(Fail::from("no expression"));
@@ -66,4 +67,33 @@ fn expressions_denote_cells(rt: HostRuntime) -> Result<(), Fail> {
         assert!(rt; found == cell, "{found:?} for {text}");
     }
     Ok(())
+}
+
+/// The first cell of the object.
+const FIRST: Cell = Cell {
+    object: 1,
+    offset: 0,
+};
+
+/// The last one.
+const LAST: Cell = Cell {
+    object: 1,
+    offset: 2,
+};
+
+#[test]
+fn a_path_leads_from_a_cell_to_a_cell(rt: HostRuntime) -> Result<(), Fail> {
+    let Some(Lock::Expr(expr, _)) = lock("expr r2 * read") else {
+        return Err(Fail::from("no expression"));
+    };
+    let heap = OneObject { cells: CELLS };
+    assert!(rt; follow(expr.path.as_slice(), FIRST, &heap) == Some(LAST));
+    Ok(())
+}
+
+#[test]
+fn addresses_alone_point(rt: HostRuntime) {
+    assert!(rt; pointed(Value::Addr(1, 2)) == Some(LAST));
+    assert!(rt; pointed(Value::Int(1)).is_none());
+    assert!(rt; pointed(Value::Null).is_none());
 }

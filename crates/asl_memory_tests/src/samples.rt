@@ -23,6 +23,10 @@ pub static OBJECTS: &[u8] = b"version 1\nclasses 1\nentry 0\nfn 1 2\nnew r1, 2, 
 pub static FRESH_OBJECTS: &[u8] =
     b"version 2\nclasses 1\nentry 0\nfn 1 2\nacq 0\nnew r1, 2, 0\njmp 1\nlist\n";
 
+/// Makes a pair and puts it before the list of a global, in a section that asks two leaves.
+pub static PUSH: &[u8] =
+    b"version 1\nclasses 2\nglobal 0\nentry 0\nfn 1 5\nnew r1, 2, 1\nglob r2, g0\nacq 0\nload r3, r2\nfield r4, r1, 1\nstore r4, r3\nstore r2, r1\nrel\nret r0\nlist\nexpr r1 .1 write\nexpr r2 write\n";
+
 /// A schedule of the counter's two threads in which thread 1 waits for thread 0, and both end.
 pub static SCHEDULE: [u8; 18] = [0, 0, 1, 1, 0, 0, 0, 0, 1, 0, 1, 0, 1, 1, 1, 1, 1, 1];
 

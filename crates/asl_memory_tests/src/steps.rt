@@ -1,6 +1,6 @@
 //! Machines that write down their steps, and replay.
 use crate::readers::{CELL, Seen, told_of};
-use crate::samples::{COUNTER, FRESH_OBJECTS, OBJECTS, SCHEDULE, STACK, program};
+use crate::samples::{COUNTER, FRESH_OBJECTS, OBJECTS, PUSH, SCHEDULE, STACK, program};
 use asl_code::{Program, Value};
 use asl_journal::{Journal, JournalFault, Journaled, Receipt, replay};
 use asl_machine::{Fault, Machine, Reply};
@@ -85,6 +85,12 @@ fn objects_are_made(rt: HostRuntime) {
         let last = last_reply(rt.alloc(), text, 100);
         assert!(rt; last == Some(Reply::Ran));
     }
+}
+
+#[test]
+fn a_push_is_stepped(rt: HostRuntime) {
+    let last = last_reply(rt.alloc(), PUSH, 8);
+    assert!(rt; last == Some(Reply::Ran));
 }
 
 /// The journal of the counter's two threads over the schedule, with room made ahead for some events.

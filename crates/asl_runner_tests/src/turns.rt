@@ -17,7 +17,7 @@ fn open(alloc: Global, limit: u64) -> Result<(Turns, TurnSeat), TurnFault>
 }
 
 #[test]
-fn two_seats_draw_each_number_once(rt: HostRuntime) -> Result<(), Fail> {
+fn two_seats_draw_each_number_once_whatever_memory_is_refused(rt: HostRuntime) -> Result<(), Fail> {
     let (turns, mut first) = open(rt.alloc(), 2)?;
     let mut second = turns.split(&mut first)?;
     let drawn = [
