@@ -21,7 +21,8 @@ use Rattle.asl_machine.specs.Twin.{made_objects, Stepped, acquire_fate, reply_of
 use Rattle.asl_lock_forest.proofs.Grantable.{CanGrant-tested, can_grant-tells}
 use Rattle.asl_machine.proofs.RequestLaws.{request_asks_modes, request_is_rooted}
 use Rattle.asl_machine.proofs.Soundness.{here_of, outside_here, instr_here}
-use Rattle.asl_atomicity.specs.Serial.{heard, IsGuarded, ListCovered}
+use Rattle.asl_atomicity.specs.Serial.{heard, ListCovered}
+use Rattle.asl_atomicity.proofs.Computed.{IsGuarded}
 use Rattle.asl_atomicity.proofs.Swapping.{EntriesUnseen}
 use Rattle.asl_atomicity.proofs.Uniform.{ObjectsEdit, Same, Stored, Made, put, Acquired, edit, uniform, place_at}
 use Rattle.asl_atomicity.proofs.Unseen.{WroteBy, covered_kept}

@@ -15,13 +15,15 @@ use Rattle.asl_machine.specs.Run.{state_after}
 use Rattle.asl_machine.specs.Twin.{step_of, step_at}
 use Rattle.asl_machine.specs.Sound.{IsSound}
 use Rattle.asl_machine.proofs.Soundness.{here_of, instr_here, step_sound}
-use Rattle.asl_atomicity.specs.Serial.{heard, told, AllCount, IsSerial, IsGuarded}
+use Rattle.asl_atomicity.specs.Serial.{heard}
+use Rattle.asl_atomicity.proofs.Computed.{told, outside, AllCount, IsSerial, IsGuarded}
 use Rattle.asl_atomicity.proofs.Swapping.{AreOthers, Stands, InSection}
 use Rattle.asl_atomicity.specs.Renamed.{Renaming, reply_by, thread_by, IsRenamed, Keeps}
 use Rattle.asl_atomicity.proofs.Uniform.{IsNew}
 use Rattle.asl_atomicity.proofs.Swaps.{swapped}
 use Rattle.asl_atomicity.proofs.Guards.{entries_unseen}
 use Rattle.asl_atomicity.proofs.Moves.{others_stay, step_stands, two_told}
+use Rattle.asl_atomicity.proofs.Outside.{outside_by}
 use Rattle.asl_atomicity.proofs.Serials.{slot_depth}
 use Rattle.asl_atomicity.proofs.Renamings.{then_by, none_by, reply_twice, renamed_twice, keeps_twice, each_twice, reply_stays, same_renamed, same_keeps, same_reply_by, same_replies, heard_by, heard_back, not_full_by}
 use Rattle.asl_atomicity.proofs.RenamedSteps.{step_both}
@@ -88,6 +90,7 @@ module _ (image : Image) (count : ℕ) (fits : FitsImage image) (guarded : IsGua
     pub replies : (x : ℕ) → told image b x us ≡ each (reply_by f) (told image a x us)
     pub counts : AllCount image a us → AllCount image b us
     pub serial : (before : Option ℕ) → IsSerial image a before us → IsSerial image b before us
+    pub order : outside image b us ≡ outside image a us
 
   pub each_told : (f : ℕ → ℕ) (b : Bool) (r : Reply) → each (reply_by f) (if b then heard r else []) ≡ (if b then heard (reply_by f r) else [])
   each_told f true r = heard_by f r
@@ -103,7 +106,7 @@ module _ (image : Image) (count : ℕ) (fits : FitsImage image) (guarded : IsGua
       by_option (Some (Failed w)) = refl
 
   run_both : (p : Renaming) (us : List ℕ) (a b : State) → IsSound image a → Keeps p.new (length image.globals) (length a.objects) → IsRenamed p.new a b → Both p.new a b us
-  run_both p [] a b sound keeps same = record { state = same; replies = λ x. refl; counts = λ c. c; serial = λ before c. c }
+  run_both p [] a b sound keeps same = record { state = same; replies = λ x. refl; counts = λ c. c; serial = λ before c. c; order = refl }
   run_both p (u ∷ us) a b sound keeps same =
       let k = step_both p image a b u sound keeps same in
       let next = (step_of image a u).state in
@@ -120,6 +123,7 @@ module _ (image : Image) (count : ℕ) (fits : FitsImage image) (guarded : IsGua
           elim c.0 [ inl outside ↦ inl (depth_by p.new a b same u ∙ outside) | inr follows ↦ inr follows ],
           rest.serial (Some u) c.1,
         );
+        order = ap₂ (λ x xs. x ++ xs) (outside_by p.new u (depth_at b.threads u) (depth_at a.threads u) (step_of image b u).reply (step_of image a u).reply (depth_by p.new a b same u) k.reply) rest.order;
       }
 
   -- ---- a step inside a section goes before others
@@ -136,6 +140,7 @@ module _ (image : Image) (count : ℕ) (fits : FitsImage image) (guarded : IsGua
     pub replies : (x : ℕ) → told image s x (t ∷ us) ≡ each (reply_by renaming.new) (told image s x (us ++ t ∷ []))
     pub counts : AllCount image (step_of image s t).state us
     pub serial : (before : Option ℕ) → IsSerial image s before us → IsSerial image (step_of image s t).state before us
+    pub order : outside image (step_of image s t).state us ≡ outside image s us
 
   pub insert : (t : ℕ) (us : List ℕ) (s : State) → Stands image count s → InSection s t → AreOthers t us → AllCount image s us
       → (step_of image (state_after image s us) t).reply ≢ reply.Fault fault.Full → Inserted s t us
@@ -148,6 +153,7 @@ module _ (image : Image) (count : ℕ) (fits : FitsImage image) (guarded : IsGua
     replies = λ x. sym (same_replies (told image s x (t ∷ [])));
     counts = tt;
     serial = λ before c. tt;
+    order = refl;
   }
   insert t (u ∷ us) s stands inside others counts full =
       let sound = stands.0 in
@@ -198,6 +204,7 @@ module _ (image : Image) (count : ℕ) (fits : FitsImage image) (guarded : IsGua
           elim k.0 [ inl outside ↦ inl (ap slot_depth (others_stay image s t u others.0) ∙ outside) | inr follows ↦ inr follows ],
           lift.serial (Some u) (rest.serial (Some u) k.1),
         );
+        order = ap₂ (λ x xs. x ++ xs) (outside_by q.new u (depth_at (step_of image s t).state.threads u) (depth_at s.threads u) (step_of image (step_of image s t).state u).reply r_u (ap slot_depth (others_stay image s t u others.0)) c.other) (lift.order ∙ rest.order);
       }
     where
       less : (k m n : ℕ) → k < m → m ≤ n → k < n

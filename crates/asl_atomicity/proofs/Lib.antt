@@ -1,5 +1,7 @@
+pub mod Computed
 pub mod Swapping
 pub mod Moves
+pub mod Outside
 pub mod Serials
 pub mod Uniform
 pub mod Stores
@@ -19,3 +21,4 @@ pub mod Crossing
 pub mod Making
 pub mod Inserting
 pub mod UpTo
+pub mod ByTable

@@ -10,7 +10,8 @@ use Rattle.asl_machine.specs.Run.{start_of, state_after}
 use Rattle.asl_machine.specs.Twin.{step_of, step_at}
 use Rattle.asl_machine.proofs.Lists.{get_other}
 use Rattle.asl_machine.proofs.Soundness.{step_sound}
-use Rattle.asl_atomicity.specs.Serial.{heard, told, AllCount, IsSerial, AreAlike, IsInside}
+use Rattle.asl_atomicity.specs.Serial.{heard, IsInside}
+use Rattle.asl_atomicity.proofs.Computed.{told, AllCount, IsSerial, AreAlike}
 use Rattle.asl_atomicity.proofs.Swapping.{AreOthers, Stands, CanSwap}
 
 -- a step of one thread leaves the others where they are
@@ -79,7 +80,7 @@ moved_counts image count swap t (u ∷ us) s good i others counts =
     (subst (λ r. heard r ≢ []) k.1 counts.0, subst (λ z. AllCount image z us) k.2 rest)
 
 -- the depth of what stands at a thread's number
-abbrev depth_of_slot : Option Thread → ℕ
+abbrev pub depth_of_slot : Option Thread → ℕ
 depth_of_slot o = option_map_or (λ (a : Activity). a.depth) (option_and_then activity_of o) 0
 
 -- and what follows is as serial as before

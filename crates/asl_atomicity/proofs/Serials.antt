@@ -1,5 +1,5 @@
 -- A serial schedule, made step by step: a step inside a section goes behind the last of its thread.
-use Rattle.std.proofs.Common.{◌≡◌, ◌≢◌, ℕ, zero, suc, ◌<◌, ◌==◌, ◌⊎◌, ◌++◌, Bool, true, false, List, [], ◌∷◌, Option, Some, None, length, slice_get, refl, ap, sym, ◌∙◌, subst, inl, inr, arith}
+use Rattle.std.proofs.Common.{◌≡◌, ◌≢◌, ℕ, zero, suc, ◌<◌, ◌==◌, ◌⊎◌, ◌++◌, Bool, true, false, List, [], ◌∷◌, Option, Some, None, length, slice_get, refl, ap, ap₂, sym, ◌∙◌, subst, inl, inr, arith}
 use Rattle.std.specs.Prelude.{if◌then◌else◌, option_and_then, All}
 use Rattle.std.specs.Option.{option_map_or}
 use Rattle.std.proofs.lemmas.Bool.Decides.{eqb_tells}
@@ -20,8 +20,10 @@ use Rattle.asl_machine.proofs.Lists.{one_more}
 use Rattle.asl_machine.proofs.Soundness.{start_sound}
 use Rattle.asl_machine.proofs.Reached.{step_count}
 use Rattle.asl_machine.proofs.Table.{step_is}
-use Rattle.asl_atomicity.specs.Serial.{heard, told, AllCount, IsSerial, AreAlike, IsInside, MakesOutside, HasSerial}
+use Rattle.asl_atomicity.specs.Serial.{heard, IsInside}
+use Rattle.asl_atomicity.proofs.Computed.{told, AllCount, IsSerial, AreAlike, MakesOutside, HasSerial, outside_of, outside}
 use Rattle.asl_atomicity.proofs.Swapping.{AreOthers, Stands, CanSwap}
+use Rattle.asl_atomicity.proofs.Outside.{outside_parts, quiet_outside, inside_outside, outside_more, none_more, moved_outside}
 use Rattle.asl_atomicity.proofs.Moves.{others_stay, state_parts, step_stands, inside_stays, moves, moved_counts, moved_serial}
 
 -- ---- runs in two parts
@@ -151,6 +153,7 @@ module _ (image : Image) (count : ℕ) (swap : CanSwap image count) (s : State) 
     counts : AllCount image s serial
     is_serial : IsSerial image s None serial
     alike : AreAlike image s done serial
+    order : outside image s serial ≡ outside image s done
 
   -- a step at the end of both
   both_end : (done other : List ℕ) (t : ℕ) → AreAlike image s done other → AreAlike image s (done ++ t ∷ []) (other ++ t ∷ [])
@@ -185,6 +188,7 @@ module _ (image : Image) (count : ℕ) (swap : CanSwap image count) (s : State) 
               ∙ append-nil (told image s x done)
               ∙ f.alike.1 x,
         );
+    order = f.order ∙ sym (none_more image done t s (quiet_outside image (state_after image s done) t e));
   }
     where
       nothing : (x : ℕ) → heard (step_of image (state_after image s done) t).reply ≡ [] → told image (state_after image s done) x (t ∷ []) ≡ []
@@ -196,6 +200,7 @@ module _ (image : Image) (count : ℕ) (swap : CanSwap image count) (s : State) 
     counts = counts_join image f.serial (t ∷ []) s f.counts (subst (λ z. heard (step_of image z t).reply ≢ []) f.alike.0 c, tt);
     is_serial = serial_join image f.serial (t ∷ []) s None f.is_serial (inl (subst (λ z. depth_at z.threads t ≡ 0) f.alike.0 outside), tt);
     alike = both_end done f.serial t f.alike;
+    order = outside_more image f.serial t s ∙ ap₂ (λ us z. us ++ outside_of image z t) f.order (sym f.alike.0) ∙ sym (outside_more image done t s);
   }
 
   inserted : (done : List ℕ) (t : ℕ) (f : From done) → heard (step_of image (state_after image s done) t).reply ≢ [] → IsInside image (state_after image s done) t → LastAt t f.serial → From (done ++ t ∷ [])
@@ -222,6 +227,14 @@ module _ (image : Image) (count : ℕ) (swap : CanSwap image count) (s : State) 
             let two : f.serial ++ t ∷ [] ≡ front ++ (at.back ++ t ∷ []) = ap (λ z. z ++ t ∷ []) at.is ∙ append_assoc front at.back (t ∷ []) in
             let three = behind front (at.back ++ t ∷ []) (t ∷ at.back) (moves image count swap t at.back p p_sound i at.others counts.1) in
             (one.0 ∙ ap (state_after image s) two ∙ three.0, λ x. one.1 x ∙ ap (told image s x) two ∙ three.1 x);
+        order =
+            outside_parts image front (t ∷ at.back) s
+            ∙ ap (λ us. outside image s front ++ (us ++ outside image (step_of image p t).state at.back)) (inside_outside image p t i.activity i.runs i.inside)
+            ∙ ap (λ us. outside image s front ++ us) (moved_outside image count swap t at.back p p_sound i at.others counts.1)
+            ∙ sym (outside_parts image front at.back s)
+            ∙ ap (outside image s) (sym at.is)
+            ∙ f.order
+            ∙ sym (none_more image done t s (inside_outside image (state_after image s done) t inside.activity inside.runs inside.inside));
       }
 
   one_step : (done : List ℕ) (t : ℕ) → ((u : ℕ) → depth_at s.threads u ≡ 0) → t < length s.threads → From done
@@ -261,5 +274,5 @@ pub has_serial : (image : Image) (count : ℕ) (schedule : List ℕ) → FitsIma
 has_serial image count schedule fits swap there m =
     let s = start_of image count in
     let sound : Stands image count s = (start_sound image count fits, ([], refl)) in
-    let f = all_steps image count swap s sound schedule [] (start_outside image count) there m (record { serial = []; counts = tt; is_serial = tt; alike = (refl, λ x. refl) }) in
-    record { serial = f.serial; counts = f.counts; is_serial = f.is_serial; alike = f.alike }
+    let f = all_steps image count swap s sound schedule [] (start_outside image count) there m (record { serial = []; counts = tt; is_serial = tt; alike = (refl, λ x. refl); order = refl }) in
+    record { serial = f.serial; counts = f.counts; is_serial = f.is_serial; alike = f.alike; order = f.order }

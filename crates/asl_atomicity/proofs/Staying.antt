@@ -28,8 +28,9 @@ use Rattle.asl_machine.specs.Sound.{IsSound, IsPlaced}
 use Rattle.asl_machine.proofs.Lists.{get_either, one_more}
 use Rattle.asl_machine.proofs.Heaps.{length-written, points_within}
 use Rattle.asl_machine.proofs.Soundness.{after_same, here_of, instr_here, start_sound, step_sound}
-use Rattle.asl_atomicity.specs.Serial.{heard, told}
+use Rattle.asl_atomicity.specs.Serial.{heard}
 use Rattle.asl_atomicity.specs.Renamed.{reply_by}
+use Rattle.asl_atomicity.proofs.Computed.{told}
 use Rattle.asl_atomicity.proofs.Uniform.{ObjectsEdit, Same, Stored, Made, put, uniform, place_at}
 use Rattle.asl_atomicity.proofs.Unseen.{register_points}
 use Rattle.asl_atomicity.proofs.Swaps.{stepped, same_here, of_turn}

@@ -13,12 +13,14 @@ use Rattle.asl_machine.specs.State.{Thread, Running, Done, Failed, State, depth_
 use Rattle.asl_machine.specs.Run.{start_of, state_after}
 use Rattle.asl_machine.specs.Twin.{step_of}
 use Rattle.asl_machine.proofs.Soundness.{start_sound, length-first_threads}
-use Rattle.asl_atomicity.specs.Serial.{heard, told, AllCount, IsSerial, IsGuarded}
+use Rattle.asl_atomicity.specs.Serial.{heard}
+use Rattle.asl_atomicity.proofs.Computed.{told, outside, AllCount, IsSerial, IsGuarded, FindsRoomInside, HasSerialRunsUpTo}
 use Rattle.asl_atomicity.proofs.Swapping.{Stands, InSection}
-use Rattle.asl_atomicity.specs.Renamed.{Renaming, reply_by, activity_by, thread_by, IsRenamed, Keeps, FindsRoomInside, HasSerialRunsUpTo}
+use Rattle.asl_atomicity.specs.Renamed.{Renaming, reply_by, activity_by, thread_by, IsRenamed, Keeps}
 use Rattle.asl_atomicity.proofs.Moves.{state_parts}
 use Rattle.asl_atomicity.proofs.Serials.{told_parts, counts_split, counts_join, last_of, last_end, serial_split, serial_join, run_stands, run_length, stays, LastAt, find_last, unheard, tell_heard, quiet, slot_depth, start_outside}
 use Rattle.asl_atomicity.proofs.Renamings.{then_by, none_by, reply_twice, renamed_twice, keeps_twice, each_twice, same_renamed, same_keeps, heard_back, not_full_by}
+use Rattle.asl_atomicity.proofs.Outside.{outside_parts, quiet_outside, inside_outside, outside_more, none_more, outside_by}
 use Rattle.asl_atomicity.proofs.Inserting.{keeps_more, each_told, depth_by, insert}
 use Rattle.asl_atomicity.proofs.RenamedSteps.{StepBy, step_both}
 use Rattle.asl_atomicity.proofs.Staying.{steps, told_stays, le_self}
@@ -35,6 +37,7 @@ module _ (image : Image) (count : ℕ) (fits : FitsImage image) (guarded : IsGua
       keeps : Keeps renaming.new (length image.globals) (length (state_after image s done).objects)
       state : IsRenamed renaming.new (state_after image s done) (state_after image s serial)
       replies : (x : ℕ) → told image s x serial ≡ each (reply_by renaming.new) (told image s x done)
+      order : outside image s serial ≡ outside image s done
 
     -- what is told of one step more
     told_more : (us : List ℕ) (t x : ℕ) → told image s x (us ++ t ∷ []) ≡ told image s x us ++ (if t == x then heard (step_of image (state_after image s us) t).reply else [])
@@ -56,6 +59,7 @@ module _ (image : Image) (count : ℕ) (fits : FitsImage image) (guarded : IsGua
           keeps = subst (λ (z : State). Keeps f.renaming.new (length image.globals) (length z.objects)) (sym same) f.keeps;
           state = subst (λ z. IsRenamed f.renaming.new z (state_after image s f.serial)) (sym same) f.state;
           replies = λ x. f.replies x ∙ ap (each (reply_by f.renaming.new)) (sym (told_parts image done (t ∷ []) s x ∙ ap (λ z. told image s x done ++ z) (quiet (t == x) (heard (step_of image (state_after image s done) t).reply) e) ∙ append-nil (told image s x done)));
+          order = f.order ∙ sym (none_more image done t s (quiet_outside image (state_after image s done) t e));
         }
 
     -- the step behind both
@@ -94,6 +98,10 @@ module _ (image : Image) (count : ℕ) (fits : FitsImage image) (guarded : IsGua
         keeps = subst (λ (z : State). Keeps f.renaming.new (length image.globals) (length z.objects)) (sym (state_more done t)) keeps_then;
         state = subst (λ z. IsRenamed f.renaming.new z (state_after image s (f.serial ++ t ∷ []))) (sym (state_more done t)) (subst (IsRenamed f.renaming.new (step_of image here t).state) (sym (state_more f.serial t)) both.state);
         replies = replies_then;
+        order =
+            outside_more image f.serial t s
+            ∙ ap₂ (λ us vs. us ++ vs) f.order (outside_by f.renaming.new t (depth_at there.threads t) (depth_at here.threads t) (step_of image there t).reply (step_of image here t).reply (depth_by image count fits guarded f.renaming.new here there f.state t) both.reply)
+            ∙ sym (outside_more image done t s);
       }
 
       inside_there : InSection here t → InSection there t
@@ -150,6 +158,14 @@ module _ (image : Image) (count : ℕ) (fits : FitsImage image) (guarded : IsGua
                 ∙ sym (map-append (reply_by k.renaming.new) old (told image p x (at.back ++ t ∷ [])))
                 ∙ ap (each (reply_by k.renaming.new)) (whole ∙ replies_then x)
                 ∙ each_twice (reply_by f.renaming.new) (reply_by k.renaming.new) (reply_by all.new) (reply_twice f.renaming.new k.renaming.new) (told image s x (done ++ t ∷ []));
+            order =
+                outside_parts image front (t ∷ at.back) s
+                ∙ ap (λ us. outside image s front ++ (us ++ outside image (step_of image p t).state at.back)) (inside_outside image p t i.activity i.runs i.inside)
+                ∙ ap (λ us. outside image s front ++ us) k.order
+                ∙ sym (outside_parts image front at.back s)
+                ∙ ap (outside image s) (sym at.is)
+                ∙ f.order
+                ∙ sym (none_more image done t s (inside_outside image here t inside.activity inside.runs inside.inside));
           }
 
     -- a thread whose depth is above 0 is inside a section
@@ -208,5 +224,6 @@ module _ (image : Image) (count : ℕ) (fits : FitsImage image) (guarded : IsGua
         keeps = same_keeps (length image.globals) (length s.objects);
         state = same_renamed s s refl;
         replies = λ x. refl;
+        order = refl;
       }) in
-      record { serial = f.serial; counts = f.counts; is_serial = f.is_serial; renaming = f.renaming; keeps = f.keeps; state = f.state; replies = f.replies }
+      record { serial = f.serial; counts = f.counts; is_serial = f.is_serial; renaming = f.renaming; keeps = f.keeps; state = f.state; replies = f.replies; order = f.order }

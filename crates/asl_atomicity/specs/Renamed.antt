@@ -1,6 +1,6 @@
 -- States and replies that are the same but for the numbers of objects, and runs with serial ones up to these numbers
 -- (docs/ATOMICITY.md, "Objects made in sections").
-use Rattle.std.specs.Prelude.{◌≡◌, ◌≢◌, ◌<◌, ◌≤◌, ◌⊎◌, ℕ, List, [], ◌∷◌, map as each, length, All, None, slice_get, option_map}
+use Rattle.std.specs.Prelude.{◌≡◌, ◌≢◌, ◌<◌, ◌≤◌, ◌⊎◌, ℕ, List, map as each, length, All, None, slice_get, option_map}
 use Rattle.std.specs.FinMap as map
 use Rattle.asl_code.specs.declared.image.Image.{Image}
 use Rattle.asl_code.specs.declared.value.Value.{Value}
@@ -13,10 +13,9 @@ use Rattle.asl_machine.specs.declared.fault.Fault.{Fault}
 use Rattle.asl_machine.specs.declared.fault.Fault.TheVariants as fault
 use Rattle.asl_machine.specs.declared.reply.Reply.{Reply}
 use Rattle.asl_machine.specs.declared.reply.Reply.TheVariants as reply
-use Rattle.asl_machine.specs.State.{Object, Frame, Activity, Thread, Running, Done, Failed, State, depth_at}
-use Rattle.asl_machine.specs.Run.{start_of, state_after}
-use Rattle.asl_machine.specs.Twin.{step_of}
-use Rattle.asl_atomicity.specs.Serial.{told, AllCount, IsSerial}
+use Rattle.asl_machine.specs.State.{Object, Frame, Activity, Thread, Running, Done, Failed, State}
+use Rattle.asl_machine.specs.Run.{start_of}
+use Rattle.asl_atomicity.specs.Serial.{TakenStep, IsRun, told, outside, Counts, IsOutside, IsSerial}
 
 -- other numbers for objects: each number has one, and is that of one
 pub record Renaming : Type 0 where
@@ -76,23 +75,25 @@ pub record Keeps (f : ℕ → ℕ) (shared count : ℕ) : Type 0 where
   pub globals : (n : ℕ) → n < shared → f n ≡ n
   pub later : (n : ℕ) → count ≤ n → f n ≡ n
 
--- the schedule has a serial one, in which every step counts, that leads to the same state and tells each thread the same, but
--- for the numbers of the objects that are no globals
-pub record HasSerialUpTo (image : Image) (count : ℕ) (schedule : List ℕ) : Type 0 where
-  pub serial : List ℕ
-  pub counts : AllCount image (start_of image count) serial
-  pub is_serial : IsSerial image (start_of image count) None serial
+-- the run has a serial one, in which every step counts, that leads to the same end and tells each thread the same, but for the
+-- numbers of the objects that are no globals, and has the steps outside sections, those that enter one among them, in the same order
+pub record HasSerialUpTo (image : Image) (count : ℕ) (run : List TakenStep) (end : State) : Type 0 where
+  pub serial : List TakenStep
+  pub serial_end : State
+  pub is_run : IsRun image (start_of image count) serial serial_end
+  pub counts : All Counts serial
+  pub is_serial : IsSerial None serial
   pub renaming : Renaming
-  pub keeps : Keeps renaming.new (length image.globals) (length (state_after image (start_of image count) schedule).objects)
-  pub state : IsRenamed renaming.new (state_after image (start_of image count) schedule) (state_after image (start_of image count) serial)
-  pub replies : (thread : ℕ) → told image (start_of image count) thread serial ≡ each (reply_by renaming.new) (told image (start_of image count) thread schedule)
+  pub keeps : Keeps renaming.new (length image.globals) (length end.objects)
+  pub state : IsRenamed renaming.new end serial_end
+  pub replies : (thread : ℕ) → told thread serial ≡ each (reply_by renaming.new) (told thread run)
+  pub order : outside serial ≡ outside run
 
--- no step of the run finds that there is no room for an object, inside a section
-abbrev pub FindsRoomInside : Image → State → List ℕ → Type 0
-FindsRoomInside image s [] = Unit {0}
-FindsRoomInside image s (t ∷ ts) = ((depth_at s.threads t ≡ 0) ⊎ ((step_of image s t).reply ≢ reply.Fault fault.Full)) × FindsRoomInside image (step_of image s t).state ts
+-- the step does not find, inside a section, that there is no room for an object
+abbrev pub FindsRoomInside : TakenStep → Type 0
+FindsRoomInside step = IsOutside step ⊎ (step.reply ≢ reply.Fault fault.Full)
 
 -- any run of so many threads in which no section runs out of objects has a serial one, up to the numbers of objects
 abbrev pub HasSerialRunsUpTo : Image → ℕ → Type 0
 HasSerialRunsUpTo image count =
-    (schedule : List ℕ) → All (λ t. t < count) schedule → FindsRoomInside image (start_of image count) schedule → HasSerialUpTo image count schedule
+    (run : List TakenStep) (end : State) → IsRun image (start_of image count) run end → All FindsRoomInside run → HasSerialUpTo image count run end

@@ -1,11 +1,9 @@
 -- An inferred image is guarded: who is granted the list of a section covers the cells that the list's expressions read.
-use Rattle.std.proofs.Common.{◌≡◌, ℕ, suc, ◌+◌, ◌<◌, ◌≤◌, Bool, List, [], ◌∷◌, ◌++◌, map, Option, None, Some, slice_get, unwrap_or, refl, ap, sym, ◌∙◌, subst, inl, inr}
-use Rattle.std.specs.Prelude.{option_and_then, option_map}
+use Rattle.std.proofs.Common.{◌≡◌, ℕ, suc, ◌≤◌, Bool, List, [], ◌∷◌, ◌++◌, Option, None, Some, slice_get, unwrap_or, refl, ap, ◌∙◌, subst, inl, inr}
 use Rattle.asl_code.specs.declared.image.Image.{Image}
 use Rattle.asl_code.specs.declared.instr.Instr.{Instr}
 use Rattle.asl_code.specs.declared.instr.Instr.TheVariants as instr
 use Rattle.asl_code.specs.declared.value.Value.{Value}
-use Rattle.asl_code.specs.declared.value.Cell.{Cell}
 use Rattle.asl_code.specs.declared.value.Effect.{Effect}
 use Rattle.asl_code.specs.declared.value.Effect.TheVariants.{Read}
 use Rattle.asl_code.specs.declared.lock.Base.{Base}
@@ -22,14 +20,13 @@ use Rattle.asl_lower.specs.Regions.{Inside}
 use Rattle.asl_lower.proofs.Owner.{from_mapped}
 use Rattle.asl_lower.proofs.Inside.{told as section_told}
 use Rattle.asl_points_to.specs.Classes.{Classed, AreClasses}
-use Rattle.asl_lock_expr.specs.Expression.{base_cell, walked, path_cell}
-use Rattle.asl_lock_expr.specs.Links.{IsOne, on, prefixes, dereferenced, class_lock}
+use Rattle.asl_lock_expr.specs.Expression.{base_cell, path_cell}
+use Rattle.asl_lock_expr.specs.Links.{IsOne, on, prefixes, class_lock}
 use Rattle.asl_lock_expr.specs.ClassOf.{class_of}
 use Rattle.asl_lock_expr.proofs.Walks.{path_append}
 use Rattle.asl_backward_flow.specs.Needed.{Needed, Before}
-use Rattle.asl_machine.specs.State.{Object, Activity, State, Running}
-use Rattle.asl_machine.specs.Request.{heap_of, request_of, locks_of}
-use Rattle.asl_machine.specs.Run.{IsReached}
+use Rattle.asl_machine.specs.State.{Object, Activity, State}
+use Rattle.asl_machine.specs.Request.{heap_of, request_of}
 use Rattle.asl_machine.specs.Cover.{cover}
 use Rattle.asl_machine.proofs.Soundness.{here_of, outside_here}
 use Rattle.asl_soundness.proofs.Analysed.{IsAnalysed}
@@ -41,9 +38,8 @@ use Rattle.asl_soundness.proofs.Entering.{granted_protects}
 use Rattle.asl_soundness.proofs.Sections.{Ready, own_view, stands, layout, body}
 use Rattle.asl_soundness.proofs.Soundness.{reached_good}
 use Rattle.asl_atomicity.specs.Serial.{HasSerialRuns, IsAtEntry, IsGuarded, ListCovered, ReadsCovered}
-use Rattle.asl_atomicity.proofs.Atomicity.{serial_runs}
-use Rattle.asl_atomicity.proofs.UpTo.{serial_runs_up_to}
 use Rattle.asl_atomicity.specs.Renamed.{HasSerialRunsUpTo}
+use Rattle.asl_atomicity.proofs.ByTable.{end_reached, runs_serial, runs_serial_up_to}
 use Rattle.asl_emitter.proofs.Sounding.{inferred_analysed}
 use Rattle.asl_emitter.proofs.Verifying.{inferred_fits}
 use Rattle.asl_lower.specs.Kept.{IsKept}
@@ -127,7 +123,8 @@ module _ (l : Lowered) (c : Classed) (stores : ℕ → ℕ → Bool) (longest : 
     list_covered (lock.Root effect ∷ ls) within = list_covered ls (λ n o. within n (inr o))
 
   pub inferred_guarded : (count : ℕ) → IsGuarded image count
-  inferred_guarded count s t list a reached entry granted =
+  inferred_guarded count run s t list a led entry granted =
+      let reached = end_reached image count run s A.made.fits led in
       let good = reached_good l c stores longest (Needed l c stores longest) image A count s reached in
       let here = here_of image s t a good.structured.sound entry.runs in
       let q : Ready l c stores longest (Needed l c stores longest) image s t a = record { program = A; structured = good.structured; here = here; has = good.has t a here.is } in
@@ -145,9 +142,9 @@ module _ (l : Lowered) (c : Classed) (stores : ℕ → ℕ → Bool) (longest : 
 -- each run of an inferred image has a serial one
 pub inferred_serial : (l : Lowered) (c : Classed) (stores : ℕ → ℕ → Bool) (longest : ℕ) (image : Image) → IsKept l → AreClasses l c → c.count ≤ 1024 → TellsStores l c stores → IsInferred l c stores longest image → (count : ℕ) → HasSerialRuns image count
 inferred_serial l c stores longest image kept are few tells m count =
-    serial_runs image count (inferred_fits l c stores longest image kept are few m) (inferred_guarded l c stores longest image (inferred_analysed l c stores longest image kept are few tells m) m count)
+    runs_serial image count (inferred_fits l c stores longest image kept are few m) (inferred_guarded l c stores longest image (inferred_analysed l c stores longest image kept are few tells m) m count)
 
 -- the same up to the numbers of objects, where sections make some
 pub inferred_serial_up_to : (l : Lowered) (c : Classed) (stores : ℕ → ℕ → Bool) (longest : ℕ) (image : Image) → IsKept l → AreClasses l c → c.count ≤ 1024 → TellsStores l c stores → IsInferred l c stores longest image → (count : ℕ) → HasSerialRunsUpTo image count
 inferred_serial_up_to l c stores longest image kept are few tells m count =
-    serial_runs_up_to image count (inferred_fits l c stores longest image kept are few m) (inferred_guarded l c stores longest image (inferred_analysed l c stores longest image kept are few tells m) m count)
+    runs_serial_up_to image count (inferred_fits l c stores longest image kept are few m) (inferred_guarded l c stores longest image (inferred_analysed l c stores longest image kept are few tells m) m count)

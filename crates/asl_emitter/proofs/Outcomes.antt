@@ -3,7 +3,7 @@ use Rattle.std.proofs.Common.{◌≡◌, ◌⊎◌, inl, inr, ℕ, Bool, List, r
 use Rattle.asl_syntax.specs.Tree.{Item}
 use Rattle.asl_lower.specs.Lowered.{Lowered, IsLowering}
 use Rattle.asl_lower.specs.Regions.{Region}
-use Rattle.asl_lower.specs.Region.{InBody, IsBareAccess, IsFirstBareAccess}
+use Rattle.asl_lower.specs.Region.{InBody, IsFirstBareAccess}
 use Rattle.asl_lower.proofs.Laid.{one_lowering}
 use Rattle.asl_lower.proofs.Holds.{lowering_parted}
 use Rattle.asl_points_to.specs.Classes.{Classed, AreClasses}
@@ -13,7 +13,7 @@ use Rattle.asl_backward_flow.specs.Needed.{NeedsMany, region_of}
 use Rattle.asl_emitter.specs.declared.fault.InferFault.{InferFault}
 use Rattle.asl_emitter.specs.declared.fault.InferFault.TheVariants.{Registers, CodeSize, AccessOutsideSection, TooManyClasses, TooManyLocks, OutOfMemory}
 use Rattle.asl_emitter.specs.Inferred.{ClassedProgram, Analysis}
-use Rattle.asl_emitter.specs.Refused.{IsLowered, HasManyLocks, IsAccepted, IsRefused}
+use Rattle.asl_emitter.specs.Refused.{IsLowered, IsAccepted, IsRefused}
 use Rattle.asl_emitter.proofs.Alike.{one_test}
 
 -- a program that is lowered has no fault of lowering

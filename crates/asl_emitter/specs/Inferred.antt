@@ -1,4 +1,4 @@
--- The image that is inferred for a program, and which programs are refused (docs/ANALYSIS.md, "The inferred image"). Lock inference is
+-- The image that is inferred for a program (docs/ANALYSIS.md, "The inferred image"). Lock inference is
 -- after S. Cherem, T. Chilimbi, S. Gulwani, "Inferring Locks for Atomic Sections" (2008); the lists are this project's.
 use Rattle.std.specs.Prelude.{◌≡◌, ℕ, suc, Bool, List, length, map, Some, slice_get}
 use Rattle.asl_code.specs.declared.image.Image.{Image}
