@@ -5,16 +5,17 @@ use Rattle.std.specs.Prelude.{◌≡◌, ◌≢◌, ◌<◌, ◌≤◌, ◌+◌,
 use Rattle.asl_code.specs.declared.image.Function.{Function}
 use Rattle.asl_code.specs.declared.image.Image.{Image}
 use Rattle.asl_code.specs.Fits.{FitsImage, LiesIn}
-use Rattle.asl_code.specs.declared.instr.Instr.TheVariants.{Call}
+use Rattle.asl_code.specs.declared.instr.Instr.{Instr}
+use Rattle.asl_code.specs.declared.instr.Instr.TheVariants.{New, Call, Acquire}
 use Rattle.asl_code.specs.declared.value.Value.{Value}
 use Rattle.asl_code.specs.declared.value.Cell.{Cell}
 use Rattle.asl_mode_lanes.specs.declared.mode.Mode.TheVariants.{NL}
 use Rattle.asl_lock_forest.specs.declared.node.Node.{Node}
 use Rattle.asl_lock_forest.specs.Holding.{held, HoldsNothing, IsLawful, IsWithin}
 use Rattle.asl_machine.specs.State.{Object, Frame, Activity, Thread, Running, Done, Failed, State, cell_at, size_of, class_of, activity_at, depth_at}
+use Rattle.asl_machine.specs.Calls.{frame_count}
 use Rattle.asl_machine.specs.Access.{Points, AllPoint, AreOfClasses}
 use Rattle.asl_machine.specs.Nodes.{IsNode}
-use Rattle.asl_machine.specs.Twin.{WantsMemory}
 
 -- a frame waits behind the `call` of its own function's body that made the frame above, which is of this function and
 -- whose value goes to this register; it has its function's registers, and every address in them is a cell's
@@ -74,6 +75,14 @@ pub record IsSound (image : Image) (s : State) : Type 0 where
   pub lawful : IsLawful s.holding
   pub within : IsWithin image.classes (length s.threads) s.holding
   pub there : (t : ℕ) (node : Node) → held s.holding t node ≢ NL → IsNode image.classes s.objects node
+
+-- these instructions may want memory: a `new` and a `call` with room for an object or a frame more, and an `acq` outside
+-- all sections (docs/INSTRUCTIONS.md, A step)
+abbrev pub WantsMemory : List Object → Activity → Instr → Type 0
+WantsMemory objects activity (New to cells class) = length objects < 65536
+WantsMemory objects activity (Call to first function) = frame_count activity < 256
+WantsMemory objects activity (Acquire list) = activity.depth ≡ 0
+WantsMemory objects activity i = ⊥
 
 -- the thread runs and is at an instruction that may want memory (docs/INSTRUCTIONS.md, A step)
 abbrev pub ThreadWantsMemory : Image → List Object → Thread → Type 0

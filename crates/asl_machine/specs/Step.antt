@@ -253,7 +253,8 @@ FailsNull at address new = Reads at address Null × Fails at fault.Null new
 abbrev pub FailsType : At → ℕ → State → Type 0
 FailsType at address new = (x : ℤ) × Reads at address (Int x) × Fails at fault.BadType new
 
--- an access, by a register that holds the cell's address, that the thread's locks do not allow
+-- an access, by a register that holds the cell's address, outside all sections, or to a cell that neither the thread's
+-- locks nor its fresh objects allow
 pub record FailsUnprotected (at : At) (address : ℕ) (cell : Cell) (expected effect : Effect) (new : State) : Type 0 where
   pub reads_address : ReadsAddress at address cell
   pub forbidden : is_allowed at expected cell ≡ false
@@ -325,7 +326,7 @@ pub record Unnests (at : At) (new : State) : Type 0 where
   pub inner : 1 < at.activity.depth
   pub goes_on : GoesOn at (at.activity.depth - 1) at.state.objects at.state.holding new
 
--- `rel` of the outermost section gives all back
+-- `rel` of the outermost section gives all back, and no object is fresh any more
 pub record Leaves (at : At) (new : State) : Type 0 where
   pub outer : at.activity.depth ≡ 1
   pub leaves : new ≡ after at.state at.thread (Running (left_last at.activity)) at.state.objects (release at.state.holding at.thread)

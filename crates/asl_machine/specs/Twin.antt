@@ -1,6 +1,6 @@
 -- The step, computed: for a verified program the reply and the state of the one line of the table that applies
 -- (specs/Step.antt; docs/INSTRUCTIONS.md, "A step"). It answers something also where no line applies; nobody asks there.
-use Rattle.std.specs.Prelude.{◌≡◌, ◌<◌, ℕ, ◌+◌, ◌-◌, ℤ, pos, int_lt, Bool, true, false, ◌&&◌, ◌==◌, List, [], ◌∷◌, ◌++◌, Option, None, Some, Result, Ok, Err, slice_get, unwrap_or, length, if◌then◌else◌}
+use Rattle.std.specs.Prelude.{ℕ, ◌+◌, ◌-◌, ℤ, pos, int_lt, Bool, true, false, ◌&&◌, ◌==◌, List, [], ◌∷◌, ◌++◌, Option, None, Some, Result, Ok, Err, slice_get, unwrap_or, length, if◌then◌else◌}
 use Rattle.std.specs.Int.{w32, int_wrapping_add, int_wrapping_sub}
 use Rattle.std.specs.Ordering.{int_eq}
 use Rattle.asl_code.specs.declared.image.Image.{Image}
@@ -362,11 +362,3 @@ step_at image s t (Some thread) =
 -- the step of thread t
 abbrev pub step_of : Image → State → ℕ → Stepped
 step_of image s t = step_at image s t (slice_get s.threads t)
-
--- those that may want memory: a `new` and a `call` with room for an object or a frame more, and an `acq` outside all
--- sections
-abbrev pub WantsMemory : List Object → Activity → Instr → Type 0
-WantsMemory objects activity (instr.New to cells class) = length objects < 65536
-WantsMemory objects activity (instr.Call to first function) = frame_count activity < 256
-WantsMemory objects activity (instr.Acquire list) = activity.depth ≡ 0
-WantsMemory objects activity i = ⊥

@@ -12,7 +12,8 @@ pub enum Fault {
     Null,
     /// An address would leave its object.
     Bounds,
-    /// An access to a cell that the thread's locks do not cover for this effect.
+    /// An access outside all sections, or to a cell that neither the thread's locks nor its fresh objects cover for this
+    /// effect.
     Unprotected(Cell, Effect),
     /// There are as many objects as there may be.
     Full,

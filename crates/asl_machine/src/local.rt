@@ -29,10 +29,7 @@ pub fn try_local(code: &Code<'_>, heap: &Heap, activity: &mut Activity, instr: I
     ensures tried { result ≡ false → IsTrue (is_local instr) → (t : ℕ) (forest : Held)
         → (left_by code.now (place t activity.old heap.now forest) instr).fate ≢ GoesOn }
 {
-    match perform_local(code, heap, activity, instr) {
-        Fate::GoesOn => true,
-        _ => false,
-    }
+    matches!(perform_local(code, heap, activity, instr), Fate::GoesOn)
 }
 
 /// Does a local instruction. At any other nothing is done, and the thread does not go on.

@@ -77,8 +77,8 @@ impl<'p> Machine<'p> {
     }
 
     /// Steps thread t: one instruction, or nothing where the thread has ended. The step is one that the instruction table
-    /// allows, and the only one. Only a thread that is at a `new` or a `call` for which there is room, or at an `acq`
-    /// outside all sections, may want memory.
+    /// (`docs/INSTRUCTIONS.md`) allows, and the only one. Only a thread that is at a `new` or a `call` for which there is
+    /// room, or at an `acq` outside all sections, may want memory.
     ///
     /// # Errors
     ///

@@ -31,10 +31,7 @@ pub fn load(
     requires points { AllPoint heap.now activity.now.top.regs }
     ensures { result ≡ loaded heap.now (accessed_by (place t activity.now heap.now forest.now) Read register) }
 {
-    match target(heap, forest, t, activity, Effect::Read, register) {
-        Ok(cell) => Ok(heap.read(cell)),
-        Err(fault) => Err(fault),
-    }
+    Ok(heap.read(target(heap, forest, t, activity, Effect::Read, register)?))
 }
 
 /// Puts the value of one register into the cell that another holds the address of, where the thread may write it, or

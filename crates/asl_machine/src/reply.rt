@@ -10,7 +10,7 @@ pub enum Reply {
     Ran,
     /// The instruction was run, and shows this value.
     Out(Value),
-    /// The section's locks are held otherwise; nothing has changed.
+    /// Another thread holds a lock that the section asks for; nothing has changed.
     Blocked,
     /// The thread had ended; nothing has changed.
     Ended,
