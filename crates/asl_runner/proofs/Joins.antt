@@ -6,6 +6,7 @@ use Rattle.std.proofs.lemmas.List.Sums.{sum_by_push}
 use Rattle.asl_turns.specs.Turn.{Word, Turn}
 use Rattle.asl_journal.specs.declared.event.Receipt.{Receipt}
 use Rattle.asl_runner.specs.declared.worker.Work.{Work}
+use Rattle.asl_runner.specs.History.{AreAllEndsLast, AreEndsLast}
 use Rattle.asl_runner.specs.Ending.{AllTold}
 use Rattle.asl_runner.specs.Working.{AreJoined, HasLeft}
 use Rattle.asl_runner.specs.Starting.{IsOneRefused}
@@ -15,7 +16,7 @@ abbrev pub together : Turn → Turn → Turn
 together seat other = record { of = seat.of; left = seat.left + other.left; spent = seat.spent + other.spent; tickets = seat.tickets ++ other.tickets }
 
 -- what stands at a place once one more was added stood there, or is that one at the end
-at_or_last : {X : Type 0} (xs : List X) (y z : X) (k : ℕ) → slice_get (xs ++ y ∷ []) k ≡ Some z → (slice_get xs k ≡ Some z) ⊎ ((k ≡ length xs) × (z ≡ y))
+pub at_or_last : {X : Type 0} (xs : List X) (y z : X) (k : ℕ) → slice_get (xs ++ y ∷ []) k ≡ Some z → (slice_get xs k ≡ Some z) ⊎ ((k ≡ length xs) × (z ≡ y))
 at_or_last [] y z zero e = inr (refl, cc)
 at_or_last [] y z (suc k) e = inl cc
 at_or_last (x ∷ xs) y z zero e = inl e
@@ -31,6 +32,10 @@ why_more count workers seat other all mine old new worker m at =
       | inr last ↦ elim new [ inl spent ↦ inl (omega (arith, spent)) | inr told ↦ inr (rw (last.0, last.1) told) ]
     ]
 
+last_more : (all : List (List Receipt)) (mine : List Receipt) → AreAllEndsLast all → AreEndsLast mine → AreAllEndsLast (all ++ mine ∷ [])
+last_more all mine old new worker m at =
+    elim (at_or_last all mine m worker at) [ inl there ↦ old worker m there | inr last ↦ rw last.1 new ]
+
 -- one more worker, to which nothing was refused
 pub one_joined : (word : Word) (count workers : ℕ) (seat other : Turn) (all : List (List Receipt)) (mine : List Receipt)
     → AreJoined count workers seat all → HasLeft word count workers (length all) other mine false → AreJoined count workers (together seat other) (all ++ mine ∷ [])
@@ -38,6 +43,7 @@ one_joined word count workers seat other all mine old left =
     let stopped = left.stopped refl in
     record {
       drawn = sum_by_push (λ (rs : List Receipt). length rs) all mine ∙ ap (λ n. n + length mine) old.drawn ∙ ap (λ n. length seat.tickets + n) stopped.drawn ∙ sym (length-append seat.tickets other.tickets);
+      last = last_more all mine old.last stopped.last;
       why = why_more count workers seat other all mine old.why stopped.why;
     }
 

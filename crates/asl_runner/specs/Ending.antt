@@ -3,6 +3,7 @@ use Rattle.std.specs.Prelude.{◌≡◌, ◌<◌, ◌≤◌, ◌⊎◌, ◌%◌,
 use Rattle.asl_code.specs.declared.image.Image.{Image}
 use Rattle.asl_journal.specs.declared.event.Receipt.{Receipt}
 use Rattle.asl_journal.specs.Journal.{IsJournal, state_at}
+use Rattle.asl_runner.specs.History.{AreAllEndsLast}
 use Rattle.asl_runner.specs.declared.report.Report.{Report}
 
 -- the receipts of all workers
@@ -26,8 +27,8 @@ AllTold count workers worker receipts = (t : ℕ) → IsMine count workers worke
 abbrev pub receipts_in : List (List Receipt) → ℕ
 receipts_in all = sum_by (λ (mine : List Receipt). length mine) all
 
--- a journal of the program with the machine behind it, as many receipts as tickets, and either the limit is reached or each
--- worker was told that its threads have ended
+-- a journal of the program with the machine behind it, as many receipts as tickets, no receipt of a thread behind one that
+-- says that it has ended, and either the limit is reached or each worker was told that its threads have ended
 pub record IsRun (image : Image) (count workers limit : ℕ) (report : Report) : Type 0 where
   pub threads : report.journal.threads ≡ count
   pub journal : IsJournal image count report.journal.events
@@ -35,4 +36,5 @@ pub record IsRun (image : Image) (count workers limit : ℕ) (report : Report) :
   pub dealers : length (all_receipts report) ≡ workers
   pub receipts : receipts_in (all_receipts report) ≡ report.tickets
   pub short : report.tickets ≤ limit
+  pub last : AreAllEndsLast (all_receipts report)
   pub end : ((worker : ℕ) (mine : List Receipt) → slice_get (all_receipts report) worker ≡ Some mine → AllTold count workers worker mine) ⊎ (report.tickets ≡ limit)

@@ -64,6 +64,14 @@ AreTrue s receipts = (n : ℕ) (r : Receipt) → slice_get receipts n ≡ Some r
 abbrev pub AreAllTrue : State → List (List Receipt) → Type 0
 AreAllTrue s receipts = (worker : ℕ) (mine : List Receipt) → slice_get receipts worker ≡ Some mine → AreTrue s mine
 
+-- a receipt that says that its thread has ended is the last one of its thread
+abbrev pub AreEndsLast : List Receipt → Type 0
+AreEndsLast receipts = (n later : ℕ) (r next : Receipt) → slice_get receipts n ≡ Some r → r.ended ≡ true → slice_get receipts later ≡ Some next → next.thread ≡ r.thread → later ≤ n
+
+-- each worker's receipts are so
+abbrev pub AreAllEndsLast : List (List Receipt) → Type 0
+AreAllEndsLast receipts = (worker : ℕ) (mine : List Receipt) → slice_get receipts worker ≡ Some mine → AreEndsLast mine
+
 -- each thread has ended
 abbrev pub HaveEnded : State → ℕ → Type 0
 HaveEnded s count = (t : ℕ) → t < count → has_ended s t ≡ true

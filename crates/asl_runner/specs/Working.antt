@@ -4,10 +4,11 @@ use Rattle.std.specs.Prelude.{◌≡◌, ◌<◌, ◌⊎◌, ◌+◌, ℕ, Bool,
 use Rattle.asl_code.specs.Versions.{newest_threads}
 use Rattle.asl_turns.specs.Turn.{Word, Turn}
 use Rattle.asl_journal.specs.declared.event.Receipt.{Receipt}
+use Rattle.asl_runner.specs.History.{AreEndsLast, AreAllEndsLast}
 use Rattle.asl_runner.specs.Ending.{IsMine, IsToldEnded, AllTold, receipts_in}
 
 -- a worker between two calls: it has its pass and a receipt for each ticket, and each of its threads goes on or has a receipt
--- that says that it has ended
+-- that says that it has ended; of a thread that goes on no receipt says so
 pub record IsWorking (word : Word) (count workers worker : ℕ) (seat : Turn) (receipts : List Receipt) (going : List Bool) : Type 0 where
   pub of : seat.of ≡ word
   pub left : seat.left ≡ 1
@@ -15,6 +16,8 @@ pub record IsWorking (word : Word) (count workers worker : ℕ) (seat : Turn) (r
   pub drawn : length receipts ≡ length seat.tickets
   pub room : length going ≡ newest_threads
   pub each : (t : ℕ) → IsMine count workers worker t → (slice_get going t ≡ Some true) ⊎ IsToldEnded receipts t
+  pub untold : (t : ℕ) → slice_get going t ≡ Some true → ¬ IsToldEnded receipts t
+  pub last : AreEndsLast receipts
 
 -- the seat has one pass, left or spent
 pub record HasPass (word : Word) (seat : Turn) : Type 0 where
@@ -25,6 +28,7 @@ pub record HasPass (word : Word) (seat : Turn) : Type 0 where
 pub record HasStopped (word : Word) (count workers worker : ℕ) (seat : Turn) (receipts : List Receipt) : Type 0 where
   pub pass : HasPass word seat
   pub drawn : length receipts ≡ length seat.tickets
+  pub last : AreEndsLast receipts
   pub why : (0 < seat.spent) ⊎ AllTold count workers worker receipts
 
 -- what a worker leaves: its seat with its pass, and, where nothing was refused to it, what it knows when it stops
@@ -32,8 +36,9 @@ pub record HasLeft (word : Word) (count workers worker : ℕ) (seat : Turn) (rec
   pub pass : HasPass word seat
   pub stopped : refused ≡ false → HasStopped word count workers worker seat receipts
 
--- workers that have been joined, the first ones, with nothing refused to any: as many receipts as tickets, and each has all
--- its threads told ended, or a pass is spent
+-- workers that have been joined, the first ones, with nothing refused to any: as many receipts as tickets, no receipt of a
+-- thread behind one that says that it has ended, and each has all its threads told ended, or a pass is spent
 pub record AreJoined (count workers : ℕ) (seat : Turn) (all : List (List Receipt)) : Type 0 where
   pub drawn : receipts_in all ≡ length seat.tickets
+  pub last : AreAllEndsLast all
   pub why : (worker : ℕ) (mine : List Receipt) → slice_get all worker ≡ Some mine → (0 < seat.spent) ⊎ AllTold count workers worker mine

@@ -2,7 +2,7 @@
 ghost use Rattle.std.specs.Prelude.{◌≡◌, ◌≢◌, ◌↔◌, ◌⊎◌, ◌<◌, ◌++◌, ◌∷◌, [], length, IfOk, IfErr, IsErrOf, OnErr, Err};
 ghost use Rattle.asl_machine.specs.Sound.{MayWantMemory};
 ghost use Rattle.asl_journal.specs.Journal.{IsJournal, most_events, state_at};
-ghost use Rattle.asl_journal.specs.Recorded.{IsUnchanged, event_of, last_state};
+ghost use Rattle.asl_journal.specs.Recorded.{IsUnchanged, event_of, has_ended, last_state};
 
 use asl_journal::{Journal, JournalFault, Journaled, Receipt};
 use asl_machine::Machine;
@@ -54,6 +54,8 @@ impl<'p, J: Named> Locked<'p, J> {
         requires { t < J.count }
         ensures thread { IfOk result (λ receipt. receipt.thread ≡ t) }
         ensures event { IfOk result (λ receipt. self.new.journaled.events ≡ self.old.journaled.events ++ event_of receipt ∷ []) }
+        ensures index { IfOk result (λ receipt. receipt.index ≡ length self.old.journaled.events) }
+        ensures ended { IfOk result (λ receipt. receipt.ended ≡ has_ended (last_state self.new.journaled) t) }
         ensures full { IsErrOf result JournalFault.JournalFull ↔ (length self.old.journaled.events ≡ most_events) }
         ensures bad { result ≢ Err JournalFault.BadThread }
         ensures memory { IsErrOf result JournalFault.OutOfMemory

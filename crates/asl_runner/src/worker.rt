@@ -1,5 +1,5 @@
 //! A worker: it draws tickets, and with each steps one of its threads, until all have ended or no ticket is left.
-ghost use Rattle.std.specs.Prelude.{◌≡◌, ◌≢◌, ◌<◌, ◌≤◌, ◌%◌, ℕ, true, [], length, Some, slice_get, MatchOption};
+ghost use Rattle.std.specs.Prelude.{◌≡◌, ◌≢◌, ◌<◌, ◌≤◌, ◌%◌, ℕ, true, false, [], length, set, Some, slice_get, MatchOption};
 ghost use Rattle.asl_code.specs.Versions.{newest_threads};
 ghost use Rattle.asl_runner.specs.Working.{HasLeft};
 ghost use Rattle.asl_runner.specs.Ending.{IsMine};
@@ -60,7 +60,7 @@ fn first_going(post: Post, going: &[bool; THREAD_LIMIT], low: u32, high: u32) ->
     requires some { 0 < post.workers }
     ensures { MatchOption result
         ((t : ℕ) → low ≤ t → t < high → (t % post.workers) ≡ post.worker → slice_get going.now t ≢ Some true)
-        (λ t. (t < high) × ((t % post.workers) ≡ post.worker)) }
+        (λ t. (t < high) × ((t % post.workers) ≡ post.worker) × (slice_get going.now t ≡ Some true)) }
 {
     for t in low..high {
         if t % post.workers == u32::from(post.worker) && going[t as usize] {
@@ -76,7 +76,7 @@ fn next_thread(post: Post, going: &[bool; THREAD_LIMIT], from: u32) -> Option<u8
     requires some { 0 < post.workers }
     ensures { MatchOption result
         ((t : ℕ) → IsMine post.count post.workers post.worker t → slice_get going.now t ≢ Some true)
-        (λ t. IsMine post.count post.workers post.worker t) }
+        (λ t. IsMine post.count post.workers post.worker t × (slice_get going.now t ≡ Some true)) }
 {
     let from = from.min(post.count);
     match first_going(post, going, from, post.count) {
@@ -114,12 +114,21 @@ fn turn<R: Wait, S: Steps, G: Gate>(
         return Next::Refused;
     };
     gate.after(post.worker, call, &receipt);
-    if receipt.ended {
-        at.going[usize::from(thread)] = false;
-    }
+    note_end(&mut at.going, &receipt);
     at.from = u32::from(thread) + 1;
     at.receipts.push_reserved(receipt);
     Next::GoOn
+}
+
+/// A thread of which the receipt says that it has ended goes on no more.
+fn note_end(going: &mut [bool; THREAD_LIMIT], receipt: &Receipt)
+    requires { receipt.now.thread < newest_threads }
+    ensures ended { receipt.now.ended ≡ true → going.new ≡ set going.old receipt.now.thread false }
+    ensures goes { receipt.now.ended ≡ false → going.new ≡ going.old }
+{
+    if receipt.ended {
+        going[usize::from(receipt.thread)] = false;
+    }
 }
 
 /// What the step of the thread answered. A journal that is full gives a receipt that no journal has.

@@ -1,3 +1,3 @@
 pub mod Turn
--- the rule of the shared word, by which the calls are proved
+-- Machinery of the proofs, not of the promise: the rule of the shared word, by which the calls are proved
 pub mod Rule

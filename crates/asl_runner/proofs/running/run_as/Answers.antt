@@ -16,6 +16,7 @@ returns-clause-run g c =
       machine = rw (c.requires.image, c.requires.named.1) (c.into_parts-journal.ensures.machine);
       dealers = length-map c.in_ok-gathered.gathered.receipts.items (λ mine. mine.items) ∙ length_is ∙ c.in_ok-gathered.ensures.receipts ∙ workers;
       receipts = joined.drawn ∙ c.finish-tickets.ensures.count;
+      last = joined.last;
       short = rw (← limit) c.finish-tickets.ensures.limit;
       end = end_of c.args.count c.args.workers c.finish-tickets.result c.args.limit c.gather.new.seat all (rw (← workers) joined) (rw (← limit) c.finish-tickets.ensures.spent);
     }

@@ -1,9 +1,7 @@
-use Rattle.std.proofs.Common.{◌<◌, ◌++◌, ◌∷◌, [], List, arith, sym, ap, ◌∙◌}
+use Rattle.std.proofs.Common.{◌≡◌, ◌<◌, ◌++◌, ◌∷◌, [], true, List, Some, slice_get, arith, ap, ◌∙◌}
 use Rattle.asl_journal.specs.declared.event.Receipt.{Receipt}
-use Rattle.asl_runner.specs.declared.worker.Working.{Working}
-use Rattle.asl_runner.proofs.Workers.{goes_on_as, ends_as}
+use Rattle.asl_runner.proofs.Workers.{steps_as}
 use Rattle.asl_runner.proofs.worker.turn.Goals as goal
-use Rattle.asl_runner.proofs.worker.turn.Goals.{then-receipt, else-receipt}
 
 pub returns : goal.returns
 returns g c =
@@ -13,13 +11,7 @@ returns g c =
     let left : 0 < at.seat.left = omega (arith, works.left) in
     let drawn = (c.in-Some-draw.ensures.some left).1 in
     let receipt = c.in-Some-stepped.receipt in
-    elim c.if-receipt.branch [
-      | then-receipt w ↦
-          (let more = c.push_reserved.ensures.items ∙ ap (λ (a : Working). a.receipts.items ++ receipt ∷ []) w.at-is ∙ ap (λ (rs : List Receipt). rs ++ receipt ∷ []) c.reserve.ensures.items in
-          ends_as c.args.turns.now post.count post.workers post.worker at.seat c.draw.new.seat c.if-receipt.at.seat c.in-Some-draw._ticket at.receipts.items c.push_reserved.new.self.items receipt at.going c.if-receipt.at.going w.from.result
-          works drawn (ap (λ (a : Working). a.seat) w.at-is) more (ap (λ (a : Working). a.going) w.at-is) (w.from.ensures ∙ sym c.in-Some-stepped.ensures) w.if-receipt.true)
-      | else-receipt w ↦
-          (let more = c.push_reserved.ensures.items ∙ ap (λ (a : Working). a.receipts.items ++ receipt ∷ []) w.at-is ∙ ap (λ (rs : List Receipt). rs ++ receipt ∷ []) c.reserve.ensures.items in
-          goes_on_as c.args.turns.now post.count post.workers post.worker at.seat c.draw.new.seat c.if-receipt.at.seat c.in-Some-draw._ticket at.receipts.items c.push_reserved.new.self.items receipt at.going c.if-receipt.at.going
-          works drawn (ap (λ (a : Working). a.seat) w.at-is) more (ap (λ (a : Working). a.going) w.at-is))
-    ]
+    let goes : slice_get at.going receipt.thread ≡ Some true = ap (slice_get at.going) c.in-Some-stepped.ensures ∙ c.in-Some.ensures.1 in
+    let more = c.push_reserved.ensures.items ∙ ap (λ (rs : List Receipt). rs ++ receipt ∷ []) c.reserve.ensures.items in
+    steps_as c.args.turns.now post.count post.workers post.worker at.seat c.draw.new.seat c.in-Some-draw._ticket at.receipts.items c.push_reserved.new.self.items receipt at.going c.note_end.new.going
+    works drawn more goes c.note_end.ensures.ended c.note_end.ensures.goes
