@@ -23,3 +23,6 @@ pub mod Few
 pub mod AnyOutcome
 pub mod Answered
 pub mod Declared
+pub mod Among
+pub mod Used
+pub mod Called

@@ -105,7 +105,7 @@ one_place (Fixed m) at ps ts e = e
 one_place (Name x) at ps ts e = ap suc e
 one_place (Number n) at ps ts e = e
 
-places_names : (ss : List Spot) → length (name_places ss) ≡ length (token_names (bare ss))
+pub places_names : (ss : List Spot) → length (name_places ss) ≡ length (token_names (bare ss))
 places_names [] = refl
 places_names (s ∷ ss) = one_place s.token s.at (name_places ss) (bare ss) (places_names ss)
 

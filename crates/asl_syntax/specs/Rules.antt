@@ -84,7 +84,8 @@ first_unknown globals functions [] = None
 first_unknown globals functions (i ∷ is) =
     or_name (unknown_in_item globals functions i) (first_unknown globals functions is)
 
--- the first name of a program that is used and nowhere declared
+-- The first name of a program that is used and nowhere declared. That there is none says that each is declared: the law
+-- names_are_known (docs/SOURCE.md, "Refusals").
 abbrev pub unknown : List Item → Option (List ℕ)
 unknown tree = first_unknown (names_in Globals (mentions tree)) (names_in Functions (mentions tree)) tree
 
@@ -140,7 +141,8 @@ wrong_call_from counts (m ∷ ms) [] = None
 wrong_call_from counts (m ∷ ms) (at ∷ places) =
     if is_wrong_call counts m then Some at else wrong_call_from counts ms places
 
--- the place of the first wrong call of a program, at the name of the function that is called
+-- The place of the first wrong call of a program, at the name of the function that is called. What it means that there is
+-- none is the law names_are_known too.
 abbrev pub wrong_call : List Item → List Spot → Option ℕ
 wrong_call tree ss = wrong_call_from (parameter_counts tree) (mentions tree) (name_places ss)
 

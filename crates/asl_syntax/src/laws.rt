@@ -16,8 +16,9 @@ ghost use Rattle.asl_syntax.specs.AstView.{tree_of};
 ghost use Rattle.asl_syntax.specs.Outcome.{HasTree, HasFault};
 ghost use Rattle.asl_syntax.specs.Reread.{IsReadBack};
 ghost use Rattle.asl_syntax.specs.Mentions.{mentions};
-ghost use Rattle.asl_syntax.specs.Rules.{twice};
+ghost use Rattle.asl_syntax.specs.Rules.{twice, unknown, wrong_call};
 ghost use Rattle.asl_syntax.specs.DeclaredOnce.{AreDeclaredOnce};
+ghost use Rattle.asl_syntax.specs.Known.{AreKnown, HaveArity};
 ghost use Rattle.asl_syntax.specs.TokenNames.{token_names, mention_name};
 ghost use Rattle.asl_syntax.specs.Writing.{writing};
 ghost use Rattle.asl_syntax.specs.Printed.{spaced, printed};
@@ -34,6 +35,14 @@ pub fn a_text_has_one_tree()
 /// have the parameters of each function.
 pub fn names_are_declared_once()
     ensures { (t : List Item) → (twice t ≡ None) ↔ AreDeclaredOnce t }
+{}
+
+/// A program uses no unknown name exactly where each name that is used is one of its globals, of its functions, or of the
+/// locals of the function that uses it. Where names are declared once and known, no call is wrong exactly where each call
+/// has as many arguments as its function has parameters.
+pub fn names_are_known()
+    ensures unknown { (t : List Item) → (unknown t ≡ None) ↔ AreKnown t }
+    ensures arity { (t : List Item) (ss : List Spot) → Spells t (bare ss) → twice t ≡ None → unknown t ≡ None → (wrong_call t ss ≡ None) ↔ HaveArity t }
 {}
 
 /// A tree is printed as tokens that spell it.
