@@ -2,5 +2,6 @@ pub mod Breaks
 pub mod Opening
 pub mod Session
 -- Machinery of the proofs, not of the promise:
+pub mod Fault
 pub mod Kept
 pub mod Search

@@ -9,7 +9,7 @@ ghost use Rattle.asl_debugger.specs.Session.{machine_before, state_before};
 use crate::fault::DebugFault;
 use asl_code::Program;
 use asl_journal::{Journal, JournalFault, follow};
-use asl_machine::{Machine, MachineFault};
+use asl_machine::Machine;
 use std::alloc::Global;
 
 /// The machine at position `end`, from the one at position `start`, which stays as it is.
@@ -54,10 +54,8 @@ pub fn make_event(
     ensures err { OnErr result (machine.new ≡ machine.old) }
 {
     let events = journal.events();
-    match machine.step(alloc, u32::from(events[position].thread)) {
-        Ok(_reply) => Ok(()),
-        Err(_fault) => Err(DebugFault::OutOfMemory),
-    }
+    machine.step(alloc, u32::from(events[position].thread))?;
+    Ok(())
 }
 
 /// The checkpoints of the journal, if it is one of the program: the machine at 0, the spacing, twice the spacing and so
@@ -101,9 +99,5 @@ fn first_machine<'p>(
     ensures counted { OnOk result (IsThreadCount program.now journal.now.threads) }
     ensures refused { IfErr result (λ fault. IsOpenFault program.now journal.now fault) }
 {
-    match Machine::new(alloc, program, journal.threads()) {
-        Ok(machine) => Ok(machine),
-        Err(MachineFault::BadCount) => Err(DebugFault::BadCount),
-        Err(_fault) => Err(DebugFault::OutOfMemory),
-    }
+    Ok(Machine::new(alloc, program, journal.threads())?)
 }

@@ -47,12 +47,14 @@ impl<'p> Model for Debugger<'p> {
 impl<'p> Debugger<'p> {
     ghost use Rattle.asl_debugger.specs.Session.{IsNextStop, IsLastStop, machine_before, moved, with_breaks};
 
-    /// A debugger at position 0 of the journal, if it is one of the program. Else it is handed back.
+    /// A debugger at position 0 of the journal, if it is one of the program. Else it is handed back. A copy of the machine
+    /// is kept every `spacing` events, at least 1; a smaller spacing takes more memory and makes moves quicker, and changes
+    /// no answer.
     ///
     /// # Errors
     ///
-    /// `BadCount` where the program starts no so many threads; else `Differs` with the first event that differs; `OutOfMemory` where a
-    /// growth was refused. The journal comes back with the fault.
+    /// `BadCount` where the program cannot start so many threads; else `Differs` with the first event that differs;
+    /// `OutOfMemory` where a growth was refused. The journal comes back with the fault.
     pub fn open(
         alloc: Global,
         program: &'p Program,
@@ -110,7 +112,7 @@ impl<'p> Debugger<'p> {
     ///
     /// # Errors
     ///
-    /// `AtEnd` behind the last event; `OutOfMemory` where a growth was refused. Then nothing has moved.
+    /// `AtEnd` after the last event; `OutOfMemory` where a growth was refused. Then nothing has moved.
     pub fn forward(&mut self, alloc: Global) -> Result<(), DebugFault>
         ensures moves { OnOk result (self.new ≡ moved self.old (self.old.position + 1)) }
         ensures end { IsErrOf result DebugFault.AtEnd ↔ (self.old.position ≡ length self.old.log.events) }
@@ -151,7 +153,7 @@ impl<'p> Debugger<'p> {
     ///
     /// # Errors
     ///
-    /// `AtEnd` behind the last event; `OutOfMemory` where a growth was refused. Then nothing has moved.
+    /// `AtEnd` after the last event; `OutOfMemory` where a growth was refused. Then nothing has moved.
     pub fn forward_to_break(&mut self, alloc: Global) -> Result<(), DebugFault>
         ensures moves { OnOk result (self.new ≡ moved self.old self.new.position) }
         ensures stop { OnOk result (IsNextStop self.old self.new.position) }
@@ -259,9 +261,6 @@ fn prepared<'p>(
     ensures refused { IfErr result (λ fault. IsOpenFault program.now journal.now fault) }
 {
     let checkpoints = checkpoints_of(alloc, program, journal, spacing)?;
-    let machine = match checkpoints[0].try_copy(alloc) {
-        Ok(machine) => machine,
-        Err(_fault) => return Err(DebugFault::OutOfMemory),
-    };
+    let machine = checkpoints[0].try_copy(alloc)?;
     Ok((checkpoints, machine))
 }

@@ -1,5 +1,6 @@
 //! Why a debugger refused a call.
 
+use asl_machine::MachineFault;
 use std::alloc::{AllocError, AllocFailed};
 use thiserror::Error;
 
@@ -21,7 +22,7 @@ pub enum DebugFault {
     /// A growth was refused.
     #[error("OutOfMemory")]
     OutOfMemory,
-    /// The program starts no so many threads as the journal has.
+    /// The program cannot start so many threads as the journal has.
     #[error("BadCount")]
     BadCount,
 }
@@ -34,6 +35,20 @@ impl From<AllocError> for DebugFault {
 
     fn from(_: AllocError) -> Self {
         DebugFault::OutOfMemory
+    }
+}
+
+impl From<MachineFault> for DebugFault {
+    ghost use Rattle.std.specs.Prelude.{◌≡◌};
+    ghost use Rattle.asl_debugger.specs.Fault.{debug_fault};
+
+    ghost from_gives = { λ machine fault. fault ≡ debug_fault machine };
+
+    fn from(fault: MachineFault) -> Self {
+        match fault {
+            MachineFault::BadCount => DebugFault::BadCount,
+            MachineFault::BadThread | MachineFault::OutOfMemory => DebugFault::OutOfMemory,
+        }
     }
 }
 

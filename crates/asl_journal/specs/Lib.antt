@@ -1,8 +1,8 @@
 pub mod Bytes
-pub mod Fault
 pub mod Faults
 pub mod Journal
 pub mod Recorded
 pub mod Replay
 -- Machinery of the proofs, not of the promise:
+pub mod Fault
 pub mod Reading

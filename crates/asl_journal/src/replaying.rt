@@ -11,8 +11,8 @@ use asl_code::Program;
 use asl_machine::{Machine, Reply};
 use std::alloc::Global;
 
-/// The machine to which the journal leads, if it is one of this program; else that the program starts no so many threads,
-/// or the first event to which its run replies something else.
+/// The machine to which the journal leads, if it is one of this program; else that the program cannot start so many
+/// threads, or the first event to which its run replies something else.
 ///
 /// # Errors
 ///

@@ -34,8 +34,7 @@ pub fn put(alloc: Global, journal: &Journal) -> Result<Vec<u8>, AllocError>
 fn put_four(out: &mut Vec<u8>, number: u32) -> Result<(), AllocError>
     ensures { OnOk result (Writes ℕ (λ n. n < 2 ^ 32) (λ n. four n ∷ []) out.old.items out.new.items number) }
 {
-    out.extend_from_slice(&number.to_be_bytes())?;
-    Ok(())
+    out.extend_from_slice(&number.to_be_bytes())
 }
 
 fn put_events(out: &mut Vec<u8>, events: &[Event]) -> Result<(), AllocError>
@@ -75,8 +74,7 @@ fn put_reply(out: &mut Vec<u8>, reply: Reply) -> Result<(), AllocError>
 fn put_one_value(out: &mut Vec<u8>, value: Value) -> Result<(), AllocError>
     ensures { OnOk result (Writes Value IsValue value_fields out.old.items out.new.items value) }
 {
-    out.extend_from_slice(put_value(value).as_slice())?;
-    Ok(())
+    out.extend_from_slice(put_value(value).as_slice())
 }
 
 fn put_fault(out: &mut Vec<u8>, fault: Fault) -> Result<(), AllocError>

@@ -20,10 +20,7 @@ impl<'p> Debugger<'p> {
         ensures memory { IfErr result (λ fault. fault ≡ DebugFault.OutOfMemory) }
     {
         let events = self.journal.events();
-        let mut machine = match self.machine.try_copy(alloc) {
-            Ok(machine) => machine,
-            Err(_fault) => return Err(DebugFault::OutOfMemory),
-        };
+        let mut machine = self.machine.try_copy(alloc)?;
         let mut position = self.position as usize;
         make_event(alloc, &mut machine, &self.journal, position)?;
         position += 1;
@@ -75,10 +72,7 @@ impl<'p> Debugger<'p> {
         ensures stop { IfOk result (λ found. IsFound self.now start until found) }
         ensures memory { IfErr result (λ fault. fault ≡ DebugFault.OutOfMemory) }
     {
-        let mut machine = match from.try_copy(alloc) {
-            Ok(machine) => machine,
-            Err(_fault) => return Err(DebugFault::OutOfMemory),
-        };
+        let mut machine = from.try_copy(alloc)?;
         let mut found = None;
         for k in start..until {
             let thread = self.journal.events()[k as usize].thread;
