@@ -18,7 +18,7 @@ use Rattle.asl_code.proofs.Instrs.{instr_bytes-eight}
 use Rattle.asl_code.specs.Verified.{IsVerified}
 use Rattle.asl_code.proofs.FitsLaws.{image_fits}
 use Rattle.asl_code.proofs.Versions.{few_locks}
-use Rattle.asl_loader.specs.Bytes.{Field, bytes_of, text_of, one, two, magic, effect_field, op_fields, path_fields, expr_fields, lock_fields, list_fields, counted, class_fields, function_fields, instr_fields, image_fields, IsLock, IsList, SpellsImage}
+use Rattle.asl_loader.specs.Bytes.{Field, bytes_of, text_of, two, effect_field, op_fields, path_fields, expr_fields, lock_fields, list_fields, counted, class_fields, function_fields, instr_fields, IsLock, IsList, SpellsImage}
 use Rattle.asl_loader.proofs.Reader.{text_of-append}
 
 -- as many fields of so many bytes at most

@@ -1,5 +1,5 @@
 -- The lines of a journal, as a loop writes them: those of the events so far, and then those of the rest.
-use Rattle.std.proofs.Common.{◌≡◌, ℕ, suc, ◌+◌, ◌<◌, List, [], ◌∷◌, ◌++◌, length, drop, get_or, refl, ◌∙◌, ap, drop-cons, add-one, arith}
+use Rattle.std.proofs.Common.{◌≡◌, ℕ, ◌+◌, ◌<◌, List, [], ◌++◌, length, drop, get_or, refl, ◌∙◌, ap, drop-cons, add-one, arith}
 use Rattle.std.proofs.Math.ListN.{drop_of_length-le}
 use Rattle.asl_journal.specs.declared.event.Event.{Event}
 use Rattle.asl_tool.specs.Output.{step_line, event_lines}

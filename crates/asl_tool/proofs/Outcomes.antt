@@ -1,8 +1,6 @@
 -- A command has one outcome: its program is one, and what is made of it is one.
-use Rattle.std.proofs.Common.{◌≡◌, ◌≢◌, ℕ, ◌<◌, ◌⊎◌, inl, inr, List, [], ◌∷◌, take, arith, codes, All, Bool, Result, Ok, Err, MatchResult, refl, sym, ap, ◌∙◌, subst}
+use Rattle.std.proofs.Common.{◌≡◌, ◌≢◌, ℕ, ◌<◌, ◌⊎◌, inl, inr, List, [], take, arith, codes, All, Bool, Result, Ok, Err, MatchResult, refl, sym, ap, ◌∙◌, subst}
 use Rattle.std.proofs.lemmas.Bool.{both_ways, cases_Bool, cases_lt}
-use Rattle.std.specs.List.{AllByRecursion}
-use Rattle.std.proofs.lemmas.List.Elements.{All-from_recursion, recursion_from_All}
 use Rattle.std.proofs.lemmas.Slice.Eq.{bytes_eq-Decides}
 use Rattle.std.specs.Str.{bytes_eq}
 use Rattle.asl_code.specs.Versions.{most_threads}
@@ -18,7 +16,7 @@ use Rattle.asl_loader.specs.Bytes.{SpellsImage}
 use Rattle.asl_journal.specs.declared.fault.JournalFault.{JournalFault}
 use Rattle.asl_journal.specs.declared.fault.JournalFault.TheVariants as journal
 use Rattle.asl_journal.specs.Journal.{Log, IsJournal}
-use Rattle.asl_journal.specs.Replay.{DiffersAt, IsReplayFault}
+use Rattle.asl_journal.specs.Replay.{IsReplayFault}
 use Rattle.asl_journal.proofs.Replays.{one_difference, no_difference}
 use Rattle.asl_machine.specs.Run.{start_of}
 use Rattle.asl_tool.specs.declared.program.ProgramFault.{ProgramFault}
@@ -30,7 +28,7 @@ use Rattle.asl_tool.specs.declared.command.CommandFault.TheVariants as fault
 use Rattle.asl_tool.specs.Program.{BeginsAsImage, IsProgram, IsNoProgram}
 use Rattle.asl_tool.specs.declared.run_file.FileFault.{FileFault}
 use Rattle.asl_tool.specs.declared.run_file.FileFault.TheVariants as file
-use Rattle.asl_tool.specs.RunFile.{SpellsRun, IsFileOutcome, FilesHaveAnOutcome, FileOutcomeIsOne}
+use Rattle.asl_tool.specs.RunFile.{IsFileOutcome}
 use Rattle.asl_tool.specs.Step.{IsStepped, written}
 use Rattle.asl_words.specs.declared.debug_word.DebugWord.{DebugWord}
 use Rattle.asl_tool.specs.Debug.{IsDebugged, IsTalk, opened}

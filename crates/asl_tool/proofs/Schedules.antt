@@ -1,8 +1,7 @@
 -- The first steps of a schedule, as many as a journal has.
-use Rattle.std.proofs.Common.{◌≡◌, ℕ, ◌≤◌, ◌<◌, List, length, take, min, sym, ◌∙◌, ap, subst, arith, inl, inr}
+use Rattle.std.proofs.Common.{◌≡◌, ℕ, ◌≤◌, List, length, take, min, sym, ◌∙◌, ap, arith, inl, inr}
 use Rattle.std.proofs.lemmas.Bool.{cases_lt}
 use Rattle.std.proofs.lemmas.List.{take_all}
-use Rattle.asl_tool.specs.Step.{AllThere}
 
 -- so many first steps as there are, but no more than the most, are the first steps
 pub first_steps : (n k : ℕ) (s : List ℕ) → k ≡ min (length s) n → take k s ≡ take n s

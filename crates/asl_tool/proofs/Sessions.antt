@@ -1,13 +1,12 @@
 -- What a session's machine is, and what words make of one.
-use Rattle.std.proofs.Common.{◌≡◌, ℕ, ◌+◌, ◌<◌, ◌≤◌, List, [], ◌∷◌, ◌++◌, length, take, drop, All, refl, sym, ap, subst, ◌∙◌, arith, append_assoc, append-nil, suc, get_or, drop-cons}
+use Rattle.std.proofs.Common.{◌≡◌, ℕ, ◌+◌, ◌<◌, ◌≤◌, List, [], ◌∷◌, ◌++◌, length, take, drop, refl, sym, ap, subst, ◌∙◌, arith, append_assoc, append-nil, suc, get_or, drop-cons}
 use Rattle.std.specs.List.{AllByRecursion}
 use Rattle.std.proofs.lemmas.List.Elements.{All-from_recursion, recursion_from_All}
 use Rattle.std.proofs.lemmas.List.{drop_all}
 use Rattle.asl_code.specs.declared.image.Image.{Image}
 use Rattle.asl_code.specs.Verified.{IsVerified}
 use Rattle.asl_code.proofs.FitsLaws.{image_fits}
-use Rattle.asl_machine.specs.Run.{start_of, IsReached}
-use Rattle.asl_machine.specs.Sound.{IsWellFormed}
+use Rattle.asl_machine.specs.Run.{IsReached}
 use Rattle.asl_machine.proofs.Reached.{reached_sound}
 use Rattle.asl_journal.specs.declared.event.Event.{Event}
 use Rattle.asl_journal.specs.Journal.{IsJournal, schedule_of, state_at}

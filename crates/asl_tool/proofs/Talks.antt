@@ -1,14 +1,14 @@
 -- Words to a debugger have one answer: each move leads to one position, whatever list keeps the breakpoints.
-use Rattle.std.proofs.Common.{◌≡◌, ◌≢◌, ◌==◌, ℕ, zero, suc, ◌+◌, ◌-◌, ◌<◌, ◌≤◌, ◌⊎◌, inl, inr, Bool, true, false, IsTrue, if◌then◌else◌, List, [], ◌∷◌, ◌++◌, length, Option, None, Some, IsSomeAnd, refl, sym, ap, ap₂, subst, ◌∙◌, arith}
+use Rattle.std.proofs.Common.{◌≡◌, ◌==◌, ℕ, zero, suc, ◌+◌, ◌-◌, ◌<◌, ◌≤◌, ◌⊎◌, inl, inr, Bool, true, false, IsTrue, if◌then◌else◌, List, [], ◌∷◌, ◌++◌, length, Option, None, Some, IsSomeAnd, refl, sym, ap, ap₂, subst, ◌∙◌, arith}
 use Rattle.std.specs.Prelude.{slice_get, codes, filter, not, ◌||◌}
 use Rattle.std.specs.Fmt.{decimal}
-use Rattle.std.proofs.lemmas.Bool.{cases_lt, cases_eq, cases_Bool, both_ways}
+use Rattle.std.proofs.lemmas.Bool.{cases_lt, cases_eq}
 use Rattle.asl_code.specs.declared.image.Image.{Image}
 use Rattle.asl_machine.specs.State.{State, Activity, activity_at}
 use Rattle.asl_journal.specs.declared.event.Event.{Event}
 use Rattle.asl_journal.specs.Journal.{Log}
 use Rattle.asl_debugger.specs.Breaks.{has_break, HasBreak, HasNoBreak}
-use Rattle.asl_debugger.specs.Session.{Session, IsAtBreak, IsStop, IsNextStop, IsLastStop, machine_before, state_before, moved, with_breaks}
+use Rattle.asl_debugger.specs.Session.{Session, IsAtBreak, IsStop, IsNextStop, IsLastStop, machine_before, state_before}
 use Rattle.asl_debugger.proofs.Places.{without_place}
 use Rattle.asl_debugger.proofs.Halts.{IsSearching, searching_start, searching_next, found_next, IsNoneFrom, none_from_start, none_found}
 use Rattle.asl_tool.specs.declared.debugging.Answer.{Answer}
@@ -17,7 +17,7 @@ use Rattle.asl_words.specs.declared.debug_word.DebugWord.{DebugWord}
 use Rattle.asl_words.specs.declared.debug_word.DebugWord.TheVariants as word
 use Rattle.asl_words.specs.declared.debug_word.Move.{Move}
 use Rattle.asl_words.specs.declared.debug_word.Move.TheVariants as step
-use Rattle.asl_tool.specs.Debug.{IsAnswer, IsTalk, Says, arrived, answer_text}
+use Rattle.asl_tool.specs.Debug.{IsAnswer, IsTalk, arrived, answer_text}
 use Rattle.asl_tool.specs.View.{view_text}
 
 -- the same places are breakpoints

@@ -1,5 +1,5 @@
 -- The lines of a view, as loops write them: those so far, and then those that are left.
-use Rattle.std.proofs.Common.{◌≡◌, ℕ, zero, suc, ◌+◌, ◌-◌, ◌<◌, ◌≤◌, List, [], ◌++◌, refl, sym, ap, ◌∙◌, append_assoc, append-nil, add-one, arith}
+use Rattle.std.proofs.Common.{◌≡◌, ℕ, suc, ◌+◌, ◌-◌, ◌<◌, ◌≤◌, List, ◌++◌, refl, sym, ap, ◌∙◌, append_assoc, append-nil, add-one, arith}
 use Rattle.asl_tool.specs.View.{lines_from}
 
 -- the lines of the numbers that are left

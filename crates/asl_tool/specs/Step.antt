@@ -45,8 +45,8 @@ pub record IsSteppable (input : List ℕ) (threads : ℕ) (schedule : List ℕ) 
   pub program : IsProgram input image
   pub legal : IsSchedule image threads schedule
 
--- What is wrong with a schedule, as its steps would meet it one by one: the program starts no so many threads, a step is of
--- a thread that is not there, or a journal has no room for so many steps.
+-- What is wrong with a schedule, as its steps would meet it one by one: the program cannot start so many threads, a step
+-- is of a thread that is not there, or a journal has no room for so many steps.
 abbrev pub IsFaultySchedule : Image → ℕ → List ℕ → JournalFault → Type 0
 IsFaultySchedule image threads schedule journal.BadCount = IsThreadCount image threads → ⊥
 IsFaultySchedule image threads schedule journal.BadThread = IsThreadCount image threads × (AllThere threads (take most_events schedule) → ⊥)

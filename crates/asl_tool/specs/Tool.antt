@@ -55,12 +55,12 @@ pub record RefusesInput (known old new : Option (List ℕ)) (promise : Promise) 
   pub refused : promise.refusal input cause
   pub nothing : Appends old new []
 
--- what each fault leaves: only one of the writer leaves anything in it
+-- what each fault leaves: only one of the writer leaves anything in it. Want of memory for the words is no fault of a command
 abbrev pub Refuses : Option (List ℕ) → Option (List ℕ) → Option (List ℕ) → Promise → ToolFault → Type 0
 Refuses known old new promise (fault.Read cause) = IsReadFault known cause × Appends old new []
 Refuses known old new promise (fault.Command cause) = RefusesInput known old new promise cause
 Refuses known old new promise (fault.Write cause) = WritesPart known old new promise
-Refuses known old new promise fault.OutOfMemory = Appends old new []
+Refuses known old new promise fault.OutOfMemory = ⊥
 
 -- the status of a command, with what the writer got: 0 with the output, 1 with a refusal
 abbrev pub IsCommandStatus : Option (List ℕ) → Option (List ℕ) → Option (List ℕ) → Promise → ℕ → Type 0

@@ -20,10 +20,8 @@ pub fn record_run(
     ensures ok { IfOk result (λ journal. IsRecord program.now threads schedule.now journal) }
     ensures err { IfErr result (λ fault. IsRefusedRun program.now threads schedule.now fault) }
 {
-    match judge(threads, schedule, program) {
-        Ok(()) => recorded(alloc, threads, schedule, program),
-        Err(fault) => Err(fault),
-    }
+    judge(threads, schedule, program)?;
+    recorded(alloc, threads, schedule, program)
 }
 
 /// Judges a number of threads of the program, and a schedule of them.

@@ -74,10 +74,8 @@ pub fn write_whole<W: Write>(writer: &mut W, bytes: &[u8]) -> Result<(), WriteFa
         if rest.is_empty() {
             return Ok(());
         }
-        match write_some(writer, rest) {
-            Ok(count) => rest = rest.split_at(count).1,
-            Err(fault) => return Err(fault),
-        }
+        let count = write_some(writer, rest)?;
+        rest = rest.split_at(count).1;
     }
     Err(WriteFault)
 }

@@ -7,7 +7,7 @@ use crate::command::{CommandFault, written};
 use crate::program::read_program;
 use asl_code::Program;
 use asl_journal::{Journal, Receipt};
-use asl_runner::{Gate, Report, RunFault, run};
+use asl_runner::{Gate, RunFault, run};
 use asl_words::Team;
 use std::alloc::Global;
 use std::sync::Wait;
@@ -59,15 +59,7 @@ fn worked<H: Threads + Wait + Sync>(
 {
     let limit = u64::from(team.limit);
     match run(rt, alloc, program, team.threads, team.workers, limit, &Open) {
-        Ok(report) => {
-            let Report {
-                journal,
-                machine: _machine,
-                receipts: _receipts,
-                tickets: _tickets,
-            } = report;
-            Ok(journal)
-        }
+        Ok(report) => Ok(report.journal),
         Err((fault, _report)) => Err(fault),
     }
 }

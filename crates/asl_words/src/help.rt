@@ -14,14 +14,14 @@ pub const PROGRAM: Page = Page {
     about: "Programs with atomic sections: infers the locks of sections, runs programs step by step, and goes back and forth in recorded runs",
     more: "Each command reads standard input to its end and writes standard output.\n\
         \n\
-        Examples:\n\
+        Examples, from the top of the repository:\n\
         \u{20} asl compile < examples/counter.asl | asl step --threads 2 0 0 1 1\n\
         \u{20} asl run --threads 2 --workers 2 --limit 1000 --record < examples/counter.asm | asl replay\n\
         \n\
         Status: 0 done; 1 refused, with one line 'asl: NAME' on standard error; 2 wrong usage.\n\
         A command's --help lists the names of its refusals.\n\
         \n\
-        asl 1, proved with rattle-kit-13f logic dac8208d650f15bf",
+        asl 1, proved in the logic dac8208d650f15bf",
 };
 
 /// The page of the command `compile`.
@@ -30,7 +30,7 @@ pub const COMPILE: Page = Page {
     more: "Input: a source (docs/SOURCE.md)\n\
         Output: the program's image, or with --text its assembly text\n\
         \n\
-        Examples:\n\
+        Examples, from the top of the repository:\n\
         \u{20} asl compile --text < examples/counter.asl\n\
         \u{20} asl compile --k 0 < examples/bank.asl > bank.image\n\
         \n\
@@ -49,11 +49,11 @@ pub const COMPILE: Page = Page {
         \u{20} CodeSize                     the program has more than 65535 instructions\n\
         \u{20} AccessOutsideSection(f, pc)  function f may access a cell outside sections, at pc\n\
         \u{20} TooManyClasses               there are more than 1024 classes of objects\n\
-        \u{20} TooManyLocks(r)              region r needs more than 4096 locks\n\
+        \u{20} TooManyLocks(r)              the section or body r, Section(s) or Body(f), needs more than 4096 locks\n\
         \u{20} Write                        standard output failed; a part of the output may have been written\n\
         \u{20} OutOfMemory                  memory ran out\n\
         \n\
-        asl 1, proved with rattle-kit-13f logic dac8208d650f15bf",
+        asl 1, proved in the logic dac8208d650f15bf",
 };
 
 /// The page of the command `asm`.
@@ -62,7 +62,7 @@ pub const ASM: Page = Page {
     more: "Input: assembly text (docs/ASSEMBLY.md)\n\
         Output: the image of its program (docs/BYTES.md)\n\
         \n\
-        Examples:\n\
+        Examples, from the top of the repository:\n\
         \u{20} asl asm < examples/counter.asm > counter.image\n\
         \u{20} asl asm < examples/push.asm | asl dis\n\
         \n\
@@ -76,7 +76,7 @@ pub const ASM: Page = Page {
         \u{20} Write         standard output failed; a part of the output may have been written\n\
         \u{20} OutOfMemory   memory ran out\n\
         \n\
-        asl 1, proved with rattle-kit-13f logic dac8208d650f15bf",
+        asl 1, proved in the logic dac8208d650f15bf",
 };
 
 /// The page of the command `dis`.
@@ -85,7 +85,7 @@ pub const DIS: Page = Page {
     more: "Input: a program's image (docs/BYTES.md)\n\
         Output: the canonical assembly text of its program (docs/ASSEMBLY.md)\n\
         \n\
-        Examples:\n\
+        Examples, from the top of the repository:\n\
         \u{20} asl compile < examples/counter.asl | asl dis\n\
         \u{20} asl asm < examples/sum.asm | asl dis\n\
         \n\
@@ -97,12 +97,12 @@ pub const DIS: Page = Page {
         \u{20} Magic, Version  the image begins with other letters, or is of a version other than 1 and 2\n\
         \u{20} Truncated(n)    the image ends too early, at byte n\n\
         \u{20} BadField(n)     the field at byte n of the image is none\n\
-        \u{20} Trailing(n)     something stands behind the image, at byte n\n\
+        \u{20} Trailing(n)     there are bytes after the image, from byte n on\n\
         \u{20} Verify(RULE)    the image breaks a rule of docs/LIMITS.md\n\
         \u{20} Write           standard output failed; a part of the output may have been written\n\
         \u{20} OutOfMemory     memory ran out\n\
         \n\
-        asl 1, proved with rattle-kit-13f logic dac8208d650f15bf",
+        asl 1, proved in the logic dac8208d650f15bf",
 };
 
 /// The page of the command `step`.
@@ -111,7 +111,7 @@ pub const STEP: Page = Page {
     more: "Input: a program: an image where it begins with ASLM, and else assembly text\n\
         Output: a line for each step, 'NUMBER THREAD REPLY', or with --record the run file (docs/JOURNAL.md)\n\
         \n\
-        Examples:\n\
+        Examples, from the top of the repository:\n\
         \u{20} asl step --threads 2 0 0 1 1 < examples/counter.asm\n\
         \u{20} asl step --threads 2 --record 0 0 1 1 < examples/counter.asm | asl replay\n\
         \n\
@@ -129,7 +129,7 @@ pub const STEP: Page = Page {
         \u{20} Write                 standard output failed; a part of the output may have been written\n\
         \u{20} OutOfMemory           memory ran out\n\
         \n\
-        asl 1, proved with rattle-kit-13f logic dac8208d650f15bf",
+        asl 1, proved in the logic dac8208d650f15bf",
 };
 
 /// The page of the command `run`.
@@ -138,7 +138,7 @@ pub const RUN: Page = Page {
     more: "Input: a program: an image where it begins with ASLM, and else assembly text\n\
         Output: a line for each step, 'NUMBER THREAD REPLY', or with --record the run file (docs/JOURNAL.md)\n\
         \n\
-        Examples:\n\
+        Examples, from the top of the repository:\n\
         \u{20} asl run --threads 1 --workers 1 --limit 10000 < examples/counter.asm\n\
         \u{20} asl run --threads 8 --workers 4 --limit 1000 --record < examples/counter.asm | asl replay\n\
         \n\
@@ -151,12 +151,12 @@ pub const RUN: Page = Page {
         \u{20} Magic .. Trailing(n)  the first thing that is wrong with an image: asl dis --help\n\
         \u{20} Verify(RULE)          the program breaks a rule of docs/LIMITS.md\n\
         \u{20} BadCount              threads as for step, workers not 1 to 8, or the limit is above 16777216\n\
-        \u{20} Receipt(w)            what worker w was answered is not in the journal\n\
+        \u{20} Receipt(w)            worker w's receipts disagree with the journal or with the machine\n\
         \u{20} Spawn                 the system did not start a worker's thread\n\
         \u{20} Write                 standard output failed; a part of the output may have been written\n\
         \u{20} OutOfMemory           memory ran out\n\
         \n\
-        asl 1, proved with rattle-kit-13f logic dac8208d650f15bf",
+        asl 1, proved in the logic dac8208d650f15bf",
 };
 
 /// The page of the command `replay`.
@@ -165,7 +165,7 @@ pub const REPLAY: Page = Page {
     more: "Input: a run file (docs/JOURNAL.md)\n\
         Output: 'same M', where all M events came again\n\
         \n\
-        Examples:\n\
+        Examples, from the top of the repository:\n\
         \u{20} asl replay < examples/counter.run\n\
         \u{20} asl step --threads 1 --record 0 0 0 < examples/push.asm | asl replay\n\
         \n\
@@ -182,7 +182,7 @@ pub const REPLAY: Page = Page {
         \u{20} Write          standard output failed; a part of the output may have been written\n\
         \u{20} OutOfMemory    memory ran out\n\
         \n\
-        asl 1, proved with rattle-kit-13f logic dac8208d650f15bf",
+        asl 1, proved in the logic dac8208d650f15bf",
 };
 
 /// The page of the command `debug`.
@@ -190,9 +190,9 @@ pub const DEBUG: Page = Page {
     about: "Goes back and forth in a recorded run",
     more: "Input: a run file (docs/JOURNAL.md)\n\
         Output: a line for each word: 'at K' or 'refused NAME', for break P and clear P the word; and what view shows\n\
-        Words: goto K, forward, back, next (breakpoint), prev (breakpoint), break P, clear P, view\n\
+        Words: goto K, forward, back, next, prev (breakpoints), view, break P, clear P (P: place in the code, from 0)\n\
         \n\
-        Examples:\n\
+        Examples, from the top of the repository:\n\
         \u{20} asl debug goto 4 back back view < examples/counter.run\n\
         \u{20} asl debug break 1 next next prev < examples/counter.run\n\
         \n\
@@ -209,7 +209,7 @@ pub const DEBUG: Page = Page {
         \u{20} Write          standard output failed; a part of the output may have been written\n\
         \u{20} OutOfMemory    memory ran out\n\
         \n\
-        asl 1, proved with rattle-kit-13f logic dac8208d650f15bf",
+        asl 1, proved in the logic dac8208d650f15bf",
 };
 
 /// The argument `--k`.

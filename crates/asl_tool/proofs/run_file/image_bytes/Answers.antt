@@ -1,5 +1,3 @@
-use Rattle.std.proofs.Common.{IfOk, Ok, Err}
-use Rattle.asl_code.specs.declared.image.Image.{Image}
 use Rattle.asl_tool.proofs.Lengths.{short_bytes}
 use Rattle.asl_tool.proofs.run_file.image_bytes.Goals as goal
 

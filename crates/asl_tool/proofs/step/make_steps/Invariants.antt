@@ -1,4 +1,4 @@
-use Rattle.std.proofs.Common.{◌≡◌, ◌≤◌, ◌+◌, ◌++◌, length, take}
+use Rattle.std.proofs.Common.{◌≡◌, ◌+◌, ◌++◌, length, take}
 use Rattle.asl_journal.specs.Journal.{schedule_of}
 use Rattle.asl_tool.proofs.step.make_steps.Given as goal
 

@@ -11,10 +11,11 @@ returns-then-is_empty-clause-ok g c = wrote_all _ _ _ _ (search rules) c.loop.in
 pub returns-clause-err : goal.returns-clause-err
 returns-clause-err g c = wrote_part _ _ _ _ c.loop.invariant
 
-pub returns-in-Err-clause-err : goal.returns-in-Err-clause-err
-returns-in-Err-clause-err g c =
-    wrote_part _ _ _ _ (wrote_kept _ _ _ _ _ c.loop.invariant (c.in-Err.ensures.err))
+pub returns-in_err-count-clause-err : goal.returns-in_err-count-clause-err
+returns-in_err-count-clause-err g c =
+    let part = wrote_part _ _ _ _ (wrote_kept _ _ _ _ _ c.loop.invariant c.in_err-count.ensures.err) in
+    search (rules, part)
 
 pub loop-preserved : goal.loop-preserved
 loop-preserved g c =
-    rw c.split_at.ensures.back (wrote_more _ _ _ _ _ _ c.loop.invariant (c.in-Ok.ensures.ok))
+    rw c.split_at.ensures.back (wrote_more _ _ _ _ _ _ c.loop.invariant (c.in_ok-count.ensures.ok))

@@ -1,4 +1,4 @@
-use Rattle.std.proofs.Common.{string_bytes, length}
+use Rattle.std.proofs.Common.{string_bytes}
 use Rattle.asl_lock_forest.specs.declared.node.Node.TheVariants.{Class}
 use Rattle.asl_tool.specs.View.{held_line}
 use Rattle.asl_tool.proofs.Views.{Written}

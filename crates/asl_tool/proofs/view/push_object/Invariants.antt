@@ -1,4 +1,4 @@
-use Rattle.std.proofs.Common.{string_bytes, length}
+use Rattle.std.proofs.Common.{string_bytes}
 use Rattle.asl_tool.specs.View.{cell_line, cell_count}
 use Rattle.asl_tool.proofs.Views.{Written}
 use Rattle.asl_tool.proofs.view.push_object.Given as goal
