@@ -57,10 +57,7 @@ pub(crate) fn operation(word: &[u8]) -> Option<Op>
     if word == b"*".as_slice() {
         return Some(Op::Deref);
     }
-    match marked_byte(b'.', word) {
-        Some(offset) => Some(Op::Off(offset)),
-        None => None,
-    }
+    marked_byte(b'.', word).map(Op::Off)
 }
 
 /// Of a line the only word as a register, if it is so.

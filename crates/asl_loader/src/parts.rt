@@ -167,8 +167,7 @@ pub fn put_two(out: &mut Vec<u8>, number: u16) -> Result<(), AllocError>
     ensures added { OnOk result (Writes ℕ (λ n. n < 2 ^ 16) (λ n. two n ∷ []) out.old.items out.new.items number) }
     ensures kept { OnErr result (out.new.items ≡ out.old.items) }
 {
-    out.extend_from_slice(&number.to_be_bytes())?;
-    Ok(())
+    out.extend_from_slice(&number.to_be_bytes())
 }
 
 /// Writes an effect: 0 reads, 1 writes.

@@ -112,8 +112,7 @@ fn put_instrs(out: &mut Vec<u8>, code: &[Instr]) -> Result<(), AllocError>
 fn put_one_instr(out: &mut Vec<u8>, instr: &Instr) -> Result<(), AllocError>
     ensures { OnOk result (Writes Instr IsInstr instr_fields out.old.items out.new.items instr.now) }
 {
-    out.extend_from_slice(&put_instr(instr))?;
-    Ok(())
+    out.extend_from_slice(&put_instr(instr))
 }
 
 fn put_lists(out: &mut Vec<u8>, lists: &[Items<Lock>]) -> Result<(), AllocError>

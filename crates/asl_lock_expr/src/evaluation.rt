@@ -60,10 +60,7 @@ fn begin(base: Base, regs: &[Value]) -> Option<Cell>
     ensures { result ≡ base_cell regs.now base }
 {
     match base {
-        Base::Reg(register) => match regs.get(usize::from(register)) {
-            Some(value) => pointed(*value),
-            None => None,
-        },
+        Base::Reg(register) => pointed(*regs.get(usize::from(register))?),
         Base::Global(global) => Some(Cell {
             object: global,
             offset: 0,
@@ -86,10 +83,7 @@ fn walk<H: HeapView>(heap: &H, op: Op, cell: Cell) -> Option<Cell>
     ensures { result ≡ walked (H.seen heap.now) op cell }
 {
     match op {
-        Op::Deref => match heap.cell(cell) {
-            Some(value) => pointed(value),
-            None => None,
-        },
+        Op::Deref => pointed(heap.cell(cell)?),
         Op::Off(places) => go_on(heap, places, cell),
     }
 }

@@ -92,23 +92,14 @@ pub fn add_entered(
     match lock {
         Lock::Root(effect) => add(into, Lock::Root(*effect)),
         Lock::Class(class, effect) => add(into, Lock::Class(*class, *effect)),
-        Lock::Expr(expr, effect) => match expr.base {
-            Base::Reg(n) => {
-                if n < params {
-                    add_on(
-                        view,
-                        Base::Reg(first + n),
-                        &[],
-                        expr.path.as_slice(),
-                        *effect,
-                        into,
-                    )
-                } else {
-                    Ok(())
-                }
-            }
-            Base::Global(_) => add_on(view, expr.base, &[], expr.path.as_slice(), *effect, into),
-        },
+        Lock::Expr(expr, effect) => {
+            let base = match expr.base {
+                Base::Reg(n) if n < params => Base::Reg(first + n),
+                Base::Reg(_) => return Ok(()),
+                global => global,
+            };
+            add_on(view, base, &[], expr.path.as_slice(), *effect, into)
+        }
     }
 }
 

@@ -107,12 +107,7 @@ impl Forest {
     /// # Errors
     ///
     /// A growth was refused. Then nothing is granted.
-    pub fn try_acquire(
-        &mut self,
-        alloc: Global,
-        thread: u32,
-        request: &[(Node, Mode)],
-    ) -> Result<bool, AllocError>
+    pub fn try_acquire(&mut self, thread: u32, request: &[(Node, Mode)]) -> Result<bool, AllocError>
         requires thread_there { thread < self.old.threads }
         requires nothing_held { HoldsNothing self.old.holding thread }
         requires distinct { IsTrue (names_once request.now) }

@@ -56,7 +56,7 @@ fn request(asked: Asked) -> &'static [(Node, Mode)]
 }
 
 /// Asks for the locks, of a forest over two classes.
-fn ask(alloc: Global, forest: &mut Forest, thread: u32, asked: Asked) -> Result<bool, AllocError>
+fn ask(forest: &mut Forest, thread: u32, asked: Asked) -> Result<bool, AllocError>
     requires there { thread < forest.old.threads }
     requires classes { forest.old.classes ≡ 2 }
     requires nothing { HoldsNothing forest.old.holding thread }
@@ -66,7 +66,7 @@ fn ask(alloc: Global, forest: &mut Forest, thread: u32, asked: Asked) -> Result<
     ensures refused { IfOk result (λ all. all ≡ false → HoldsNothing forest.new.holding thread) }
     ensures err { OnErr result (forest.new ≡ forest.old) }
 {
-    forest.try_acquire(alloc, thread, request(asked))
+    forest.try_acquire(thread, request(asked))
 }
 
 /// Expects that thread 2 holds nothing, and thread 1 its cell.
@@ -94,7 +94,7 @@ fn expect_both_granted(rt: &impl Abort, forest: &Forest)
 }
 
 /// Lets threads 0 and 1 ask for the class and the first cell, which go together.
-fn share(rt: &(impl Abort + AllocGlobal), forest: &mut Forest) -> Result<(), AllocError>
+fn share(rt: &impl Abort, forest: &mut Forest) -> Result<(), AllocError>
     requires classes { forest.old.classes ≡ 2 }
     requires threads { forest.old.threads ≡ 3 }
     requires nothing { (thread : ℕ) → HoldsNothing forest.old.holding thread }
@@ -102,9 +102,9 @@ fn share(rt: &(impl Abort + AllocGlobal), forest: &mut Forest) -> Result<(), All
     ensures threads { forest.new.threads ≡ 3 }
     ensures nothing { HoldsNothing forest.new.holding 2 }
 {
-    let all = ask(rt.alloc(), forest, 0, Asked::Class)?;
+    let all = ask(forest, 0, Asked::Class)?;
     assert!(rt; all);
-    let both = ask(rt.alloc(), forest, 1, Asked::First)?;
+    let both = ask(forest, 1, Asked::First)?;
     assert!(rt; both);
     Ok(())
 }
@@ -113,11 +113,11 @@ fn share(rt: &(impl Abort + AllocGlobal), forest: &mut Forest) -> Result<(), All
 fn three_threads_share_a_class(rt: HostRuntime) -> Result<(), Fail> {
     let mut forest = Forest::new(rt.alloc(), 2, 3)?;
     share(&rt, &mut forest)?;
-    let before = ask(rt.alloc(), &mut forest, 2, Asked::Second)?;
+    let before = ask(&mut forest, 2, Asked::Second)?;
     assert!(rt; !before);
     expect_second_refused(&rt, &forest);
     forest.release(0);
-    let behind = ask(rt.alloc(), &mut forest, 2, Asked::Second)?;
+    let behind = ask(&mut forest, 2, Asked::Second)?;
     assert!(rt; behind);
     expect_both_granted(&rt, &forest);
     Ok(())
@@ -127,7 +127,7 @@ fn three_threads_share_a_class(rt: HostRuntime) -> Result<(), Fail> {
 fn the_empty_request_is_granted(rt: HostRuntime) -> Result<(), Fail> {
     let alloc = rt.alloc();
     let mut forest = Forest::new(alloc, 0, 128)?;
-    let all = forest.try_acquire(alloc, 127, &[])?;
+    let all = forest.try_acquire(127, &[])?;
     assert!(rt; all);
     assert!(rt; forest.mode(127, Node::Root) == Mode::NL);
     Ok(())
@@ -166,22 +166,18 @@ fn expect_held(rt: &impl Abort, forest: &Forest, root: Mode, class: Mode, cell: 
 }
 
 /// Asks for the locks. Where a growth is refused, no answer has changed, and the same call then succeeds.
-fn ask_in_the_end(
-    rt: &(impl Abort + AllocGlobal),
-    forest: &mut Forest,
-    asked: Asked,
-) -> Result<bool, AllocError>
+fn ask_in_the_end(rt: &impl Abort, forest: &mut Forest, asked: Asked) -> Result<bool, AllocError>
     requires classes { forest.old.classes ≡ 2 }
     requires threads { forest.old.threads ≡ 2 }
     requires nothing { HoldsNothing forest.old.holding 0 }
     ensures classes { forest.new.classes ≡ 2 }
     ensures threads { forest.new.threads ≡ 2 }
 {
-    match ask(rt.alloc(), forest, 0, asked) {
+    match ask(forest, 0, asked) {
         Ok(all) => Ok(all),
         Err(_refused) => {
             expect_held(rt, forest, Mode::NL, Mode::NL, Mode::NL);
-            ask(rt.alloc(), forest, 0, asked)
+            ask(forest, 0, asked)
         }
     }
 }
@@ -215,7 +211,7 @@ fn a_grant_holds_what_is_asked(rt: HostRuntime) -> Result<(), Fail> {
     let mut forest = Forest::new(rt.alloc(), 2, 2)?;
     let mut copy = forest.try_copy(rt.alloc())?;
     let asks = request(Asked::Second);
-    let all = copy.try_acquire(rt.alloc(), 0, asks)?;
+    let all = copy.try_acquire(0, asks)?;
     assert!(rt; all);
     forest.grant(0, asks)?;
     expect_held(&rt, &forest, Mode::IX, Mode::IX, Mode::X);
@@ -227,7 +223,7 @@ fn a_grant_holds_what_is_asked(rt: HostRuntime) -> Result<(), Fail> {
 #[test]
 fn covers_by_the_leaf(rt: HostRuntime) -> Result<(), Fail> {
     let mut forest = Forest::new(rt.alloc(), 2, 1)?;
-    ask(rt.alloc(), &mut forest, 0, Asked::Second)?;
+    ask(&mut forest, 0, Asked::Second)?;
     assert!(rt; forest.covers(0, SECOND, 1, Effect::Write));
     assert!(rt; !forest.covers(0, FIRST, 1, Effect::Read));
     Ok(())
@@ -236,7 +232,7 @@ fn covers_by_the_leaf(rt: HostRuntime) -> Result<(), Fail> {
 #[test]
 fn covers_by_the_class(rt: HostRuntime) -> Result<(), Fail> {
     let mut forest = Forest::new(rt.alloc(), 2, 1)?;
-    ask(rt.alloc(), &mut forest, 0, Asked::Class)?;
+    ask(&mut forest, 0, Asked::Class)?;
     assert!(rt; forest.covers(0, FIRST, 1, Effect::Read));
     assert!(rt; !forest.covers(0, FIRST, 1, Effect::Write));
     assert!(rt; !forest.covers(0, FIRST, 0, Effect::Read));
@@ -246,7 +242,7 @@ fn covers_by_the_class(rt: HostRuntime) -> Result<(), Fail> {
 #[test]
 fn covers_by_the_root(rt: HostRuntime) -> Result<(), Fail> {
     let mut forest = Forest::new(rt.alloc(), 2, 1)?;
-    forest.try_acquire(rt.alloc(), 0, &[(Node::Root, Mode::X)])?;
+    forest.try_acquire(0, &[(Node::Root, Mode::X)])?;
     assert!(rt; forest.covers(0, FIRST, 1, Effect::Write));
     Ok(())
 }
@@ -264,7 +260,7 @@ fn expect_class_held(rt: &impl Abort, forest: &Forest)
 #[test]
 fn a_copy_holds_the_same_and_goes_on_apart(rt: HostRuntime) -> Result<(), Fail> {
     let mut forest = Forest::new(rt.alloc(), 2, 2)?;
-    let all = ask(rt.alloc(), &mut forest, 1, Asked::Class)?;
+    let all = ask(&mut forest, 1, Asked::Class)?;
     assert!(rt; all);
     let copy = forest.try_copy(rt.alloc())?;
     forest.release(1);

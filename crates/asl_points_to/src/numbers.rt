@@ -54,10 +54,7 @@ fn numbered(of: &[u32], member: Option<u32>) -> Option<u16>
     requires small { All (λ n. n < 65536) of.now }
     ensures { result ≡ numbered of.now member }
 {
-    match member {
-        Some(member) => Some(of[member as usize] as u16),
-        None => None,
-    }
+    Some(of[member? as usize] as u16)
 }
 
 /// Numbers that are small.

@@ -89,19 +89,13 @@ impl Classes {
         ensures { result ≡ to self.now function register }
     {
         let registers = self.registers.get(usize::from(function))?;
-        match registers.get(usize::from(register)) {
-            Some(class) => *class,
-            None => None,
-        }
+        *registers.get(usize::from(register))?
     }
 
     /// The class that the cells of a class point to, if they point to any.
     pub fn inside(&self, class: u16) -> Option<u16>
         ensures { result ≡ inside self.now class }
     {
-        match self.cells.get(usize::from(class)) {
-            Some(other) => *other,
-            None => None,
-        }
+        *self.cells.get(usize::from(class))?
     }
 }
