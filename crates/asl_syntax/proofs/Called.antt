@@ -13,7 +13,7 @@ use Rattle.asl_syntax.specs.Spelled.{Spells}
 use Rattle.asl_syntax.specs.TokenNames.{mention_name}
 use Rattle.asl_syntax.specs.Known.{HaveArity}
 use Rattle.asl_syntax.proofs.Among.{Among, among, contained, among_mapped}
-use Rattle.asl_syntax.proofs.Used.{names_of, called_name, each_among}
+use Rattle.asl_syntax.proofs.Used.{names_of, same_bytes, called_name, each_among}
 use Rattle.asl_syntax.proofs.Few.{goes_on}
 use Rattle.asl_syntax.proofs.Declared.{declared_once}
 use Rattle.asl_syntax.proofs.Mentioned.{mentioned, places_names}
@@ -38,9 +38,6 @@ no_wrong_call counts (m ∷ ms) (at ∷ places) h =
     passes (is_wrong_call counts m) at (wrong_call_from counts ms places) (h m (inl refl)) (no_wrong_call counts ms places (λ n there. h n (inr there)))
 
 -- ---- the counts
-
-same_bytes : (y x : List ℕ) → bytes_eq y x ≡ true → y ≡ x
-same_bytes y x e = (bytes_eq-Decides y x).0 e
 
 -- a function among items with a name and a number of parameters
 abbrev Has : List Item → List ℕ → ℕ → Type 0

@@ -1,7 +1,7 @@
 -- A program declares each name that it uses exactly where no name is found unknown.
 use Rattle.std.proofs.Common.{◌≡◌, ◌⊎◌, inl, inr, ℕ, List, [], ◌∷◌, ◌++◌, map, Bool, true, false, ◌||◌, Option, Some, None, if◌then◌else◌, bytes_eq, refl, sym, ap, subst, ◌∙◌, ◌↔◌}
 use Rattle.std.specs.List.{AllByRecursion, Contains}
-use Rattle.std.proofs.lemmas.Bool.{false≢true}
+use Rattle.std.proofs.lemmas.Bool.{false≢true, or_cases, or_left, or_right}
 use Rattle.std.proofs.lemmas.List.Elements.{All-from_recursion, recursion_from_All}
 use Rattle.std.proofs.lemmas.Slice.Eq.{bytes_eq-Decides}
 use Rattle.asl_syntax.specs.declared.names.Space.{Space}
@@ -45,28 +45,13 @@ declares_local (CallsFunction y n) x e = absurd cc
 abbrev Declares : Space → List Mention → List ℕ → Type 0
 Declares sp ms x = (m : Mention) × Among ms m × (declared_in sp m ≡ Some x)
 
-either_test : (a b : Bool) → (a || b) ≡ true → (a ≡ true) ⊎ (b ≡ true)
-either_test true b e = inl refl
-either_test false b e = inr e
-
-first_test : (a b : Bool) → a ≡ true → (a || b) ≡ true
-first_test true b e = refl
-first_test false b e = absurd (false≢true e)
-
-second_test : (a b : Bool) → b ≡ true → (a || b) ≡ true
-second_test true b e = refl
-second_test false b e = e
-
-same_bytes : (y x : List ℕ) → bytes_eq y x ≡ true → y ≡ x
+pub same_bytes : (y x : List ℕ) → bytes_eq y x ≡ true → y ≡ x
 same_bytes y x e = (bytes_eq-Decides y x).0 e
-
-pub own_bytes : (x : List ℕ) → bytes_eq x x ≡ true
-own_bytes x = (bytes_eq-Decides x x).1 refl
 
 declared_here : (o : Option (List ℕ)) (known : Names) (x : List ℕ) → with_declared o known x ≡ true → (o ≡ Some x) ⊎ (known x ≡ true)
 declared_here None known x e = inr e
 declared_here (Some y) known x e =
-    elim (either_test (bytes_eq y x) (known x) e) [ inl here ↦ inl (ap Some (same_bytes y x here)) | inr there ↦ inr there ]
+    elim (or_cases (bytes_eq y x) (known x) e) [ inl here ↦ inl (ap Some (same_bytes y x here)) | inr there ↦ inr there ]
 
 declarer : (sp : Space) (ms : List Mention) (x : List ℕ) → names_in sp ms x ≡ true → Declares sp ms x
 declarer sp [] x e = absurd (false≢true e)
@@ -78,11 +63,11 @@ declarer sp (m ∷ ms) x e =
 
 more_declared : (o : Option (List ℕ)) (known : Names) (x : List ℕ) → known x ≡ true → with_declared o known x ≡ true
 more_declared None known x e = e
-more_declared (Some y) known x e = second_test (bytes_eq y x) (known x) e
+more_declared (Some y) known x e = or_right (bytes_eq y x) (known x) e
 
 one_declared : (o : Option (List ℕ)) (known : Names) (x : List ℕ) → o ≡ Some x → with_declared o known x ≡ true
 one_declared None known x e = absurd cc
-one_declared (Some y) known x e = first_test (bytes_eq y x) (known x) (let same : x ≡ y = cc in (bytes_eq-Decides y x).1 (sym same))
+one_declared (Some y) known x e = or_left (bytes_eq y x) (known x) (let same : x ≡ y = cc in (bytes_eq-Decides y x).1 (sym same))
 
 declared : (sp : Space) (ms : List Mention) (m : Mention) (x : List ℕ) → Among ms m → declared_in sp m ≡ Some x → names_in sp ms x ≡ true
 declared sp [] m x h e = absurd h
