@@ -50,7 +50,7 @@ Counts step = heard step.reply ≢ []
 abbrev pub IsOutside : TakenStep → Type 0
 IsOutside step = depth_at step.before.threads step.thread ≡ 0
 
--- whether who is in so many sections is in none
+-- the same as a test, of how many sections the thread is in
 abbrev pub is_outside : ℕ → Bool
 is_outside depth = depth == 0
 
