@@ -1,6 +1,6 @@
 -- Runs by the instruction table are the computed ones, so what the proofs say of these holds of those.
 use Rattle.std.proofs.Common.{◌≡◌, ◌≢◌, ℕ, ◌<◌, ◌==◌, ◌++◌, List, [], ◌∷◌, Option, Some, None, length, refl, ap, ap₂, sym, ◌∙◌, subst, inl, inr}
-use Rattle.std.specs.Prelude.{if◌then◌else◌, map as each, slice_get, All}
+use Rattle.std.specs.Prelude.{if◌then◌else◌, slice_get, All}
 use Rattle.std.proofs.lemmas.Bool.{cases_lt}
 use Rattle.std.proofs.lemmas.Option.{slice_get_past, slice_get_within}
 use Rattle.std.proofs.lemmas.List.Elements.{All-nil, All-cons, All-head, All-tail}
@@ -19,7 +19,7 @@ use Rattle.asl_machine.proofs.Unique.{step_only}
 use Rattle.asl_atomicity.specs.Serial as run
 use Rattle.asl_atomicity.specs.Serial.{TakenStep, IsRun, heard, Counts, IsOutside, MakesNoneInside}
 use Rattle.asl_atomicity.specs.Renamed as numbered
-use Rattle.asl_atomicity.specs.Renamed.{reply_by, IsRenamed, Keeps}
+use Rattle.asl_atomicity.specs.Renamed.{IsRenamed, Keeps}
 use Rattle.asl_atomicity.proofs.Computed.{told, outside_of, outside, AllCount, IsSerial, MakesOutside, IsGuarded, FindsRoomInside}
 use Rattle.asl_atomicity.proofs.Atomicity.{serial_runs}
 use Rattle.asl_atomicity.proofs.UpTo.{serial_runs_up_to}
@@ -166,6 +166,6 @@ runs_serial_up_to image count fits guarded steps end e room =
       renaming = c.renaming;
       keeps = subst (λ (z : State). Keeps c.renaming.new (length image.globals) (length z.objects)) (sym r.leads) c.keeps;
       state = subst (λ z. IsRenamed c.renaming.new z (state_after image start c.serial)) (sym r.leads) c.state;
-      replies = λ x. told_taken image x c.serial start ∙ c.replies x ∙ ap (each (reply_by c.renaming.new)) (sym (told_taken image x (threads_of steps) start) ∙ ap (run.told x) (sym r.is));
+      replies = λ x. rw (told_taken image x c.serial start, ap (run.told x) r.is ∙ told_taken image x (threads_of steps) start) (c.replies x);
       order = outside_taken_is image c.serial start ∙ c.order ∙ sym (outside_taken_is image (threads_of steps) start) ∙ ap run.outside (sym r.is);
     }
