@@ -1,7 +1,7 @@
 -- A worker from call to call.
 use Rattle.std.proofs.Common.{◌≡◌, ◌≢◌, ◌⊎◌, inl, inr, ℕ, zero, suc, ◌+◌, Bool, true, false, List, [], ◌∷◌, ◌++◌, length, Some, slice_get, set, refl, ap, sym, ◌∙◌, arith}
 use Rattle.std.proofs.lemmas.List.{length-append, length-set}
-use Rattle.std.proofs.lemmas.Bool.{cases_eq}
+use Rattle.std.proofs.lemmas.Bool.{cases_eq, false≢true}
 use Rattle.std.proofs.lemmas.Option.{slice_get_within}
 use Rattle.asl_machine.proofs.Lists.{get_other, get_before, get_last}
 use Rattle.asl_turns.specs.Turn.{Word, Turn}
@@ -51,9 +51,6 @@ unset [] t e = cc
 unset (g ∷ going) zero e = cc
 unset (g ∷ going) (suc t) e = unset going t e
 
-apart : false ≡ true → ⊥
-apart e = cc
-
 -- a worker with one ticket and one receipt more, whose thread goes on
 pub goes_on : (word : Word) (count workers worker : ℕ) (seat new : Turn) (ticket : ℕ) (rs : List Receipt) (r : Receipt) (going : List Bool)
     → IsWorking word count workers worker seat rs going → new ≡ one_more seat ticket → slice_get going r.thread ≡ Some true → r.ended ≡ false
@@ -66,7 +63,7 @@ goes_on word count workers worker seat new ticket rs r going h is goes runs =
       drawn = one_drawn seat new ticket rs r is h.drawn;
       room = h.room;
       each = λ t mine. elim (h.each t mine) [ inl is ↦ inl is | inr told ↦ inr (told_still rs r t told) ];
-      untold = λ t at. untold_still rs r t (h.untold t at) (λ same ended. absurd (apart (sym runs ∙ ended)));
+      untold = λ t at. untold_still rs r t (h.untold t at) (λ same ended. absurd (false≢true (sym runs ∙ ended)));
       last = last_still rs r h.last (h.untold r.thread goes);
     }
 
