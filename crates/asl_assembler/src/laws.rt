@@ -8,8 +8,7 @@ ghost use Rattle.asl_assembler.specs.declared.assembly.AsmFault.{AsmFault};
 ghost use Rattle.asl_assembler.specs.Canonical.{canonical_text, FitsText};
 ghost use Rattle.asl_code.specs.Verified.{IsVerified};
 
-/// A text spells one image at the most, and has a bad line exactly where it spells none; one line at the most is the
-/// bad one.
+/// A text spells one image at the most, and has no bad line where it spells one; one line at the most is the bad one.
 pub fn texts_spell_one_image()
     ensures image { (text : List ℕ) (image other : Image) → Spells text image → Spells text other → image ≡ other }
     ensures line { (text : List ℕ) (number other : ℕ) → IsBadLine (lines_of text) number → IsBadLine (lines_of text) other → number ≡ other }

@@ -120,3 +120,22 @@ version_is_there n = elim (cases_lt 64 n) [
   | inl many ↦ inr (version_of_many n many)
   | inr few ↦ inl (version_of_few n few)
 ]
+
+-- where a version has so many threads, the first that has is no later, and has them too
+pub version_enough : (n v : ℕ) → IsVersion v → n ≤ most_threads v → n ≤ most_threads (version_for n)
+version_enough n v is low = elim (cases_lt 64 n) [
+  | inl many ↦ elim is [
+    | inl one ↦ absurd (let few = ap most_threads one ∙ first_threads in omega (arith, many, low, few))
+    | inr two ↦ omega (arith, low, ap most_threads (two ∙ sym (version_of_many n many)))
+  ]
+  | inr few ↦ let at = ap most_threads (version_of_few n few) ∙ first_threads in omega (arith, few, at)
+]
+
+pub version_first : (n v : ℕ) → IsVersion v → n ≤ most_threads v → version_for n ≤ v
+version_first n v is low = elim (cases_lt 64 n) [
+  | inl many ↦ elim is [
+    | inl one ↦ absurd (let few = ap most_threads one ∙ first_threads in omega (arith, many, low, few))
+    | inr two ↦ omega (arith, version_of_many n many, two)
+  ]
+  | inr few ↦ elim is [ inl one ↦ omega (arith, version_of_few n few, one) | inr two ↦ omega (arith, version_of_few n few, two) ]
+]

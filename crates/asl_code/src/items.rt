@@ -5,7 +5,7 @@ ghost use Rattle.std.specs.Prelude.{◌≡◌, [], ◌∷◌, ◌++◌, length, 
 use std::alloc::{AllocFailed, Global};
 use std::marker::Model;
 
-/// A list on the heap. Contracts see its items in order, and equality is of the items.
+/// A list on the heap. Contracts see its items in order.
 #[derive(Drop)]
 pub struct Items<T> {
     items: Vec<T>,
@@ -58,7 +58,11 @@ impl<T> Items<T> {
         self.items.len()
     }
 
-    /// Adds `item` at the end, or hands it back where memory runs out.
+    /// Adds `item` at the end.
+    ///
+    /// # Errors
+    ///
+    /// A growth was refused; the item is handed back.
     pub fn push(&mut self, item: T) -> Result<(), AllocFailed<T>>
         ensures items { self.new ≡ (if is_ok result then self.old ++ item ∷ [] else self.old) }
         ensures value_returned { IfErr result (λ e. e.value ≡ item) }

@@ -1,8 +1,9 @@
 //! Laws of verified images, as functions that do nothing: what each ensures is the law.
-ghost use Rattle.std.specs.Prelude.{◌≡◌, ◌<◌, ◌⊎◌, ℕ, Some, length, slice_get};
+ghost use Rattle.std.specs.Prelude.{◌≡◌, ◌<◌, ◌≤◌, ◌⊎◌, ℕ, Some, length, slice_get};
 ghost use Rattle.asl_code.specs.Bodies.{body_of, first_of, total_len};
 ghost use Rattle.asl_code.specs.Fits.{LiesIn, FitsImage};
 ghost use Rattle.asl_code.specs.Verified.{IsVerified, IsAnswer};
+ghost use Rattle.asl_code.specs.Versions.{IsVersion, most_threads, version_for};
 ghost use Rattle.asl_code.specs.declared.fault.VerifyFault.{VerifyFault};
 ghost use Rattle.asl_code.specs.declared.image.Function.{Function};
 ghost use Rattle.asl_code.specs.declared.image.Image.{Image};
@@ -36,4 +37,11 @@ pub fn images_have_one_answer()
     ensures some { (i : Image) → IsVerified i ⊎ ((f : VerifyFault) × IsAnswer i f) }
     ensures one { (i : Image) (f g : VerifyFault) → IsAnswer i f → IsAnswer i g → f ≡ g }
     ensures none { (i : Image) (f : VerifyFault) → IsVerified i → ¬ IsAnswer i f }
+{}
+
+/// The version for a number of threads is there, and where some version has so many threads, it is the first that has.
+pub fn the_first_version_has_the_threads()
+    ensures there { (threads : ℕ) → IsVersion (version_for threads) }
+    ensures enough { (threads version : ℕ) → IsVersion version → threads ≤ most_threads version → threads ≤ most_threads (version_for threads) }
+    ensures first { (threads version : ℕ) → IsVersion version → threads ≤ most_threads version → version_for threads ≤ version }
 {}

@@ -21,7 +21,10 @@ pub use image::{Function, Image};
 pub use instr::Instr;
 pub use instr_bytes::{get_instr, instr_and_bytes_are_one, put_instr};
 pub use items::Items;
-pub use laws::{bodies_part_the_code, images_have_one_answer, verified_images_fit};
+pub use laws::{
+    bodies_part_the_code, images_have_one_answer, the_first_version_has_the_threads,
+    verified_images_fit,
+};
 pub use limits::{Limits, NEWEST, NEWEST_LIMITS, is_version, limits_of, version_for};
 pub use lock::{Base, Expr, Lock};
 pub use path::{Op, Path};

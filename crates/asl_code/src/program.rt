@@ -32,8 +32,11 @@ impl Program {
     ghost use Rattle.asl_code.specs.Verified.{IsVerified, IsAnswer};
     ghost use Rattle.asl_code.specs.Versions.{most_threads, most_locks};
 
-    /// The program of the image. An image that is not verified is handed back, with the fault of the earliest line that
-    /// applies, at its lowest place.
+    /// The program of the image.
+    ///
+    /// # Errors
+    ///
+    /// An image that is not verified is handed back, with the fault of the earliest line that applies, at its lowest place.
     pub fn verify(image: Image) -> Result<Program, (VerifyFault, Image)>
         ensures verified { OnOk result (IsVerified image) }
         ensures program { IfOk result (λ program. program ≡ image) }

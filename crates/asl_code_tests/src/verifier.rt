@@ -1,7 +1,8 @@
 //! Images with each fault of the verifier, the order of the faults, and the limits at their edges.
 use asl_code::{
     Base, Effect, Expr, Function, Image, Instr, Items, Lock, Op, Path, Program, VerifyFault,
-    bodies_part_the_code, images_have_one_answer, verified_images_fit,
+    bodies_part_the_code, images_have_one_answer, the_first_version_has_the_threads,
+    verified_images_fit,
 };
 use std::alloc::{AllocError, Global};
 use std::process::Abort;
@@ -846,6 +847,7 @@ fn prints_faults(rt: HostRuntime) -> Result<(), Fail> {
 fn laws_are_there() {
     bodies_part_the_code();
     images_have_one_answer();
+    the_first_version_has_the_threads();
     verified_images_fit();
 }
 

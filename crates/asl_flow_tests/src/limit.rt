@@ -64,7 +64,14 @@ fn one_lock_more_than_4_096_is_too_many(rt: HostRuntime) -> Result<(), Fail> {
     Ok(())
 }
 
-/// One load fewer, and the locks are 4,096. Behind the `acq` none is needed, since all is made anew.
+/// One load fewer, and the locks are 4,096: 17 million needs in all, each of them told.
+#[test]
+fn as_many_as_4_096_locks_are_no_fault(rt: HostRuntime) -> Result<(), Fail> {
+    assert!(rt; flow(rt.alloc(), 4095, false)?.is_ok());
+    Ok(())
+}
+
+/// Where all is made anew, none is needed behind the `acq`.
 #[test]
 fn as_many_as_4_096_locks_are_told(rt: HostRuntime) -> Result<(), Fail> {
     let flow = flow(rt.alloc(), 4095, true)??;

@@ -18,6 +18,7 @@ use std::alloc::{AllocError, Global};
 /// The bytes of the journal, in the first version that has so many threads.
 ///
 /// # Errors
+///
 /// A growth was refused.
 pub fn put(alloc: Global, journal: &Journal) -> Result<Vec<u8>, AllocError>
     ensures { IfOk result (λ bytes. SpellsLog journal.now bytes.items) }

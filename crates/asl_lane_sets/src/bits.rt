@@ -29,7 +29,7 @@ impl Model for Bits {
 }
 
 impl Bits {
-    /// The empty set of numbers below `len`. A length of 0 takes no memory.
+    /// The empty set of numbers below `len`.
     ///
     /// # Errors
     ///

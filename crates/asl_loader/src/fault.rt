@@ -29,7 +29,7 @@ pub enum LoadFault {
     OutOfMemory,
 }
 
-/// What stops the reading of an image.
+/// What stops the reading of an image, or of a journal.
 #[derive(Clone, Copy)]
 pub enum Stop {
     /// The bytes end within a field.

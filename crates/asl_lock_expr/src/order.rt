@@ -9,6 +9,10 @@ use std::alloc::AllocError;
 use std::cmp::Ordering;
 
 /// Puts the lock at its place in a list in order, unless it is there (`docs/ANALYSIS.md`, "The order of locks").
+///
+/// # Errors
+///
+/// A growth was refused; the list is as it was.
 pub fn add_in_order(locks: &mut Vec<Lock>, new: Lock) -> Result<(), AllocError>
     requires { AreInOrder locks.old.items }
     ensures order { AreInOrder locks.new.items }

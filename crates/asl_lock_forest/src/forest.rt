@@ -106,7 +106,7 @@ impl Forest {
     ///
     /// # Errors
     ///
-    /// A growth was refused. Then nothing is granted.
+    /// A growth was refused, and no other thread is in the way. Then nothing is granted.
     pub fn try_acquire(&mut self, thread: u32, request: &[(Node, Mode)]) -> Result<bool, AllocError>
         requires thread_there { thread < self.old.threads }
         requires nothing_held { HoldsNothing self.old.holding thread }
@@ -121,6 +121,7 @@ impl Forest {
         ensures classes { self.new.classes ≡ self.old.classes }
         ensures threads { self.new.threads ≡ self.old.threads }
         ensures unchanged { IfOk result (λ all. all ≡ false → self.new ≡ self.old) }
+        ensures memory { OnErr result (CanGrant self.old.holding thread request.now) }
         ensures err { OnErr result (self.new ≡ self.old) }
         ensures others { (other : ℕ) → other ≢ thread → HoldsNothing self.old.holding other → HoldsNothing self.new.holding other }
         ensures lawful { IsForest self.new }

@@ -68,10 +68,17 @@ fn laws_are_there() {
 }
 
 #[test]
-fn cut_input_is_truncated(rt: HostRuntime) {
-    for len in 0..94 {
-        assert!(rt; fault(rt.alloc(), &COUNTER[..len]) == Some(LoadFault::Truncated(len)));
+fn cut_input_is_truncated(rt: HostRuntime) -> Result<(), Fail> {
+    for version in [1, 2] {
+        let bytes = changed(rt.alloc(), 5, version)?;
+        for len in 0..94 {
+            let front = bytes.get(..len);
+            assert!(rt;
+                front.and_then(|it| fault(rt.alloc(), it)) == Some(LoadFault::Truncated(len))
+            );
+        }
     }
+    Ok(())
 }
 
 static SHORT: [(&[u8], LoadFault); 3] = [

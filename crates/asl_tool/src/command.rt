@@ -50,6 +50,10 @@ pub enum CommandFault {
 }
 
 /// The output of the command for the input.
+///
+/// # Errors
+///
+/// The command's refusal of the input (`docs/LIMITS.md`); `OutOfMemory` where a growth was refused.
 pub fn output_of(alloc: Global, command: &Command, input: &[u8]) -> Result<Vec<u8>, CommandFault>
     ensures ok { IfOk result (λ bytes. IsOutput command.now input.now bytes.items) }
     ensures err { IfErr result (λ fault. IsRefused command.now input.now fault) }

@@ -31,6 +31,10 @@ pub enum FileFault {
 }
 
 /// The bytes of the run file.
+///
+/// # Errors
+///
+/// A growth was refused.
 pub fn put_run(alloc: Global, program: &Program, journal: &Journal) -> Result<Vec<u8>, AllocError>
     ensures { IfOk result (λ bytes. SpellsRun program.now journal.now bytes.items) }
 {
@@ -44,7 +48,8 @@ pub fn put_run(alloc: Global, program: &Program, journal: &Journal) -> Result<Ve
 ///
 /// # Errors
 ///
-/// The first refusal from front to back, then that of the verifier; `OutOfMemory` where a growth was refused.
+/// `Truncated`; then the refusal of the image, the verifier's included; then that of the journal; `OutOfMemory` where a growth
+/// was refused.
 pub fn get_run(alloc: Global, bytes: &[u8]) -> Result<(Program, Journal), FileFault>
     ensures found { IfOk result (λ run. SpellsRun run.0 run.1 bytes.now) }
     // What is spelled is answered, unless memory was refused.

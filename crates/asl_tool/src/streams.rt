@@ -29,8 +29,12 @@ pub enum ReadFault {
 #[error("Write")]
 pub struct WriteFault;
 
-/// Reads to the end of the input. Where memory is refused it is read on and not kept, so that want of memory hides neither an
-/// input that is too long nor a reader that fails.
+/// Reads to the end of the input.
+///
+/// # Errors
+///
+/// `TooLong`, `Read`, or `OutOfMemory` where a growth was refused: the input is then read on and not kept, so that want of
+/// memory hides neither an input that is too long nor a reader that fails.
 pub fn read_whole<R: Read>(alloc: Global, reader: &mut R) -> Result<Vec<u8>, ReadFault>
     ensures whole { IfOk result (λ all. IfSome (R.remaining reader.old) (λ bytes. all.items ≡ bytes)) }
     ensures short { IfOk result (λ all. length all.items ≤ MOST_INPUT) }
@@ -64,7 +68,11 @@ fn with_bytes(kept: Option<Vec<u8>>, bytes: &[u8]) -> Option<Vec<u8>>
     }
 }
 
-/// Writes all of `bytes`; after a fault the writer holds a first part of them.
+/// Writes all of `bytes`.
+///
+/// # Errors
+///
+/// The writer failed, or took no byte; it holds a first part of the bytes then.
 pub fn write_whole<W: Write>(writer: &mut W, bytes: &[u8]) -> Result<(), WriteFault>
     ensures ok { OnOk result (Appends (W.contents writer.old) (W.contents writer.new) bytes.now) }
     ensures err { OnErr result (AppendsPart (W.contents writer.old) (W.contents writer.new) bytes.now) }

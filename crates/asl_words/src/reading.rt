@@ -24,7 +24,11 @@ const HELP_IS_THERE: &str = "For more information, try '--help'.\n";
 /// What a word of the debugger must be.
 const A_WORD: &str = "none of goto, forward, back, next, prev, break, clear, view";
 
-/// Judges the words, which are those after the program's name. Only memory can fail.
+/// Judges the words, which are those after the program's name.
+///
+/// # Errors
+///
+/// A growth was refused.
 pub fn read_words(alloc: Global, words: &[String]) -> Result<Invocation, AllocError>
     ensures { IfOk result (AsksFor (map string_bytes words.now)) }
 {

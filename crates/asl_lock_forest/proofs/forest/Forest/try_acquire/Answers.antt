@@ -1,4 +1,4 @@
-use Rattle.std.proofs.Common.{refl, subst}
+use Rattle.std.proofs.Common.{Ok, Err, OnErr, refl, subst}
 use Rattle.asl_lock_forest.specs.Held.{Held}
 use Rattle.asl_lock_forest.specs.Holding.{CanGrant}
 use Rattle.asl_lock_forest.specs.Request.{IsRefused}
@@ -26,3 +26,9 @@ returns-clause-granted c = (
       (free_can c.self.invariant c.args.thread c.args.request.now (c.can_grant.ensures.free c.if-not-can_grant.false)),
   λ can. refl,
 )
+
+pub returns-in_err-grant-clause-memory : goal.returns-in_err-grant-clause-memory
+returns-in_err-grant-clause-memory c =
+    let can = subst (λ (f : Held). CanGrant f.holding c.args.thread c.args.request.now) c.self.view_is
+    (free_can c.self.invariant c.args.thread c.args.request.now (c.can_grant.ensures.free c.if-not-can_grant.false)) in
+    elim c.from_residual.result as (λ r. OnErr r (CanGrant c.args.self.now.holding c.args.thread c.args.request.now)) [ Ok all ↦ tt | Err refused ↦ can ]
