@@ -223,13 +223,13 @@ const FOUND_BY_ANOTHER: [(&str, &[Row]); 6] = [
 
 /// A program with its classes and what its functions may store to.
 #[derive(Drop)]
-struct Analysed {
-    lowering: Lowering,
-    classes: Classes,
-    writes: Writes,
+pub struct Analysed {
+    pub lowering: Lowering,
+    pub classes: Classes,
+    pub writes: Writes,
 }
 
-fn analyse(alloc: Global, source: &str) -> Result<Analysed, Fail> {
+pub fn analyse(alloc: Global, source: &str) -> Result<Analysed, Fail> {
     let ast = parse(alloc, source.as_bytes())?;
     let lowering = lower(alloc, &ast)?;
     let classes = classes(alloc, &lowering)?;
