@@ -9,7 +9,7 @@ use Rattle.asl_turns.specs.Turn.{Turn}
 use Rattle.asl_journal.specs.declared.event.Receipt.{Receipt}
 use Rattle.asl_journal.specs.Recorded.{has_ended}
 use Rattle.asl_code.specs.declared.image.Image.{Image}
-use Rattle.asl_runner.specs.History.{AreTrue, HaveEnded, IsDealt, IsWrong}
+use Rattle.asl_runner.specs.History.{AreTrue, HaveEnded, IsRight, IsWrong}
 use Rattle.asl_runner.specs.Refused.{IsWrongAt}
 use Rattle.asl_runner.specs.Working.{AreJoined}
 use Rattle.asl_runner.specs.Ending.{AllTold, IsRun, all_receipts}
@@ -54,8 +54,8 @@ wrong_at image count workers limit worker report ran lt wrong =
 
 -- where no worker is the first with wrong receipts, all are right
 pub are_right : (workers : ℕ) (report : Report) → length (all_receipts report) ≡ workers
-    → ((worker : ℕ) (mine : Vec Receipt Global) → worker < workers → slice_get report.receipts.items worker ≡ Some mine → IsDealt workers worker report.journal.events mine.items × AreTrue report.machine.state mine.items)
-    → (worker : ℕ) (mine : List Receipt) → slice_get (all_receipts report) worker ≡ Some mine → IsDealt workers worker report.journal.events mine × AreTrue report.machine.state mine
+    → ((worker : ℕ) (mine : Vec Receipt Global) → worker < workers → slice_get report.receipts.items worker ≡ Some mine → IsRight workers worker report.machine.state report.journal.events mine.items)
+    → (worker : ℕ) (mine : List Receipt) → slice_get (all_receipts report) worker ≡ Some mine → IsRight workers worker report.machine.state report.journal.events mine
 are_right workers report count each worker mine at =
     let v = vector_of report.receipts.items worker mine at in
     let lt : worker < workers = rw (← count) (slice_get_within (all_receipts report) worker mine at) in

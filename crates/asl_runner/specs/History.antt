@@ -1,7 +1,8 @@
 -- What a run by workers leaves: a journal, dealt out to the workers as receipts (docs/WORKERS.md, "What a run leaves").
-use Rattle.std.specs.Prelude.{◌≡◌, ◌<◌, ◌≤◌, ◌%◌, ◌+◌, ◌==◌, ℕ, true, List, [], ◌∷◌, length, map, Some, slice_get, if◌then◌else◌}
+use Rattle.std.specs.Prelude.{◌≡◌, ◌≢◌, ◌<◌, ◌≤◌, ◌%◌, ◌+◌, ◌==◌, ℕ, true, List, [], ◌∷◌, All, length, map, Some, slice_get, if◌then◌else◌}
 use Rattle.asl_code.specs.declared.image.Image.{Image}
 use Rattle.asl_machine.specs.declared.reply.Reply.{Reply}
+use Rattle.asl_machine.specs.declared.reply.Reply.TheVariants as reply
 use Rattle.asl_machine.specs.Run.{IsThreadCount}
 use Rattle.asl_machine.specs.State.{State}
 use Rattle.asl_journal.specs.declared.event.Event.{Event}
@@ -76,6 +77,22 @@ AreAllEndsLast receipts = (worker : ℕ) (mine : List Receipt) → slice_get rec
 abbrev pub HaveEnded : State → ℕ → Type 0
 HaveEnded s count = (t : ℕ) → t < count → has_ended s t ≡ true
 
--- the worker's receipts are not the entries of its threads, or one says that a thread has ended that has not
+-- the reply to a step of a thread that had not ended before
+abbrev pub WasRunning : Reply → Type 0
+WasRunning r = r ≢ reply.Ended
+
+-- no receipt is of a step of a thread that had ended before
+abbrev pub AreRunning : List Receipt → Type 0
+AreRunning receipts = All (λ receipt. WasRunning receipt.reply) receipts
+
+-- the worker's receipts are the entries of its threads, say only of threads that have ended that they have, and none is of a
+-- step of a thread that had ended before
+pub record IsRight (workers worker : ℕ) (s : State) (events : List Event) (receipts : List Receipt) : Type 0 where
+  pub dealt : IsDealt workers worker events receipts
+  pub said : AreTrue s receipts
+  pub running : AreRunning receipts
+
+-- the worker's receipts are not the entries of its threads, or one says that a thread has ended that has not, or is of a step
+-- of a thread that had ended before
 abbrev pub IsWrong : ℕ → ℕ → State → List Event → List Receipt → Type 0
-IsWrong workers worker s events receipts = ¬ (IsDealt workers worker events receipts × AreTrue s receipts)
+IsWrong workers worker s events receipts = ¬ IsRight workers worker s events receipts

@@ -8,7 +8,8 @@ pub enum RunFault {
     /// A run has 1 to as many threads as its program's version sets, 1 to 8 workers, and at most 16,777,216 events.
     #[error("BadCount")]
     BadCount,
-    /// The receipts of this worker are not the journal's entries of its threads, or say that a thread has ended that has not.
+    /// The receipts of this worker are not the journal's entries of its threads, or one says that a thread has ended that has
+    /// not, or is of a step of a thread that had ended before.
     #[error("Receipt({0})")]
     Receipt(u8),
     /// A worker's thread was not started.

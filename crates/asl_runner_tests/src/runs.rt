@@ -2,6 +2,7 @@
 use asl_assembler::{AsmFault, assemble};
 use asl_code::{Cell, Program, Value};
 use asl_journal::Receipt;
+use asl_machine::Reply;
 use asl_runner::{Gate, Report, RunFault, run};
 use std::alloc::Global;
 use std::sync::Wait;
@@ -331,6 +332,29 @@ fn a_run_stops_at_its_limit(rt: HostRuntime) -> Result<(), Fail> {
             _ => None,
         };
         assert!(rt; numbers == Some((limit as usize, limit, 0)));
+    }
+    Ok(())
+}
+
+/// Whether no step of the report's journal is of a thread that had ended before.
+fn is_of_running(report: &Report<'_>) -> bool {
+    report
+        .journal
+        .events()
+        .iter()
+        .all(|event| event.reply != Reply::Ended)
+}
+
+#[test]
+fn no_thread_is_stepped_that_had_ended(rt: HostRuntime) -> Result<(), Fail> {
+    let program = counter(rt.alloc()).ok_or("no program")?;
+    for n in [3, 8] {
+        let ran = run(&rt, rt.alloc(), &program, n, 2, 100_000, &Open);
+        let running = match ran {
+            Ok(report) => Some(is_of_running(&report)),
+            Err(_) => None,
+        };
+        assert!(rt; running == Some(true), "{n} threads");
     }
     Ok(())
 }

@@ -1,8 +1,8 @@
 -- What the command `run` answers: the output of any journal that workers may leave (docs/WORKERS.md, "The command run").
-use Rattle.std.specs.Prelude.{◌≡◌, ◌≤◌, ◌⊎◌, ℕ, List, Option, length}
+use Rattle.std.specs.Prelude.{◌≡◌, ◌≤◌, ◌⊎◌, ℕ, All, List, Option, length}
 use Rattle.asl_code.specs.declared.image.Image.{Image}
 use Rattle.asl_journal.specs.Journal.{Log, IsJournal, state_at}
-use Rattle.asl_runner.specs.History.{HaveEnded, IsAsked}
+use Rattle.asl_runner.specs.History.{HaveEnded, IsAsked, WasRunning}
 use Rattle.asl_runner.specs.Refused.{IsRefusal}
 use Rattle.asl_runner.specs.declared.fault.RunFault.{RunFault}
 use Rattle.asl_runner.specs.declared.report.Report.{Report}
@@ -12,11 +12,12 @@ use Rattle.asl_tool.specs.declared.command.CommandFault.TheVariants as fault
 use Rattle.asl_tool.specs.Program.{IsProgram, IsNoProgram}
 use Rattle.asl_tool.specs.Step.{written}
 
--- the journal is one that the workers may leave of the program: it has at most so many events as the limit says, and either
--- each thread has ended or there are exactly so many
+-- the journal is one that the workers may leave of the program: no step of it is of a thread that had ended before, it has at
+-- most so many events as the limit says, and either each thread has ended or there are exactly so many
 pub record IsWorked (image : Image) (team : Team) (log : Log) : Type 0 where
   pub threads_are : log.threads ≡ team.threads
   pub journal : IsJournal image team.threads log.events
+  pub running : All (λ event. WasRunning event.reply) log.events
   pub short : length log.events ≤ team.limit
   pub end : HaveEnded (state_at image team.threads log.events) team.threads ⊎ (length log.events ≡ team.limit)
 

@@ -2,6 +2,7 @@ use Rattle.std.proofs.Common.{rules, inl, inr, sym, ap, ◌∙◌}
 use Rattle.asl_machine.specs.View.{Configuration}
 use Rattle.asl_runner.specs.Ending.{all_receipts}
 use Rattle.asl_runner.proofs.Ends.{have_ended, are_right, wrong_at}
+use Rattle.asl_runner.proofs.NoneBehind.{all_running}
 use Rattle.asl_runner.proofs.Sizes.{as_many}
 use Rattle.asl_runner.proofs.running.run.Goals as goal
 
@@ -12,7 +13,7 @@ returns-in-None-clause-history g c =
     let right = are_right c.args.workers report ran.dealers c.in-None.ensures in
     record {
       journal = rw (← c.in-Ok.ensures.image) ran.journal;
-      dealt = record { count = ran.dealers; each = λ worker mine at. (right worker mine at).0 };
+      dealt = record { count = ran.dealers; each = λ worker mine at. (right worker mine at).dealt };
     }
 
 pub returns-in-None-clause-told : goal.returns-in-None-clause-told
@@ -21,14 +22,21 @@ returns-in-None-clause-told g c =
     let report = c.in-Ok-run_as.report in
     let right = are_right c.args.workers report ran.dealers c.in-None.ensures in
     let state = ap (λ (m : Configuration). m.state) ran.machine in
-    rw (← c.in-Ok.ensures.image, ← state) (λ worker mine at. (right worker mine at).1)
+    rw (← c.in-Ok.ensures.image, ← state) (λ worker mine at. (right worker mine at).said)
+
+pub returns-in-None-clause-running : goal.returns-in-None-clause-running
+returns-in-None-clause-running g c =
+    let ran = c.in-Ok-run_as.ensures.run in
+    let report = c.in-Ok-run_as.report in
+    let right = are_right c.args.workers report ran.dealers c.in-None.ensures in
+    all_running c.args.workers report.journal.events (all_receipts report) (search (c.if-workers-eq0.false, rules)) ran.dealers (λ worker mine at. (right worker mine at).dealt) (λ worker mine at. (right worker mine at).running)
 
 pub returns-in-None-clause-tickets : goal.returns-in-None-clause-tickets
 returns-in-None-clause-tickets g c =
     let ran = c.in-Ok-run_as.ensures.run in
     let report = c.in-Ok-run_as.report in
     let right = are_right c.args.workers report ran.dealers c.in-None.ensures in
-    sym (as_many c.args.workers report.journal.events (all_receipts report) (search (c.if-workers-eq0.false, rules)) ran.dealers (λ worker mine at. (right worker mine at).0)) ∙ ran.receipts
+    sym (as_many c.args.workers report.journal.events (all_receipts report) (search (c.if-workers-eq0.false, rules)) ran.dealers (λ worker mine at. (right worker mine at).dealt)) ∙ ran.receipts
 
 pub returns-in-None-clause-end : goal.returns-in-None-clause-end
 returns-in-None-clause-end g c =
@@ -37,7 +45,7 @@ returns-in-None-clause-end g c =
     let right = are_right c.args.workers report ran.dealers c.in-None.ensures in
     let state = ap (λ (m : Configuration). m.state) ran.machine in
     elim ran.end [
-      | inl told ↦ inl (rw (← c.in-Ok.ensures.image, ← state) (have_ended c.args.n c.args.workers report.machine.state (all_receipts report) (search (c.if-workers-eq0.false, rules)) ran.dealers (λ worker mine at. (right worker mine at).1) told))
+      | inl told ↦ inl (rw (← c.in-Ok.ensures.image, ← state) (have_ended c.args.n c.args.workers report.machine.state (all_receipts report) (search (c.if-workers-eq0.false, rules)) ran.dealers (λ worker mine at. (right worker mine at).said) told))
       | inr all ↦ inr all
     ]
 
