@@ -85,7 +85,7 @@ first_unknown globals functions (i ∷ is) =
     or_name (unknown_in_item globals functions i) (first_unknown globals functions is)
 
 -- The first name of a program that is used and nowhere declared. That there is none says that each is declared: the law
--- names_are_known (docs/SOURCE.md, "Refusals").
+-- names_are_known (docs/SOURCE.md, "Refusals"). Which is the first: the law faults_of_names_are_the_first.
 abbrev pub unknown : List Item → Option (List ℕ)
 unknown tree = first_unknown (names_in Globals (mentions tree)) (names_in Functions (mentions tree)) tree
 

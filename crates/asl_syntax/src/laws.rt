@@ -1,6 +1,6 @@
 //! Laws of texts and trees, as functions that do nothing: what each ensures is the law.
 
-ghost use Rattle.std.specs.Prelude.{◌≡◌, ℕ, ◌<◌, ◌≤◌, ◌⊎◌, ◌↔◌, None, List, [], ◌∷◌, ◌++◌, drop, IsTrue, Result, IfOk, IfErr, length, map};
+ghost use Rattle.std.specs.Prelude.{◌≡◌, ℕ, ◌<◌, ◌≤◌, ◌⊎◌, ◌↔◌, None, Some, List, [], ◌∷◌, ◌++◌, drop, IsTrue, Result, IfOk, IfErr, length, map};
 ghost use Rattle.asl_grammar.specs.Token.{Token, Spot};
 ghost use Rattle.asl_grammar.specs.Lex.{are_tokens, tokens_of};
 ghost use Rattle.asl_grammar.specs.Grammar.{bare};
@@ -19,6 +19,7 @@ ghost use Rattle.asl_syntax.specs.Mentions.{mentions};
 ghost use Rattle.asl_syntax.specs.Rules.{twice, unknown, wrong_call};
 ghost use Rattle.asl_syntax.specs.DeclaredOnce.{AreDeclaredOnce};
 ghost use Rattle.asl_syntax.specs.Known.{AreKnown, HaveArity};
+ghost use Rattle.asl_syntax.specs.FirstFault.{IsFirstUnknown};
 ghost use Rattle.asl_syntax.specs.TokenNames.{token_names, mention_name};
 ghost use Rattle.asl_syntax.specs.Writing.{writing};
 ghost use Rattle.asl_syntax.specs.Printed.{spaced, printed};
@@ -43,6 +44,11 @@ pub fn names_are_declared_once()
 pub fn names_are_known()
     ensures unknown { (t : List Item) → (unknown t ≡ None) ↔ AreKnown t }
     ensures arity { (t : List Item) (ss : List Spot) → Spells t (bare ss) → twice t ≡ None → unknown t ≡ None → (wrong_call t ss ≡ None) ↔ HaveArity t }
+{}
+
+/// The name that a program is told to use and not to declare is that of the first such use.
+pub fn faults_of_names_are_the_first()
+    ensures unknown { (t : List Item) (x : List ℕ) → unknown t ≡ Some x → IsFirstUnknown t x }
 {}
 
 /// A tree is printed as tokens that spell it.

@@ -1,0 +1,36 @@
+-- What it means that a name is the first of a program that breaks a rule of names (docs/SOURCE.md, "Refusals"). The law
+-- faults_of_names_are_the_first ties it to `unknown` of specs/Rules.
+use Rattle.std.specs.Prelude.{◌≡◌, ℕ, List, ◌∷◌, ◌++◌, map}
+use Rattle.std.specs.List.{All, Contains}
+use Rattle.asl_syntax.specs.Tree.{Function, Item, globals_of, functions_of}
+use Rattle.asl_syntax.specs.Mentions.{Mention, UsesLocal, UsesGlobal, CallsFunction, function_mentions}
+use Rattle.asl_syntax.specs.TokenNames.{mention_name}
+use Rattle.asl_syntax.specs.Known.{IsLocal}
+
+-- x is the first element of which P does not hold: xs is some elements of which it holds, then x, then others
+pub record IsFirstWithout {X : Type 0} (P : X → Type 0) (xs : List X) (x : X) : Type 0 where
+  pub before : List X
+  pub behind : List X
+  pub split : xs ≡ before ++ x ∷ behind
+  pub holds_before : All P before
+  pub not_here : P x → ⊥
+
+-- a local that is used in the function is one of its locals, a global is one of the globals, and a function that is called
+-- is one of the functions; other mentions are no uses
+abbrev pub IsKnownIn : List Item → Function → Mention → Type 0
+IsKnownIn tree f (UsesLocal x) = IsLocal f x
+IsKnownIn tree f (UsesGlobal x) = Contains (globals_of tree) x
+IsKnownIn tree f (CallsFunction x n) = Contains (map (λ (g : Function). g.name) (functions_of tree)) x
+IsKnownIn tree f _ = Unit {0}
+
+-- each use in the function is so
+abbrev pub UsesKnownNames : List Item → Function → Type 0
+UsesKnownNames tree f = All (IsKnownIn tree f) (function_mentions f)
+
+-- x is the name at the first unknown use of the first function that has one
+pub record IsFirstUnknown (tree : List Item) (x : List ℕ) : Type 0 where
+  pub function : Function
+  pub mention : Mention
+  pub first_function : IsFirstWithout (UsesKnownNames tree) (functions_of tree) function
+  pub first_mention : IsFirstWithout (IsKnownIn tree function) (function_mentions function) mention
+  pub named : mention_name mention ≡ x
