@@ -3,10 +3,10 @@ use Rattle.std.proofs.Common.{List, [], ◌∷◌, refl, ap}
 use Rattle.std.proofs.lemmas.List.Elements.{All-nil, All-from_recursion, recursion_from_All}
 use Rattle.asl_syntax.specs.FirstFault.{IsFirstWithout}
 
-pub first_here : {X : Type 0} (P : X → Type 0) (x : X) (xs : List X) → (P x → ⊥) → IsFirstWithout P (x ∷ xs) x
+abbrev pub first_here : {X : Type 0} (P : X → Type 0) (x : X) (xs : List X) → (P x → ⊥) → IsFirstWithout P (x ∷ xs) x
 first_here P x xs h = record { before = []; behind = xs; split = refl; holds_before = All-nil P; not_here = h }
 
-pub first_later : {X : Type 0} (P : X → Type 0) (y : X) (xs : List X) (x : X) → P y → IsFirstWithout P xs x → IsFirstWithout P (y ∷ xs) x
+abbrev pub first_later : {X : Type 0} (P : X → Type 0) (y : X) (xs : List X) (x : X) → P y → IsFirstWithout P xs x → IsFirstWithout P (y ∷ xs) x
 first_later P y xs x h k = record {
   before = y ∷ k.before;
   behind = k.behind;

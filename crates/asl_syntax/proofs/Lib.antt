@@ -28,3 +28,4 @@ pub mod Used
 pub mod Called
 pub mod First
 pub mod FirstUnknown
+pub mod FirstWrongCall

@@ -1,11 +1,13 @@
--- What it means that a name is the first of a program that breaks a rule of names (docs/SOURCE.md, "Refusals"). The law
--- faults_of_names_are_the_first ties it to `unknown` of specs/Rules.
-use Rattle.std.specs.Prelude.{◌≡◌, ℕ, List, ◌∷◌, ◌++◌, map}
+-- What it means that a name or a call is the first of a program that breaks a rule of names (docs/SOURCE.md, "Refusals").
+-- The law faults_of_names_are_the_first ties it to `unknown` and `wrong_call` of specs/Rules.
+use Rattle.std.specs.Prelude.{◌≡◌, ℕ, List, ◌∷◌, ◌++◌, map, length, Some, slice_get}
 use Rattle.std.specs.List.{All, Contains}
+use Rattle.asl_grammar.specs.Token.{Spot}
 use Rattle.asl_syntax.specs.Tree.{Function, Item, globals_of, functions_of}
-use Rattle.asl_syntax.specs.Mentions.{Mention, UsesLocal, UsesGlobal, CallsFunction, function_mentions}
+use Rattle.asl_syntax.specs.Mentions.{Mention, UsesLocal, UsesGlobal, CallsFunction, function_mentions, mentions}
 use Rattle.asl_syntax.specs.TokenNames.{mention_name}
-use Rattle.asl_syntax.specs.Known.{IsLocal}
+use Rattle.asl_syntax.specs.Rules.{name_places}
+use Rattle.asl_syntax.specs.Known.{IsLocal, HasArity}
 
 -- x is the first element of which P does not hold: xs is some elements of which it holds, then x, then others
 pub record IsFirstWithout {X : Type 0} (P : X → Type 0) (xs : List X) (x : X) : Type 0 where
@@ -34,3 +36,15 @@ pub record IsFirstUnknown (tree : List Item) (x : List ℕ) : Type 0 where
   pub first_function : IsFirstWithout (UsesKnownNames tree) (functions_of tree) function
   pub first_mention : IsFirstWithout (IsKnownIn tree function) (function_mentions function) mention
   pub named : mention_name mention ≡ x
+
+-- a call has as many arguments as a function of its name has parameters; other mentions are no calls
+abbrev pub IsRightCall : List Item → Mention → Type 0
+IsRightCall tree (CallsFunction x n) = HasArity tree x n
+IsRightCall tree _ = Unit {0}
+
+-- at is the place of the first wrong call: its name token has as many name tokens before it as there are mentions before
+-- the call
+pub record IsFirstWrongCall (tree : List Item) (ss : List Spot) (at : ℕ) : Type 0 where
+  pub mention : Mention
+  pub first : IsFirstWithout (IsRightCall tree) (mentions tree) mention
+  pub placed : slice_get (name_places ss) (length first.before) ≡ Some at

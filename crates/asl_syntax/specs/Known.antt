@@ -21,7 +21,10 @@ pub record AreKnown (tree : List Item) : Type 0 where
   pub functions : (x : List ℕ) (n : ℕ) → Contains (mentions tree) (CallsFunction x n) → Contains (map (λ (f : Function). f.name) (functions_of tree)) x
   pub locals : All HasLocals (functions_of tree)
 
+-- a function of this name has so many parameters
+abbrev pub HasArity : List Item → List ℕ → ℕ → Type 0
+HasArity tree x n = (f : Function) × Contains (functions_of tree) f × (f.name ≡ x) × (length f.parameters ≡ n)
+
 -- each call with so many arguments is of a function with so many parameters
 abbrev pub HaveArity : List Item → Type 0
-HaveArity tree =
-    (x : List ℕ) (n : ℕ) → Contains (mentions tree) (CallsFunction x n) → (f : Function) × Contains (functions_of tree) f × (f.name ≡ x) × (length f.parameters ≡ n)
+HaveArity tree = (x : List ℕ) (n : ℕ) → Contains (mentions tree) (CallsFunction x n) → HasArity tree x n

@@ -142,7 +142,7 @@ wrong_call_from counts (m ∷ ms) (at ∷ places) =
     if is_wrong_call counts m then Some at else wrong_call_from counts ms places
 
 -- The place of the first wrong call of a program, at the name of the function that is called. What it means that there is
--- none is the law names_are_known too.
+-- none is the law names_are_known too, and which is the first the law faults_of_names_are_the_first.
 abbrev pub wrong_call : List Item → List Spot → Option ℕ
 wrong_call tree ss = wrong_call_from (parameter_counts tree) (mentions tree) (name_places ss)
 
