@@ -29,3 +29,4 @@ pub mod Called
 pub mod First
 pub mod FirstUnknown
 pub mod FirstWrongCall
+pub mod FirstTwice

@@ -14,7 +14,7 @@ use Rattle.asl_syntax.proofs.Among.{Among, among, contained, among_left, among_r
 
 -- ---- what declares a name
 
-declares_global : (m : Mention) (x : List ℕ) → declared_in Globals m ≡ Some x → m ≡ DeclaresGlobal x
+pub declares_global : (m : Mention) (x : List ℕ) → declared_in Globals m ≡ Some x → m ≡ DeclaresGlobal x
 declares_global (DeclaresGlobal y) x e = cc
 declares_global (DeclaresFunction y) x e = cc
 declares_global (DeclaresParameter y) x e = cc
@@ -23,7 +23,7 @@ declares_global (UsesLocal y) x e = cc
 declares_global (UsesGlobal y) x e = cc
 declares_global (CallsFunction y n) x e = cc
 
-declares_function : (m : Mention) (x : List ℕ) → declared_in Functions m ≡ Some x → m ≡ DeclaresFunction x
+pub declares_function : (m : Mention) (x : List ℕ) → declared_in Functions m ≡ Some x → m ≡ DeclaresFunction x
 declares_function (DeclaresGlobal y) x e = cc
 declares_function (DeclaresFunction y) x e = cc
 declares_function (DeclaresParameter y) x e = cc
@@ -42,13 +42,13 @@ declares_local (UsesGlobal y) x e = absurd cc
 declares_local (CallsFunction y n) x e = absurd cc
 
 -- some mention declares the name
-abbrev Declares : Space → List Mention → List ℕ → Type 0
+abbrev pub Declares : Space → List Mention → List ℕ → Type 0
 Declares sp ms x = (m : Mention) × Among ms m × (declared_in sp m ≡ Some x)
 
 pub same_bytes : (y x : List ℕ) → bytes_eq y x ≡ true → y ≡ x
 same_bytes y x e = (bytes_eq-Decides y x).0 e
 
-declared_here : (o : Option (List ℕ)) (known : Names) (x : List ℕ) → with_declared o known x ≡ true → (o ≡ Some x) ⊎ (known x ≡ true)
+pub declared_here : (o : Option (List ℕ)) (known : Names) (x : List ℕ) → with_declared o known x ≡ true → (o ≡ Some x) ⊎ (known x ≡ true)
 declared_here None known x e = inr e
 declared_here (Some y) known x e =
     elim (or_cases (bytes_eq y x) (known x) e) [ inl here ↦ inl (ap Some (same_bytes y x here)) | inr there ↦ inr there ]
@@ -61,11 +61,11 @@ declarer sp (m ∷ ms) x e =
       | inr there ↦ (let k = declarer sp ms x there in (k.0, inr k.1, k.2))
     ]
 
-more_declared : (o : Option (List ℕ)) (known : Names) (x : List ℕ) → known x ≡ true → with_declared o known x ≡ true
+pub more_declared : (o : Option (List ℕ)) (known : Names) (x : List ℕ) → known x ≡ true → with_declared o known x ≡ true
 more_declared None known x e = e
 more_declared (Some y) known x e = or_right (bytes_eq y x) (known x) e
 
-one_declared : (o : Option (List ℕ)) (known : Names) (x : List ℕ) → o ≡ Some x → with_declared o known x ≡ true
+pub one_declared : (o : Option (List ℕ)) (known : Names) (x : List ℕ) → o ≡ Some x → with_declared o known x ≡ true
 one_declared None known x e = absurd cc
 one_declared (Some y) known x e = or_left (bytes_eq y x) (known x) (let same : x ≡ y = cc in (bytes_eq-Decides y x).1 (sym same))
 

@@ -18,7 +18,8 @@ abbrev pub with_name : List ℕ → Names → Names
 with_name x known q = bytes_eq x q || known q
 
 -- The first name that is declared a second time: of globals, of functions, or of the parameters of one function. That there
--- is none says that each is declared once: the law names_are_declared_once (docs/SOURCE.md, "Refusals").
+-- is none says that each is declared once: the law names_are_declared_once (docs/SOURCE.md, "Refusals"). Which is the
+-- first: the law faults_of_names_are_the_first.
 abbrev pub first_twice : Names → Names → Names → List Mention → Option (List ℕ)
 first_twice globals functions parameters [] = None
 first_twice globals functions parameters (DeclaresGlobal x ∷ ms) =
