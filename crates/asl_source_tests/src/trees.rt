@@ -2,7 +2,8 @@
 use asl_syntax::laws::{
     a_printed_ast_is_read_back, a_printed_tree_is_lexed, a_printed_tree_is_read_back,
     a_printed_tree_is_spelled, a_text_has_one_outcome, a_text_has_one_tree,
-    a_tree_mentions_its_names, names_are_declared_once, names_are_known,
+    a_tree_mentions_its_names, faults_of_names_are_the_first, names_are_declared_once,
+    names_are_known,
 };
 use asl_syntax::{Ast, parse, print};
 use std::alloc::{AllocError, Global};
@@ -518,6 +519,7 @@ fn laws_are_there(rt: HostRuntime) -> Result<(), Fail> {
     a_tree_mentions_its_names();
     names_are_declared_once();
     names_are_known();
+    faults_of_names_are_the_first();
     a_printed_tree_is_read_back();
     a_printed_ast_is_read_back(&ast);
     a_text_has_one_outcome();

@@ -11,7 +11,7 @@ use Rattle.asl_syntax.specs.Mentions.{Mention, DeclaresGlobal, DeclaresFunction,
 use Rattle.asl_syntax.specs.Rules.{Counts, twice, unknown, parameter_counts, differs, is_wrong_call, wrong_call_from, wrong_call, name_places}
 use Rattle.asl_syntax.specs.Spelled.{Spells}
 use Rattle.asl_syntax.specs.TokenNames.{mention_name}
-use Rattle.asl_syntax.specs.Known.{HaveArity}
+use Rattle.asl_syntax.specs.Known.{HasArity, HaveArity}
 use Rattle.asl_syntax.proofs.Among.{Among, among, contained, among_mapped}
 use Rattle.asl_syntax.proofs.Used.{names_of, same_bytes, called_name, each_among}
 use Rattle.asl_syntax.proofs.Few.{goes_on}
@@ -103,15 +103,26 @@ no_other k n e = grind arith
 right_count : (o : Option ℕ) (k n : ℕ) → o ≡ Some k → differs o n ≡ false → o ≡ Some n
 right_count o k n e d = e ∙ ap Some (same_count k n (ap (λ (p : Option ℕ). differs p n) (sym e) ∙ d))
 
+-- a call that is not wrong, of a function that is known
+pub arity_where : (t : List Item) → unknown t ≡ None → (x : List ℕ) (n : ℕ) → Among (mentions t) (CallsFunction x n) → is_wrong_call (parameter_counts t) (CallsFunction x n) ≡ false → HasArity t x n
+arity_where t known x n call right =
+    let own = has_count t x (called_name t known x n call) in
+    let k = counted t x n (right_count (parameter_counts t x) own.0 n own.1 right) in
+    (k.0, contained (functions_of t) k.0 k.1, k.2, k.3)
+
+-- a call of a function that is declared once
+pub right_where : (t : List Item) → twice t ≡ None → (x : List ℕ) (n : ℕ) → HasArity t x n → is_wrong_call (parameter_counts t) (CallsFunction x n) ≡ false
+right_where t once x n k =
+    let own = own_count t ((declared_once t).0 once).functions k.0 (among (functions_of t) k.0 k.1) in
+    let at : parameter_counts t x ≡ Some (length k.0.parameters) = ap (parameter_counts t) (sym k.2) ∙ own in
+    ap (λ (o : Option ℕ). differs o n) at ∙ no_other (length k.0.parameters) n k.3
+
 arity_from : (t : List Item) (ss : List Spot) → Spells t (bare ss) → unknown t ≡ None → wrong_call t ss ≡ None → HaveArity t
 arity_from t ss s known none x n h =
     let long = as_many t ss s in
     let call = among (mentions t) (CallsFunction x n) h in
     let counts : Counts = parameter_counts t in
-    let right = each_among (λ m. is_wrong_call counts m ≡ false) (mentions t) (right_calls counts (mentions t) (name_places ss) (omega arith) none) (CallsFunction x n) call in
-    let own = has_count t x (called_name t known x n call) in
-    let k = counted t x n (right_count (counts x) own.0 n own.1 right) in
-    (k.0, contained (functions_of t) k.0 k.1, k.2, k.3)
+    arity_where t known x n call (each_among (λ m. is_wrong_call counts m ≡ false) (mentions t) (right_calls counts (mentions t) (name_places ss) (omega arith) none) (CallsFunction x n) call)
 
 right_call : (t : List Item) → twice t ≡ None → HaveArity t → (m : Mention) → Among (mentions t) m → is_wrong_call (parameter_counts t) m ≡ false
 right_call t once a (DeclaresGlobal x) h = refl
@@ -121,10 +132,7 @@ right_call t once a (AssignsLocal x) h = refl
 right_call t once a (UsesLocal x) h = refl
 right_call t once a (UsesGlobal x) h = refl
 right_call t once a (CallsFunction x n) h =
-    let k = a x n (contained (mentions t) (CallsFunction x n) h) in
-    let own = own_count t ((declared_once t).0 once).functions k.0 (among (functions_of t) k.0 k.1) in
-    let at : parameter_counts t x ≡ Some (length k.0.parameters) = ap (parameter_counts t) (sym k.2) ∙ own in
-    ap (λ (o : Option ℕ). differs o n) at ∙ no_other (length k.0.parameters) n k.3
+    right_where t once x n (a x n (contained (mentions t) (CallsFunction x n) h))
 
 pub arity : (t : List Item) (ss : List Spot) → Spells t (bare ss) → twice t ≡ None → unknown t ≡ None → (wrong_call t ss ≡ None) ↔ HaveArity t
 arity t ss s once known = (

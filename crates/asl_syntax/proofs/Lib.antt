@@ -26,3 +26,7 @@ pub mod Declared
 pub mod Among
 pub mod Used
 pub mod Called
+pub mod First
+pub mod FirstUnknown
+pub mod FirstWrongCall
+pub mod FirstTwice

@@ -14,7 +14,7 @@ use Rattle.asl_syntax.proofs.Among.{Among, among, contained, among_left, among_r
 
 -- ---- what declares a name
 
-declares_global : (m : Mention) (x : List ℕ) → declared_in Globals m ≡ Some x → m ≡ DeclaresGlobal x
+pub declares_global : (m : Mention) (x : List ℕ) → declared_in Globals m ≡ Some x → m ≡ DeclaresGlobal x
 declares_global (DeclaresGlobal y) x e = cc
 declares_global (DeclaresFunction y) x e = cc
 declares_global (DeclaresParameter y) x e = cc
@@ -23,7 +23,7 @@ declares_global (UsesLocal y) x e = cc
 declares_global (UsesGlobal y) x e = cc
 declares_global (CallsFunction y n) x e = cc
 
-declares_function : (m : Mention) (x : List ℕ) → declared_in Functions m ≡ Some x → m ≡ DeclaresFunction x
+pub declares_function : (m : Mention) (x : List ℕ) → declared_in Functions m ≡ Some x → m ≡ DeclaresFunction x
 declares_function (DeclaresGlobal y) x e = cc
 declares_function (DeclaresFunction y) x e = cc
 declares_function (DeclaresParameter y) x e = cc
@@ -42,13 +42,13 @@ declares_local (UsesGlobal y) x e = absurd cc
 declares_local (CallsFunction y n) x e = absurd cc
 
 -- some mention declares the name
-abbrev Declares : Space → List Mention → List ℕ → Type 0
+abbrev pub Declares : Space → List Mention → List ℕ → Type 0
 Declares sp ms x = (m : Mention) × Among ms m × (declared_in sp m ≡ Some x)
 
 pub same_bytes : (y x : List ℕ) → bytes_eq y x ≡ true → y ≡ x
 same_bytes y x e = (bytes_eq-Decides y x).0 e
 
-declared_here : (o : Option (List ℕ)) (known : Names) (x : List ℕ) → with_declared o known x ≡ true → (o ≡ Some x) ⊎ (known x ≡ true)
+pub declared_here : (o : Option (List ℕ)) (known : Names) (x : List ℕ) → with_declared o known x ≡ true → (o ≡ Some x) ⊎ (known x ≡ true)
 declared_here None known x e = inr e
 declared_here (Some y) known x e =
     elim (or_cases (bytes_eq y x) (known x) e) [ inl here ↦ inl (ap Some (same_bytes y x here)) | inr there ↦ inr there ]
@@ -61,11 +61,11 @@ declarer sp (m ∷ ms) x e =
       | inr there ↦ (let k = declarer sp ms x there in (k.0, inr k.1, k.2))
     ]
 
-more_declared : (o : Option (List ℕ)) (known : Names) (x : List ℕ) → known x ≡ true → with_declared o known x ≡ true
+pub more_declared : (o : Option (List ℕ)) (known : Names) (x : List ℕ) → known x ≡ true → with_declared o known x ≡ true
 more_declared None known x e = e
 more_declared (Some y) known x e = or_right (bytes_eq y x) (known x) e
 
-one_declared : (o : Option (List ℕ)) (known : Names) (x : List ℕ) → o ≡ Some x → with_declared o known x ≡ true
+pub one_declared : (o : Option (List ℕ)) (known : Names) (x : List ℕ) → o ≡ Some x → with_declared o known x ≡ true
 one_declared None known x e = absurd cc
 one_declared (Some y) known x e = or_left (bytes_eq y x) (known x) (let same : x ≡ y = cc in (bytes_eq-Decides y x).1 (sym same))
 
@@ -195,23 +195,23 @@ of_parameter f x h =
 
 -- ---- names of a space
 
-globals_from : (is : List Item) (x : List ℕ) → names_in Globals (mentions is) x ≡ true → Among (globals_of is) x
+pub globals_from : (is : List Item) (x : List ℕ) → names_in Globals (mentions is) x ≡ true → Among (globals_of is) x
 globals_from is x e =
     let k = declarer Globals (mentions is) x e in
     global_of is x (subst (Among (mentions is)) (declares_global k.0 x k.2) k.1)
 
-globals_to : (is : List Item) (x : List ℕ) → Among (globals_of is) x → names_in Globals (mentions is) x ≡ true
+pub globals_to : (is : List Item) (x : List ℕ) → Among (globals_of is) x → names_in Globals (mentions is) x ≡ true
 globals_to is x h = declared Globals (mentions is) (DeclaresGlobal x) x (of_global is x h) refl
 
-functions_from : (is : List Item) (x : List ℕ) → names_in Functions (mentions is) x ≡ true → Among (names_of is) x
+pub functions_from : (is : List Item) (x : List ℕ) → names_in Functions (mentions is) x ≡ true → Among (names_of is) x
 functions_from is x e =
     let k = declarer Functions (mentions is) x e in
     function_of is x (subst (Among (mentions is)) (declares_function k.0 x k.2) k.1)
 
-functions_to : (is : List Item) (x : List ℕ) → Among (names_of is) x → names_in Functions (mentions is) x ≡ true
+pub functions_to : (is : List Item) (x : List ℕ) → Among (names_of is) x → names_in Functions (mentions is) x ≡ true
 functions_to is x h = declared Functions (mentions is) (DeclaresFunction x) x (of_function is x h) refl
 
-locals_from : (f : Function) (x : List ℕ) → names_in Locals (function_mentions f) x ≡ true → Among f.parameters x ⊎ Among (function_mentions f) (AssignsLocal x)
+pub locals_from : (f : Function) (x : List ℕ) → names_in Locals (function_mentions f) x ≡ true → Among f.parameters x ⊎ Among (function_mentions f) (AssignsLocal x)
 locals_from f x e =
     let k = declarer Locals (function_mentions f) x e in
     elim (declares_local k.0 x k.2) [
@@ -219,7 +219,7 @@ locals_from f x e =
       | inr assigned ↦ inr (subst (Among (function_mentions f)) assigned k.1)
     ]
 
-locals_to : (f : Function) (x : List ℕ) → Among f.parameters x ⊎ Among (function_mentions f) (AssignsLocal x) → names_in Locals (function_mentions f) x ≡ true
+pub locals_to : (f : Function) (x : List ℕ) → Among f.parameters x ⊎ Among (function_mentions f) (AssignsLocal x) → names_in Locals (function_mentions f) x ≡ true
 locals_to f x (inl own) = declared Locals (function_mentions f) (DeclaresParameter x) x (of_parameter f x own) refl
 locals_to f x (inr assigned) = declared Locals (function_mentions f) (AssignsLocal x) x assigned refl
 
@@ -233,20 +233,20 @@ no_name_of : (a b : Option (List ℕ)) → a ≡ None → b ≡ None → or_name
 no_name_of None b e f = f
 no_name_of (Some x) b e f = absurd cc
 
-uses_from : (gs fs ls : Names) (ms : List Mention) → first_unknown_use gs fs ls ms ≡ None → (m : Mention) → Among ms m → unknown_use gs fs ls m ≡ None
+pub uses_from : (gs fs ls : Names) (ms : List Mention) → first_unknown_use gs fs ls ms ≡ None → (m : Mention) → Among ms m → unknown_use gs fs ls m ≡ None
 uses_from gs fs ls [] e m h = absurd h
 uses_from gs fs ls (n ∷ ms) e m (inl same) =
     ap (unknown_use gs fs ls) (sym same) ∙ (neither_name (unknown_use gs fs ls n) (first_unknown_use gs fs ls ms) e).0
 uses_from gs fs ls (n ∷ ms) e m (inr there) =
     uses_from gs fs ls ms (neither_name (unknown_use gs fs ls n) (first_unknown_use gs fs ls ms) e).1 m there
 
-uses_to : (gs fs ls : Names) (ms : List Mention) → ((m : Mention) → Among ms m → unknown_use gs fs ls m ≡ None) → first_unknown_use gs fs ls ms ≡ None
+pub uses_to : (gs fs ls : Names) (ms : List Mention) → ((m : Mention) → Among ms m → unknown_use gs fs ls m ≡ None) → first_unknown_use gs fs ls ms ≡ None
 uses_to gs fs ls [] h = refl
 uses_to gs fs ls (n ∷ ms) h =
     no_name_of (unknown_use gs fs ls n) (first_unknown_use gs fs ls ms) (h n (inl refl)) (uses_to gs fs ls ms (λ m there. h m (inr there)))
 
 -- no function uses an unknown name
-abbrev NoUnknown : Names → Names → Function → Type 0
+abbrev pub NoUnknown : Names → Names → Function → Type 0
 NoUnknown gs fs f = unknown_in_function gs fs (function_mentions f) ≡ None
 
 items_from : (gs fs : Names) (is : List Item) → first_unknown gs fs is ≡ None → AllByRecursion (NoUnknown gs fs) (functions_of is)
@@ -293,11 +293,11 @@ pub each_from : {X : Type 0} (P : X → Type 0) (xs : List X) → ((x : X) → A
 each_from P [] h = tt
 each_from P (y ∷ ys) h = (h y (inl refl), each_from P ys (λ x there. h x (inr there)))
 
-known_name : (b : Bool) (x : List ℕ) → (if b then None else Some x) ≡ None → b ≡ true
+pub known_name : (b : Bool) (x : List ℕ) → (if b then None else Some x) ≡ None → b ≡ true
 known_name true x e = refl
 known_name false x e = absurd cc
 
-name_known : (b : Bool) (x : List ℕ) → b ≡ true → (if b then None else Some x) ≡ None
+pub name_known : (b : Bool) (x : List ℕ) → b ≡ true → (if b then None else Some x) ≡ None
 name_known true x e = refl
 name_known false x e = absurd (false≢true e)
 
@@ -323,11 +323,11 @@ used_global t e x h =
     let k = used_from t e (UsesGlobal x) h (λ y same. cc) in
     globals_from t x (known_name (names_in Globals (mentions t) x) x k.1)
 
-kept_locals : (f : Function) (x : List ℕ) → Among f.parameters x ⊎ Among (function_mentions f) (AssignsLocal x) → Contains f.parameters x ⊎ Contains (function_mentions f) (AssignsLocal x)
+pub kept_locals : (f : Function) (x : List ℕ) → Among f.parameters x ⊎ Among (function_mentions f) (AssignsLocal x) → Contains f.parameters x ⊎ Contains (function_mentions f) (AssignsLocal x)
 kept_locals f x (inl own) = inl (contained f.parameters x own)
 kept_locals f x (inr assigned) = inr (contained (function_mentions f) (AssignsLocal x) assigned)
 
-found_locals : (f : Function) (x : List ℕ) → Contains f.parameters x ⊎ Contains (function_mentions f) (AssignsLocal x) → Among f.parameters x ⊎ Among (function_mentions f) (AssignsLocal x)
+pub found_locals : (f : Function) (x : List ℕ) → Contains f.parameters x ⊎ Contains (function_mentions f) (AssignsLocal x) → Among f.parameters x ⊎ Among (function_mentions f) (AssignsLocal x)
 found_locals f x (inl own) = inl (among f.parameters x own)
 found_locals f x (inr assigned) = inr (among (function_mentions f) (AssignsLocal x) assigned)
 

@@ -18,7 +18,8 @@ abbrev pub with_name : List ℕ → Names → Names
 with_name x known q = bytes_eq x q || known q
 
 -- The first name that is declared a second time: of globals, of functions, or of the parameters of one function. That there
--- is none says that each is declared once: the law names_are_declared_once (docs/SOURCE.md, "Refusals").
+-- is none says that each is declared once: the law names_are_declared_once (docs/SOURCE.md, "Refusals"). Which is the
+-- first: the law faults_of_names_are_the_first.
 abbrev pub first_twice : Names → Names → Names → List Mention → Option (List ℕ)
 first_twice globals functions parameters [] = None
 first_twice globals functions parameters (DeclaresGlobal x ∷ ms) =
@@ -85,7 +86,7 @@ first_unknown globals functions (i ∷ is) =
     or_name (unknown_in_item globals functions i) (first_unknown globals functions is)
 
 -- The first name of a program that is used and nowhere declared. That there is none says that each is declared: the law
--- names_are_known (docs/SOURCE.md, "Refusals").
+-- names_are_known (docs/SOURCE.md, "Refusals"). Which is the first: the law faults_of_names_are_the_first.
 abbrev pub unknown : List Item → Option (List ℕ)
 unknown tree = first_unknown (names_in Globals (mentions tree)) (names_in Functions (mentions tree)) tree
 
@@ -142,7 +143,7 @@ wrong_call_from counts (m ∷ ms) (at ∷ places) =
     if is_wrong_call counts m then Some at else wrong_call_from counts ms places
 
 -- The place of the first wrong call of a program, at the name of the function that is called. What it means that there is
--- none is the law names_are_known too.
+-- none is the law names_are_known too, and which is the first the law faults_of_names_are_the_first.
 abbrev pub wrong_call : List Item → List Spot → Option ℕ
 wrong_call tree ss = wrong_call_from (parameter_counts tree) (mentions tree) (name_places ss)
 

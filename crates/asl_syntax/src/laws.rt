@@ -1,6 +1,6 @@
 //! Laws of texts and trees, as functions that do nothing: what each ensures is the law.
 
-ghost use Rattle.std.specs.Prelude.{◌≡◌, ℕ, ◌<◌, ◌≤◌, ◌⊎◌, ◌↔◌, None, List, [], ◌∷◌, ◌++◌, drop, IsTrue, Result, IfOk, IfErr, length, map};
+ghost use Rattle.std.specs.Prelude.{◌≡◌, ℕ, ◌<◌, ◌≤◌, ◌⊎◌, ◌↔◌, None, Some, List, [], ◌∷◌, ◌++◌, drop, IsTrue, Result, IfOk, IfErr, length, map};
 ghost use Rattle.asl_grammar.specs.Token.{Token, Spot};
 ghost use Rattle.asl_grammar.specs.Lex.{are_tokens, tokens_of};
 ghost use Rattle.asl_grammar.specs.Grammar.{bare};
@@ -19,6 +19,7 @@ ghost use Rattle.asl_syntax.specs.Mentions.{mentions};
 ghost use Rattle.asl_syntax.specs.Rules.{twice, unknown, wrong_call};
 ghost use Rattle.asl_syntax.specs.DeclaredOnce.{AreDeclaredOnce};
 ghost use Rattle.asl_syntax.specs.Known.{AreKnown, HaveArity};
+ghost use Rattle.asl_syntax.specs.FirstFault.{IsFirstTwice, IsFirstUnknown, IsFirstWrongCall};
 ghost use Rattle.asl_syntax.specs.TokenNames.{token_names, mention_name};
 ghost use Rattle.asl_syntax.specs.Writing.{writing};
 ghost use Rattle.asl_syntax.specs.Printed.{spaced, printed};
@@ -43,6 +44,14 @@ pub fn names_are_declared_once()
 pub fn names_are_known()
     ensures unknown { (t : List Item) → (unknown t ≡ None) ↔ AreKnown t }
     ensures arity { (t : List Item) (ss : List Spot) → Spells t (bare ss) → twice t ≡ None → unknown t ≡ None → (wrong_call t ss ≡ None) ↔ HaveArity t }
+{}
+
+/// What is told of names is the first fault: the name of the first declaration that repeats one, the name of the first
+/// unknown use, and, where names are declared once and known, the place of the first wrong call.
+pub fn faults_of_names_are_the_first()
+    ensures twice { (t : List Item) (x : List ℕ) → twice t ≡ Some x → IsFirstTwice t x }
+    ensures unknown { (t : List Item) (x : List ℕ) → unknown t ≡ Some x → IsFirstUnknown t x }
+    ensures arity { (t : List Item) (ss : List Spot) (at : ℕ) → Spells t (bare ss) → twice t ≡ None → unknown t ≡ None → wrong_call t ss ≡ Some at → IsFirstWrongCall t ss at }
 {}
 
 /// A tree is printed as tokens that spell it.
