@@ -4,6 +4,7 @@ use Rattle.std.proofs.lemmas.List.{take_more, take-append-drop, drop-take, lengt
 use Rattle.std.proofs.lemmas.List.Elements.{All-take, All-map, All-get_or}
 use Rattle.std.proofs.lemmas.Option.{slice_get-get_or, slice_get_within, get_or_from_slice_get}
 use Rattle.asl_code.specs.declared.image.Image.{Image}
+use Rattle.asl_machine.specs.Sound.{MayWantMemory}
 use Rattle.asl_machine.specs.State.{State}
 use Rattle.asl_machine.specs.View.{Configuration}
 use Rattle.asl_machine.specs.Run.{start_of, state_after}
@@ -13,7 +14,7 @@ use Rattle.asl_journal.specs.declared.event.Event.{Event}
 use Rattle.asl_journal.specs.Journal.{Log, IsLog, AreThere, GoesBy, IsJournal, schedule_of}
 use Rattle.asl_journal.specs.Replay.{DiffersAt}
 use Rattle.asl_journal.proofs.Runs.{state_events, state_snoc, goes_append, goes_back, prefix_is_journal}
-use Rattle.asl_debugger.specs.Session.{state_before, machine_before}
+use Rattle.asl_debugger.specs.Session.{MayWantMemoryAt, state_before, machine_before}
 use Rattle.asl_debugger.specs.Kept.{IsKept}
 
 -- a state of a run has the threads of its start
@@ -106,6 +107,15 @@ thread_there image log k machine at is i d lt =
 
 pub threads_of : (image : Image) (log : Log) (k : ℕ) (s : State) → s ≡ state_before image log k → IsLog log → length s.threads ≡ log.threads
 threads_of image log k s at is = ap (λ (u : State). length u.threads) at ∙ count_at image log k is.there
+
+-- the thread of the event at a position is there in the state there, and where its step may want memory, so may the
+-- event's
+module _ (machine : Configuration) (log : Log) (k : ℕ) (d : Event) (t : ℕ) (lt : k < length log.events) (at : machine.state ≡ state_before machine.image log k) where
+  pub there_at : IsLog log → t ≡ (get_or log.events k d).thread → t < length machine.state.threads
+  there_at is thread = rw (thread, threads_of machine.image log k machine.state at is) (All-get_or (λ (e : Event). e.thread < log.threads) log.events k d lt is.there)
+
+  pub wants_at : t ≡ (get_or log.events k d).thread → MayWantMemory machine.image machine.state t → MayWantMemoryAt machine.image log k
+  wants_at thread wants = rw (slice_get-get_or log.events k d lt, ← thread, ← at) wants
 
 -- a debugger that shows another position of its journal keeps what it keeps
 pub kept_at : (log : Log) (spacing : ℕ) (checkpoints : List Configuration) (old new : Configuration) (position k : ℕ) → IsKept old.image log spacing checkpoints old position → k ≤ length log.events →

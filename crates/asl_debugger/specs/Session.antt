@@ -2,6 +2,7 @@
 -- "The debugger").
 use Rattle.std.specs.Prelude.{◌≡◌, ◌<◌, ◌≤◌, ◌⊎◌, ℕ, IsTrue, List, length, take, slice_get, IsSomeAnd}
 use Rattle.asl_code.specs.declared.image.Image.{Image}
+use Rattle.asl_machine.specs.Sound.{MayWantMemory}
 use Rattle.asl_machine.specs.State.{State, activity_at}
 use Rattle.asl_machine.specs.View.{Configuration}
 use Rattle.asl_journal.specs.Journal.{Log, state_at}
@@ -21,6 +22,10 @@ state_before image log k = state_at image log.threads (take k log.events)
 -- the machine in that state (docs/JOURNAL.md, The debugger)
 abbrev pub machine_before : Image → Log → ℕ → Configuration
 machine_before image log k = record { image = image; state = state_before image log k }
+
+-- there is an event after this position, and its step may want memory in the state there (docs/JOURNAL.md, The debugger)
+abbrev pub MayWantMemoryAt : Image → Log → ℕ → Type 0
+MayWantMemoryAt image log k = IsSomeAnd (slice_get log.events k) (λ event. MayWantMemory image (state_before image log k) event.thread)
 
 -- the same session at another position (docs/JOURNAL.md, The debugger)
 abbrev pub moved : Session → ℕ → Session

@@ -1,5 +1,5 @@
 //! Breakpoints: places of the code.
-ghost use Rattle.std.specs.Prelude.{◌≡◌, ◌==◌, filter, not, OnErr, OnOk};
+ghost use Rattle.std.specs.Prelude.{◌≡◌, ◌==◌, filter, not, IsOk, IsTrue, OnErr, OnOk};
 ghost use Rattle.asl_debugger.specs.Breaks.{has_break, HasBreak, HasNoBreak};
 
 use std::alloc::AllocError;
@@ -14,6 +14,8 @@ pub fn has_break(breakpoints: &[u32], pc: u32) -> bool
 /// Puts the place among the breakpoints.
 pub fn put_break(breakpoints: &mut Vec<u32>, pc: u32) -> Result<(), AllocError>
     ensures has { OnOk result (HasBreak breakpoints.old.items breakpoints.new.items pc) }
+    ensures again { IsTrue (has_break breakpoints.old.items pc)
+        → IsOk result × (breakpoints.new.items ≡ breakpoints.old.items) }
     ensures err { OnErr result (breakpoints.new.items ≡ breakpoints.old.items) }
 {
     if !has_break(breakpoints.as_slice(), pc) {

@@ -4,7 +4,7 @@ ghost use Rattle.asl_machine.specs.Run.{IsThreadCount, start_of};
 ghost use Rattle.asl_journal.specs.Journal.{GoesBy, IsJournal, IsLog};
 ghost use Rattle.asl_debugger.specs.Kept.{AreCheckpoints};
 ghost use Rattle.asl_debugger.specs.Opening.{IsOpenFault};
-ghost use Rattle.asl_debugger.specs.Session.{machine_before, state_before};
+ghost use Rattle.asl_debugger.specs.Session.{MayWantMemoryAt, machine_before, state_before};
 
 use crate::fault::DebugFault;
 use asl_code::Program;
@@ -51,6 +51,7 @@ pub fn make_event(
     requires there { position < length journal.now.events }
     ensures made { OnOk result (machine.new ≡ machine_before machine.old.image journal.now (position + 1)) }
     ensures memory { IfErr result (λ fault. fault ≡ DebugFault.OutOfMemory) }
+    ensures wants { OnErr result (MayWantMemoryAt machine.old.image journal.now position) }
     ensures err { OnErr result (machine.new ≡ machine.old) }
 {
     let events = journal.events();

@@ -1,7 +1,7 @@
 //! The debugger: a journal of a program, and a position in it.
-ghost use Rattle.std.specs.Prelude.{◌≡◌, ◌<◌, ◌≤◌, ◌+◌, ◌-◌, ◌↔◌, ◌⊎◌, [], length, IfErr, IfOk, IsErrOf, OnErr, OnOk};
+ghost use Rattle.std.specs.Prelude.{◌≡◌, ◌<◌, ◌≤◌, ◌+◌, ◌-◌, ◌↔◌, ◌⊎◌, [], length, IfErr, IfOk, IsErrOf, IsOk, IsTrue, OnErr, OnOk};
 ghost use Rattle.asl_journal.specs.Journal.{IsJournal};
-ghost use Rattle.asl_debugger.specs.Breaks.{HasBreak, HasNoBreak};
+ghost use Rattle.asl_debugger.specs.Breaks.{has_break, HasBreak, HasNoBreak};
 ghost use Rattle.asl_debugger.specs.Kept.{IsKept};
 ghost use Rattle.asl_debugger.specs.Opening.{IsOpenFault};
 
@@ -45,7 +45,7 @@ impl<'p> Model for Debugger<'p> {
 }
 
 impl<'p> Debugger<'p> {
-    ghost use Rattle.asl_debugger.specs.Session.{IsNextStop, IsLastStop, machine_before, moved, with_breaks};
+    ghost use Rattle.asl_debugger.specs.Session.{IsNextStop, IsLastStop, MayWantMemoryAt, machine_before, moved, with_breaks};
 
     /// A debugger at position 0 of the journal, if it is one of the program. Else it is handed back. A copy of the machine
     /// is kept every `spacing` events, at least 1; a smaller spacing takes more memory and makes moves quicker, and changes
@@ -108,7 +108,7 @@ impl<'p> Debugger<'p> {
         Ok(())
     }
 
-    /// Goes on by one event, which takes one step.
+    /// Goes on by one event, which takes one step. Memory is wanted only where that step may want it.
     ///
     /// # Errors
     ///
@@ -116,6 +116,8 @@ impl<'p> Debugger<'p> {
     pub fn forward(&mut self, alloc: Global) -> Result<(), DebugFault>
         ensures moves { OnOk result (self.new ≡ moved self.old (self.old.position + 1)) }
         ensures end { IsErrOf result DebugFault.AtEnd ↔ (self.old.position ≡ length self.old.log.events) }
+        ensures memory { IsErrOf result DebugFault.OutOfMemory
+            → MayWantMemoryAt self.old.image self.old.log self.old.position }
         ensures other { IfErr result (λ fault. (fault ≡ DebugFault.AtEnd) ⊎ (fault ≡ DebugFault.OutOfMemory)) }
         ensures err { OnErr result (self.new ≡ self.old) }
     {
@@ -192,7 +194,8 @@ impl<'p> Debugger<'p> {
         Ok(())
     }
 
-    /// Makes the place a breakpoint. A place out of the code never stops.
+    /// Makes the place a breakpoint. A place out of the code never stops. Where it is one already, nothing is wanted and
+    /// nothing changes.
     ///
     /// # Errors
     ///
@@ -200,6 +203,7 @@ impl<'p> Debugger<'p> {
     pub fn break_at(&mut self, pc: u32) -> Result<(), DebugFault>
         ensures same { self.new ≡ with_breaks self.old self.new.breakpoints }
         ensures has { OnOk result (HasBreak self.old.breakpoints self.new.breakpoints pc) }
+        ensures again { IsTrue (has_break self.old.breakpoints pc) → IsOk result × (self.new ≡ self.old) }
         ensures memory { IfErr result (λ fault. fault ≡ DebugFault.OutOfMemory) }
         ensures err { OnErr result (self.new ≡ self.old) }
     {

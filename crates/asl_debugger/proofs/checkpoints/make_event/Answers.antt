@@ -1,7 +1,10 @@
-use Rattle.std.proofs.Common.{List, ◌∙◌, ap, get_or}
+use Rattle.std.proofs.Common.{◌≡◌, List, Err, ◌∙◌, ap, arith, get_or, inl, inr}
+use Rattle.std.proofs.lemmas.Result.{err_from_is_err_and}
+use Rattle.asl_machine.specs.Sound.{MayWantMemory}
+use Rattle.asl_machine.specs.declared.fault.MachineFault.{MachineFault}
 use Rattle.asl_machine.specs.declared.reply.Reply.TheVariants.{Ran}
 use Rattle.asl_journal.specs.declared.event.Event.{Event}
-use Rattle.asl_debugger.proofs.Positions.{made}
+use Rattle.asl_debugger.proofs.Positions.{made, there_at, wants_at}
 use Rattle.asl_debugger.proofs.checkpoints.make_event.Goals as goal
 
 pub returns-clause-made : goal.returns-clause-made
@@ -9,3 +12,18 @@ returns-clause-made c =
     let told = c.in_ok-step.ensures in
     made c.args.journal.now c.args.machine.now c.step.new.self c.args.position (record { thread = 0; reply = Ran }) c.from.result c.requires.there c.requires.at
     (c.from.ensures ∙ ap (λ (es : List Event). (get_or es c.args.position (record { thread = 0; reply = Ran })).thread) c.events-events.ensures.events) told.image told.state
+
+pub returns-in_err-step-clause-wants : goal.returns-in_err-step-clause-wants
+returns-in_err-step-clause-wants c =
+    let log = c.args.journal.now in
+    let machine = c.args.machine.now in
+    let first : Event = record { thread = 0; reply = Ran } in
+    let told = c.in_err-step.ensures in
+    let thread : c.from.result ≡ (get_or log.events c.args.position first).thread = c.from.ensures ∙ ap (λ (es : List Event). (get_or es c.args.position first).thread) c.events-events.ensures.events in
+    let there = there_at machine log c.args.position first c.from.result c.requires.there c.requires.at c.events-events.ensures.log thread in
+    let wants : MayWantMemory machine.image machine.state c.from.result = elim told.other [
+      | inl bad ↦ let few = told.thread.0 (ap (λ (f : MachineFault). Err f) bad) in absurd (omega (arith, few, there))
+      | inr memory ↦ told.memory (ap (λ (f : MachineFault). Err f) memory)
+    ] in
+    let p = err_from_is_err_and c.from_residual.result c.from_residual.ensures.1 in
+    rw p.1 (wants_at machine log c.args.position first c.from.result c.requires.there c.requires.at thread wants)
