@@ -6,11 +6,11 @@ use Rattle.std.specs.List.{All, Contains}
 use Rattle.asl_syntax.specs.Tree.{Function, Item, globals_of, functions_of}
 use Rattle.asl_syntax.specs.Mentions.{AssignsLocal, UsesLocal, UsesGlobal, CallsFunction, function_mentions, mentions}
 
--- a local of a function is one of its parameters or is assigned somewhere in it
+-- a local of a function is one of its parameters, or is assigned somewhere in it
 abbrev pub IsLocal : Function → List ℕ → Type 0
 IsLocal f x = Contains f.parameters x ⊎ Contains (function_mentions f) (AssignsLocal x)
 
--- each local that the function uses is there
+-- each local that the function uses is one of them
 abbrev pub HasLocals : Function → Type 0
 HasLocals f = (x : List ℕ) → Contains (function_mentions f) (UsesLocal x) → IsLocal f x
 
