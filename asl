@@ -121,12 +121,15 @@ build_libraries() {
 }
 
 build() {
+  local began
+  began=$(date +%s.%N)
   command -v rt >/dev/null || { echo "asl: the command rt of the Rattle kit is needed to build" >&2; exit 1; }
   mkdir -p "$root/crates/asl/out"
   : >"$log"
   build_libraries
   (cd "$root/crates/asl" && rt run -- --help) >>"$log" 2>&1 </dev/null || fail asl "$log"
-  touch "$binary"
+  # as old as the beginning of the build: what was changed meanwhile is newer
+  touch -d "@$began" "$binary"
 }
 
 if is_stale; then
