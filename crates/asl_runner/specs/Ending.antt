@@ -23,6 +23,10 @@ IsToldEnded receipts t = (n : ℕ) × (r : Receipt) × (slice_get receipts n ≡
 abbrev pub AllTold : ℕ → ℕ → ℕ → List Receipt → Type 0
 AllTold count workers worker receipts = (t : ℕ) → IsMine count workers worker t → IsToldEnded receipts t
 
+-- each worker was told that its threads have ended
+abbrev pub AreAllTold : ℕ → ℕ → List (List Receipt) → Type 0
+AreAllTold count workers all = (worker : ℕ) (mine : List Receipt) → slice_get all worker ≡ Some mine → AllTold count workers worker mine
+
 -- how many receipts there are in all
 abbrev pub receipts_in : List (List Receipt) → ℕ
 receipts_in all = sum_by (λ (mine : List Receipt). length mine) all
@@ -37,4 +41,4 @@ pub record IsRun (image : Image) (count workers limit : ℕ) (report : Report) :
   pub receipts : receipts_in (all_receipts report) ≡ report.tickets
   pub short : report.tickets ≤ limit
   pub last : AreAllEndsLast (all_receipts report)
-  pub end : ((worker : ℕ) (mine : List Receipt) → slice_get (all_receipts report) worker ≡ Some mine → AllTold count workers worker mine) ⊎ (report.tickets ≡ limit)
+  pub end : AreAllTold count workers (all_receipts report) ⊎ (report.tickets ≡ limit)

@@ -3,7 +3,7 @@ ghost use Rattle.std.specs.Prelude.{◌≡◌, ◌<◌, ◌≤◌, ◌⊎◌, Al
 ghost use Rattle.asl_journal.specs.Journal.{state_at};
 ghost use Rattle.asl_runner.specs.History.{AreAllEndsLast, AreAllTrue, HaveEnded, IsAsked, IsHistory, WasRunning};
 ghost use Rattle.asl_runner.specs.Refused.{IsRefusal};
-ghost use Rattle.asl_runner.specs.Ending.{IsRun};
+ghost use Rattle.asl_runner.specs.Ending.{AreAllTold, IsRun};
 
 use crate::compare::first_wrong;
 use crate::fault::RunFault;
@@ -29,8 +29,8 @@ const STEP_LIMIT: u64 = EVENT_LIMIT as u64;
 /// Runs n threads of the program by 1 to 8 workers, each a thread of the system. Worker j steps the threads t with
 /// t mod workers = j, as long as they have not ended, one ticket for each step, until all have ended or `limit` tickets are
 /// drawn. The journal is one that a single thread could have made, and no step of it is of a thread that had ended before. Each
-/// thread of which a receipt says that it has ended has ended; no thread is stepped behind such a receipt. `docs/WORKERS.md`
-/// says more.
+/// thread of which a receipt says that it has ended has ended; no thread is stepped behind such a receipt. Where tickets are
+/// left, each thread has such a receipt. `docs/WORKERS.md` says more.
 ///
 /// # Errors
 ///
@@ -52,6 +52,7 @@ pub fn run<'p, R: Threads + Wait + Sync, G: Gate>(
     ensures history { IfOk result (λ report. IsHistory program.now n workers report.journal.events (map (λ mine. mine.items) report.receipts.items)) }
     ensures told { IfOk result (λ report. AreAllTrue (state_at program.now n report.journal.events) (map (λ mine. mine.items) report.receipts.items)) }
     ensures last { IfOk result (λ report. AreAllEndsLast (map (λ mine. mine.items) report.receipts.items)) }
+    ensures ends { IfOk result (λ report. AreAllTold n workers (map (λ mine. mine.items) report.receipts.items) ⊎ (report.tickets ≡ limit)) }
     ensures running { IfOk result (λ report. All (λ event. WasRunning event.reply) report.journal.events) }
     ensures machine { IfOk result (λ report. report.machine ≡ record { image = program.now; state = state_at program.now n report.journal.events }) }
     ensures tickets { IfOk result (λ report. length report.journal.events ≡ report.tickets) }

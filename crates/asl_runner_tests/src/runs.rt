@@ -163,8 +163,8 @@ impl Gate for Witness {
     }
 }
 
-/// What a report says in numbers: events, tickets, receipts of each worker, what the counter is at, and how many threads
-/// have ended.
+/// What a report says in numbers: events, tickets, receipts of each worker, what the counter is at, how many threads have ended,
+/// and how many receipts say so.
 #[derive(Clone, Copy, Debug, PartialEq, Eq)]
 pub struct Told {
     pub events: usize,
@@ -172,6 +172,7 @@ pub struct Told {
     pub receipts: [usize; 8],
     pub counter: Option<Value>,
     pub ended: u32,
+    pub told: usize,
 }
 
 fn summary_of(report: &Report<'_>) -> Told {
@@ -190,7 +191,21 @@ fn summary_of(report: &Report<'_>) -> Told {
             offset: 0,
         }),
         ended,
+        told: told(report),
     }
+}
+
+/// How many receipts say that their thread has ended.
+fn told(report: &Report<'_>) -> usize {
+    let mut count: usize = 0;
+    for mine in report.receipts.iter() {
+        for receipt in mine.iter() {
+            if receipt.ended {
+                count = count.saturating_add(1);
+            }
+        }
+    }
+    count
 }
 
 /// How many receipts each worker has.
@@ -237,6 +252,7 @@ pub const TWO: Told = Told {
     receipts: [8, 8, 0, 0, 0, 0, 0, 0],
     counter: Some(Value::Int(2)),
     ended: 2,
+    told: 2,
 };
 
 #[test]
@@ -260,6 +276,7 @@ fn eight_workers_meet_and_count_to_eight(rt: HostRuntime) -> Result<(), Fail> {
         receipts: [8; 8],
         counter: Some(Value::Int(8)),
         ended: 8,
+        told: 8,
     };
     assert!(rt; ran == Some(Ok(told)));
     assert!(rt; gate.lost.load(Ordering::SeqCst) == 0);
@@ -273,6 +290,7 @@ const ONE: Told = Told {
     receipts: [8, 0, 0, 0, 0, 0, 0, 0],
     counter: Some(Value::Int(1)),
     ended: 1,
+    told: 1,
 };
 
 #[test]

@@ -24,6 +24,9 @@ returns-in-None-clause-told g c =
     let state = ap (λ (m : Configuration). m.state) ran.machine in
     rw (← c.in-Ok.ensures.image, ← state) (λ worker mine at. (right worker mine at).said)
 
+pub returns-in-None-clause-ends : goal.returns-in-None-clause-ends
+returns-in-None-clause-ends g c = c.in-Ok-run_as.ensures.run.end
+
 pub returns-in-None-clause-running : goal.returns-in-None-clause-running
 returns-in-None-clause-running g c =
     let ran = c.in-Ok-run_as.ensures.run in
