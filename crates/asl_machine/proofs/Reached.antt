@@ -1,5 +1,5 @@
 -- What holds of every state that a schedule reaches.
-use Rattle.std.proofs.Common.{◌≡◌, ◌≢◌, ℕ, false, List, [], ◌∷◌, Option, Some, None, length, slice_get, refl, ap, sym, ◌∙◌, subst, length-set}
+use Rattle.std.proofs.Common.{◌≡◌, ◌≢◌, ◌<◌, ℕ, false, List, [], ◌∷◌, Option, Some, None, length, slice_get, refl, ap, sym, ◌∙◌, subst, length-set}
 use Rattle.std.specs.Prelude.{IsSome, option_and_then}
 use Rattle.std.proofs.lemmas.Bool.{false_from_ne_true}
 use Rattle.std.proofs.lemmas.Option.{slice_get_within}
@@ -83,6 +83,14 @@ is_running : (o : Option Activity) → option_map_or (λ (a : Activity). a.depth
 is_running None h = absurd (h refl)
 is_running (Some a) h = refl
 
+-- a thread that runs is there
+running_is_there : (s : State) (t : ℕ) → IsSome (activity_at s.threads t) → t < length s.threads
+running_is_there s t runs =
+    elim (slice_get s.threads t) as (λ o. slice_get s.threads t ≡ o → IsSome (option_and_then activity_of o) → t < length s.threads) [
+      | None ↦ λ is some. cc
+      | Some thread ↦ λ is some. slice_get_within s.threads t thread is
+    ] refl runs
+
 -- where a step is blocked, some running thread holds a node and is not blocked
 pub someone_goes_on : (image : Image) (s : State) (t : ℕ) → IsSound image s → (step_of image s t).reply ≡ reply.Blocked → SomeoneGoesOn image s
 someone_goes_on image s t sound e =
@@ -92,10 +100,14 @@ someone_goes_on image s t sound e =
     let way = can_grant-refused s.holding t request refused in
     let holds = way_holds s.holding t request way.0 way.1 way.2 in
     let inside : depth_at s.threads way.0 ≢ 0 = λ z. holds (held_nothing s.holding way.0 way.1 (sound.outside way.0 z)) in
+    let runs = is_running (activity_at s.threads way.0) inside in
     record {
       thread = way.0;
-      runs = is_running (activity_at s.threads way.0) inside;
+      runs = runs;
       node = way.1;
       holds = holds;
+      reply = (step_of image s way.0).reply;
+      new = (step_of image s way.0).state;
+      steps = step_is image s way.0 sound (running_is_there s way.0 runs);
       goes_on = λ k. inside (blocked image s way.0 sound k).0;
     }

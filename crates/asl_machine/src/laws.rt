@@ -59,6 +59,6 @@ pub fn held_nodes_are_there()
 
 /// Where a step is blocked, some running thread holds a node, and its next step is not blocked.
 pub fn no_world_is_blocked()
-    ensures { (image : Image) (count : ℕ) (s : State) (t : ℕ) → IsVerified image → IsReached image count s
-        → (step_of image s t).reply ≡ Reply.Blocked → SomeoneGoesOn image s }
+    ensures { (image : Image) (count : ℕ) (s new : State) (t : ℕ) → IsVerified image → IsReached image count s
+        → Step image s t Reply.Blocked new → SomeoneGoesOn image s }
 {}

@@ -10,7 +10,7 @@ pub enum Reply {
     Ran,
     /// The instruction was run, and shows this value.
     Out(Value),
-    /// Another thread holds a lock that the section asks for; nothing has changed.
+    /// Another thread holds a node in a mode that does not go with what the section asks there; nothing has changed.
     Blocked,
     /// The thread had ended; nothing has changed.
     Ended,
