@@ -1,11 +1,13 @@
-//! The calls that add locks to a list, over the program `CALL`: its register 1 has the address of a new object, its register 2
+//! The calls that add locks to a list, and what stays as it is, over the program `CALL`: its register 1 has the address of a new object, its register 2
 //! that of the global `h`.
 ghost use Rattle.std.specs.Prelude.{◌≡◌};
 
 use crate::linking::{Analysed, CALL, analyse};
 use crate::spelling::{lock, spelled};
 use asl_code::{Instr, Lock};
-use asl_lock_expr::{View, add_accesses, add_dereferenced, add_entered, add_in_order, add_links};
+use asl_lock_expr::{
+    View, add_accesses, add_dereferenced, add_entered, add_in_order, add_links, stays,
+};
 use std::process::Abort;
 use std::test::Fail;
 
@@ -34,6 +36,16 @@ fn a_lock_behind_a_move_is_added(rt: HostRuntime) -> Result<(), Fail> {
     add_links(&view_of(&program), &instr, &behind, &mut locks)?;
     let found = spelled(rt.alloc(), &locks)?;
     assert!(rt; found.as_str() == "expr r2 write", "{found}");
+    Ok(())
+}
+
+#[test]
+fn a_lock_that_is_left_alone_stays(rt: HostRuntime) -> Result<(), Fail> {
+    let program = analyse(rt.alloc(), CALL)?;
+    let view = view_of(&program);
+    let behind = given("expr r2 write")?;
+    assert!(rt; stays(&view, &Instr::Move { to: 1, from: 0 }, &behind));
+    assert!(rt; !stays(&view, &Instr::Move { to: 2, from: 0 }, &behind));
     Ok(())
 }
 

@@ -1,7 +1,7 @@
 //! The cells that expressions denote.
 use crate::spelling::lock;
 use asl_code::{Cell, Lock, Value};
-use asl_lock_expr::{HeapView, eval, follow, pointed};
+use asl_lock_expr::{HeapView, eval, follow, go_on, pointed};
 use std::test::Fail;
 
 /// A heap whose only object has the number 1 and three cells.
@@ -89,6 +89,13 @@ fn a_path_leads_from_a_cell_to_a_cell(rt: HostRuntime) -> Result<(), Fail> {
     let heap = OneObject { cells: CELLS };
     assert!(rt; follow(expr.path.as_slice(), FIRST, &heap) == Some(LAST));
     Ok(())
+}
+
+#[test]
+fn a_cell_some_places_on_is_one_of_the_object(rt: HostRuntime) {
+    let heap = OneObject { cells: CELLS };
+    assert!(rt; go_on(&heap, 2, FIRST) == Some(LAST));
+    assert!(rt; go_on(&heap, 3, FIRST).is_none());
 }
 
 #[test]

@@ -109,6 +109,19 @@ fn share(rt: &impl Abort, forest: &mut Forest) -> Result<(), AllocError>
     Ok(())
 }
 
+/// What others hold keeps a mode from a thread; what the thread holds itself does not.
+#[test]
+fn a_mode_is_free_where_no_other_is_in_the_way(rt: HostRuntime) -> Result<(), Fail> {
+    let mut forest = Forest::new(rt.alloc(), 2, 3)?;
+    share(&rt, &mut forest)?;
+    assert!(rt; !forest.is_free(2, Node::Class(1), Mode::IX));
+    assert!(rt; forest.is_free(2, Node::Class(1), Mode::IS));
+    assert!(rt; !forest.is_free(0, Node::Leaf(FIRST, 1), Mode::X));
+    assert!(rt; forest.is_free(1, Node::Leaf(FIRST, 1), Mode::X));
+    assert!(rt; forest.is_free(2, Node::Leaf(SECOND, 1), Mode::X));
+    Ok(())
+}
+
 #[test]
 fn three_threads_share_a_class(rt: HostRuntime) -> Result<(), Fail> {
     let mut forest = Forest::new(rt.alloc(), 2, 3)?;
