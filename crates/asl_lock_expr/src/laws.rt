@@ -76,7 +76,7 @@ pub fn links_are_settled()
     ensures { (v : View) (i : Instr) (l n : Lock) → IsOne (link v i l) n → IsSettled v n }
 {}
 
-/// An expression that has a class is never dropped: it stays, or its class comes in its place.
+/// Settling never drops an expression that has a class: it stays, or its class comes in its place.
 pub fn expressions_with_a_class_are_left()
     ensures { (v : View) (e : Expr) (effect : Effect) (x : ℕ) → class_of v.classes v.function e ≡ Some x
         → IsOne (settle v (on e.base e.path effect)) (on e.base e.path effect) ⊎ IsOne (settle v (on e.base e.path effect)) (ClassLock x effect) }

@@ -31,7 +31,7 @@ use asl_mode_lanes::Mode;
 use std::alloc::{AllocError, Global};
 use std::marker::Model;
 
-/// A list of at most so many nodes is read before the rows are.
+/// Where a thread holds at most so many nodes, its own list is read in place of the rows.
 const FEW: usize = 8;
 
 /// The lock tree over a number of classes, and what a number of threads hold in it.

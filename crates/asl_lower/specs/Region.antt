@@ -1,5 +1,5 @@
 -- Sections that are open, bare and inner functions, and where an instruction goes on (docs/SOURCE.md, "Templates"
--- and "Regions").
+-- and "Regions"). The type `Region` stands in specs/Regions.
 use Rattle.std.specs.Prelude.{◌≡◌, ◌≢◌, ℕ, suc, zero, ◌+◌, ◌-◌, ◌<◌, ◌≤◌, ◌⊎◌, Bool, true, false, ◌||◌, ◌==◌, nat_lt, if◌then◌else◌, IsTrue, List, [], ◌∷◌, Option, Some, option_map, take, slice_get, sum_by, count_by}
 use Rattle.asl_code.specs.declared.image.Function as entry
 use Rattle.asl_code.specs.declared.instr.Instr.{Instr}

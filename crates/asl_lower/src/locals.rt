@@ -10,7 +10,7 @@ use arrayvec::ArrayVec;
 use asl_syntax::Name;
 use asl_syntax::tree::{Statement, Value};
 
-/// There are 64 locals already.
+/// The function would have more than 64 registers.
 #[derive(Clone, Copy)]
 pub struct TooMany;
 

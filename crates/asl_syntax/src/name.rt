@@ -26,9 +26,6 @@ impl Model for Name {
 }
 
 impl Name {
-    /// The most bytes that a name has.
-    pub const MOST: usize = 64;
-
     /// The name of these bytes, which are not too many.
     pub fn from_slice(bytes: &[u8]) -> Name
         requires { length bytes.now ≤ 64 }

@@ -14,7 +14,7 @@ use Rattle.asl_tool.specs.declared.command.CommandFault.{CommandFault}
 use Rattle.asl_tool.specs.declared.command.CommandFault.TheVariants as fault
 use Rattle.asl_tool.specs.Command.{IsOutput, IsRefused}
 
--- memory ran out, wherever: that says nothing of the input
+-- memory ran out, wherever: that is no outcome of the input
 abbrev pub IsWantOfMemory : CommandFault → Type 0
 IsWantOfMemory (fault.Program (program.Text asm.OutOfMemory)) = Unit {0}
 IsWantOfMemory (fault.Program (program.Image load.OutOfMemory)) = Unit {0}

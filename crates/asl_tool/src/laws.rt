@@ -8,8 +8,8 @@ ghost use Rattle.asl_tool.specs.RunFile.{RunOfSpellingIsOne, SpellingOfRunIsOne,
 use asl_assembler::laws::texts_have_one_outcome;
 use asl_loader::laws::bytes_have_one_outcome;
 
-/// A command has exactly one outcome for the bytes of an input: one output, or one refusal. Want of memory says nothing of
-/// them. `compile` is left out: where several regions need too many locks, it names any of them.
+/// A command has exactly one outcome for the bytes of an input: one output, or one refusal. Want of memory is none. `compile`
+/// is left out: where several regions need too many locks, it names any of them.
 pub fn commands_have_one_outcome()
     ensures some { (command : Command) (input : List ℕ) → IsSettled command → All (λ b. b < 256) input
         → (outcome : Result (List ℕ) CommandFault) × IsOutcome command input outcome }

@@ -124,7 +124,7 @@ pub const STEP: Page = Page {
         \u{20} Magic .. Trailing(n)  the first thing that is wrong with an image: asl dis --help\n\
         \u{20} Verify(RULE)          the program breaks a rule of docs/LIMITS.md\n\
         \u{20} BadCount              the number of threads is 0, or above 64 for version 1 or 128 for version 2\n\
-        \u{20} BadThread             a step is of a thread that is not there\n\
+        \u{20} BadThread             one of the first 16777216 steps is of a thread that is not there\n\
         \u{20} JournalFull           there are more than 16777216 steps\n\
         \u{20} Write                 standard output failed; a part of the output may have been written\n\
         \u{20} OutOfMemory           memory ran out\n\
