@@ -2,6 +2,7 @@ pub mod Eight
 pub mod Fields
 pub mod Images
 pub mod Items
+pub mod Lists
 pub mod Loads
 pub mod Loop
 pub mod Outcomes

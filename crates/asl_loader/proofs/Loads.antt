@@ -1,16 +1,18 @@
 -- What the reader of all the bytes answers is the image that they spell, or the first thing that is wrong with them.
-use Rattle.std.proofs.Common.{◌≡◌, ◌≢◌, ℕ, Bool, true, false, eqb, ◌⊎◌, inl, inr, List, Result, Ok, Err, refl, sym, subst, ◌∙◌}
+use Rattle.std.proofs.Common.{◌≡◌, ◌≢◌, ℕ, Bool, true, false, eqb, inl, inr, List, Result, Ok, Err, refl, sym, subst, ◌∙◌}
 use Rattle.std.proofs.lemmas.Bool.{eqb-true}
 use Rattle.asl_code.specs.declared.fault.VerifyFault.{VerifyFault}
+use Rattle.asl_code.specs.declared.fault.VerifyFault.TheVariants.{Limit}
 use Rattle.asl_code.specs.declared.image.Image.{Image}
 use Rattle.asl_code.specs.Verified.{applies, IsAnswer, IsVerified}
 use Rattle.asl_loader.specs.Bytes.{image_fields, IsImage, SpellsImage}
-use Rattle.asl_loader.specs.Faults.{IsBadImageByte, IsFault}
-use Rattle.asl_loader.specs.Reading.{image_at, bad_fault, whole_of}
+use Rattle.asl_loader.specs.Faults.{are_short, IsBadImageByte, IsFault}
+use Rattle.asl_loader.specs.Reading.{Answers, image_at, bad_fault, whole_of}
 use Rattle.asl_loader.specs.declared.fault.LoadFault.{LoadFault}
-use Rattle.asl_loader.specs.declared.fault.LoadFault.TheVariants.{Truncated, Trailing, OutOfMemory}
+use Rattle.asl_loader.specs.declared.fault.LoadFault.TheVariants.{Truncated, Trailing, Verify, OutOfMemory}
 use Rattle.asl_code.proofs.Values.{AreBytes}
 use Rattle.asl_loader.proofs.Images.{image_reads}
+use Rattle.asl_loader.proofs.Lists.{verified_short, long_is_answer}
 use Rattle.asl_loader.proofs.Whole as whole
 use Rattle.asl_loader.proofs.Whole.{IsWrong}
 
@@ -59,36 +61,49 @@ refused_again bytes f fit wrong = whole.refused_again Image LoadFault IsImage im
 
 -- ---- the clauses of load
 
--- what the reader of all the bytes answered
-abbrev pub IsWhole : List ℕ → Result Image LoadFault → Type 0
-IsWhole bytes r = ((r ≡ Err OutOfMemory) × ((i : Image) × (whole_of bytes ≡ Ok i))) ⊎ (r ≡ whole_of bytes)
+pub found_is : (bytes : List ℕ) (i : Image) → AreBytes bytes → Answers (Ok i) (whole_of bytes) → SpellsImage i bytes
+found_is bytes i fit w =
+    elim w [
+      | inl e ↦ whole_found bytes i fit (sym e)
+      | inr (inl long) ↦ let both : answered i ≡ refused (Verify Limit) = long.0 in absurd cc
+      | inr (inr out) ↦ let both : answered i ≡ refused OutOfMemory = out.0 in absurd cc
+    ]
 
-pub found_is : (bytes : List ℕ) (i : Image) → AreBytes bytes → IsWhole bytes (Ok i) → SpellsImage i bytes
-found_is bytes i fit w = elim w [ inl out ↦ let both : answered i ≡ refused OutOfMemory = out.0 in absurd cc | inr e ↦ whole_found bytes i fit (sym e) ]
-
-pub refused_is : (bytes : List ℕ) (f : LoadFault) → AreBytes bytes → IsWhole bytes (Err f) → IsFault bytes f
+pub refused_is : (bytes : List ℕ) (f : LoadFault) → AreBytes bytes → Answers (Err f) (whole_of bytes) → IsFault bytes f
 refused_is bytes f fit w =
     elim w [
-      | inl out ↦
+      | inl e ↦ (whole_refused bytes f fit (sym e)).0
+      | inr (inl long) ↦
+          let both : refused f ≡ refused (Verify Limit) = long.0 in
+          let same : Verify Limit ≡ f = cc in
+          subst (IsFault bytes) same (long.1.0, whole_found bytes long.1.0 fit long.1.1, long_is_answer long.1.0 long.1.2)
+      | inr (inr out) ↦
           let both : refused f ≡ refused OutOfMemory = out.0 in
           let same : OutOfMemory ≡ f = cc in
-          subst (IsFault bytes) same (out.1.0, whole_found bytes out.1.0 fit out.1.1)
-      | inr e ↦ (whole_refused bytes f fit (sym e)).0
+          subst (IsFault bytes) same (out.1.0, whole_found bytes out.1.0 fit out.1.1, out.1.2)
     ]
 
 -- the image that is spelled is the one that was read
-pub only_is : (bytes : List ℕ) (i j : Image) → IsWhole bytes (Ok i) → SpellsImage j bytes → i ≡ j
+pub only_is : (bytes : List ℕ) (i j : Image) → Answers (Ok i) (whole_of bytes) → SpellsImage j bytes → i ≡ j
 only_is bytes i j w s =
     elim w [
-      | inl out ↦ let both : answered i ≡ refused OutOfMemory = out.0 in absurd cc
-      | inr e ↦ let both : answered i ≡ answered j = e ∙ whole_again bytes j s in cc
+      | inl e ↦ let both : answered i ≡ answered j = e ∙ whole_again bytes j s in cc
+      | inr (inl long) ↦ let both : answered i ≡ refused (Verify Limit) = long.0 in absurd cc
+      | inr (inr out) ↦ let both : answered i ≡ refused OutOfMemory = out.0 in absurd cc
     ]
 
-pub only_memory : (bytes : List ℕ) (f : LoadFault) (j : Image) → IsWhole bytes (Err f) → SpellsImage j bytes → f ≡ OutOfMemory
-only_memory bytes f j w s =
+-- a program is refused for want of memory alone
+pub only_memory : (bytes : List ℕ) (f : LoadFault) (j : Image) → Answers (Err f) (whole_of bytes) → SpellsImage j bytes → IsVerified j → f ≡ OutOfMemory
+only_memory bytes f j w s verified =
     elim w [
-      | inl out ↦ let both : refused f ≡ refused OutOfMemory = out.0 in cc
-      | inr e ↦ let both : refused f ≡ answered j = e ∙ whole_again bytes j s in absurd cc
+      | inl e ↦ let both : refused f ≡ answered j = e ∙ whole_again bytes j s in absurd cc
+      | inr (inl long) ↦
+          let both : answered long.1.0 ≡ answered j = sym long.1.1 ∙ whole_again bytes j s in
+          let same : long.1.0 ≡ j = cc in
+          let some : are_short j.lists ≡ false = subst (λ (i : Image). are_short i.lists ≡ false) same long.1.2 in
+          let none = verified_short j verified in
+          absurd cc
+      | inr (inr out) ↦ let both : refused f ≡ refused OutOfMemory = out.0 in cc
     ]
 
 -- no fault applies to a verified image

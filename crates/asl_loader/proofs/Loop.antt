@@ -1,8 +1,10 @@
 -- Reading items one after the other, as a loop does.
-use Rattle.std.proofs.Common.{◌≡◌, ℕ, suc, ◌-◌, ◌+◌, ◌≤◌, ◌<◌, List, [], ◌∷◌, ◌++◌, Option, Some, Result, Ok, Err, refl, sym, ap, ◌∙◌, append_assoc, arith}
+use Rattle.std.proofs.Common.{◌≡◌, ℕ, zero, suc, ◌-◌, ◌+◌, ◌≤◌, ◌<◌, Bool, List, [], ◌∷◌, ◌++◌, length, Option, Some, Result, Ok, Err, refl, sym, ap, ◌∙◌, append_assoc, arith}
 use Rattle.std.proofs.lemmas.List.{append-nil}
+use Rattle.asl_loader.specs.declared.fault.Lost.{Lost}
 use Rattle.asl_loader.specs.declared.fault.Stop.{Stop}
-use Rattle.asl_loader.specs.Reading.{◌>>=◌, IsKept, items_at}
+use Rattle.asl_loader.specs.Reading.{◌>>=◌, IsKept, IsHeld, items_at}
+use Rattle.asl_loader.proofs.Reader.{bind_ok, ok_is}
 
 -- what was read before, and what is still read
 abbrev pub with_front : {X : Type 0} → List X → Result (List X × List ℕ) Stop → Result (List X × List ℕ) Stop
@@ -68,3 +70,44 @@ module _ (X : Type 0) (item : List ℕ → Result (X × List ℕ) Stop) where
   pub kept_ends : (f : Stop) (kept : Option (List X)) (count i : ℕ) (bytes : List ℕ) (total : Result (List X × List ℕ) Stop)
       → Kept X item kept count i bytes total → i < count → item bytes ≡ Err f → total ≡ Err f
   kept_ends f kept count i bytes total k lt h = ends X item f k.front count i bytes total lt h k.so_far
+
+-- what was read before, short or not, of which so much is kept, and what is still read
+pub record Held (X : Type 0) (item : List ℕ → Result (X × List ℕ) Stop) (short : List X → Bool) (kept : Result (List X) Lost) (count i : ℕ) (bytes : List ℕ) (total : Result (List X × List ℕ) Stop) : Type 0 where
+  pub front : List X
+  pub is : IsHeld (short front) kept front
+  pub so_far : with_front front (items_at item (count - i) bytes) ≡ total
+
+module _ (X : Type 0) (item : List ℕ → Result (X × List ℕ) Stop) where
+  -- as many items as were asked for are read
+  pub so_many : (n : ℕ) (bytes : List ℕ) (xs : List X) (rest : List ℕ) → items_at item n bytes ≡ Ok (xs, rest) → length xs ≡ n
+  unfolding items_at
+  so_many zero bytes xs rest e = let pair : (xs, rest) ≡ ([], bytes) = cc in ap (λ (p : List X × List ℕ). length p.0) pair
+  so_many (suc n) bytes xs rest e =
+      let read : List X × List ℕ = (xs, rest) in
+      let first = bind_ok {A = X × List ℕ} {B = List X × List ℕ} (item bytes) (λ x. items_at item n x.1 >>= λ others. Ok (x.0 ∷ others.0, others.1)) read e in
+      let others = bind_ok {A = List X × List ℕ} {B = List X × List ℕ} (items_at item n first.0.1) (λ o. Ok (first.0.0 ∷ o.0, o.1)) read first.2 in
+      let same : (first.0.0 ∷ others.0.0, others.0.1) ≡ read = ok_is (first.0.0 ∷ others.0.0, others.0.1) read others.2 in
+      sym (ap (λ (p : List X × List ℕ). length p.0) same) ∙ ap (λ (m : ℕ). suc m) (so_many n first.0.1 others.0.0 others.0.1 others.1)
+
+  pub held_first : (short : List X → Bool) (kept : Result (List X) Lost) (count : ℕ) (bytes : List ℕ) → IsHeld (short []) kept [] → Held X item short kept count 0 bytes (items_at item count bytes)
+  held_first short kept count bytes none =
+      let all : count - 0 ≡ count = omega arith in
+      record { front = []; is = none; so_far = rw all (nothing_before (items_at item count bytes)) }
+
+  pub held_more : (short : List X → Bool) (kept more : Result (List X) Lost) (count i : ℕ) (bytes : List ℕ) (n : X) (after : List ℕ) (total : Result (List X × List ℕ) Stop)
+      → Held X item short kept count i bytes total → i < count → item bytes ≡ Ok (n, after)
+      → ((front : List X) → IsHeld (short front) kept front → IsHeld (short (front ++ n ∷ [])) more (front ++ n ∷ []))
+      → Held X item short more count (i + 1) after total
+  held_more short kept more count i bytes n after total k lt h push = record {
+    front = k.front ++ n ∷ [];
+    is = push k.front k.is;
+    so_far = goes_on X item k.front count i bytes n after total lt h k.so_far;
+  }
+
+  pub held_all : (short : List X → Bool) (kept : Result (List X) Lost) (count i : ℕ) (bytes : List ℕ) (total : Result (List X × List ℕ) Stop)
+      → Held X item short kept count i bytes total → count ≤ i → (whole : List X) × IsHeld (short whole) kept whole × (total ≡ Ok (whole, bytes))
+  held_all short kept count i bytes total k le = (k.front, k.is, is_done X item k.front count i bytes total le k.so_far)
+
+  pub held_ends : (f : Stop) (short : List X → Bool) (kept : Result (List X) Lost) (count i : ℕ) (bytes : List ℕ) (total : Result (List X × List ℕ) Stop)
+      → Held X item short kept count i bytes total → i < count → item bytes ≡ Err f → total ≡ Err f
+  held_ends f short kept count i bytes total k lt h = ends X item f k.front count i bytes total lt h k.so_far

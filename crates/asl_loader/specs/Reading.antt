@@ -1,8 +1,9 @@
 -- Machinery of the proofs, not of the promise to users: reading an image from front to back, to the first field that is
 -- cut or bad, computed (docs/BYTES.md, "Images"). The lemmas of proofs/ lead from here to the relations of specs/Bytes and
 -- specs/Faults, which the calls for images cite; those of src/parts, for crates with formats of their own, cite this file.
-use Rattle.std.specs.Prelude.{◌≡◌, ℕ, zero, suc, ◌-◌, Bool, nat_lt, ◌==◌, if◌then◌else◌, List, [], ◌∷◌, length, take, drop, Option, Some, None, Result, Ok, Err}
+use Rattle.std.specs.Prelude.{◌≡◌, ◌⊎◌, ℕ, zero, suc, ◌-◌, Bool, false, IsTrue, nat_lt, ◌==◌, if◌then◌else◌, List, [], ◌∷◌, length, take, drop, Option, Some, None, Result, Ok, Err}
 use Rattle.std.specs.Int.{Width, w16, w32, byte_len, from_be_bytes}
+use Rattle.asl_code.specs.declared.fault.VerifyFault.TheVariants.{Limit}
 use Rattle.asl_code.specs.declared.image.Function.{Function}
 use Rattle.asl_code.specs.declared.image.Image.{Image}
 use Rattle.asl_code.specs.declared.instr.Instr.{Instr}
@@ -16,8 +17,11 @@ use Rattle.asl_code.specs.declared.value.Effect.{Effect}
 use Rattle.asl_code.specs.declared.value.Effect.TheVariants.{Read, Write}
 use Rattle.asl_code.specs.Reading.{instr_of}
 use Rattle.asl_code.specs.Versions.{is_version}
+use Rattle.asl_loader.specs.Faults.{are_short}
 use Rattle.asl_loader.specs.declared.fault.LoadFault.{LoadFault}
-use Rattle.asl_loader.specs.declared.fault.LoadFault.TheVariants.{Magic, Version, Truncated, BadField, Trailing}
+use Rattle.asl_loader.specs.declared.fault.LoadFault.TheVariants.{Magic, Version, Truncated, BadField, Trailing, Verify, OutOfMemory}
+use Rattle.asl_loader.specs.declared.fault.Lost.{Lost}
+use Rattle.asl_loader.specs.declared.fault.Lost.TheVariants.{Long, Memory}
 use Rattle.asl_loader.specs.declared.fault.Stop.{Stop}
 use Rattle.asl_loader.specs.declared.fault.Stop.TheVariants.{Short, Bad}
 
@@ -41,6 +45,17 @@ IsKept (Some kept) x = kept ≡ x
 abbrev pub Keeps : {X Y : Type 0} → (X → Option Y) → (X → List ℕ) → Result X Stop → Result (Y × List ℕ) Stop → Type 0
 Keeps {Y = Y} kept rest (Ok x) read = (whole : Y) × IsKept (kept x) whole × (read ≡ Ok (whole, rest x))
 Keeps kept rest (Err stop) read = read ≡ Err stop
+
+-- what was kept of a thing that has lists, short or not: all of it where they are, unless memory was refused; else nothing
+abbrev pub IsHeld : {X : Type 0} → Bool → Result X Lost → X → Type 0
+IsHeld short (Ok kept) x = (kept ≡ x) × IsTrue short
+IsHeld short (Err Long) x = short ≡ false
+IsHeld short (Err Memory) x = IsTrue short
+
+-- what a function returned is what reading gives, of which it kept so much
+abbrev pub Holds : {X Y : Type 0} → (Y → Bool) → (X → Result Y Lost) → (X → List ℕ) → Result X Stop → Result (Y × List ℕ) Stop → Type 0
+Holds {Y = Y} short kept rest (Ok x) read = (whole : Y) × IsHeld (short whole) (kept x) whole × (read ≡ Ok (whole, rest x))
+Holds short kept rest (Err stop) read = read ≡ Err stop
 
 -- a byte
 unfoldable pub byte_at : List ℕ → Result (ℕ × List ℕ) Stop
@@ -194,3 +209,10 @@ bad_fault at = if at == 0 then Magic else if at == 4 then Version else BadField 
 -- the image of all the bytes
 unfoldable pub whole_of : List ℕ → Result Image LoadFault
 whole_of bytes = whole_from (λ n. Truncated n) bad_fault (λ n. Trailing n) (length bytes) (image_at bytes)
+
+-- What the reader of all the bytes returned is this answer; but an image may be lost, for its lists or for want of memory.
+abbrev pub Answers : Result Image LoadFault → Result Image LoadFault → Type 0
+Answers result answer =
+    (result ≡ answer)
+    ⊎ ((result ≡ Err (Verify Limit)) × ((image : Image) × (answer ≡ Ok image) × (are_short image.lists ≡ false)))
+    ⊎ ((result ≡ Err OutOfMemory) × ((image : Image) × (answer ≡ Ok image) × IsTrue (are_short image.lists)))

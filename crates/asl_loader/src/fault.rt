@@ -37,3 +37,12 @@ pub enum Stop {
     /// A field is bad, with so many bytes left from its first bad byte on.
     Bad(usize),
 }
+
+/// Why what was read of lists of locks was not kept.
+#[derive(Clone, Copy)]
+pub(crate) enum Lost {
+    /// There are more lists, or more locks in one, than a program of any version has.
+    Long,
+    /// Memory was refused.
+    Memory,
+}

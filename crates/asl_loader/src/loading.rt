@@ -1,15 +1,15 @@
 //! From bytes to a program: reading them to their end, then judging the image.
 
-ghost use Rattle.std.specs.Prelude.{◌≡◌, ◌⊎◌, IfOk, IfErr};
+ghost use Rattle.std.specs.Prelude.{◌≡◌, ◌⊎◌, Ok, IfOk, IfErr};
 ghost use Rattle.asl_code.specs.declared.image.Image.{Image};
 ghost use Rattle.asl_code.specs.Verified.{IsVerified};
 ghost use Rattle.asl_loader.specs.Bytes.{SpellsImage};
-ghost use Rattle.asl_loader.specs.Faults.{IsFault};
-ghost use Rattle.asl_loader.specs.Reading.{bad_fault, whole_of};
+ghost use Rattle.asl_loader.specs.Faults.{are_short, IsFault};
+ghost use Rattle.asl_loader.specs.Reading.{Answers, IsHeld, bad_fault, whole_of};
 
-use crate::fault::{LoadFault, Stop};
+use crate::fault::{LoadFault, Lost, Stop};
 use crate::reading::image_at;
-use asl_code::{Image, Program};
+use asl_code::{Image, Program, VerifyFault};
 use std::alloc::Global;
 
 /// The program that the bytes spell, all of them.
@@ -17,7 +17,7 @@ use std::alloc::Global;
 /// # Errors
 ///
 /// The first refusal from front to back, then that of the verifier; `OutOfMemory` where a growth was refused, and then the
-/// bytes spell an image.
+/// bytes spell an image with no more lists, and no more locks in one, than a program may have.
 pub fn load(alloc: Global, bytes: &[u8]) -> Result<Program, LoadFault>
     ensures found { IfOk result (λ program. SpellsImage program bytes.now) }
     ensures verified { IfOk result (λ program. IsVerified program) }
@@ -37,14 +37,24 @@ pub fn load(alloc: Global, bytes: &[u8]) -> Result<Program, LoadFault>
 /// The image of all the bytes, before it is judged.
 #[tactic(auto, unfolding(crate::specs::Reading::whole_of))]
 fn whole_of(alloc: Global, bytes: &[u8]) -> Result<Image, LoadFault>
-    ensures { ((result ≡ Err LoadFault.OutOfMemory) × ((image : Image) × (whole_of bytes.now ≡ Ok image)))
-        ⊎ (result ≡ whole_of bytes.now) }
+    ensures { Answers result (whole_of bytes.now) }
 {
     match image_at(alloc, bytes) {
-        Ok((image, [])) => image.ok_or(LoadFault::OutOfMemory),
+        Ok((image, [])) => or_fault(image),
         Ok((_image, rest)) => Err(LoadFault::Trailing(bytes.len() - rest.len())),
         Err(Stop::Short) => Err(LoadFault::Truncated(bytes.len())),
         Err(Stop::Bad(left)) => Err(bad_fault(bytes.len() - left)),
+    }
+}
+
+/// The image, or why it was not kept: the verifier names lists that are too long, or too many, before all else.
+fn or_fault(image: Result<Image, Lost>) -> Result<Image, LoadFault>
+    ensures { (whole : Image) → IsHeld (are_short whole.lists) image whole → Answers result (Ok whole) }
+{
+    match image {
+        Ok(image) => Ok(image),
+        Err(Lost::Long) => Err(LoadFault::Verify(VerifyFault::Limit)),
+        Err(Lost::Memory) => Err(LoadFault::OutOfMemory),
     }
 }
 

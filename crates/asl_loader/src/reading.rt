@@ -1,23 +1,30 @@
 //! Reading the fields of an image from the front of bytes. Where memory is refused the reading goes on and keeps nothing,
-//! so that want of memory hides nothing that is wrong with the bytes.
+//! so that want of memory hides nothing that is wrong with the bytes. It keeps no lists either where there are more of them,
+//! or more locks in one, than any program has, so that an image takes no more memory than a program's lists may.
 
-ghost use Rattle.std.specs.Prelude.{◌≡◌, ◌≤◌, ◌<◌, ℕ, List, [], ◌∷◌, ◌++◌, length, take};
+ghost use Rattle.std.specs.Prelude.{◌≡◌, ◌≤◌, ◌<◌, ℕ, Bool, ◌&&◌, List, [], ◌∷◌, ◌++◌, length, take};
 ghost use Rattle.std.specs.Int.{w16};
 ghost use Rattle.asl_code.specs.declared.image.Function.{Function};
 ghost use Rattle.asl_code.specs.declared.instr.Instr.{Instr};
 ghost use Rattle.asl_code.specs.declared.lock.Lock.{Lock};
 ghost use Rattle.asl_code.specs.declared.value.Effect.{Effect};
-ghost use Rattle.asl_loader.specs.Reading.{Gives, Keeps, IsKept, byte_at, number_at, instr_at};
+ghost use Rattle.asl_loader.specs.Faults.{is_short, are_short};
+ghost use Rattle.asl_loader.specs.Reading.{Gives, Keeps, Holds, IsKept, IsHeld, byte_at, number_at, instr_at};
 ghost use Rattle.asl_loader.specs.Reading.{function_at, op_at, items_at, counted_at, path_at, expr_at, lock_of};
 ghost use Rattle.asl_loader.specs.Reading.{lock_at, list_at, image_at};
 
-use crate::fault::Stop;
+use crate::fault::{Lost, Stop};
 use crate::parts::{below_at, byte_at, effect_at, letters_at, two_at, version_at, with_item};
-use asl_code::{Base, Effect, Expr, Function, Image, Instr, Items, Lock, Op, Path, get_instr};
+use asl_code::{
+    Base, Effect, Expr, Function, Image, Instr, Items, Lock, NEWEST_LIMITS, Op, Path, get_instr,
+};
 use std::alloc::Global;
 
 /// The four letters at the front of an image, as a number.
 const LETTERS: u32 = 0x4153_4c4d;
+
+/// The most lists of a program.
+const LISTS: usize = 1024;
 
 fn instr_at(bytes: &[u8]) -> Result<(Instr, &[u8]), Stop>
     ensures { Gives (λ x. (x.0, x.1.now)) result (instr_at bytes.now) }
@@ -168,47 +175,77 @@ fn code_of(alloc: Global, count: u16, bytes: &[u8]) -> Result<(Option<Items<Inst
     Ok((code, rest))
 }
 
-fn locks_of(alloc: Global, count: u16, bytes: &[u8]) -> Result<(Option<Items<Lock>>, &[u8]), Stop>
-    ensures { Keeps (λ x. x.0) (λ x. x.1.now) result (items_at lock_at count bytes.now) }
+/// The items with one more, as long as they are kept and there is memory for all.
+fn with_more<T: Drop>(kept: Result<Items<T>, Lost>, item: T) -> Result<Items<T>, Lost>
+    ensures { (short : Bool) (front : List T) → IsHeld short kept front → IsHeld short result (front ++ item ∷ []) }
 {
-    let mut locks = Some(Items::new(alloc));
+    match kept {
+        Ok(mut items) => match items.push(item) {
+            Ok(()) => Ok(items),
+            Err(_refused) => Err(Lost::Memory),
+        },
+        Err(lost) => Err(lost),
+    }
+}
+
+/// Nothing is kept where the locks are more than a program of any version has in a list.
+fn locks_of(
+    alloc: Global,
+    count: u16,
+    bytes: &[u8],
+) -> Result<(Result<Items<Lock>, Lost>, &[u8]), Stop>
+    ensures { Holds is_short (λ x. x.0) (λ x. x.1.now) result (items_at lock_at count bytes.now) }
+{
+    let mut locks = if usize::from(count) > NEWEST_LIMITS.locks {
+        Err(Lost::Long)
+    } else {
+        Ok(Items::new(alloc))
+    };
     let mut rest = bytes;
     for _ in 0..count {
         let (lock, after) = lock_at(rest)?;
-        locks = with_item(locks, lock);
+        locks = with_more(locks, lock);
         rest = after;
     }
     Ok((locks, rest))
 }
 
 #[tactic(auto, unfolding(crate::specs::Reading::list_at, crate::specs::Reading::counted_at))]
-fn list_at(alloc: Global, bytes: &[u8]) -> Result<(Option<Items<Lock>>, &[u8]), Stop>
-    ensures { Keeps (λ x. x.0) (λ x. x.1.now) result (list_at bytes.now) }
+fn list_at(alloc: Global, bytes: &[u8]) -> Result<(Result<Items<Lock>, Lost>, &[u8]), Stop>
+    ensures { Holds is_short (λ x. x.0) (λ x. x.1.now) result (list_at bytes.now) }
 {
     let (count, rest) = two_at(bytes)?;
     locks_of(alloc, count, rest)
 }
 
-/// The lists with one more, as long as there is memory for all.
+/// The lists with one more, as long as all are kept and there is memory for them.
 fn with_list(
-    kept: Option<Items<Items<Lock>>>,
-    list: Option<Items<Lock>>,
-) -> Option<Items<Items<Lock>>>
-    ensures { (front : List (List Lock)) (whole : List Lock) → IsKept kept front → IsKept list whole
-        → IsKept result (front ++ whole ∷ []) }
+    kept: Result<Items<Items<Lock>>, Lost>,
+    list: Result<Items<Lock>, Lost>,
+) -> Result<Items<Items<Lock>>, Lost>
+    ensures { (short one : Bool) (front : List (List Lock)) (whole : List Lock) → IsHeld short kept front → IsHeld one list whole
+        → IsHeld (short && one) result (front ++ whole ∷ []) }
 {
-    let list = list?;
-    with_item(kept, list)
+    match (kept, list) {
+        (Ok(lists), Ok(list)) => with_more(Ok(lists), list),
+        (Err(Lost::Long), _) | (_, Err(Lost::Long)) => Err(Lost::Long),
+        _ => Err(Lost::Memory),
+    }
 }
 
+/// Nothing is kept where the lists are more than a program has, or one of them is too long.
 fn lists_of(
     alloc: Global,
     count: u16,
     bytes: &[u8],
-) -> Result<(Option<Items<Items<Lock>>>, &[u8]), Stop>
-    ensures { Keeps (λ x. x.0) (λ x. x.1.now) result (items_at list_at count bytes.now) }
+) -> Result<(Result<Items<Items<Lock>>, Lost>, &[u8]), Stop>
+    ensures { Holds are_short (λ x. x.0) (λ x. x.1.now) result (items_at list_at count bytes.now) }
 {
-    let mut lists = Some(Items::new(alloc));
+    let mut lists = if usize::from(count) > LISTS {
+        Err(Lost::Long)
+    } else {
+        Ok(Items::new(alloc))
+    };
     let mut rest = bytes;
     for _ in 0..count {
         let (list, after) = list_at(alloc, rest)?;
@@ -220,8 +257,8 @@ fn lists_of(
 
 /// The image at the front of the bytes, and the bytes after it.
 #[tactic(auto, unfolding(crate::specs::Reading::image_at, crate::specs::Reading::counted_at))]
-pub(crate) fn image_at(alloc: Global, bytes: &[u8]) -> Result<(Option<Image>, &[u8]), Stop>
-    ensures { Keeps (λ x. x.0) (λ x. x.1.now) result (image_at bytes.now) }
+pub(crate) fn image_at(alloc: Global, bytes: &[u8]) -> Result<(Result<Image, Lost>, &[u8]), Stop>
+    ensures { Holds (λ image. are_short image.lists) (λ x. x.0) (λ x. x.1.now) result (image_at bytes.now) }
 {
     let (_letters, rest) = letters_at(LETTERS, bytes)?;
     let (version, rest) = version_at(rest)?;
@@ -239,7 +276,7 @@ pub(crate) fn image_at(alloc: Global, bytes: &[u8]) -> Result<(Option<Image>, &[
     Ok((image, rest))
 }
 
-/// The image of its parts, as long as each was kept.
+/// The image of its parts, as long as each was kept. Lists that are too long are told before want of memory.
 fn image_of(
     version: u16,
     classes: u16,
@@ -247,19 +284,23 @@ fn image_of(
     functions: Option<Items<Function>>,
     start: u16,
     code: Option<Items<Instr>>,
-    lists: Option<Items<Items<Lock>>>,
-) -> Option<Image>
+    lists: Result<Items<Items<Lock>>, Lost>,
+) -> Result<Image, Lost>
     ensures { (g : List ℕ) (f : List Function) (c : List Instr) (l : List (List Lock))
-        → IsKept globals g → IsKept functions f → IsKept code c → IsKept lists l
-        → IsKept result (record { version = version; classes = classes; globals = g; functions = f; start = start; code = c; lists = l }) }
+        → IsKept globals g → IsKept functions f → IsKept code c → IsHeld (are_short l) lists l
+        → IsHeld (are_short l) result (record { version = version; classes = classes; globals = g; functions = f; start = start; code = c; lists = l }) }
 {
-    Some(Image {
-        version: u32::from(version),
-        classes: u32::from(classes),
-        globals: globals?,
-        functions: functions?,
-        start,
-        code: code?,
-        lists: lists?,
-    })
+    match (lists, globals, functions, code) {
+        (Ok(lists), Some(globals), Some(functions), Some(code)) => Ok(Image {
+            version: u32::from(version),
+            classes: u32::from(classes),
+            globals,
+            functions,
+            start,
+            code,
+            lists,
+        }),
+        (Err(lost), ..) => Err(lost),
+        _ => Err(Lost::Memory),
+    }
 }

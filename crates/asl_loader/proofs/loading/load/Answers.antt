@@ -6,7 +6,7 @@ use Rattle.asl_loader.proofs.loading.load.Goals as goal
 pub returns-in_err-image-clause-only : goal.returns-in_err-image-clause-only
 returns-in_err-image-clause-only c i s v =
     let p = err_from_is_err_and c.from_residual.result c.from_residual.ensures.1 in
-    let out = only_memory c.args.bytes.now c.in_err-image.field-0.0 i c.in_err-image.ensures s in
+    let out = only_memory c.args.bytes.now c.in_err-image.field-0.0 i c.in_err-image.ensures s v in
     inr (rw (p.1, p.2, out) refl)
 
 pub returns-in_err-image-clause-refused : goal.returns-in_err-image-clause-refused

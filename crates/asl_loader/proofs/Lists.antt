@@ -1,0 +1,112 @@
+-- Lists that are too long, or too many: what is kept of them while they are read, and that they break a limit.
+use Rattle.std.proofs.Common.{◌≡◌, ℕ, ◌≤◌, inl, inr, Bool, true, false, nat_le, ◌&&◌, List, [], ◌∷◌, ◌++◌, length, Option, Some, None, Result, Ok, refl, sym, ap, subst, ◌∙◌, arith}
+use Rattle.std.specs.List.{list_all}
+use Rattle.std.proofs.lemmas.Bool.{le-leb, leb-true, and_from, and_parts}
+use Rattle.std.proofs.lemmas.List.Folds.{list_all-append}
+use Rattle.asl_code.specs.declared.fault.VerifyFault.{VerifyFault}
+use Rattle.asl_code.specs.declared.fault.VerifyFault.TheVariants as cause
+use Rattle.asl_code.specs.declared.image.Image.{Image}
+use Rattle.asl_code.specs.declared.limits.Limits.{Limits}
+use Rattle.asl_code.specs.declared.lock.Lock.{Lock}
+use Rattle.asl_code.specs.Verified.{applies, keeps_limits, keeps_counts, keeps_list_limit, IsAnswer, IsVerified, ComesFirst}
+use Rattle.asl_code.specs.Versions.{newest_locks, limits_of}
+use Rattle.asl_code.proofs.Versions.{locks_set, few_locks}
+use Rattle.asl_loader.specs.Faults.{is_short, are_short}
+use Rattle.asl_loader.specs.Reading.{IsHeld, items_at, list_at, lock_at}
+use Rattle.asl_loader.specs.declared.fault.Lost.{Lost}
+use Rattle.asl_loader.proofs.Loop.{Held, so_many, held_all}
+
+-- a list of so many locks is short, or not
+abbrev pub of_count : ℕ → List Lock → Bool
+of_count count locks = nat_le count newest_locks
+
+-- so many lists are, with those that were read
+abbrev pub of_lists : ℕ → List (List Lock) → Bool
+of_lists count lists = nat_le count 1024 && list_all is_short lists
+
+-- ---- reading them
+
+-- with one list more they are short where it is, and they were before
+pub more_lists : (count : ℕ) (more : Result (List (List Lock)) Lost) (front : List (List Lock)) (whole : List Lock)
+    → IsHeld (of_lists count front && is_short whole) more (front ++ whole ∷ []) → IsHeld (of_lists count (front ++ whole ∷ [])) more (front ++ whole ∷ [])
+more_lists count more front whole h =
+    let few = nat_le count 1024 in
+    let each : list_all is_short (front ++ whole ∷ []) ≡ list_all is_short front && (is_short whole && true) = list_all-append is_short front (whole ∷ []) in
+    let same : of_lists count front && is_short whole ≡ of_lists count (front ++ whole ∷ []) = grown few (list_all is_short front) (is_short whole) ∙ ap (λ (b : Bool). few && b) (sym each) in
+    subst (λ (b : Bool). IsHeld b more (front ++ whole ∷ [])) same h
+  where
+    grown : (few all one : Bool) → few && all && one ≡ few && (all && (one && true))
+    grown true true true = refl
+    grown true true false = refl
+    grown true false one = refl
+    grown false all one = refl
+
+pub locks_read : (kept : Result (List Lock) Lost) (count i : ℕ) (bytes rest : List ℕ) → Held Lock lock_at (of_count count) kept count i rest (items_at lock_at count bytes) → count ≤ i
+    → (whole : List Lock) × IsHeld (is_short whole) kept whole × (items_at lock_at count bytes ≡ Ok (whole, rest))
+locks_read kept count i bytes rest k le =
+    let all = held_all Lock lock_at (of_count count) kept count i rest (items_at lock_at count bytes) k le in
+    let many = so_many Lock lock_at count bytes all.0 rest all.2 in
+    (all.0, subst (λ (n : ℕ). IsHeld (nat_le n newest_locks) kept all.0) (sym many) all.1, all.2)
+
+pub lists_read : (kept : Result (List (List Lock)) Lost) (count i : ℕ) (bytes rest : List ℕ) → Held (List Lock) list_at (of_lists count) kept count i rest (items_at list_at count bytes) → count ≤ i
+    → (whole : List (List Lock)) × IsHeld (are_short whole) kept whole × (items_at list_at count bytes ≡ Ok (whole, rest))
+lists_read kept count i bytes rest k le =
+    let all = held_all (List Lock) list_at (of_lists count) kept count i rest (items_at list_at count bytes) k le in
+    let many = so_many (List Lock) list_at count bytes all.0 rest all.2 in
+    (all.0, subst (λ (n : ℕ). IsHeld (nat_le n 1024 && list_all is_short all.0) kept all.0) (sym many) all.1, all.2)
+
+-- ---- what the verifier says of them
+
+-- limits that are kept leave the lists short
+limited : (limits : Limits) → limits.locks ≤ newest_locks → (lists : List (List Lock)) → list_all (keeps_list_limit limits) lists ≡ true → list_all is_short lists ≡ true
+limited limits few [] h = refl
+limited limits few (locks ∷ lists) h =
+    let both = and_parts (nat_le (length locks) limits.locks) (list_all (keeps_list_limit limits) lists) h in
+    and_from (is_short locks) (list_all is_short lists) (le-leb (length locks) newest_locks (omega (arith, few, leb-true (length locks) limits.locks both.0))) (limited limits few lists both.1)
+
+kept_short : (i : Image) → keeps_limits i ≡ true → are_short i.lists ≡ true
+kept_short i kept = by_limits (limits_of i.version) refl
+  where
+    by_limits : (o : Option Limits) → limits_of i.version ≡ o → are_short i.lists ≡ true
+    by_limits None e = let no : keeps_limits i ≡ false = rw e refl in absurd cc
+    by_limits (Some limits) e =
+        let locks : limits.locks ≤ newest_locks = omega (arith, locks_set i.version limits e, few_locks i.version) in
+        let same : keeps_limits i ≡ keeps_counts limits i = rw e refl in
+        let last = and_parts _ _ (sym same ∙ kept) in
+        let each = and_parts _ _ last.0 in
+        let few = and_parts _ _ each.0 in
+        and_from _ _ few.1 (limited limits locks i.lists last.1)
+
+-- lists that are not short break a limit
+over : (i : Image) → are_short i.lists ≡ false → keeps_limits i ≡ false
+over i long = by_kept (keeps_limits i) refl
+  where
+    by_kept : (b : Bool) → keeps_limits i ≡ b → keeps_limits i ≡ false
+    by_kept false e = e
+    by_kept true e = let short = kept_short i e in absurd cc
+
+-- a program's lists are short
+pub verified_short : (i : Image) → IsVerified i → are_short i.lists ≡ true
+verified_short i verified = by_kept (keeps_limits i) refl
+  where
+    by_kept : (b : Bool) → keeps_limits i ≡ b → are_short i.lists ≡ true
+    by_kept true e = kept_short i e
+    by_kept false e =
+        let broken : applies i cause.Limit ≡ true = rw e refl in
+        let whole : applies i cause.Limit ≡ false = verified cause.Limit in
+        absurd cc
+
+-- the verifier names such lists before all else
+pub long_is_answer : (i : Image) → are_short i.lists ≡ false → IsAnswer i cause.Limit
+long_is_answer i long = record { holds = rw (over i long) refl; least = λ other is. comes other }
+  where
+    comes : (other : VerifyFault) → ComesFirst cause.Limit other
+    comes cause.Limit = inr (refl, omega arith)
+    comes cause.Table = inl (omega arith)
+    comes cause.NoEntry = inl (omega arith)
+    comes cause.FunctionRange = inl (omega arith)
+    comes cause.FallsOut = inl (omega arith)
+    comes (cause.Target pc) = inl (omega arith)
+    comes (cause.Register pc) = inl (omega arith)
+    comes (cause.Operand pc) = inl (omega arith)
+    comes (cause.ListBase pc) = inl (omega arith)
