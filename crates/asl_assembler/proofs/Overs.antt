@@ -1,5 +1,5 @@
--- More locks in a list, or more lists, than a program has: that stays so however the text goes on, and breaks a limit.
-use Rattle.std.proofs.Common.{◌≡◌, ℕ, ◌+◌, ◌<◌, ◌⊎◌, true, false, List, [], ◌∷◌, ◌++◌, length, Option, Some, None, Result, Ok, Err, refl, sym, ap, ◌∙◌, inl, inr, arith, nat_lt, nat_le, Bool, ◌≤◌}
+-- More of something than a program has: that stays so however the text goes on, and breaks a limit.
+use Rattle.std.proofs.Common.{◌≡◌, ℕ, ◌+◌, ◌<◌, true, false, List, [], ◌∷◌, ◌++◌, length, Option, Some, None, Result, Ok, Err, refl, sym, ap, ◌∙◌, inl, inr, arith, nat_le, Bool, ◌≤◌}
 use Rattle.std.specs.List.{list_all}
 use Rattle.std.proofs.lemmas.Bool.{lt-leb, le-leb, leb-true, ltb-true, and_from, and_parts, or_cases}
 use Rattle.std.proofs.Math.Bool.{and-false}
@@ -8,6 +8,7 @@ use Rattle.std.proofs.lemmas.List.Folds.{list_all-append}
 use Rattle.asl_code.specs.declared.fault.VerifyFault.{VerifyFault}
 use Rattle.asl_code.specs.declared.fault.VerifyFault.TheVariants as cause
 use Rattle.asl_code.specs.declared.image.Image.{Image}
+use Rattle.asl_code.specs.declared.image.Function.{Function}
 use Rattle.asl_code.specs.declared.lock.Lock.{Lock}
 use Rattle.asl_code.specs.Versions.{newest_locks}
 use Rattle.asl_code.specs.Verified.{keeps_limits, keeps_counts, keeps_list_limit, IsAnswer, ComesFirst}
@@ -27,30 +28,55 @@ use Rattle.asl_assembler.proofs.Texts.{image_spelled, one_image, bad_line, not_b
 is_short : List Lock → Bool
 is_short locks = nat_le (length locks) newest_locks
 
--- there are too many lists, or too many locks in one
-abbrev Long : Image → Type 0
-Long i = (1024 < length i.lists) ⊎ (list_all is_short i.lists ≡ false)
+-- there are too many locks in the list that is open; or globals, functions, instructions or lists; or locks in one of the lists
+data TooMany (locks globals functions instrs : ℕ) (lists : List (List Lock)) : Type 0 where
+  of_open : newest_locks < locks → TooMany locks globals functions instrs lists
+  of_globals : 1024 < globals → TooMany locks globals functions instrs lists
+  of_functions : 256 < functions → TooMany locks globals functions instrs lists
+  of_instrs : 65535 < instrs → TooMany locks globals functions instrs lists
+  of_lists : 1024 < length lists → TooMany locks globals functions instrs lists
+  of_locks : list_all is_short lists ≡ false → TooMany locks globals functions instrs lists
 
--- the same, or there are too many locks in the list that is open
 abbrev Over : Place → Image → Type 0
-Over p i = (newest_locks < length (open_locks p)) ⊎ Long i
+Over p i = TooMany (length (open_locks p)) (length i.globals) (length i.functions) (length i.code) i.lists
+
+-- the same where no list is open
+abbrev Long : Image → Type 0
+Long i = Over place.Functions i
 
 abbrev OnState : Option State → Type 0
 OnState None = Unit {0}
 OnState (Some s) = Over s.0 s.1
 
-longer : (locks : List Lock) (l : Lock) (i : Image) → Over (place.Locks locks) i → Over (place.Locks (locks ++ l ∷ [])) i
-longer locks l i (inl many) = inl (omega (arith, many, length_push locks l))
-longer locks l i (inr long) = inr long
+-- where there are too many, there are so with more
+grows : {o p g h f k c d : ℕ} {lists : List (List Lock)} → o ≤ p → g ≤ h → f ≤ k → c ≤ d → TooMany o g f c lists → TooMany p h k d lists
+grows locks globals functions instrs (of_open many) = of_open (omega arith)
+grows locks globals functions instrs (of_globals many) = of_globals (omega arith)
+grows locks globals functions instrs (of_functions many) = of_functions (omega arith)
+grows locks globals functions instrs (of_instrs many) = of_instrs (omega arith)
+grows locks globals functions instrs (of_lists many) = of_lists many
+grows locks globals functions instrs (of_locks long) = of_locks long
+
+as_many : {n : ℕ} → n ≤ n
+as_many = omega arith
+
+one_more : {X : Type 0} (xs : List X) (x : X) → length xs ≤ length (xs ++ x ∷ [])
+one_more xs x = omega (arith, length_push xs x)
+
+more_functions : (f : Function) (i : Image) → Long i → Long (with_function i f)
+more_functions f i h = grows as_many as_many (one_more i.functions f) as_many h
 
 closes : (locks : List Lock) (i : Image) → Over (place.Locks locks) i → Long (with_list i locks)
 unfolding is_short
-closes locks i (inl many) =
+closes locks i (of_open many) =
     let long : is_short locks ≡ false = lt-leb _ _ many in
     let last : list_all is_short (locks ∷ []) ≡ false = rw long refl in
-    inr (list_all-append is_short i.lists (locks ∷ []) ∙ rw last (and-false _))
-closes locks i (inr (inl many)) = inl (omega (arith, many, length_push i.lists locks))
-closes locks i (inr (inr long)) = inr (list_all-append is_short i.lists (locks ∷ []) ∙ rw long refl)
+    of_locks (list_all-append is_short i.lists (locks ∷ []) ∙ rw last (and-false _))
+closes locks i (of_globals many) = of_globals many
+closes locks i (of_functions many) = of_functions many
+closes locks i (of_instrs many) = of_instrs many
+closes locks i (of_lists many) = of_lists (omega (arith, many, length_push i.lists locks))
+closes locks i (of_locks long) = of_locks (list_all-append is_short i.lists (locks ∷ []) ∙ rw long refl)
 
 next_over : (p : Place) (m : Line) (i : Image) → Over p i → OnState (next p m i)
 unfolding next
@@ -72,7 +98,7 @@ next_over place.Classes line.List i h = tt
 next_over place.Classes (line.Lock l) i h = tt
 next_over place.Globals (line.Version v) i h = tt
 next_over place.Globals (line.Classes n) i h = tt
-next_over place.Globals (line.Global c) i h = h
+next_over place.Globals (line.Global c) i h = grows as_many (one_more i.globals c) as_many as_many h
 next_over place.Globals (line.Entry e) i h = h
 next_over place.Globals (line.Function params regs) i h = tt
 next_over place.Globals (line.Instruction x) i h = tt
@@ -90,9 +116,9 @@ next_over (place.Body f) (line.Version v) i h = tt
 next_over (place.Body f) (line.Classes n) i h = tt
 next_over (place.Body f) (line.Global c) i h = tt
 next_over (place.Body f) (line.Entry e) i h = tt
-next_over (place.Body f) (line.Function params regs) i h = h
-next_over (place.Body f) (line.Instruction x) i h = h
-next_over (place.Body f) line.List i h = h
+next_over (place.Body f) (line.Function params regs) i h = more_functions f i h
+next_over (place.Body f) (line.Instruction x) i h = grows as_many as_many as_many (one_more i.code x) h
+next_over (place.Body f) line.List i h = more_functions f i h
 next_over (place.Body f) (line.Lock l) i h = tt
 next_over (place.Locks locks) (line.Version v) i h = tt
 next_over (place.Locks locks) (line.Classes n) i h = tt
@@ -100,8 +126,8 @@ next_over (place.Locks locks) (line.Global c) i h = tt
 next_over (place.Locks locks) (line.Entry e) i h = tt
 next_over (place.Locks locks) (line.Function params regs) i h = tt
 next_over (place.Locks locks) (line.Instruction x) i h = tt
-next_over (place.Locks locks) line.List i h = inr (closes locks i h)
-next_over (place.Locks locks) (line.Lock l) i h = longer locks l i h
+next_over (place.Locks locks) line.List i h = closes locks i h
+next_over (place.Locks locks) (line.Lock l) i h = grows (one_more locks l) as_many as_many as_many h
 
 meant_over : (p : Place) (i : Image) (m : Option Line) → Over p i → OnState (m >>= λ l. next p l i)
 meant_over p i None h = tt
@@ -126,8 +152,12 @@ breaks i long = by_limits (limits_of i.version) refl
         and_from _ _ (le-leb _ _ (omega (arith, few, leb-true _ _ both.0))) (shorter limits few lists both.1)
 
     counts : (limits : Limits) → limits.locks ≤ newest_locks → Long i → keeps_counts limits i ≡ false
-    counts limits few (inl many) = rw (lt-leb (length i.lists) 1024 many) (rw (and-false _) refl)
-    counts limits few (inr some) = by_lists (list_all (keeps_list_limit limits) i.lists) refl
+    counts limits few (of_open many) = absurd (omega (arith, many))
+    counts limits few (of_globals many) = rw (lt-leb (length i.globals) 1024 many) (rw (and-false _) refl)
+    counts limits few (of_functions many) = rw (lt-leb (length i.functions) 256 many) (rw (and-false _) refl)
+    counts limits few (of_instrs many) = rw (lt-leb (length i.code) 65535 many) (rw (and-false _) refl)
+    counts limits few (of_lists many) = rw (lt-leb (length i.lists) 1024 many) (rw (and-false _) refl)
+    counts limits few (of_locks some) = by_lists (list_all (keeps_list_limit limits) i.lists) refl
       where
         by_lists : (b : Bool) → list_all (keeps_list_limit limits) i.lists ≡ b → keeps_counts limits i ≡ false
         by_lists false e = rw e (and-false _)
@@ -142,10 +172,8 @@ unfolding finished
 ends_over place.Version i j n h e = absurd cc
 ends_over place.Classes i j n h e = absurd cc
 ends_over place.Globals i j n h e = absurd cc
-ends_over place.Functions i j n (inl many) e = absurd (omega (arith, many))
-ends_over place.Functions i j n (inr long) e = let same : i ≡ j = cc in rw (sym same) (breaks i long)
-ends_over (place.Body f) i j n (inl many) e = absurd (omega (arith, many))
-ends_over (place.Body f) i j n (inr long) e = let same : with_function i f ≡ j = cc in rw (sym same) (breaks (with_function i f) long)
+ends_over place.Functions i j n h e = let same : i ≡ j = cc in rw (sym same) (breaks i h)
+ends_over (place.Body f) i j n h e = let same : with_function i f ≡ j = cc in rw (sym same) (breaks (with_function i f) (more_functions f i h))
 ends_over (place.Locks locks) i j n h e = let same : with_list i locks ≡ j = cc in rw (sym same) (breaks (with_list i locks) (closes locks i h))
 
 stays_over : (n : ℕ) (p : Place) (i : Image) (ls : List (List ℕ)) (j : Image) → Over p i → image_from n p i ls ≡ Ok j → IsOver j
@@ -156,13 +184,24 @@ stays_over n p i (l ∷ ls) j h e = by_step (step_line p i l) refl (bytes_over p
     by_step None s on behind = let none : Err (n + 1) ≡ Ok j = rw s at e in absurd cc
     by_step (Some x) s on behind = behind x.0 x.1 on (rw s at e)
 
+too_many : (p : Place) (i : Image) → is_over p i ≡ true → Over p i
+too_many p i is = elim (or_cases _ _ is) [
+  | inr instrs ↦ of_instrs (ltb-true _ _ instrs)
+  | inl other ↦ elim (or_cases _ _ other) [
+    | inr functions ↦ of_functions (ltb-true _ _ functions)
+    | inl other ↦ elim (or_cases _ _ other) [
+      | inr globals ↦ of_globals (ltb-true _ _ globals)
+      | inl other ↦ elim (or_cases _ _ other) [
+        | inr lists ↦ of_lists (ltb-true _ _ lists)
+        | inl locks ↦ of_open (ltb-true _ _ locks)
+      ]
+    ]
+  ]
+]
+
 -- what follows cannot mend it
 pub over_limit : (n : ℕ) (p : Place) (i : Image) (ls : List (List ℕ)) (j : Image) → is_over p i ≡ true → image_from n p i ls ≡ Ok j → IsOver j
-over_limit n p i ls j is e = stays_over n p i ls j (by_parts (or_cases _ _ is)) e
-  where
-    by_parts : (nat_lt newest_locks (length (open_locks p)) ≡ true) ⊎ (nat_lt 1024 (length i.lists) ≡ true) → Over p i
-    by_parts (inl many) = inl (ltb-true _ _ many)
-    by_parts (inr many) = inr (inl (ltb-true _ _ many))
+over_limit n p i ls j is e = stays_over n p i ls j (too_many p i is) e
 
 -- the verifier names this limit first
 pub limit_first : (i : Image) → IsOver i → IsAnswer i cause.Limit

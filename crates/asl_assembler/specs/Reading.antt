@@ -335,9 +335,15 @@ abbrev pub open_locks : Place → List Lock
 open_locks (place.Locks locks) = locks
 open_locks _ = []
 
--- whether there are more locks in the open list, or more lists, than a program of any version has
+-- whether there are more locks in the open list, or more lists, globals, functions or instructions, than a program of any
+-- version has
 abbrev pub is_over : Place → Image → Bool
-is_over p i = nat_lt newest_locks (length (open_locks p)) || nat_lt 1024 (length i.lists)
+is_over p i =
+    nat_lt newest_locks (length (open_locks p))
+    || nat_lt 1024 (length i.lists)
+    || nat_lt 1024 (length i.globals)
+    || nat_lt 256 (length i.functions)
+    || nat_lt 65535 (length i.code)
 
 -- the image is over a limit
 abbrev pub IsOver : Image → Type 0

@@ -8,7 +8,14 @@ use crate::words::next_word;
 use asl_code::{Function, Image, Items, Lock, NEWEST_LIMITS};
 use std::alloc::{AllocError, Global};
 
-/// The most lists of an image that the verifier takes.
+// How many there may be of each part of an image: the verifier's numbers, which docs/LIMITS.md lists.
+/// The most globals.
+const GLOBALS: usize = 1024;
+/// The most functions.
+const FUNCTIONS: usize = 256;
+/// The most instructions.
+const CODE: usize = 65_535;
+/// The most lock lists.
 const LISTS: usize = 1024;
 
 /// Which line comes next, and what is open there.
@@ -174,7 +181,8 @@ pub(crate) fn close(place: Place, image: &mut Image) -> Result<bool, AllocError>
     Ok(true)
 }
 
-/// Whether there are more lists, or more locks in the open one, than a program of any version has, however the text goes on.
+/// Whether there are more locks in the open list, or more lists, globals, functions or instructions, than a program of any
+/// version has, however the text goes on. A list or a function is counted once it is closed, an instruction at once.
 pub(crate) fn is_over(place: &Place, image: &Image) -> bool
     ensures { result ≡ is_over place.now image.now }
 {
@@ -182,5 +190,9 @@ pub(crate) fn is_over(place: &Place, image: &Image) -> bool
         Place::Locks(locks) => locks.len(),
         _ => 0,
     };
-    open > NEWEST_LIMITS.locks || image.lists.len() > LISTS
+    open > NEWEST_LIMITS.locks
+        || image.lists.len() > LISTS
+        || image.globals.len() > GLOBALS
+        || image.functions.len() > FUNCTIONS
+        || image.code.len() > CODE
 }

@@ -15,7 +15,8 @@ use std::alloc::{AllocError, Global};
 pub(crate) enum ReadFault {
     /// The line of this number, from 1, is not as its place asks, or the text ends too early before it.
     Line(usize),
-    /// There are more locks in a list, or more lists, than any program has; what follows was not read.
+    /// There are more locks in a list, or more lists, globals, functions or instructions, than any program has; what follows
+    /// was not read.
     Over,
     /// Memory ran out.
     OutOfMemory,
@@ -44,8 +45,8 @@ fn blank(alloc: Global) -> Image
     }
 }
 
-/// The image that the text spells, or its first wrong line. A text that spells no program for the number of its locks or lists
-/// is not read to its end, so that no more of it is kept than a program may have.
+/// The image that the text spells, or its first wrong line. A text that spells no program for the number of its locks, lists,
+/// globals, functions or instructions is not read to its end, so that hardly more of it is kept than a program may have.
 pub(crate) fn read(alloc: Global, text: &[u8]) -> Result<Image, ReadFault>
     ensures { Answers result (image_from 0 Place.Version blank_image (lines_of text.now)) }
 {
