@@ -4,8 +4,7 @@ use Rattle.std.proofs.lemmas.Bool.{cond-true, cond-false, and_parts, and_from, a
 use Rattle.asl_grammar.specs.declared.token.Mark.{Mark}
 use Rattle.asl_grammar.specs.declared.token.Mark.TheVariants as mark
 use Rattle.asl_grammar.specs.Token.{Token, Fixed, Name, Number}
-use Rattle.asl_grammar.specs.Lex.{is_blank, is_digit, is_letter, is_name_byte, leading, word_of, word_or_name, equals_token, letters_token, digits_token, number_value, front, all_bytes, has_name_bytes, is_name}
-use Rattle.asl_grammar.specs.Reader.{IsAtToken}
+use Rattle.asl_grammar.specs.Lex.{is_blank, is_digit, is_letter, is_name_byte, leading, word_of, word_or_name, equals_token, letters_token, digits_token, number_value, front, all_bytes, has_name_bytes, is_name, IsAtToken}
 
 -- no token before these bytes goes on with them
 pub record Apart (bs : List ℕ) : Type 0 where

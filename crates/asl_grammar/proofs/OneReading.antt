@@ -3,9 +3,8 @@ use Rattle.std.proofs.Common.{◌≡◌, ℕ, zero, suc, ◌+◌, ◌<◌, ◌�
 use Rattle.std.proofs.lemmas.Bool.{cond-true, and_parts, ne_eqb}
 use Rattle.std.proofs.lemmas.List.{length-drop, take_all}
 use Rattle.asl_grammar.specs.Token.{Token, Spot}
-use Rattle.asl_grammar.specs.Lex.{is_blank, leading, front, spots, bad_from, tokens_of, bad_place, all_bytes}
+use Rattle.asl_grammar.specs.Lex.{is_blank, leading, front, spots, bad_from, tokens_of, bad_place, all_bytes, IsAtToken}
 use Rattle.asl_grammar.specs.Bytes.{IsLongest, BeginsWithNone, IsFront}
-use Rattle.asl_grammar.specs.Reader.{IsAtToken}
 use Rattle.asl_grammar.specs.Readings.{IsFirstToken, IsStop, IsEnd, IsReading}
 use Rattle.asl_grammar.proofs.Apart.{at_token_front}
 use Rattle.asl_grammar.proofs.Longest.{longest_front, only_front}

@@ -5,8 +5,7 @@ use Rattle.std.proofs.lemmas.List.{length-drop}
 use Rattle.asl_grammar.specs.declared.token.Mark.{Mark}
 use Rattle.asl_grammar.specs.declared.token.Mark.TheVariants as mark
 use Rattle.asl_grammar.specs.Token.{Token, Fixed, Spot}
-use Rattle.asl_grammar.specs.Lex.{is_blank, is_digit, is_letter, is_name_byte, leading, equals_token, symbol_of_byte, symbol_token, front, spots, spot_then, bad_from, bad_then}
-use Rattle.asl_grammar.specs.Reader.{IsAtToken}
+use Rattle.asl_grammar.specs.Lex.{is_blank, is_digit, is_letter, is_name_byte, leading, equals_token, symbol_of_byte, symbol_token, front, spots, spot_then, bad_from, bad_then, IsAtToken}
 
 -- bytes that are passed
 pub spots_skip : (bs : List ℕ) (k at : ℕ) → k ≤ length bs → spots bs k at ≡ spots (drop k bs) 0 (at + k)

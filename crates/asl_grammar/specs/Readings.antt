@@ -2,9 +2,8 @@
 -- (docs/SOURCE.md). The law `a_text_has_one_reading` says that `tokens_of` and `bad_place` of specs/Lex are this.
 use Rattle.std.specs.Prelude.{◌≡◌, ℕ, ◌+◌, ◌<◌, ◌≤◌, List, [], ◌∷◌, IsTrue, Option, Some, None, length, take, drop}
 use Rattle.asl_grammar.specs.Token.{Spot}
-use Rattle.asl_grammar.specs.Lex.{is_blank, all_bytes}
+use Rattle.asl_grammar.specs.Lex.{is_blank, all_bytes, IsAtToken}
 use Rattle.asl_grammar.specs.Bytes.{IsLongest, BeginsWithNone}
-use Rattle.asl_grammar.specs.Reader.{IsAtToken}
 
 -- behind some blanks stands the token `s`, the longest there, and `rest` behind it; the text's first byte has the place
 -- `at`, and that of `rest` has the place `next`

@@ -2,7 +2,7 @@
 
 ghost use Rattle.std.specs.Prelude.{◌≡◌, ◌+◌, ◌-◌, ◌^◌, ◌<◌, ◌≤◌, length, drop};
 ghost use Rattle.std.specs.Option.{option_map};
-ghost use Rattle.asl_grammar.specs.Lex.{is_blank, is_digit, is_letter, is_name_byte, leading, word_of, symbol_of_byte, tokens_of, bad_place, letters_token, digits_token, equals_token, front};
+ghost use Rattle.asl_grammar.specs.Lex.{is_blank, is_digit, is_letter, is_name_byte, leading, word_of, symbol_of_byte, tokens_of, bad_place, letters_token, digits_token, equals_token, front, IsAtToken};
 ghost use Rattle.asl_grammar.specs.View.{front_view};
 
 use crate::token::{Mark, Spot, Token};
@@ -213,7 +213,7 @@ pub struct Tokens<'t> {
 }
 
 impl<'t> Tokens<'t> {
-    ghost use Rattle.asl_grammar.specs.Reader.{spots_left, bad_left, IsAtToken, IsFound, IsShorter};
+    ghost use Rattle.asl_grammar.specs.Reader.{spots_left, bad_left, IsFound, IsShorter, IsStill};
 
     /// The tokens of `text`.
     pub fn new(text: &'t [u8]) -> Tokens<'t>
@@ -244,10 +244,11 @@ impl<'t> Tokens<'t> {
         self.pass(blanks);
     }
 
-    /// The next token.
+    /// The next token. Behind the last one, or at a place where none stands, it answers the same again and again.
     #[inline(always)]
     pub fn next(&mut self) -> Found<'t>
         ensures found { IsFound self.old result self.new }
+        ensures still { IsStill result self.old self.new }
         ensures shorter { IsShorter result self.old self.new }
     {
         self.skip_blanks();
