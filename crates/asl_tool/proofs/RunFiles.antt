@@ -13,6 +13,7 @@ use Rattle.asl_loader.specs.Faults as image_faults
 use Rattle.asl_loader.specs.Reading.{number_at}
 use Rattle.asl_loader.proofs.Fields.{four_number}
 use Rattle.asl_loader.proofs.Images.{image_is_one}
+use Rattle.asl_loader.proofs.Lists.{verified_short}
 use Rattle.asl_loader.proofs.Outcomes as images
 use Rattle.asl_journal.specs.declared.fault.JournalFault.{JournalFault}
 use Rattle.asl_journal.specs.Journal.{Log}
@@ -207,7 +208,7 @@ pub log_fault : (bytes first second : List ℕ) (image : Image) (f : FileFault) 
 log_fault bytes first second image (fault.Truncated at) h p x = absurd x
 log_fault bytes first second image (fault.Image f) h p x = absurd x
 log_fault bytes first second image (fault.Journal f) h p x = record { image = image; first = first; second = second; parts = h; program = p; refused = x }
-log_fault bytes first second image fault.OutOfMemory h p x = record { first = first; second = second; parts = h; memory = (image, p.spelled) }
+log_fault bytes first second image fault.OutOfMemory h p x = record { first = first; second = second; parts = h; memory = (image, p.spelled, verified_short image p.verified) }
 
 refused_or_memory : (bytes : List ℕ) (f : FileFault) → AreBytes bytes → IsFileFault bytes f → (image : Image) (log : Log) → SpellsRun image log bytes
     → (◌≡◌ {A = Run} (Err f) (Ok (image, log))) ⊎ (◌≡◌ {A = Run} (Err f) (Err fault.OutOfMemory))

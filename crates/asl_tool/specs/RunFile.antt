@@ -69,7 +69,8 @@ pub record HasBadJournal (bytes : List ℕ) (cause : JournalFault) : Type 0 wher
   pub program : IsProgramImage first image
   pub refused : IsLogFault second (fault.Journal cause)
 
--- the image's part spells an image, of a program or not (docs/JOURNAL.md, Run files)
+-- the image's part spells an image, of a program or not, with no more lists, nor more locks in one, than a program has
+-- (docs/JOURNAL.md, Run files)
 pub record HasImage (bytes : List ℕ) : Type 0 where
   pub first : List ℕ
   pub second : List ℕ
