@@ -191,12 +191,12 @@ fn summary_of(report: &Report<'_>) -> Told {
             offset: 0,
         }),
         ended,
-        told: told(report),
+        told: ends_told(report),
     }
 }
 
 /// How many receipts say that their thread has ended.
-fn told(report: &Report<'_>) -> usize {
+fn ends_told(report: &Report<'_>) -> usize {
     let mut count: usize = 0;
     for mine in report.receipts.iter() {
         for receipt in mine.iter() {
