@@ -1,20 +1,18 @@
 -- More of something than a program has: that stays so however the text goes on, and breaks a limit.
 use Rattle.std.proofs.Common.{◌≡◌, ℕ, ◌+◌, ◌<◌, true, false, List, [], ◌∷◌, ◌++◌, length, Option, Some, None, Result, Ok, Err, refl, sym, ap, ◌∙◌, inl, inr, arith, nat_le, Bool, ◌≤◌}
 use Rattle.std.specs.List.{list_all}
-use Rattle.std.proofs.lemmas.Bool.{lt-leb, le-leb, leb-true, ltb-true, and_from, and_parts, or_cases}
+use Rattle.std.proofs.lemmas.Bool.{lt-leb, ltb-true, or_cases}
 use Rattle.std.proofs.Math.Bool.{and-false}
 use Rattle.std.proofs.lemmas.List.{length_push}
 use Rattle.std.proofs.lemmas.List.Folds.{list_all-append}
-use Rattle.asl_code.specs.declared.fault.VerifyFault.{VerifyFault}
-use Rattle.asl_code.specs.declared.fault.VerifyFault.TheVariants as cause
 use Rattle.asl_code.specs.declared.image.Image.{Image}
 use Rattle.asl_code.specs.declared.image.Function.{Function}
 use Rattle.asl_code.specs.declared.lock.Lock.{Lock}
 use Rattle.asl_code.specs.Versions.{newest_locks}
-use Rattle.asl_code.specs.Verified.{keeps_limits, keeps_counts, keeps_list_limit, IsAnswer, ComesFirst}
+use Rattle.asl_code.specs.Verified.{keeps_limits, keeps_counts, keeps_list_limit}
 use Rattle.asl_code.specs.Versions.{limits_of}
 use Rattle.asl_code.specs.declared.limits.Limits.{Limits}
-use Rattle.asl_code.proofs.Versions.{locks_set, few_locks}
+use Rattle.asl_code.proofs.Versions.{locks_set, few_locks, newest_lists}
 use Rattle.asl_assembler.specs.declared.line.Line.{Line}
 use Rattle.asl_assembler.specs.declared.line.Line.TheVariants as line
 use Rattle.asl_assembler.specs.declared.draft.Place.{Place}
@@ -145,12 +143,6 @@ breaks : (i : Image) → Long i → IsOver i
 unfolding is_short
 breaks i long = by_limits (limits_of i.version) refl
   where
-    shorter : (limits : Limits) → limits.locks ≤ newest_locks → (lists : List (List Lock)) → list_all (keeps_list_limit limits) lists ≡ true → list_all is_short lists ≡ true
-    shorter limits few [] h = refl
-    shorter limits few (locks ∷ lists) h =
-        let both = and_parts _ _ h in
-        and_from _ _ (le-leb _ _ (omega (arith, few, leb-true _ _ both.0))) (shorter limits few lists both.1)
-
     counts : (limits : Limits) → limits.locks ≤ newest_locks → Long i → keeps_counts limits i ≡ false
     counts limits few (of_open many) = absurd (omega (arith, many))
     counts limits few (of_globals many) = rw (lt-leb (length i.globals) 1024 many) (rw (and-false _) refl)
@@ -161,7 +153,7 @@ breaks i long = by_limits (limits_of i.version) refl
       where
         by_lists : (b : Bool) → list_all (keeps_list_limit limits) i.lists ≡ b → keeps_counts limits i ≡ false
         by_lists false e = rw e (and-false _)
-        by_lists true e = let all = shorter limits few i.lists e in absurd cc
+        by_lists true e = let all : list_all is_short i.lists ≡ true = newest_lists limits few i.lists e in absurd cc
 
     by_limits : (o : Option Limits) → limits_of i.version ≡ o → keeps_limits i ≡ false
     by_limits None e = rw e refl
@@ -202,21 +194,6 @@ too_many p i is = elim (or_cases _ _ is) [
 -- what follows cannot mend it
 pub over_limit : (n : ℕ) (p : Place) (i : Image) (ls : List (List ℕ)) (j : Image) → is_over p i ≡ true → image_from n p i ls ≡ Ok j → IsOver j
 over_limit n p i ls j is e = stays_over n p i ls j (too_many p i is) e
-
--- the verifier names this limit first
-pub limit_first : (i : Image) → IsOver i → IsAnswer i cause.Limit
-limit_first i over = record { holds = rw over refl; least = λ other is. comes other }
-  where
-    comes : (other : VerifyFault) → ComesFirst cause.Limit other
-    comes cause.Limit = inr (refl, omega arith)
-    comes cause.Table = inl (omega arith)
-    comes cause.NoEntry = inl (omega arith)
-    comes cause.FunctionRange = inl (omega arith)
-    comes cause.FallsOut = inl (omega arith)
-    comes (cause.Target pc) = inl (omega arith)
-    comes (cause.Register pc) = inl (omega arith)
-    comes (cause.Operand pc) = inl (omega arith)
-    comes (cause.ListBase pc) = inl (omega arith)
 
 -- a line behind which the state is over a limit
 pub over_step : (n : ℕ) (p q : Place) (i k : Image) (l rest behind text : List ℕ) (o : Option Place) (j : Image)

@@ -138,6 +138,10 @@ in_places i ranges before =
     (λ none_8. by_place i 9 ListBase (λ b. has_list_bases i b.function) (found (λ b. has_list_bases i b.function) i) (λ pc. refl) (λ pc. refl) (λ pc. refl) (λ pc. refl) none_8 (lowest_from_scan (λ b. has_list_bases i b.function) i _ ranges refl)
     (λ none_9. inl (λ f. none_9 f (line_below f))))))
 
+-- what breaks a limit has that for an answer, whatever else it breaks
+pub limit_answer : (i : Image) → keeps_limits i ≡ false → IsAnswer i Limit
+limit_answer i over = first_here i 1 Limit refl (ap not over) (λ f lt. absurd (omega (arith, line_above f))) (λ pc also. omega arith)
+
 -- an image is verified, or has an answer
 pub some_answer : (i : Image) → IsVerified i ⊎ ((f : VerifyFault) × IsAnswer i f)
 some_answer i =

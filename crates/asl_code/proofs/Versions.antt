@@ -1,10 +1,13 @@
 -- What each version sets, told of the versions that are there and of all.
-use Rattle.std.proofs.Common.{◌≡◌, ◌≢◌, ◌==◌, ℕ, ◌<◌, ◌≤◌, ◌^◌, Option, Some, None, is_some, true, false, if◌then◌else◌, refl, ap, sym, ◌∙◌, inl, inr, arith}
+use Rattle.std.proofs.Common.{◌≡◌, ◌≢◌, ◌==◌, ℕ, ◌<◌, ◌≤◌, ◌^◌, nat_le, List, [], ◌∷◌, length, Option, Some, None, is_some, true, false, if◌then◌else◌, refl, ap, sym, ◌∙◌, inl, inr, arith}
+use Rattle.std.specs.List.{list_all}
 use Rattle.std.specs.Option.{option_map_or}
-use Rattle.std.proofs.lemmas.Bool.{cases_lt, le-leb, lt-leb}
+use Rattle.std.proofs.lemmas.Bool.{cases_lt, le-leb, lt-leb, leb-true, and_from, and_parts}
 use Rattle.std.proofs.lemmas.Bool.Decides.{eqb_tells}
 use Rattle.asl_code.specs.Versions.{IsVersion, newest, newest_threads, newest_locks, limits_of, is_version, most_threads, version_for, most_locks}
+use Rattle.asl_code.specs.Verified.{keeps_list_limit}
 use Rattle.asl_code.specs.declared.limits.Limits.{Limits}
+use Rattle.asl_code.specs.declared.lock.Lock.{Lock}
 
 -- what versions 1 and 2 set
 abbrev pub first : Limits
@@ -90,6 +93,15 @@ few_locks v = elim (eqb_tells v 1) [
     | inr not_two ↦ let none = ap (λ o. option_map_or (λ (k : Limits). k.locks) o 0) (other_set v not_one.1 not_two.1) in omega (arith, none)
   ]
 ]
+
+-- lists that keep a version's limit keep the newest one's
+pub newest_lists : (limits : Limits) → limits.locks ≤ newest_locks → (lists : List (List Lock)) → list_all (keeps_list_limit limits) lists ≡ true
+    → list_all (λ (locks : List Lock). nat_le (length locks) newest_locks) lists ≡ true
+newest_lists limits few [] h = refl
+newest_lists limits few (locks ∷ lists) h =
+    let both = and_parts (keeps_list_limit limits locks) (list_all (keeps_list_limit limits) lists) h in
+    and_from (nat_le (length locks) newest_locks) (list_all (λ (locks : List Lock). nat_le (length locks) newest_locks) lists)
+    (le-leb (length locks) newest_locks (omega (arith, few, leb-true (length locks) limits.locks both.0))) (newest_lists limits few lists both.1)
 
 -- a version's number fits two bytes
 pub small_version : (v : ℕ) → IsVersion v → v < 2 ^ 16

@@ -1,16 +1,16 @@
 -- Lists that are too long, or too many: what is kept of them while they are read, and that they break a limit.
-use Rattle.std.proofs.Common.{◌≡◌, ℕ, ◌≤◌, inl, inr, Bool, true, false, nat_le, ◌&&◌, List, [], ◌∷◌, ◌++◌, length, Option, Some, None, Result, Ok, refl, sym, ap, subst, ◌∙◌, arith}
+use Rattle.std.proofs.Common.{◌≡◌, ℕ, ◌≤◌, Bool, true, false, nat_le, ◌&&◌, List, [], ◌∷◌, ◌++◌, length, Option, Some, None, Result, Ok, refl, sym, ap, subst, ◌∙◌, arith}
 use Rattle.std.specs.List.{list_all}
-use Rattle.std.proofs.lemmas.Bool.{le-leb, leb-true, and_from, and_parts}
+use Rattle.std.proofs.lemmas.Bool.{and_from, and_parts}
 use Rattle.std.proofs.lemmas.List.Folds.{list_all-append}
-use Rattle.asl_code.specs.declared.fault.VerifyFault.{VerifyFault}
 use Rattle.asl_code.specs.declared.fault.VerifyFault.TheVariants as cause
 use Rattle.asl_code.specs.declared.image.Image.{Image}
 use Rattle.asl_code.specs.declared.limits.Limits.{Limits}
 use Rattle.asl_code.specs.declared.lock.Lock.{Lock}
-use Rattle.asl_code.specs.Verified.{applies, keeps_limits, keeps_counts, keeps_list_limit, IsAnswer, IsVerified, ComesFirst}
+use Rattle.asl_code.specs.Verified.{keeps_limits, keeps_counts, IsAnswer, IsVerified}
 use Rattle.asl_code.specs.Versions.{newest_locks, limits_of}
-use Rattle.asl_code.proofs.Versions.{locks_set, few_locks}
+use Rattle.asl_code.proofs.OneAnswer.{limit_answer, no_answer}
+use Rattle.asl_code.proofs.Versions.{locks_set, few_locks, newest_lists}
 use Rattle.asl_loader.specs.Faults.{is_short, are_short}
 use Rattle.asl_loader.specs.Reading.{IsHeld, items_at, list_at, lock_at}
 use Rattle.asl_loader.specs.declared.fault.Lost.{Lost}
@@ -57,13 +57,6 @@ lists_read kept count i bytes rest k le =
 
 -- ---- what the verifier says of them
 
--- limits that are kept leave the lists short
-limited : (limits : Limits) → limits.locks ≤ newest_locks → (lists : List (List Lock)) → list_all (keeps_list_limit limits) lists ≡ true → list_all is_short lists ≡ true
-limited limits few [] h = refl
-limited limits few (locks ∷ lists) h =
-    let both = and_parts (nat_le (length locks) limits.locks) (list_all (keeps_list_limit limits) lists) h in
-    and_from (is_short locks) (list_all is_short lists) (le-leb (length locks) newest_locks (omega (arith, few, leb-true (length locks) limits.locks both.0))) (limited limits few lists both.1)
-
 kept_short : (i : Image) → keeps_limits i ≡ true → are_short i.lists ≡ true
 kept_short i kept = by_limits (limits_of i.version) refl
   where
@@ -75,7 +68,7 @@ kept_short i kept = by_limits (limits_of i.version) refl
         let last = and_parts _ _ (sym same ∙ kept) in
         let each = and_parts _ _ last.0 in
         let few = and_parts _ _ each.0 in
-        and_from _ _ few.1 (limited limits locks i.lists last.1)
+        and_from _ _ few.1 (newest_lists limits locks i.lists last.1)
 
 -- lists that are not short break a limit
 over : (i : Image) → are_short i.lists ≡ false → keeps_limits i ≡ false
@@ -91,22 +84,8 @@ verified_short i verified = by_kept (keeps_limits i) refl
   where
     by_kept : (b : Bool) → keeps_limits i ≡ b → are_short i.lists ≡ true
     by_kept true e = kept_short i e
-    by_kept false e =
-        let broken : applies i cause.Limit ≡ true = rw e refl in
-        let whole : applies i cause.Limit ≡ false = verified cause.Limit in
-        absurd cc
+    by_kept false e = absurd (no_answer i cause.Limit verified (limit_answer i e))
 
 -- the verifier names such lists before all else
 pub long_is_answer : (i : Image) → are_short i.lists ≡ false → IsAnswer i cause.Limit
-long_is_answer i long = record { holds = rw (over i long) refl; least = λ other is. comes other }
-  where
-    comes : (other : VerifyFault) → ComesFirst cause.Limit other
-    comes cause.Limit = inr (refl, omega arith)
-    comes cause.Table = inl (omega arith)
-    comes cause.NoEntry = inl (omega arith)
-    comes cause.FunctionRange = inl (omega arith)
-    comes cause.FallsOut = inl (omega arith)
-    comes (cause.Target pc) = inl (omega arith)
-    comes (cause.Register pc) = inl (omega arith)
-    comes (cause.Operand pc) = inl (omega arith)
-    comes (cause.ListBase pc) = inl (omega arith)
+long_is_answer i long = limit_answer i (over i long)

@@ -3,7 +3,8 @@ use Rattle.asl_code.specs.Verified.{IsAnswer, applies, keeps_limits}
 use Rattle.asl_code.specs.declared.fault.VerifyFault.TheVariants.{Limit}
 use Rattle.asl_assembler.specs.Words.{lines_of}
 use Rattle.asl_assembler.specs.Text.{Spells}
-use Rattle.asl_assembler.proofs.Overs.{spelled_over, limit_first}
+use Rattle.asl_code.proofs.OneAnswer.{limit_answer}
+use Rattle.asl_assembler.proofs.Overs.{spelled_over}
 use Rattle.asl_assembler.proofs.Texts.{image_spelled, one_image, bad_line, not_both}
 use Rattle.asl_assembler.proofs.assembly.assemble.Goals as goal
 
@@ -58,7 +59,7 @@ returns-in-Err-Over-clause-refused c =
     elim c.line_or.ensures [
       | inl line ↦ rw line.1 line.2
       | inr other ↦
-          rw other.1 (other.0.0, other.0.1, limit_first other.0.0 (spelled_over c.args.text.now other.0.0 (rw c.in-Err-Over.field-0-is at c.in-Err-Over.ensures) other.0.1))
+          rw other.1 (other.0.0, other.0.1, limit_answer other.0.0 (spelled_over c.args.text.now other.0.0 (rw c.in-Err-Over.field-0-is at c.in-Err-Over.ensures) other.0.1))
     ]
 
 pub returns-in-Err-OutOfMemory-clause-only : goal.returns-in-Err-OutOfMemory-clause-only
