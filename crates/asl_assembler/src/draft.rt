@@ -5,18 +5,8 @@ ghost use Rattle.asl_assembler.specs.Reading.{longer, next, finished, step_line,
 
 use crate::line::{Line, meaning};
 use crate::words::next_word;
-use asl_code::{Function, Image, Items, Lock, NEWEST_LIMITS};
+use asl_code::{Function, Image, Items, Lock, NEWEST_LIMITS, limits};
 use std::alloc::{AllocError, Global};
-
-// How many there may be of each part of an image: the verifier's numbers, which docs/LIMITS.md lists.
-/// The most globals.
-const GLOBALS: usize = 1024;
-/// The most functions.
-const FUNCTIONS: usize = 256;
-/// The most instructions.
-const CODE: usize = 65_535;
-/// The most lock lists.
-const LISTS: usize = 1024;
 
 /// Which line comes next, and what is open there.
 #[derive(Drop)]
@@ -191,8 +181,8 @@ pub(crate) fn is_over(place: &Place, image: &Image) -> bool
         _ => 0,
     };
     open > NEWEST_LIMITS.locks
-        || image.lists.len() > LISTS
-        || image.globals.len() > GLOBALS
-        || image.functions.len() > FUNCTIONS
-        || image.code.len() > CODE
+        || image.lists.len() > limits::LISTS
+        || image.globals.len() > limits::GLOBALS
+        || image.functions.len() > limits::FUNCTIONS
+        || image.code.len() > limits::CODE
 }

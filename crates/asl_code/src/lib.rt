@@ -7,7 +7,7 @@ mod instr;
 mod instr_bytes;
 mod items;
 mod laws;
-mod limits;
+pub mod limits;
 mod lock;
 mod path;
 mod places;

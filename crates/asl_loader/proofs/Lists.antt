@@ -14,25 +14,25 @@ use Rattle.asl_code.proofs.Versions.{locks_set, few_locks, newest_lists}
 use Rattle.asl_loader.specs.Faults.{is_short, are_short}
 use Rattle.asl_loader.specs.Reading.{IsHeld, items_at, list_at, lock_at}
 use Rattle.asl_loader.specs.declared.fault.Lost.{Lost}
-use Rattle.asl_loader.proofs.Loop.{Held, so_many, held_all}
+use Rattle.asl_loader.proofs.Loop.{Kept, so_many, kept_all}
 
--- a list of so many locks is short, or not
-abbrev pub of_count : ℕ → List Lock → Bool
-of_count count locks = nat_le count newest_locks
+-- what is kept of a list of so many locks, of which these were read
+abbrev pub HoldsLocks : ℕ → Result (List Lock) Lost → List Lock → Type 0
+HoldsLocks count kept locks = IsHeld (nat_le count newest_locks) kept locks
 
--- so many lists are, with those that were read
-abbrev pub of_lists : ℕ → List (List Lock) → Bool
-of_lists count lists = nat_le count 1024 && list_all is_short lists
+-- what is kept of so many lists, of which these were read
+abbrev pub HoldsLists : ℕ → Result (List (List Lock)) Lost → List (List Lock) → Type 0
+HoldsLists count kept lists = IsHeld (nat_le count 1024 && list_all is_short lists) kept lists
 
 -- ---- reading them
 
 -- with one list more they are short where it is, and they were before
 pub more_lists : (count : ℕ) (more : Result (List (List Lock)) Lost) (front : List (List Lock)) (whole : List Lock)
-    → IsHeld (of_lists count front && is_short whole) more (front ++ whole ∷ []) → IsHeld (of_lists count (front ++ whole ∷ [])) more (front ++ whole ∷ [])
+    → IsHeld (nat_le count 1024 && list_all is_short front && is_short whole) more (front ++ whole ∷ []) → HoldsLists count more (front ++ whole ∷ [])
 more_lists count more front whole h =
     let few = nat_le count 1024 in
     let each : list_all is_short (front ++ whole ∷ []) ≡ list_all is_short front && (is_short whole && true) = list_all-append is_short front (whole ∷ []) in
-    let same : of_lists count front && is_short whole ≡ of_lists count (front ++ whole ∷ []) = grown few (list_all is_short front) (is_short whole) ∙ ap (λ (b : Bool). few && b) (sym each) in
+    let same : few && list_all is_short front && is_short whole ≡ few && list_all is_short (front ++ whole ∷ []) = grown few (list_all is_short front) (is_short whole) ∙ ap (λ (b : Bool). few && b) (sym each) in
     subst (λ (b : Bool). IsHeld b more (front ++ whole ∷ [])) same h
   where
     grown : (few all one : Bool) → few && all && one ≡ few && (all && (one && true))
@@ -41,17 +41,17 @@ more_lists count more front whole h =
     grown true false one = refl
     grown false all one = refl
 
-pub locks_read : (kept : Result (List Lock) Lost) (count i : ℕ) (bytes rest : List ℕ) → Held Lock lock_at (of_count count) kept count i rest (items_at lock_at count bytes) → count ≤ i
+pub locks_read : (kept : Result (List Lock) Lost) (count i : ℕ) (bytes rest : List ℕ) → Kept Lock lock_at (HoldsLocks count kept) count i rest (items_at lock_at count bytes) → count ≤ i
     → (whole : List Lock) × IsHeld (is_short whole) kept whole × (items_at lock_at count bytes ≡ Ok (whole, rest))
 locks_read kept count i bytes rest k le =
-    let all = held_all Lock lock_at (of_count count) kept count i rest (items_at lock_at count bytes) k le in
+    let all = kept_all Lock lock_at (HoldsLocks count kept) count i rest (items_at lock_at count bytes) k le in
     let many = so_many Lock lock_at count bytes all.0 rest all.2 in
     (all.0, subst (λ (n : ℕ). IsHeld (nat_le n newest_locks) kept all.0) (sym many) all.1, all.2)
 
-pub lists_read : (kept : Result (List (List Lock)) Lost) (count i : ℕ) (bytes rest : List ℕ) → Held (List Lock) list_at (of_lists count) kept count i rest (items_at list_at count bytes) → count ≤ i
+pub lists_read : (kept : Result (List (List Lock)) Lost) (count i : ℕ) (bytes rest : List ℕ) → Kept (List Lock) list_at (HoldsLists count kept) count i rest (items_at list_at count bytes) → count ≤ i
     → (whole : List (List Lock)) × IsHeld (are_short whole) kept whole × (items_at list_at count bytes ≡ Ok (whole, rest))
 lists_read kept count i bytes rest k le =
-    let all = held_all (List Lock) list_at (of_lists count) kept count i rest (items_at list_at count bytes) k le in
+    let all = kept_all (List Lock) list_at (HoldsLists count kept) count i rest (items_at list_at count bytes) k le in
     let many = so_many (List Lock) list_at count bytes all.0 rest all.2 in
     (all.0, subst (λ (n : ℕ). IsHeld (nat_le n 1024 && list_all is_short all.0) kept all.0) (sym many) all.1, all.2)
 

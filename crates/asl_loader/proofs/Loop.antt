@@ -1,9 +1,8 @@
 -- Reading items one after the other, as a loop does.
-use Rattle.std.proofs.Common.{◌≡◌, ℕ, zero, suc, ◌-◌, ◌+◌, ◌≤◌, ◌<◌, Bool, List, [], ◌∷◌, ◌++◌, length, Option, Some, Result, Ok, Err, refl, sym, ap, ◌∙◌, append_assoc, arith}
+use Rattle.std.proofs.Common.{◌≡◌, ℕ, zero, suc, ◌-◌, ◌+◌, ◌≤◌, ◌<◌, List, [], ◌∷◌, ◌++◌, length, Result, Ok, Err, refl, sym, ap, ◌∙◌, append_assoc, arith}
 use Rattle.std.proofs.lemmas.List.{append-nil}
-use Rattle.asl_loader.specs.declared.fault.Lost.{Lost}
 use Rattle.asl_loader.specs.declared.fault.Stop.{Stop}
-use Rattle.asl_loader.specs.Reading.{◌>>=◌, IsKept, IsHeld, items_at}
+use Rattle.asl_loader.specs.Reading.{◌>>=◌, items_at}
 use Rattle.asl_loader.proofs.Reader.{bind_ok, ok_is}
 
 -- what was read before, and what is still read
@@ -38,10 +37,10 @@ module _ (X : Type 0) (item : List ℕ → Result (X × List ℕ) Stop) where
       let one : with_front front (items_at item (count - i) bytes) ≡ Ok (front, bytes) = rw k (ap (λ (ns : List X). Ok (ns, bytes)) (append-nil front)) in
       sym so_far ∙ one
 
--- what was read before, of which what found memory is kept, and what is still read
-pub record Kept (X : Type 0) (item : List ℕ → Result (X × List ℕ) Stop) (kept : Option (List X)) (count i : ℕ) (bytes : List ℕ) (total : Result (List X × List ℕ) Stop) : Type 0 where
+-- what was read before, of which so much is kept, and what is still read
+pub record Kept (X : Type 0) (item : List ℕ → Result (X × List ℕ) Stop) (Has : List X → Type 0) (count i : ℕ) (bytes : List ℕ) (total : Result (List X × List ℕ) Stop) : Type 0 where
   pub front : List X
-  pub is : IsKept kept front
+  pub is : Has front
   pub so_far : with_front front (items_at item (count - i) bytes) ≡ total
 
 nothing_before : {X : Type 0} (read : Result (List X × List ℕ) Stop) → with_front [] read ≡ read
@@ -49,35 +48,28 @@ nothing_before (Ok x) = refl
 nothing_before (Err f) = refl
 
 module _ (X : Type 0) (item : List ℕ → Result (X × List ℕ) Stop) where
-  pub kept_first : (new : List X) (count : ℕ) (bytes : List ℕ) → new ≡ [] → Kept X item (Some new) count 0 bytes (items_at item count bytes)
-  kept_first new count bytes none =
+  pub kept_first : (Has : List X → Type 0) (count : ℕ) (bytes : List ℕ) → Has [] → Kept X item Has count 0 bytes (items_at item count bytes)
+  kept_first Has count bytes none =
       let all : count - 0 ≡ count = omega arith in
       record { front = []; is = none; so_far = rw all (nothing_before (items_at item count bytes)) }
 
-  pub kept_more : (kept more : Option (List X)) (count i : ℕ) (bytes : List ℕ) (n : X) (after : List ℕ) (total : Result (List X × List ℕ) Stop)
-      → Kept X item kept count i bytes total → i < count → item bytes ≡ Ok (n, after)
-      → ((front : List X) → IsKept kept front → IsKept more (front ++ n ∷ [])) → Kept X item more count (i + 1) after total
-  kept_more kept more count i bytes n after total k lt h push = record {
+  pub kept_more : (Has More : List X → Type 0) (count i : ℕ) (bytes : List ℕ) (n : X) (after : List ℕ) (total : Result (List X × List ℕ) Stop)
+      → Kept X item Has count i bytes total → i < count → item bytes ≡ Ok (n, after)
+      → ((front : List X) → Has front → More (front ++ n ∷ [])) → Kept X item More count (i + 1) after total
+  kept_more Has More count i bytes n after total k lt h push = record {
     front = k.front ++ n ∷ [];
     is = push k.front k.is;
     so_far = goes_on X item k.front count i bytes n after total lt h k.so_far;
   }
 
-  pub kept_all : (kept : Option (List X)) (count i : ℕ) (bytes : List ℕ) (total : Result (List X × List ℕ) Stop)
-      → Kept X item kept count i bytes total → count ≤ i → (whole : List X) × IsKept kept whole × (total ≡ Ok (whole, bytes))
-  kept_all kept count i bytes total k le = (k.front, k.is, is_done X item k.front count i bytes total le k.so_far)
+  pub kept_all : (Has : List X → Type 0) (count i : ℕ) (bytes : List ℕ) (total : Result (List X × List ℕ) Stop)
+      → Kept X item Has count i bytes total → count ≤ i → (whole : List X) × Has whole × (total ≡ Ok (whole, bytes))
+  kept_all Has count i bytes total k le = (k.front, k.is, is_done X item k.front count i bytes total le k.so_far)
 
-  pub kept_ends : (f : Stop) (kept : Option (List X)) (count i : ℕ) (bytes : List ℕ) (total : Result (List X × List ℕ) Stop)
-      → Kept X item kept count i bytes total → i < count → item bytes ≡ Err f → total ≡ Err f
-  kept_ends f kept count i bytes total k lt h = ends X item f k.front count i bytes total lt h k.so_far
+  pub kept_ends : (f : Stop) (Has : List X → Type 0) (count i : ℕ) (bytes : List ℕ) (total : Result (List X × List ℕ) Stop)
+      → Kept X item Has count i bytes total → i < count → item bytes ≡ Err f → total ≡ Err f
+  kept_ends f Has count i bytes total k lt h = ends X item f k.front count i bytes total lt h k.so_far
 
--- what was read before, short or not, of which so much is kept, and what is still read
-pub record Held (X : Type 0) (item : List ℕ → Result (X × List ℕ) Stop) (short : List X → Bool) (kept : Result (List X) Lost) (count i : ℕ) (bytes : List ℕ) (total : Result (List X × List ℕ) Stop) : Type 0 where
-  pub front : List X
-  pub is : IsHeld (short front) kept front
-  pub so_far : with_front front (items_at item (count - i) bytes) ≡ total
-
-module _ (X : Type 0) (item : List ℕ → Result (X × List ℕ) Stop) where
   -- as many items as were asked for are read
   pub so_many : (n : ℕ) (bytes : List ℕ) (xs : List X) (rest : List ℕ) → items_at item n bytes ≡ Ok (xs, rest) → length xs ≡ n
   unfolding items_at
@@ -88,26 +80,3 @@ module _ (X : Type 0) (item : List ℕ → Result (X × List ℕ) Stop) where
       let others = bind_ok {A = List X × List ℕ} {B = List X × List ℕ} (items_at item n first.0.1) (λ o. Ok (first.0.0 ∷ o.0, o.1)) read first.2 in
       let same : (first.0.0 ∷ others.0.0, others.0.1) ≡ read = ok_is (first.0.0 ∷ others.0.0, others.0.1) read others.2 in
       sym (ap (λ (p : List X × List ℕ). length p.0) same) ∙ ap (λ (m : ℕ). suc m) (so_many n first.0.1 others.0.0 others.0.1 others.1)
-
-  pub held_first : (short : List X → Bool) (kept : Result (List X) Lost) (count : ℕ) (bytes : List ℕ) → IsHeld (short []) kept [] → Held X item short kept count 0 bytes (items_at item count bytes)
-  held_first short kept count bytes none =
-      let all : count - 0 ≡ count = omega arith in
-      record { front = []; is = none; so_far = rw all (nothing_before (items_at item count bytes)) }
-
-  pub held_more : (short : List X → Bool) (kept more : Result (List X) Lost) (count i : ℕ) (bytes : List ℕ) (n : X) (after : List ℕ) (total : Result (List X × List ℕ) Stop)
-      → Held X item short kept count i bytes total → i < count → item bytes ≡ Ok (n, after)
-      → ((front : List X) → IsHeld (short front) kept front → IsHeld (short (front ++ n ∷ [])) more (front ++ n ∷ []))
-      → Held X item short more count (i + 1) after total
-  held_more short kept more count i bytes n after total k lt h push = record {
-    front = k.front ++ n ∷ [];
-    is = push k.front k.is;
-    so_far = goes_on X item k.front count i bytes n after total lt h k.so_far;
-  }
-
-  pub held_all : (short : List X → Bool) (kept : Result (List X) Lost) (count i : ℕ) (bytes : List ℕ) (total : Result (List X × List ℕ) Stop)
-      → Held X item short kept count i bytes total → count ≤ i → (whole : List X) × IsHeld (short whole) kept whole × (total ≡ Ok (whole, bytes))
-  held_all short kept count i bytes total k le = (k.front, k.is, is_done X item k.front count i bytes total le k.so_far)
-
-  pub held_ends : (f : Stop) (short : List X → Bool) (kept : Result (List X) Lost) (count i : ℕ) (bytes : List ℕ) (total : Result (List X × List ℕ) Stop)
-      → Held X item short kept count i bytes total → i < count → item bytes ≡ Err f → total ≡ Err f
-  held_ends f short kept count i bytes total k lt h = ends X item f k.front count i bytes total lt h k.so_far

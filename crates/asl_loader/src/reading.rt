@@ -17,14 +17,12 @@ use crate::fault::{Lost, Stop};
 use crate::parts::{below_at, byte_at, effect_at, letters_at, two_at, version_at, with_item};
 use asl_code::{
     Base, Effect, Expr, Function, Image, Instr, Items, Lock, NEWEST_LIMITS, Op, Path, get_instr,
+    limits,
 };
 use std::alloc::Global;
 
 /// The four letters at the front of an image, as a number.
 const LETTERS: u32 = 0x4153_4c4d;
-
-/// The most lists of a program.
-const LISTS: usize = 1024;
 
 fn instr_at(bytes: &[u8]) -> Result<(Instr, &[u8]), Stop>
     ensures { Gives (λ x. (x.0, x.1.now)) result (instr_at bytes.now) }
@@ -241,7 +239,7 @@ fn lists_of(
 ) -> Result<(Result<Items<Items<Lock>>, Lost>, &[u8]), Stop>
     ensures { Holds are_short (λ x. x.0) (λ x. x.1.now) result (items_at list_at count bytes.now) }
 {
-    let mut lists = if usize::from(count) > LISTS {
+    let mut lists = if usize::from(count) > limits::LISTS {
         Err(Lost::Long)
     } else {
         Ok(Items::new(alloc))
