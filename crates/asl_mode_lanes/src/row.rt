@@ -18,6 +18,7 @@ pub fn join_rows(into: &mut [u8], from: &[u8])
     requires from_codes { IsRow from.now }
     ensures codes { IsRow into.new }
     ensures joined { (t : ℕ) → mode_at into.new t ≡ join_of (mode_at into.old t) (mode_at from.now t) }
+    ensures len { length into.new ≡ length into.old }
 {
     let whole = into.len() / LANES;
     for k in 0..whole {

@@ -19,3 +19,6 @@ returns-clause-codes c k d there =
 pub returns-clause-joined : goal.returns-clause-joined
 returns-clause-joined c t =
     joined_modes c.args.into.now c.loop-t.into c.args.from.now c.loop-t.t c.loop-t.invariant (omega arith) c.requires.same_length c.requires.into_codes c.requires.from_codes t
+
+pub returns-clause-len : goal.returns-clause-len
+returns-clause-len c = c.loop-t.invariant.same_length
