@@ -1,12 +1,14 @@
 -- What every machine keeps, at its start and over a step.
 use Rattle.std.proofs.Common.{◌≡◌, ℕ, zero, suc, ◌<◌, ◌≤◌, Bool, true, false, List, [], ◌∷◌, Some, length, get_or, set, slice_get, map, refl, ap, sym, ◌∙◌, subst, arith, length-set}
 use Rattle.std.specs.Prelude.{IsTrue}
+use Rattle.std.proofs.lemmas.Option.{slice_get_within}
 use Rattle.asl_code.specs.declared.image.Image.{Image}
-use Rattle.asl_code.specs.Fits.{FitsImage}
+use Rattle.asl_code.specs.Verified.{IsVerified}
+use Rattle.asl_code.proofs.FitsLaws.{image_fits}
 use Rattle.asl_lock_forest.specs.Holding.{Holding, no_holding}
 use Rattle.asl_lock_forest.specs.Held.{Held}
 use Rattle.asl_machine.specs.State.{Object, Thread, State}
-use Rattle.asl_machine.specs.Run.{global_object, first_threads, start_of}
+use Rattle.asl_machine.specs.Run.{global_object, first_threads, start_of, IsReached}
 use Rattle.asl_machine.specs.declared.reply.Reply.{Reply}
 use Rattle.asl_machine.specs.declared.reply.Reply.TheVariants.{Blocked}
 use Rattle.asl_machine.specs.Step.{after, Step}
@@ -14,6 +16,7 @@ use Rattle.asl_machine.specs.World.{SomeoneGoesOn}
 use Rattle.asl_machine.specs.View.{Configuration}
 use Rattle.asl_machine.proofs.Table.{step_is}
 use Rattle.asl_machine.proofs.Reached.{someone_goes_on}
+use Rattle.asl_machine.proofs.Runs.{start_reached, step_reached}
 use Rattle.asl_machine.specs.Twin.{turn_of, step_of, step_at}
 use Rattle.asl_machine.specs.Sound.{IsSound}
 use Rattle.asl_machine.specs.Ready.{IsMachine}
@@ -30,14 +33,17 @@ same_state : (a b : List Object) (h k : Holding) (ts us : List Thread) → a ≡
 same_state a b h k ts us p q r = λ i. state_of (p i) (q i) (r i)
 
 -- the start keeps it
-pub start_machine : (image : Image) (objects : List Object) (forest : Held) (threads : List Thread) (n : ℕ) → FitsImage image → n ≤ 128 →
+pub start_machine : (image : Image) (objects : List Object) (forest : Held) (threads : List Thread) (n : ℕ) → IsVerified image → n ≤ 128 →
     objects ≡ map global_object image.globals → forest.classes ≡ image.classes → forest.threads ≡ n → forest.holding ≡ no_holding → threads ≡ first_threads image n →
     IsMachine image objects forest threads
-start_machine image objects forest threads n fits few os classes counted holding ts =
+start_machine image objects forest threads n verified few os classes counted holding ts =
     let l : length threads ≡ n = ap length ts ∙ length-first_threads image n in
+    let starts : start_of image n ≡ state_of objects forest.holding threads = sym (same_state _ _ _ _ _ _ os holding ts) in
     record {
-      sound = subst (IsSound image) (sym (same_state _ _ _ _ _ _ os holding ts)) (start_sound image n fits);
-      apart = subst (AreApart image) (sym (same_state _ _ _ _ _ _ os holding ts)) (start_apart image n);
+      verified = verified;
+      reached = subst (λ k. IsReached image k (state_of objects forest.holding threads)) (sym l) (subst (IsReached image n) starts (start_reached image n));
+      sound = subst (IsSound image) starts (start_sound image n (image_fits image verified));
+      apart = subst (AreApart image) starts (start_apart image n);
       classes = classes;
       counted = counted ∙ sym l;
       few_threads = omega arith;
@@ -65,12 +71,17 @@ module _ (image : Image) (objects new_objects : List Object) (forest new_forest 
   -- the step keeps what a machine keeps
   pub step_machine : new_forest.classes ≡ forest.classes → new_forest.threads ≡ forest.threads → IsMachine image new_objects new_forest (set threads t new_thread)
   step_machine classes counted =
+      let old = state_of objects forest.holding threads in
+      let l = length-set threads t new_thread in
       record {
+        verified = m.verified;
+        reached = subst (λ k. IsReached image k (state_of new_objects new_forest.holding (set threads t new_thread))) (sym l)
+          (subst (IsReached image (length threads)) (sym step_state) (step_reached image (length threads) old t m.reached (slice_get_within threads t thread at)));
         sound = subst (IsSound image) (sym turn_state) (turn_follows image (state_of objects forest.holding threads) t thread m.sound at);
         apart = subst (AreApart image) (sym step_state) (step_of_apart image (state_of objects forest.holding threads) t m.sound m.apart);
         classes = classes ∙ m.classes;
-        counted = counted ∙ m.counted ∙ sym (length-set threads t new_thread);
-        few_threads = let l = length-set threads t new_thread in let k = m.few_threads in omega arith;
+        counted = counted ∙ m.counted ∙ sym l;
+        few_threads = omega (arith, l, m.few_threads);
       }
 
 -- the reply is the twin's

@@ -6,6 +6,7 @@ use Rattle.asl_code.specs.declared.image.Image.{Image}
 use Rattle.asl_code.specs.declared.instr.Instr.{Instr}
 use Rattle.asl_code.specs.declared.instr.Instr.TheVariants.{SetInt, SetNull, Move, Add, Subtract, LessThan, Equals, GlobalAddress, FieldAddress, Load, Store, New, Jump, JumpIfZero, Call, Return, Output, Acquire, Release}
 use Rattle.asl_code.specs.Fits.{FitsImage}
+use Rattle.asl_code.specs.Verified.{IsVerified}
 use Rattle.asl_code.specs.Versions.{newest_threads}
 use Rattle.asl_lock_forest.specs.Held.{Held}
 use Rattle.asl_lock_forest.specs.Holding.{HoldsNothing}
@@ -15,6 +16,7 @@ use Rattle.asl_machine.specs.State.{Object, Frame, Activity, Thread, Running, Do
 use Rattle.asl_machine.specs.Calls.{function_of, frame_count, IsAwaited}
 use Rattle.asl_machine.specs.Request.{LockOfClass, locks_of}
 use Rattle.asl_machine.specs.Access.{AllPoint, AreOfClasses}
+use Rattle.asl_machine.specs.Run.{IsReached}
 use Rattle.asl_machine.specs.Sound.{IsSound}
 use Rattle.asl_machine.specs.Fresh.{AreApart}
 
@@ -89,10 +91,12 @@ ThreadReady image forest objects t (Running activity) =
 ThreadReady image forest objects t (Done value) = Unit {0}
 ThreadReady image forest objects t (Failed f) = Unit {0}
 
--- what every machine keeps: its state is sound, its fresh objects are apart, and its forest is over its program's classes
--- and its own threads
+-- what every machine keeps: its program is verified, its state is reached, sound, and with its fresh objects apart, and its
+-- forest is over its program's classes and its own threads
 -- (docs/INSTRUCTIONS.md, What always holds)
 pub record IsMachine (image : Image) (objects : List Object) (forest : Held) (threads : List Thread) : Type 0 where
+  pub verified : IsVerified image
+  pub reached : IsReached image (length threads) (record { objects = objects; holding = forest.holding; threads = threads })
   pub sound : IsSound image (record { objects = objects; holding = forest.holding; threads = threads })
   pub apart : AreApart image (record { objects = objects; holding = forest.holding; threads = threads })
   pub classes : forest.classes ≡ image.classes

@@ -1,5 +1,5 @@
 //! Laws of the machine, as functions that do nothing: what each ensures is the law.
-ghost use Rattle.std.specs.Prelude.{◌≡◌, ◌≢◌, ◌<◌, ℕ, List};
+ghost use Rattle.std.specs.Prelude.{◌≡◌, ◌≢◌, ◌<◌, ℕ, List, IsTrue};
 ghost use Rattle.asl_code.specs.declared.image.Image.{Image};
 ghost use Rattle.asl_code.specs.declared.lock.Lock.{Lock};
 ghost use Rattle.asl_code.specs.declared.value.Value.{Value};
@@ -7,6 +7,7 @@ ghost use Rattle.asl_code.specs.Verified.{IsVerified};
 ghost use Rattle.asl_mode_lanes.specs.declared.mode.Mode.TheVariants.{NL};
 ghost use Rattle.asl_lock_forest.specs.declared.node.Node.{Node};
 ghost use Rattle.asl_lock_forest.specs.Holding.{HoldsNothing, IsLawful, IsWithin, held};
+ghost use Rattle.asl_lock_forest.specs.Request.{names_once, asks_modes, asks_parents};
 ghost use Rattle.asl_machine.specs.declared.reply.Reply.{Reply};
 ghost use Rattle.asl_machine.specs.State.{Object, State, depth_at};
 ghost use Rattle.asl_machine.specs.Request.{IsLeast, all_asks, request_of};
@@ -17,11 +18,14 @@ ghost use Rattle.asl_machine.specs.Step.{Step};
 ghost use Rattle.asl_machine.specs.Twin.{step_of};
 ghost use Rattle.asl_machine.specs.World.{SomeoneGoesOn};
 
-/// The request of a lock list is the least map that is at least every ask of its locks.
-#[tactic(auto, using(crate::proofs::RequestLaws::request_is_least))]
+/// The request of a lock list is the least map that is at least every ask of its locks. It names each node once and none in
+/// NL, and with each node its parent, in a mode that is enough.
 pub fn requests_are_least()
-    ensures { (objects : List Object) (regs : List Value) (locks : List Lock) →
+    ensures least { (objects : List Object) (regs : List Value) (locks : List Lock) →
         IsLeast (all_asks objects regs locks) (request_of objects regs locks) }
+    ensures once { (objects : List Object) (regs : List Value) (locks : List Lock) → IsTrue (names_once (request_of objects regs locks)) }
+    ensures modes { (objects : List Object) (regs : List Value) (locks : List Lock) → IsTrue (asks_modes (request_of objects regs locks)) }
+    ensures parents { (objects : List Object) (regs : List Value) (locks : List Lock) → IsTrue (asks_parents (request_of objects regs locks)) }
 {}
 
 /// In each state that a schedule of a verified program reaches, each thread's step has exactly one line of the table:

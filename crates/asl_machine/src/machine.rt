@@ -1,9 +1,10 @@
 //! The machine: a program, its heap, its locks and its threads.
-ghost use Rattle.std.specs.Prelude.{◌≡◌, ◌≢◌, ◌<◌, ◌≤◌, ◌↔◌, ◌⊎◌, IfOk, IfErr, OnErr, IsErrOf, IsTrue, false, Some, length, slice_get, option_map, option_and_then};
+ghost use Rattle.std.specs.Prelude.{◌≡◌, ◌≢◌, ◌<◌, ◌≤◌, ◌↔◌, ◌⊎◌, IfOk, IfErr, IfSome, OnErr, IsErrOf, IsTrue, false, Some, length, slice_get, option_map, option_and_then};
 ghost use Rattle.asl_code.specs.Fits.{FitsImage};
+ghost use Rattle.asl_code.specs.Verified.{IsVerified};
 ghost use Rattle.asl_code.specs.Versions.{most_threads, newest_threads};
 ghost use Rattle.asl_lock_forest.specs.declared.node.Node.{Node};
-ghost use Rattle.asl_machine.specs.Run.{start_of, first_threads};
+ghost use Rattle.asl_machine.specs.Run.{start_of, first_threads, IsReached};
 ghost use Rattle.asl_machine.specs.State.{cell_at, size_of, class_of, activity_at, depth_at};
 
 use crate::code::Code;
@@ -151,9 +152,19 @@ impl<'p> Machine<'p> {
         })
     }
 
-    /// How many threads there are.
+    /// The program that the threads run.
+    pub fn program(&self) -> &'p Program
+        ensures { result.now ≡ self.now.image }
+    {
+        self.code.program()
+    }
+
+    /// How many threads there are. The program is verified, and the state is one that a schedule of so many threads
+    /// reaches, so that the laws of verified programs and of reached states hold of every machine.
     pub fn threads(&self) -> u32
-        ensures { result ≡ length self.now.state.threads }
+        ensures count { result ≡ length self.now.state.threads }
+        ensures verified { IsVerified self.now.image }
+        ensures reached { IsReached self.now.image result self.now.state }
     {
         self.threads.len() as u32
     }
@@ -196,23 +207,27 @@ impl<'p> Machine<'p> {
         }
     }
 
-    /// How many objects there are.
+    /// How many objects there are, 65,536 at the most.
     pub fn objects(&self) -> u32
-        ensures { result ≡ length self.now.state.objects }
+        ensures count { result ≡ length self.now.state.objects }
+        ensures few { result ≤ 65536 }
     {
         self.heap.len() as u32
     }
 
-    /// How many cells the object has, if it is there.
+    /// How many cells the object has, 1 to 255, if it is there.
     pub fn size(&self, object: u32) -> Option<u32>
-        ensures { result ≡ size_of self.now.state.objects object }
+        ensures size { result ≡ size_of self.now.state.objects object }
+        ensures some { IfSome result (λ cells. 0 < cells) }
+        ensures few { IfSome result (λ cells. cells ≤ 255) }
     {
         Some(u32::from(self.heap.size(object as usize)?))
     }
 
-    /// The class of the object, if it is there.
+    /// The class of the object, one of the program's, if it is there.
     pub fn class(&self, object: u32) -> Option<u32>
-        ensures { result ≡ class_of self.now.state.objects object }
+        ensures class { result ≡ class_of self.now.state.objects object }
+        ensures there { IfSome result (λ class. class < self.now.image.classes) }
     {
         Some(u32::from(self.heap.class(object as usize)?))
     }

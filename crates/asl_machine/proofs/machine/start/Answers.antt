@@ -14,7 +14,7 @@ pub invariant_of-result : goal.invariant_of-result
 invariant_of-result c =
     subst (λ (i : Image). IsMachine i c.in_ok-heap.heap c.in_ok-forest.forest c.in_ok-threads.threads.items) (sym c.in_ok-code.ensures)
     (start_machine c.args.program.now c.in_ok-heap.heap c.in_ok-forest.forest c.in_ok-threads.threads.items c.args.n
-    (image_fits c.args.program.now c.classes.ensures.verified) c.requires.few
+    c.classes.ensures.verified c.requires.few
     (c.in_ok-heap.ensures ∙ ap (map global_object) c.globals.ensures.globals)
     (c.in_ok-forest.ensures.classes ∙ c.classes.ensures.classes)
     c.in_ok-forest.ensures.threads c.in_ok-forest.ensures.holding (c.in_ok-threads.ensures ∙ ap (λ (i : Image). first_threads i c.args.n) c.in_ok-code.ensures))
