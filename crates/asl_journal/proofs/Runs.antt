@@ -1,15 +1,23 @@
 -- Runs in two parts.
 use Rattle.std.proofs.Common.{◌≡◌, ℕ, ◌<◌, List, [], ◌∷◌, ◌++◌, take, drop, refl, ap, ap₂, sym, subst, ◌∙◌}
 use Rattle.std.proofs.lemmas.List.{take-append-drop}
-use Rattle.std.proofs.lemmas.List.Elements.{All-take}
+use Rattle.std.proofs.lemmas.List.Elements.{All-take, All-map}
 use Rattle.asl_code.specs.declared.image.Image.{Image}
 use Rattle.asl_machine.specs.declared.reply.Reply.{Reply}
 use Rattle.asl_machine.specs.State.{State}
-use Rattle.asl_machine.specs.Run.{start_of, state_after}
+use Rattle.asl_machine.specs.Run.{IsReached, start_of, state_after}
 use Rattle.asl_machine.specs.Twin.{step_of}
 use Rattle.asl_machine.proofs.Runs.{state_after-append}
 use Rattle.asl_journal.specs.declared.event.Event.{Event}
-use Rattle.asl_journal.specs.Journal.{schedule_of, GoesBy, IsJournal}
+use Rattle.asl_journal.specs.Journal.{schedule_of, state_at, GoesBy, IsJournal}
+
+-- the state where a journal leads is reached
+pub journal_reached : (image : Image) (count : ℕ) (events : List Event) → IsJournal image count events → IsReached image count (state_at image count events)
+journal_reached image count events j = record {
+  schedule = schedule_of events;
+  threads_there = All-map (λ (t : ℕ). t < count) (λ (event : Event). event.thread) events j.there;
+  leads = refl;
+}
 
 pub schedule_append : (es fs : List Event) → schedule_of (es ++ fs) ≡ schedule_of es ++ schedule_of fs
 schedule_append [] fs = refl

@@ -3,7 +3,7 @@ ghost use Rattle.std.specs.Prelude.{◌≡◌, ◌++◌, ℕ, List, take};
 ghost use Rattle.asl_code.specs.declared.image.Image.{Image};
 ghost use Rattle.asl_code.specs.Verified.{IsVerified};
 ghost use Rattle.asl_machine.specs.State.{State};
-ghost use Rattle.asl_machine.specs.Run.{IsThreadCount, start_of, state_after, RunsBy};
+ghost use Rattle.asl_machine.specs.Run.{IsThreadCount, IsReached, start_of, state_after, RunsBy};
 ghost use Rattle.asl_journal.specs.declared.event.Event.{Event};
 ghost use Rattle.asl_journal.specs.Bytes.{LogOfSpellingIsOne, SpellingOfLogIsOne};
 ghost use Rattle.asl_journal.specs.Faults.{BytesHaveAnOutcome, OutcomeIsOne};
@@ -23,8 +23,11 @@ pub fn bytes_have_one_outcome()
 {}
 
 /// A journal of a verified program goes by the instruction table: by it alone the program's threads run over the journal's
-/// schedule with these replies, to the state where the journal leads. And events that go by the table so are a journal.
+/// schedule with these replies, to the state where the journal leads. And events that go by the table so are a journal. The
+/// state where any journal leads is reached.
 pub fn journals_go_by_the_table()
+    ensures reached { (image : Image) (count : ℕ) (events : List Event) → IsJournal image count events
+        → IsReached image count (state_at image count events) }
     ensures some { (image : Image) (count : ℕ) (events : List Event) → IsVerified image → IsJournal image count events
         → RunsBy image (start_of image count) (schedule_of events) (replies_in events) (state_at image count events) }
     ensures only { (image : Image) (count : ℕ) (events : List Event) (end : State) → IsVerified image → IsThreadCount image count

@@ -7,10 +7,12 @@ use Rattle.asl_machine.proofs.Soundness.{start_sound, length-first_threads}
 use Rattle.asl_machine.proofs.TableRuns.{run_is, run_only}
 use Rattle.asl_journal.specs.declared.event.Event.{Event}
 use Rattle.asl_journal.specs.Journal.{schedule_of, replies_in, state_at}
+use Rattle.asl_journal.proofs.Runs.{journal_reached}
 use Rattle.asl_journal.proofs.laws.journals_go_by_the_table.Goals as goal
 
 pub returns : goal.returns
 returns c = record {
+  reached = journal_reached;
   some = λ image count events v j.
       let there = All-map (λ (t : ℕ). t < count) (λ (event : Event). event.thread) events j.there in
       let runs = run_is image count (schedule_of events) (start_of image count) (start_sound image count (image_fits image v)) (length-first_threads image count) there in
