@@ -1,6 +1,6 @@
 //! Reading the fields of an image from the front of bytes. Where memory is refused the reading goes on and keeps nothing,
 //! so that want of memory hides nothing that is wrong with the bytes. It keeps no lists either where there are more of them,
-//! or more locks in one, than any program has, so that an image takes no more memory than a program's lists may.
+//! or more locks in one, than any program has, so that the lists of an image take no more memory than a program's may.
 
 ghost use Rattle.std.specs.Prelude.{◌≡◌, ◌≤◌, ◌<◌, ℕ, Bool, ◌&&◌, List, [], ◌∷◌, ◌++◌, length, take};
 ghost use Rattle.std.specs.Int.{w16};

@@ -9,8 +9,8 @@ pub struct Report<'p> {
     pub journal: Journal,
     /// The machine in the state to which the events led.
     pub machine: Machine<'p>,
-    /// For each worker, the journal's entries of its threads, in their order, each with its number and whether its thread has
-    /// ended.
+    /// For each worker, what its steps answered, in their order: in a run that ends well, the journal's entries of its threads.
+    /// Where a receipt says that its thread has ended, it has.
     pub receipts: Vec<Vec<Receipt>>,
     /// How many tickets were drawn.
     pub tickets: u64,

@@ -90,8 +90,8 @@ impl Turns {
         Ok((Turns { table, limit }, TurnSeat { left: PASSES, seat }))
     }
 
-    /// A ticket below the limit, which nobody else has or will have; or None, where all are drawn, and then a pass is
-    /// spent. A seat without a pass left takes no step. It never waits.
+    /// A ticket below the limit, which is drawn once, as `finish` says; or None, and then a pass is spent. A seat without a
+    /// pass left takes no step. It never waits.
     pub fn draw(&self, seat: &mut TurnSeat) -> Option<u64>
         requires { seat.old.of ≡ self.now }
         ensures none { seat.old.left ≡ 0 → (result ≡ None) × (seat.new ≡ seat.old) }
