@@ -226,10 +226,11 @@ impl<'p> Debugger<'p> {
         &self.machine
     }
 
-    /// How many events lead to the machine that is shown.
+    /// How many events lead to the machine that is shown. The debugger's log is a journal of its program.
     pub fn position(&self) -> u32
         ensures position { result ≡ self.now.position }
         ensures within { result ≤ length self.now.log.events }
+        ensures journal { IsJournal self.now.image self.now.log.threads self.now.log.events }
     {
         self.position
     }

@@ -47,6 +47,7 @@ impl From<MachineFault> for DebugFault {
     fn from(fault: MachineFault) -> Self {
         match fault {
             MachineFault::BadCount => DebugFault::BadCount,
+            // A debugger steps the threads of its journal alone, which are there: `BadThread` never comes here.
             MachineFault::BadThread | MachineFault::OutOfMemory => DebugFault::OutOfMemory,
         }
     }
