@@ -3,7 +3,7 @@
 ghost use Rattle.std.specs.Prelude.{◌≡◌};
 ghost use Rattle.std.specs.Option.{option_map};
 ghost use Rattle.asl_grammar.specs.Written.{Assigns};
-ghost use Rattle.asl_grammar.specs.Automaton.{Keep, LineEnd, ItemStart, FirstParameter, StatementStart, step, item_step, value_step, name_step, operand_step, argument_step};
+ghost use Rattle.asl_grammar.specs.Automaton.{Keep, LineEnd, ItemStart, FirstParameter, AfterParameter, BodyEnd, StatementStart, AfterThen, Target, step, item_step, value_step, name_step, operand_step, argument_step};
 ghost use Rattle.asl_grammar.specs.View.{token_of};
 ghost use Rattle.asl_grammar.specs.ControlView.{control_of, right_of, act_of, transition_of};
 
@@ -289,6 +289,29 @@ fn parameter_step(token: Token<'_>) -> Option<Transition<'_>>
     }
 }
 
+/// What follows a parameter.
+#[inline(always)]
+fn separator_step(token: Token<'_>) -> Option<Transition<'_>>
+    ensures { option_map transition_of result ≡ item_step AfterParameter (token_of token.entry) }
+{
+    match token {
+        Token::Fixed(Mark::Comma) => keep(Control::NextParameter),
+        Token::Fixed(Mark::CloseParen) => keep(Control::BodyStart),
+        _ => None,
+    }
+}
+
+/// The end of a function that returns `name`.
+#[inline(always)]
+fn end_step<'t>(name: &'t [u8], token: Token<'t>) -> Option<Transition<'t>>
+    ensures { option_map transition_of result ≡ item_step (BodyEnd name.now) (token_of token.entry) }
+{
+    match token {
+        Token::Fixed(Mark::CloseBrace) => does(Control::ItemStart, Act::Finish(name)),
+        _ => None,
+    }
+}
+
 /// Globals, the head of a function and its last line.
 #[inline(always)]
 fn item_step<'t>(control: Control<'t>, token: Token<'t>) -> Option<Transition<'t>>
@@ -313,11 +336,7 @@ fn item_step<'t>(control: Control<'t>, token: Token<'t>) -> Option<Transition<'t
             _ => None,
         },
         Control::FirstParameter => parameter_step(token),
-        Control::AfterParameter => match token {
-            Token::Fixed(Mark::Comma) => keep(Control::NextParameter),
-            Token::Fixed(Mark::CloseParen) => keep(Control::BodyStart),
-            _ => None,
-        },
+        Control::AfterParameter => separator_step(token),
         Control::NextParameter => match token {
             Token::Name(x) => does(Control::AfterParameter, Act::Parameter(x)),
             _ => None,
@@ -334,10 +353,7 @@ fn item_step<'t>(control: Control<'t>, token: Token<'t>) -> Option<Transition<'t
             Token::Fixed(Mark::Semicolon) => keep(Control::BodyEnd(x)),
             _ => None,
         },
-        Control::BodyEnd(x) => match token {
-            Token::Fixed(Mark::CloseBrace) => does(Control::ItemStart, Act::Finish(x)),
-            _ => None,
-        },
+        Control::BodyEnd(x) => end_step(x, token),
         _ => value_step(control, token),
     }
 }
@@ -367,6 +383,28 @@ fn statement_step(kind: Kind, token: Token<'_>) -> Option<Transition<'_>>
     }
 }
 
+/// The `else` behind the block of an `if`.
+#[inline(always)]
+fn else_step(token: Token<'_>) -> Option<Transition<'_>>
+    ensures { (kind : Kind) → option_map transition_of result ≡ step AfterThen kind (token_of token.entry) }
+{
+    match token {
+        Token::Fixed(Mark::Else) => keep(Control::AfterHeader(Opening::OfElse)),
+        _ => None,
+    }
+}
+
+/// What follows the name at which a line begins.
+#[inline(always)]
+fn target_step<'t>(name: &'t [u8], token: Token<'t>) -> Option<Transition<'t>>
+    ensures { (kind : Kind) → option_map transition_of result ≡ step (Target name.now) kind (token_of token.entry) }
+{
+    match token {
+        Token::Fixed(Mark::Becomes) => keep(Control::AfterBecomes(name)),
+        _ => None,
+    }
+}
+
 /// The step at a token in a block of a kind, or nothing where the token may not stand.
 #[inline(always)]
 pub fn step<'t>(control: Control<'t>, kind: Kind, token: Token<'t>) -> Option<Transition<'t>>
@@ -374,14 +412,8 @@ pub fn step<'t>(control: Control<'t>, kind: Kind, token: Token<'t>) -> Option<Tr
 {
     match control {
         Control::StatementStart => statement_step(kind, token),
-        Control::AfterThen => match token {
-            Token::Fixed(Mark::Else) => keep(Control::AfterHeader(Opening::OfElse)),
-            _ => None,
-        },
-        Control::Target(x) => match token {
-            Token::Fixed(Mark::Becomes) => keep(Control::AfterBecomes(x)),
-            _ => None,
-        },
+        Control::AfterThen => else_step(token),
+        Control::Target(x) => target_step(x, token),
         Control::LineEnd(l) => match token {
             Token::Fixed(Mark::Semicolon) => does(Control::StatementStart, Act::Emit(l)),
             _ => None,
