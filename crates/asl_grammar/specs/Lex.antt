@@ -1,7 +1,8 @@
 -- Reading bytes as tokens: the longest token first, blanks between (docs/SOURCE.md). The definitions compute; specs/Bytes
 -- and specs/Readings say without reading what a token and the tokens of a text are, and the laws of src/ that it is the same.
--- Public contracts cite `tokens_of` and `bad_place`; laws also `front`, `leading` and `IsAtToken`, and of bytes `is_blank`,
--- `is_digit`, `is_name_byte`, `all_bytes`, `is_name` and `number_value`.
+-- Public contracts cite `tokens_of` and `bad_place`, and rest on `are_tokens` by `IsViable` of specs/Grammar; laws cite
+-- these three, `front`, `leading` and `IsAtToken`, and of bytes `is_blank`, `is_digit`, `is_name_byte`, `all_bytes`,
+-- `is_name` and `number_value`.
 use Rattle.std.specs.Prelude.{◌≡◌, ℕ, zero, suc, ◌+◌, ◌-◌, ◌*◌, List, [], ◌∷◌, Bool, true, false, Option, Some, None, if◌then◌else◌, ◌==◌, nat_le, ◌&&◌, ◌||◌, codes, bytes_eq, take, is_none}
 use Rattle.asl_grammar.specs.declared.token.Mark.{Mark}
 use Rattle.asl_grammar.specs.declared.token.Mark.TheVariants as mark
