@@ -16,7 +16,7 @@ pub enum Value {
 pub struct Cell {
     /// The object's number, globals first.
     pub object: u16,
-    /// The place in the object, below the object's size.
+    /// The place in the object.
     pub offset: u8,
 }
 
