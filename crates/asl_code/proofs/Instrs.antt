@@ -12,7 +12,7 @@ use Rattle.std.proofs.Math.Facts.{sfits_to_z, Fits-of_z}
 use Rattle.asl_code.specs.declared.instr.Instr.{Instr}
 use Rattle.asl_code.specs.declared.instr.Instr.TheVariants.{SetInt, SetNull, Move, Add, Subtract, LessThan, Equals, GlobalAddress, FieldAddress, Load, Store, New, Jump, JumpIfZero, Call, Return, Output, Acquire, Release}
 use Rattle.asl_code.specs.Spelling.{eight_bytes, instr_bytes, IsInstr, SpellsInstr, field_end, IsFirstBadField, InstrOfSpellingIsOne, SpellingOfInstrIsOne, FirstBadFieldIsOne}
-use Rattle.asl_code.specs.Reading.{Row, rows, row_of, limits_of, takes, bad_field, unless_bad, instr_of_row, instr_of_some, instr_of_fields, instr_of, made_by}
+use Rattle.asl_code.specs.Reading.{Row, rows, row_of, fields_of, takes, bad_field, unless_bad, instr_of_row, instr_of_some, instr_of_fields, instr_of, made_by}
 
 abbrev refused : ℕ → Result Instr ℕ
 refused place = Err place
@@ -21,10 +21,10 @@ abbrev pub accepted : Instr → Result Instr ℕ
 accepted i = Ok i
 
 -- what the code makes of a row that takes the fields
-pub made_is : (row : Option Row) (used greatest a b c d : ℕ) (made : Instr) → Some (used, greatest) ≡ option_map limits_of row → None ≡ bad_field used greatest a b c d → made_by row a b c d ≡ Some made → accepted made ≡ instr_of_some row a b c d
+pub made_is : (row : Option Row) (used greatest a b c d : ℕ) (made : Instr) → Some (used, greatest) ≡ option_map fields_of row → None ≡ bad_field used greatest a b c d → made_by row a b c d ≡ Some made → accepted made ≡ instr_of_some row a b c d
 made_is None used greatest a b c d made e f g = absurd cc
 made_is (Some r) used greatest a b c d made e f g =
-    let pair : (used, greatest) ≡ limits_of r = cc in
+    let pair : (used, greatest) ≡ fields_of r = cc in
     let u : used ≡ r.used = ap (λ (p : ℕ × ℕ). p.0) pair in
     let v : greatest ≡ r.greatest = ap (λ (p : ℕ × ℕ). p.1) pair in
     let h : None ≡ bad_field r.used r.greatest a b c d = subst (λ (n : ℕ). None ≡ bad_field n r.greatest a b c d) u (subst (λ (n : ℕ). None ≡ bad_field used n a b c d) v f) in

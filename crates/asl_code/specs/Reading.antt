@@ -42,8 +42,8 @@ row_of zero = None
 row_of (suc n) = slice_get rows n
 
 -- the fields that a row uses, and its greatest d
-abbrev pub limits_of : Row → ℕ × ℕ
-limits_of r = (r.used, r.greatest)
+abbrev pub fields_of : Row → ℕ × ℕ
+fields_of r = (r.used, r.greatest)
 
 -- whether a row that uses so many of a, b and c takes this number as one of them, by its index: it uses it, or the number is 0
 abbrev pub takes : ℕ → ℕ → ℕ → Bool

@@ -4,7 +4,7 @@ ghost use Rattle.std.specs.Prelude.{◌≡◌, ◌≤◌, IfOk, IfErr, IsSomeAnd
 ghost use Rattle.std.specs.Option.{option_map};
 ghost use Rattle.asl_code.specs.declared.instr.Instr.{Instr};
 ghost use Rattle.asl_code.specs.Spelling.{eight_bytes, SpellsInstr, IsFirstBadField, InstrOfSpellingIsOne, SpellingOfInstrIsOne, FirstBadFieldIsOne};
-ghost use Rattle.asl_code.specs.Reading.{row_of, limits_of, bad_field, made_by, instr_of_fields};
+ghost use Rattle.asl_code.specs.Reading.{row_of, fields_of, bad_field, made_by, instr_of_fields};
 
 use crate::instr::Instr;
 
@@ -68,8 +68,8 @@ fn eight_bytes(op: u8, a: u8, b: u8, c: u8, d: u32) -> [u8; 8]
 }
 
 /// How many of the fields a, b and c the instructions of this op use, and their greatest d.
-fn limits_of(op: u8) -> Option<(u8, u32)>
-    ensures { result ≡ option_map limits_of (row_of op) }
+fn fields_of(op: u8) -> Option<(u8, u32)>
+    ensures { result ≡ option_map fields_of (row_of op) }
 {
     match op {
         1 => Some((1, u32::MAX)),
@@ -223,7 +223,7 @@ fn section_instr(op: u8, d: u32) -> Instr
 fn instr_of_fields(op: u8, a: u8, b: u8, c: u8, d: u32) -> Result<Instr, usize>
     ensures { result ≡ instr_of_fields op a b c d }
 {
-    let Some((used, greatest)) = limits_of(op) else {
+    let Some((used, greatest)) = fields_of(op) else {
         return Err(0);
     };
     match bad_field(used, greatest, a, b, c, d) {
