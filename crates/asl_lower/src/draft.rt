@@ -1,4 +1,4 @@
-//! The code of a program that breaks no rule of accesses.
+//! The code of a program with room.
 
 ghost use Rattle.std.specs.Prelude.{◌≡◌, ◌≤◌, length, map, codes, IfOk};
 ghost use Rattle.asl_syntax.specs.View.{item_of};
