@@ -82,7 +82,7 @@ lowering_nested is l h =
       returns = λ pc from e.
           let b = body_at is l h pc (slice_get_within l.code pc (instr.Return from) e) in
           ap (open_at l.code) (return_place is l b.0 pc from b.1 e) ∙ end_opened is l b.0 b.1.placed;
-      points = λ pc number low.
+      opened = λ pc number low.
           let p = points is l h pc (omega arith) in
           (λ e. p.inside number (contained (open_at l.code pc) number e), λ q. among (open_at l.code pc) number (p.opened number q));
     }
@@ -206,7 +206,7 @@ lowering_returns is l h =
           omega (arith, at, n, g.pc, b.placed.start);
     }
 
--- the section goes on behind each of its points but its `rel`
+-- a section that is open stays open where control goes on, but for its `rel`
 section_stays : (is : List Item) (l : Lowered) → IsLowering is l → (pc to number : ℕ) (i : Instr) (s : Section) → slice_get l.sections number ≡ Some s → InSection l number pc → pc ≢ s.release → slice_get l.code pc ≡ Some i → GoesOn i pc to → InSection l number to
 section_stays is l h pc to number i s e x other f g =
     let low : pc < length l.code = slice_get_within l.code pc i f in

@@ -33,7 +33,7 @@ not_open l lay pc n e =
     elim (is_among (open_at l.code pc) n) as (λ b. is_among (open_at l.code pc) n ≡ b → b ≡ false) [
       | false ↦ λ is. refl
       | true ↦ λ is.
-          let q = (lay.nested.points pc n (slice_get_within l.code pc (instr.Acquire n) e)).0 is in
+          let q = (lay.nested.opened pc n (slice_get_within l.code pc (instr.Acquire n) e)).0 is in
           let a = from_mapped (λ (s : Section). s.acquire) (slice_get l.sections n) pc (lay.sections.entered pc n e) in
           let same : q.0 ≡ a.0 = (let u : Some q.0 ≡ Some a.0 = sym q.1 ∙ a.1 in cc) in
           let at : q.0.acquire ≡ a.0.acquire = ap (λ (s : Section). s.acquire) same in
@@ -61,12 +61,12 @@ outermost_among (x ∷ []) n e = let is : x ≡ n = cc in or_left (x == n) false
 outermost_among (x ∷ y ∷ xs) n e =
     or_right (x == n) (is_among (y ∷ xs) n) (outermost_among (y ∷ xs) n e)
 
--- a place with an open section is a point of the outermost
+-- where a section is open, the outermost is
 pub outermost_section : (l : Lowered) → HasLayout l → (pc n : ℕ) → pc < length l.code → outermost (open_at l.code pc) ≡ Some n → InSection l n pc
 outermost_section l lay pc n low e =
-    (lay.nested.points pc n low).0 (outermost_among (open_at l.code pc) n e)
+    (lay.nested.opened pc n low).0 (outermost_among (open_at l.code pc) n e)
 
--- all points of a section are in the body of its function
+-- where a section is open is in the body of its function
 pub section_body : (l : Lowered) → HasLayout l → (n pc : ℕ) → (s : InSection l n pc) → InBody l s.0.function pc
 section_body l lay n pc s =
     let k = told l lay n s.0 s.1 in
@@ -78,9 +78,9 @@ section_body l lay n pc s =
       before_end = omega (arith, k.last_inside.before_end, s.2.within);
     }
 
--- a point of a section is inside it or its end
-pub point_inside : (l : Lowered) → HasLayout l → (f pc n : ℕ) → InBody l f pc → InSection l n pc → IsIn l (Inside n) f pc ⊎ IsEnd l (Inside n) pc
-point_inside l lay f pc n body s =
+-- where a section is open is inside it or its end
+pub open_inside : (l : Lowered) → HasLayout l → (f pc n : ℕ) → InBody l f pc → InSection l n pc → IsIn l (Inside n) f pc ⊎ IsEnd l (Inside n) pc
+open_inside l lay f pc n body s =
     elim (cases_lt pc s.0.release) [
       | inl ahead ↦ inl (record {
         is = s.0;
@@ -95,7 +95,7 @@ point_inside l lay f pc n body s =
 
 pub outermost_inside : (l : Lowered) → HasLayout l → (f pc n : ℕ) → InBody l f pc → outermost (open_at l.code pc) ≡ Some n → IsIn l (Inside n) f pc ⊎ IsEnd l (Inside n) pc
 outermost_inside l lay f pc n body e =
-    point_inside l lay f pc n body (outermost_section l lay pc n (lay.parted.in_code pc f body) e)
+    open_inside l lay f pc n body (outermost_section l lay pc n (lay.parted.in_code pc f body) e)
 
 -- a point of a region is in the body of its function
 pub region_body : (l : Lowered) → HasLayout l → (r : Region) (f pc : ℕ) → IsIn l r f pc → InBody l f pc
@@ -112,14 +112,14 @@ region_goes_on l lay (Inside n) f pc to i h e goes =
     let s : InSection l n pc = (h.is, h.in_table, record { behind = h.behind; within = omega (arith, h.ahead) }) in
     let apart : pc ≢ h.is.release = λ at. omega (arith, h.ahead, at) in
     let body : InBody l f to = lay.inside.body pc to f i (region_body l lay (Inside n) f pc h) e goes in
-    point_inside l lay f to n body (lay.inside.section pc to n i h.is h.in_table s apart e goes)
+    open_inside l lay f to n body (lay.inside.section pc to n i h.is h.in_table s apart e goes)
 
 -- a section is entered at its first point, or at its end
 pub section_entered : (l : Lowered) → HasLayout l → (n : ℕ) (s : Section) → slice_get l.sections n ≡ Some s → IsIn l (Inside n) s.function (suc s.acquire) ⊎ IsEnd l (Inside n) (suc s.acquire)
 section_entered l lay n s e =
     let k = told l lay n s e in
     let t : InSection l n (suc s.acquire) = (s, e, record { behind = omega arith; within = omega (arith, k.before) }) in
-    point_inside l lay s.function (suc s.acquire) n (section_body l lay n (suc s.acquire) t) t
+    open_inside l lay s.function (suc s.acquire) n (section_body l lay n (suc s.acquire) t) t
 
 -- the sections that are open behind an `acq` and behind a `rel`
 pub opened_behind_acquire : (l : Lowered) (pc n : ℕ) → slice_get l.code pc ≡ Some (instr.Acquire n) → open_at l.code (suc pc) ≡ n ∷ open_at l.code pc

@@ -160,7 +160,7 @@ section_inside l lay sc a p h n low high none =
     let in_section : InSection l p.section n = (s, h.3, record { behind = omega arith; within = omega arith }) in
     let here : slice_get l.code (past_block a (entered p)).pc ≡ Some instr.Release = h.2 in
     let bound = slice_get_within l.code (past_block a (entered p)).pc instr.Release here in
-    let t : IsTrue (is_among (open_at l.code n) p.section) = (lay.nested.points n p.section (omega (arith, bound))).1 in_section in
+    let t : IsTrue (is_among (open_at l.code n) p.section) = (lay.nested.opened n p.section (omega (arith, bound))).1 in_section in
     let P : List ℕ → Type 0 = λ xs. IsTrue (is_among xs p.section) in
     false≢true (subst P none t)
 

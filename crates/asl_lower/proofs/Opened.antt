@@ -1,4 +1,4 @@
--- The sections that are open at a pc are those of which it is a point.
+-- The sections that `open_at` has at a pc are those that are open there by the table.
 use Rattle.std.proofs.Common.{◌≡◌, ℕ, zero, suc, ◌<◌, ◌≤◌, ◌⊎◌, inl, inr, true, false, ◌||◌, ◌==◌, IsTrue, List, [], ◌∷◌, length, Some, slice_get, refl, sym, ap, ◌∙◌, subst, arith}
 use Rattle.std.specs.List.{Contains}
 use Rattle.std.proofs.lemmas.Bool.{cases_lt, false≢true, or_left, or_right, eq-eqb, eqb-true}
@@ -127,7 +127,7 @@ kind_at is l h pc low =
           kept l pc _ r (λ os. refl) (λ s q. cc) (λ q. cc))
     ]
 
--- the open sections of a pc are those of which it is a point
+-- the sections that `open_at` has at a pc are those that are open there by the table
 pub record Points (l : Lowered) (pc : ℕ) : Type 0 where
   pub inside : (s : ℕ) → Contains (open_at l.code pc) s → InSection l s pc
   pub opened : (s : ℕ) → InSection l s pc → Contains (open_at l.code pc) s
@@ -136,7 +136,7 @@ pub record Points (l : Lowered) (pc : ℕ) : Type 0 where
 abbrev AllThere : Lowered → Type 0
 AllThere l = (s : ℕ) → s < length l.sections → IsSection l s
 
--- the section of a point, with what is known of it
+-- what is known of a section of the table
 record Known (l : Lowered) (s : ℕ) (c : Section) : Type 0 where
   enters : slice_get l.code c.acquire ≡ Some (instr.Acquire s)
   leaves : slice_get l.code c.release ≡ Some instr.Release
@@ -256,6 +256,6 @@ points_to is l h (suc top) t pc low =
           subst P e (points_step l (section_there is l h) top (kind_at is l h top (omega arith)) (points_to is l h top (omega arith))))
     ]
 
--- the sections that are open at a pc are those of which it is a point
+-- the sections that `open_at` has at a pc are those that are open there by the table
 pub points : (is : List Item) (l : Lowered) → IsLowering is l → (pc : ℕ) → pc ≤ length l.code → Points l pc
 points is l h pc low = points_to is l h (length l.code) (omega arith) pc low

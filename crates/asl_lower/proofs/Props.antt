@@ -5,7 +5,7 @@ use Rattle.asl_code.specs.declared.instr.Instr.{Instr}
 use Rattle.asl_code.specs.declared.instr.Instr.TheVariants as instr
 use Rattle.asl_lower.specs.declared.section.Section.{Section}
 use Rattle.asl_lower.specs.Lowered.{Lowered}
-use Rattle.asl_lower.specs.Region.{open_at, start_of, IsPoint, InBody, InSection, IsSection}
+use Rattle.asl_lower.specs.Region.{open_at, start_of, IsOpenAt, InBody, InSection, IsSection}
 use Rattle.asl_lower.specs.Operands.{HasCallee, HasOperands, AreOperandsThere}
 use Rattle.asl_lower.specs.Limits.{HasMain, KeepsLimits}
 use Rattle.asl_lower.specs.Facts.{IsParted, IsNested, HasSections, ReturnsLast, StaysInside, IsNumbered, HasLayout}
@@ -40,7 +40,7 @@ InBody-prop l number pc x y =
 
 pub InSection-prop : (l : Lowered) (number pc : ℕ) → IsProp (InSection l number pc)
 InSection-prop l number pc x y =
-    let P : Section → Type 0 = λ s. (slice_get l.sections number ≡ Some s) × IsPoint s pc in
+    let P : Section → Type 0 = λ s. (slice_get l.sections number ≡ Some s) × IsOpenAt s pc in
     let h : (s : Section) → IsProp (P s) = hlevel (props, section_set) in
     let back : ((s : Section) × P s) → InSection l number pc = λ w. (w.0, w.1.0, w.1.1) in
     let a : (s : Section) × P s = (x.0, (x.1, x.2)) in

@@ -24,7 +24,7 @@ pub record IsNested (l : Lowered) : Type 0 where
   pub leaves : (pc : ℕ) → slice_get l.code pc ≡ Some instr.Release → open_at l.code pc ≢ []
   pub starts : (number : ℕ) (f : entry.Function) → slice_get l.functions number ≡ Some f → open_at l.code (start_of l.functions number) ≡ []
   pub returns : (pc from : ℕ) → slice_get l.code pc ≡ Some (instr.Return from) → open_at l.code pc ≡ []
-  pub points : (pc number : ℕ) → pc < length l.code → IsTrue (is_among (open_at l.code pc) number) ↔ InSection l number pc
+  pub opened : (pc number : ℕ) → pc < length l.code → IsTrue (is_among (open_at l.code pc) number) ↔ InSection l number pc
 
 -- each section of the table is in the code, each `acq` is that of its section, and each `rel` that of the innermost
 -- open one

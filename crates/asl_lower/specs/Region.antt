@@ -47,13 +47,13 @@ abbrev pub sections_before : List Instr → ℕ → ℕ
 sections_before code pc = count_by is_acquire (take pc code)
 
 -- the section is open before the instruction at the pc: behind its `acq`, up to and with its `rel`
-pub record IsPoint (s : Section) (pc : ℕ) : Type 0 where
+pub record IsOpenAt (s : Section) (pc : ℕ) : Type 0 where
   pub behind : s.acquire < pc
   pub within : pc ≤ s.release
 
 -- the same of the section of this number
 abbrev pub InSection : Lowered → ℕ → ℕ → Type 0
-InSection l number pc = (s : Section) × (slice_get l.sections number ≡ Some s) × IsPoint s pc
+InSection l number pc = (s : Section) × (slice_get l.sections number ≡ Some s) × IsOpenAt s pc
 
 -- where the body of a function begins
 abbrev pub start_of : List entry.Function → ℕ → ℕ
