@@ -7,6 +7,7 @@ ghost use Rattle.asl_lower.specs.NamesView.{names_of};
 
 use crate::names::number_of;
 use arrayvec::ArrayVec;
+use asl_code::limits::REGS;
 use asl_syntax::Name;
 use asl_syntax::tree::{Statement, Value};
 
@@ -15,10 +16,10 @@ use asl_syntax::tree::{Statement, Value};
 pub struct TooMany;
 
 /// The most registers that a function has.
-pub const MOST: usize = 64;
+pub const MOST_REGISTERS: usize = REGS as usize;
 
 /// The bytes of names, in the order of their registers.
-pub type Locals<'a> = ArrayVec<&'a [u8], MOST>;
+pub type Locals<'a> = ArrayVec<&'a [u8], MOST_REGISTERS>;
 
 /// Adds a local, unless it is there.
 fn add_local<'a>(locals: &mut Locals<'a>, name: &'a Name) -> Result<(), TooMany>

@@ -4,6 +4,7 @@ ghost use Rattle.std.specs.Prelude.{◌≡◌, ◌<◌, ◌≤◌, [], ◌∷◌
 
 use crate::section::Section;
 use asl_code::Instr;
+use asl_code::limits::CODE;
 use std::alloc::{AllocError, Global};
 
 /// The code and the sections so far, and how many sites they have.
@@ -22,7 +23,7 @@ impl Output {
     ghost use Rattle.asl_lower.specs.OutputView.{Adds, place_of};
 
     /// The most instructions that a program has.
-    pub const MOST: usize = 65535;
+    pub const MOST: usize = CODE;
 
     /// Nothing yet.
     pub fn new(alloc: Global) -> Output
