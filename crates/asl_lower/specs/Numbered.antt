@@ -1,19 +1,11 @@
 -- Machinery of the proofs, not of the promise: which numbers of names of docs/SOURCE.md the code's maps hold
 -- (src/numbers.rt).
 use Rattle.std.specs.Prelude.{◌≡◌, ◌≤◌, ℕ, suc, ◌+◌, List, [], ◌∷◌, length, Some}
-use Rattle.std.specs.Borrow.{Bor}
-use Rattle.std.specs.Ordering.{nat_cmp}
-use Rattle.std.specs.Cmp.Lexicographic.{slice_cmp}
-use Rattle.std.specs.BTreeMap as tree
 use Rattle.asl_syntax.specs.Rules.{Counts, no_count, with_count}
+use Rattle.asl_syntax.specs.NumberedNamesView.{counts_in}
 use Rattle.asl_syntax.specs.Tree.{Item, globals_of, functions_of}
-use Rattle.asl_lower.specs.declared.numbers.Numbering as numbering
 use Rattle.asl_lower.specs.declared.numbers.Numbers as code
 use Rattle.asl_lower.specs.Names.{number_of, function_names}
-
--- the number beside each name
-abbrev pub numbers_in : numbering.Numbering → Counts
-numbers_in m q = tree.get_by (λ (k : Bor (List ℕ)). slice_cmp nat_cmp q k.now) m.numbers
 
 -- the names with their places, from a number on; of equal names the first one counts
 abbrev pub numbers_from : ℕ → List (List ℕ) → Counts
@@ -31,5 +23,5 @@ IsNumbering m names = (x : List ℕ) (k : ℕ) → m x ≡ Some k → IsPlace 0 
 
 -- the numbers that there are are those of a program's names
 pub record AreNumbered (n : code.Numbers) (is : List Item) : Type 0 where
-  pub globals : IsNumbering (numbers_in n.globals) (globals_of is)
-  pub functions : IsNumbering (numbers_in n.functions) (function_names (functions_of is))
+  pub globals : IsNumbering (counts_in n.globals) (globals_of is)
+  pub functions : IsNumbering (counts_in n.functions) (function_names (functions_of is))

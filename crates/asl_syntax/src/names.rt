@@ -4,21 +4,21 @@ ghost use Rattle.std.specs.Prelude.{◌≡◌, map, if◌then◌else◌, Some, N
 ghost use Rattle.std.specs.List.{list_any};
 ghost use Rattle.std.specs.Option.{option_copied};
 ghost use Rattle.asl_syntax.specs.MentionView.{mention_of, mentions_of};
-ghost use Rattle.asl_syntax.specs.Rules.{no_count, with_count, no_name, with_name, first_twice, declared_in, names_in, unknown_use, unknown_in_function, first_unknown, parameter_counts, is_wrong_call, wrong_call_from, name_places, places_with, is_main, has_main};
+ghost use Rattle.asl_syntax.specs.Rules.{no_name, first_twice, declared_in, names_in, unknown_use, unknown_in_function, first_unknown, parameter_counts, is_wrong_call, wrong_call_from, name_places, places_with, is_main, has_main};
 ghost use Rattle.asl_grammar.specs.Lex.{tokens_of};
 ghost use Rattle.asl_grammar.specs.Reader.{spots_left};
 ghost use Rattle.asl_syntax.specs.Mentions.{function_mentions};
 ghost use Rattle.asl_syntax.specs.View.{function_of, item_of};
 ghost use Rattle.asl_syntax.specs.declared.names.Space.TheVariants.{Globals, Functions};
-ghost use Rattle.asl_syntax.specs.KnownView.{counts_in, names_known};
+ghost use Rattle.asl_syntax.specs.NumberedNamesView.{counts_in, names_known};
 
 use crate::mentions::{Mention, push_function};
 use crate::name::Name;
+use crate::numbered_names::NumberedNames;
 use crate::tree::{Function, Item};
 use asl_grammar::lexer::{Found, Tokens};
 use asl_grammar::token::Token;
 use std::alloc::{AllocError, Global};
-use std::collections::BTreeMap;
 
 /// A name space.
 #[derive(Clone, Copy)]
@@ -28,54 +28,13 @@ pub enum Space {
     Locals,
 }
 
-/// Names, each with a number.
-#[derive(Drop)]
-pub struct Known<'a> {
-    names: BTreeMap<&'a [u8], usize>,
-}
-
-impl<'a> Known<'a> {
-    /// No name.
-    fn new(alloc: Global) -> Known<'a>
-        ensures counts { counts_in result ≡ no_count }
-        ensures names { names_known result ≡ no_name }
-    {
-        Known {
-            names: BTreeMap::new(alloc),
-        }
-    }
-
-    /// Adds a name with its number, in place of an older one.
-    fn add(&mut self, name: &'a Name, number: usize) -> Result<(), AllocError>
-        ensures counts { IfOk result (λ _. counts_in self.new ≡ with_count name.now number (counts_in self.old)) }
-        ensures names { IfOk result (λ _. names_known self.new ≡ with_name name.now (names_known self.old)) }
-    {
-        self.names.insert(name.as_slice(), number)?;
-        Ok(())
-    }
-
-    /// The number beside a name.
-    fn find(&self, name: &Name) -> Option<usize>
-        ensures { result ≡ counts_in self.now name.now }
-    {
-        self.names.get(name.as_slice()).copied()
-    }
-
-    /// Whether a name is there.
-    fn has(&self, name: &Name) -> bool
-        ensures { result ≡ names_known self.now name.now }
-    {
-        self.names.contains_key(name.as_slice())
-    }
-}
-
 /// The first name that is declared a second time: of globals, of functions, or of the parameters of one function.
 pub fn first_twice(alloc: Global, mentions: &[Mention<'_>]) -> Result<Option<Name>, AllocError>
     ensures { IfOk result (λ o. o ≡ first_twice no_name no_name no_name (mentions_of mentions.now)) }
 {
-    let mut globals = Known::new(alloc);
-    let mut functions = Known::new(alloc);
-    let mut parameters = Known::new(alloc);
+    let mut globals = NumberedNames::new(alloc);
+    let mut functions = NumberedNames::new(alloc);
+    let mut parameters = NumberedNames::new(alloc);
     for mention in mentions {
         match mention {
             Mention::Global(x) => {
@@ -89,7 +48,7 @@ pub fn first_twice(alloc: Global, mentions: &[Mention<'_>]) -> Result<Option<Nam
                     return Ok(Some(x.copy()));
                 }
                 functions.add(x, 0)?;
-                parameters = Known::new(alloc);
+                parameters = NumberedNames::new(alloc);
             }
             Mention::Parameter(x) => {
                 if parameters.has(x) {
@@ -121,10 +80,10 @@ fn names_in<'a>(
     alloc: Global,
     space: Space,
     mentions: &[Mention<'a>],
-) -> Result<Known<'a>, AllocError>
+) -> Result<NumberedNames<'a>, AllocError>
     ensures { IfOk result (λ known. names_known known ≡ names_in space (mentions_of mentions.now)) }
 {
-    let mut known = Known::new(alloc);
+    let mut known = NumberedNames::new(alloc);
     let mut i = mentions.len();
     while i > 0 {
         i -= 1;
@@ -136,7 +95,7 @@ fn names_in<'a>(
 }
 
 /// The name, if it is not known.
-fn missing<'a>(known: &Known<'_>, name: &'a Name) -> Option<&'a Name>
+fn missing<'a>(known: &NumberedNames<'_>, name: &'a Name) -> Option<&'a Name>
     ensures { option_copied result ≡ (if names_known known.now name.now then None else Some name.now) }
 {
     if known.has(name) { None } else { Some(name) }
@@ -144,9 +103,9 @@ fn missing<'a>(known: &Known<'_>, name: &'a Name) -> Option<&'a Name>
 
 /// A used name that its name space does not have.
 fn unknown_use<'a>(
-    globals: &Known<'_>,
-    functions: &Known<'_>,
-    locals: &Known<'_>,
+    globals: &NumberedNames<'_>,
+    functions: &NumberedNames<'_>,
+    locals: &NumberedNames<'_>,
     mention: Mention<'a>,
 ) -> Option<&'a Name>
     ensures { option_copied result ≡ unknown_use (names_known globals.now) (names_known functions.now) (names_known locals.now) (mention_of mention.entry) }
@@ -162,8 +121,8 @@ fn unknown_use<'a>(
 /// The first name of a function that is used and not known.
 fn unknown_in_function(
     alloc: Global,
-    globals: &Known<'_>,
-    functions: &Known<'_>,
+    globals: &NumberedNames<'_>,
+    functions: &NumberedNames<'_>,
     function: &Function,
 ) -> Result<Option<Name>, AllocError>
     ensures { IfOk result (λ o. o ≡ unknown_in_function (names_known globals.now) (names_known functions.now) (function_mentions (function_of function.now))) }
@@ -200,10 +159,10 @@ pub fn unknown(
 }
 
 /// How many parameters each function has.
-pub fn parameter_counts(alloc: Global, items: &[Item]) -> Result<Known<'_>, AllocError>
+pub fn parameter_counts(alloc: Global, items: &[Item]) -> Result<NumberedNames<'_>, AllocError>
     ensures { IfOk result (λ known. counts_in known ≡ parameter_counts (map item_of items.now)) }
 {
-    let mut known = Known::new(alloc);
+    let mut known = NumberedNames::new(alloc);
     let mut i = items.len();
     while i > 0 {
         i -= 1;
@@ -215,7 +174,7 @@ pub fn parameter_counts(alloc: Global, items: &[Item]) -> Result<Known<'_>, Allo
 }
 
 /// Whether a mention is a call with too many or too few arguments.
-fn is_wrong_call(counts: &Known<'_>, mention: Mention<'_>) -> bool
+fn is_wrong_call(counts: &NumberedNames<'_>, mention: Mention<'_>) -> bool
     ensures { result ≡ is_wrong_call (counts_in counts.now) (mention_of mention.entry) }
 {
     match mention {
@@ -240,7 +199,7 @@ fn next_name(tokens: &mut Tokens<'_>) -> Option<usize>
 }
 
 /// Whether a mention is a wrong call.
-fn has_wrong_call(counts: &Known<'_>, mentions: &[Mention<'_>]) -> bool
+fn has_wrong_call(counts: &NumberedNames<'_>, mentions: &[Mention<'_>]) -> bool
     ensures { result ≡ list_any (is_wrong_call (counts_in counts.now)) (mentions_of mentions.now) }
 {
     for mention in mentions {
@@ -253,7 +212,11 @@ fn has_wrong_call(counts: &Known<'_>, mentions: &[Mention<'_>]) -> bool
 
 /// The place of the first wrong call, where the mentions are those of the name tokens of `text` one by one. The text is
 /// read only where there is one.
-pub fn wrong_call(counts: &Known<'_>, mentions: &[Mention<'_>], text: &[u8]) -> Option<usize>
+pub fn wrong_call(
+    counts: &NumberedNames<'_>,
+    mentions: &[Mention<'_>],
+    text: &[u8],
+) -> Option<usize>
     ensures { result ≡ wrong_call_from (counts_in counts.now) (mentions_of mentions.now) (name_places (tokens_of text.now)) }
 {
     if !has_wrong_call(counts, mentions) {

@@ -1,7 +1,7 @@
 -- what is left gives the answer
 use Rattle.std.proofs.Common.{◌≡◌, drop}
 use Rattle.asl_syntax.specs.MentionView.{mentions_of}
-use Rattle.asl_syntax.specs.KnownView.{names_known}
+use Rattle.asl_syntax.specs.NumberedNamesView.{names_known}
 use Rattle.asl_syntax.specs.Rules.{no_name, first_twice}
 use Rattle.asl_syntax.proofs.names.first_twice.Given as goal
 

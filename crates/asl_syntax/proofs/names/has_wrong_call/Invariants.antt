@@ -2,7 +2,7 @@
 use Rattle.std.proofs.Common.{◌≡◌, drop}
 use Rattle.std.specs.List.{list_any}
 use Rattle.asl_syntax.specs.MentionView.{mentions_of}
-use Rattle.asl_syntax.specs.KnownView.{counts_in}
+use Rattle.asl_syntax.specs.NumberedNamesView.{counts_in}
 use Rattle.asl_syntax.specs.Rules.{is_wrong_call}
 use Rattle.asl_syntax.proofs.names.has_wrong_call.Given as goal
 

@@ -1,7 +1,7 @@
 -- the names of what has been read, from the end
 use Rattle.std.proofs.Common.{◌≡◌, ◌≤◌, drop, length}
 use Rattle.asl_syntax.specs.MentionView.{mentions_of}
-use Rattle.asl_syntax.specs.KnownView.{names_known}
+use Rattle.asl_syntax.specs.NumberedNamesView.{names_known}
 use Rattle.asl_syntax.specs.Rules.{names_in}
 use Rattle.asl_syntax.proofs.names.names_in.Given as goal
 

@@ -1,7 +1,7 @@
 -- the counts of what has been read, from the end
 use Rattle.std.proofs.Common.{◌≡◌, ◌≤◌, drop, length, map}
 use Rattle.asl_syntax.specs.View.{item_of}
-use Rattle.asl_syntax.specs.KnownView.{counts_in}
+use Rattle.asl_syntax.specs.NumberedNamesView.{counts_in}
 use Rattle.asl_syntax.specs.Rules.{parameter_counts}
 use Rattle.asl_syntax.proofs.names.parameter_counts.Given as goal
 

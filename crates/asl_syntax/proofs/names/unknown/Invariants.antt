@@ -1,7 +1,7 @@
 -- what is left gives the answer
 use Rattle.std.proofs.Common.{◌≡◌, drop, map}
 use Rattle.asl_syntax.specs.View.{item_of}
-use Rattle.asl_syntax.specs.KnownView.{names_known}
+use Rattle.asl_syntax.specs.NumberedNamesView.{names_known}
 use Rattle.asl_syntax.specs.Rules.{first_unknown}
 use Rattle.asl_syntax.proofs.names.unknown.Given as goal
 

@@ -1,7 +1,7 @@
 -- what is left gives the answer
 use Rattle.std.proofs.Common.{◌≡◌, drop}
 use Rattle.asl_syntax.specs.MentionView.{mentions_of}
-use Rattle.asl_syntax.specs.KnownView.{names_known}
+use Rattle.asl_syntax.specs.NumberedNamesView.{names_known}
 use Rattle.asl_syntax.specs.Rules.{first_unknown_use}
 use Rattle.asl_syntax.proofs.names.unknown_in_function.Given as goal
 

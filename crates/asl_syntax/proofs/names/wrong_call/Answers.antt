@@ -3,7 +3,7 @@ use Rattle.std.specs.List.{list_any}
 use Rattle.asl_grammar.specs.Lex.{tokens_of}
 use Rattle.asl_syntax.specs.Mentions.{Mention}
 use Rattle.asl_syntax.specs.MentionView.{mentions_of}
-use Rattle.asl_syntax.specs.KnownView.{counts_in}
+use Rattle.asl_syntax.specs.NumberedNamesView.{counts_in}
 use Rattle.asl_syntax.specs.Rules.{Counts, is_wrong_call, wrong_call_from, name_places}
 use Rattle.asl_syntax.proofs.names.wrong_call.Goals as goal
 

@@ -2,9 +2,9 @@ use Rattle.std.proofs.Common.{ap, cond, ◌∙◌, Some, is_some, List, ℕ}
 use Rattle.std.specs.Prelude.{bytes_eq}
 use Rattle.std.proofs.Math.Path.{fun_ext}
 use Rattle.std.proofs.lemmas.Map.Text.{btree_map_updates_str}
-use Rattle.asl_syntax.specs.KnownView.{counts_in}
+use Rattle.asl_syntax.specs.NumberedNamesView.{counts_in}
 use Rattle.asl_syntax.proofs.KnownNames.{is_some_with}
-use Rattle.asl_syntax.proofs.names.Known.add.Goals as goal
+use Rattle.asl_syntax.proofs.numbered_names.NumberedNames.add.Goals as goal
 
 pub returns-clause-counts : goal.returns-clause-counts
 returns-clause-counts c =
