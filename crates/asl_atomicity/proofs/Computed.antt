@@ -49,7 +49,7 @@ pub record HasSerial (image : Image) (count : ℕ) (schedule : List ℕ) : Type 
   pub alike : AreAlike image (start_of image count) schedule serial
   pub order : outside image (start_of image count) serial ≡ outside image (start_of image count) schedule
 
--- no step of the run makes an object inside a section
+-- no step of the run inside a section is a `new`
 abbrev pub MakesOutside : Image → State → List ℕ → Type 0
 MakesOutside image s [] = Unit {0}
 MakesOutside image s (t ∷ ts) = ((depth_at s.threads t ≡ 0) ⊎ IsInside image s t) × MakesOutside image (step_of image s t).state ts
@@ -60,7 +60,7 @@ IsGuarded image count = (s : State) (thread list : ℕ) (a : Activity) → IsRea
     can_grant s.holding thread (request_of s.objects a.top.regs (locks_of image list)) ≡ true →
     ListCovered (grant s.holding thread (request_of s.objects a.top.regs (locks_of image list))) thread s.objects a.top.regs (locks_of image list)
 
--- any run of so many threads that makes no object inside a section has a serial one
+-- any run of so many threads in which no step inside a section is a `new` has a serial one
 abbrev pub HasSerialRuns : Image → ℕ → Type 0
 HasSerialRuns image count = (schedule : List ℕ) → All (λ t. t < count) schedule → MakesOutside image (start_of image count) schedule → HasSerial image count schedule
 

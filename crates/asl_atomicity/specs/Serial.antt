@@ -81,7 +81,7 @@ pub record IsInside (image : Image) (s : State) (thread : ℕ) : Type 0 where
   pub inside : 0 < activity.depth
   pub makes_none : (to cells class : ℕ) → slice_get image.code activity.top.pc ≢ Some (instr.New to cells class)
 
--- the step makes no object inside a section
+-- the step is no `new` inside a section
 abbrev pub MakesNoneInside : Image → TakenStep → Type 0
 MakesNoneInside image step = IsOutside step ⊎ IsInside image step.before step.thread
 
@@ -113,7 +113,7 @@ IsGuarded image count =
     can_grant s.holding thread (request_of s.objects a.top.regs (locks_of image list)) ≡ true →
     ListCovered (grant s.holding thread (request_of s.objects a.top.regs (locks_of image list))) thread s.objects a.top.regs (locks_of image list)
 
--- any run of so many threads that makes no object inside a section has a serial one
+-- any run of so many threads in which no step inside a section is a `new` has a serial one
 abbrev pub HasSerialRuns : Image → ℕ → Type 0
 HasSerialRuns image count =
     (run : List TakenStep) (end : State) → IsRun image (start_of image count) run end → All (MakesNoneInside image) run → HasSerial image count run end

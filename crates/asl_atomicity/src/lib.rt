@@ -1,4 +1,5 @@
-//! Atomicity: unless a section runs out of objects, a run ends as one whose sections do not interleave.
+//! Atomicity: unless a section runs out of objects, a run of an image whose entries are guarded ends as one whose sections do not
+//! interleave.
 #![tactic(auto)]
 
 pub mod laws;

@@ -22,8 +22,8 @@ use std::alloc::{AllocError, Global};
 
 /// The program of a tree whose sections ask for the locks that they need, where paths have at most `k` operations
 /// (`docs/ANALYSIS.md`, "The inferred image"). With any number of threads, and in any order of their steps, it never faults for
-/// want of a lock, for a section that was not entered, or for one left open; and each run ends as one whose sections do
-/// not interleave: the very same where no section makes an object, and up to the numbers of objects where none of them runs out of these
+/// want of a lock, for a section that was not entered, or for one left open; and each run in which no section runs out of objects
+/// ends as one whose sections do not interleave, up to the numbers of objects: the very same where no step inside a section is a `new`
 /// (`docs/SOUNDNESS.md`, `docs/ATOMICITY.md`).
 ///
 /// # Errors

@@ -44,7 +44,8 @@ pub fn fitted_lists_stand_over_their_sets()
 {}
 
 /// The image that is inferred for a lowering is verified, no run of it ever faults for want of a lock, for a section that
-/// was not entered, or for one left open, and its sections are atomic: each run ends as one that is serial.
+/// was not entered, or for one left open, and its sections are atomic: each run in which no section finds that there is no room
+/// for an object ends as a serial one up to the numbers of objects, and as the very same where no step inside a section is a `new`.
 pub fn inferred_images_are_sound()
     ensures verified { (l : Lowered) (c : Classed) (stores : ℕ → ℕ → Bool) (longest : ℕ) (image : Image) → IsKept l → AreClasses l c → c.count ≤ 1024
         → IsInferred l c stores longest image → FitsImage image }

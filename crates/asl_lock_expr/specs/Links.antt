@@ -77,11 +77,12 @@ hits c hit b effect class (op ∷ ops) =
     (if is_star op && is_class class hit then on (Reg b) ops effect ∷ [] else [])
     ++ hits c hit b effect (option_and_then (step_class c op) class) ops
 
--- whether a `*` of the path is at an address of a class that is stored to
+-- whether there is a class, and it is stored to
 abbrev pub is_stored_to : (ℕ → Bool) → Option ℕ → Bool
 is_stored_to stores None = false
 is_stored_to stores (Some class) = stores class
 
+-- whether a `*` of the path is at an address of a class that is stored to
 abbrev pub goes_through : Classed → (ℕ → Bool) → Option ℕ → List Op → Bool
 goes_through c stores class [] = false
 goes_through c stores class (op ∷ ops) =

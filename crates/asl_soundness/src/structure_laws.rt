@@ -30,7 +30,7 @@ pub fn depths_count_open_sections()
         → IsReached image count s → AreNested l s }
 {}
 
-/// No step leaves a section that was not entered, and no thread ends in one.
+/// No step leaves a section that was not entered, and no thread returns from its last frame in one.
 pub fn sections_are_entered_and_left()
     ensures { (l : Lowered) (c : Classed) (image : Image) (count : ℕ) (s : State) (t : ℕ) → IsKept l → IsImageOf l c image
         → IsReached image count s → ((step_of image s t).reply ≢ reply.Fault NoSection) × ((step_of image s t).reply ≢ reply.Fault Open) }
