@@ -22,6 +22,13 @@ impl Model for Writes {
 }
 
 impl Writes {
+    /// The sets, one a function.
+    pub(crate) fn from_sets(functions: Vec<Bits>) -> Writes
+        ensures { result ≡ map members_of functions.items }
+    {
+        Writes { functions }
+    }
+
     /// Whether the function may store to the class.
     pub fn has(&self, function: u16, class: u16) -> bool
         ensures { result ≡ stores self.now function class }
@@ -30,15 +37,6 @@ impl Writes {
             Some(classes) => has_class(classes, usize::from(class)),
             None => false,
         }
-    }
-}
-
-impl Writes {
-    /// The sets, one a function.
-    pub(crate) fn from_sets(functions: Vec<Bits>) -> Writes
-        ensures { result ≡ map members_of functions.items }
-    {
-        Writes { functions }
     }
 }
 
