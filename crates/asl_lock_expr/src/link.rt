@@ -154,26 +154,10 @@ fn add_before(
             add_replaced(view, to, Base::Global(global), &[], expr, effect, into)
         }
         Instr::FieldAddress { to, from, offset } => {
-            add_replaced(
-                view,
-                to,
-                Base::Reg(from),
-                &[Op::Off(offset)],
-                expr,
-                effect,
-                into,
-            )
+            add_gone_on(view, to, from, Op::Off(offset), expr, effect, into)
         }
         Instr::Load { to, address } => {
-            add_replaced(
-                view,
-                to,
-                Base::Reg(address),
-                &[Op::Deref],
-                expr,
-                effect,
-                into,
-            )
+            add_gone_on(view, to, address, Op::Deref, expr, effect, into)
         }
         Instr::SetInt { to, .. }
         | Instr::SetNull { to }
@@ -191,6 +175,24 @@ fn add_before(
         | Instr::Acquire { .. }
         | Instr::Release => add_on(view, expr.base, &[], ops, effect, into),
     }
+}
+
+/// An expression on register `to` becomes one on register `from`, with the operation before its path; every other stays.
+fn add_gone_on(
+    view: &View,
+    to: u8,
+    from: u8,
+    op: Op,
+    expr: &Expr,
+    effect: Effect,
+    into: &mut Vec<Lock>,
+) -> Result<(), AllocError>
+    requires { view.now.longest ≤ 8 }
+    ensures ok { OnOk result (into.new.items
+        ≡ into.old.items ++ flat_map (settle (seen view.now)) (replaced to expr.now effect (on (Base.Reg from) (op ∷ expr.now.path) effect ∷ []))) }
+    ensures err { OnErr result (HasGrown into.old.items into.new.items) }
+{
+    add_replaced(view, to, Base::Reg(from), &[op], expr, effect, into)
 }
 
 /// An expression on register `to` becomes one on `base`, with `front` before its path; every other stays.
