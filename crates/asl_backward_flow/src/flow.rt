@@ -1,13 +1,13 @@
 //! What follows from the seeds, found one after the other.
-ghost use Rattle.std.specs.Prelude.{◌≤◌, ◌∷◌, [], OnOk, IfErr};
+ghost use Rattle.std.specs.Prelude.{◌≡◌, ◌≤◌, ◌∷◌, [], OnOk, IfOk, IfErr};
 ghost use Rattle.asl_backward_flow.specs.Found.{table, Has, left};
 ghost use Rattle.asl_backward_flow.specs.Follows.{read, IsRead, IsFollowed, Overflows};
 
-use crate::copy::copied;
 use crate::found::{AddFault, Fact, Found};
 use crate::program::Program;
 use crate::step::add_following;
-use std::alloc::Global;
+use asl_code::Lock;
+use std::alloc::{AllocError, Global};
 
 /// Adds what follows from a fact that was taken off the list.
 fn follow(alloc: Global, program: &Program, fact: Fact, found: &mut Found) -> Result<(), AddFault>
@@ -19,7 +19,7 @@ fn follow(alloc: Global, program: &Program, fact: Fact, found: &mut Found) -> Re
     ensures err { IfErr result (Overflows (read program.now) (table found.new)) }
 {
     let locks = found.parts[usize::from(fact.part)].locks.as_slice();
-    let lock = copied(&locks[usize::from(fact.lock)]);
+    let lock = copied(&locks[usize::from(fact.lock)])?;
     add_following(alloc, program, fact.part, fact.pc, fact.lock, &lock, found)
 }
 
@@ -34,4 +34,11 @@ pub fn follow_all(alloc: Global, program: &Program, found: &mut Found) -> Result
         follow(alloc, program, fact, found)?;
     }
     Ok(())
+}
+
+/// The same lock.
+fn copied(lock: &Lock) -> Result<Lock, AllocError>
+    ensures { IfOk result (λ copy. copy ≡ lock.now) }
+{
+    lock.clone()
 }

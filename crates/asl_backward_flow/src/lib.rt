@@ -2,7 +2,6 @@
 #![tactic(auto)]
 
 mod analysis;
-mod copy;
 mod fault;
 mod flow;
 mod found;

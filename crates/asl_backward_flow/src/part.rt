@@ -8,7 +8,6 @@ ghost use Rattle.asl_backward_flow.specs.Needed.{IsOfPart};
 ghost use Rattle.asl_backward_flow.specs.Found.{Numbers, IsMarked, IsNamed, IsBlankPart};
 ghost use Rattle.asl_backward_flow.specs.Parts.{part};
 
-use crate::copy::copied;
 use crate::region::Region;
 use crate::span::Span;
 use asl_code::Lock;
@@ -152,7 +151,7 @@ impl Part {
         ensures locks { OnOk result ((m : Lock) → IsOne locks.new.items m ↔ (IsOne locks.old.items m ⊎ (slice_get self.now.locks.keys number ≡ Some m))) }
     {
         match self.locks.as_slice().get(number) {
-            Some(lock) => add_in_order(locks, copied(lock)),
+            Some(lock) => add_in_order(locks, lock.clone()?),
             None => Ok(()),
         }
     }

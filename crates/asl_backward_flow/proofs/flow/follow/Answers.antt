@@ -29,21 +29,21 @@ pub add_following-requires-clause-named : goal.add_following-requires-clause-nam
 add_following-requires-clause-named c =
     let named = c.requires.followed.ready.whole.named c.args.fact.part c.args.fact.pc c.args.fact.lock c.requires.there in
     let there = parts_there c.args.found.now.parts.items c.args.found.now.list.items c.args.fact.part c.args.fact.lock named.0 named.1 in
-    lock_read c.args.found.now.parts.items c.args.found.now.list.items c.args.fact.part c.from.result c.index.result.now c.as_slice-locks.result.now c.args.fact.lock c.from-2.result _ named.0 c.copied-lock.result
-    c.from.ensures there c.index.ensures c.as_slice-locks.ensures.keys c.from-2.ensures (c.copied-lock.ensures ∙ c.index-locks-from.is) named.1
+    lock_read c.args.found.now.parts.items c.args.found.now.list.items c.args.fact.part c.from.result c.index.result.now c.as_slice-locks.result.now c.args.fact.lock c.from-2.result _ named.0 c.in_ok-lock.lock
+    c.from.ensures there c.index.ensures c.as_slice-locks.ensures.keys c.from-2.ensures (c.in_ok-lock.ensures ∙ c.index-locks-from.is) named.1
 
 pub returns-clause-ok : goal.returns-clause-ok
 returns-clause-ok c =
     let named = c.requires.followed.ready.whole.named c.args.fact.part c.args.fact.pc c.args.fact.lock c.requires.there in
     let there = parts_there c.args.found.now.parts.items c.args.found.now.list.items c.args.fact.part c.args.fact.lock named.0 named.1 in
-    let same = lock_read c.args.found.now.parts.items c.args.found.now.list.items c.args.fact.part c.from.result c.index.result.now c.as_slice-locks.result.now c.args.fact.lock c.from-2.result _ named.0 c.copied-lock.result
-    c.from.ensures there c.index.ensures c.as_slice-locks.ensures.keys c.from-2.ensures (c.copied-lock.ensures ∙ c.index-locks-from.is) named.1 in
-    next_ok (read c.args.program.now) c.requires.program (table c.args.found.now) (table c.add_following.new.found) c.args.fact c.requires.followed c.copied-lock.result c.requires.there same c.add_following.result c.add_following.ensures.ok
+    let same = lock_read c.args.found.now.parts.items c.args.found.now.list.items c.args.fact.part c.from.result c.index.result.now c.as_slice-locks.result.now c.args.fact.lock c.from-2.result _ named.0 c.in_ok-lock.lock
+    c.from.ensures there c.index.ensures c.as_slice-locks.ensures.keys c.from-2.ensures (c.in_ok-lock.ensures ∙ c.index-locks-from.is) named.1 in
+    next_ok (read c.args.program.now) c.requires.program (table c.args.found.now) (table c.add_following.new.found) c.args.fact c.requires.followed c.in_ok-lock.lock c.requires.there same c.add_following.result c.add_following.ensures.ok
 
 pub returns-clause-err : goal.returns-clause-err
 returns-clause-err c =
     let named = c.requires.followed.ready.whole.named c.args.fact.part c.args.fact.pc c.args.fact.lock c.requires.there in
     let there = parts_there c.args.found.now.parts.items c.args.found.now.list.items c.args.fact.part c.args.fact.lock named.0 named.1 in
-    let same = lock_read c.args.found.now.parts.items c.args.found.now.list.items c.args.fact.part c.from.result c.index.result.now c.as_slice-locks.result.now c.args.fact.lock c.from-2.result _ named.0 c.copied-lock.result
-    c.from.ensures there c.index.ensures c.as_slice-locks.ensures.keys c.from-2.ensures (c.copied-lock.ensures ∙ c.index-locks-from.is) named.1 in
-    next_err (read c.args.program.now) c.requires.program (table c.args.found.now) (table c.add_following.new.found) c.args.fact c.requires.followed c.copied-lock.result c.requires.there same c.add_following.result c.add_following.ensures.err
+    let same = lock_read c.args.found.now.parts.items c.args.found.now.list.items c.args.fact.part c.from.result c.index.result.now c.as_slice-locks.result.now c.args.fact.lock c.from-2.result _ named.0 c.in_ok-lock.lock
+    c.from.ensures there c.index.ensures c.as_slice-locks.ensures.keys c.from-2.ensures (c.in_ok-lock.ensures ∙ c.index-locks-from.is) named.1 in
+    next_err (read c.args.program.now) c.requires.program (table c.args.found.now) (table c.add_following.new.found) c.args.fact c.requires.followed c.in_ok-lock.lock c.requires.there same c.add_following.result c.add_following.ensures.err
