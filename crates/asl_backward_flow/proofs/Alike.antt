@@ -15,8 +15,8 @@ use Rattle.asl_lower.specs.Lowered.{Lowered}
 use Rattle.asl_lower.specs.Regions.{Region, Body}
 use Rattle.asl_points_to.specs.Classes.{Classed}
 use Rattle.asl_lock_expr.specs.ClassOf.{base_class, step_class, class_of, TellsStores}
-use Rattle.asl_lock_expr.specs.Links.{IsOne, on, class_lock, settled, settle, is_register, is_star, is_stored_to, goes_through, before, link, accesses}
-use Rattle.asl_backward_flow.specs.Needed.{view, Needed, Accessed, Linked, Entered, Before}
+use Rattle.asl_lock_expr.specs.Links.{view, IsOne, on, class_lock, settled, settle, is_register, is_star, is_stored_to, goes_through, before, link, accesses}
+use Rattle.asl_backward_flow.specs.Needed.{Needed, Accessed, Linked, Entered, Before}
 
 both_true : (a b : Bool) → (IsTrue a → IsTrue b) → (IsTrue b → IsTrue a) → a ≡ b
 both_true true true there back = refl

@@ -26,10 +26,10 @@ use Rattle.asl_lower.proofs.Layouts.{kept_layout}
 use Rattle.asl_points_to.specs.Classes.{Classed, to, AreClasses}
 use Rattle.asl_points_to.proofs.Uniques.{member_below, register_below, cell_below}
 use Rattle.asl_lock_expr.specs.ClassOf.{base_class, step_class, path_class, class_of}
-use Rattle.asl_lock_expr.specs.Links.{View, IsOne, on, class_lock, settled, settle, is_register, is_star, is_class, begins_with_star, hits, replaced, before, link, accesses, renamed, renamed_on, dereferenced, IsSettled}
+use Rattle.asl_lock_expr.specs.Links.{View, view, IsOne, on, class_lock, settled, settle, is_register, is_star, is_class, begins_with_star, hits, replaced, before, link, accesses, renamed, renamed_on, dereferenced, IsSettled}
 use Rattle.asl_lock_expr.proofs.Ones.{one_either}
 use Rattle.asl_lock_expr.proofs.Leaves.{settled_well, linked_well, prefix_is, no_root, no_class_lock, front_class}
-use Rattle.asl_backward_flow.specs.Needed.{view, Needed, Accessed, Linked, Entered, Before}
+use Rattle.asl_backward_flow.specs.Needed.{Needed, Accessed, Linked, Entered, Before}
 use Rattle.asl_backward_flow.specs.Based.{HasBase, IsLockOf}
 use Rattle.asl_backward_flow.proofs.Leasts.{needed_inside}
 use Rattle.asl_backward_flow.proofs.Sets.{some_same, at_front}

@@ -5,8 +5,8 @@ use Rattle.asl_code.specs.declared.lock.Lock.{Lock}
 use Rattle.asl_backward_flow.specs.declared.found.AddFault.{AddFault}
 use Rattle.asl_backward_flow.specs.declared.region.Region.TheVariants as variant
 use Rattle.asl_backward_flow.specs.declared.span.Span.{Span}
-use Rattle.asl_backward_flow.specs.Graph.{row, IsCall}
-use Rattle.asl_backward_flow.specs.Found.{Table}
+use Rattle.asl_backward_flow.specs.Graph.{IsCall}
+use Rattle.asl_backward_flow.specs.Found.{Table, list_at}
 use Rattle.asl_backward_flow.specs.Follows.{Read, IsRead, IsAtPoint, IsLinked, IsEntered, IsSeed, IsSeedIn, IsAccessed, IsBackOver, IsCalledAt, IsAtCall, At, Added, Stopped, AddedBelow}
 use Rattle.asl_backward_flow.proofs.Sets.{some_same}
 use Rattle.asl_backward_flow.proofs.Adding.{below_more, below_skip, below_end, below_stopped}
@@ -82,7 +82,7 @@ calls_stopped r initial now new j part pc lock parts fault at point so x = below
     (λ k p q m h. (h.1, h.2, h.3))
     (λ p q m h. (h.1, at_point r part pc point p q h.0 h.1, to_point r part pc (λ a b. IsEntered r a b lock) p q m h)) so x
 
-pub calls_end : (r : Read) (initial now : Table) (j pc : ℕ) (lock : Lock) (parts : List ℕ) → parts ≡ row r.regions pc → IsRead r → length parts ≤ j
+pub calls_end : (r : Read) (initial now : Table) (j pc : ℕ) (lock : Lock) (parts : List ℕ) → parts ≡ list_at r.regions pc → IsRead r → length parts ≤ j
     → AddedBelow r initial now (each_call r pc lock parts) j → Added r initial now (IsCalledAt r pc lock)
 calls_end r initial now j pc lock parts is read end so = below_end r initial now (each_call r pc lock parts) j (IsCalledAt r pc lock) (λ k p q m h. (h.1, h.2, h.3))
     (λ p q m h.
@@ -104,13 +104,13 @@ callers_more r initial now new j pc lock pcs at so x = below_more r initial now 
     (λ p q m h. (at ∙ ap Some (sym h.0), (refl, subst (λ y. IsAtPoint r p y) refl h.1, h.2)))
     (λ p q m h. let same : q ≡ pc = some_same (sym h.0 ∙ at) in (same, h.1.1, h.1.2)) so x
 
-pub callers_stopped : (r : Read) (initial now new : Table) (j pc : ℕ) (lock : Lock) (pcs : List ℕ) (g : ℕ) (fault : AddFault) → pcs ≡ row r.callers g → IsRead r → slice_get pcs j ≡ Some pc
+pub callers_stopped : (r : Read) (initial now new : Table) (j pc : ℕ) (lock : Lock) (pcs : List ℕ) (g : ℕ) (fault : AddFault) → pcs ≡ list_at r.callers g → IsRead r → slice_get pcs j ≡ Some pc
     → AddedBelow r initial now (each_caller r lock pcs) j → Stopped now new (IsCalledAt r pc lock) fault → Stopped initial new (IsAtCall r g lock) fault
 callers_stopped r initial now new j pc lock pcs g fault is read at so x = below_stopped r initial now new (each_caller r lock pcs) j _ (IsAtCall r g lock) fault
     (λ k p q m h. ((read.callers.only g q (k, ap (λ l. slice_get l k) (sym is) ∙ h.0)).1, h.1))
     (λ p q m h. ((read.callers.only g q (j, ap (λ l. slice_get l j) (sym is) ∙ at ∙ ap Some (sym h.0))).1, (refl, h.1, h.2))) so x
 
-pub callers_end : (r : Read) (initial now : Table) (j : ℕ) (lock : Lock) (pcs : List ℕ) (g : ℕ) → pcs ≡ row r.callers g → IsRead r → length pcs ≤ j
+pub callers_end : (r : Read) (initial now : Table) (j : ℕ) (lock : Lock) (pcs : List ℕ) (g : ℕ) → pcs ≡ list_at r.callers g → IsRead r → length pcs ≤ j
     → AddedBelow r initial now (each_caller r lock pcs) j → Added r initial now (IsAtCall r g lock)
 callers_end r initial now j lock pcs g is read end so = below_end r initial now (each_caller r lock pcs) j (IsAtCall r g lock)
     (λ k p q m h. ((read.callers.only g q (k, ap (λ l. slice_get l k) (sym is) ∙ h.0)).1, h.1))
@@ -132,13 +132,13 @@ pub back_skip : (r : Read) (initial now : Table) (j part q : ℕ) (lock : Lock) 
 back_skip r initial now j part q lock pcs at not so = below_skip r initial now (each_back r part lock pcs) j
     (λ p y m h. let same : y ≡ q = some_same (sym h.1 ∙ at) in not (subst (λ x. IsAtPoint r x q) h.0 (subst (λ z. IsAtPoint r p z) same h.2))) so
 
-pub back_stopped : (r : Read) (initial now new : Table) (j part q : ℕ) (lock : Lock) (pcs : List ℕ) (pc : ℕ) (fault : AddFault) → pcs ≡ row r.jumps pc → IsRead r → slice_get pcs j ≡ Some q → IsAtPoint r part q
+pub back_stopped : (r : Read) (initial now new : Table) (j part q : ℕ) (lock : Lock) (pcs : List ℕ) (pc : ℕ) (fault : AddFault) → pcs ≡ list_at r.jumps pc → IsRead r → slice_get pcs j ≡ Some q → IsAtPoint r part q
     → AddedBelow r initial now (each_back r part lock pcs) j → Stopped now new (At part q (IsLinked r part q lock)) fault → Stopped initial new (IsBackOver r part pc lock) fault
 back_stopped r initial now new j part q lock pcs pc fault is read at point so x = below_stopped r initial now new (each_back r part lock pcs) j _ (IsBackOver r part pc lock) fault
     (λ k p y m h. (h.0, (read.jumps.only pc y (k, ap (λ l. slice_get l k) (sym is) ∙ h.1)).1, h.2, h.3))
     (λ p y m h. (h.0, (read.jumps.only pc y (j, ap (λ l. slice_get l j) (sym is) ∙ at ∙ ap Some (sym h.1))).1, at_point r part q point p y h.0 h.1, to_point r part q (λ a b. IsLinked r a b lock) p y m h)) so x
 
-pub back_end : (r : Read) (initial now : Table) (j part : ℕ) (lock : Lock) (pcs : List ℕ) (pc : ℕ) → pcs ≡ row r.jumps pc → IsRead r → length pcs ≤ j
+pub back_end : (r : Read) (initial now : Table) (j part : ℕ) (lock : Lock) (pcs : List ℕ) (pc : ℕ) → pcs ≡ list_at r.jumps pc → IsRead r → length pcs ≤ j
     → AddedBelow r initial now (each_back r part lock pcs) j → Added r initial now (IsBackOver r part pc lock)
 back_end r initial now j part lock pcs pc is read end so = below_end r initial now (each_back r part lock pcs) j (IsBackOver r part pc lock)
     (λ k p y m h. (h.0, (read.jumps.only pc y (k, ap (λ l. slice_get l k) (sym is) ∙ h.1)).1, h.2, h.3))

@@ -12,8 +12,8 @@ use Rattle.asl_lower.specs.Kept.{IsKept}
 use Rattle.asl_lower.proofs.Counts.{sum_more}
 use Rattle.asl_lower.proofs.Layouts.{kept_layout}
 use Rattle.asl_points_to.specs.Classes.{Classed}
-use Rattle.asl_lock_expr.specs.Links.{View, IsOne, accesses}
-use Rattle.asl_backward_flow.specs.Needed.{view, Needed, Accessed, Linked, Entered, Before}
+use Rattle.asl_lock_expr.specs.Links.{View, view, IsOne, accesses}
+use Rattle.asl_backward_flow.specs.Needed.{Needed, Accessed, Linked, Entered, Before}
 use Rattle.asl_backward_flow.proofs.Sets.{some_same}
 
 abbrev IsReturn : Instr → Type 0

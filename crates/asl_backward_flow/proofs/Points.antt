@@ -13,8 +13,7 @@ use Rattle.asl_lock_expr.proofs.Ones.{one_left, one_right, one_either}
 use Rattle.asl_lock_expr.specs.Links.{View, IsOne, link, settle, accesses, renamed}
 use Rattle.asl_backward_flow.specs.declared.span.Span.{Span}
 use Rattle.asl_backward_flow.specs.Follows.{Read, seen, IsAtPoint, IsAccessed, IsLinked, IsEntered}
-use Rattle.asl_backward_flow.specs.Found.{IsAt}
-use Rattle.asl_backward_flow.specs.Graph.{row}
+use Rattle.asl_backward_flow.specs.Found.{IsAt, list_at}
 use Rattle.asl_backward_flow.proofs.Rows.{row_of}
 use Rattle.asl_backward_flow.proofs.Sets.{some_same}
 
@@ -153,15 +152,15 @@ not_point r part pc s there false tells is at =
     no (tells.1 (subst (λ (t : Span). (t.first ≤ pc) × (pc < t.end)) same (at.2, at.3)))
 
 -- the row that is read at a number
-pub row_read : (rows : List (Vec ℕ Global)) (n g : ℕ) (v : Vec ℕ Global) (items : List ℕ) → n ≡ g → v ≡ get_or rows n v → n < length rows → items ≡ v.items → items ≡ row (map (λ r. r.items) rows) g
-row_read rows n g v items same is lt made = made ∙ ap vec_items is ∙ sym (row_of vec_items rows n v lt) ∙ ap (λ k. row (map vec_items rows) k) same
+pub row_read : (rows : List (Vec ℕ Global)) (n g : ℕ) (v : Vec ℕ Global) (items : List ℕ) → n ≡ g → v ≡ get_or rows n v → n < length rows → items ≡ v.items → items ≡ list_at (map (λ r. r.items) rows) g
+row_read rows n g v items same is lt made = made ∙ ap vec_items is ∙ sym (row_of vec_items rows n v lt) ∙ ap (λ k. list_at (map vec_items rows) k) same
 
-row_past : (rows : List (Vec ℕ Global)) (n : ℕ) → length rows ≤ n → row (map vec_items rows) n ≡ []
+row_past : (rows : List (Vec ℕ Global)) (n : ℕ) → length rows ≤ n → list_at (map vec_items rows) n ≡ []
 row_past [] n le = refl
 row_past (x ∷ xs) zero le = absurd (omega (arith, le))
 row_past (x ∷ xs) (suc n) le = row_past xs n (omega (arith, le))
 
-pub nothing_past : (rows : List (Vec ℕ Global)) (n g q : ℕ) → n ≡ g → length rows ≤ n → IsAt (row (map (λ r. r.items) rows) g) q → ⊥
+pub nothing_past : (rows : List (Vec ℕ Global)) (n g q : ℕ) → n ≡ g → length rows ≤ n → IsAt (list_at (map (λ r. r.items) rows) g) q → ⊥
 nothing_past rows n g q same le at =
     let none : slice_get {X = ℕ} [] at.0 ≡ Some q = ap (λ r. slice_get r at.0) (sym (row_past rows g (omega (arith, le, same)))) ∙ at.1 in nothing at.0 none
   where

@@ -10,30 +10,30 @@ use Rattle.asl_lower.specs.Kept.{IsKept}
 use Rattle.asl_lower.specs.Region.{GoesOn}
 use Rattle.asl_lower.proofs.Layouts.{kept_layout}
 use Rattle.asl_backward_flow.specs.declared.span.Span.{Span}
-use Rattle.asl_backward_flow.specs.Found.{IsAt}
-use Rattle.asl_backward_flow.specs.Graph.{row, HasRows, HasSome, HasCall, IsCall, IsEdge, IsJump}
+use Rattle.asl_backward_flow.specs.Found.{IsAt, list_at}
+use Rattle.asl_backward_flow.specs.Graph.{HasRows, HasSome, HasCall, IsCall, IsEdge, IsJump}
 use Rattle.std.specs.List.{Contains}
 use Rattle.asl_backward_flow.proofs.Sets.{some_same, at_front, at_push, at_last}
 use Rattle.asl_backward_flow.proofs.Tables.{map_set}
 use Rattle.asl_backward_flow.proofs.SpanLaws.{below_or_at}
 
-pub row_of : {X : Type 0} (items : X → List ℕ) (xs : List X) (n : ℕ) (d : X) → n < length xs → row (map items xs) n ≡ items (get_or xs n d)
+pub row_of : {X : Type 0} (items : X → List ℕ) (xs : List X) (n : ℕ) (d : X) → n < length xs → list_at (map items xs) n ≡ items (get_or xs n d)
 row_of items [] n d lt = absurd (omega arith)
 row_of items (x ∷ xs) zero d lt = refl
 row_of items (x ∷ xs) (suc n) d lt = row_of items xs n d (omega arith)
 
 -- a row with one more at its end
 pub row_pushed : {X : Type 0} (items : X → List ℕ) (xs : List X) (n : ℕ) (old new : X) (pc : ℕ) → n < length xs → old ≡ get_or xs n old → items new ≡ items old ++ pc ∷ []
-    → map items (slice_set xs n new) ≡ slice_set (map items xs) n (row (map items xs) n ++ pc ∷ [])
+    → map items (slice_set xs n new) ≡ slice_set (map items xs) n (list_at (map items xs) n ++ pc ∷ [])
 row_pushed items xs n old new pc lt is pushed =
     map_set items xs n new ∙ ap (slice_set (map items xs) n) (pushed ∙ ap (λ r. r ++ pc ∷ []) (ap items is ∙ sym (row_of items xs n old lt)))
 
-row_here : (rows : List (List ℕ)) (n : ℕ) (new : List ℕ) → n < length rows → row (slice_set rows n new) n ≡ new
+row_here : (rows : List (List ℕ)) (n : ℕ) (new : List ℕ) → n < length rows → list_at (slice_set rows n new) n ≡ new
 row_here [] n new lt = absurd (omega arith)
 row_here (r ∷ rows) zero new lt = refl
 row_here (r ∷ rows) (suc n) new lt = row_here rows n new (omega arith)
 
-row_else : (rows : List (List ℕ)) (n m : ℕ) (new : List ℕ) → m ≢ n → row (slice_set rows n new) m ≡ row rows m
+row_else : (rows : List (List ℕ)) (n m : ℕ) (new : List ℕ) → m ≢ n → list_at (slice_set rows n new) m ≡ list_at rows m
 row_else [] n m new h = refl
 row_else (r ∷ rows) zero zero new h = absurd (h refl)
 row_else (r ∷ rows) zero (suc m) new h = refl
@@ -41,30 +41,30 @@ row_else (r ∷ rows) (suc n) zero new h = refl
 row_else (r ∷ rows) (suc n) (suc m) new h = row_else rows n m new (λ e. h (ap suc e))
 
 -- what stands in rows of which one has one more
-pub at_more : (rows : List (List ℕ)) (n pc : ℕ) → n < length rows → (m x : ℕ) → IsAt (row (slice_set rows n (row rows n ++ pc ∷ [])) m) x → IsAt (row rows m) x ⊎ ((m ≡ n) × (x ≡ pc))
+pub at_more : (rows : List (List ℕ)) (n pc : ℕ) → n < length rows → (m x : ℕ) → IsAt (list_at (slice_set rows n (list_at rows n ++ pc ∷ [])) m) x → IsAt (list_at rows m) x ⊎ ((m ≡ n) × (x ≡ pc))
 at_more rows n pc lt m x at =
     ⊎_elim
     (λ t.
-    let here : row (slice_set rows n (row rows n ++ pc ∷ [])) m ≡ row rows m ++ pc ∷ [] =
-    ap (row (slice_set rows n (row rows n ++ pc ∷ []))) t.1 ∙ row_here rows n (row rows n ++ pc ∷ []) lt ∙ ap (λ k. row rows k ++ pc ∷ []) (sym t.1) in
-    ⊎_elim (λ e. inl (at.0, e)) (λ e. inr (t.1, e)) (at_push (row rows m) pc at.0 x (ap (λ r. slice_get r at.0) (sym here) ∙ at.1)))
-    (λ t. inl (at.0, ap (λ r. slice_get r at.0) (sym (row_else rows n m (row rows n ++ pc ∷ []) t.1)) ∙ at.1))
+    let here : list_at (slice_set rows n (list_at rows n ++ pc ∷ [])) m ≡ list_at rows m ++ pc ∷ [] =
+    ap (list_at (slice_set rows n (list_at rows n ++ pc ∷ []))) t.1 ∙ row_here rows n (list_at rows n ++ pc ∷ []) lt ∙ ap (λ k. list_at rows k ++ pc ∷ []) (sym t.1) in
+    ⊎_elim (λ e. inl (at.0, e)) (λ e. inr (t.1, e)) (at_push (list_at rows m) pc at.0 x (ap (λ r. slice_get r at.0) (sym here) ∙ at.1)))
+    (λ t. inl (at.0, ap (λ r. slice_get r at.0) (sym (row_else rows n m (list_at rows n ++ pc ∷ []) t.1)) ∙ at.1))
     (eqb_tells m n)
 
-pub at_still : (rows : List (List ℕ)) (n pc : ℕ) → n < length rows → (m x : ℕ) → IsAt (row rows m) x → IsAt (row (slice_set rows n (row rows n ++ pc ∷ [])) m) x
+pub at_still : (rows : List (List ℕ)) (n pc : ℕ) → n < length rows → (m x : ℕ) → IsAt (list_at rows m) x → IsAt (list_at (slice_set rows n (list_at rows n ++ pc ∷ [])) m) x
 at_still rows n pc lt m x at =
     ⊎_elim
     (λ t.
-    let here : row (slice_set rows n (row rows n ++ pc ∷ [])) m ≡ row rows m ++ pc ∷ [] =
-    ap (row (slice_set rows n (row rows n ++ pc ∷ []))) t.1 ∙ row_here rows n (row rows n ++ pc ∷ []) lt ∙ ap (λ k. row rows k ++ pc ∷ []) (sym t.1) in
-    (at.0, ap (λ r. slice_get r at.0) here ∙ at_front (row rows m) (pc ∷ []) at.0 x at.1))
-    (λ t. (at.0, ap (λ r. slice_get r at.0) (row_else rows n m (row rows n ++ pc ∷ []) t.1) ∙ at.1))
+    let here : list_at (slice_set rows n (list_at rows n ++ pc ∷ [])) m ≡ list_at rows m ++ pc ∷ [] =
+    ap (list_at (slice_set rows n (list_at rows n ++ pc ∷ []))) t.1 ∙ row_here rows n (list_at rows n ++ pc ∷ []) lt ∙ ap (λ k. list_at rows k ++ pc ∷ []) (sym t.1) in
+    (at.0, ap (λ r. slice_get r at.0) here ∙ at_front (list_at rows m) (pc ∷ []) at.0 x at.1))
+    (λ t. (at.0, ap (λ r. slice_get r at.0) (row_else rows n m (list_at rows n ++ pc ∷ []) t.1) ∙ at.1))
     (eqb_tells m n)
 
-pub at_new : (rows : List (List ℕ)) (n pc : ℕ) → n < length rows → IsAt (row (slice_set rows n (row rows n ++ pc ∷ [])) n) pc
-at_new rows n pc lt = (length (row rows n), ap (λ r. slice_get r (length (row rows n))) (row_here rows n (row rows n ++ pc ∷ []) lt) ∙ at_last (row rows n) pc)
+pub at_new : (rows : List (List ℕ)) (n pc : ℕ) → n < length rows → IsAt (list_at (slice_set rows n (list_at rows n ++ pc ∷ [])) n) pc
+at_new rows n pc lt = (length (list_at rows n), ap (λ r. slice_get r (length (list_at rows n))) (row_here rows n (list_at rows n ++ pc ∷ []) lt) ∙ at_last (list_at rows n) pc)
 
-pub row_empty : (count n : ℕ) → row (replicate count []) n ≡ []
+pub row_empty : (count n : ℕ) → list_at {A = ℕ} (replicate count []) n ≡ []
 row_empty zero n = refl
 row_empty (suc count) zero = refl
 row_empty (suc count) (suc n) = row_empty count n
@@ -72,7 +72,7 @@ row_empty (suc count) (suc n) = row_empty count n
 pub rows_begin : (rows : List (List ℕ)) (count : ℕ) (related : ℕ → ℕ → Type 0) → rows ≡ replicate count [] → HasRows rows related 0
 rows_begin rows count related is = record {
   only = λ n pc at.
-      let none : slice_get {X = ℕ} [] at.0 ≡ Some pc = ap (λ r. slice_get r at.0) (sym (ap (λ rs. row rs n) is ∙ row_empty count n)) ∙ at.1 in
+      let none : slice_get {X = ℕ} [] at.0 ≡ Some pc = ap (λ r. slice_get r at.0) (sym (ap (λ rs. list_at rs n) is ∙ row_empty count n)) ∙ at.1 in
       absurd (nothing at.0 pc none);
   all = λ n pc lt. absurd (omega arith);
 }
@@ -88,7 +88,7 @@ rows_skip rows related pc has none = record {
 }
 
 pub rows_more : (rows : List (List ℕ)) (related : ℕ → ℕ → Type 0) (pc number : ℕ) → number < length rows → HasRows rows related pc → related number pc → ((n : ℕ) → related n pc → n ≡ number)
-    → HasRows (slice_set rows number (row rows number ++ pc ∷ [])) related (pc + 1)
+    → HasRows (slice_set rows number (list_at rows number ++ pc ∷ [])) related (pc + 1)
 rows_more rows related pc number lt has is one = record {
   only = λ n x at.
       ⊎_elim
@@ -100,8 +100,8 @@ rows_more rows related pc number lt has is one = record {
       (λ old. at_still rows number pc lt n x (has.all n x old r))
       (λ (e : x ≡ pc).
       let same : n ≡ number = one n (subst (related n) e r) in
-      subst (λ k. IsAt (row (slice_set rows number (row rows number ++ pc ∷ [])) k) x) (sym same)
-      (subst (IsAt (row (slice_set rows number (row rows number ++ pc ∷ [])) number)) (sym e) (at_new rows number pc lt)))
+      subst (λ k. IsAt (list_at (slice_set rows number (list_at rows number ++ pc ∷ [])) k) x) (sym same)
+      (subst (IsAt (list_at (slice_set rows number (list_at rows number ++ pc ∷ [])) number)) (sym e) (at_new rows number pc lt)))
       (below_or_at x pc below);
 }
 
@@ -111,7 +111,7 @@ callee_of i = 0
 
 -- a call adds its pc to the row of its callee
 pub called_more : (l : Lowered) (code : List Instr) → code ≡ l.code → (pc : ℕ) → pc < length code → (d : Instr) (to first g number : ℕ) → number ≡ g → get_or code pc d ≡ instr.Call to first g
-    → (rows new : List (List ℕ)) → new ≡ slice_set rows number (row rows number ++ pc ∷ []) → number < length rows → HasRows rows (IsCall l) pc → HasRows new (IsCall l) (pc + 1)
+    → (rows new : List (List ℕ)) → new ≡ slice_set rows number (list_at rows number ++ pc ∷ []) → number < length rows → HasRows rows (IsCall l) pc → HasRows new (IsCall l) (pc + 1)
 called_more l code same pc lt d to first g number is at rows new made there has =
     let here : slice_get l.code pc ≡ Some (instr.Call to first g) = ap (λ c. slice_get c pc) (sym same) ∙ slice_get-get_or code pc d lt ∙ ap Some at in
     subst (λ r. HasRows r (IsCall l) (pc + 1)) (sym made)
@@ -154,7 +154,7 @@ some_begin rows related pc has = record {
     nothing k n e = cc
 
 pub some_more : (rows new : List (List ℕ)) (related : ℕ → ℕ → Type 0) (pc number : ℕ) (added : List ℕ) → number < length rows → related number pc
-    → new ≡ slice_set rows number (row rows number ++ pc ∷ []) → HasSome rows related pc added → HasSome new related pc (added ++ number ∷ [])
+    → new ≡ slice_set rows number (list_at rows number ++ pc ∷ []) → HasSome rows related pc added → HasSome new related pc (added ++ number ∷ [])
 some_more rows new related pc number added lt is made has = subst (λ r. HasSome r related pc (added ++ number ∷ [])) (sym made) (record {
   only = λ n x at.
       ⊎_elim
@@ -165,14 +165,14 @@ some_more rows new related pc number added lt is made has = subst (λ r. HasSome
   here = λ n at.
       ⊎_elim
       (λ old. at_still rows number pc lt n pc (has.here n (at.0, old)))
-      (λ (e : n ≡ number). subst (λ k. IsAt (row (slice_set rows number (row rows number ++ pc ∷ [])) k) pc) (sym e) (at_new rows number pc lt))
+      (λ (e : n ≡ number). subst (λ k. IsAt (list_at (slice_set rows number (list_at rows number ++ pc ∷ [])) k) pc) (sym e) (at_new rows number pc lt))
       (at_push added number at.0 n at.1);
 })
 
 pub some_end : (rows : List (List ℕ)) (related : ℕ → ℕ → Type 0) (pc : ℕ) (added : List ℕ) → HasSome rows related pc added → ((n : ℕ) → related n pc → IsAt added n) → HasRows rows related (pc + 1)
 some_end rows related pc added has full = record {
   only = has.only;
-  all = λ n x lt r. ⊎_elim (λ b. has.below n x b r) (λ (e : x ≡ pc). subst (IsAt (row rows n)) (sym e) (has.here n (full n (subst (related n) e r)))) (below_or_at x pc lt);
+  all = λ n x lt r. ⊎_elim (λ b. has.below n x b r) (λ (e : x ≡ pc). subst (IsAt (list_at rows n)) (sym e) (has.here n (full n (subst (related n) e r)))) (below_or_at x pc lt);
 }
 
 -- where control goes on to is in the code
@@ -212,7 +212,7 @@ module _ (l : Lowered) (pc : ℕ) (next : List ℕ) where
   targets_begin rows has = ([], some_begin rows (IsJump l) pc has, λ j n lt. absurd (omega (arith, lt)))
 
   pub targets_more : (rows new : List (List ℕ)) (j number : ℕ) → slice_get next j ≡ Some number → IsEdge l number pc → number ≢ pc + 1 → number < length rows
-      → new ≡ slice_set rows number (row rows number ++ pc ∷ []) → HasTargets rows l pc next j → HasTargets new l pc next (j + 1)
+      → new ≡ slice_set rows number (list_at rows number ++ pc ∷ []) → HasTargets rows l pc next j → HasTargets new l pc next (j + 1)
   targets_more rows new j number at edge other there made has = (
     has.0 ++ number ∷ [],
     some_more rows new (IsJump l) pc number has.0 there (edge, other) made has.1,
@@ -262,7 +262,7 @@ module _ (l : Lowered) (spans : List Span) (part : ℕ) (span : Span) where
   range_begin rows has = ([], some_begin rows (HasCall l spans) part has, λ n ge lt c. absurd (omega (arith, ge, lt)))
 
   pub range_more : (rows new : List (List ℕ)) (pc number : ℕ) → slice_get spans part ≡ Some span → IsCalled l pc → number ≡ pc → span.first ≤ pc → pc < span.end → number < length rows
-      → new ≡ slice_set rows number (row rows number ++ part ∷ []) → HasRange rows l spans part span pc → HasRange new l spans part span (pc + 1)
+      → new ≡ slice_set rows number (list_at rows number ++ part ∷ []) → HasRange rows l spans part span pc → HasRange new l spans part span (pc + 1)
   range_more rows new pc number at call same first end there made has = (
     has.0 ++ number ∷ [],
     some_more rows new (HasCall l spans) part number has.0 there ((span, at, omega (arith, same, first), omega (arith, same, end)), subst (IsCalled l) (sym same) call) made has.1,

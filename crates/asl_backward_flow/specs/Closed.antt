@@ -9,8 +9,7 @@ use Rattle.asl_lower.specs.Lowered.{Lowered}
 use Rattle.asl_lower.specs.Region.{GoesOn, start_of}
 use Rattle.asl_lower.specs.Regions.{Region, Body, IsIn}
 use Rattle.asl_points_to.specs.Classes.{Classed}
-use Rattle.asl_lock_expr.specs.Links.{IsOne, link, settle, accesses, renamed, dereferenced}
-use Rattle.asl_backward_flow.specs.Needed.{view}
+use Rattle.asl_lock_expr.specs.Links.{view, IsOne, link, settle, accesses, renamed, dereferenced}
 
 -- a set of locks for each point of each region
 abbrev pub Family : Type 1

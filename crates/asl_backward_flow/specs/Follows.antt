@@ -7,7 +7,7 @@ use Rattle.asl_code.specs.declared.lock.Lock.{Lock}
 use Rattle.asl_lower.specs.Lowered.{Lowered}
 use Rattle.asl_lower.specs.Kept.{IsKept}
 use Rattle.asl_points_to.specs.Classes.{Classed}
-use Rattle.asl_lock_expr.specs.Links.{View, IsOne, link, settle, accesses, renamed, dereferenced}
+use Rattle.asl_lock_expr.specs.Links.{View, view, IsOne, link, settle, accesses, renamed, dereferenced}
 use Rattle.asl_lock_expr.specs.Stores.{stores}
 use Rattle.asl_backward_flow.specs.declared.region.Region.TheVariants as variant
 use Rattle.asl_backward_flow.specs.declared.span.Span.{Span}
@@ -15,8 +15,8 @@ use Rattle.asl_backward_flow.specs.declared.program.Program.{Program}
 use Rattle.asl_backward_flow.specs.declared.found.Fact.{Fact}
 use Rattle.asl_backward_flow.specs.declared.found.AddFault.{AddFault}
 use Rattle.asl_backward_flow.specs.Found.{Table, Has, HasPoint, HasFact, IsAt, IsName, IsWhole, IsOver, Adds, Lists, fact, locks_of}
-use Rattle.asl_backward_flow.specs.Graph.{HasRows, HasCall, IsEdge, IsJump, IsCall}
-use Rattle.asl_backward_flow.specs.Needed.{Needed, view, region_of}
+use Rattle.asl_backward_flow.specs.Graph.{HasPc, HasRows, HasCall, IsEdge, IsJump, IsCall}
+use Rattle.asl_backward_flow.specs.Needed.{Needed, region_of}
 use Rattle.asl_backward_flow.specs.Spans.{AreSpans}
 
 -- a program with where its regions lie and the ways into its points
@@ -53,9 +53,9 @@ pub record IsRead (r : Read) : Type 0 where
 abbrev pub seen : Read → ℕ → View
 seen r function = view r.classes r.stores r.longest function
 
--- the pc is one of the region
+-- the region of this number has the pc
 abbrev pub IsAtPoint : Read → ℕ → ℕ → Type 0
-IsAtPoint r part pc = (s : Span) × (slice_get r.spans part ≡ Some s) × (s.first ≤ pc) × (pc < s.end)
+IsAtPoint r part pc = HasPc r.spans pc part
 
 -- the access at the pc needs the lock
 pub record IsAccessed (r : Read) (part pc : ℕ) (m : Lock) : Type 0 where

@@ -1,15 +1,11 @@
 -- Machinery of the proofs, not of the promise: the jumps to each pc, the calls of each function, and the regions that have
 -- each call (src/graph.rt).
-use Rattle.std.specs.Prelude.{◌≡◌, ◌≢◌, ◌+◌, ◌<◌, ◌≤◌, ℕ, List, [], Some, slice_get, unwrap_or}
+use Rattle.std.specs.Prelude.{◌≡◌, ◌≢◌, ◌+◌, ◌<◌, ◌≤◌, ℕ, List, Some, slice_get}
 use Rattle.asl_code.specs.declared.instr.Instr.{Instr}
 use Rattle.asl_lower.specs.Lowered.{Lowered}
 use Rattle.asl_lower.specs.Region.{CallsAt, GoesOn}
 use Rattle.asl_backward_flow.specs.declared.span.Span.{Span}
-use Rattle.asl_backward_flow.specs.Found.{IsAt}
-
--- the row of a number
-abbrev pub row : List (List ℕ) → ℕ → List ℕ
-row rows n = unwrap_or (slice_get rows n) []
+use Rattle.asl_backward_flow.specs.Found.{IsAt, list_at}
 
 -- the region of this number has the pc
 abbrev pub HasPc : List Span → ℕ → ℕ → Type 0
@@ -37,11 +33,11 @@ EndWithin spans count = (part : ℕ) (s : Span) → slice_get spans part ≡ Som
 
 -- the rows have the pcs below a number that are related to their own number
 pub record HasRows (rows : List (List ℕ)) (related : ℕ → ℕ → Type 0) (below : ℕ) : Type 0 where
-  pub only : (n pc : ℕ) → IsAt (row rows n) pc → (pc < below) × related n pc
-  pub all : (n pc : ℕ) → pc < below → related n pc → IsAt (row rows n) pc
+  pub only : (n pc : ℕ) → IsAt (list_at rows n) pc → (pc < below) × related n pc
+  pub all : (n pc : ℕ) → pc < below → related n pc → IsAt (list_at rows n) pc
 
 -- the rows have the pcs below one that are related to their own number, and that one as far as it was added
 pub record HasSome (rows : List (List ℕ)) (related : ℕ → ℕ → Type 0) (pc : ℕ) (added : List ℕ) : Type 0 where
-  pub only : (n x : ℕ) → IsAt (row rows n) x → (x < pc + 1) × related n x
-  pub below : (n x : ℕ) → x < pc → related n x → IsAt (row rows n) x
-  pub here : (n : ℕ) → IsAt added n → IsAt (row rows n) pc
+  pub only : (n x : ℕ) → IsAt (list_at rows n) x → (x < pc + 1) × related n x
+  pub below : (n x : ℕ) → x < pc → related n x → IsAt (list_at rows n) x
+  pub here : (n : ℕ) → IsAt added n → IsAt (list_at rows n) pc

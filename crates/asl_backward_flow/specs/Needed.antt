@@ -11,13 +11,9 @@ use Rattle.asl_lower.specs.Lowered.{Lowered}
 use Rattle.asl_lower.specs.Region.{GoesOn, start_of}
 use Rattle.asl_lower.specs.Regions.{Region, Body, Inside, IsIn}
 use Rattle.asl_points_to.specs.Classes.{Classed}
-use Rattle.asl_lock_expr.specs.Links.{View, IsOne, link, settle, accesses, renamed, dereferenced}
+use Rattle.asl_lock_expr.specs.Links.{view, IsOne, link, settle, accesses, renamed, dereferenced}
 use Rattle.asl_backward_flow.specs.declared.region.Region as code
 use Rattle.asl_backward_flow.specs.declared.region.Region.TheVariants as variant
-
--- what links are read against in a function
-abbrev pub view : Classed → (ℕ → ℕ → Bool) → ℕ → ℕ → View
-view c stores longest function = record { classes = c; stores = stores; longest = longest; function = function }
 
 -- a lock is needed at a point of a region: an access needs it there; or it comes by a link from a point where control goes
 -- on; or at a call from the entry of the callee; or something of which it is a dereferenced prefix is needed

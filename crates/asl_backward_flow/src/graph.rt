@@ -1,7 +1,8 @@
 //! The jumps to each pc, the calls of each function, and the regions that have each call.
 ghost use Rattle.std.specs.Prelude.{◌≡◌, ◌↔◌, IsTrue, ◌++◌, ◌∷◌, ◌+◌, [], ◌<◌, ◌≤◌, length, map, slice_set, vec_len, IfOk, OnOk, replicate};
 ghost use Rattle.asl_lower.specs.Kept.{IsKept};
-ghost use Rattle.asl_backward_flow.specs.Graph.{row, HasRows, HasCall, EndWithin, IsEdge, IsJump, IsCall};
+ghost use Rattle.asl_backward_flow.specs.Found.{list_at};
+ghost use Rattle.asl_backward_flow.specs.Graph.{HasRows, HasCall, EndWithin, IsEdge, IsJump, IsCall};
 
 use crate::span::Span;
 use asl_code::Instr;
@@ -24,7 +25,7 @@ fn add_to_row(rows: &mut Vec<Vec<u16>>, number: usize, pc: u16) -> Result<(), Al
     requires { number < vec_len rows.old }
     ensures count { OnOk result (vec_len rows.new ≡ vec_len rows.old) }
     ensures rows { OnOk result (map (λ r. r.items) rows.new.items
-        ≡ slice_set (map (λ r. r.items) rows.old.items) number (row (map (λ r. r.items) rows.old.items) number ++ pc ∷ [])) }
+        ≡ slice_set (map (λ r. r.items) rows.old.items) number (list_at (map (λ r. r.items) rows.old.items) number ++ pc ∷ [])) }
 {
     rows[number].push(pc)?;
     Ok(())

@@ -5,8 +5,8 @@ use Rattle.asl_code.specs.declared.lock.Lock.{Lock}
 use Rattle.asl_code.specs.declared.instr.Instr.{Instr}
 use Rattle.std.proofs.lemmas.Option.{get_or_from_slice_get}
 use Rattle.asl_points_to.specs.Classes.{Classed}
-use Rattle.asl_lock_expr.specs.Stores.{view_of}
-use Rattle.asl_lock_expr.specs.Links.{IsOne, IsLinked, HasGrown, View, link, dereferenced}
+use Rattle.asl_lock_expr.specs.Stores.{stores}
+use Rattle.asl_lock_expr.specs.Links.{IsOne, IsLinked, HasGrown, View, view, link, dereferenced}
 
 -- a list has grown where locks were added, and where it grew twice
 pub grown_more : (old new more : List Lock) → new ≡ old ++ more → HasGrown old new
@@ -62,14 +62,14 @@ linked_is v i l ms list is same n = (
 
 -- what was linked, read against the view of the function
 pub linked_view : (c : Classed) (w : List (List ℕ)) (k f function pc : ℕ) (code now : List Instr) (d i : Instr) (l : Lock) (start end : List Lock) →
-    end ≡ start ++ link (view_of c w k f) (get_or now pc d) l → start ≡ [] → f ≡ function → now ≡ code → slice_get code pc ≡ Some i →
-    end ≡ link (view_of c w k function) i l
+    end ≡ start ++ link (view c (stores w) k f) (get_or now pc d) l → start ≡ [] → f ≡ function → now ≡ code → slice_get code pc ≡ Some i →
+    end ≡ link (view c (stores w) k function) i l
 linked_view c w k f function pc code now d i l start end e s owner same at =
     e
-    ∙ ap (λ (xs : List Lock). xs ++ link (view_of c w k f) (get_or now pc d) l) s
-    ∙ ap (λ (n : ℕ). link (view_of c w k n) (get_or now pc d) l) owner
-    ∙ ap (λ (is : List Instr). link (view_of c w k function) (get_or is pc d) l) same
-    ∙ ap (λ (x : Instr). link (view_of c w k function) x l) (get_or_from_slice_get code pc i d at)
+    ∙ ap (λ (xs : List Lock). xs ++ link (view c (stores w) k f) (get_or now pc d) l) s
+    ∙ ap (λ (n : ℕ). link (view c (stores w) k n) (get_or now pc d) l) owner
+    ∙ ap (λ (is : List Instr). link (view c (stores w) k function) (get_or is pc d) l) same
+    ∙ ap (λ (x : Instr). link (view c (stores w) k function) x l) (get_or_from_slice_get code pc i d at)
 
 -- what holds of a result, where it follows from what holds of it
 pub ok_more : {A E : Type 0} (r : Result A E) (P Q : A → Type 0) → ((v : A) → P v → Q v) → IfOk r P → IfOk r Q

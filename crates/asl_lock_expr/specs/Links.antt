@@ -24,6 +24,9 @@ pub record View : Type 0 where
   pub longest : ℕ
   pub function : ℕ
 
+abbrev pub view : Classed → (ℕ → ℕ → Bool) → ℕ → ℕ → View
+view c stores longest function = record { classes = c; stores = stores; longest = longest; function = function }
+
 -- one of a list of locks
 abbrev pub IsOne : List Lock → Lock → Type 0
 IsOne [] l = ⊥

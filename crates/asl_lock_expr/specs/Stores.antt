@@ -1,14 +1,7 @@
 -- The classes that each function may store to, as lists (docs/ANALYSIS.md, "Written classes").
 use Rattle.std.specs.Prelude.{ℕ, Bool, List, [], ◌==◌, slice_get, unwrap_or}
 use Rattle.std.specs.List.{list_any}
-use Rattle.asl_points_to.specs.Classes.{Classed}
-use Rattle.asl_lock_expr.specs.Links.{View}
 
 -- whether the class is in the function's list
 abbrev pub stores : List (List ℕ) → ℕ → ℕ → Bool
 stores lists function class = list_any (λ x. x == class) (unwrap_or (slice_get lists function) [])
-
--- what links of a function are read against
-abbrev pub view_of : Classed → List (List ℕ) → ℕ → ℕ → View
-view_of c lists longest function =
-    record { classes = c; stores = stores lists; longest = longest; function = function }

@@ -3,9 +3,9 @@ ghost use Rattle.std.specs.Prelude.{◌≡◌, ◌<◌, ◌≤◌, ◌⊎◌, �
 ghost use Rattle.std.specs.List.{flat_map};
 ghost use Rattle.asl_code.specs.declared.instr.Instr.{Instr as AnyInstr};
 ghost use Rattle.asl_lower.specs.Region.{InBody};
-ghost use Rattle.asl_lock_expr.specs.Links.{IsOne, IsLinked, dereferenced};
+ghost use Rattle.asl_lock_expr.specs.Links.{view, IsOne, IsLinked, dereferenced};
 ghost use Rattle.asl_lock_expr.specs.Order.{AreInOrder};
-ghost use Rattle.asl_lock_expr.specs.Stores.{view_of};
+ghost use Rattle.asl_lock_expr.specs.Stores.{stores};
 
 use crate::link::{View, add_dereferenced, add_links};
 use crate::order::add_in_order;
@@ -34,7 +34,7 @@ pub fn links(
     requires there { pc < length lowering.now.code }
     ensures order { IfOk result (λ v. AreInOrder v.items) }
     ensures locks { (function : ℕ) (i : AnyInstr) → InBody lowering.now function pc → slice_get lowering.now.code pc ≡ Some i
-        → IfOk result (λ v. (n : _) → IsOne v.items n ↔ IsLinked (view_of classes.now writes.now k function) i lock.now n) }
+        → IfOk result (λ v. (n : _) → IsOne v.items n ↔ IsLinked (view classes.now (stores writes.now) k function) i lock.now n) }
 {
     let code = lowering.code();
     let view = View {

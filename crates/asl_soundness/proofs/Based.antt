@@ -16,8 +16,8 @@ use Rattle.asl_lower.specs.Operands.{HasOperands}
 use Rattle.asl_lower.specs.Facts.{HasLayout}
 use Rattle.asl_lower.proofs.Inside.{region_body}
 use Rattle.asl_points_to.specs.Classes.{Classed, IsLegal}
-use Rattle.asl_lock_expr.specs.Links.{View, on, is_star, accesses, renamed, renamed_on, prefixes, dereferenced}
-use Rattle.asl_backward_flow.specs.Needed.{view, Needed, Accessed, Linked, Entered, Before}
+use Rattle.asl_lock_expr.specs.Links.{View, view, on, is_star, accesses, renamed, renamed_on, prefixes, dereferenced}
+use Rattle.asl_backward_flow.specs.Needed.{Needed, Accessed, Linked, Entered, Before}
 use Rattle.asl_soundness.specs.Protected.{BaseThere, LockThere}
 use Rattle.asl_soundness.proofs.Protecting.{AllThere}
 use Rattle.asl_soundness.proofs.Links.{GlobalsThere, none_there, alone_there, either_there, both_there, settle_there, link_there}

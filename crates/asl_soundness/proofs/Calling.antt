@@ -21,10 +21,9 @@ use Rattle.asl_lower.specs.Regions.{Region, Body, Inside, IsIn, outermost}
 use Rattle.asl_points_to.specs.Classes.{Classed}
 use Rattle.asl_lock_expr.specs.Expression.{pointed, path_cell, base_cell}
 use Rattle.asl_lock_expr.specs.ClassOf.{MayStore, ByCall, base_class}
-use Rattle.asl_lock_expr.specs.Links.{IsOne, on, is_register, goes_through, renamed, renamed_on}
+use Rattle.asl_lock_expr.specs.Links.{view, IsOne, on, is_register, goes_through, renamed, renamed_on}
 use Rattle.asl_lock_expr.proofs.Paths.{no_cell_from_none}
 use Rattle.asl_lock_expr.proofs.Leaves.{call_leaves}
-use Rattle.asl_backward_flow.specs.Needed.{view}
 use Rattle.asl_backward_flow.specs.Closed.{Family}
 use Rattle.asl_machine.specs.State.{Object, Frame, Activity, State, cell_at, class_of, written}
 use Rattle.asl_machine.specs.Calls.{with_register}

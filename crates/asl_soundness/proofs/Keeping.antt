@@ -22,9 +22,8 @@ use Rattle.asl_lower.specs.Lowered.{Lowered}
 use Rattle.asl_lower.specs.Regions.{Region}
 use Rattle.asl_points_to.specs.Classes.{Classed}
 use Rattle.asl_lock_expr.specs.Expression.{cell_denoted}
-use Rattle.asl_lock_expr.specs.Links.{IsOne, prefixes}
+use Rattle.asl_lock_expr.specs.Links.{view, IsOne, prefixes}
 use Rattle.asl_lock_expr.proofs.Leaves.{call_leaves, prefix_left}
-use Rattle.asl_backward_flow.specs.Needed.{view}
 use Rattle.asl_backward_flow.specs.Closed.{Family, IsClosed}
 use Rattle.asl_machine.specs.State.{Object, Frame, Activity, State, cell_at, written, activity_at}
 use Rattle.asl_machine.specs.Access.{Points, AllPoint}

@@ -18,8 +18,7 @@ use Rattle.asl_lock_forest.specs.Holding.{Holding, held}
 use Rattle.asl_lower.specs.Lowered.{Lowered}
 use Rattle.asl_points_to.specs.Classes.{Classed}
 use Rattle.asl_lock_expr.specs.Expression.{pointed}
-use Rattle.asl_lock_expr.specs.Links.{View, replaced, before, link}
-use Rattle.asl_backward_flow.specs.Needed.{view}
+use Rattle.asl_lock_expr.specs.Links.{View, view, replaced, before, link}
 use Rattle.asl_machine.specs.declared.reply.Reply.{Reply}
 use Rattle.asl_machine.specs.declared.reply.Reply.TheVariants as reply
 use Rattle.asl_machine.specs.State.{Object, Frame, Activity, Thread, Running, Done, Failed, State, cell_at, written, new_object, activity_of, activity_at}

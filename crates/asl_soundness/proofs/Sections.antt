@@ -20,8 +20,7 @@ use Rattle.asl_lower.proofs.Layouts.{kept_layout}
 use Rattle.asl_lower.proofs.Owner.{from_mapped}
 use Rattle.asl_lower.proofs.Inside.{told}
 use Rattle.asl_points_to.specs.Classes.{Classed}
-use Rattle.asl_lock_expr.specs.Links.{View, before}
-use Rattle.asl_backward_flow.specs.Needed.{view}
+use Rattle.asl_lock_expr.specs.Links.{View, view, before}
 use Rattle.asl_backward_flow.specs.Closed.{Family}
 use Rattle.asl_machine.specs.State.{Object, Frame, Activity, State}
 use Rattle.asl_machine.specs.Step.{placed_at, going_on}

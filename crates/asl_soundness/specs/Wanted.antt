@@ -7,8 +7,7 @@ use Rattle.asl_code.specs.declared.lock.Lock.{Lock}
 use Rattle.asl_lower.specs.Lowered.{Lowered}
 use Rattle.asl_lower.specs.Regions.{Region}
 use Rattle.asl_points_to.specs.Classes.{Classed}
-use Rattle.asl_lock_expr.specs.Links.{IsOne, link}
-use Rattle.asl_backward_flow.specs.Needed.{view}
+use Rattle.asl_lock_expr.specs.Links.{view, IsOne, link}
 use Rattle.asl_backward_flow.specs.Closed.{Family}
 use Rattle.asl_machine.specs.State.{Object, Frame}
 use Rattle.asl_machine.specs.Cover.{Cover}
