@@ -4,7 +4,7 @@ use Rattle.std.proofs.lemmas.Bool.Decides.{eqb_tells}
 use Rattle.asl_code.specs.declared.lock.Lock.{Lock}
 use Rattle.asl_backward_flow.specs.declared.found.AddFault.{AddFault}
 use Rattle.asl_backward_flow.specs.Found.{Table}
-use Rattle.asl_backward_flow.specs.Follows.{Read, At, IsReady, IsAtPoint, IsLinked, IsBack, IsBackBefore, IsBackOver, Added, Stopped}
+use Rattle.asl_backward_flow.specs.Follows.{Read, At, IsReady, IsAtPoint, IsLinkedAlone, IsBack, IsBackBefore, IsBackOver, Added, Stopped}
 use Rattle.asl_backward_flow.specs.Graph.{IsEdge}
 use Rattle.asl_backward_flow.proofs.Adding.{added_as, added_none, added_on, stopped_as, stopped_on}
 use Rattle.asl_backward_flow.proofs.Each.{to_point, from_point, at_point}
@@ -32,18 +32,18 @@ module _ (r : Read) (part pc : ℕ) (lock : Lock) where
 
   -- control goes on from the pc before
   module _ (at : ℕ) (next : pc ≡ at + 1) where
-    here_to : IsAtPoint r part at → IsEdge r.lowered pc at → (p q : ℕ) (m : Lock) → At part at (IsLinked r part at lock) p q m → IsBackBefore r part pc lock p q m
+    here_to : IsAtPoint r part at → IsEdge r.lowered pc at → (p q : ℕ) (m : Lock) → At part at (IsLinkedAlone r part at lock) p q m → IsBackBefore r part pc lock p q m
     here_to point edge p q m h =
-        (h.0, (subst (IsEdge r.lowered pc) (sym h.1) edge, next ∙ ap (λ n. n + 1) (sym h.1)), at_point r part at point p q h.0 h.1, to_point r part at (λ a b. IsLinked r a b lock) p q m h)
+        (h.0, (subst (IsEdge r.lowered pc) (sym h.1) edge, next ∙ ap (λ n. n + 1) (sym h.1)), at_point r part at point p q h.0 h.1, to_point r part at (λ a b. IsLinkedAlone r a b lock) p q m h)
 
-    of_here : (p q : ℕ) (m : Lock) → IsBackBefore r part pc lock p q m → At part at (IsLinked r part at lock) p q m
-    of_here p q m h = let same = h.1.1 in from_point r part at (λ a b. IsLinked r a b lock) p q m h.0 (omega (arith, same, next)) h.3
+    of_here : (p q : ℕ) (m : Lock) → IsBackBefore r part pc lock p q m → At part at (IsLinkedAlone r part at lock) p q m
+    of_here p q m h = let same = h.1.1 in from_point r part at (λ a b. IsLinkedAlone r a b lock) p q m h.0 (omega (arith, same, next)) h.3
 
-    pub here_ok : IsAtPoint r part at → IsEdge r.lowered pc at → (a b : Table) (result : Result Unit AddFault) → OnOk result (Added r a b (At part at (IsLinked r part at lock))) → OnOk result (Added r a b (IsBackBefore r part pc lock))
+    pub here_ok : IsAtPoint r part at → IsEdge r.lowered pc at → (a b : Table) (result : Result Unit AddFault) → OnOk result (Added r a b (At part at (IsLinkedAlone r part at lock))) → OnOk result (Added r a b (IsBackBefore r part pc lock))
     here_ok point edge a b (Ok u) x = added_as r a b _ _ (here_to point edge) of_here x
     here_ok point edge a b (Err e) x = tt
 
-    pub here_err : IsAtPoint r part at → IsEdge r.lowered pc at → (a b : Table) (result : Result Unit AddFault) → IfErr result (Stopped a b (At part at (IsLinked r part at lock))) → IfErr result (Stopped a b (IsBackBefore r part pc lock))
+    pub here_err : IsAtPoint r part at → IsEdge r.lowered pc at → (a b : Table) (result : Result Unit AddFault) → IfErr result (Stopped a b (At part at (IsLinkedAlone r part at lock))) → IfErr result (Stopped a b (IsBackBefore r part pc lock))
     here_err point edge a b (Ok u) x = tt
     here_err point edge a b (Err e) x = stopped_as a b _ _ e (here_to point edge) x
 

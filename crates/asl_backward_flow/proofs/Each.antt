@@ -7,12 +7,12 @@ use Rattle.asl_backward_flow.specs.declared.region.Region.TheVariants as variant
 use Rattle.asl_backward_flow.specs.declared.span.Span.{Span}
 use Rattle.asl_backward_flow.specs.Graph.{IsCall}
 use Rattle.asl_backward_flow.specs.Found.{Table, list_at}
-use Rattle.asl_backward_flow.specs.Follows.{Read, IsRead, IsAtPoint, IsLinked, IsEntered, IsSeed, IsSeedIn, IsAccessed, IsBackOver, IsCalledAt, IsAtCall, At, Added, Stopped, AddedBelow}
+use Rattle.asl_backward_flow.specs.Follows.{Read, IsRead, IsAtPoint, IsLinkedAlone, IsEntered, IsSeed, IsSeedIn, IsAccessed, IsBackOver, IsCalledAt, IsAtCall, At, Added, Stopped, AddedBelow}
 use Rattle.asl_backward_flow.proofs.Sets.{some_same}
 use Rattle.asl_backward_flow.proofs.Adding.{below_more, below_skip, below_end, below_stopped}
 
 abbrev pub each_back : Read → ℕ → Lock → List ℕ → ℕ → ℕ → ℕ → Lock → Type 0
-each_back r part lock pcs j p q m = (p ≡ part) × (slice_get pcs j ≡ Some q) × IsAtPoint r p q × IsLinked r p q lock m
+each_back r part lock pcs j p q m = (p ≡ part) × (slice_get pcs j ≡ Some q) × IsAtPoint r p q × IsLinkedAlone r p q lock m
 
 abbrev pub each_point : Read → ℕ → ℕ → ℕ → ℕ → Lock → Type 0
 each_point r part j p q m = (p ≡ part) × (q ≡ j) × IsSeed r p q m
@@ -23,8 +23,8 @@ each_region r j p q m = (p ≡ j) × IsSeed r p q m
 abbrev pub each_call : Read → ℕ → Lock → List ℕ → ℕ → ℕ → ℕ → Lock → Type 0
 each_call r pc lock parts j p q m = (slice_get parts j ≡ Some p) × (q ≡ pc) × IsAtPoint r p q × IsEntered r p q lock m
 
-abbrev pub each_caller : Read → Lock → List ℕ → ℕ → ℕ → ℕ → Lock → Type 0
-each_caller r lock pcs j p q m = (slice_get pcs j ≡ Some q) × IsCalledAt r q lock p q m
+abbrev pub each_call_of : Read → Lock → List ℕ → ℕ → ℕ → ℕ → Lock → Type 0
+each_call_of r lock pcs j p q m = (slice_get pcs j ≡ Some q) × IsCalledAt r q lock p q m
 
 module _ (r : Read) (part pc : ℕ) (these : ℕ → ℕ → Lock → Type 0) where
   -- what is at one point is so under other names of the region and the pc
@@ -98,34 +98,34 @@ abbrev pub no_span : Span
 no_span = record { region = variant.Body 0; function = 0; first = 0; end = 0 }
 
 -- the turns over the calls of a function
-pub callers_more : (r : Read) (initial now new : Table) (j pc : ℕ) (lock : Lock) (pcs : List ℕ) → slice_get pcs j ≡ Some pc → AddedBelow r initial now (each_caller r lock pcs) j
-    → Added r now new (IsCalledAt r pc lock) → AddedBelow r initial new (each_caller r lock pcs) (j + 1)
-callers_more r initial now new j pc lock pcs at so x = below_more r initial now new (each_caller r lock pcs) j _
+pub calls_of_more : (r : Read) (initial now new : Table) (j pc : ℕ) (lock : Lock) (pcs : List ℕ) → slice_get pcs j ≡ Some pc → AddedBelow r initial now (each_call_of r lock pcs) j
+    → Added r now new (IsCalledAt r pc lock) → AddedBelow r initial new (each_call_of r lock pcs) (j + 1)
+calls_of_more r initial now new j pc lock pcs at so x = below_more r initial now new (each_call_of r lock pcs) j _
     (λ p q m h. (at ∙ ap Some (sym h.0), (refl, subst (λ y. IsAtPoint r p y) refl h.1, h.2)))
     (λ p q m h. let same : q ≡ pc = some_same (sym h.0 ∙ at) in (same, h.1.1, h.1.2)) so x
 
-pub callers_stopped : (r : Read) (initial now new : Table) (j pc : ℕ) (lock : Lock) (pcs : List ℕ) (g : ℕ) (fault : AddFault) → pcs ≡ list_at r.callers g → IsRead r → slice_get pcs j ≡ Some pc
-    → AddedBelow r initial now (each_caller r lock pcs) j → Stopped now new (IsCalledAt r pc lock) fault → Stopped initial new (IsAtCall r g lock) fault
-callers_stopped r initial now new j pc lock pcs g fault is read at so x = below_stopped r initial now new (each_caller r lock pcs) j _ (IsAtCall r g lock) fault
-    (λ k p q m h. ((read.callers.only g q (k, ap (λ l. slice_get l k) (sym is) ∙ h.0)).1, h.1))
-    (λ p q m h. ((read.callers.only g q (j, ap (λ l. slice_get l j) (sym is) ∙ at ∙ ap Some (sym h.0))).1, (refl, h.1, h.2))) so x
+pub calls_of_stopped : (r : Read) (initial now new : Table) (j pc : ℕ) (lock : Lock) (pcs : List ℕ) (g : ℕ) (fault : AddFault) → pcs ≡ list_at r.calls g → IsRead r → slice_get pcs j ≡ Some pc
+    → AddedBelow r initial now (each_call_of r lock pcs) j → Stopped now new (IsCalledAt r pc lock) fault → Stopped initial new (IsAtCall r g lock) fault
+calls_of_stopped r initial now new j pc lock pcs g fault is read at so x = below_stopped r initial now new (each_call_of r lock pcs) j _ (IsAtCall r g lock) fault
+    (λ k p q m h. ((read.calls.only g q (k, ap (λ l. slice_get l k) (sym is) ∙ h.0)).1, h.1))
+    (λ p q m h. ((read.calls.only g q (j, ap (λ l. slice_get l j) (sym is) ∙ at ∙ ap Some (sym h.0))).1, (refl, h.1, h.2))) so x
 
-pub callers_end : (r : Read) (initial now : Table) (j : ℕ) (lock : Lock) (pcs : List ℕ) (g : ℕ) → pcs ≡ list_at r.callers g → IsRead r → length pcs ≤ j
-    → AddedBelow r initial now (each_caller r lock pcs) j → Added r initial now (IsAtCall r g lock)
-callers_end r initial now j lock pcs g is read end so = below_end r initial now (each_caller r lock pcs) j (IsAtCall r g lock)
-    (λ k p q m h. ((read.callers.only g q (k, ap (λ l. slice_get l k) (sym is) ∙ h.0)).1, h.1))
+pub calls_of_end : (r : Read) (initial now : Table) (j : ℕ) (lock : Lock) (pcs : List ℕ) (g : ℕ) → pcs ≡ list_at r.calls g → IsRead r → length pcs ≤ j
+    → AddedBelow r initial now (each_call_of r lock pcs) j → Added r initial now (IsAtCall r g lock)
+calls_of_end r initial now j lock pcs g is read end so = below_end r initial now (each_call_of r lock pcs) j (IsAtCall r g lock)
+    (λ k p q m h. ((read.calls.only g q (k, ap (λ l. slice_get l k) (sym is) ∙ h.0)).1, h.1))
     (λ p q m h.
-    let at = read.callers.all g q (slice_get_within r.lowered.code q _ h.0.2) h.0 in
+    let at = read.calls.all g q (slice_get_within r.lowered.code q _ h.0.2) h.0 in
     let here : slice_get pcs at.0 ≡ Some q = ap (λ l. slice_get l at.0) is ∙ at.1 in
     let lt = slice_get_within pcs at.0 q here in
     (at.0, omega (arith, lt, end), (here, h.1))) so
 
 -- the turns over the other pcs from which control goes on to one
 pub back_more : (r : Read) (initial now new : Table) (j part q : ℕ) (lock : Lock) (pcs : List ℕ) → slice_get pcs j ≡ Some q → IsAtPoint r part q → AddedBelow r initial now (each_back r part lock pcs) j
-    → Added r now new (At part q (IsLinked r part q lock)) → AddedBelow r initial new (each_back r part lock pcs) (j + 1)
+    → Added r now new (At part q (IsLinkedAlone r part q lock)) → AddedBelow r initial new (each_back r part lock pcs) (j + 1)
 back_more r initial now new j part q lock pcs at point so x = below_more r initial now new (each_back r part lock pcs) j _
-    (λ p y m h. (h.0, at ∙ ap Some (sym h.1), at_point r part q point p y h.0 h.1, to_point r part q (λ a b. IsLinked r a b lock) p y m h))
-    (λ p y m h. from_point r part q (λ a b. IsLinked r a b lock) p y m h.0 (some_same (sym h.1 ∙ at)) h.3) so x
+    (λ p y m h. (h.0, at ∙ ap Some (sym h.1), at_point r part q point p y h.0 h.1, to_point r part q (λ a b. IsLinkedAlone r a b lock) p y m h))
+    (λ p y m h. from_point r part q (λ a b. IsLinkedAlone r a b lock) p y m h.0 (some_same (sym h.1 ∙ at)) h.3) so x
 
 pub back_skip : (r : Read) (initial now : Table) (j part q : ℕ) (lock : Lock) (pcs : List ℕ) → slice_get pcs j ≡ Some q → ¬ IsAtPoint r part q → AddedBelow r initial now (each_back r part lock pcs) j
     → AddedBelow r initial now (each_back r part lock pcs) (j + 1)
@@ -133,10 +133,10 @@ back_skip r initial now j part q lock pcs at not so = below_skip r initial now (
     (λ p y m h. let same : y ≡ q = some_same (sym h.1 ∙ at) in not (subst (λ x. IsAtPoint r x q) h.0 (subst (λ z. IsAtPoint r p z) same h.2))) so
 
 pub back_stopped : (r : Read) (initial now new : Table) (j part q : ℕ) (lock : Lock) (pcs : List ℕ) (pc : ℕ) (fault : AddFault) → pcs ≡ list_at r.jumps pc → IsRead r → slice_get pcs j ≡ Some q → IsAtPoint r part q
-    → AddedBelow r initial now (each_back r part lock pcs) j → Stopped now new (At part q (IsLinked r part q lock)) fault → Stopped initial new (IsBackOver r part pc lock) fault
+    → AddedBelow r initial now (each_back r part lock pcs) j → Stopped now new (At part q (IsLinkedAlone r part q lock)) fault → Stopped initial new (IsBackOver r part pc lock) fault
 back_stopped r initial now new j part q lock pcs pc fault is read at point so x = below_stopped r initial now new (each_back r part lock pcs) j _ (IsBackOver r part pc lock) fault
     (λ k p y m h. (h.0, (read.jumps.only pc y (k, ap (λ l. slice_get l k) (sym is) ∙ h.1)).1, h.2, h.3))
-    (λ p y m h. (h.0, (read.jumps.only pc y (j, ap (λ l. slice_get l j) (sym is) ∙ at ∙ ap Some (sym h.1))).1, at_point r part q point p y h.0 h.1, to_point r part q (λ a b. IsLinked r a b lock) p y m h)) so x
+    (λ p y m h. (h.0, (read.jumps.only pc y (j, ap (λ l. slice_get l j) (sym is) ∙ at ∙ ap Some (sym h.1))).1, at_point r part q point p y h.0 h.1, to_point r part q (λ a b. IsLinkedAlone r a b lock) p y m h)) so x
 
 pub back_end : (r : Read) (initial now : Table) (j part : ℕ) (lock : Lock) (pcs : List ℕ) (pc : ℕ) → pcs ≡ list_at r.jumps pc → IsRead r → length pcs ≤ j
     → AddedBelow r initial now (each_back r part lock pcs) j → Added r initial now (IsBackOver r part pc lock)

@@ -12,7 +12,7 @@ use Rattle.asl_lower.proofs.Layouts.{kept_layout}
 use Rattle.asl_lock_expr.proofs.Ones.{one_left, one_right, one_either}
 use Rattle.asl_lock_expr.specs.Links.{View, IsOne, link, settle, accesses, renamed}
 use Rattle.asl_backward_flow.specs.declared.span.Span.{Span}
-use Rattle.asl_backward_flow.specs.Follows.{Read, seen, IsAtPoint, IsAccessed, IsLinked, IsEntered}
+use Rattle.asl_backward_flow.specs.Follows.{Read, seen, IsAtPoint, IsAccessed, IsLinkedAlone, IsEntered}
 use Rattle.asl_backward_flow.specs.Found.{IsAt, list_at}
 use Rattle.asl_backward_flow.proofs.Rows.{row_of}
 use Rattle.asl_backward_flow.proofs.Sets.{some_same}
@@ -44,7 +44,7 @@ module _ (r : Read) (part pc : ℕ) (s : Span) (i : Instr) (there : slice_get r.
       all : locks ≡ accesses v i
       all = added_to_none first locks (accesses v i) none made
 
-  pub linked_list : (lock : Lock) (first locks : List Lock) → first ≡ [] → locks ≡ first ++ link v i lock → (m : Lock) → IsOne locks m ↔ IsLinked r part pc lock m
+  pub linked_list : (lock : Lock) (first locks : List Lock) → first ≡ [] → locks ≡ first ++ link v i lock → (m : Lock) → IsOne locks m ↔ IsLinkedAlone r part pc lock m
   linked_list lock first locks none made m = (
     λ h. record { span = s; there = there; instruction = i; stands = stands; one = subst (λ w. IsOne (link w i lock) m) is (subst (λ l. IsOne l m) all h) },
     λ h.

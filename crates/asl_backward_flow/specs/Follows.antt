@@ -27,7 +27,7 @@ pub record Read : Type 0 where
   pub longest : ℕ
   pub spans : List Span
   pub jumps : List (List ℕ)
-  pub callers : List (List ℕ)
+  pub calls : List (List ℕ)
   pub regions : List (List ℕ)
 
 abbrev pub read : Program → Read
@@ -38,7 +38,7 @@ read p = record {
   longest = p.longest;
   spans = p.spans.now;
   jumps = map (λ r. r.items) p.jumps.now;
-  callers = map (λ r. r.items) p.callers.now;
+  calls = map (λ r. r.items) p.calls.now;
   regions = map (λ r. r.items) p.regions.now;
 }
 
@@ -47,7 +47,7 @@ pub record IsRead (r : Read) : Type 0 where
   pub kept : IsKept r.lowered
   pub spans : AreSpans r.lowered r.spans
   pub jumps : HasRows r.jumps (IsJump r.lowered) (length r.lowered.code)
-  pub callers : HasRows r.callers (IsCall r.lowered) (length r.lowered.code)
+  pub calls : HasRows r.calls (IsCall r.lowered) (length r.lowered.code)
   pub regions : HasRows r.regions (HasCall r.lowered r.spans) (length r.spans)
 
 abbrev pub seen : Read → ℕ → View
@@ -65,8 +65,8 @@ pub record IsAccessed (r : Read) (part pc : ℕ) (m : Lock) : Type 0 where
   pub stands : slice_get r.lowered.code pc ≡ Some instruction
   pub one : IsOne (accesses (seen r span.function) instruction) m
 
--- the first lock becomes the second over the instruction at the pc
-pub record IsLinked (r : Read) (part pc : ℕ) (lock m : Lock) : Type 0 where
+-- the first lock becomes the second over the instruction at the pc, dereferenced prefixes left out
+pub record IsLinkedAlone (r : Read) (part pc : ℕ) (lock m : Lock) : Type 0 where
   pub span : Span
   pub there : slice_get r.spans part ≡ Some span
   pub instruction : Instr
@@ -104,7 +104,7 @@ IsPrefix part pc lock = At part pc (IsOne (dereferenced lock))
 
 -- the second lock comes by a link over an instruction that is related to the pc
 abbrev pub IsBackBy : (ℕ → ℕ → Type 0) → Read → ℕ → ℕ → Lock → ℕ → ℕ → Lock → Type 0
-IsBackBy related r part pc lock p q m = (p ≡ part) × related pc q × IsAtPoint r p q × IsLinked r p q lock m
+IsBackBy related r part pc lock p q m = (p ≡ part) × related pc q × IsAtPoint r p q × IsLinkedAlone r p q lock m
 
 -- the same over an instruction from which control goes on to the pc: over the one before it, or over another
 abbrev pub IsBack : Read → ℕ → ℕ → Lock → ℕ → ℕ → Lock → Type 0

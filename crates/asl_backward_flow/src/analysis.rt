@@ -8,7 +8,7 @@ ghost use Rattle.asl_backward_flow.specs.Parts.{TellsAll, HasMany};
 use crate::fault::FlowFault;
 use crate::flow::follow_all;
 use crate::found::{AddFault, Found};
-use crate::graph::{callers, jumps, regions};
+use crate::graph::{calls, jumps, regions};
 use crate::parts::{Flow, flow_of};
 use crate::program::Program;
 use crate::span::spans;
@@ -37,7 +37,7 @@ pub fn needed(
     let writes = writes(alloc, lowering, classes)?;
     let spans = spans(alloc, lowering)?;
     let jumps = jumps(alloc, lowering)?;
-    let callers = callers(alloc, lowering)?;
+    let calls = calls(alloc, lowering)?;
     let regions = regions(alloc, lowering, spans.as_slice())?;
     let program = Program {
         lowering,
@@ -46,7 +46,7 @@ pub fn needed(
         longest: k as usize,
         spans: spans.as_slice(),
         jumps: jumps.as_slice(),
-        callers: callers.as_slice(),
+        calls: calls.as_slice(),
         regions: regions.as_slice(),
     };
     flow(alloc, &program)

@@ -72,7 +72,7 @@ fn add_jumps(lowering: &Lowering, pc: u16, rows: &mut Vec<Vec<u16>>) -> Result<(
 }
 
 /// For each function, the pcs at which it is called.
-pub fn callers(alloc: Global, lowering: &Lowering) -> Result<Vec<Vec<u16>>, AllocError>
+pub fn calls(alloc: Global, lowering: &Lowering) -> Result<Vec<Vec<u16>>, AllocError>
     ensures { IfOk result (λ rows. HasRows (map (λ r. r.items) rows.items) (IsCall lowering.now) (length lowering.now.code)) }
 {
     let mut rows = empty_rows(alloc, lowering.functions().len())?;

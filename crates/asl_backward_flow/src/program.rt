@@ -21,7 +21,7 @@ pub struct Program<'a> {
     /// For each pc, the pcs from which control goes on to it, without the one before it.
     pub jumps: &'a [Vec<u16>],
     /// For each function, the pcs at which it is called.
-    pub callers: &'a [Vec<u16>],
+    pub calls: &'a [Vec<u16>],
     /// For each pc at which a function is called, the regions that have it, by their places among the spans.
     pub regions: &'a [Vec<u16>],
 }

@@ -3,7 +3,7 @@ ghost use Rattle.std.specs.Prelude.{◌≡◌, ◌<◌, ◌↔◌, Some, length,
 ghost use Rattle.asl_lock_expr.specs.Links.{IsOne};
 ghost use Rattle.asl_lock_expr.specs.LinksView.{seen as seen_by};
 ghost use Rattle.asl_backward_flow.specs.Found.{table, locks_of};
-ghost use Rattle.asl_backward_flow.specs.Follows.{read, seen, IsRead, IsReady, IsAtPoint, IsAccessed, IsLinked, IsEntered, At, IsSeed, IsSeedIn, IsPrefix, IsBack, IsBackBefore, IsBackOver, IsCalledAt, IsAtCall, IsEntry, Follows, Added, Stopped};
+ghost use Rattle.asl_backward_flow.specs.Follows.{read, seen, IsRead, IsReady, IsAtPoint, IsAccessed, IsLinkedAlone, IsEntered, At, IsSeed, IsSeedIn, IsPrefix, IsBack, IsBackBefore, IsBackOver, IsCalledAt, IsAtCall, IsEntry, Follows, Added, Stopped};
 
 use crate::found::{AddFault, Found};
 use crate::graph::goes_on;
@@ -221,8 +221,8 @@ fn add_linked(
     requires there { part < length program.now.spans.now }
     requires named { slice_get (locks_of (table found.old) part) number ≡ Some lock.now }
     requires code { pc < length program.now.lowering.now.code }
-    ensures ok { OnOk result (Added (read program.now) (table found.old) (table found.new) (At part pc (IsLinked (read program.now) part pc lock.now))) }
-    ensures err { IfErr result (Stopped (table found.old) (table found.new) (At part pc (IsLinked (read program.now) part pc lock.now))) }
+    ensures ok { OnOk result (Added (read program.now) (table found.old) (table found.new) (At part pc (IsLinkedAlone (read program.now) part pc lock.now))) }
+    ensures err { IfErr result (Stopped (table found.old) (table found.new) (At part pc (IsLinkedAlone (read program.now) part pc lock.now))) }
 {
     let span = program.spans[usize::from(part)];
     let view = view(program, span.function);
@@ -272,8 +272,8 @@ fn add_calls(
     ensures ok { OnOk result (Added (read program.now) (table found.old) (table found.new) (IsAtCall (read program.now) function lock.now)) }
     ensures err { IfErr result (Stopped (table found.old) (table found.new) (IsAtCall (read program.now) function lock.now)) }
 {
-    if let Some(callers) = program.callers.get(usize::from(function)) {
-        for pc in callers.as_slice() {
+    if let Some(calls) = program.calls.get(usize::from(function)) {
+        for pc in calls.as_slice() {
             add_call(alloc, program, *pc, lock, found)?;
         }
     }
