@@ -1,5 +1,6 @@
 pub mod Spelling
 pub mod Bodies
+pub mod Locks
 pub mod Versions
 pub mod Verified
 pub mod Fits

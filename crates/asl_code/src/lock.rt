@@ -1,4 +1,6 @@
 //! Locks: what a section asks for at its entry.
+ghost use Rattle.std.specs.Prelude.{◌≡◌};
+ghost use Rattle.asl_code.specs.Locks.{effect_of};
 
 use crate::path::Path;
 use crate::value::Effect;
@@ -30,4 +32,15 @@ pub enum Lock {
     Class(u16, Effect),
     /// The one cell that the expression denotes, if it denotes one.
     Expr(Expr, Effect),
+}
+
+impl Lock {
+    /// What the lock is for.
+    pub fn effect(&self) -> Effect
+        ensures { result ≡ effect_of self.now }
+    {
+        match self {
+            Lock::Root(effect) | Lock::Class(_, effect) | Lock::Expr(_, effect) => *effect,
+        }
+    }
 }

@@ -1,6 +1,7 @@
 -- A fitted list stands over each lock of the set that it is for.
 use Rattle.std.proofs.Common.{◌≡◌, ℕ, List, [], ◌∷◌, Some, refl, ap, sym, ◌∙◌, subst, inl, inr}
 use Rattle.std.specs.Prelude.{IsTrue}
+use Rattle.asl_code.specs.Locks.{effect_of}
 use Rattle.asl_code.specs.declared.value.Effect.{Effect}
 use Rattle.asl_code.specs.declared.value.Effect.TheVariants.{Read, Write}
 use Rattle.asl_code.specs.declared.lock.Lock.{Lock}
@@ -8,7 +9,6 @@ use Rattle.asl_code.specs.declared.lock.Lock.TheVariants as lock
 use Rattle.asl_points_to.specs.Classes.{Classed}
 use Rattle.asl_lock_expr.specs.ClassOf.{class_of}
 use Rattle.asl_lock_expr.specs.Links.{IsOne, class_lock}
-use Rattle.asl_machine.specs.Request.{effect_of}
 use Rattle.asl_soundness.specs.Over.{covers_effect, StandsOver}
 use Rattle.asl_emitter.specs.Lists.{DoesFor, Locks, as_class, AsClasses, stronger, strongest, IsFitted, HasClass}
 use Rattle.asl_emitter.proofs.Absorbing.{IsOver, effect_trans, over_trans, reduced_covers}

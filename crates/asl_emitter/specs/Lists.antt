@@ -1,6 +1,7 @@
 -- The lists of locks that sections ask for: which lock does in place of another, what of a set is left, and the short list to
 -- which a set is fitted (docs/ANALYSIS.md, "Lists").
 use Rattle.std.specs.Prelude.{◌≡◌, ◌≢◌, ◌<◌, ◌≤◌, ◌⊎◌, ℕ, IsTrue, List, [], ◌∷◌, length, Some}
+use Rattle.asl_code.specs.Locks.{effect_of}
 use Rattle.asl_code.specs.declared.value.Effect.{Effect}
 use Rattle.asl_code.specs.declared.value.Effect.TheVariants.{Read, Write}
 use Rattle.asl_code.specs.declared.lock.Lock.{Lock}
@@ -9,7 +10,6 @@ use Rattle.asl_points_to.specs.Classes.{Classed}
 use Rattle.asl_lock_expr.specs.ClassOf.{class_of}
 use Rattle.asl_lock_expr.specs.Links.{IsOne, class_lock}
 use Rattle.asl_lock_expr.specs.Order.{AreInOrder}
-use Rattle.asl_machine.specs.Request.{effect_of}
 use Rattle.asl_soundness.specs.Over.{covers_effect}
 
 -- in a function the first lock does in place of the second: it is on the same class or the same expression, or on the class of

@@ -3,7 +3,6 @@ ghost use Rattle.std.specs.Prelude.{◌≡◌, ◌<◌, IfOk};
 ghost use Rattle.std.specs.List.{flat_map};
 ghost use Rattle.asl_code.specs.Versions.{newest_locks};
 ghost use Rattle.asl_lock_expr.specs.Links.{IsOne};
-ghost use Rattle.asl_machine.specs.Request.{effect_of};
 ghost use Rattle.asl_emitter.specs.Lists.{IsFitted, IsCoarse, as_class, strongest};
 
 use crate::reduced::reduce;
@@ -79,21 +78,12 @@ fn as_classes(
     Ok(coarse)
 }
 
-/// The effect of a lock.
-fn effect_of(lock: &Lock) -> Effect
-    ensures { result ≡ effect_of lock.now }
-{
-    match lock {
-        Lock::Root(effect) | Lock::Class(_, effect) | Lock::Expr(_, effect) => *effect,
-    }
-}
-
 /// The strongest effect of the locks.
 fn strongest(locks: &[Lock]) -> Effect
     ensures { result ≡ strongest locks.now }
 {
     for lock in locks {
-        if effect_of(lock) == Effect::Write {
+        if lock.effect() == Effect::Write {
             return Effect::Write;
         }
     }

@@ -2,6 +2,7 @@
 use Rattle.std.proofs.Common.{◌≡◌, ℕ, ◌<◌, ◌+◌, suc, arith, Bool, true, false, cond, List, [], ◌∷◌, ◌++◌, length, drop, get_or, Option, None, Some, slice_get, refl, sym, ap, ◌∙◌, subst, inl, inr}
 use Rattle.std.specs.Option.{option_map, option_map_or}
 use Rattle.std.proofs.lemmas.Option.{same_Some}
+use Rattle.asl_code.specs.Locks.{effect_of}
 use Rattle.asl_code.specs.declared.value.Value.{Value}
 use Rattle.asl_code.specs.declared.value.Cell.{Cell}
 use Rattle.asl_code.specs.declared.value.Effect.{Effect}
@@ -21,7 +22,7 @@ use Rattle.asl_lock_forest.proofs.Laws.{tell_nodes}
 use Rattle.asl_lock_forest.proofs.Grantable.{can_grant-tells}
 use Rattle.asl_machine.specs.State.{Object, class_of}
 use Rattle.asl_machine.specs.Access.{AreOfClasses}
-use Rattle.asl_machine.specs.Request.{LockOfClass, IsAsk, asks_of, all_asks, cell_asks, leaf_asks, joined_with, joined_all, request_of, effect_of, heap_of}
+use Rattle.asl_machine.specs.Request.{LockOfClass, IsAsk, asks_of, all_asks, cell_asks, leaf_asks, joined_with, joined_all, request_of, heap_of}
 use Rattle.asl_machine.specs.Asking.{leaf_of, node_of, asks_at, AreFree, IsHeldUp}
 use Rattle.asl_machine.proofs.RequestLaws.{asked-joined_with, request_is_least}
 use Rattle.asl_machine.proofs.Asks.{asks_among}

@@ -2,6 +2,7 @@
 use Rattle.std.proofs.Common.{◌≡◌, ℕ, zero, suc, List, [], ◌∷◌, Some, slice_get, refl, ap, sym, ◌∙◌, subst, inl, inr}
 use Rattle.std.specs.Option.{option_map_or}
 use Rattle.std.proofs.lemmas.Option.{same_Some}
+use Rattle.asl_code.specs.Locks.{effect_of}
 use Rattle.asl_code.specs.declared.value.Value.{Value}
 use Rattle.asl_code.specs.declared.value.Cell.{Cell}
 use Rattle.asl_code.specs.declared.lock.Lock.{Lock}
@@ -14,7 +15,7 @@ use Rattle.asl_lock_forest.specs.Holding.{Holding, HoldsNothing, held, grant, co
 use Rattle.asl_lock_forest.proofs.Laws.{held_grant_own}
 use Rattle.asl_lock_forest.proofs.NinePairs.{covers_at, at_leaf, at_class, at_root}
 use Rattle.asl_machine.specs.State.{Object}
-use Rattle.asl_machine.specs.Request.{leaf_asks, cell_asks, asks_of, all_asks, request_of, IsAsk, IsOn, effect_of}
+use Rattle.asl_machine.specs.Request.{leaf_asks, cell_asks, asks_of, all_asks, request_of, IsAsk, IsOn}
 use Rattle.asl_machine.proofs.RequestLaws.{ask_left, ask_right, request_is_least}
 
 -- what a lock asks is among the asks of its list

@@ -87,12 +87,6 @@ LockOfClass classes (lock.Expr expr effect) = Unit {0}
 abbrev pub locks_of : Image → ℕ → List Lock
 locks_of image list = unwrap_or (slice_get image.lists list) []
 
--- what a lock is for: reading or writing (docs/LOCKS.md, Requests)
-abbrev pub effect_of : Lock → Effect
-effect_of (lock.Root effect) = effect
-effect_of (lock.Class class effect) = effect
-effect_of (lock.Expr expr effect) = effect
-
 -- the cells of objects of the class that a lock is on: all of them, those of its own class, or the one that its
 -- expression denotes (docs/LOCKS.md, Requests)
 abbrev pub IsOn : List Object → List Value → Lock → Cell → ℕ → Type 0

@@ -4,7 +4,7 @@ ghost use Rattle.asl_lock_expr.specs.Expression.{cell_denoted, base_cell};
 ghost use Rattle.asl_lock_forest.specs.Node.{same_node, IsThere};
 ghost use Rattle.asl_lock_forest.specs.Holding.{covering_mode, can_grant};
 ghost use Rattle.asl_machine.specs.Access.{AreOfClasses};
-ghost use Rattle.asl_machine.specs.Request.{LockOfClass, heap_of, asks_of, upper_mode, effect_of, joined_with, joined_all, request_of};
+ghost use Rattle.asl_machine.specs.Request.{LockOfClass, heap_of, asks_of, upper_mode, joined_with, joined_all, request_of};
 ghost use Rattle.asl_machine.specs.Asking.{leaf_of, node_of, asks_at, AreFree, IsHeldUp};
 
 use crate::heap::Heap;
@@ -57,7 +57,7 @@ fn add_lock(
     let Some(node) = node_of(lock, regs, heap) else {
         return Ok(true);
     };
-    let effect = effect_of(lock);
+    let effect = lock.effect();
     if !is_free(forest, t, node, effect) {
         return Ok(false);
     }
@@ -101,15 +101,6 @@ fn leaf_of(cell: Option<Cell>, heap: &Heap) -> Option<Node>
     let cell = cell?;
     let class = heap.class(usize::from(cell.object))?;
     Some(Node::Leaf(cell, class))
-}
-
-/// What the lock is for.
-fn effect_of(lock: &Lock) -> Effect
-    ensures { result ≡ effect_of lock.now }
-{
-    match lock {
-        Lock::Root(effect) | Lock::Class(_, effect) | Lock::Expr(_, effect) => *effect,
-    }
 }
 
 /// Whether no other thread keeps thread t from what a lock on the node asks.

@@ -1,6 +1,7 @@
 //! Laws of what steps, stores, new objects and grants leave as it was, as functions that do nothing: what each ensures is
 //! the law.
 ghost use Rattle.std.specs.Prelude.{◌≡◌, ◌≢◌, ◌++◌, ℕ, List, Some, length, slice_get};
+ghost use Rattle.asl_code.specs.Locks.{effect_of};
 ghost use Rattle.asl_code.specs.declared.image.Image.{Image};
 ghost use Rattle.asl_code.specs.declared.lock.Lock.{Lock};
 ghost use Rattle.asl_code.specs.declared.value.Cell.{Cell};
@@ -10,7 +11,7 @@ ghost use Rattle.asl_mode_lanes.specs.Mode.{AtMost};
 ghost use Rattle.asl_lock_forest.specs.declared.node.Node.{Node};
 ghost use Rattle.asl_lock_forest.specs.Holding.{Holding, HoldsNothing, held, grant, Covers};
 ghost use Rattle.asl_machine.specs.State.{Object, State, cell_at, class_of, size_of, written};
-ghost use Rattle.asl_machine.specs.Request.{asks_of, request_of, effect_of, IsAsk, IsOn};
+ghost use Rattle.asl_machine.specs.Request.{asks_of, request_of, IsAsk, IsOn};
 ghost use Rattle.asl_machine.specs.Twin.{step_of};
 
 /// A step of a thread leaves every other thread as it was, and what it holds. An object that is there keeps its class and

@@ -3,6 +3,7 @@ use Rattle.std.proofs.Common.{◌≡◌, ℕ, suc, true, false, List, [], ◌∷
 use Rattle.std.specs.Prelude.{IsTrue}
 use Rattle.std.proofs.lemmas.Bool.{or_left, or_right}
 use Rattle.std.proofs.lemmas.Option.{same_Some}
+use Rattle.asl_code.specs.Locks.{effect_of}
 use Rattle.asl_code.specs.declared.value.Value.{Value}
 use Rattle.asl_code.specs.declared.value.Effect.{Effect}
 use Rattle.asl_code.specs.declared.value.Effect.TheVariants.{Read, Write}
@@ -17,7 +18,7 @@ use Rattle.asl_lock_forest.proofs.NinePairs.{covered_at, covers_at}
 use Rattle.asl_lock_expr.specs.Expression.{cell_denoted}
 use Rattle.asl_lock_expr.specs.Links.{View, IsOne}
 use Rattle.asl_machine.specs.State.{Object}
-use Rattle.asl_machine.specs.Request.{heap_of, asks_of, request_of, IsAsk, effect_of}
+use Rattle.asl_machine.specs.Request.{heap_of, asks_of, request_of, IsAsk}
 use Rattle.asl_machine.specs.Cover.{is_fresh, Cover, cover}
 use Rattle.asl_machine.proofs.Asks.{asked_held, lock_covers}
 use Rattle.asl_soundness.specs.Over.{covers_effect, StandsOver}

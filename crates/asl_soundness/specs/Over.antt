@@ -1,12 +1,12 @@
 -- Which lock of a list is enough for a lock that is needed (docs/SOUNDNESS.md, "The statement").
 use Rattle.std.specs.Prelude.{◌≡◌, ℕ, Bool, true, false, IsTrue, Some}
+use Rattle.asl_code.specs.Locks.{effect_of}
 use Rattle.asl_code.specs.declared.value.Effect.{Effect}
 use Rattle.asl_code.specs.declared.value.Effect.TheVariants.{Read, Write}
 use Rattle.asl_code.specs.declared.lock.Lock.{Lock}
 use Rattle.asl_code.specs.declared.lock.Lock.TheVariants as lock
 use Rattle.asl_points_to.specs.Classes.{Classed}
 use Rattle.asl_lock_expr.specs.ClassOf.{class_of}
-use Rattle.asl_machine.specs.Request.{effect_of}
 
 -- the first effect is at least as strong
 abbrev pub covers_effect : Effect → Effect → Bool
