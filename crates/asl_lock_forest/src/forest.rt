@@ -2,7 +2,7 @@
 ghost use Rattle.std.specs.Prelude.{◌≡◌, ◌≢◌, ℕ, ◌↔◌, ◌<◌, ◌≤◌, false, IsTrue, IfOk, OnOk, OnErr, if◌then◌else◌, map, length, replicate, [], slice_set, slice_index_or};
 ghost use Rattle.asl_code.specs.Versions.{newest_threads};
 ghost use Rattle.asl_mode_lanes.specs.Mode.{is_at_most};
-ghost use Rattle.asl_lock_forest.specs.Node.{IsThere, same_node};
+ghost use Rattle.asl_lock_forest.specs.Node.{IsThere};
 ghost use Rattle.asl_lock_forest.specs.Holding.{
   held,
   asked,
@@ -237,18 +237,11 @@ fn listed(own: &[(Node, Mode)], node: Node) -> Mode
     ensures { result ≡ asked own.now node }
 {
     for ask in own {
-        if same(ask.0, node) {
+        if ask.0.is_same(node) {
             return ask.1;
         }
     }
     Mode::NL
-}
-
-/// Whether the nodes are the same.
-fn same(a: Node, b: Node) -> bool
-    ensures { result ≡ same_node a b }
-{
-    a == b
 }
 
 /// A list for each thread, with nothing in it.

@@ -234,6 +234,15 @@ fn a_grant_holds_what_is_asked(rt: HostRuntime) -> Result<(), Fail> {
 }
 
 #[test]
+fn a_leaf_is_that_of_its_cell_and_class(rt: HostRuntime) {
+    let leaf = Node::Leaf(FIRST, 1);
+    assert!(rt; leaf.is_same(Node::Leaf(FIRST, 1)));
+    assert!(rt; !leaf.is_same(Node::Leaf(FIRST, 0)));
+    assert!(rt; !leaf.is_same(Node::Leaf(SECOND, 1)));
+    assert!(rt; !leaf.is_same(Node::Class(1)));
+}
+
+#[test]
 fn covers_by_the_leaf(rt: HostRuntime) -> Result<(), Fail> {
     let mut forest = Forest::new(rt.alloc(), 2, 1)?;
     ask(&mut forest, 0, Asked::Second)?;
