@@ -3,6 +3,9 @@
 //! passes whichever one growth is refused, and `bench/refused` refuses each in turn.
 #![tactic(auto)]
 
+#[cfg(test)]
+mod made_up;
+
 ghost use Rattle.std.specs.Prelude.{IfSome, IfNone, Ok, Err};
 
 use std::alloc::Global;
