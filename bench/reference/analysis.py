@@ -1,4 +1,5 @@
-"""Classes, links, needed locks and lists, by docs/ANALYSIS.md. The limits of that page are not judged here."""
+"""Classes, links, needed locks and lists, by docs/ANALYSIS.md. Of the limits of that page only the 256 locks of a list are judged
+here, since a list of more becomes another one; what the program refuses is not."""
 from dataclasses import dataclass
 
 MOST_LOCKS = 256
