@@ -11,8 +11,8 @@ use programs::{
     COUNTER, FAILING, GROWING, NAMING, program, program_in_the_end, program_of_version_2,
 };
 use readers::{
-    CELL, Locks, ObjectSeen, ThreadSeen, is_same_thread, see_held, see_object, see_register,
-    see_thread,
+    CELL, Locks, ObjectSeen, Registers, ThreadSeen, is_same_thread, see_held, see_object,
+    see_register, see_thread,
 };
 use std::alloc::Global;
 use std::process::Abort;
@@ -30,11 +30,15 @@ const WRITES: Locks = Locks {
     leaf: Mode::X,
 };
 
+const ZERO: Option<Value> = Some(Value::Int(0));
+
+const ONE: Option<Value> = Some(Value::Int(1));
+
 /// Thread 1 at its start.
 const UNSTEPPED: ThreadSeen = ThreadSeen {
     status: Status::Running,
     pc: Some(0),
-    regs: (Some(Value::Int(1)), Some(Value::Int(0))),
+    regs: Registers(ONE, ZERO, ZERO, ZERO, ZERO),
     depth: 0,
     locks: NOTHING,
 };
@@ -43,14 +47,15 @@ const UNSTEPPED: ThreadSeen = ThreadSeen {
 const INSIDE: ThreadSeen = ThreadSeen {
     status: Status::Running,
     pc: Some(2),
-    regs: (Some(Value::Int(0)), Some(Value::Addr(0, 0))),
+    regs: Registers(ZERO, Some(Value::Addr(0, 0)), ZERO, ZERO, ZERO),
     depth: 1,
     locks: WRITES,
 };
 
-/// Thread 0 behind its section.
+/// Thread 0 behind its section, where it has counted.
 const BEHIND: ThreadSeen = ThreadSeen {
     pc: Some(7),
+    regs: Registers(ZERO, Some(Value::Addr(0, 0)), ZERO, ONE, ONE),
     depth: 0,
     locks: NOTHING,
     ..INSIDE
@@ -67,7 +72,7 @@ const DEEPER: ThreadSeen = ThreadSeen {
 const DONE: ThreadSeen = ThreadSeen {
     status: Status::Done(Value::Int(1)),
     pc: None,
-    regs: (None, None),
+    regs: Registers(None, None, None, None, None),
     depth: 0,
     locks: NOTHING,
 };
@@ -352,6 +357,7 @@ struct Seen {
     threads: u32,
     objects: u32,
     object: ObjectSeen,
+    last: ObjectSeen,
 }
 
 impl Seen {
@@ -361,7 +367,13 @@ impl Seen {
             && self.threads == other.threads
             && self.objects == other.objects
             && self.object.is(other.object)
+            && self.last.is(other.last)
     }
+}
+
+/// The number of the object that was made last.
+fn last_object(machine: &Machine<'_>) -> u16 {
+    u16::try_from(machine.objects().saturating_sub(1)).unwrap_or(0)
 }
 
 fn see(machine: &Machine<'_>) -> Seen {
@@ -371,6 +383,7 @@ fn see(machine: &Machine<'_>) -> Seen {
         threads: machine.threads(),
         objects: machine.objects(),
         object: see_object(machine, 0),
+        last: see_object(machine, last_object(machine)),
     }
 }
 

@@ -24,12 +24,32 @@ impl Locks {
     }
 }
 
-/// What is told of a thread: of its registers the first two.
+/// What the registers have: each function of the programs has five.
+#[derive(Clone, Copy)]
+pub struct Registers(
+    pub Option<Value>,
+    pub Option<Value>,
+    pub Option<Value>,
+    pub Option<Value>,
+    pub Option<Value>,
+);
+
+impl Registers {
+    fn is(self, other: Registers) -> bool {
+        self.0 == other.0
+            && self.1 == other.1
+            && self.2 == other.2
+            && self.3 == other.3
+            && self.4 == other.4
+    }
+}
+
+/// What is told of a thread.
 #[derive(Clone, Copy)]
 pub struct ThreadSeen {
     pub status: Status,
     pub pc: Option<u32>,
-    pub regs: (Option<Value>, Option<Value>),
+    pub regs: Registers,
     pub depth: u32,
     pub locks: Locks,
 }
@@ -38,8 +58,7 @@ impl ThreadSeen {
     fn is(self, other: ThreadSeen) -> bool {
         self.status == other.status
             && self.pc == other.pc
-            && self.regs.0 == other.regs.0
-            && self.regs.1 == other.regs.1
+            && self.regs.is(other.regs)
             && self.depth == other.depth
             && self.locks.is(other.locks)
     }
@@ -76,7 +95,13 @@ pub fn see_thread(machine: &Machine<'_>, t: u32) -> Option<ThreadSeen> {
     Some(ThreadSeen {
         status: machine.status(t),
         pc: machine.pc(t),
-        regs: (machine.reg(t, 0), machine.reg(t, 1)),
+        regs: Registers(
+            machine.reg(t, 0),
+            machine.reg(t, 1),
+            machine.reg(t, 2),
+            machine.reg(t, 3),
+            machine.reg(t, 4),
+        ),
         depth: machine.depth(t),
         locks: Locks {
             root: see_held(machine, t, Node::Root),
