@@ -160,14 +160,19 @@ enum Move {
     Previous,
 }
 
-/// The moves in order, why each is refused, if it is, and the position behind it. The places 1 and 1000 are breakpoints.
-static MOVES: [(Move, Option<DebugFault>, u32); 16] = [
+/// The moves in order, why each is refused, if it is, and the position behind it. The places 1 and 1000 are breakpoints; place 7,
+/// which is none any more, would be a stop at 11 and at 17.
+static MOVES: [(Move, Option<DebugFault>, u32); 20] = [
     (Move::Back, Some(DebugFault::AtStart), 0),
     (Move::Previous, Some(DebugFault::AtStart), 0),
     (Move::Goto(19), Some(DebugFault::NoSuchStep), 0),
     (Move::Next, None, 1),
     (Move::Next, None, 3),
     (Move::Next, None, 8),
+    (Move::Next, None, 10),
+    (Move::Next, None, 18),
+    (Move::Previous, None, 10),
+    (Move::Previous, None, 8),
     (Move::Previous, None, 3),
     (Move::Goto(18), None, 18),
     (Move::Forward, Some(DebugFault::AtEnd), 18),
@@ -233,7 +238,7 @@ fn moves_right(alloc: Global, spacing: u32) -> Option<usize> {
 #[test]
 fn moves_go_where_they_say(rt: HostRuntime) {
     for spacing in SPACINGS.iter() {
-        assert!(rt; moves_right(rt.alloc(), *spacing) == Some(16), "{spacing}");
+        assert!(rt; moves_right(rt.alloc(), *spacing) == Some(20), "{spacing}");
     }
 }
 
