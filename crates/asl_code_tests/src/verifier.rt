@@ -518,6 +518,13 @@ fn lock_of(asked: Asked) -> Lock {
     }
 }
 
+#[test]
+fn a_lock_tells_its_effect(rt: HostRuntime) {
+    assert!(rt; lock_of(Asked::Root).effect() == Effect::Read);
+    assert!(rt; lock_of(Asked::Class(0)).effect() == Effect::Read);
+    assert!(rt; lock_of(Asked::Cell(Base::Reg(0))).effect() == Effect::Write);
+}
+
 /// The class of the global, a lock that no `acq` names, and whether all that they name is there, in an image of one
 /// class and one global. Base registers are judged only where an instruction names the list.
 static TABLES: [(u16, Asked, bool); 7] = [

@@ -76,7 +76,7 @@ module _ (image : Image) (objects new_objects : List Object) (forest new_forest 
       record {
         verified = m.verified;
         reached = subst (λ k. IsReached image k (state_of new_objects new_forest.holding (set threads t new_thread))) (sym l)
-          (subst (IsReached image (length threads)) (sym step_state) (step_reached image (length threads) old t m.reached (slice_get_within threads t thread at)));
+            (subst (IsReached image (length threads)) (sym step_state) (step_reached image (length threads) old t m.reached (slice_get_within threads t thread at)));
         sound = subst (IsSound image) (sym turn_state) (turn_follows image (state_of objects forest.holding threads) t thread m.sound at);
         apart = subst (AreApart image) (sym step_state) (step_of_apart image (state_of objects forest.holding threads) t m.sound m.apart);
         classes = classes ∙ m.classes;

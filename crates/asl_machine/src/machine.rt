@@ -224,10 +224,11 @@ impl<'p> Machine<'p> {
         Some(u32::from(self.heap.size(object as usize)?))
     }
 
-    /// The class of the object, one of the program's, if it is there.
+    /// The class of the object, one of the program's 1,024 at the most, if it is there.
     pub fn class(&self, object: u32) -> Option<u32>
         ensures class { result ≡ class_of self.now.state.objects object }
         ensures there { IfSome result (λ class. class < self.now.image.classes) }
+        ensures few { IfSome result (λ class. class < 1024) }
     {
         Some(u32::from(self.heap.class(object as usize)?))
     }

@@ -161,14 +161,7 @@ fn add(request: &mut Vec<(Node, Mode)>, node: Node, mode: Mode) -> Result<(), Al
 fn place(request: &[(Node, Mode)], node: Node) -> Option<usize>
     ensures { result ≡ position (λ ask. same_node ask.0 node) request.now }
 {
-    request.iter().position(|ask| same(ask.0, node))
-}
-
-/// Whether the nodes are the same.
-fn same(a: Node, b: Node) -> bool
-    ensures { result ≡ same_node a b }
-{
-    a == b
+    request.iter().position(|ask| ask.0.is_same(node))
 }
 
 /// The mode that a lock asks at its own node.

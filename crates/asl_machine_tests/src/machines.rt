@@ -236,6 +236,7 @@ fn expect_registers_and_nodes(rt: &impl Abort, machine: &Machine<'_>) {
 
 /// Expects that the only object is the global, and its only cell is 1.
 fn expect_objects(rt: &impl Abort, machine: &Machine<'_>) {
+    assert!(rt; machine.program().globals().len() == 1);
     assert!(rt; machine.objects() == 1);
     assert!(rt; see_object(machine, 0).is(GLOBAL));
     assert!(rt; see_object(machine, 1).is(NO_OBJECT));

@@ -12,11 +12,12 @@ use crate::flows::program_flows;
 use crate::numbers::number_classes;
 use crate::settle::settle;
 use crate::table::Classes;
+use asl_code::limits::CLASSES;
 use asl_lower::Lowering;
 use std::alloc::{AllocError, Global};
 
 /// The most classes that a program may have.
-const MOST_CLASSES: usize = 1024;
+const MOST_CLASSES: usize = CLASSES as usize;
 
 /// How many globals and sites a program has.
 fn members(lowering: &Lowering) -> u32
