@@ -152,7 +152,7 @@ fn every_change_is_refused_or_stored_again(rt: HostRuntime) -> Result<(), Fail> 
 }
 
 #[test]
-fn counts_that_lie_take_no_memory(rt: HostRuntime) -> Result<(), Fail> {
+fn a_count_that_lies_is_truncated(rt: HostRuntime) -> Result<(), Fail> {
     let mut bytes = Vec::from_slice(rt.alloc(), &COUNTER[..40])?;
     bytes[20] = 255;
     bytes[21] = 255;
