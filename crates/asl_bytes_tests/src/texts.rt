@@ -1,5 +1,6 @@
 //! A source and an assembly text with each byte changed to each of the 256.
 use asl_assembler::{AsmFault, assemble, disassemble};
+use asl_code::VerifyFault;
 use asl_syntax::{SyntaxFault, parse, print};
 use std::alloc::{AllocError, Global};
 
@@ -19,49 +20,80 @@ fn changed(alloc: Global, text: &[u8], at: usize, value: u8) -> Result<Vec<u8>, 
 }
 
 fn is_blank(byte: u8) -> bool {
-    matches!(byte, b' ' | b'\t' | b'\r' | b'\n' | b',')
+    matches!(byte, b' ' | b'\t' | b'\r' | b'\n')
 }
 
-/// The bytes that are no blanks.
-fn dense(alloc: Global, text: &[u8]) -> Result<Vec<u8>, AllocError> {
+/// Whether a digit stands at this place.
+fn is_digit_at(text: &[u8], at: usize) -> bool {
+    match text.get(at) {
+        Some(byte) => byte.is_ascii_digit(),
+        None => false,
+    }
+}
+
+/// Whether the byte at this place is a zero that its number does without: one before a digit, and behind none.
+fn is_needless(text: &[u8], at: usize) -> bool {
+    text.get(at) == Some(&b'0')
+        && is_digit_at(text, at.wrapping_add(1))
+        && !is_digit_at(text, at.wrapping_sub(1))
+}
+
+/// The bytes that are no blanks, no needless zeros, and not this separator.
+fn dense(alloc: Global, text: &[u8], separator: u8) -> Result<Vec<u8>, AllocError> {
     let mut bytes = Vec::new(alloc);
-    for byte in text.iter() {
-        if !is_blank(*byte) {
+    for (at, byte) in text.iter().enumerate() {
+        if !is_blank(*byte) && *byte != separator && !is_needless(text, at) {
             bytes.push(*byte)?;
         }
     }
     Ok(bytes)
 }
 
-/// Whether the texts are the same but for blanks.
-fn are_alike(alloc: Global, one: &[u8], other: &[u8]) -> Option<bool> {
-    let one = dense(alloc, one).ok()?;
-    let other = dense(alloc, other).ok()?;
+/// Whether the texts are the same but for blanks, needless zeros and this separator.
+fn are_alike(alloc: Global, one: &[u8], other: &[u8], separator: u8) -> Option<bool> {
+    let one = dense(alloc, one, separator).ok()?;
+    let other = dense(alloc, other, separator).ok()?;
     Some(one.as_slice() == other.as_slice())
 }
 
-/// Whether the refusal is one of a text of so many bytes in which the byte at this place was made this one.
-fn is_near(fault: SyntaxFault, length: usize, at: usize, value: u8) -> bool {
+/// Where the piece of text begins that has this byte and no blank before it.
+fn reach(text: &[u8], at: usize) -> usize {
+    let mut from = 0;
+    for (place, byte) in text.iter().enumerate() {
+        if place < at && is_blank(*byte) {
+            from = place.wrapping_add(1);
+        }
+    }
+    from
+}
+
+/// Whether the refusal is one of the text in which the byte at this place was made this one. A program goes on with all that
+/// stands before the piece of the change; `main` stands at 13 to 16; and no change of one byte makes the other refusals.
+fn is_near(fault: SyntaxFault, text: &[u8], at: usize, value: u8) -> bool {
     match fault {
         SyntaxFault::NotAscii(place) => place == at && value >= 128,
         SyntaxFault::Token(place) => place == at && value < 128,
-        SyntaxFault::Grammar(place) | SyntaxFault::Limit(place) | SyntaxFault::Arity(place) => {
-            place <= length && value < 128
+        SyntaxFault::Grammar(place) => {
+            reach(text, at) <= place && place <= text.len() && value < 128
         }
-        SyntaxFault::Twice(_) | SyntaxFault::Unknown(_) | SyntaxFault::NoMain => value < 128,
-        SyntaxFault::OutOfMemory => false,
+        SyntaxFault::Unknown(_) => value < 128,
+        SyntaxFault::NoMain => 13 <= at && at <= 16 && value < 128,
+        SyntaxFault::Twice(_)
+        | SyntaxFault::Limit(_)
+        | SyntaxFault::Arity(_)
+        | SyntaxFault::OutOfMemory => false,
     }
 }
 
-/// Whether the source is refused near the change, or printed as it is written. A needless zero is not printed.
+/// Whether the source is refused near the change, or printed as it is written.
 fn is_source_judged(alloc: Global, at: usize, value: u8) -> Option<bool> {
     let text = changed(alloc, SOURCE, at, value).ok()?;
     match parse(alloc, text.as_slice()) {
         Ok(ast) => {
             let printed = print(alloc, &ast).ok()?;
-            Some(are_alike(alloc, text.as_slice(), printed.as_slice())? || value == b'0')
+            are_alike(alloc, text.as_slice(), printed.as_slice(), b' ')
         }
-        Err(fault) => Some(is_near(fault, text.len(), at, value)),
+        Err(fault) => Some(is_near(fault, text.as_slice(), at, value)),
     }
 }
 
@@ -75,17 +107,35 @@ fn sources_are_refused_or_printed(rt: HostRuntime) {
     }
 }
 
+/// The line of the counter's instruction at this pc.
+fn line_of(pc: u32) -> usize {
+    (pc as usize).wrapping_add(6)
+}
+
+/// Whether the rule is one that the counter breaks where a byte of this line is another. Its `acq` is at pc 1.
+fn is_rule(fault: VerifyFault, line: usize) -> bool {
+    match fault {
+        VerifyFault::Table => line == 2 || line == 3 || line == 15,
+        VerifyFault::NoEntry => line == 4 || line == 5,
+        VerifyFault::FunctionRange | VerifyFault::Limit => line == 5,
+        VerifyFault::Register(pc) => line == 5 || line == line_of(pc),
+        VerifyFault::Operand(pc) => line == line_of(pc),
+        VerifyFault::ListBase(pc) => pc == 1 && line == 15,
+        VerifyFault::FallsOut | VerifyFault::Target(_) => false,
+    }
+}
+
 /// Whether the assembly text is refused at the line of the change, one behind it, or for a rule, or else printed as it is
-/// written. A needless zero is not printed.
+/// written.
 fn is_assembly_judged(alloc: Global, at: usize, value: u8, line: usize) -> Option<bool> {
     let text = changed(alloc, COUNTER, at, value).ok()?;
     match assemble(alloc, text.as_slice()) {
         Ok(program) => {
             let printed = disassemble(alloc, &program).ok()?;
-            Some(are_alike(alloc, text.as_slice(), printed.as_slice())? || value == b'0')
+            are_alike(alloc, text.as_slice(), printed.as_slice(), b',')
         }
-        Err(AsmFault::Line(number)) => Some(number >= line && number <= 17),
-        Err(AsmFault::Verify(_)) => Some(true),
+        Err(AsmFault::Line(number)) => Some(number == line || number == line.wrapping_add(1)),
+        Err(AsmFault::Verify(fault)) => Some(is_rule(fault, line)),
         Err(AsmFault::OutOfMemory) => Some(false),
     }
 }
