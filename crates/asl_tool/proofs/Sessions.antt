@@ -1,44 +1,9 @@
--- What a session's machine is, and what words make of one.
+-- What words make of a session.
 use Rattle.std.proofs.Common.{◌≡◌, ℕ, ◌+◌, ◌<◌, ◌≤◌, List, [], ◌∷◌, ◌++◌, length, take, drop, refl, sym, ap, subst, ◌∙◌, arith, append_assoc, append-nil, suc, get_or, drop-cons}
-use Rattle.std.specs.List.{AllByRecursion}
-use Rattle.std.proofs.lemmas.List.Elements.{All-from_recursion, recursion_from_All}
 use Rattle.std.proofs.lemmas.List.{drop_all}
-use Rattle.asl_code.specs.declared.image.Image.{Image}
-use Rattle.asl_code.specs.Verified.{IsVerified}
-use Rattle.asl_code.proofs.FitsLaws.{image_fits}
-use Rattle.asl_machine.specs.Run.{IsReached}
-use Rattle.asl_machine.proofs.Reached.{reached_sound}
-use Rattle.asl_journal.specs.declared.event.Event.{Event}
-use Rattle.asl_journal.specs.Journal.{IsJournal, schedule_of, state_at}
-use Rattle.asl_journal.proofs.Runs.{prefix_is_journal}
-use Rattle.asl_debugger.specs.Session.{Session, machine_before, state_before}
+use Rattle.asl_debugger.specs.Session.{Session}
 use Rattle.asl_words.specs.declared.debug_word.DebugWord.{DebugWord}
-use Rattle.asl_tool.specs.Debug.{IsOpened, IsTalk, Follows}
-use Rattle.asl_tool.specs.View.{HasNumbers}
-
-threads_there : (n : ℕ) (events : List Event) → AllByRecursion (λ (e : Event). e.thread < n) events → AllByRecursion (λ t. t < n) (schedule_of events)
-threads_there n [] h = tt
-threads_there n (e ∷ es) h = (h.0, threads_there n es h.1)
-
--- the state at each position of a journal is reached
-reached : (image : Image) (n : ℕ) (events : List Event) → IsJournal image n events → IsReached image n (state_at image n events)
-reached image n events j = record {
-  schedule = schedule_of events;
-  threads_there = All-from_recursion (λ t. t < n) (schedule_of events) (threads_there n events (recursion_from_All (λ (e : Event). e.thread < n) events j.there));
-  leads = refl;
-}
-
-pub has_numbers : (image : Image) (s : Session) → IsOpened image s → HasNumbers (machine_before s.image s.log s.position)
-has_numbers image s o =
-    let verified = subst IsVerified (sym o.image_is) o.verified in
-    let fits = image_fits s.image verified in
-    let here = reached s.image s.log.threads (take s.position s.log.events) (prefix_is_journal s.image s.log.threads s.position s.log.events o.journal) in
-    let sound = (reached_sound s.image s.log.threads (state_before s.image s.log s.position) fits here).formed.objects in
-    record {
-      few = omega (arith, fits.few_classes);
-      objects = sound.few;
-      classes = λ number class is. omega (arith, sound.classes number class is, fits.few_classes);
-    }
+use Rattle.asl_tool.specs.Debug.{IsTalk, Follows}
 
 -- the words so far are answered by the text, and so with any answers to the rest all are
 pub record Told (start now : Session) (words : List DebugWord) (index : ℕ) (text : List ℕ) : Type 0 where

@@ -2,7 +2,6 @@
 use Rattle.std.specs.Prelude.{◌≡◌, ◌+◌, ◌<◌, ◌≤◌, ℕ, List, [], ◌∷◌, ◌++◌, length, codes}
 use Rattle.std.specs.Fmt.{decimal}
 use Rattle.asl_code.specs.declared.image.Image.{Image}
-use Rattle.asl_code.specs.Verified.{IsVerified}
 use Rattle.asl_journal.specs.Journal.{Log, IsJournal}
 use Rattle.asl_debugger.specs.Breaks.{HasBreak, HasNoBreak}
 use Rattle.asl_debugger.specs.Session.{Session, IsNextStop, IsLastStop, machine_before, moved, with_breaks}
@@ -82,9 +81,3 @@ IsNoMove s m fault.NoSuchStep = IsAnswer s m NoSuchStep
 IsNoMove s m (fault.Differs index) = ⊥
 IsNoMove s m fault.BadCount = ⊥
 IsNoMove s m fault.OutOfMemory = Unit {0}
-
--- Machinery of private functions: the session is of a journal of this program.
-pub record IsOpened (image : Image) (s : Session) : Type 0 where
-  pub image_is : s.image ≡ image
-  pub verified : IsVerified image
-  pub journal : IsJournal s.image s.log.threads s.log.events

@@ -1,5 +1,5 @@
 -- The view of a machine, as the command `debug` writes it (docs/JOURNAL.md, "The view").
-use Rattle.std.specs.Prelude.{◌≡◌, ◌<◌, ◌≤◌, ℕ, zero, suc, List, [], ◌∷◌, ◌++◌, length, min, Option, None, Some, slice_get, option_and_then, codes, if◌then◌else◌}
+use Rattle.std.specs.Prelude.{ℕ, zero, suc, List, [], ◌∷◌, ◌++◌, length, Option, None, Some, slice_get, option_and_then, codes, if◌then◌else◌}
 use Rattle.std.specs.Fmt.{decimal}
 use Rattle.std.specs.Option.{option_map_or}
 use Rattle.asl_code.specs.declared.value.Cell.{Cell}
@@ -56,9 +56,9 @@ abbrev pub cell_line : State → ℕ → ℕ → List ℕ
 cell_line s o i =
     option_map_or (λ value. codes "cell " ++ address_text o i ++ codes " " ++ value_text value ++ 10 ∷ []) (cell_at s.objects (cell_of o i)) []
 
--- how many cells an object has; an address names 256 at most (docs/JOURNAL.md, The view)
+-- how many cells an object has (docs/JOURNAL.md, The view)
 abbrev pub cell_count : State → ℕ → ℕ
-cell_count s o = min (option_map_or (λ size. size) (size_of s.objects o) 0) 256
+cell_count s o = option_map_or (λ size. size) (size_of s.objects o) 0
 
 -- the cells of an object (docs/JOURNAL.md, The view)
 abbrev pub object_text : State → ℕ → List ℕ
@@ -118,9 +118,3 @@ view_text m =
     ++ (lines_from (object_text m.state) 0 (length m.state.objects)
     ++ (lines_from (holding_text m.image.classes m.state) 0 (length m.state.threads)
     ++ lines_from (fresh_text m.state) 0 (length m.state.threads)))
-
--- Machinery of private functions: the numbers of objects and of classes fit an address and a node.
-pub record HasNumbers (m : Configuration) : Type 0 where
-  pub few : m.image.classes ≤ 65536
-  pub objects : length m.state.objects ≤ 65536
-  pub classes : (o class : ℕ) → class_of m.state.objects o ≡ Some class → class < 65536

@@ -4,7 +4,7 @@ ghost use Rattle.asl_debugger.specs.Breaks.{HasBreak};
 ghost use Rattle.asl_debugger.specs.Session.{moved, with_breaks};
 ghost use Rattle.asl_journal.specs.Journal.{IsJournal};
 ghost use Rattle.asl_journal.specs.Replay.{IsReplayFault};
-ghost use Rattle.asl_tool.specs.Debug.{Follows, IsAnswer, IsNoMove, IsOpened, IsTalk, answer_text, arrived, opened};
+ghost use Rattle.asl_tool.specs.Debug.{Follows, IsAnswer, IsNoMove, IsTalk, answer_text, arrived, opened};
 
 use crate::view::push_view;
 use asl_code::Program;
@@ -40,9 +40,8 @@ pub fn debugged_text(
     ensures text { IfOk result (λ text. IsTalk (opened program.now journal) words.now (string_bytes text)) }
     ensures err { IfErr result (λ fault. IsReplayFault program.now journal fault) }
 {
-    let _verified = program.image();
     match Debugger::open(alloc, program, journal, SPACING) {
-        Ok(mut debugger) => match talk(alloc, program, &mut debugger, words) {
+        Ok(mut debugger) => match talk(alloc, &mut debugger, words) {
             Ok(text) => Ok(text),
             Err(_) => Err(JournalFault::OutOfMemory),
         },
@@ -55,16 +54,14 @@ pub fn debugged_text(
 /// What the debugger answers to the words, one after the other.
 fn talk(
     alloc: Global,
-    program: &Program,
     debugger: &mut Debugger<'_>,
     words: &[DebugWord],
 ) -> Result<String, AllocError>
-    requires { IsOpened program.now debugger.old }
     ensures { IfOk result (λ text. IsTalk debugger.old words.now (string_bytes text)) }
 {
     let mut text = String::new(alloc);
     for word in words {
-        obey(alloc, program, debugger, *word, &mut text)?;
+        obey(alloc, debugger, *word, &mut text)?;
     }
     Ok(text)
 }
@@ -72,14 +69,11 @@ fn talk(
 /// Does what the word asks for, and adds the answer to the text.
 fn obey(
     alloc: Global,
-    program: &Program,
     debugger: &mut Debugger<'_>,
     word: DebugWord,
     text: &mut String,
 ) -> Result<(), AllocError>
-    requires { IsOpened program.now debugger.old }
-    ensures says { OnOk result (Follows debugger.old word debugger.new (string_bytes text.old) (string_bytes text.new)) }
-    ensures opened { IsOpened program.now debugger.new }
+    ensures { OnOk result (Follows debugger.old word debugger.new (string_bytes text.old) (string_bytes text.new)) }
 {
     match word {
         DebugWord::Move(step) => {
@@ -94,7 +88,7 @@ fn obey(
             debugger.clear(pc);
             write!(text, "clear {pc}\n")
         }
-        DebugWord::View => push_view(text, program, debugger.view()),
+        DebugWord::View => push_view(text, debugger.view()),
     }
 }
 

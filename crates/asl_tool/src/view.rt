@@ -1,35 +1,27 @@
 //! The view of a machine as text.
-ghost use Rattle.std.specs.Prelude.{◌≡◌, ◌<◌, ◌≤◌, ◌++◌, Some, length, min, option_map, OnOk, string_bytes};
+ghost use Rattle.std.specs.Prelude.{◌≡◌, ◌<◌, ◌≤◌, ◌++◌, Some, length, option_map, OnOk, string_bytes};
 ghost use Rattle.asl_lock_forest.specs.declared.node.Node.TheVariants.{Class, Leaf, Root};
-ghost use Rattle.asl_tool.specs.View.{HasNumbers, cell_count, cell_line, held_line, holding_text, leaves_at, leaves_text};
+ghost use Rattle.asl_tool.specs.View.{cell_count, cell_line, held_line, holding_text, leaves_at, leaves_text};
 ghost use Rattle.asl_tool.specs.View.{fresh_line, fresh_text, lines_from, mode_name, node_text, object_text, place_at, register_at, thread_text, view_text};
 
 use crate::replies::{push_address, push_fault, push_value};
-use asl_code::{Cell, Program};
+use asl_code::Cell;
+use asl_code::limits::REGS;
 use asl_lock_forest::Node;
 use asl_machine::{Machine, Status};
 use asl_mode_lanes::Mode;
 use std::alloc::AllocError;
 
 /// How many registers a frame has at most.
-const MOST_REGISTERS: u32 = 64;
+const MOST_REGISTERS: u32 = REGS as u32;
 
-/// How many cells of an object an address can name.
-const MOST_CELLS: u32 = 256;
-
-/// Adds the view of the program's machine: its threads, its cells, what each thread holds, and what is fresh for each.
-pub fn push_view(
-    text: &mut String,
-    program: &Program,
-    machine: &Machine<'_>,
-) -> Result<(), AllocError>
-    requires program { machine.now.image ≡ program.now }
-    requires numbers { HasNumbers machine.now }
+/// Adds the view of the machine: its threads, its cells, what each thread holds, and what is fresh for each.
+pub fn push_view(text: &mut String, machine: &Machine<'_>) -> Result<(), AllocError>
     ensures { OnOk result (string_bytes text.new ≡ string_bytes text.old ++ view_text machine.now) }
 {
     push_threads(text, machine)?;
     push_cells(text, machine)?;
-    push_holdings(text, program.classes(), machine)?;
+    push_holdings(text, machine.program().classes(), machine)?;
     push_all_fresh(text, machine)
 }
 
@@ -108,7 +100,6 @@ fn push_register(
 }
 
 fn push_cells(text: &mut String, machine: &Machine<'_>) -> Result<(), AllocError>
-    requires { HasNumbers machine.now }
     ensures { OnOk result (string_bytes text.new ≡ string_bytes text.old
         ++ lines_from (object_text machine.now.state) 0 (length machine.now.state.objects)) }
 {
@@ -127,11 +118,12 @@ fn push_object(text: &mut String, machine: &Machine<'_>, object: u16) -> Result<
     Ok(())
 }
 
-/// How many cells the object has; an address names 256 at most.
+/// How many cells the object has.
 fn cells(machine: &Machine<'_>, object: u16) -> u32
-    ensures { result ≡ cell_count machine.now.state object }
+    ensures count { result ≡ cell_count machine.now.state object }
+    ensures few { result ≤ 255 }
 {
-    machine.size(u32::from(object)).unwrap_or(0).min(MOST_CELLS)
+    machine.size(u32::from(object)).unwrap_or(0)
 }
 
 /// Adds the cell, if it is there.
@@ -156,8 +148,7 @@ fn push_cell(
 }
 
 fn push_holdings(text: &mut String, classes: u32, machine: &Machine<'_>) -> Result<(), AllocError>
-    requires numbers { HasNumbers machine.now }
-    requires few { classes ≤ 65536 }
+    requires { classes ≤ 65536 }
     ensures { OnOk result (string_bytes text.new ≡ string_bytes text.old
         ++ lines_from (holding_text classes machine.now.state) 0 (length machine.now.state.threads)) }
 {
@@ -175,7 +166,6 @@ fn push_holding(
     t: u32,
 ) -> Result<(), AllocError>
     requires thread { t < length machine.now.state.threads }
-    requires numbers { HasNumbers machine.now }
     requires few { classes ≤ 65536 }
     ensures { OnOk result (string_bytes text.new ≡ string_bytes text.old ++ holding_text classes machine.now.state t) }
 {
@@ -202,8 +192,7 @@ fn push_classes(
 }
 
 fn push_leaves(text: &mut String, machine: &Machine<'_>, t: u32) -> Result<(), AllocError>
-    requires thread { t < length machine.now.state.threads }
-    requires numbers { HasNumbers machine.now }
+    requires { t < length machine.now.state.threads }
     ensures { OnOk result (string_bytes text.new ≡ string_bytes text.old
         ++ lines_from (leaves_at machine.now.state t) 0 (length machine.now.state.objects)) }
 {
@@ -220,8 +209,7 @@ fn push_leaves_of(
     t: u32,
     object: u16,
 ) -> Result<(), AllocError>
-    requires thread { t < length machine.now.state.threads }
-    requires numbers { HasNumbers machine.now }
+    requires { t < length machine.now.state.threads }
     ensures { OnOk result (string_bytes text.new ≡ string_bytes text.old ++ leaves_at machine.now.state t object) }
 {
     match machine.class(u32::from(object)) {

@@ -3,10 +3,7 @@ use Rattle.asl_tool.proofs.Sessions.{one_told, all_told}
 use Rattle.asl_tool.proofs.debugging.talk.Goals as goal
 
 pub loop-word-preserved : goal.loop-word-preserved
-loop-word-preserved c = record {
-  opened = c.obey.ensures.opened;
-  told = one_told _ _ _ _ _ _ _ _ (omega arith) c.loop-word.invariant.told c.in_ok-obey.ensures.says;
-}
+loop-word-preserved c = one_told _ _ _ _ _ _ _ _ (omega arith) c.loop-word.invariant c.in_ok-obey.ensures
 
 pub returns : goal.returns
-returns c = all_told _ _ _ _ _ (omega arith) c.loop-word.invariant.told
+returns c = all_told _ _ _ _ _ (omega arith) c.loop-word.invariant

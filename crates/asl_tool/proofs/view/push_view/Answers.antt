@@ -4,5 +4,5 @@ use Rattle.asl_tool.proofs.view.push_view.Goals as goal
 
 pub push_holdings-requires : goal.push_holdings-requires
 push_holdings-requires c =
-    let fits = image_fits _ c.classes.ensures.verified in
+    let fits = image_fits c.program.result.now c.classes.ensures.verified in
     omega (arith, c.classes.ensures.classes, fits.few_classes)
