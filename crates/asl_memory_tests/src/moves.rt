@@ -1,7 +1,7 @@
 //! Moves of the debugger.
 use crate::readers::{CELL, Seen, told_of};
 use crate::samples::{COUNTER, program};
-use crate::steps::journal;
+use crate::steps::{Told, journal, told_of_events};
 use asl_code::{Program, Value};
 use asl_debugger::{DebugFault, Debugger};
 use asl_journal::Journal;
@@ -54,10 +54,10 @@ fn open_once<'p>(
     }
 }
 
-/// How many events the journal has, if it is there.
-fn events(journal: &Option<Journal>) -> Option<usize> {
+/// How many threads the journal has, and what is told of its events, if it is there.
+fn events(journal: &Option<Journal>) -> Option<(u32, Told)> {
     match journal {
-        Some(journal) => Some(journal.events().len()),
+        Some(journal) => Some((journal.threads(), told_of_events(journal.events()))),
         None => None,
     }
 }
@@ -96,16 +96,26 @@ fn position(alloc: Global, debugger: &mut Debugger<'_>, call: Call) -> Option<u3
 }
 
 /// Whether each call leads to its position, and the last to a counter at 2.
-fn is_debugged(alloc: Global, spacing: u32) -> Option<bool> {
-    let program = program(alloc, COUNTER)?;
-    let journal = journal(alloc, &program, 0)?;
-    let mut debugger = open(alloc, &program, journal, spacing)?;
+fn is_led(alloc: Global, debugger: &mut Debugger<'_>) -> Option<bool> {
     for (call, behind) in CALLS.iter() {
-        if position(alloc, &mut debugger, *call)? != *behind {
+        if position(alloc, debugger, *call)? != *behind {
             return Some(false);
         }
     }
     Some(debugger.view().cell(CELL) == Some(Value::Int(2)))
+}
+
+/// Whether each does over the program's run by the schedule.
+fn is_led_over(alloc: Global, program: &Program, spacing: u32) -> Option<bool> {
+    let journal = journal(alloc, program, 0)?;
+    let mut debugger = open(alloc, program, journal, spacing)?;
+    is_led(alloc, &mut debugger)
+}
+
+/// Whether each does over the counter's.
+fn is_debugged(alloc: Global, spacing: u32) -> Option<bool> {
+    let program = program(alloc, COUNTER)?;
+    is_led_over(alloc, &program, spacing)
 }
 
 #[test]

@@ -2,23 +2,34 @@
 use crate::readers::{CELL, Seen, told_of};
 use crate::samples::{COUNTER, FRESH_OBJECTS, OBJECTS, PUSH, SCHEDULE, STACK, program};
 use asl_code::{Program, Value};
-use asl_journal::{Journal, JournalFault, Journaled, Receipt, replay};
+use asl_journal::{Event, Journal, JournalFault, Journaled, Receipt, replay};
 use asl_machine::{Fault, Machine, Reply};
 use asl_refusals::{answered, changed};
 use std::alloc::Global;
 
+/// What is told of a journal: how many events it has, and the last of them.
+pub type Told = (usize, Option<Event>);
+
+/// What is told of events.
+pub fn told_of_events(events: &[Event]) -> Told {
+    (events.len(), events.last().copied())
+}
+
 /// What is told of a machine that writes down its steps: the events, the room for more, and what the machine tells.
-fn told(journaled: &Journaled<'_>) -> (usize, u32, Seen) {
+fn told(journaled: &Journaled<'_>) -> (Told, u32, Seen) {
     (
-        journaled.events().len(),
+        told_of_events(journaled.events()),
         journaled.spare(),
         told_of(journaled.machine()),
     )
 }
 
 /// What is told where a growth of the events' room alone may have come through.
-fn told_but_for_room(journaled: &Journaled<'_>) -> (usize, Seen) {
-    (journaled.events().len(), told_of(journaled.machine()))
+fn told_but_for_room(journaled: &Journaled<'_>) -> (Told, Seen) {
+    (
+        told_of_events(journaled.events()),
+        told_of(journaled.machine()),
+    )
 }
 
 fn started<'p>(alloc: Global, given: (&'p Program, u32)) -> Result<Journaled<'p>, JournalFault> {
@@ -62,15 +73,25 @@ fn reserve(alloc: Global, journaled: &mut Journaled<'_>, m: u32) -> Option<()> {
     )
 }
 
-/// The last of so many replies of thread 0.
-fn last_reply(alloc: Global, text: &[u8], steps: u32) -> Option<Reply> {
-    let program = program(alloc, text)?;
-    let mut journaled = start(alloc, &program, 1)?;
+/// Steps thread 0 so often; the last reply.
+fn step_on(alloc: Global, journaled: &mut Journaled<'_>, steps: u32) -> Option<Reply> {
     let mut last = None;
     for _ in 0..steps {
-        last = Some(step(alloc, &mut journaled, 0)?.reply);
+        last = Some(step(alloc, journaled, 0)?.reply);
     }
     last
+}
+
+/// The last of so many replies of thread 0 of the program.
+fn last_of(alloc: Global, program: &Program, steps: u32) -> Option<Reply> {
+    let mut journaled = start(alloc, program, 1)?;
+    step_on(alloc, &mut journaled, steps)
+}
+
+/// The last of so many replies of thread 0 of the text's program.
+fn last_reply(alloc: Global, text: &[u8], steps: u32) -> Option<Reply> {
+    let program = program(alloc, text)?;
+    last_of(alloc, &program, steps)
 }
 
 #[test]
@@ -93,13 +114,19 @@ fn a_push_is_stepped(rt: HostRuntime) {
     assert!(rt; last == Some(Reply::Ran));
 }
 
+/// Makes room ahead for some events, and the steps of the schedule.
+fn make_steps(alloc: Global, journaled: &mut Journaled<'_>, ahead: u32) -> Option<()> {
+    reserve(alloc, journaled, ahead)?;
+    for thread in SCHEDULE.iter() {
+        step(alloc, journaled, u32::from(*thread))?;
+    }
+    Some(())
+}
+
 /// The journal of the counter's two threads over the schedule, with room made ahead for some events.
 pub fn journal(alloc: Global, program: &Program, ahead: u32) -> Option<Journal> {
     let mut journaled = start(alloc, program, 2)?;
-    reserve(alloc, &mut journaled, ahead)?;
-    for thread in SCHEDULE.iter() {
-        step(alloc, &mut journaled, u32::from(*thread))?;
-    }
+    make_steps(alloc, &mut journaled, ahead)?;
     Some(journaled.into_parts().0)
 }
 
