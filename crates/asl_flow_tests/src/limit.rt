@@ -64,7 +64,8 @@ fn one_lock_more_than_4_096_is_too_many(rt: HostRuntime) -> Result<(), Fail> {
     Ok(())
 }
 
-/// One load fewer, and the locks are 4,096: 17 million needs in all, each of them told.
+/// One load fewer, and the locks are 4,096. They are no fault, though each is needed at thousands of places, 17 million needs in
+/// all.
 #[test]
 fn as_many_as_4_096_locks_are_no_fault(rt: HostRuntime) -> Result<(), Fail> {
     assert!(rt; flow(rt.alloc(), 4095, false)?.is_ok());
