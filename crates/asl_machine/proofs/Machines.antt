@@ -8,7 +8,7 @@ use Rattle.asl_code.proofs.FitsLaws.{image_fits}
 use Rattle.asl_lock_forest.specs.Holding.{Holding, no_holding}
 use Rattle.asl_lock_forest.specs.Held.{Held}
 use Rattle.asl_machine.specs.State.{Object, Thread, State}
-use Rattle.asl_machine.specs.Run.{global_object, first_threads, start_of, IsReached}
+use Rattle.asl_machine.specs.Run.{global_object, first_threads, start_of, IsReached, IsThreadCount}
 use Rattle.asl_machine.specs.declared.reply.Reply.{Reply}
 use Rattle.asl_machine.specs.declared.reply.Reply.TheVariants.{Blocked}
 use Rattle.asl_machine.specs.Step.{after, Step}
@@ -33,10 +33,10 @@ same_state : (a b : List Object) (h k : Holding) (ts us : List Thread) → a ≡
 same_state a b h k ts us p q r = λ i. state_of (p i) (q i) (r i)
 
 -- the start keeps it
-pub start_machine : (image : Image) (objects : List Object) (forest : Held) (threads : List Thread) (n : ℕ) → IsVerified image → n ≤ 128 →
+pub start_machine : (image : Image) (objects : List Object) (forest : Held) (threads : List Thread) (n : ℕ) → IsVerified image → IsThreadCount image n →
     objects ≡ map global_object image.globals → forest.classes ≡ image.classes → forest.threads ≡ n → forest.holding ≡ no_holding → threads ≡ first_threads image n →
     IsMachine image objects forest threads
-start_machine image objects forest threads n verified few os classes counted holding ts =
+start_machine image objects forest threads n verified count os classes counted holding ts =
     let l : length threads ≡ n = ap length ts ∙ length-first_threads image n in
     let starts : start_of image n ≡ state_of objects forest.holding threads = sym (same_state _ _ _ _ _ _ os holding ts) in
     record {
@@ -46,7 +46,7 @@ start_machine image objects forest threads n verified few os classes counted hol
       apart = subst (AreApart image) starts (start_apart image n);
       classes = classes;
       counted = counted ∙ sym l;
-      few_threads = omega arith;
+      count = subst (IsThreadCount image) (sym l) count;
     }
 
 pub start_state : (image : Image) (objects : List Object) (holding : Holding) (threads : List Thread) (n : ℕ) →
@@ -81,7 +81,7 @@ module _ (image : Image) (objects new_objects : List Object) (forest new_forest 
         apart = subst (AreApart image) (sym step_state) (step_of_apart image (state_of objects forest.holding threads) t m.sound m.apart);
         classes = classes ∙ m.classes;
         counted = counted ∙ m.counted ∙ sym l;
-        few_threads = omega (arith, l, m.few_threads);
+        count = subst (IsThreadCount image) (sym l) m.count;
       }
 
 -- the reply is the twin's

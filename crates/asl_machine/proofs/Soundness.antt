@@ -62,6 +62,7 @@ pub record MayFollow (image : Image) (s : State) (t : ℕ) (thread : Thread) (ob
   pub grows : (v : Value) → Points s.objects v → Points objects v
   pub classes : (n class : ℕ) → class_of s.objects n ≡ Some class → class_of objects n ≡ Some class
   pub own : (a : Activity) → activity_of thread ≡ Some a → IsPlaced image objects a
+  pub ended : (v : Value) → thread ≡ Done v → Points objects v
   pub own_outside : depth_in thread ≡ 0 → HoldsNothing holding t
   pub others : (u : ℕ) → u ≢ t → HoldsNothing s.holding u → HoldsNothing holding u
   pub lawful : IsLawful holding
@@ -113,6 +114,12 @@ sound_after image s t thread objects holding sound lt m = record {
           grown image s.objects objects a m.grows
           (sound.formed.placed u a (sym (ap (option_and_then activity_of) (get_other s.threads t u thread other.1)) ∙ e))
     ];
+    ended = λ u v e. elim (eqb_tells u t) [
+      | inl same ↦
+          let here : slice_get (set s.threads t thread) u ≡ Some thread = ap (slice_get (set s.threads t thread)) same.1 ∙ get_same s.threads t thread lt in
+          m.ended v (same_Some _ _ (sym here ∙ e))
+      | inr other ↦ m.grows v (sound.formed.ended u v (sym (get_other s.threads t u thread other.1) ∙ e))
+    ];
   };
   outside = λ u e. elim (eqb_tells u t) [
     | inl same ↦
@@ -150,6 +157,7 @@ follows_fail image s t a f h = record {
   grows = λ v p. p;
   classes = λ n class e. e;
   own = λ b e. cc;
+  ended = λ v e. cc;
   own_outside = λ e. nothing_released s.holding t;
   others = λ u ne p. nothing_kept_release s.holding t u p;
   lawful = lawful_release s.holding t h.sound.lawful;
@@ -158,12 +166,13 @@ follows_fail image s t a f h = record {
 }
 
 -- a thread that ends outside all sections
-follows_end : (image : Image) (s : State) (t : ℕ) (a : Activity) (v : Value) → Here image s t a → a.depth ≡ 0 → MayFollow image s t (Done v) s.objects s.holding
-follows_end image s t a v h z = record {
+follows_end : (image : Image) (s : State) (t : ℕ) (a : Activity) (v : Value) → Here image s t a → a.depth ≡ 0 → Points s.objects v → MayFollow image s t (Done v) s.objects s.holding
+follows_end image s t a v h z points = record {
   sound = h.sound.formed.objects;
   grows = λ w p. p;
   classes = λ n class e. e;
   own = λ b e. cc;
+  ended = λ w e. let is : v ≡ w = cc in subst (Points s.objects) is points;
   own_outside = λ e. outside_here image s t a h z;
   others = λ u ne p. p;
   lawful = h.sound.lawful;
@@ -180,6 +189,7 @@ follows_changes image s t a b objects h sound grows classes placed shallow = rec
   grows = grows;
   classes = classes;
   own = λ c e. let is : b ≡ c = cc in subst (IsPlaced image objects) is placed;
+  ended = λ v e. cc;
   own_outside = λ e. outside_here image s t a h (shallow e);
   others = λ u ne p. p;
   lawful = h.sound.lawful;
@@ -206,6 +216,7 @@ follows_grant image s t a b request h placed inside granted = record {
   grows = λ v p. p;
   classes = λ n class e. e;
   own = λ c e. let is : b ≡ c = cc in subst (IsPlaced image s.objects) is placed;
+  ended = λ v e. cc;
   own_outside = λ e. absurd (inside e);
   others = λ u ne p. nothing_kept_grant s.holding t request u ne p;
   lawful = granted.lawful;
@@ -220,6 +231,7 @@ follows_release image s t a b h placed = record {
   grows = λ v p. p;
   classes = λ n class e. e;
   own = λ c e. let is : b ≡ c = cc in subst (IsPlaced image s.objects) is placed;
+  ended = λ v e. cc;
   own_outside = λ e. nothing_released s.holding t;
   others = λ u ne p. nothing_kept_release s.holding t u p;
   lawful = lawful_release s.holding t h.sound.lawful;
@@ -447,7 +459,7 @@ follows_return image s t a h value points = by image s t a h value points a.belo
         length frames < 256 → Follows image s t (return_left (here_place s t a) value frames)
     by image s t a h value points [] below few =
         elim (a.depth == 0) as (λ b. (a.depth == 0) ≡ b → Follows image s t (left_alone (here_place s t a) (cond b (fate.Ends value) (fate.Fails fault.Open)))) [
-          | true ↦ λ e. follows_end image s t a value h (eqb-true _ _ e)
+          | true ↦ λ e. follows_end image s t a value h (eqb-true _ _ e) points
           | false ↦ λ e. follows_fail image s t a fault.Open h
         ] refl
     by image s t a h value points (f ∷ fs) below few =
@@ -767,6 +779,7 @@ start_sound image n fits =
           few = let l = length-map image.globals global_object in let k = fits.few_globals in omega arith;
         };
         placed = λ u a e. start_placed image objects n u a fits e;
+        ended = λ u v e. let first = (first_found image n u (Done v) e).1 in cc;
       };
       outside = λ u e node. finite.get-empty {X = Mode} key_cmp (key u node);
       lawful = lawful_empty;

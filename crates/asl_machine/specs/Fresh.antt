@@ -41,8 +41,8 @@ MayHold s t cell =
     ⊎ (((u : ℕ) → ¬ IsFreshFor s u cell.object) × ((class : ℕ) → class_of s.objects cell.object ≡ Some class → Covers s.holding t cell class Write))
 
 -- what holds of fresh objects: there are some by images of version 2 alone; a thread outside all sections has none; they
--- are there and no globals; none is fresh for two threads; no other thread has an address in one, and no cell but those
--- that may hold it
+-- are there and no globals; none is fresh for two threads; no frame of another thread has an address in one, and no cell
+-- but those that may hold it
 -- (docs/LOCKS.md, Fresh objects)
 pub record AreApart (image : Image) (s : State) : Type 0 where
   pub version : (t object : ℕ) → IsFreshFor s t object → image.version ≡ 2

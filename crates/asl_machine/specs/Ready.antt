@@ -7,7 +7,6 @@ use Rattle.asl_code.specs.declared.instr.Instr.{Instr}
 use Rattle.asl_code.specs.declared.instr.Instr.TheVariants.{SetInt, SetNull, Move, Add, Subtract, LessThan, Equals, GlobalAddress, FieldAddress, Load, Store, New, Jump, JumpIfZero, Call, Return, Output, Acquire, Release}
 use Rattle.asl_code.specs.Fits.{FitsImage}
 use Rattle.asl_code.specs.Verified.{IsVerified}
-use Rattle.asl_code.specs.Versions.{newest_threads}
 use Rattle.asl_lock_forest.specs.Held.{Held}
 use Rattle.asl_lock_forest.specs.Holding.{HoldsNothing}
 use Rattle.asl_machine.specs.declared.thread.Stage.{Stage}
@@ -16,7 +15,7 @@ use Rattle.asl_machine.specs.State.{Object, Frame, Activity, Thread, Running, Do
 use Rattle.asl_machine.specs.Calls.{function_of, frame_count, IsAwaited}
 use Rattle.asl_machine.specs.Request.{LockOfClass, locks_of}
 use Rattle.asl_machine.specs.Access.{AllPoint, AreOfClasses}
-use Rattle.asl_machine.specs.Run.{IsReached}
+use Rattle.asl_machine.specs.Run.{IsReached, IsThreadCount}
 use Rattle.asl_machine.specs.Sound.{IsSound}
 use Rattle.asl_machine.specs.Fresh.{AreApart}
 
@@ -91,8 +90,8 @@ ThreadReady image forest objects t (Running activity) =
 ThreadReady image forest objects t (Done value) = Unit {0}
 ThreadReady image forest objects t (Failed f) = Unit {0}
 
--- what every machine keeps: its program is verified, its state is reached, sound, and with its fresh objects apart, and its
--- forest is over its program's classes and its own threads
+-- what every machine keeps: its program is verified, its state is reached, sound, and with its fresh objects apart, its
+-- forest is over its program's classes and its own threads, and the program's version allows so many
 -- (docs/INSTRUCTIONS.md, What always holds)
 pub record IsMachine (image : Image) (objects : List Object) (forest : Held) (threads : List Thread) : Type 0 where
   pub verified : IsVerified image
@@ -101,4 +100,4 @@ pub record IsMachine (image : Image) (objects : List Object) (forest : Held) (th
   pub apart : AreApart image (record { objects = objects; holding = forest.holding; threads = threads })
   pub classes : forest.classes ≡ image.classes
   pub counted : forest.threads ≡ length threads
-  pub few_threads : length threads ≤ newest_threads
+  pub count : IsThreadCount image (length threads)

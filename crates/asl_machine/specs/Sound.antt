@@ -1,5 +1,6 @@
 -- What holds of every state that a verified program reaches: each frame is in a body, with the registers of its
--- function; every address is that of a cell that is there; who is in no section holds nothing (docs/INSTRUCTIONS.md,
+-- function; every address is that of a cell that is there, also in the value with which a thread has ended; who is in no
+-- section holds nothing (docs/INSTRUCTIONS.md,
 -- "What always holds").
 use Rattle.std.specs.Prelude.{◌≡◌, ◌≢◌, ◌<◌, ◌≤◌, ◌+◌, ℕ, List, [], ◌∷◌, length, Option, None, Some, slice_get, IsSomeAnd}
 use Rattle.asl_code.specs.declared.image.Function.{Function}
@@ -61,10 +62,12 @@ pub record AreSound (image : Image) (objects : List Object) : Type 0 where
   pub few : length objects ≤ 65536
   pub globals : (global class : ℕ) → slice_get image.globals global ≡ Some class → (class_of objects global ≡ Some class) × (size_of objects global ≡ Some 1)
 
--- the objects are as they must be, and so is each running thread (docs/INSTRUCTIONS.md, What always holds)
+-- the objects are as they must be, and so is each running thread; a thread that has ended did so with a value that points,
+-- if anywhere, to a cell that is there (docs/INSTRUCTIONS.md, What always holds)
 pub record IsWellFormed (image : Image) (s : State) : Type 0 where
   pub objects : AreSound image s.objects
   pub placed : (t : ℕ) (activity : Activity) → activity_at s.threads t ≡ Some activity → IsPlaced image s.objects activity
+  pub ended : (t : ℕ) (value : Value) → slice_get s.threads t ≡ Some (Done value) → Points s.objects value
 
 -- what holds of every state that a verified program reaches: it is well formed, who is in no section holds nothing, what
 -- is held is lawful, and each node that is held is there (docs/INSTRUCTIONS.md, What always holds)

@@ -14,6 +14,9 @@ use crate::word::Word;
 use asl_code::Value;
 use std::alloc::{AllocError, Global};
 
+/// The most frames of a thread.
+const MOST_FRAMES: usize = 256;
+
 /// Goes to this place of the code.
 pub fn jump(activity: &mut Activity, target: u16) -> Fate
     ensures fate { result ≡ Fate.GoesOn }
@@ -68,7 +71,7 @@ pub fn call(
     ensures memory { OnErr result (frame_count activity.old < 256) }
     ensures err { OnErr result (activity.new ≡ activity.old) }
 {
-    if activity.frames() == 256 {
+    if activity.frames() == MOST_FRAMES {
         return Ok(Fate::Fails(Fault::Stack));
     }
     activity.call(alloc, code, to, first, function)?;

@@ -38,8 +38,9 @@ pub fn steps_have_one_line()
         → (reply ≡ (step_of image s t).reply) × (new ≡ (step_of image s t).state) }
 {}
 
-/// Each reached state is well formed: every address is that of a cell that is there, every frame is in its function's
-/// body with its function's registers, and each frame but the top one waits behind the `call` that made the one above.
+/// Each reached state is well formed: every address in a cell, in a frame's register or as the value of an ended thread is
+/// that of a cell that is there, every frame is in its function's body with its function's registers, and each frame but the
+/// top one waits behind the `call` that made the one above.
 pub fn reached_states_are_well_formed()
     ensures { (image : Image) (count : ℕ) (s : State) → IsVerified image → IsReached image count s → IsWellFormed image s }
 {}

@@ -4,7 +4,7 @@ ghost use Rattle.asl_code.specs.Fits.{FitsImage};
 ghost use Rattle.asl_code.specs.Verified.{IsVerified};
 ghost use Rattle.asl_code.specs.Versions.{most_threads, newest_threads};
 ghost use Rattle.asl_lock_forest.specs.declared.node.Node.{Node};
-ghost use Rattle.asl_machine.specs.Run.{start_of, first_threads, IsReached};
+ghost use Rattle.asl_machine.specs.Run.{start_of, first_threads, IsReached, IsThreadCount};
 ghost use Rattle.asl_machine.specs.State.{cell_at, size_of, class_of, activity_at, depth_at};
 
 use crate::code::Code;
@@ -159,10 +159,11 @@ impl<'p> Machine<'p> {
         self.code.program()
     }
 
-    /// How many threads there are. The program is verified, and the state is one that a schedule of so many threads
-    /// reaches, so that the laws of verified programs and of reached states hold of every machine.
+    /// How many threads there are: as many as the program's version allows. The program is verified, and the state is one that
+    /// a schedule of so many threads reaches, so that the laws of verified programs and of reached states hold of every machine.
     pub fn threads(&self) -> u32
         ensures count { result ≡ length self.now.state.threads }
+        ensures allowed { IsThreadCount self.now.image result }
         ensures verified { IsVerified self.now.image }
         ensures reached { IsReached self.now.image result self.now.state }
     {
@@ -278,8 +279,7 @@ impl<'p> Machine<'p> {
 
 /// The machine in which n threads of the program start.
 fn start<'p>(alloc: Global, program: &'p Program, n: u32) -> Result<Machine<'p>, AllocError>
-    requires some { 0 < n }
-    requires few { n ≤ newest_threads }
+    requires count { IsThreadCount program.now n }
     ensures image { IfOk result (λ machine. machine.image ≡ program.now) }
     ensures start { IfOk result (λ machine. machine.state ≡ start_of program.now n) }
 {

@@ -17,6 +17,9 @@ use asl_code::{Cell, Effect, Value};
 use asl_lock_forest::Forest;
 use std::alloc::{AllocError, Global};
 
+/// The most objects of a machine: their numbers have 16 bits.
+const MOST_OBJECTS: usize = 65_536;
+
 /// The value of the cell that the register holds the address of, where the thread may read it.
 pub fn load(
     heap: &Heap,
@@ -88,7 +91,7 @@ pub fn make(
     ensures err { OnErr result (activity.new ≡ activity.old) }
     ensures err_heap { OnErr result (heap.new ≡ heap.old) }
 {
-    if heap.len() == 65_536 {
+    if heap.len() == MOST_OBJECTS {
         return Ok(Fate::Fails(Fault::Full));
     }
     let number = if version == 2 && activity.depth() > 0 {

@@ -16,6 +16,9 @@ use asl_lock_forest::{Forest, Node};
 use asl_mode_lanes::Mode;
 use std::alloc::AllocError;
 
+/// The most sections that a thread is in at once.
+const MOST_DEPTH: u8 = 255;
+
 /// Enters a section with the locks of a list. The outermost asks for them, and waits where others hold them.
 pub fn acquire(
     code: &Code<'_>,
@@ -48,7 +51,7 @@ pub fn acquire(
 {
     match activity.depth() {
         0 => enter(heap, forest, asks, t, activity, locks(code, list)),
-        255 => Ok(Fate::Fails(Fault::Deep)),
+        MOST_DEPTH => Ok(Fate::Fails(Fault::Deep)),
         _ => {
             activity.enter();
             Ok(Fate::GoesOn)

@@ -1,5 +1,6 @@
 //! What instructions compute of the values in registers.
-ghost use Rattle.std.specs.Prelude.{◌≡◌, ◌<◌, length};
+ghost use Rattle.std.specs.Prelude.{◌≡◌, ◌<◌, ℤ, length, Err, IfOk, IfErr};
+ghost use Rattle.asl_code.specs.declared.value.Value.TheVariants.{Int};
 ghost use Rattle.asl_machine.specs.Step.{is_zero};
 ghost use Rattle.asl_machine.specs.Twin.{register_of, address_moved, computed, added, subtracted, compared, truth, same_value};
 
@@ -10,19 +11,37 @@ use crate::word::Word;
 use asl_code::{Cell, Value};
 use asl_lock_expr::go_on;
 
+/// The integers in two registers.
+///
+/// # Errors
+///
+/// `BadType` where one of them holds no integer.
+#[inline(always)]
+fn integers(activity: &Activity, left: u8, right: u8) -> Result<(i32, i32), Fault>
+    requires left_there { left < length activity.now.top.regs }
+    requires right_there { right < length activity.now.top.regs }
+    ensures both { IfOk result (λ both.
+        (register_of activity.now.top left ≡ Int both.0) × (register_of activity.now.top right ≡ Int both.1)) }
+    ensures refused { IfErr result (λ fault. (operation : ℤ → ℤ → Value) →
+        computed operation (register_of activity.now.top left) (register_of activity.now.top right) ≡ Err fault) }
+{
+    match (
+        activity.read(left).integer(),
+        activity.read(right).integer(),
+    ) {
+        (Some(x), Some(y)) => Ok((x, y)),
+        _ => Err(Fault::BadType),
+    }
+}
+
 /// The sum of the integers in two registers, which wraps at 32 bits.
 pub fn sum(activity: &Activity, left: u8, right: u8) -> Result<Word, Fault>
     requires left_there { left < length activity.now.top.regs }
     requires right_there { right < length activity.now.top.regs }
     ensures { result ≡ computed added (register_of activity.now.top left) (register_of activity.now.top right) }
 {
-    match (
-        activity.read(left).integer(),
-        activity.read(right).integer(),
-    ) {
-        (Some(x), Some(y)) => Ok(Word::of(Value::Int(x.wrapping_add(y)))),
-        _ => Err(Fault::BadType),
-    }
+    let (x, y) = integers(activity, left, right)?;
+    Ok(Word::of(Value::Int(x.wrapping_add(y))))
 }
 
 /// The difference of the integers in two registers, which wraps at 32 bits.
@@ -31,13 +50,8 @@ pub fn difference(activity: &Activity, left: u8, right: u8) -> Result<Word, Faul
     requires right_there { right < length activity.now.top.regs }
     ensures { result ≡ computed subtracted (register_of activity.now.top left) (register_of activity.now.top right) }
 {
-    match (
-        activity.read(left).integer(),
-        activity.read(right).integer(),
-    ) {
-        (Some(x), Some(y)) => Ok(Word::of(Value::Int(x.wrapping_sub(y)))),
-        _ => Err(Fault::BadType),
-    }
+    let (x, y) = integers(activity, left, right)?;
+    Ok(Word::of(Value::Int(x.wrapping_sub(y))))
 }
 
 /// Whether the integer in one register is below that in another: 1 or 0.
@@ -46,13 +60,8 @@ pub fn comparison(activity: &Activity, left: u8, right: u8) -> Result<Word, Faul
     requires right_there { right < length activity.now.top.regs }
     ensures { result ≡ computed compared (register_of activity.now.top left) (register_of activity.now.top right) }
 {
-    match (
-        activity.read(left).integer(),
-        activity.read(right).integer(),
-    ) {
-        (Some(x), Some(y)) => Ok(integer_for(x < y)),
-        _ => Err(Fault::BadType),
-    }
+    let (x, y) = integers(activity, left, right)?;
+    Ok(integer_for(x < y))
 }
 
 /// Whether two registers have the same value: 1 or 0.
