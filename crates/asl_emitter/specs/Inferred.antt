@@ -40,7 +40,7 @@ pub record Analysis (is : List Item) : Type 0 where
   pub stores : ℕ → ℕ → Bool
   pub tells : TellsStores program.lowering program.classes stores
 
--- the image that is inferred for a program, with paths of at most so many operations
+-- the image that is inferred for a program, if it is accepted (Refused), with paths of at most so many operations
 pub record IsInferredFor (is : List Item) (longest : ℕ) (image : Image) : Type 0 where
   pub analysis : Analysis is
   pub inferred : IsInferred analysis.program.lowering analysis.program.classes analysis.stores longest image

@@ -10,15 +10,12 @@ use Rattle.asl_points_to.specs.Classes.{Classed}
 use Rattle.asl_lock_expr.specs.ClassOf.{class_of}
 use Rattle.asl_lock_expr.specs.Links.{IsOne, class_lock}
 use Rattle.asl_lock_expr.specs.Order.{AreInOrder}
-use Rattle.asl_soundness.specs.Over.{covers_effect}
+use Rattle.asl_soundness.specs.Over.{StandsOver}
 
--- in a function the first lock does in place of the second: it is on the same class or the same expression, or on the class of
--- the expression, and its effect is at least as strong
+-- in a function the first lock does in place of the second: it stands over it, and is not on the root
 abbrev pub DoesFor : Classed → ℕ → Lock → Lock → Type 0
-DoesFor c f (lock.Class x effect) (lock.Class y other) = (x ≡ y) × IsTrue (covers_effect effect other)
-DoesFor c f (lock.Class x effect) (lock.Expr e other) = (class_of c f e ≡ Some x) × IsTrue (covers_effect effect other)
-DoesFor c f (lock.Expr a effect) (lock.Expr b other) = (a ≡ b) × IsTrue (covers_effect effect other)
-DoesFor c f a b = ⊥
+DoesFor c f (lock.Root effect) b = ⊥
+DoesFor c f a b = StandsOver c f a b
 
 -- a lock absorbs another, different one
 pub record Absorbs (c : Classed) (f : ℕ) (a b : Lock) : Type 0 where

@@ -1,4 +1,4 @@
--- Which programs have no inferred image, and why (docs/ANALYSIS.md, "The inferred image").
+-- Which programs are refused, and why (docs/ANALYSIS.md, "The inferred image").
 use Rattle.std.specs.Prelude.{ℕ, ◌<◌, ◌≤◌, List}
 use Rattle.asl_syntax.specs.Tree.{Item}
 use Rattle.asl_lower.specs.Refused.{HasRoom, HasAccessesInside, IsRefused as IsNotLowered}
@@ -34,8 +34,8 @@ pub record IsAccepted (is : List Item) (longest : ℕ) : Type 0 where
   pub few_classes : analysis.program.classes.count ≤ 1024
   pub few_locks : (r : Region) → ¬ NeedsMany analysis.program.lowering analysis.program.classes analysis.stores longest r
 
--- the program has this fault, and none that is listed before it; want of memory hides no fault of the lowering, which is judged
--- without memory
+-- the program has this fault, and none that is listed before it; want of memory hides no fault of the lowering, which needs no
+-- memory to be judged
 abbrev pub IsRefused : List Item → ℕ → InferFault → Type 0
 IsRefused is longest (Registers function) = IsNotLowered is (lower.Registers function)
 IsRefused is longest CodeSize = IsNotLowered is lower.CodeSize

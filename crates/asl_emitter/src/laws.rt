@@ -58,8 +58,7 @@ pub fn inferred_images_are_sound()
 {}
 
 /// A program has one outcome at the most, want of memory aside: a fault of its lowering keeps out all else, too many classes
-/// keep out too many locks, and a program for which an image is inferred has no fault. Of several regions with too many locks
-/// any is told.
+/// keep out too many locks, and an accepted program has no fault. Of several regions with too many locks any is told.
 pub fn programs_have_one_outcome()
     ensures registers { (is : List Item) (longest function : ℕ) (other : AnyFault) → IsRefused is longest (AnyFault.Registers function)
         → IsRefused is longest other → other ≡ AnyFault.Registers function }

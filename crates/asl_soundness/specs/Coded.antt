@@ -12,7 +12,7 @@ abbrev pub classed : Classed → Instr → Instr
 classed c (instr.New a n site) = instr.New a n (unwrap_or (slice_get c.sites site) 0)
 classed c i = i
 
--- a verified image of version 2 of the lowering, with legal classes; of its lists nothing is said here
+-- a verified image of version 2 of the lowering, with legal classes; of its lists no more is said than that the verifier takes them
 pub record IsImageOf (l : Lowered) (c : Classed) (image : Image) : Type 0 where
   pub fits : FitsImage image
   pub version : image.version ≡ 2

@@ -21,7 +21,7 @@ ghost use Rattle.asl_soundness.specs.Wanted.{AreProtected, TopHas, WaitingHave};
 /// One step from a reached state, for any one lock. Of the thread's own step, in a section before and behind it and in the same
 /// frame, as over any instruction but a `call` and a `ret`: where each lock that the link over its instruction gives is
 /// protected before it, the lock is protected behind it. Of another thread's step: a lock that is protected for a frame with
-/// its dereferenced prefixes stays protected. Neither asks anything of the lists.
+/// its dereferenced prefixes stays protected. Neither asks more of the lists than that the verifier takes them.
 pub fn links_keep_locks_protected()
     ensures own { (l : Lowered) (c : Classed) (stores : ℕ → ℕ → Bool) (longest : ℕ) (image : Image) (count : ℕ) (s : State) (t : ℕ) (a b : Activity) (i : Instr) (n : Lock)
         → IsKept l → IsImageOf l c image → IsReached image count s

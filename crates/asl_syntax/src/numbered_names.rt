@@ -1,6 +1,6 @@
 //! Names with numbers.
 
-ghost use Rattle.std.specs.Prelude.{◌≡◌, IfOk};
+ghost use Rattle.std.specs.Prelude.{◌≡◌, IfOk, OnErr, false};
 ghost use Rattle.asl_syntax.specs.Rules.{no_count, with_count, no_name, with_name};
 ghost use Rattle.asl_syntax.specs.NumberedNamesView.{counts_in, names_known};
 
@@ -26,9 +26,15 @@ impl<'a> NumberedNames<'a> {
     }
 
     /// Adds a name with its number, in place of an older one.
+    ///
+    /// # Errors
+    ///
+    /// A growth was refused, which only a name that is not there yet may want. Then all is as it was.
     pub fn add(&mut self, name: &'a Name, number: usize) -> Result<(), AllocError>
         ensures counts { IfOk result (λ _. counts_in self.new ≡ with_count name.now number (counts_in self.old)) }
         ensures names { IfOk result (λ _. names_known self.new ≡ with_name name.now (names_known self.old)) }
+        ensures memory { OnErr result (names_known self.old name.now ≡ false) }
+        ensures err { OnErr result (counts_in self.new ≡ counts_in self.old) }
     {
         self.names.insert(name.as_slice(), number)?;
         Ok(())
