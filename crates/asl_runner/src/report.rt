@@ -9,8 +9,9 @@ pub struct Report<'p> {
     pub journal: Journal,
     /// The machine in the state to which the events led.
     pub machine: Machine<'p>,
-    /// For each worker, what its steps answered, in their order: in a run that ends well, the journal's entries of its threads.
-    /// Where a receipt says that its thread has ended, it has.
+    /// For each worker, what its steps answered, in their order. In a run that ends well they are the journal's entries of the
+    /// worker's threads, none is of a step of a thread that had ended before, and each thread of which one says that it has
+    /// ended has. In the report that comes with `Receipt(j)` those of worker j are not so.
     pub receipts: Vec<Vec<Receipt>>,
     /// How many tickets were drawn.
     pub tickets: u64,
