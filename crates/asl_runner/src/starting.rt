@@ -2,7 +2,7 @@
 ghost use Rattle.std.specs.Prelude.{◌≡◌, ◌<◌, ◌≤◌, ◌⊎◌, [], IfOk, IfErr, vec_len};
 ghost use Rattle.asl_code.specs.Versions.{newest_threads};
 ghost use Rattle.asl_runner.specs.Working.{HasLeft};
-ghost use Rattle.asl_runner.specs.Starting.{AreSeats, HaveWorked};
+ghost use Rattle.asl_runner.specs.Starting.{ArePromised, AreSeats, HaveWorked};
 ghost use Rattle.asl_runner.specs.Turning.{IsAt};
 
 use crate::fault::RunFault;
@@ -13,7 +13,7 @@ use asl_turns::{TurnSeat, Turns};
 use std::alloc::Global;
 use std::sync::Wait;
 use std::thread;
-use std::thread::{Promise, Threads};
+use std::thread::{Promise, PromisedHandle, Scope, Threads};
 
 /// What the thread of a worker leaves.
 #[derive(Clone, Copy, Drop)]
@@ -51,31 +51,76 @@ pub fn start<R: Threads + Wait + Sync, S: Steps, G: Gate>(
             ensures works { IfOk result (λ works. (vec_len works ≡ vec_len seats) × HaveWorked turns.entry.now count (vec_len seats) works.items) }
             ensures other { IfErr result (λ fault. (fault ≡ RunFault.Spawn) ⊎ (fault ≡ RunFault.OutOfMemory)) }
         {
-            let workers = seats.len() as u32;
-            let mut handles = Vec::with_capacity(alloc, seats.len())?;
-            let mut worker: u8 = 0;
-            for seat in seats {
-                let post = Post {
-                    count,
-                    workers,
-                    worker,
-                };
-                let Ok(handle) = scope.spawn_with(
-                    WorkOf { turns, post },
-                    move || -> Work
-                        requires { (S.count ≡ post.count) × IsAt post × (seat ≡ record { of = turns.now; left = 1; spent = 0; tickets = [] }) }
-                        ensures { HasLeft turns.entry.now post.count post.workers post.worker result.seat result.receipts.items result.refused }
-                    { run_worker(rt, alloc, post, steps, turns, gate, seat) },
-                ) else {
-                    return Err(RunFault::Spawn);
-                };
-                handles.push_reserved(handle);
-                worker += 1;
-            }
+            let handles = start_workers(scope, rt, alloc, count, steps, turns, gate, seats)?;
             match thread::join_promised(rt, handles) {
                 Ok(works) => Ok(works),
                 Err(_) => Err(RunFault::OutOfMemory),
             }
         },
     )
+}
+
+/// Starts the threads of the workers, one for each seat.
+fn start_workers<'s, E, R: Wait + Sync, S: Steps, G: Gate>(
+    scope: &Scope<'s, E>,
+    rt: &'s R,
+    alloc: Global,
+    count: u32,
+    steps: &'s S,
+    turns: &'s Turns,
+    gate: &'s G,
+    seats: Vec<TurnSeat>,
+) -> Result<Vec<PromisedHandle<Work, WorkOf<'s>>>, RunFault>
+    requires count { S.count ≡ count }
+    requires threads { count ≤ newest_threads }
+    requires few { vec_len seats ≤ 8 }
+    requires seats { AreSeats turns.now seats.items }
+    ensures handles { IfOk result (λ handles. (vec_len handles ≡ vec_len seats) × ArePromised turns.now count (vec_len seats) handles.items) }
+    ensures other { IfErr result (λ fault. (fault ≡ RunFault.Spawn) ⊎ (fault ≡ RunFault.OutOfMemory)) }
+{
+    let workers = seats.len() as u32;
+    let mut handles = Vec::with_capacity(alloc, seats.len())?;
+    let mut worker: u8 = 0;
+    for seat in seats {
+        let post = Post {
+            count,
+            workers,
+            worker,
+        };
+        let handle = start_worker(scope, rt, alloc, post, steps, turns, gate, seat)?;
+        handles.push_reserved(handle);
+        worker += 1;
+    }
+    Ok(handles)
+}
+
+/// Starts the thread of the worker at the post.
+fn start_worker<'s, E, R: Wait + Sync, S: Steps, G: Gate>(
+    scope: &Scope<'s, E>,
+    rt: &'s R,
+    alloc: Global,
+    post: Post,
+    steps: &'s S,
+    turns: &'s Turns,
+    gate: &'s G,
+    seat: TurnSeat,
+) -> Result<PromisedHandle<Work, WorkOf<'s>>, RunFault>
+    requires count { S.count ≡ post.count }
+    requires at { IsAt post }
+    requires seat { seat ≡ record { of = turns.now; left = 1; spent = 0; tickets = [] } }
+    ensures turns { IfOk result (λ handle. handle.promise.turns.now ≡ turns.now) }
+    ensures post { IfOk result (λ handle. handle.promise.post ≡ post) }
+    ensures other { IfErr result (λ fault. fault ≡ RunFault.Spawn) }
+{
+    let started = scope.spawn_with(
+        WorkOf { turns, post },
+        move || -> Work
+            requires { (S.count ≡ post.count) × IsAt post × (seat ≡ record { of = turns.now; left = 1; spent = 0; tickets = [] }) }
+            ensures { HasLeft turns.entry.now post.count post.workers post.worker result.seat result.receipts.items result.refused }
+        { run_worker(rt, alloc, post, steps, turns, gate, seat) },
+    );
+    match started {
+        Ok(handle) => Ok(handle),
+        Err(_) => Err(RunFault::Spawn),
+    }
 }
