@@ -104,39 +104,62 @@ impl Gate for Relay {
     }
 }
 
-/// A gate that remembers for each of the first eight calls of two workers the number of the event that it was handed behind it,
-/// from 1; and whether there was any other call.
+/// A number for each of the first eight calls of two workers, 0 where there is none yet.
+#[derive(Drop)]
+struct Calls([[AtomicU64; 8]; 2]);
+
+impl Calls {
+    fn new() -> Calls {
+        Calls([words(), words()])
+    }
+
+    /// The word for the worker's call, if there is one.
+    fn word(&self, worker: u8, call: u64) -> Option<&AtomicU64> {
+        let mine = self.0.get(usize::from(worker))?;
+        let place = usize::try_from(call.checked_sub(1)?).ok()?;
+        mine.get(place)
+    }
+
+    /// The number that stands there, if there is a word for the worker's call.
+    fn number(&self, worker: u8, call: u64) -> Option<u64> {
+        let word = self.word(worker, call)?;
+        Some(word.load(Ordering::SeqCst))
+    }
+}
+
+/// A gate that remembers for each of the first eight calls of two workers its number, as it was told before it, and the number
+/// of the event that it was handed behind it, from 1; and how often it was called for any other call, or before one that it had
+/// been called behind.
 #[derive(Drop)]
 struct Witness {
-    handed: [[AtomicU64; 8]; 2],
+    called: Calls,
+    handed: Calls,
     strays: AtomicU64,
 }
 
 impl Witness {
     fn new() -> Witness {
         Witness {
-            handed: [words(), words()],
+            called: Calls::new(),
+            handed: Calls::new(),
             strays: AtomicU64::new(0),
         }
     }
 
-    /// The word for the worker's call, if there is one.
-    fn word(&self, worker: u8, call: u64) -> Option<&AtomicU64> {
-        let mine = self.handed.get(usize::from(worker))?;
-        let place = usize::try_from(call.checked_sub(1)?).ok()?;
-        mine.get(place)
+    /// Counts one more stray.
+    fn stray(&self) {
+        self.strays.fetch_add(1, Ordering::SeqCst);
     }
 
-    /// The number, from 1, of the event that it was handed behind the worker's call, if it remembers any.
-    fn number(&self, worker: u8, call: u64) -> Option<u64> {
-        let word = self.word(worker, call)?;
-        Some(word.load(Ordering::SeqCst))
-    }
-
-    /// Whether it was handed the worker's receipts, one by one, and nothing behind them.
+    /// Whether it was told of a call before each of the worker's receipts, and handed the receipts, one by one, and nothing
+    /// behind them.
     fn has_seen(&self, worker: u8, receipts: &[Receipt]) -> bool {
         for (place, call) in (0..8usize).zip(1..=8u64) {
-            if self.number(worker, call) != Some(number_of(receipts.get(place))) {
+            let receipt = receipts.get(place);
+            let due = if receipt.is_some() { call } else { 0 };
+            if self.called.number(worker, call) != Some(due)
+                || self.handed.number(worker, call) != Some(number_of(receipt))
+            {
                 return false;
             }
         }
@@ -153,12 +176,19 @@ fn number_of(receipt: Option<&Receipt>) -> u64 {
 }
 
 impl Gate for Witness {
-    fn before(&self, _worker: u8, _call: u64) {}
+    fn before(&self, worker: u8, call: u64) {
+        match self.called.word(worker, call) {
+            Some(word) if self.handed.number(worker, call) == Some(0) => {
+                word.store(call, Ordering::SeqCst)
+            }
+            _ => self.stray(),
+        }
+    }
 
     fn after(&self, worker: u8, call: u64, receipt: &Receipt) {
-        match self.word(worker, call) {
+        match self.handed.word(worker, call) {
             Some(word) => word.store(number_of(Some(receipt)), Ordering::SeqCst),
-            None => self.strays.store(1, Ordering::SeqCst),
+            None => self.stray(),
         }
     }
 }
@@ -303,7 +333,8 @@ fn one_thread_of_several_workers_is_stepped_by_the_first(rt: HostRuntime) -> Res
     Ok(())
 }
 
-/// Whether the gate was handed each receipt of the report's two workers behind its call, and nothing else, and there are so many.
+/// Whether the gate was told of each call of the report's two workers before it, and handed its receipt behind it, and nothing
+/// else, and there are so many.
 fn is_seen(gate: &Witness, report: &Report<'_>, events: u64) -> bool {
     let mut count: usize = 0;
     for (worker, receipts) in (0..2u8).zip(report.receipts.iter()) {
@@ -331,7 +362,7 @@ fn is_handed<R: Threads + Wait + Sync>(
 }
 
 #[test]
-fn the_gate_is_handed_each_receipt(rt: HostRuntime) -> Result<(), Fail> {
+fn the_gate_is_told_of_each_call_and_handed_its_receipt(rt: HostRuntime) -> Result<(), Fail> {
     let program = counter(rt.alloc()).ok_or("no program")?;
     for asked in [(1, 8), (1, 3), (2, 8)] {
         let handed = is_handed(&rt, rt.alloc(), &program, asked);
