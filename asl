@@ -1,16 +1,33 @@
 #!/usr/bin/env bash
-# Runs the program `asl`. Where its binary is missing or older than the sources, the workspace is proved and built first:
+# Runs the program `asl`. Where its binary is missing or was built from other sources, the workspace is proved and built first:
 # there is no build without the proofs. Crates that do not stand on one another are proved side by side. What the build
 # says goes to crates/asl/out/build.log; how far it is goes to standard error.
 set -eu
 root=$(cd "$(dirname "$(readlink -f "${BASH_SOURCE[0]}")")" && pwd)
 binary=$root/crates/asl/out/asl
 log=$root/crates/asl/out/build.log
+# what the sources were when the build of the binary began
+list=$root/crates/asl/out/sources
+# the logic in which the program says that it was proved
+logic=dac8208d650f15bf
+
+# find_sources WORD..: the files that a build reads, with what the words tell find to do with them
+find_sources() {
+  (cd "$root" && find HANDLES crates.txt crates -name out -prune -o -type f \
+    \( -name HANDLES -o -name crates.txt -o -name '*.rt' -o -name '*.antt' \) "$@")
+}
+
+# their names, sizes and times
+list_sources() { find_sources -printf '%p %s %T@\n' | LC_ALL=C sort; }
 
 is_stale() {
-  [ ! -x "$binary" ] && return 0
-  [ "$root/crates.txt" -nt "$binary" ] && return 0
-  [ -n "$(find "$root/crates" -name out -prune -o -type f \( -name '*.rt' -o -name '*.antt' \) -newer "$binary" -print -quit)" ]
+  [ -x "$binary" ] || return 0
+  if [ -f "$list" ] && [ ! "$binary" -nt "$list" ]; then
+    [ "$(list_sources)" != "$(<"$list")" ]
+  else
+    # rt built the binary without this script, and of what is not known
+    [ -n "$(find_sources -newer "$binary" -print -quit)" ]
+  fi
 }
 
 # the crates of the repository below the program, lowest first, each with those of them that it stands on
@@ -52,17 +69,15 @@ fail() {
 links_to() {
   local view=$1 name=$2 part
   shift 2
-  mkdir -p "$view/crates/$name/out"
+  mkdir -p "$view/crates/$name"
   for part in "$@"; do
     [ ! -d "$root/crates/$name/$part" ] || cp -al "$root/crates/$name/$part" "$view/crates/$name/$part"
   done
 }
 
-# what a view has made of its crate goes to the crate's own folder, from an interrupted build as well
+# what a view has made of its crate goes to the crate's own folder, and the view goes, wherever an earlier build was interrupted
 take_back() {
-  [ -d "$1/crates/$2/out" ] || return 0
-  rm -rf "$root/crates/$2/out"
-  mv "$1/crates/$2/out" "$root/crates/$2/out"
+  [ ! -d "$1/crates/$2/out" ] || { rm -rf "$root/crates/$2/out"; mv "$1/crates/$2/out" "$root/crates/$2/out"; }
   rm -rf "$1"
 }
 
@@ -73,9 +88,13 @@ prove() {
   shift 2
   take_back "$view" "$name"
   links_to "$view" "$name" src specs proofs
-  for low in "$@"; do links_to "$view" "$low" src specs proofs out/rlib; done
-  for low in "$@" "$name"; do grep -E "^$low[ :]" "$root/crates.txt"; done >"$view/crates.txt"
-  [ ! -d "$root/crates/$name/out" ] || { rmdir "$view/crates/$name/out"; mv "$root/crates/$name/out" "$view/crates/$name/out"; }
+  for low in "$@"; do
+    mkdir -p "$view/crates/$low/out"
+    links_to "$view" "$low" src specs proofs out/rlib
+  done
+  for low in "$@" "$name"; do grep -E "^${low}[ :]" "$root/crates.txt"; done >"$view/crates.txt"
+  # the view has no `out` of its own before this: take_back would put it in the place of the crate's
+  [ ! -d "$root/crates/$name/out" ] || mv "$root/crates/$name/out" "$view/crates/$name/out"
   (cd "$view/crates/$name" && exec rt lib --jobs "$jobs") >"$root/crates/asl/out/build-$name.log" 2>&1 </dev/null || status=$?
   take_back "$view" "$name"
   return $status
@@ -102,6 +121,7 @@ build_libraries() {
     [ ${#builds[@]} -gt 0 ] || { echo "asl: crates.txt has crates that stand on one another" >&2; exit 1; }
     if wait -n -p pid "${!builds[@]}"; then :; else
       name=${builds[$pid]}
+      # shellcheck disable=SC2046  # each process is a word
       kill $(jobs -p) 2>/dev/null || :
       fail "$name" "$root/crates/asl/out/build-$name.log"
     fi
@@ -121,20 +141,25 @@ build_libraries() {
 }
 
 build() {
-  local began
+  local began state version
   began=$(date +%s.%N)
+  state=$(list_sources)
   command -v rt >/dev/null || { echo "asl: the command rt of the Rattle kit is needed to build" >&2; exit 1; }
+  version=$(rt version) || :
+  [[ $version == *" logic $logic" ]] ||
+    { echo "asl: a Rattle kit of the logic $logic is needed to build; rt version says: $version" >&2; exit 1; }
   mkdir -p "$root/crates/asl/out"
   : >"$log"
   build_libraries
   (cd "$root/crates/asl" && rt run -- --help) >>"$log" 2>&1 </dev/null || fail asl "$log"
   # as old as the beginning of the build: what was changed meanwhile is newer
   touch -d "@$began" "$binary"
+  echo "$state" >"$list"
 }
 
 if is_stale; then
   exec 9>"$root/.asl-build-lock"
-  flock 9
+  flock -n 9 || { echo "asl: waits for another build of this repository" >&2; flock 9; }
   if is_stale; then build; fi
   exec 9>&-
 fi
