@@ -1,6 +1,5 @@
 -- How a process ends (docs/LIMITS.md, "Refusals of the program asl").
-use Rattle.std.specs.Prelude.{◌≡◌, ◌⊎◌, ℕ, List, [], Option}
-use Rattle.std.specs.Io.KnownBytes.{Appends}
+use Rattle.std.specs.Prelude.{◌≡◌, ◌⊎◌, ℕ, List, Option}
 use Rattle.asl_tool.specs.Tool.{EndsWith}
 use Rattle.asl.specs.declared.process.WordsFault.{WordsFault}
 use Rattle.asl.specs.declared.process.WordsFault.TheVariants.{NotText, OutOfMemory}
@@ -10,8 +9,8 @@ abbrev pub words_status : WordsFault → ℕ
 words_status NotText = 2
 words_status OutOfMemory = 1
 
--- the process ends as the tool does with some words, or its words are no text; then it reads and writes nothing
--- (of the system it is not said which words it hands over)
-abbrev pub EndsProcess : Type 0 → Option (List ℕ) → Option (List ℕ) → Option (List ℕ) → ℕ → Type 0
-EndsProcess unread known old new status =
-    ((words : List (List ℕ)) × EndsWith words unread known old new status) ⊎ (unread × ((status ≡ 2) × Appends old new []))
+-- the process ends as the tool does with some words, or its words are no text; then the streams that it reads and writes are
+-- the very values that they were (of the system it is not said which words it hands over)
+abbrev pub EndsProcess : Type 0 → Type 0 → Option (List ℕ) → Option (List ℕ) → Option (List ℕ) → ℕ → Type 0
+EndsProcess unread unwritten known old new status =
+    ((words : List (List ℕ)) × EndsWith words unread unwritten known old new status) ⊎ (unread × (unwritten × (status ≡ 2)))

@@ -37,8 +37,9 @@ pub fn run_process<H: Env + Threads + Wait + Sync, R: Read, W: Write, E: Write>(
     output: &mut W,
     errors: &mut E,
 ) -> ExitCode
-    ensures ends { EndsProcess (input.new ≡ input.old) (R.remaining input.old) (W.contents output.old) (W.contents output.new) (exit_status result) }
-    ensures quiet { exit_status result ≡ 0 → E.contents errors.new ≡ E.contents errors.old }
+    ensures ends { EndsProcess (input.new ≡ input.old) (output.new ≡ output.old)
+        (R.remaining input.old) (W.contents output.old) (W.contents output.new) (exit_status result) }
+    ensures quiet { exit_status result ≡ 0 → errors.new ≡ errors.old }
 {
     let status = match process_words(rt, alloc) {
         Ok(words) => tool(rt, alloc, words.as_slice(), input, output, errors),

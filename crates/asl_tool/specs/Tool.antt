@@ -1,6 +1,8 @@
 -- What a run of the program leaves in the writer, by what the words ask for and what the reader had (docs/LIMITS.md,
--- "Refusals of the program asl").
-use Rattle.std.specs.Prelude.{◌≡◌, ◌≤◌, ◌⊎◌, ℕ, List, [], Option, None, Some, IfSome, length}
+-- "Refusals of the program asl"). `unread` and `unwritten` stand for what the contracts put there: that the reader, or the
+-- writer, is the very value that it was at first. That is more than that its bytes are the same: of a writer that may be any
+-- one no call is known to keep the value, not even a flush.
+use Rattle.std.specs.Prelude.{◌≡◌, ◌≤◌, ◌⊎◌, ℕ, List, Option, None, Some, IfSome, length}
 use Rattle.std.specs.Io.KnownBytes.{Appends}
 use Rattle.asl_words.specs.declared.command.Command.{Command}
 use Rattle.asl_words.specs.declared.command.Team.{Team}
@@ -48,25 +50,26 @@ pub record WritesPart (known old new : Option (List ℕ)) (promise : Promise) : 
   pub made : promise.output input output
   pub part : AppendsPart old new output
 
--- the input is refused, and the writer got nothing
-pub record RefusesInput (known old new : Option (List ℕ)) (promise : Promise) (cause : CommandFault) : Type 0 where
+-- the input is refused, and the writer is as it was
+pub record RefusesInput (unwritten : Type 0) (known : Option (List ℕ)) (promise : Promise) (cause : CommandFault) : Type 0 where
   pub input : List ℕ
   pub whole : IsWhole known input
   pub refused : promise.refusal input cause
-  pub nothing : Appends old new []
+  pub nothing : unwritten
 
--- what each fault leaves: only one of the writer leaves anything in it. Want of memory for the words is no fault of a command
-abbrev pub Refuses : Option (List ℕ) → Option (List ℕ) → Option (List ℕ) → Promise → ToolFault → Type 0
-Refuses known old new promise (fault.Read cause) = IsReadFault known cause × Appends old new []
-Refuses known old new promise (fault.Command cause) = RefusesInput known old new promise cause
-Refuses known old new promise (fault.Write cause) = WritesPart known old new promise
-Refuses known old new promise fault.OutOfMemory = ⊥
+-- what each fault leaves: all but one of the writer leave the writer as it was. Want of memory for the words is no fault of a
+-- command
+abbrev pub Refuses : Type 0 → Option (List ℕ) → Option (List ℕ) → Option (List ℕ) → Promise → ToolFault → Type 0
+Refuses unwritten known old new promise (fault.Read cause) = IsReadFault known cause × unwritten
+Refuses unwritten known old new promise (fault.Command cause) = RefusesInput unwritten known promise cause
+Refuses unwritten known old new promise (fault.Write cause) = WritesPart known old new promise
+Refuses unwritten known old new promise fault.OutOfMemory = ⊥
 
 -- the status of a command, with what the writer got: 0 with the output, 1 with a refusal
-abbrev pub IsCommandStatus : Option (List ℕ) → Option (List ℕ) → Option (List ℕ) → Promise → ℕ → Type 0
-IsCommandStatus known old new promise status =
+abbrev pub IsCommandStatus : Type 0 → Option (List ℕ) → Option (List ℕ) → Option (List ℕ) → Promise → ℕ → Type 0
+IsCommandStatus unwritten known old new promise status =
     ((status ≡ 0) × WritesOutput known old new promise)
-    ⊎ ((status ≡ 1) × ((f : ToolFault) × Refuses known old new promise f))
+    ⊎ ((status ≡ 1) × ((f : ToolFault) × Refuses unwritten known old new promise f))
 
 -- the status of a text that is shown: 0 with the text, 1 with a first part of it
 abbrev pub IsTextStatus : Option (List ℕ) → Option (List ℕ) → List ℕ → ℕ → Type 0
@@ -78,17 +81,18 @@ IsAsked words (Some invocation) = AsksFor words invocation
 IsAsked words None = Unit {0}
 
 -- the status of what was asked, with what the writer got: 2 is for wrong usage alone. Unless a command was asked for, the
--- reader is as it was (`unread`)
-abbrev pub IsStatus : Type 0 → Option (List ℕ) → Option (List ℕ) → Option (List ℕ) → ℕ → Option Invocation → Type 0
-IsStatus unread known old new status (Some (Run command)) = IsCommandStatus known old new (of_command command) status
-IsStatus unread known old new status (Some (Work team)) = IsCommandStatus known old new (of_team team) status
-IsStatus unread known old new status (Some (Help text)) = unread × IsTextStatus old new text.bytes.items status
-IsStatus unread known old new status (Some (WrongUsage text)) = unread × ((status ≡ 2) × Appends old new [])
-IsStatus unread known old new status None = unread × ((status ≡ 1) × Appends old new [])
+-- reader is as it was (`unread`); where there is nothing to write, the writer is as it was (`unwritten`)
+abbrev pub IsStatus : Type 0 → Type 0 → Option (List ℕ) → Option (List ℕ) → Option (List ℕ) → ℕ → Option Invocation → Type 0
+IsStatus unread unwritten known old new status (Some (Run command)) = IsCommandStatus unwritten known old new (of_command command) status
+IsStatus unread unwritten known old new status (Some (Work team)) = IsCommandStatus unwritten known old new (of_team team) status
+IsStatus unread unwritten known old new status (Some (Help text)) = unread × IsTextStatus old new text.bytes.items status
+IsStatus unread unwritten known old new status (Some (WrongUsage text)) = unread × (unwritten × (status ≡ 2))
+IsStatus unread unwritten known old new status None = unread × (unwritten × (status ≡ 1))
 
 -- the status is that of what the words ask for
-abbrev pub EndsWith : List (List ℕ) → Type 0 → Option (List ℕ) → Option (List ℕ) → Option (List ℕ) → ℕ → Type 0
-EndsWith words unread known old new status = (asked : Option Invocation) × IsAsked words asked × IsStatus unread known old new status asked
+abbrev pub EndsWith : List (List ℕ) → Type 0 → Type 0 → Option (List ℕ) → Option (List ℕ) → Option (List ℕ) → ℕ → Type 0
+EndsWith words unread unwritten known old new status =
+    (asked : Option Invocation) × IsAsked words asked × IsStatus unread unwritten known old new status asked
 
 -- not the command `run`
 abbrev pub IsNoWork : Option Invocation → Type 0
@@ -96,9 +100,9 @@ IsNoWork (Some (Work team)) = ⊥
 IsNoWork asked = Unit {0}
 
 -- the same where the words do not ask for `run`
-abbrev pub EndsAlone : List (List ℕ) → Type 0 → Option (List ℕ) → Option (List ℕ) → Option (List ℕ) → ℕ → Type 0
-EndsAlone words unread known old new status =
-    (asked : Option Invocation) × IsNoWork asked × IsAsked words asked × IsStatus unread known old new status asked
+abbrev pub EndsAlone : List (List ℕ) → Type 0 → Type 0 → Option (List ℕ) → Option (List ℕ) → Option (List ℕ) → ℕ → Type 0
+EndsAlone words unread unwritten known old new status =
+    (asked : Option Invocation) × IsNoWork asked × IsAsked words asked × IsStatus unread unwritten known old new status asked
 
 -- the words ask for `run`
 abbrev pub AsksForWork : List (List ℕ) → Type 0

@@ -39,6 +39,7 @@ pub enum ToolFault {
 
 /// Does what the words ask for: reads from `reader`, writes to `writer`, says on `errors` what went wrong, and answers
 /// the exit status: 0 done, 1 refused, 2 wrong usage. Faults of `errors` count for nothing. Only the command `run` waits.
+/// Status 2, and a refusal unless its fault is `Write`, leave the value of `writer` as it was, status 0 that of `errors`.
 pub fn tool<H: Threads + Wait + Sync, R: Read, W: Write, E: Write>(
     rt: &H,
     alloc: Global,
@@ -47,8 +48,9 @@ pub fn tool<H: Threads + Wait + Sync, R: Read, W: Write, E: Write>(
     writer: &mut W,
     errors: &mut E,
 ) -> u8
-    ensures status { EndsWith (map string_bytes words.now) (reader.new ≡ reader.old) (R.remaining reader.old) (W.contents writer.old) (W.contents writer.new) result }
-    ensures quiet { result ≡ 0 → E.contents errors.new ≡ E.contents errors.old }
+    ensures status { EndsWith (map string_bytes words.now) (reader.new ≡ reader.old) (writer.new ≡ writer.old)
+        (R.remaining reader.old) (W.contents writer.old) (W.contents writer.new) result }
+    ensures quiet { result ≡ 0 → errors.new ≡ errors.old }
 {
     match read_words(alloc, words) {
         Ok(Invocation::Run(command)) => performed(alloc, &command, reader, writer, errors),
@@ -68,9 +70,10 @@ pub fn tool_alone<R: Read, W: Write, E: Write>(
     errors: &mut E,
 ) -> Option<u8>
     ensures status { MatchOption result (AsksForWork (map string_bytes words.now))
-        (EndsAlone (map string_bytes words.now) (reader.new ≡ reader.old) (R.remaining reader.old) (W.contents writer.old) (W.contents writer.new)) }
+        (EndsAlone (map string_bytes words.now) (reader.new ≡ reader.old) (writer.new ≡ writer.old)
+        (R.remaining reader.old) (W.contents writer.old) (W.contents writer.new)) }
     ensures untouched { IfNone result ((reader.new ≡ reader.old) × (writer.new ≡ writer.old) × (errors.new ≡ errors.old)) }
-    ensures quiet { IfSome result (λ status. status ≡ 0 → E.contents errors.new ≡ E.contents errors.old) }
+    ensures quiet { IfSome result (λ status. status ≡ 0 → errors.new ≡ errors.old) }
 {
     match read_words(alloc, words) {
         Ok(Invocation::Run(command)) => Some(performed(alloc, &command, reader, writer, errors)),
@@ -89,9 +92,9 @@ fn performed<R: Read, W: Write, E: Write>(
     writer: &mut W,
     errors: &mut E,
 ) -> u8
-    ensures status { IsCommandStatus (R.remaining reader.old) (W.contents writer.old) (W.contents writer.new)
-        (of_command command.now) result }
-    ensures quiet { result ≡ 0 → E.contents errors.new ≡ E.contents errors.old }
+    ensures status { IsCommandStatus (writer.new ≡ writer.old) (R.remaining reader.old)
+        (W.contents writer.old) (W.contents writer.new) (of_command command.now) result }
+    ensures quiet { result ≡ 0 → errors.new ≡ errors.old }
 {
     let done = perform(alloc, command, reader, writer);
     status_of(done, errors)
@@ -106,9 +109,9 @@ fn worked<H: Threads + Wait + Sync, R: Read, W: Write, E: Write>(
     writer: &mut W,
     errors: &mut E,
 ) -> u8
-    ensures status { IsCommandStatus (R.remaining reader.old) (W.contents writer.old) (W.contents writer.new)
-        (of_team team) result }
-    ensures quiet { result ≡ 0 → E.contents errors.new ≡ E.contents errors.old }
+    ensures status { IsCommandStatus (writer.new ≡ writer.old) (R.remaining reader.old)
+        (W.contents writer.old) (W.contents writer.new) (of_team team) result }
+    ensures quiet { result ≡ 0 → errors.new ≡ errors.old }
 {
     let done = perform_run(rt, alloc, team, reader, writer);
     status_of(done, errors)
@@ -117,7 +120,7 @@ fn worked<H: Threads + Wait + Sync, R: Read, W: Write, E: Write>(
 /// Shows a text, and answers the status.
 fn shown<W: Write, E: Write>(text: &str, writer: &mut W, errors: &mut E) -> u8
     ensures status { IsTextStatus (W.contents writer.old) (W.contents writer.new) text.now result }
-    ensures quiet { result ≡ 0 → E.contents errors.new ≡ E.contents errors.old }
+    ensures quiet { result ≡ 0 → errors.new ≡ errors.old }
 {
     match write_whole(writer, text.as_bytes()) {
         Ok(()) => DONE,
@@ -143,7 +146,8 @@ pub fn perform<R: Read, W: Write>(
     ensures ok { OnOk result
         (WritesOutput (R.remaining reader.old) (W.contents writer.old) (W.contents writer.new) (of_command command.now)) }
     ensures err { IfErr result
-        (Refuses (R.remaining reader.old) (W.contents writer.old) (W.contents writer.new) (of_command command.now)) }
+        (Refuses (writer.new ≡ writer.old) (R.remaining reader.old) (W.contents writer.old) (W.contents writer.new)
+        (of_command command.now)) }
 {
     match read_whole(alloc, reader) {
         Ok(input) => answer(alloc, command, input.as_slice(), writer),
@@ -162,7 +166,8 @@ pub fn perform_run<H: Threads + Wait + Sync, R: Read, W: Write>(
     ensures ok { OnOk result
         (WritesOutput (R.remaining reader.old) (W.contents writer.old) (W.contents writer.new) (of_team team)) }
     ensures err { IfErr result
-        (Refuses (R.remaining reader.old) (W.contents writer.old) (W.contents writer.new) (of_team team)) }
+        (Refuses (writer.new ≡ writer.old) (R.remaining reader.old) (W.contents writer.old) (W.contents writer.new)
+        (of_team team)) }
 {
     match read_whole(alloc, reader) {
         Ok(input) => answer_run(rt, alloc, team, input.as_slice(), writer),
@@ -181,7 +186,8 @@ fn answer<W: Write>(
     ensures ok { OnOk result
         (WritesOutput (Some input.now) (W.contents writer.old) (W.contents writer.new) (of_command command.now)) }
     ensures err { IfErr result
-        (Refuses (Some input.now) (W.contents writer.old) (W.contents writer.new) (of_command command.now)) }
+        (Refuses (writer.new ≡ writer.old) (Some input.now) (W.contents writer.old) (W.contents writer.new)
+        (of_command command.now)) }
 {
     match output_of(alloc, command, input) {
         Ok(output) => match write_whole(writer, output.as_slice()) {
@@ -204,7 +210,8 @@ fn answer_run<H: Threads + Wait + Sync, W: Write>(
     ensures ok { OnOk result
         (WritesOutput (Some input.now) (W.contents writer.old) (W.contents writer.new) (of_team team)) }
     ensures err { IfErr result
-        (Refuses (Some input.now) (W.contents writer.old) (W.contents writer.new) (of_team team)) }
+        (Refuses (writer.new ≡ writer.old) (Some input.now) (W.contents writer.old) (W.contents writer.new)
+        (of_team team)) }
 {
     match run_output(rt, alloc, team, input) {
         Ok(output) => match write_whole(writer, output.as_slice()) {
@@ -218,7 +225,7 @@ fn answer_run<H: Threads + Wait + Sync, W: Write>(
 /// The exit status; a fault's line goes to `errors`.
 fn status_of<E: Write>(done: Result<(), ToolFault>, errors: &mut E) -> u8
     ensures status { MatchResult done (λ _. result ≡ 0) (λ _. result ≡ 1) }
-    ensures quiet { result ≡ 0 → E.contents errors.new ≡ E.contents errors.old }
+    ensures quiet { result ≡ 0 → errors.new ≡ errors.old }
 {
     match done {
         Ok(()) => DONE,

@@ -1,5 +1,4 @@
-use Rattle.std.proofs.Common.{rules, ◌≡◌, List, [], ℕ, Some, map, string_bytes, refl, subst}
-use Rattle.std.specs.Io.KnownBytes.{Appends}
+use Rattle.std.proofs.Common.{rules, ◌≡◌, List, ℕ, Some, map, string_bytes, refl, subst}
 use Rattle.asl_words.specs.Words.{AsksFor}
 use Rattle.asl_words.specs.declared.command.Invocation.TheVariants.{Run, Work, Help, WrongUsage}
 use Rattle.asl_tool.specs.Tool.{IsTextStatus}
@@ -25,5 +24,4 @@ returns-in-Ok-Help-clause-status g c =
 pub returns-in-Ok-WrongUsage-clause-status : goal.returns-in-Ok-WrongUsage-clause-status
 returns-in-Ok-WrongUsage-clause-status g c =
     let asks = subst (AsksFor (map string_bytes c.args.words.now)) c.in-Ok-WrongUsage.field-0-is c.in-Ok-WrongUsage.ensures in
-    let nothing : Appends (g.W.Write.contents c.args.writer.now) (g.W.Write.contents c.args.writer.now) [] = search rules in
-    (Some (WrongUsage c.in-Ok-WrongUsage.text), asks, (refl, (c.wrong_usage.ensures, nothing)))
+    (Some (WrongUsage c.in-Ok-WrongUsage.text), asks, (refl, (refl, c.wrong_usage.ensures)))
