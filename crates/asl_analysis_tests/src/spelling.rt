@@ -18,7 +18,7 @@ pub fn lock(text: &str) -> Option<Lock> {
                 if let Some(effect) = effect(word) {
                     return Some(Lock::Expr(Expr { base, path }, effect));
                 }
-                if path.len() == Path::MOST {
+                if path.len() == Path::MAX_LEN {
                     return None;
                 }
                 path.push(op(word)?);

@@ -9,19 +9,18 @@ use Rattle.asl_assembler.specs.declared.assembly.AsmFault.TheVariants.{Line, Ver
 
 -- The text is refused with this error: its first line that is not as its place asks, or, where all lines are right, the
 -- first rule that the image which they spell breaks. Want of memory hides no line: the text spells an image
--- (docs/LIMITS.md)
 abbrev pub IsFault : List ℕ → AsmFault → Type 0
 IsFault text (Line number) = IsBadLine (lines_of text) number
 IsFault text (Verify cause) = (image : Image) × Spells text image × IsAnswer image cause
 IsFault text OutOfMemory = (image : Image) × Spells text image
 
--- The text spells this image, which is a program's (docs/ASSEMBLY.md)
+-- The text spells this image, which is a program's
 pub record IsProgramText (text : List ℕ) (image : Image) : Type 0 where
   pub spelled : Spells text image
   pub verified : IsVerified image
 
 -- The outcome of the text, where memory is there: the program that it is assembled as, or the error that it is refused
--- with (docs/ASSEMBLY.md, docs/LIMITS.md)
+-- with
 abbrev pub IsOutcome : List ℕ → Result Image AsmFault → Type 0
 IsOutcome text (Ok image) = IsProgramText text image
 IsOutcome text (Err fault) = IsFault text fault × (fault ≢ OutOfMemory)

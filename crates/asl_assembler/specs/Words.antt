@@ -5,36 +5,36 @@ use Rattle.std.specs.Char.{is_ascii_digit}
 use Rattle.asl_assembler.specs.declared.keyword.Keyword.{Keyword}
 use Rattle.asl_assembler.specs.declared.keyword.Keyword.TheVariants as keyword
 
--- A byte at the front of the first line (docs/ASSEMBLY.md)
+-- A byte at the front of the first line
 abbrev pub with_first : ℕ → List (List ℕ) → List (List ℕ)
 with_first b [] = (b ∷ []) ∷ []
 with_first b (line ∷ lines) = (b ∷ line) ∷ lines
 
--- The lines of a text: a line feed (10) ends a line, and the last line may lack it (docs/ASSEMBLY.md)
+-- The lines of a text: a line feed (10) ends a line, and the last line may lack it
 abbrev pub lines_of : List ℕ → List (List ℕ)
 lines_of [] = []
 lines_of (b ∷ bs) = if b == 10 then [] ∷ lines_of bs else with_first b (lines_of bs)
 
--- What stands between words: spaces, tabs, commas and carriage returns (docs/ASSEMBLY.md)
+-- What stands between words: spaces, tabs, commas and carriage returns
 abbrev pub is_separator : ℕ → Bool
 is_separator b = (b == 32) || (b == 9) || (b == 44) || (b == 13)
 
--- Whether a word stands at the front (docs/ASSEMBLY.md)
+-- Whether a word stands at the front
 abbrev pub begins_word : List ℕ → Bool
 begins_word [] = false
 begins_word (b ∷ bs) = not (is_separator b)
 
--- The words of a line: the longest parts without a separator (docs/ASSEMBLY.md)
+-- The words of a line: the longest parts without a separator
 abbrev pub words_of : List ℕ → List (List ℕ)
 words_of [] = []
 words_of (b ∷ bs) = if is_separator b then words_of bs else (if begins_word bs then with_first b (words_of bs) else (b ∷ []) ∷ words_of bs)
 
--- What decimal digits are worth behind digits that are worth `high` (docs/ASSEMBLY.md)
+-- What decimal digits are worth behind digits that are worth `high`
 abbrev pub worth_after : ℕ → List ℕ → ℕ
 worth_after high [] = high
 worth_after high (d ∷ ds) = worth_after (10 * high + (d - 48)) ds
 
--- The word is the number n: one to ten decimal digits, and a value in the field's range (docs/ASSEMBLY.md)
+-- The word is the number n: one to ten decimal digits, and a value in the field's range
 pub record IsNumber (below : ℕ) (word : List ℕ) (n : ℕ) : Type 0 where
   pub digits : IsTrue (list_all is_ascii_digit word)
   pub some : 0 < length word
@@ -42,16 +42,16 @@ pub record IsNumber (below : ℕ) (word : List ℕ) (n : ℕ) : Type 0 where
   pub value : n ≡ worth_after 0 word
   pub fits : n < below
 
--- The word is a mark, and behind it a number (docs/ASSEMBLY.md)
+-- The word is a mark, and behind it a number
 abbrev pub IsMarked : ℕ → ℕ → List ℕ → ℕ → Type 0
 IsMarked mark below [] n = ⊥
 IsMarked mark below (c ∷ word) n = (c ≡ mark) × IsNumber below word n
 
--- The word is a 32-bit integer: a number, or `-` (45) and a number (docs/ASSEMBLY.md)
+-- The word is a 32-bit integer: a number, or `-` (45) and a number
 abbrev pub IsInteger : List ℕ → ℤ → Type 0
 IsInteger word z = ((n : ℕ) × IsNumber (2 ^ 31) word n × (z ≡ pos n)) ⊎ ((n : ℕ) × IsMarked 45 (2 ^ 31 + 1) word n × (z ≡ neg_ℤ (pos n)))
 
--- How a keyword is written (docs/ASSEMBLY.md)
+-- How a keyword is written
 abbrev pub name_of : Keyword → List ℕ
 name_of keyword.Version = codes "version"
 name_of keyword.Classes = codes "classes"
@@ -84,8 +84,8 @@ name_of keyword.Rel = codes "rel"
 name_of keyword.Read = codes "read"
 name_of keyword.Write = codes "write"
 
--- What a word can be: a keyword; a number of 8 or of 16 bits, or a signed one of 32 bits; a register `r0`,
--- a global `g0`; of a path `*` and `.0` (docs/ASSEMBLY.md)
+-- What a word can be: a keyword; a number of 8 or of 16 bits, or a signed one of 32 bits; a register `r0`, a global
+-- `g0`; of a path `*` and `.0`
 pub data Token : Type 0 where
   Name : Keyword → Token
   Byte : ℕ → Token
@@ -96,7 +96,7 @@ pub data Token : Type 0 where
   Star : Token
   Offset : ℕ → Token
 
--- The word is such a token (docs/ASSEMBLY.md)
+-- The word is such a token
 abbrev pub IsWord : Token → List ℕ → Type 0
 IsWord (Name k) word = word ≡ name_of k
 IsWord (Byte n) word = IsNumber 256 word n
@@ -107,7 +107,7 @@ IsWord (GlobalName n) word = IsMarked 103 65536 word n
 IsWord Star word = word ≡ codes "*"
 IsWord (Offset n) word = IsMarked 46 256 word n
 
--- The words are these tokens, one for one (docs/ASSEMBLY.md)
+-- The words are these tokens, one for one
 abbrev pub AreWords : List Token → List (List ℕ) → Type 0
 AreWords [] [] = Unit {0}
 AreWords [] (word ∷ words) = ⊥

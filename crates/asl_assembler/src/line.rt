@@ -117,7 +117,7 @@ fn with_path(base: Base, line: &[u8]) -> Option<Lock>
     while let Some((word, behind)) = next_word(rest) {
         match operation(word) {
             Some(op) => {
-                if path.len() == Path::MOST {
+                if path.len() == Path::MAX_LEN {
                     return None;
                 }
                 path.push(op);

@@ -10,10 +10,10 @@ use Rattle.asl_machine.specs.declared.reply.Reply.{Reply}
 use Rattle.asl_machine.specs.State.{State}
 use Rattle.asl_machine.specs.Run.{IsReached, start_of, state_after}
 use Rattle.asl_machine.specs.Step.{StepOf, Step}
-use Rattle.asl_machine.specs.Sound.{IsSound}
-use Rattle.asl_machine.specs.Twin.{step_of, step_at}
+use Rattle.asl_machine.specs.WellFormed.{SatisfiesInvariant}
+use Rattle.asl_machine.specs.StepFunction.{step_of, step_at}
 use Rattle.asl_machine.proofs.Reached.{step_count}
-use Rattle.asl_machine.proofs.Soundness.{start_sound, step_sound, length-first_threads}
+use Rattle.asl_machine.proofs.Invariant.{start_sound, step_sound, length-first_threads}
 use Rattle.asl_machine.proofs.Table.{step_is}
 use Rattle.asl_machine.proofs.Unique.{step_only}
 use Rattle.asl_atomicity.specs.Serial as run
@@ -53,7 +53,7 @@ counted_there image s t c =
     ]
 
 -- the computed run goes by the table
-taken_run : (image : Image) (count : ℕ) (ts : List ℕ) (s : State) → IsSound image s → length s.threads ≡ count → All (λ t. t < count) ts → IsRun image s (taken image s ts) (state_after image s ts)
+taken_run : (image : Image) (count : ℕ) (ts : List ℕ) (s : State) → SatisfiesInvariant image s → length s.threads ≡ count → All (λ t. t < count) ts → IsRun image s (taken image s ts) (state_after image s ts)
 taken_run image count [] s sound n there = refl
 taken_run image count (t ∷ ts) s sound n there = (
   refl,
@@ -63,7 +63,7 @@ taken_run image count (t ∷ ts) s sound n there = (
 )
 
 -- so does one in which every step counts
-counted_run : (image : Image) (ts : List ℕ) (s : State) → IsSound image s → AllCount image s ts → IsRun image s (taken image s ts) (state_after image s ts)
+counted_run : (image : Image) (ts : List ℕ) (s : State) → SatisfiesInvariant image s → AllCount image s ts → IsRun image s (taken image s ts) (state_after image s ts)
 counted_run image [] s sound c = refl
 counted_run image (t ∷ ts) s sound c = (
   refl,
@@ -78,7 +78,7 @@ record IsTaken (image : Image) (count : ℕ) (s : State) (steps : List TakenStep
   leads : end ≡ state_after image s (threads_of steps)
   there : All (λ t. t < count) (threads_of steps)
 
-run_taken : (image : Image) (count : ℕ) (steps : List TakenStep) (s : State) (end : State) → IsSound image s → length s.threads ≡ count → IsRun image s steps end → IsTaken image count s steps end
+run_taken : (image : Image) (count : ℕ) (steps : List TakenStep) (s : State) (end : State) → SatisfiesInvariant image s → length s.threads ≡ count → IsRun image s steps end → IsTaken image count s steps end
 run_taken image count [] s end sound n e = record { is = refl; leads = e; there = All-nil (λ t. t < count) }
 run_taken image count (step ∷ steps) s end sound n e =
     let only = step_only image s step.thread sound step.reply e.1 e.2 in

@@ -9,7 +9,7 @@ use Rattle.asl_machine.specs.declared.reply.Reply.TheVariants as reply
 use Rattle.asl_machine.specs.State.{Activity, State, depth_at}
 use Rattle.asl_machine.specs.Run.{IsReached, start_of, state_after}
 use Rattle.asl_machine.specs.Request.{request_of, locks_of}
-use Rattle.asl_machine.specs.Twin.{step_of}
+use Rattle.asl_machine.specs.StepFunction.{step_of}
 use Rattle.asl_atomicity.specs.Serial.{heard, is_outside, IsInside, ListCovered, IsAtEntry}
 use Rattle.asl_atomicity.specs.Renamed.{Renaming, reply_by, IsRenamed, Keeps}
 

@@ -27,7 +27,7 @@ use Rattle.asl_machine.specs.declared.fate.Fate.TheVariants as fate
 use Rattle.asl_machine.specs.State.{Object, cell_at, class_of, written}
 use Rattle.asl_lock_expr.specs.Expression.{cell_of, pointed, base_cell, walked, path_cell}
 use Rattle.asl_machine.specs.Request.{heap_of, cell_asks, leaf_asks, asks_of, all_asks, joined_all, request_of}
-use Rattle.asl_machine.specs.Twin.{holding_after, release_fate, holding_released}
+use Rattle.asl_machine.specs.StepFunction.{holding_after, release_fate, holding_released}
 use Rattle.asl_machine.specs.Fresh.{PointElsewhere}
 use Rattle.asl_machine.proofs.Heaps.{class_there, pointed_value, class_of-written, size_of-written}
 use Rattle.asl_lock_expr.proofs.Walks.{star_reads, moved_stays}

@@ -16,9 +16,9 @@ use Rattle.asl_code.specs.declared.path.Op.TheVariants.{Deref, Off}
 use Rattle.asl_lock_expr.specs.Expression.{cell_of, pointed, base_cell, moved, walked, path_cell, cell_denoted}
 use Rattle.asl_machine.specs.State.{Object, cell_at, class_of, new_object}
 use Rattle.asl_machine.specs.Access.{Points, AllPoint}
-use Rattle.asl_machine.specs.Sound.{AreSound}
+use Rattle.asl_machine.specs.WellFormed.{AreWellFormed}
 use Rattle.asl_machine.specs.Request.{heap_of, leaf_asks, cell_asks, asks_of, all_asks, joined_all, request_of}
-use Rattle.asl_machine.specs.Twin.{address_or_bounds, made_objects}
+use Rattle.asl_machine.specs.StepFunction.{address_or_bounds, made_objects}
 use Rattle.asl_machine.proofs.Lists.{get_before}
 use Rattle.asl_machine.proofs.Heaps.{global_points, moved_points}
 use Rattle.asl_atomicity.proofs.Stores.{object_of}
@@ -34,7 +34,7 @@ pointed_there objects (Int n) points = tt
 pointed_there objects Null points = tt
 pointed_there objects (Addr o i) points = points
 
-module _ (image : Image) (objects more : List Object) (sound : AreSound image objects) where
+module _ (image : Image) (objects more : List Object) (sound : AreWellFormed image objects) where
   object_kept : (c : Cell) → IsSome (cell_at objects c) → slice_get (objects ++ more) c.object ≡ slice_get objects c.object
   object_kept c there = let p = object_of objects c there in get_before objects more c.object p.0 p.1 ∙ sym p.1
 
@@ -91,7 +91,7 @@ module _ (image : Image) (objects more : List Object) (sound : AreSound image ob
         ap₂ (λ a b. a ++ b) (ap (cell_asks (objects ++ more) effect) path.0 ∙ asks_kept effect (cell_denoted (heap_of objects) regs e) path.1) (all_kept ls there.1)
 
 -- the same request over one object more, if there is room for it
-pub request_grown : (image : Image) (objects : List Object) (cells class : ℕ) → AreSound image objects → (regs : List Value) → AllPoint objects regs → (ls : List Lock) → HasGlobals (length image.globals) ls
+pub request_grown : (image : Image) (objects : List Object) (cells class : ℕ) → AreWellFormed image objects → (regs : List Value) → AllPoint objects regs → (ls : List Lock) → HasGlobals (length image.globals) ls
     → request_of (made_objects objects cells class) regs ls ≡ request_of objects regs ls
 request_grown image objects cells class sound regs points ls there = by_room (length objects == 65536)
   where

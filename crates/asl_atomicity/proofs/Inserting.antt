@@ -12,9 +12,9 @@ use Rattle.asl_machine.specs.declared.reply.Reply.{Reply}
 use Rattle.asl_machine.specs.declared.reply.Reply.TheVariants as reply
 use Rattle.asl_machine.specs.State.{Thread, Running, Done, Failed, Activity, State, depth_at}
 use Rattle.asl_machine.specs.Run.{state_after}
-use Rattle.asl_machine.specs.Twin.{step_of, step_at}
-use Rattle.asl_machine.specs.Sound.{IsSound}
-use Rattle.asl_machine.proofs.Soundness.{here_of, instr_here, step_sound}
+use Rattle.asl_machine.specs.StepFunction.{step_of, step_at}
+use Rattle.asl_machine.specs.WellFormed.{SatisfiesInvariant}
+use Rattle.asl_machine.proofs.Invariant.{here_of, instr_here, step_sound}
 use Rattle.asl_atomicity.specs.Serial.{heard}
 use Rattle.asl_atomicity.proofs.Computed.{told, outside, AllCount, IsSerial, IsGuarded}
 use Rattle.asl_atomicity.proofs.Swapping.{AreOthers, Stands, InSection}
@@ -105,7 +105,7 @@ module _ (image : Image) (count : ℕ) (fits : FitsImage image) (guarded : IsGua
       by_option (Some (Done v)) = refl
       by_option (Some (Failed w)) = refl
 
-  run_both : (p : Renaming) (us : List ℕ) (a b : State) → IsSound image a → Keeps p.new (length image.globals) (length a.objects) → IsRenamed p.new a b → Both p.new a b us
+  run_both : (p : Renaming) (us : List ℕ) (a b : State) → SatisfiesInvariant image a → Keeps p.new (length image.globals) (length a.objects) → IsRenamed p.new a b → Both p.new a b us
   run_both p [] a b sound keeps same = record { state = same; replies = λ x. refl; counts = λ c. c; serial = λ before c. c; order = refl }
   run_both p (u ∷ us) a b sound keeps same =
       let k = step_both p image a b u sound keeps same in

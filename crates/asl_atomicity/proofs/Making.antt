@@ -26,8 +26,8 @@ use Rattle.asl_machine.specs.Access.{Points}
 use Rattle.asl_machine.specs.Cover.{is_fresh}
 use Rattle.asl_machine.specs.Fresh.{AreApart}
 use Rattle.asl_machine.specs.Step.{after, made_fresh, having_made}
-use Rattle.asl_machine.specs.Sound.{IsSound, AreSuspended}
-use Rattle.asl_machine.specs.Twin.{Stepped, turn_by, left_at, step_at, step_of}
+use Rattle.asl_machine.specs.WellFormed.{SatisfiesInvariant, AreSuspended}
+use Rattle.asl_machine.specs.StepFunction.{Stepped, turn_by, left_at, step_at, step_of}
 use Rattle.asl_machine.proofs.Lists.{get_other, get_before, get_last, is_there}
 use Rattle.asl_machine.proofs.Heaps.{many_globals}
 use Rattle.asl_machine.proofs.Freshness.{fresh_got}
@@ -91,7 +91,7 @@ module _ (xs : List Object) (y z : Object) where
 past_two : (n k : ℕ) → n ≤ k → k ≢ n → k ≢ n + 1 → n + 1 + 1 ≤ k
 past_two n k le ne also = omega (arith, le, ne, also)
 
-module _ (image : Image) (s : State) (sound : IsSound image s) (fr : AreApart image s) (ended : AllEnded s) where
+module _ (image : Image) (s : State) (sound : SatisfiesInvariant image s) (fr : AreApart image s) (ended : AllEnded s) where
   abbrev n : ℕ
   n = length s.objects
 

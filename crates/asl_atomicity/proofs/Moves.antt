@@ -7,9 +7,9 @@ use Rattle.asl_code.specs.declared.image.Image.{Image}
 use Rattle.asl_machine.specs.declared.reply.Reply.{Reply}
 use Rattle.asl_machine.specs.State.{Thread, Activity, State, activity_of, depth_at}
 use Rattle.asl_machine.specs.Run.{start_of, state_after}
-use Rattle.asl_machine.specs.Twin.{step_of, step_at}
+use Rattle.asl_machine.specs.StepFunction.{step_of, step_at}
 use Rattle.asl_machine.proofs.Lists.{get_other}
-use Rattle.asl_machine.proofs.Soundness.{step_sound}
+use Rattle.asl_machine.proofs.Invariant.{step_sound}
 use Rattle.asl_atomicity.specs.Serial.{heard, IsInside}
 use Rattle.asl_atomicity.proofs.Computed.{told, AllCount, IsSerial, AreAlike}
 use Rattle.asl_atomicity.proofs.Swapping.{AreOthers, Stands, CanSwap}

@@ -8,7 +8,7 @@ use Rattle.asl_machine.specs.declared.reply.Reply.{Reply}
 use Rattle.asl_machine.specs.declared.reply.Reply.TheVariants as reply
 use Rattle.asl_machine.specs.State.{Running, Activity, State, depth_at}
 use Rattle.asl_machine.specs.Run.{state_after}
-use Rattle.asl_machine.specs.Twin.{step_of}
+use Rattle.asl_machine.specs.StepFunction.{step_of}
 use Rattle.asl_atomicity.specs.Serial.{heard, is_outside, IsInside}
 use Rattle.asl_atomicity.specs.Renamed.{reply_by}
 use Rattle.asl_atomicity.proofs.Computed.{outside_of, outside, AllCount}

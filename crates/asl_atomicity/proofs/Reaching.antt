@@ -6,11 +6,11 @@ use Rattle.std.proofs.lemmas.List.Elements.{All-nil, All-cons}
 use Rattle.asl_code.specs.declared.image.Image.{Image}
 use Rattle.asl_machine.specs.State.{State}
 use Rattle.asl_machine.specs.Run.{IsReached, start_of, state_after}
-use Rattle.asl_machine.specs.Twin.{step_of, step_at}
+use Rattle.asl_machine.specs.StepFunction.{step_of, step_at}
 use Rattle.asl_machine.specs.Fresh.{AreApart}
 use Rattle.asl_machine.proofs.Reached.{step_count}
 use Rattle.asl_machine.proofs.ReachedApart.{reached_apart}
-use Rattle.asl_machine.proofs.Soundness.{length-first_threads}
+use Rattle.asl_machine.proofs.Invariant.{length-first_threads}
 use Rattle.asl_atomicity.proofs.Swapping.{Stands}
 
 -- a schedule of threads below the count that leads from one state to the other

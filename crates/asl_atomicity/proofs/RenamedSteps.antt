@@ -21,9 +21,9 @@ use Rattle.asl_machine.specs.Cover.{cover}
 use Rattle.asl_machine.specs.Request.{request_of, locks_of}
 use Rattle.asl_code.specs.Bodies.{first_of}
 use Rattle.asl_machine.specs.Step.{is_zero, advanced, going_on, called, left_last, after}
-use Rattle.asl_machine.specs.Twin.{Left, Turn, Stepped, register_of, truth, added, subtracted, compared, same_value, address_moved, accessed, loaded, jump_left, show_left, call_left, return_left, acquire_fate, activity_moved, holding_acquired, acquire_left, release_left, left_by, left_at, reply_of, thread_after, holding_after, turn_by, step_at, step_of}
-use Rattle.asl_machine.specs.Sound.{IsSound}
-use Rattle.asl_machine.proofs.Soundness.{here_of, instr_here}
+use Rattle.asl_machine.specs.StepFunction.{Left, Turn, Stepped, register_of, truth, added, subtracted, compared, same_value, address_moved, accessed, loaded, jump_left, show_left, call_left, return_left, acquire_fate, activity_moved, holding_acquired, acquire_left, release_left, left_by, left_at, reply_of, thread_after, holding_after, turn_by, step_at, step_of}
+use Rattle.asl_machine.specs.WellFormed.{SatisfiesInvariant}
+use Rattle.asl_machine.proofs.Invariant.{here_of, instr_here}
 use Rattle.asl_atomicity.specs.Renamed.{Renaming, value_by, reply_by, frame_by, activity_by, thread_by, IsRenamed, Keeps}
 use Rattle.asl_atomicity.proofs.Uniform.{place_at}
 use Rattle.asl_atomicity.proofs.RenamedObjects.{fate_by, LeftBy, with_regs, replicate_by, set_by, reg_by, operate_by, truth_by, same_value_by, moved_address_by, accessed_register, loaded_by, store_by, make_by}
@@ -264,7 +264,7 @@ module _ (p : Renaming) where
     pub state : IsRenamed p.new one.state other.state
 
   -- a state with other numbers replies alike and leaves a state with other numbers
-  module _ (image : Image) (s z : State) (t : ℕ) (sound : IsSound image s) (keeps : Keeps p.new (length image.globals) (length s.objects)) (same : IsRenamed p.new s z) where
+  module _ (image : Image) (s z : State) (t : ℕ) (sound : SatisfiesInvariant image s) (keeps : Keeps p.new (length image.globals) (length s.objects)) (same : IsRenamed p.new s z) where
     by_turn : (thread : Thread) (l m : Turn) → slice_get s.threads t ≡ Some thread → TurnBy p.new l m →
         StepBy (record { reply = l.reply; state = after s t l.thread l.objects l.holding }) (record { reply = m.reply; state = after z t m.thread m.objects m.holding })
     by_turn thread l m is k = record {

@@ -14,10 +14,10 @@ use Rattle.asl_machine.specs.declared.reply.Reply.TheVariants as reply
 use Rattle.asl_machine.specs.State.{Thread, Running, Done, Failed, Activity, State, activity_of, depth_at}
 use Rattle.asl_machine.specs.Run.{first_thread, first_threads, start_of, state_after}
 use Rattle.asl_machine.specs.Step.{At, Line, StepOf}
-use Rattle.asl_machine.specs.Twin.{step_of}
-use Rattle.asl_machine.specs.Sound.{IsSound}
+use Rattle.asl_machine.specs.StepFunction.{step_of}
+use Rattle.asl_machine.specs.WellFormed.{SatisfiesInvariant}
 use Rattle.asl_machine.proofs.Lists.{one_more}
-use Rattle.asl_machine.proofs.Soundness.{start_sound}
+use Rattle.asl_machine.proofs.Invariant.{start_sound}
 use Rattle.asl_machine.proofs.Reached.{step_count}
 use Rattle.asl_machine.proofs.Table.{step_is}
 use Rattle.asl_atomicity.specs.Serial.{heard, IsInside}
@@ -119,7 +119,7 @@ unheard_step image s t (Some (Running a)) r n h e = unheard_line (record { image
 unheard_step image s t (Some (Done v)) r n h e = h.1
 unheard_step image s t (Some (Failed f)) r n h e = h.1
 
-pub unheard : (image : Image) (s : State) (t : ℕ) → IsSound image s → t < length s.threads → heard (step_of image s t).reply ≡ [] → (step_of image s t).state ≡ s
+pub unheard : (image : Image) (s : State) (t : ℕ) → SatisfiesInvariant image s → t < length s.threads → heard (step_of image s t).reply ≡ [] → (step_of image s t).state ≡ s
 unheard image s t sound there e = unheard_step image s t (slice_get s.threads t) (step_of image s t).reply (step_of image s t).state (step_is image s t sound there) e
 
 pub tell_heard : (r : Reply) → (heard r ≡ []) ⊎ (heard r ≢ [])

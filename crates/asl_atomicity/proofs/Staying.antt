@@ -23,11 +23,11 @@ use Rattle.asl_machine.specs.Calls.{frame_count}
 use Rattle.asl_machine.specs.Cover.{Cover, cover}
 use Rattle.asl_machine.specs.Access.{Points}
 use Rattle.asl_machine.specs.Run.{first_thread, first_threads, start_of, state_after}
-use Rattle.asl_machine.specs.Twin.{Stepped, register_of, fate_of, computed, added, subtracted, compared, address_or_bounds, address_moved, allowed_cell, accessed, loaded, fate_returned, acquire_fate, left_by, left_at, reply_of, thread_after, turn_by, step_at, step_of}
-use Rattle.asl_machine.specs.Sound.{IsSound, IsPlaced}
+use Rattle.asl_machine.specs.StepFunction.{Stepped, register_of, fate_of, computed, added, subtracted, compared, address_or_bounds, address_moved, allowed_cell, accessed, loaded, fate_returned, acquire_fate, left_by, left_at, reply_of, thread_after, turn_by, step_at, step_of}
+use Rattle.asl_machine.specs.WellFormed.{SatisfiesInvariant, IsPlaced}
 use Rattle.asl_machine.proofs.Lists.{get_either, one_more}
 use Rattle.asl_machine.proofs.Heaps.{length-written, points_within}
-use Rattle.asl_machine.proofs.Soundness.{after_same, here_of, instr_here, start_sound, step_sound}
+use Rattle.asl_machine.proofs.Invariant.{after_same, here_of, instr_here, start_sound, step_sound}
 use Rattle.asl_atomicity.specs.Serial.{heard}
 use Rattle.asl_atomicity.specs.Renamed.{reply_by}
 use Rattle.asl_atomicity.proofs.Computed.{told}
@@ -206,7 +206,7 @@ pub record Steps (image : Image) (s : State) (t : ℕ) : Type 0 where
   pub reply : ReplyOf (length s.objects) (step_of image s t).reply
   pub ended : (u : ℕ) (x : Thread) → slice_get (step_of image s t).state.threads u ≡ Some x → (slice_get s.threads u ≡ Some x) ⊎ EndedOf (length s.objects) x
 
-module _ (image : Image) (s : State) (t : ℕ) (sound : IsSound image s) where
+module _ (image : Image) (s : State) (t : ℕ) (sound : SatisfiesInvariant image s) where
   -- a step that leaves the state
   left_alone : (o : Option Thread) → slice_get s.threads t ≡ o → (step_at image s t o).reply ≡ reply.Ended → (step_at image s t o).state ≡ s → Steps image s t
   left_alone o is ended same =
@@ -250,7 +250,7 @@ module _ (image : Image) (s : State) (t : ℕ) (sound : IsSound image s) where
 abbrev pub AllEnded : State → Type 0
 AllEnded s = (u : ℕ) (x : Thread) → slice_get s.threads u ≡ Some x → EndedOf (length s.objects) x
 
-pub step_ended : (image : Image) (s : State) (t : ℕ) → IsSound image s → AllEnded s → AllEnded (step_of image s t).state
+pub step_ended : (image : Image) (s : State) (t : ℕ) → SatisfiesInvariant image s → AllEnded s → AllEnded (step_of image s t).state
 step_ended image s t sound all u x e =
     let k = steps image s t sound in
     elim (k.ended u x e) [
@@ -258,7 +258,7 @@ step_ended image s t sound all u x e =
       | inr of ↦ more_ended (length s.objects) (length (step_of image s t).state.objects) k.grows x of
     ]
 
-run_ended : (image : Image) (us : List ℕ) (s : State) → IsSound image s → AllEnded s → AllEnded (state_after image s us)
+run_ended : (image : Image) (us : List ℕ) (s : State) → SatisfiesInvariant image s → AllEnded s → AllEnded (state_after image s us)
 run_ended image [] s sound all = all
 run_ended image (u ∷ us) s sound all = run_ended image us (step_of image s u).state (step_sound image s u sound) (step_ended image s u sound all)
 
@@ -273,13 +273,13 @@ start_ended image (suc n) count u x e = elim (one_more (first_threads image n) (
 pub reached_ended : (image : Image) (count : ℕ) (us : List ℕ) → FitsImage image → AllEnded (state_after image (start_of image count) us)
 reached_ended image count us fits = run_ended image us (start_of image count) (start_sound image count fits) (λ u x e. start_ended image count (length (start_of image count).objects) u x e)
 
-pub run_grows : (image : Image) (us : List ℕ) (s : State) → IsSound image s → length s.objects ≤ length (state_after image s us).objects
+pub run_grows : (image : Image) (us : List ℕ) (s : State) → SatisfiesInvariant image s → length s.objects ≤ length (state_after image s us).objects
 run_grows image [] s sound = le_self (length s.objects)
 run_grows image (u ∷ us) s sound =
     le_le (length s.objects) (length (step_of image s u).state.objects) (length (state_after image (step_of image s u).state us).objects) (steps image s u sound).grows (run_grows image us (step_of image s u).state (step_sound image s u sound))
 
 -- what a thread is told speaks of objects that are there then
-pub told_stays : (image : Image) (f : ℕ → ℕ) (us : List ℕ) (s : State) (x : ℕ) → IsSound image s → ((n : ℕ) → n < length (state_after image s us).objects → f n ≡ n) → each (reply_by f) (told image s x us) ≡ told image s x us
+pub told_stays : (image : Image) (f : ℕ → ℕ) (us : List ℕ) (s : State) (x : ℕ) → SatisfiesInvariant image s → ((n : ℕ) → n < length (state_after image s us).objects → f n ≡ n) → each (reply_by f) (told image s x us) ≡ told image s x us
 told_stays image f [] s x sound stays = refl
 told_stays image f (u ∷ us) s x sound stays =
     let next = (step_of image s u).state in

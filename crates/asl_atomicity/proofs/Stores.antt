@@ -8,7 +8,7 @@ use Rattle.std.proofs.lemmas.Option.{slice_get_within}
 use Rattle.asl_code.specs.declared.value.Value.{Value}
 use Rattle.asl_code.specs.declared.value.Cell.{Cell}
 use Rattle.asl_machine.specs.State.{Object, cell_at, with_cell, written, new_object}
-use Rattle.asl_machine.specs.Twin.{made_objects}
+use Rattle.asl_machine.specs.StepFunction.{made_objects}
 use Rattle.asl_machine.proofs.Lists.{get_same, get_other, get_before}
 use Rattle.asl_machine.proofs.Heaps.{length-written}
 use Rattle.asl_atomicity.proofs.Uniform.{ObjectsEdit, Same, Stored, Made, put}

@@ -5,8 +5,8 @@ use Rattle.asl_code.specs.declared.instr.Instr.TheVariants as instr
 use Rattle.asl_lock_forest.specs.Holding.{can_grant}
 use Rattle.asl_machine.specs.State.{Activity, Running, State}
 use Rattle.asl_machine.specs.Request.{request_of, locks_of}
-use Rattle.asl_machine.specs.Sound.{IsSound}
-use Rattle.asl_machine.specs.Twin.{step_of}
+use Rattle.asl_machine.specs.WellFormed.{SatisfiesInvariant}
+use Rattle.asl_machine.specs.StepFunction.{step_of}
 use Rattle.asl_machine.specs.Run.{start_of, state_after}
 use Rattle.asl_atomicity.specs.Serial.{heard, IsInside}
 
@@ -21,7 +21,7 @@ InRun image count s = (schedule : List ℕ) × (s ≡ state_after image (start_o
 
 -- a sound state of a run
 abbrev pub Stands : Image → ℕ → State → Type 0
-Stands image count s = IsSound image s × InRun image count s
+Stands image count s = SatisfiesInvariant image s × InRun image count s
 
 -- the thread runs and is inside a section
 pub record InSection (s : State) (thread : ℕ) : Type 0 where

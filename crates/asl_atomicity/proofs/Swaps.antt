@@ -18,11 +18,11 @@ use Rattle.asl_machine.proofs.Freshness.{or_split, allowed_pairs}
 use Rattle.asl_machine.specs.Access.{AllPoint}
 use Rattle.asl_machine.specs.Request.{request_of, locks_of}
 use Rattle.asl_machine.specs.Step.{after}
-use Rattle.asl_machine.specs.Twin.{Turn, Stepped, register_of, turn_by, left_at, step_at, step_of}
-use Rattle.asl_machine.specs.Sound.{IsSound}
+use Rattle.asl_machine.specs.StepFunction.{Turn, Stepped, register_of, turn_by, left_at, step_at, step_of}
+use Rattle.asl_machine.specs.WellFormed.{SatisfiesInvariant}
 use Rattle.asl_machine.proofs.Lists.{get_other}
 use Rattle.asl_machine.proofs.Heaps.{length-written}
-use Rattle.asl_machine.proofs.Soundness.{here_of, instr_here}
+use Rattle.asl_machine.proofs.Invariant.{here_of, instr_here}
 use Rattle.asl_atomicity.specs.Serial.{heard}
 use Rattle.asl_atomicity.proofs.Swapping.{CanSwap, InSection, EntryUnseen, EntriesUnseen}
 use Rattle.asl_atomicity.proofs.Uniform.{ObjectsEdit, Same, Stored, Made, put, edit, edits_commute, IsNew, Unseen, Uniform, uniform, place_at}
@@ -101,7 +101,7 @@ pub far_apart : (image : Image) (s : State) → AreApart image s → (x y : ℕ)
 far_apart image s fr x y a b apart runs also o f =
     (fr.registers x y o a apart (ap (λ z. is_fresh (option_map_or (λ (d : Activity). d.fresh) z []) o) (ap (option_and_then activity_of) also) ∙ f) (ap (option_and_then activity_of) runs)).0
 
-module _ (image : Image) (s : State) (u t : ℕ) (sound : IsSound image s) (fr : AreApart image s) (apart : u ≢ t) (inside : InSection s t) (entry : EntryUnseen image s u t) (b : Activity) (runs : slice_get s.threads u ≡ Some (Running b))
+module _ (image : Image) (s : State) (u t : ℕ) (sound : SatisfiesInvariant image s) (fr : AreApart image s) (apart : u ≢ t) (inside : InSection s t) (entry : EntryUnseen image s u t) (b : Activity) (runs : slice_get s.threads u ≡ Some (Running b))
     (one_makes : (i j : Instr) → slice_get image.code inside.activity.top.pc ≡ Some i → slice_get image.code b.top.pc ≡ Some j → IsNew i → IsNew j → ⊥) where
   pub swapped :
       let one = step_of image (step_of image s u).state t in

@@ -25,7 +25,7 @@ use Rattle.asl_machine.specs.State.{Object, Frame, Thread, Activity}
 use Rattle.asl_machine.specs.Cover.{cover}
 use Rattle.asl_machine.specs.Step.{having_made}
 use Rattle.asl_machine.specs.Request.{request_of, locks_of}
-use Rattle.asl_machine.specs.Twin.{Place, Left, activity_moved, register_of, address_moved, made_objects, accessed, loaded, objects_stored, holding_after, release_fate, holding_released, acquire_fate, holding_acquired, left_by, turn_by, set_left, store_left, make_left, acquire_left}
+use Rattle.asl_machine.specs.StepFunction.{Place, Left, activity_moved, register_of, address_moved, made_objects, accessed, loaded, objects_stored, holding_after, release_fate, holding_released, acquire_fate, holding_acquired, left_by, turn_by, set_left, store_left, make_left, acquire_left}
 
 -- what a step does to the objects
 pub data ObjectsEdit : Type 0 where

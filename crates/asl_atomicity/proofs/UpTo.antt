@@ -11,8 +11,8 @@ use Rattle.asl_machine.specs.declared.fault.Fault.TheVariants as fault
 use Rattle.asl_machine.specs.declared.reply.Reply.TheVariants as reply
 use Rattle.asl_machine.specs.State.{Thread, Running, Done, Failed, State, depth_at}
 use Rattle.asl_machine.specs.Run.{start_of, state_after}
-use Rattle.asl_machine.specs.Twin.{step_of}
-use Rattle.asl_machine.proofs.Soundness.{start_sound, length-first_threads}
+use Rattle.asl_machine.specs.StepFunction.{step_of}
+use Rattle.asl_machine.proofs.Invariant.{start_sound, length-first_threads}
 use Rattle.asl_atomicity.specs.Serial.{heard}
 use Rattle.asl_atomicity.proofs.Computed.{told, outside, AllCount, IsSerial, IsGuarded, FindsRoomInside, HasSerialRunsUpTo}
 use Rattle.asl_atomicity.proofs.Swapping.{Stands, InSection}

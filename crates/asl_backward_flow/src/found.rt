@@ -11,7 +11,7 @@ use std::alloc::{AllocError, Global};
 use std::collections::VecDeque;
 
 /// The most locks that a region may need.
-const MOST: usize = 4096;
+const MAX_LOCKS: usize = 4096;
 
 /// That a region needs a lock at a pc: the region by its place among the spans, the lock by its number in the region.
 #[derive(Clone, Copy)]
@@ -87,7 +87,7 @@ impl Found {
     {
         let region = &mut self.parts[usize::from(part)];
         let number = number(&mut region.locks, lock)?;
-        if region.locks.len() > MOST {
+        if region.locks.len() > MAX_LOCKS {
             return Err(AddFault::Many(part));
         }
         let place = usize::from(pc - region.first);

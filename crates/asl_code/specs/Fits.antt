@@ -1,5 +1,6 @@
 -- What a verified image is, read as facts: what it has, and what holds of the instruction at each place of its code
--- (docs/LIMITS.md, "Rules of an image"). The law verified_images_fit says that these images are the verified ones.
+-- (docs/LIMITS.md, "Rules of an image"). The law verified_images_fit says that these images are the verified ones. See
+-- docs/INSTRUCTIONS.md.
 use Rattle.std.specs.Prelude.{◌≡◌, ℕ, ◌+◌, ◌<◌, ◌≤◌, false, List, length, Some, slice_get, All}
 use Rattle.asl_code.specs.Bodies.{first_of, total_len}
 use Rattle.asl_code.specs.Verified.{is_end}
@@ -13,43 +14,42 @@ use Rattle.asl_code.specs.declared.lock.Base.TheVariants.{Reg, Global}
 use Rattle.asl_code.specs.declared.lock.Lock.{Lock}
 use Rattle.asl_code.specs.declared.lock.Lock.TheVariants as lock
 
--- the place lies in the body of the function of this number, which is this one (docs/INSTRUCTIONS.md)
+-- the place lies in the body of the function of this number, which is this one
 pub record LiesIn (i : Image) (number pc : ℕ) (f : Function) : Type 0 where
   pub function : slice_get i.functions number ≡ Some f
   pub low : first_of i.functions number ≤ pc
   pub high : pc < first_of i.functions number + f.len
 
--- the function has an instruction, a register for each parameter, and no more than the limits (docs/LIMITS.md)
+-- the function has an instruction, a register for each parameter, and no more than the limits
 pub record FitsFunction (f : Function) : Type 0 where
   pub some : 0 < f.len
   pub params : f.params ≤ f.regs
   pub few_params : f.params ≤ 4
   pub few_regs : f.regs ≤ 64
 
--- the global that the base names is there (docs/LIMITS.md, Table)
+-- the global that the base names is there
 abbrev pub HasBase : Image → Base → Type 0
 HasBase i (Reg register) = Unit {0}
 HasBase i (Global global) = global < length i.globals
 
--- the class or the global that the lock names is there (docs/LIMITS.md, Table)
+-- the class or the global that the lock names is there
 abbrev pub HasLock : Image → Lock → Type 0
 HasLock i (lock.Root effect) = Unit {0}
 HasLock i (lock.Class class effect) = class < i.classes
 HasLock i (lock.Expr expr effect) = HasBase i expr.base
 
--- what the base names is there: the function has the register, or the image the global (docs/LIMITS.md, Table, ListBase)
+-- what the base names is there: the function has the register, or the image the global
 abbrev pub FitsBase : Image → Function → Base → Type 0
 FitsBase i f (Reg register) = register < f.regs
 FitsBase i f (Global global) = global < length i.globals
 
--- what the lock names is there, where the function asks for it (docs/LIMITS.md, Table, ListBase)
+-- what the lock names is there, where the function asks for it
 abbrev pub FitsLock : Image → Function → Lock → Type 0
 FitsLock i f (lock.Root effect) = Unit {0}
 FitsLock i f (lock.Class class effect) = class < i.classes
 FitsLock i f (lock.Expr expr effect) = FitsBase i f expr.base
 
 -- what an instruction names is there, in the function of this number, and its jump stays in the body
--- (docs/LIMITS.md, Target, Register, Operand, ListBase)
 abbrev pub FitsInstr : Image → ℕ → Function → Instr → Type 0
 FitsInstr i n f (SetInt to value) = to < f.regs
 FitsInstr i n f (SetNull to) = to < f.regs
@@ -71,9 +71,9 @@ FitsInstr i n f (Output from) = from < f.regs
 FitsInstr i n f (Acquire list) = (locks : List Lock) × (slice_get i.lists list ≡ Some locks) × All (FitsLock i f) locks
 FitsInstr i n f Release = Unit {0}
 
--- the facts of a verified image (docs/LIMITS.md, "Rules of an image"): the version is 1 or 2, the counts are within their
--- limits, what the tables name is there, the bodies are the code, each instruction fits its body, and after an instruction that is no end
--- of a body the body goes on
+-- the facts of a verified image: the version is 1 or 2, the counts are within their limits, what the tables name is
+-- there, the bodies are the code, each instruction fits its body, and after an instruction that is no end of a body the
+-- body goes on
 pub record FitsImage (i : Image) : Type 0 where
   pub version : IsVersion i.version
   pub few_classes : i.classes ≤ 1024

@@ -3,7 +3,7 @@ use Rattle.asl_code.specs.declared.value.Effect.{Effect}
 use Rattle.asl_code.specs.declared.lock.Lock.{Lock}
 use Rattle.asl_code.specs.declared.lock.Lock.TheVariants as lock
 
--- what a lock is for: reading or writing (docs/LOCKS.md, Requests)
+-- what a lock is for: reading or writing
 abbrev pub effect_of : Lock → Effect
 effect_of (lock.Root effect) = effect
 effect_of (lock.Class class effect) = effect

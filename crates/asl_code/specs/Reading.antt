@@ -12,7 +12,7 @@ pub record Row : Type 0 where
   pub greatest : ℕ
   pub made : ℕ → ℕ → ℕ → ℕ → Instr
 
--- the rows from op 1 on (docs/BYTES.md, "Instructions")
+-- the rows from op 1 on
 abbrev pub rows : List Row
 rows =
     record { used = 1; greatest = 4294967295; made = λ a b c d. SetInt a (cast_signed w32 d) }

@@ -6,11 +6,11 @@ use Rattle.asl_code.specs.declared.instr.Instr.TheVariants.{SetInt, SetNull, Mov
 use Rattle.asl_code.specs.declared.value.Value.{Value}
 use Rattle.asl_code.specs.declared.value.Value.TheVariants.{Int, Null, Addr}
 
--- the eight bytes of the fields op, a, b, c and d (docs/BYTES.md, "Instructions")
+-- the eight bytes of the fields op, a, b, c and d
 abbrev pub eight_bytes : ℕ → ℕ → ℕ → ℕ → ℕ → List ℕ
 eight_bytes op a b c d = op ∷ a ∷ b ∷ c ∷ to_be_bytes w32 d
 
--- the bytes of an instruction, a line for each row of the table: a field that the row does not use is 0 (docs/BYTES.md, "Instructions")
+-- the bytes of an instruction, a line for each row of the table: a field that the row does not use is 0
 abbrev pub instr_bytes : Instr → List ℕ
 instr_bytes (SetInt to value) = eight_bytes 1 to 0 0 (cast_unsigned w32 value)
 instr_bytes (SetNull to) = eight_bytes 2 to 0 0 0
@@ -32,7 +32,7 @@ instr_bytes (Output from) = eight_bytes 17 from 0 0 0
 instr_bytes (Acquire list) = eight_bytes 18 0 0 0 list
 instr_bytes Release = eight_bytes 19 0 0 0 0
 
--- each operand is a number of its type (docs/BYTES.md, "Instructions")
+-- each operand is a number of its type
 abbrev pub IsInstr : Instr → Type 0
 IsInstr (SetInt to value) = (to < 256) × FitsSigned w32 value
 IsInstr (SetNull to) = to < 256
@@ -54,66 +54,66 @@ IsInstr (Output from) = from < 256
 IsInstr (Acquire list) = list < 2 ^ 16
 IsInstr Release = Unit {0}
 
--- the bytes spell the instruction (docs/BYTES.md, "Instructions")
+-- the bytes spell the instruction
 pub record SpellsInstr (instr : Instr) (bytes : List ℕ) : Type 0 where
   pub fits : IsInstr instr
   pub spelled : bytes ≡ instr_bytes instr
 
--- how many of the eight bytes there are up to the end of the field at this place: of op, a, b, c and d (docs/BYTES.md, "Instructions")
+-- how many of the eight bytes there are up to the end of the field at this place: of op, a, b, c and d
 abbrev pub field_end : ℕ → ℕ
 field_end place = if nat_lt place 4 then place + 1 else 8
 
--- The first bad field of eight bytes is at this place: some instruction has the fields before it, and none has these and
--- this field (docs/BYTES.md, "Instructions").
+-- The first bad field of eight bytes is at this place: some instruction has the fields before it, and none has these
+-- and this field.
 pub record IsFirstBadField (bytes : List ℕ) (place : ℕ) : Type 0 where
   pub is_field : place ≤ 4
   pub before : (instr : Instr) × IsInstr instr × (take place (instr_bytes instr) ≡ take place bytes)
   pub here : (instr : Instr) → IsInstr instr → take (field_end place) (instr_bytes instr) ≢ take (field_end place) bytes
 
--- the bytes of a value: a kind, and then the integer or the cell (docs/BYTES.md, "Values")
+-- the bytes of a value: a kind, and then the integer or the cell
 abbrev pub value_bytes : Value → List ℕ
 value_bytes (Int n) = 0 ∷ to_be_bytes w32 (cast_unsigned w32 n)
 value_bytes Null = 1 ∷ []
 value_bytes (Addr object offset) = 2 ∷ to_be_bytes w16 object ++ offset ∷ []
 
--- each number is one of its type (docs/BYTES.md, "Values")
+-- each number is one of its type
 abbrev pub IsValue : Value → Type 0
 IsValue (Int n) = FitsSigned w32 n
 IsValue Null = Unit {0}
 IsValue (Addr object offset) = (object < 2 ^ 16) × (offset < 256)
 
--- the bytes spell the value (docs/BYTES.md, "Values")
+-- the bytes spell the value
 pub record SpellsValue (value : Value) (bytes : List ℕ) : Type 0 where
   pub fits : IsValue value
   pub spelled : bytes ≡ value_bytes value
 
--- the first so many of the bytes spell the value (docs/BYTES.md, "Values")
+-- the first so many of the bytes spell the value
 pub record TakesValue (bytes : List ℕ) (value : Value) (count : ℕ) : Type 0 where
   pub within : count ≤ length bytes
   pub front : SpellsValue value (take count bytes)
 
--- the bytes are a proper prefix of a value's bytes (docs/BYTES.md, "Values")
+-- the bytes are a proper prefix of a value's bytes
 abbrev pub BeginsValue : List ℕ → Type 0
 BeginsValue bytes = (value : Value) × (next : ℕ) × (more : List ℕ) × SpellsValue value (bytes ++ next ∷ more)
 
--- a spelling is of one instruction (docs/BYTES.md, "Instructions")
+-- a spelling is of one instruction
 abbrev pub InstrOfSpellingIsOne : Type 0
 InstrOfSpellingIsOne = (i j : Instr) (bytes : List ℕ) → SpellsInstr i bytes → SpellsInstr j bytes → i ≡ j
 
--- an instruction has one spelling (docs/BYTES.md, "Instructions")
+-- an instruction has one spelling
 abbrev pub SpellingOfInstrIsOne : Type 0
 SpellingOfInstrIsOne = (i : Instr) (bytes others : List ℕ) → SpellsInstr i bytes → SpellsInstr i others → bytes ≡ others
 
--- the first bad field is at one place (docs/BYTES.md, "Instructions")
+-- the first bad field is at one place
 abbrev pub FirstBadFieldIsOne : Type 0
 FirstBadFieldIsOne = (bytes : List ℕ) (place other : ℕ) → IsFirstBadField bytes place → IsFirstBadField bytes other → place ≡ other
 
--- a spelling is of one value, whatever follows it: no value's spelling begins another's (docs/BYTES.md, "Values")
+-- a spelling is of one value, whatever follows it: no value's spelling begins another's
 abbrev pub ValueOfSpellingIsOne : Type 0
 ValueOfSpellingIsOne =
     (v w : Value) (bytes others more rest : List ℕ) → SpellsValue v bytes → SpellsValue w others → bytes ++ more ≡ others ++ rest
     → (v ≡ w) × (bytes ≡ others)
 
--- a value has one spelling (docs/BYTES.md, "Values")
+-- a value has one spelling
 abbrev pub SpellingOfValueIsOne : Type 0
 SpellingOfValueIsOne = (v : Value) (bytes others : List ℕ) → SpellsValue v bytes → SpellsValue v others → bytes ≡ others

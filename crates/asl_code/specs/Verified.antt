@@ -17,15 +17,15 @@ use Rattle.asl_code.specs.declared.lock.Lock.TheVariants as lock
 use Rattle.asl_code.specs.declared.fault.VerifyFault.{VerifyFault}
 use Rattle.asl_code.specs.declared.fault.VerifyFault.TheVariants.{Limit, Table, NoEntry, FunctionRange, FallsOut, Target, Register, Operand, ListBase}
 
--- whether the function has at most 4 parameters and 64 registers (docs/LIMITS.md)
+-- whether the function has at most 4 parameters and 64 registers
 abbrev pub keeps_function_limits : Function → Bool
 keeps_function_limits f = nat_le f.params 4 && nat_le f.regs 64
 
--- whether the list has no more locks than its image's version sets (docs/LIMITS.md)
+-- whether the list has no more locks than its image's version sets
 abbrev pub keeps_list_limit : Limits → List Lock → Bool
 keeps_list_limit limits locks = nat_le (length locks) limits.locks
 
--- whether no count is over its limit, under what the version sets (docs/LIMITS.md)
+-- whether no count is over its limit, under what the version sets
 abbrev pub keeps_counts : Limits → Image → Bool
 keeps_counts limits i =
     nat_le i.classes 1024
@@ -36,68 +36,68 @@ keeps_counts limits i =
     && list_all keeps_function_limits i.functions
     && list_all (keeps_list_limit limits) i.lists
 
--- whether there is the image's version, and no count is over its limit (docs/LIMITS.md)
+-- whether there is the image's version, and no count is over its limit
 abbrev pub keeps_limits : Image → Bool
 keeps_limits i = option_map_or (λ limits. keeps_counts limits i) (limits_of i.version) false
 
--- whether the global that the base names is there (docs/LIMITS.md, Table)
+-- whether the global that the base names is there
 abbrev pub has_base : Image → Base → Bool
 has_base i (Reg r) = true
 has_base i (Global g) = nat_lt g (length i.globals)
 
--- whether the class or the global that the lock names is there (docs/LIMITS.md, Table)
+-- whether the class or the global that the lock names is there
 abbrev pub has_lock : Image → Lock → Bool
 has_lock i (lock.Root effect) = true
 has_lock i (lock.Class class effect) = nat_lt class i.classes
 has_lock i (lock.Expr expr effect) = has_base i expr.base
 
--- whether the classes of all globals, and the classes and globals of all locks are there (docs/LIMITS.md, Table)
+-- whether the classes of all globals, and the classes and globals of all locks are there
 abbrev pub has_tables : Image → Bool
 has_tables i = list_all (λ class. nat_lt class i.classes) i.globals && list_all (list_all (has_lock i)) i.lists
 
--- whether the entry function is there and has exactly one parameter (docs/LIMITS.md, NoEntry)
+-- whether the entry function is there and has exactly one parameter
 abbrev pub has_entry : Image → Bool
 has_entry i = option_map_or (λ (f : Function). f.params == 1) (slice_get i.functions i.start) false
 
--- whether the function has an instruction, and a register for each parameter (docs/LIMITS.md, FunctionRange)
+-- whether the function has an instruction, and a register for each parameter
 abbrev pub has_range : Function → Bool
 has_range f = nat_lt 0 f.len && nat_le f.params f.regs
 
--- whether this is so of all functions, and their bodies together are the code (docs/LIMITS.md, FunctionRange)
+-- whether this is so of all functions, and their bodies together are the code
 abbrev pub has_ranges : Image → Bool
 has_ranges i = list_all has_range i.functions && total_len i.functions == length i.code
 
--- whether a function may end with the instruction: it returns or jumps (docs/LIMITS.md, FallsOut)
+-- whether a function may end with the instruction: it returns or jumps
 abbrev pub is_end : Instr → Bool
 is_end (Return from) = true
 is_end (Jump target) = true
 is_end instr = false
 
--- whether the last instruction of the body is one (docs/LIMITS.md, FallsOut)
+-- whether the last instruction of the body is one
 abbrev pub has_end : List Instr → Body → Bool
 has_end code b = option_map_or is_end (slice_get code (b.first + b.function.len - 1)) false
 
--- whether this is so of all bodies (docs/LIMITS.md, FallsOut)
+-- whether this is so of all bodies
 abbrev pub has_ends : Image → Bool
 has_ends i = list_all (has_end i.code) (bodies_from 0 i.functions)
 
--- whether the instruction's jump stays in the body, and the function that it calls is there (docs/LIMITS.md, Target)
+-- whether the instruction's jump stays in the body, and the function that it calls is there
 abbrev pub has_target : Image → Body → Instr → Bool
 has_target i b (Jump target) = is_inside target b
 has_target i b (JumpIfZero test target) = is_inside target b
 has_target i b (Call to first function) = nat_lt function (length i.functions)
 has_target i b instr = true
 
--- whether the function has the register (docs/LIMITS.md, Register)
+-- whether the function has the register
 abbrev pub has_register : Function → ℕ → Bool
 has_register f register = nat_lt register f.regs
 
--- whether the function has the registers from this one on that the called function takes (docs/LIMITS.md, Register)
+-- whether the function has the registers from this one on that the called function takes
 abbrev pub has_arguments : Image → Function → ℕ → ℕ → Bool
 has_arguments i f first function =
     option_map_or (λ (callee : Function). nat_le (first + callee.params) f.regs) (slice_get i.functions function) true
 
--- whether the function has the registers of the instruction (docs/LIMITS.md, Register)
+-- whether the function has the registers of the instruction
 abbrev pub has_registers : Image → Function → Instr → Bool
 has_registers i f (SetInt to value) = has_register f to
 has_registers i f (SetNull to) = has_register f to
@@ -119,39 +119,39 @@ has_registers i f (Output from) = has_register f from
 has_registers i f (Acquire list) = true
 has_registers i f Release = true
 
--- whether the global, class or list that the instruction names is there, and a new object has a cell (docs/LIMITS.md, Operand)
+-- whether the global, class or list that the instruction names is there, and a new object has a cell
 abbrev pub has_operands : Image → Instr → Bool
 has_operands i (GlobalAddress to global) = nat_lt global (length i.globals)
 has_operands i (New to cells class) = nat_lt 0 cells && nat_lt class i.classes
 has_operands i (Acquire list) = nat_lt list (length i.lists)
 has_operands i instr = true
 
--- whether the function has the base, where it is a register (docs/LIMITS.md, ListBase)
+-- whether the function has the base, where it is a register
 abbrev pub has_base_register : Function → Base → Bool
 has_base_register f (Reg r) = has_register f r
 has_base_register f (Global g) = true
 
--- whether the function has the register on which the lock's expression is based, if it is based on one (docs/LIMITS.md, ListBase)
+-- whether the function has the register on which the lock's expression is based, if it is based on one
 abbrev pub has_lock_base : Function → Lock → Bool
 has_lock_base f (lock.Root effect) = true
 has_lock_base f (lock.Class class effect) = true
 has_lock_base f (lock.Expr expr effect) = has_base_register f expr.base
 
--- whether this is so of all locks of the list that an `acq` names (docs/LIMITS.md, ListBase)
+-- whether this is so of all locks of the list that an `acq` names
 abbrev pub has_list_bases : Image → Function → Instr → Bool
 has_list_bases i f (Acquire list) = option_map_or (list_all (has_lock_base f)) (slice_get i.lists list) true
 has_list_bases i f instr = true
 
--- whether both are there, and the instruction does not pass the test in the body (docs/LIMITS.md, "Rules of an image")
+-- whether both are there, and the instruction does not pass the test in the body
 abbrev pub is_failure : (Body → Instr → Bool) → Option Body → Option Instr → Bool
 is_failure passes (Some b) (Some instr) = not (passes b instr)
 is_failure passes b instr = false
 
--- whether an instruction stands at the place and does not pass the test in its body (docs/LIMITS.md, "Rules of an image")
+-- whether an instruction stands at the place and does not pass the test in its body
 abbrev pub fails_at : (Body → Instr → Bool) → Image → ℕ → Bool
 fails_at passes i pc = is_failure passes (body_of i pc) (slice_get i.code pc)
 
--- whether the fault applies, at its place where it names one (docs/LIMITS.md, "Rules of an image")
+-- whether the fault applies, at its place where it names one
 abbrev pub applies : Image → VerifyFault → Bool
 applies i Limit = not (keeps_limits i)
 applies i Table = not (has_tables i)
@@ -163,7 +163,7 @@ applies i (Register pc) = fails_at (λ b. has_registers i b.function) i pc
 applies i (Operand pc) = fails_at (λ b. has_operands i) i pc
 applies i (ListBase pc) = fails_at (λ b. has_list_bases i b.function) i pc
 
--- the line of the verifier's table that the fault is in (docs/LIMITS.md, "Rules of an image")
+-- the line of the verifier's table that the fault is in
 abbrev pub line_of : VerifyFault → ℕ
 line_of Limit = 1
 line_of Table = 2
@@ -175,7 +175,7 @@ line_of (Register pc) = 7
 line_of (Operand pc) = 8
 line_of (ListBase pc) = 9
 
--- the place that the fault names, and 0 where it names none (docs/LIMITS.md, "Rules of an image")
+-- the place that the fault names, and 0 where it names none
 abbrev pub place_of : VerifyFault → ℕ
 place_of (Target pc) = pc
 place_of (Register pc) = pc
@@ -183,15 +183,15 @@ place_of (Operand pc) = pc
 place_of (ListBase pc) = pc
 place_of fault = 0
 
--- whether the first fault is in an earlier line, or in the same line at no later place (docs/LIMITS.md, "Rules of an image")
+-- whether the first fault is in an earlier line, or in the same line at no later place
 abbrev pub ComesFirst : VerifyFault → VerifyFault → Type 0
 ComesFirst f g = (line_of f < line_of g) ⊎ ((line_of f ≡ line_of g) × (place_of f ≤ place_of g))
 
--- the fault that the verifier names: it applies, and comes first of all that apply (docs/LIMITS.md, "Rules of an image")
+-- the fault that the verifier names: it applies, and comes first of all that apply
 pub record IsAnswer (i : Image) (fault : VerifyFault) : Type 0 where
   pub holds : IsTrue (applies i fault)
   pub least : (other : VerifyFault) → IsTrue (applies i other) → ComesFirst fault other
 
--- the image may run: no fault applies (docs/LIMITS.md, "Rules of an image")
+-- the image may run: no fault applies
 abbrev pub IsVerified : Image → Type 0
 IsVerified i = (fault : VerifyFault) → applies i fault ≡ false

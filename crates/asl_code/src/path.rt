@@ -46,7 +46,7 @@ impl Model for Path {
 
 impl Path {
     /// The most operations that a path has.
-    pub const MOST: usize = 8;
+    pub const MAX_LEN: usize = 8;
 
     /// The path of no operation.
     pub fn new() -> Self

@@ -4,11 +4,11 @@ use Rattle.std.proofs.lemmas.List.{take_more, take-append-drop, drop-take, lengt
 use Rattle.std.proofs.lemmas.List.Elements.{All-take, All-map, All-get_or}
 use Rattle.std.proofs.lemmas.Option.{slice_get-get_or, slice_get_within, get_or_from_slice_get}
 use Rattle.asl_code.specs.declared.image.Image.{Image}
-use Rattle.asl_machine.specs.Sound.{MayWantMemory}
+use Rattle.asl_machine.specs.WellFormed.{MayWantMemory}
 use Rattle.asl_machine.specs.State.{State}
 use Rattle.asl_machine.specs.View.{Configuration}
 use Rattle.asl_machine.specs.Run.{start_of, state_after}
-use Rattle.asl_machine.specs.Twin.{step_of}
+use Rattle.asl_machine.specs.StepFunction.{step_of}
 use Rattle.asl_machine.proofs.Reached.{reached_count}
 use Rattle.asl_journal.specs.declared.event.Event.{Event}
 use Rattle.asl_journal.specs.Journal.{Log, IsLog, AreThere, GoesBy, IsJournal, schedule_of}

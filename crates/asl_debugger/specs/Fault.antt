@@ -5,7 +5,7 @@ use Rattle.asl_debugger.specs.declared.fault.DebugFault.{DebugFault}
 use Rattle.asl_debugger.specs.declared.fault.DebugFault.TheVariants as debug
 
 -- the fault of the same name; a debugger steps threads of its journal alone, which are there, so it has no name for
--- another thread (docs/JOURNAL.md, The debugger)
+-- another thread
 abbrev pub debug_fault : MachineFault → DebugFault
 debug_fault machine.BadCount = debug.BadCount
 debug_fault machine.BadThread = debug.OutOfMemory

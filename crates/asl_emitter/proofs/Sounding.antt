@@ -9,7 +9,7 @@ use Rattle.asl_lock_expr.specs.ClassOf.{TellsStores}
 use Rattle.asl_backward_flow.specs.Needed.{Needed}
 use Rattle.asl_soundness.proofs.Analysed.{IsAnalysed}
 use Rattle.asl_soundness.specs.Coded.{IsImageOf}
-use Rattle.asl_soundness.specs.Safe.{StandOver, NeverUnprotected}
+use Rattle.asl_soundness.specs.Safe.{StandOver, NeverFaultsForLocks}
 use Rattle.asl_soundness.proofs.Soundness.{sound_program}
 use Rattle.asl_soundness.proofs.NeededLaws.{needed_analysed}
 use Rattle.asl_emitter.specs.Inferred.{IsInferred}
@@ -36,6 +36,6 @@ inferred_analysed l c stores longest image kept are few tells m =
     } in
     needed_analysed l c stores longest image kept made (λ f x may. (tells f x).1 may) (stand_over l c stores longest image kept are m)
 
-pub inferred_sound : (l : Lowered) (c : Classed) (stores : ℕ → ℕ → Bool) (longest : ℕ) (image : Image) → IsKept l → AreClasses l c → c.count ≤ 1024 → TellsStores l c stores → IsInferred l c stores longest image → NeverUnprotected image
+pub inferred_sound : (l : Lowered) (c : Classed) (stores : ℕ → ℕ → Bool) (longest : ℕ) (image : Image) → IsKept l → AreClasses l c → c.count ≤ 1024 → TellsStores l c stores → IsInferred l c stores longest image → NeverFaultsForLocks image
 inferred_sound l c stores longest image kept are few tells m =
     sound_program l c stores longest (Needed l c stores longest) image (inferred_analysed l c stores longest image kept are few tells m)

@@ -12,7 +12,7 @@ use asl_points_to::Classes;
 use std::alloc::{AllocError, Global};
 
 /// The most locks that a list of an inferred program may have.
-pub const MOST_LOCKS: usize = NEWEST_LIMITS.locks;
+pub const MAX_LOCKS: usize = NEWEST_LIMITS.locks;
 
 /// The locks of a function fitted to a list of at most 256, as many as the newest version has: reduced; where more are left,
 /// their classes, reduced; where more are left still, one lock on the root with the strongest effect (`docs/ANALYSIS.md`, "Lists").
@@ -29,7 +29,7 @@ pub fn fit(
     ensures { IfOk result (λ v. IsFitted classes.now function newest_locks (IsOne given.now) v.items) }
 {
     let fine = reduce(alloc, classes, function, given)?;
-    if fine.len() <= MOST_LOCKS {
+    if fine.len() <= MAX_LOCKS {
         return Ok(fine);
     }
     coarsen(alloc, classes, function, &fine)
@@ -46,7 +46,7 @@ fn coarsen(
 {
     let coarse = as_classes(alloc, classes, function, fine)?;
     let coarse = reduce(alloc, classes, function, &coarse)?;
-    if coarse.len() <= MOST_LOCKS {
+    if coarse.len() <= MAX_LOCKS {
         return Ok(coarse);
     }
     let mut root = Vec::new(alloc);

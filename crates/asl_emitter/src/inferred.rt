@@ -4,7 +4,7 @@ ghost use Rattle.asl_syntax.specs.AstView.{tree_of};
 ghost use Rattle.asl_lower.specs.Kept.{IsKept};
 ghost use Rattle.asl_points_to.specs.Classes.{AreClasses};
 ghost use Rattle.asl_backward_flow.specs.Flows.{IsFlow};
-ghost use Rattle.asl_soundness.specs.Safe.{NeverUnprotected};
+ghost use Rattle.asl_soundness.specs.Safe.{NeverFaultsForLocks};
 ghost use Rattle.asl_atomicity.specs.Serial.{HasSerialRuns};
 ghost use Rattle.asl_atomicity.specs.Renamed.{HasSerialRunsUpTo};
 ghost use Rattle.asl_emitter.specs.Inferred.{IsInferredFor};
@@ -33,7 +33,7 @@ pub fn infer(alloc: Global, ast: &Ast, k: u32) -> Result<Program, InferFault>
     requires { k ≤ 8 }
     ensures inferred { IfOk result (IsInferredFor (tree_of ast.now) k) }
     ensures accepted { IfOk result (λ _. IsAccepted (tree_of ast.now) k) }
-    ensures sound { IfOk result NeverUnprotected }
+    ensures sound { IfOk result NeverFaultsForLocks }
     ensures atomic { IfOk result (λ program. (count : ℕ) → HasSerialRuns program count) }
     ensures atomic_up_to_numbers { IfOk result (λ program. (count : ℕ) → HasSerialRunsUpTo program count) }
     ensures refused { IfErr result (IsRefused (tree_of ast.now) k) }
@@ -56,7 +56,7 @@ fn program(
     requires few { classes.now.count ≤ 1024 }
     requires flow { IsFlow lowering.now classes.now k flow.now }
     ensures made { IfOk result (IsMade lowering.now classes.now flow.now) }
-    ensures sound { IfOk result NeverUnprotected }
+    ensures sound { IfOk result NeverFaultsForLocks }
     ensures atomic { IfOk result (λ program. (count : ℕ) → HasSerialRuns program count) }
     ensures atomic_up_to_numbers { IfOk result (λ program. (count : ℕ) → HasSerialRunsUpTo program count) }
 {

@@ -10,7 +10,7 @@ ghost use Rattle.asl_points_to.specs.Classes.{Classed, AreClasses};
 ghost use Rattle.asl_lock_expr.specs.ClassOf.{TellsStores};
 ghost use Rattle.asl_lock_expr.specs.Links.{IsOne};
 ghost use Rattle.asl_soundness.specs.Over.{StandsOver};
-ghost use Rattle.asl_soundness.specs.Safe.{NeverUnprotected};
+ghost use Rattle.asl_soundness.specs.Safe.{NeverFaultsForLocks};
 ghost use Rattle.asl_atomicity.specs.Serial.{HasSerialRuns};
 ghost use Rattle.asl_atomicity.specs.Renamed.{HasSerialRunsUpTo};
 ghost use Rattle.asl_emitter.specs.declared.fault.InferFault.{InferFault as AnyFault};
@@ -50,7 +50,7 @@ pub fn inferred_images_are_sound()
     ensures verified { (l : Lowered) (c : Classed) (stores : ℕ → ℕ → Bool) (longest : ℕ) (image : Image) → IsKept l → AreClasses l c → c.count ≤ 1024
         → IsInferred l c stores longest image → FitsImage image }
     ensures sound { (l : Lowered) (c : Classed) (stores : ℕ → ℕ → Bool) (longest : ℕ) (image : Image) → IsKept l → AreClasses l c → c.count ≤ 1024
-        → TellsStores l c stores → IsInferred l c stores longest image → NeverUnprotected image }
+        → TellsStores l c stores → IsInferred l c stores longest image → NeverFaultsForLocks image }
     ensures atomic { (l : Lowered) (c : Classed) (stores : ℕ → ℕ → Bool) (longest : ℕ) (image : Image) → IsKept l → AreClasses l c → c.count ≤ 1024
         → TellsStores l c stores → IsInferred l c stores longest image → (count : ℕ) → HasSerialRuns image count }
     ensures atomic_up_to_numbers { (l : Lowered) (c : Classed) (stores : ℕ → ℕ → Bool) (longest : ℕ) (image : Image) → IsKept l → AreClasses l c → c.count ≤ 1024

@@ -10,7 +10,7 @@ mod laws;
 mod reduced;
 
 pub use fault::InferFault;
-pub use fitted::{MOST_LOCKS, fit};
+pub use fitted::{MAX_LOCKS, fit};
 pub use inferred::infer;
 pub use laws::{
     absorbing_is_a_strict_order, fitted_lists_stand_over_their_sets, inferred_images_are_one,

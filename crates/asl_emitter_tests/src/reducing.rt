@@ -2,7 +2,7 @@
 use crate::inferring::WALK;
 use crate::programs::classed;
 use asl_code::{Base, Effect, Expr, Lock, Path};
-use asl_emitter::{MOST_LOCKS, fit, reduce};
+use asl_emitter::{MAX_LOCKS, fit, reduce};
 use asl_points_to::Classes;
 use std::alloc::{AllocError, Global};
 use std::test::Fail;
@@ -83,9 +83,9 @@ fn an_expression_without_a_class_is_dropped_at_the_limit(rt: HostRuntime) -> Res
     let all = fit(rt.alloc(), &classes, 0, &class_locks(rt.alloc(), 255)?)?;
     let dropped = fit(rt.alloc(), &classes, 0, &class_locks(rt.alloc(), 256)?)?;
     let root = fit(rt.alloc(), &classes, 0, &class_locks(rt.alloc(), 257)?)?;
-    assert!(rt; all.len() == MOST_LOCKS && all.last() == Some(&on_register(0, Effect::Write)));
+    assert!(rt; all.len() == MAX_LOCKS && all.last() == Some(&on_register(0, Effect::Write)));
     assert!(rt;
-        dropped.len() == MOST_LOCKS && dropped.last() == Some(&Lock::Class(255, Effect::Read))
+        dropped.len() == MAX_LOCKS && dropped.last() == Some(&Lock::Class(255, Effect::Read))
     );
     assert!(rt; root.as_slice() == [Lock::Root(Effect::Read)].as_slice());
     Ok(())

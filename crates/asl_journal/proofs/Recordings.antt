@@ -10,9 +10,9 @@ use Rattle.asl_code.proofs.Versions.{few_threads}
 use Rattle.asl_machine.specs.State.{State}
 use Rattle.asl_machine.specs.View.{Configuration}
 use Rattle.asl_machine.specs.Run.{IsThreadCount, start_of}
-use Rattle.asl_machine.specs.Twin.{step_of}
+use Rattle.asl_machine.specs.StepFunction.{step_of}
 use Rattle.asl_machine.proofs.Reached.{step_count}
-use Rattle.asl_machine.proofs.Soundness.{length-first_threads}
+use Rattle.asl_machine.proofs.Invariant.{length-first_threads}
 use Rattle.asl_journal.specs.declared.event.Event.{Event}
 use Rattle.asl_journal.specs.Journal.{IsCount, IsJournal, most_events, state_at}
 use Rattle.asl_journal.specs.Recorded.{Fits}

@@ -6,13 +6,12 @@ use Rattle.asl_journal.specs.declared.fault.JournalFault.TheVariants.{Magic, Ver
 use Rattle.asl_journal.specs.Journal.{Log}
 use Rattle.asl_journal.specs.Bytes.{log_fields, HasBytes, SpellsLog}
 
--- no journal has the field of this byte, and all before it are a journal's (docs/JOURNAL.md, Bytes)
+-- no journal has the field of this byte, and all before it are a journal's
 abbrev pub IsBadLogByte : List ℕ → ℕ → Type 0
 IsBadLogByte bytes at = HasBadByte Log HasBytes log_fields bytes at
 
--- The fault is the first thing that is wrong with the bytes, from front to back. The field at byte 0 is the letters, and
--- the one at byte 4 the version. Want of memory hides nothing that is wrong with the bytes: they spell a journal
--- (docs/JOURNAL.md, Bytes).
+-- The fault is the first thing that is wrong with the bytes, from front to back. The field at byte 0 is the letters,
+-- and the one at byte 4 the version. Want of memory hides nothing that is wrong with the bytes: they spell a journal.
 abbrev pub IsBytesFault : List ℕ → JournalFault → Type 0
 IsBytesFault bytes Magic = IsBadLogByte bytes 0
 IsBytesFault bytes Version = IsBadLogByte bytes 4
@@ -22,17 +21,16 @@ IsBytesFault bytes (Trailing at) = (at < length bytes) × ((log : Log) × Spells
 IsBytesFault bytes OutOfMemory = (log : Log) × SpellsLog log bytes
 IsBytesFault bytes fault = ⊥
 
--- The outcome of the bytes, where memory is there: the journal that they spell, or the refusal that they meet
--- (docs/JOURNAL.md, Bytes).
+-- The outcome of the bytes, where memory is there: the journal that they spell, or the refusal that they meet.
 abbrev pub IsOutcome : List ℕ → Result Log JournalFault → Type 0
 IsOutcome bytes (Ok log) = SpellsLog log bytes
 IsOutcome bytes (Err fault) = IsBytesFault bytes fault × (fault ≢ OutOfMemory)
 
--- any bytes have an outcome (docs/JOURNAL.md, Bytes)
+-- any bytes have an outcome
 abbrev pub BytesHaveAnOutcome : Type 0
 BytesHaveAnOutcome = (bytes : List ℕ) → All (λ b. b < 256) bytes → (outcome : Result Log JournalFault) × IsOutcome bytes outcome
 
--- and they have no other (docs/JOURNAL.md, Bytes)
+-- and they have no other
 abbrev pub OutcomeIsOne : Type 0
 OutcomeIsOne =
     (bytes : List ℕ) (outcome other : Result Log JournalFault) → All (λ b. b < 256) bytes → IsOutcome bytes outcome → IsOutcome bytes other

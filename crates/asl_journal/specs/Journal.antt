@@ -10,31 +10,30 @@ use Rattle.asl_journal.specs.declared.event.Event.{Event}
 use Rattle.asl_journal.specs.declared.fault.JournalFault.{JournalFault}
 use Rattle.asl_journal.specs.declared.fault.JournalFault.TheVariants.{JournalFull, BadCount, BadThread}
 
--- how many events a journal has at most (docs/JOURNAL.md, What a journal is)
+-- how many events a journal has at most
 abbrev pub most_events : ℕ
 most_events = 16777216
 
--- the number of threads of a run, and the events in order (docs/JOURNAL.md, What a journal is)
+-- the number of threads of a run, and the events in order
 pub record Log : Type 0 where
   pub threads : ℕ
   pub events : List Event
 
--- there are from 1 thread to as many as the newest version has, which is 128 (docs/JOURNAL.md, What a journal is)
+-- there are from 1 thread to as many as the newest version has, which is 128
 abbrev pub IsCount : ℕ → Type 0
 IsCount count = (0 < count) × (count ≤ newest_threads)
 
--- each event is of a thread that is there (docs/JOURNAL.md, What a journal is)
+-- each event is of a thread that is there
 abbrev pub AreThere : ℕ → List Event → Type 0
 AreThere count events = All (λ event. event.thread < count) events
 
 -- what every journal keeps: 1 to 128 threads, at most 16,777,216 events, and each of a thread that is there
--- (docs/JOURNAL.md, What a journal is)
 pub record IsLog (log : Log) : Type 0 where
   pub count : IsCount log.threads
   pub short : length log.events ≤ most_events
   pub there : AreThere log.threads log.events
 
--- some event is of a thread that is not there (docs/JOURNAL.md, What a journal is)
+-- some event is of a thread that is not there
 pub record HasStranger (log : Log) : Type 0 where
   pub index : ℕ
   pub event : Event
@@ -42,34 +41,31 @@ pub record HasStranger (log : Log) : Type 0 where
   pub stranger : log.threads ≤ event.thread
 
 -- why a number of threads and some events are no journal: the first of these that applies
--- (docs/JOURNAL.md, What a journal is)
 abbrev pub IsNoLog : Log → JournalFault → Type 0
 IsNoLog log JournalFull = most_events < length log.events
 IsNoLog log BadCount = (length log.events ≤ most_events) × ((log.threads ≡ 0) ⊎ (newest_threads < log.threads))
 IsNoLog log BadThread = (length log.events ≤ most_events) × IsCount log.threads × HasStranger log
 IsNoLog log fault = ⊥
 
--- the schedule of events: the threads that stepped, in order (docs/JOURNAL.md, What a journal is)
+-- the schedule of events: the threads that stepped, in order
 abbrev pub schedule_of : List Event → List ℕ
 schedule_of events = map (λ event. event.thread) events
 
--- the replies of events, in order (docs/JOURNAL.md, What a journal is)
+-- the replies of events, in order
 abbrev pub replies_in : List Event → List Reply
 replies_in events = map (λ event. event.reply) events
 
 -- the replies of the events are those of the program's run over their schedule from the state on
--- (docs/JOURNAL.md, What a journal is)
 abbrev pub GoesBy : Image → State → List Event → Type 0
 GoesBy image s events = replies_in events ≡ replies_of image s (schedule_of events)
 
--- the events are a journal of the program with so many threads: it may start with so many, each event is of a thread that
--- is there, and the replies are those of its run over their schedule (docs/JOURNAL.md, What a journal is)
+-- the events are a journal of the program with so many threads: it may start with so many, each event is of a thread
+-- that is there, and the replies are those of its run over their schedule
 pub record IsJournal (image : Image) (count : ℕ) (events : List Event) : Type 0 where
   pub counted : IsThreadCount image count
   pub there : AreThere count events
   pub replies : GoesBy image (start_of image count) events
 
 -- the state to which the schedule of the events leads so many threads of the program
--- (docs/JOURNAL.md, What a journal is)
 abbrev pub state_at : Image → ℕ → List Event → State
 state_at image count events = state_after image (start_of image count) (schedule_of events)

@@ -8,37 +8,35 @@ use Rattle.asl_journal.specs.declared.event.Receipt.{Receipt}
 use Rattle.asl_journal.specs.Journal.{Log, IsCount, IsJournal, most_events, state_at}
 
 -- a program, its number of threads and what they did, and for how many events more there is room
--- (docs/JOURNAL.md, A machine that writes it down)
 pub record Recorded : Type 0 where
   pub image : Image
   pub count : ℕ
   pub events : List Event
   pub spare : ℕ
 
--- the state to which the events led (docs/JOURNAL.md, A machine that writes it down)
+-- the state to which the events led
 abbrev pub last_state : Recorded → State
 last_state r = state_at r.image r.count r.events
 
--- the machine: the program in that state (docs/JOURNAL.md, A machine that writes it down)
+-- the machine: the program in that state
 abbrev pub machine_of : Recorded → Configuration
 machine_of r = record { image = r.image; state = last_state r }
 
--- the journal: the number of threads and the events (docs/JOURNAL.md, A machine that writes it down)
+-- the journal: the number of threads and the events
 abbrev pub log_of : Recorded → Log
 log_of r = record { threads = r.count; events = r.events }
 
 -- the program, the number of threads and the events are the same; of the room nothing is said
--- (docs/JOURNAL.md, A machine that writes it down)
 pub record IsUnchanged (old new : Recorded) : Type 0 where
   pub image : new.image ≡ old.image
   pub count : new.count ≡ old.count
   pub events : new.events ≡ old.events
 
--- the event of a receipt (docs/JOURNAL.md, A machine that writes it down)
+-- the event of a receipt
 abbrev pub event_of : Receipt → Event
 event_of receipt = record { thread = receipt.thread; reply = receipt.reply }
 
--- whether the thread has ended in this state (docs/JOURNAL.md, A machine that writes it down)
+-- whether the thread has ended in this state
 abbrev pub has_ended : State → ℕ → Bool
 has_ended s t = is_none (activity_at s.threads t)
 

@@ -4,7 +4,7 @@ ghost use Rattle.asl_journal.specs.Journal.{AreThere, HasStranger, IsLog, IsNoLo
 
 use crate::event::Event;
 use crate::fault::JournalFault;
-use crate::limits::{EVENT_LIMIT, THREAD_LIMIT};
+use crate::limits::{MAX_EVENTS, MAX_THREADS};
 use std::marker::Model;
 
 /// How many threads a run has, and its events in order: 1 to 128 threads, at most 16,777,216 events, and each event of a
@@ -37,10 +37,10 @@ impl Journal {
         ensures refused { IfErr result (λ refusal. IsNoLog (record { threads = n; events = events.items }) refusal.0) }
         ensures back { IfErr result (λ refusal. refusal.1.items ≡ events.items) }
     {
-        if events.len() > EVENT_LIMIT {
+        if events.len() > MAX_EVENTS {
             return Err((JournalFault::JournalFull, events));
         }
-        if n == 0 || n > THREAD_LIMIT {
+        if n == 0 || n > MAX_THREADS {
             return Err((JournalFault::BadCount, events));
         }
         if !are_there(n, events.as_slice()) {

@@ -1,6 +1,6 @@
 //! A machine whose steps are written down.
 ghost use Rattle.std.specs.Prelude.{◌≡◌, ◌<◌, ◌≤◌, ◌+◌, ◌-◌, ◌↔◌, ◌⊎◌, [], ◌∷◌, ◌++◌, length, min, IfOk, IfErr, IsOk, OnOk, OnErr, IsErrOf};
-ghost use Rattle.asl_machine.specs.Sound.{MayWantMemory};
+ghost use Rattle.asl_machine.specs.WellFormed.{MayWantMemory};
 ghost use Rattle.asl_machine.specs.Step.{Step};
 ghost use Rattle.asl_code.specs.Versions.{most_threads};
 ghost use Rattle.asl_journal.specs.Journal.{IsCount, IsJournal, most_events};
@@ -8,7 +8,7 @@ ghost use Rattle.asl_journal.specs.Journal.{IsCount, IsJournal, most_events};
 use crate::event::{Event, Receipt};
 use crate::fault::JournalFault;
 use crate::journal::Journal;
-use crate::limits::EVENT_LIMIT;
+use crate::limits::MAX_EVENTS;
 use asl_code::Program;
 use asl_machine::Machine;
 use std::alloc::Global;
@@ -87,7 +87,7 @@ impl<'p> Journaled<'p> {
             ⊎ (fault ≡ JournalFault.OutOfMemory)) }
         ensures err { OnErr result (IsUnchanged self.old self.new) }
     {
-        if self.events.len() >= EVENT_LIMIT {
+        if self.events.len() >= MAX_EVENTS {
             return Err(JournalFault::JournalFull);
         }
         if t >= self.machine.threads() {
@@ -119,7 +119,7 @@ impl<'p> Journaled<'p> {
         ensures succeeds { min m (most_events - length self.old.events) ≤ self.old.spare → IsOk result }
         ensures memory { IfErr result (λ fault. fault ≡ JournalFault.OutOfMemory) }
     {
-        let left = EVENT_LIMIT - self.events.len();
+        let left = MAX_EVENTS - self.events.len();
         self.events.reserve(left.min(m as usize))?;
         Ok(())
     }
@@ -129,7 +129,7 @@ impl<'p> Journaled<'p> {
         ensures spare { result ≡ self.now.spare }
         ensures limit { result + length self.now.events ≤ most_events }
     {
-        let room = self.events.capacity().min(EVENT_LIMIT) - self.events.len();
+        let room = self.events.capacity().min(MAX_EVENTS) - self.events.len();
         room as u32
     }
 

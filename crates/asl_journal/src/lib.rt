@@ -10,13 +10,13 @@ mod limits;
 mod loading;
 mod reading;
 mod replaying;
-mod storing;
+mod writing;
 
 pub use event::{Event, Receipt};
 pub use fault::JournalFault;
 pub use journal::Journal;
 pub use journaled::Journaled;
-pub use limits::EVENT_LIMIT;
+pub use limits::MAX_EVENTS;
 pub use loading::get;
 pub use replaying::{follow, replay};
-pub use storing::put;
+pub use writing::put;

@@ -3,7 +3,7 @@
 use asl_code::NEWEST_LIMITS;
 
 /// How many threads a journal has at most (`docs/LIMITS.md`).
-pub const THREAD_LIMIT: u32 = NEWEST_LIMITS.threads;
+pub const MAX_THREADS: u32 = NEWEST_LIMITS.threads;
 
 /// How many events a journal has at most (`docs/LIMITS.md`).
-pub const EVENT_LIMIT: usize = 16_777_216;
+pub const MAX_EVENTS: usize = 16_777_216;

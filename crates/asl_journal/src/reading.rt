@@ -5,7 +5,7 @@ ghost use Rattle.asl_loader.specs.Reading.{Gives, Keeps, items_at};
 ghost use Rattle.asl_journal.specs.Reading.{threads_at, count_at, value_at, unprotected_at, fault_at, reply_at, event_at, log_at};
 
 use crate::event::Event;
-use crate::limits::{EVENT_LIMIT, THREAD_LIMIT};
+use crate::limits::{MAX_EVENTS, MAX_THREADS};
 use asl_code::{Cell, Items, Value, ValueFault, get_value, version_for};
 use asl_loader::Stop;
 use asl_loader::parts::{
@@ -24,7 +24,7 @@ fn threads_at(version: u16, bytes: &[u8]) -> Result<(u32, &[u8]), Stop>
 {
     let (byte, rest) = byte_at(bytes)?;
     let threads = u32::from(byte);
-    if 0 < threads && threads <= THREAD_LIMIT && version_for(threads) == u32::from(version) {
+    if 0 < threads && threads <= MAX_THREADS && version_for(threads) == u32::from(version) {
         Ok((threads, rest))
     } else {
         Err(bad(bytes))
@@ -38,7 +38,7 @@ fn count_at(bytes: &[u8]) -> Result<(usize, &[u8]), Stop>
 {
     let (number, rest) = four_at(bytes)?;
     let count = number as usize;
-    if count <= EVENT_LIMIT {
+    if count <= MAX_EVENTS {
         Ok((count, rest))
     } else {
         Err(bad(bytes))

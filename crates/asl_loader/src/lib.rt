@@ -6,8 +6,8 @@ pub mod laws;
 mod loading;
 pub mod parts;
 mod reading;
-mod storing;
+mod writing;
 
 pub use fault::{LoadFault, Stop};
 pub use loading::load;
-pub use storing::store;
+pub use writing::store;

@@ -1,5 +1,5 @@
 -- Machinery of the proofs, not of the promise: the stores and calls of a program as rows of numbers, and
--- which functions they lead to (src/storing.rt). What contracts cite is `MayStore` of specs/ClassOf.
+-- which functions they lead to (src/stores.rt). What contracts cite is `MayStore` of specs/ClassOf.
 use Rattle.std.specs.Prelude.{◌≡◌, ◌<◌, ◌+◌, ◌⊎◌, ◌↔◌, ℕ, suc, Bool, true, false, List, [], ◌∷◌, length, Option, None, Some, slice_get, unwrap_or}
 use Rattle.asl_code.specs.declared.instr.Instr.{Instr}
 use Rattle.asl_code.specs.declared.instr.Instr.TheVariants as instr

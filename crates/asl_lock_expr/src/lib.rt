@@ -8,7 +8,7 @@ mod link;
 mod linked;
 mod order;
 mod stay;
-mod storing;
+mod stores;
 mod written;
 
 pub use class::class_of;
@@ -23,5 +23,5 @@ pub use link::{View, add_accesses, add_dereferenced, add_entered, add_links};
 pub use linked::links;
 pub use order::add_in_order;
 pub use stay::stays;
-pub use storing::writes;
+pub use stores::writes;
 pub use written::Writes;

@@ -12,7 +12,7 @@ ghost use Rattle.asl_lower.specs.Layout.{block_sections, function_code, function
 ghost use Rattle.asl_lower.specs.OutputView.{Adds, place_of};
 ghost use Rattle.asl_lower.specs.Refused.{first_crowded};
 
-use crate::locals::{Locals, MOST_REGISTERS, TooMany, add_block, block_arguments};
+use crate::locals::{Locals, MAX_REGISTERS, TooMany, add_block, block_arguments};
 use crate::numbers::Numbers;
 use crate::output::Output;
 use crate::scope::Scope;
@@ -36,7 +36,7 @@ fn locals_of(function: &Function) -> Result<Locals<'_>, TooMany>
         locals.push(parameter.as_slice());
     }
     add_block(&mut locals, &function.body)?;
-    if block_arguments(&function.body) > MOST_REGISTERS - locals.len() {
+    if block_arguments(&function.body) > MAX_REGISTERS - locals.len() {
         return Err(TooMany);
     }
     Ok(locals)

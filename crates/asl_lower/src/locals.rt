@@ -16,10 +16,10 @@ use asl_syntax::tree::{Statement, Value};
 pub struct TooMany;
 
 /// The most registers that a function has.
-pub const MOST_REGISTERS: usize = REGS as usize;
+pub const MAX_REGISTERS: usize = REGS as usize;
 
 /// The bytes of names, in the order of their registers.
-pub type Locals<'a> = ArrayVec<&'a [u8], MOST_REGISTERS>;
+pub type Locals<'a> = ArrayVec<&'a [u8], MAX_REGISTERS>;
 
 /// Adds a local, unless it is there.
 fn add_local<'a>(locals: &mut Locals<'a>, name: &'a Name) -> Result<(), TooMany>

@@ -23,7 +23,7 @@ impl Output {
     ghost use Rattle.asl_lower.specs.OutputView.{Adds, place_of};
 
     /// The most instructions that a program has.
-    pub const MOST: usize = CODE;
+    pub const MAX_LEN: usize = CODE;
 
     /// Nothing yet.
     pub fn new(alloc: Global) -> Output

@@ -14,7 +14,7 @@ ghost use Rattle.asl_lower.specs.Outside.{value_access, stmt_access, block_acces
 
 use crate::draft::main_number;
 use crate::numbers::Numbers;
-use crate::reach::{MOST_FUNCTIONS, Marks, next_function};
+use crate::reach::{MAX_FUNCTIONS, Marks, next_function};
 use crate::size::{block_size, value_size};
 use asl_syntax::Name;
 use asl_syntax::tree::{Function, Item, Statement, Value};
@@ -25,7 +25,7 @@ fn mark_callee(items: &[Item], numbers: &Numbers<'_>, marks: &mut Marks, name: &
     ensures { MarksThese (number_of (function_names (functions_of (map item_of items.now))) name.now ∷ []) marks.old marks.new }
 {
     let callee = numbers.function(items, name);
-    if callee < MOST_FUNCTIONS {
+    if callee < MAX_FUNCTIONS {
         marks[callee] = true;
     }
 }
@@ -101,7 +101,7 @@ fn follow_calls(items: &[Item], numbers: &Numbers<'_>, marks: &mut Marks)
     ensures only { (function : ℕ) → IsMarked marks.new function → Reached (lowering_of (map item_of items.now)) Outside marks.old function }
 {
     let count = count_functions(items);
-    let mut followed = [false; MOST_FUNCTIONS];
+    let mut followed = [false; MAX_FUNCTIONS];
     while let Some(number) = next_function(count, marks, &followed) {
         followed[number] = true;
         if let Some(function) = function_at(items, number) {
@@ -116,7 +116,7 @@ fn bare_functions(items: &[Item], numbers: &Numbers<'_>) -> Marks
     requires layout { HasLayout (lowering_of (map item_of items.now)) }
     ensures { (function : ℕ) → IsMarked result function ↔ IsBare (lowering_of (map item_of items.now)) function }
 {
-    let mut marks = [false; MOST_FUNCTIONS];
+    let mut marks = [false; MAX_FUNCTIONS];
     marks[main_number(items)] = true;
     follow_calls(items, numbers, &mut marks);
     marks

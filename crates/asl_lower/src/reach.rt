@@ -11,10 +11,10 @@ use asl_code::Instr;
 use asl_code::limits::FUNCTIONS;
 
 /// The most functions that a program has.
-pub const MOST_FUNCTIONS: usize = FUNCTIONS;
+pub const MAX_FUNCTIONS: usize = FUNCTIONS;
 
 /// Whether each function has a mark, by its number.
-pub type Marks = [bool; MOST_FUNCTIONS];
+pub type Marks = [bool; MAX_FUNCTIONS];
 
 /// Some of the calls of a program.
 #[derive(Clone, Copy)]
@@ -101,7 +101,7 @@ fn follow_calls(draft: &Draft, marks: &mut Marks, calls: Calls)
     ensures followed { AreFollowed (lowered_of draft.now) (where_of calls) marks.new }
     ensures only { (function : ℕ) → IsMarked marks.new function → Reached (lowered_of draft.now) (where_of calls) marks.old function }
 {
-    let mut followed = [false; MOST_FUNCTIONS];
+    let mut followed = [false; MAX_FUNCTIONS];
     while let Some(function) = next_function(draft.functions.len(), marks, &followed) {
         followed[function] = true;
         let start = draft.start(function);
@@ -115,7 +115,7 @@ pub fn inner_functions(draft: &Draft) -> Marks
     requires { HasLayout (lowered_of draft.now) }
     ensures { (function : ℕ) → IsMarked result function ↔ IsInner (lowered_of draft.now) function }
 {
-    let mut marks = [false; MOST_FUNCTIONS];
+    let mut marks = [false; MAX_FUNCTIONS];
     mark_callees(draft, &mut marks, 0, draft.out.code.len(), Calls::Inside);
     follow_calls(draft, &mut marks, Calls::All);
     marks

@@ -13,7 +13,7 @@ use asl_syntax::tree::{Item, Statement, Value};
 pub fn has_few_instructions(items: &[Item]) -> bool
     ensures { IsTrue result ↔ ((end_of (map item_of items.now)).pc ≤ 65535) }
 {
-    left_behind_items(Output::MOST, items).is_some()
+    left_behind_items(Output::MAX_LEN, items).is_some()
 }
 
 /// How many of so many instructions are left behind the code of the functions, if there are enough.
@@ -74,7 +74,7 @@ pub fn block_size(block: &[Statement]) -> usize
     requires { block_size (block_of block.now) ≤ 65535 }
     ensures { result ≡ block_size (block_of block.now) }
 {
-    Output::MOST - left_behind_block(Output::MOST, block).unwrap_or(0)
+    Output::MAX_LEN - left_behind_block(Output::MAX_LEN, block).unwrap_or(0)
 }
 
 /// How many instructions the code of a value has.

@@ -25,7 +25,7 @@ use Rattle.asl_machine.specs.Cover.{is_fresh, cover, Allows}
 use Rattle.asl_machine.specs.State.{Object, Frame, Activity, Thread, Running, Done, Failed, State, cell_at, class_of, written, new_object, activity_of, activity_at}
 use Rattle.asl_machine.specs.Calls.{function_of, first_registers, values_from, with_register}
 use Rattle.asl_machine.specs.Access.{AllPoint}
-use Rattle.asl_machine.specs.Sound.{IsPlaced, AreSuspended, IsSound}
+use Rattle.asl_machine.specs.WellFormed.{IsPlaced, AreSuspended, SatisfiesInvariant}
 use Rattle.asl_machine.specs.Fresh.{fresh_of, fresh_at, IsFreshFor, PointElsewhere, AllElsewhere, MayHold, AreApart}
 use Rattle.asl_machine.specs.Step.{At, Line, StepOf, Step, Sets, Fails, after, advanced, advanced_with, placed_at, going_on, called, returned, having_made, left_last, is_allowed}
 use Rattle.asl_machine.proofs.Lists.{get_same, get_other, get_either, one_more, replicated}
@@ -66,7 +66,7 @@ none_below image objects above result (f ∷ fs) h = (none_points objects f.regs
 -- ---- cells
 
 -- what a thread may read in a cell that is not fresh for another is no address in an object that is
-pub read_elsewhere : (image : Image) (s : State) → IsSound image s → AreApart image s → (t u : ℕ) (a : Activity) → t ≢ u → activity_at s.threads t ≡ Some a → (cell : Cell) (x : ℕ) → class_of s.objects cell.object ≡ Some x →
+pub read_elsewhere : (image : Image) (s : State) → SatisfiesInvariant image s → AreApart image s → (t u : ℕ) (a : Activity) → t ≢ u → activity_at s.threads t ≡ Some a → (cell : Cell) (x : ℕ) → class_of s.objects cell.object ≡ Some x →
     Allows (cover s.holding a.fresh) t cell x Read → ¬ IsFreshFor s u cell.object → (o i : ℕ) → cell_at s.objects cell ≡ Some (Addr o i) → ¬ IsFreshFor s u o
 read_elsewhere image s sound fr t u a apart is cell x of allowed away o i at f =
     elim (fr.cells u o i cell f at) [
@@ -79,7 +79,7 @@ read_elsewhere image s sound fr t u a apart is cell x of allowed away o i at f =
 
 -- ---- what a step of a thread does
 
-module _ (image : Image) (s : State) (t : ℕ) (a : Activity) (sound : IsSound image s) (fr : AreApart image s) (there : t < length s.threads) (is : activity_at s.threads t ≡ Some a) where
+module _ (image : Image) (s : State) (t : ℕ) (a : Activity) (sound : SatisfiesInvariant image s) (fr : AreApart image s) (there : t < length s.threads) (is : activity_at s.threads t ≡ Some a) where
   placed : IsPlaced image s.objects a
   placed = sound.formed.placed t a is
 
@@ -456,7 +456,7 @@ module _ (image : Image) (s : State) (t : ℕ) (a : Activity) (sound : IsSound i
   line_apart i r new here e = absurd e
 
 -- each step of a verified program keeps fresh objects apart
-pub step_apart : (image : Image) (s : State) (t : ℕ) (r : Reply) (new : State) → IsSound image s → AreApart image s → Step image s t r new → AreApart image new
+pub step_apart : (image : Image) (s : State) (t : ℕ) (r : Reply) (new : State) → SatisfiesInvariant image s → AreApart image s → Step image s t r new → AreApart image new
 step_apart image s t r new sound fr step =
     elim (slice_get s.threads t) as (λ o. slice_get s.threads t ≡ o → StepOf image s t o r new → AreApart image new) [
       | None ↦ λ is h. absurd h

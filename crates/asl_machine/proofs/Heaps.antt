@@ -12,9 +12,9 @@ use Rattle.asl_code.specs.declared.value.Value.TheVariants.{Int, Null, Addr}
 use Rattle.asl_code.specs.declared.value.Cell.{Cell}
 use Rattle.asl_machine.specs.State.{Object, cell_at, class_of, size_of, with_cell, written, new_object}
 use Rattle.asl_lock_expr.specs.Expression.{cell_of, pointed}
-use Rattle.asl_machine.specs.Twin.{address_or_bounds, address_moved}
+use Rattle.asl_machine.specs.StepFunction.{address_or_bounds, address_moved}
 use Rattle.asl_machine.specs.Access.{Points}
-use Rattle.asl_machine.specs.Sound.{AreSound}
+use Rattle.asl_machine.specs.WellFormed.{AreWellFormed}
 use Rattle.asl_machine.proofs.Lists.{get_same, get_other, get_kept, get_either, one_more, replicated, get_before, get_last, is_there}
 
 -- after a store an object is as it was, or has another value in one cell
@@ -180,7 +180,7 @@ length-written objects c v =
     ]
 
 -- sound objects are sound after a store of an address of a cell that is there
-pub sound_written : (image : Image) (objects : List Object) (c : Cell) (v : Value) → AreSound image objects → Points objects v → AreSound image (written objects c v)
+pub sound_written : (image : Image) (objects : List Object) (c : Cell) (v : Value) → AreWellFormed image objects → Points objects v → AreWellFormed image (written objects c v)
 sound_written image objects c v sound p = record {
   classes = λ n class e. sound.classes n class (sym (class_of-written objects c v n) ∙ e);
   points = λ x w e. elim (cell_either objects c v x w e) [
@@ -240,7 +240,7 @@ first_there objects n size h some =
     ] refl h
 
 -- the address of a global is that of a cell that is there
-pub global_points : (image : Image) (objects : List Object) (g : ℕ) → AreSound image objects → g < length image.globals → Points objects (Addr g 0)
+pub global_points : (image : Image) (objects : List Object) (g : ℕ) → AreWellFormed image objects → g < length image.globals → Points objects (Addr g 0)
 global_points image objects g sound lt =
     elim (slice_get_cases image.globals g).1 [
       | inl found ↦ first_there objects g 1 (sound.globals g found.0 found.2).1 (omega arith)
@@ -248,7 +248,7 @@ global_points image objects g sound lt =
     ]
 
 -- there are as many objects as globals, at least
-pub many_globals : (image : Image) (objects : List Object) → AreSound image objects → length image.globals ≤ length objects
+pub many_globals : (image : Image) (objects : List Object) → AreWellFormed image objects → length image.globals ≤ length objects
 many_globals image objects sound =
     elim (slice_get_cases image.globals (length objects)).1 [
       | inl found ↦ absurd (past objects found.0 (sound.globals (length objects) found.0 found.2).0)
@@ -272,8 +272,8 @@ zero_points : (objects : List Object) (w : Value) → w ≡ Int (pos 0) → Poin
 zero_points objects w e = subst (Points objects) (sym e) tt
 
 -- sound objects are sound with one more
-pub sound_made : (image : Image) (objects : List Object) (class cells : ℕ) → AreSound image objects → class < image.classes → 0 < cells → length objects < 65536 →
-    AreSound image (objects ++ new_object class cells ∷ [])
+pub sound_made : (image : Image) (objects : List Object) (class cells : ℕ) → AreWellFormed image objects → class < image.classes → 0 < cells → length objects < 65536 →
+    AreWellFormed image (objects ++ new_object class cells ∷ [])
 sound_made image objects class cells sound lt some room =
     let more = objects ++ new_object class cells ∷ [] in
     record {

@@ -7,7 +7,7 @@ pub mod Heaps
 pub mod Frames
 pub mod Codes
 pub mod Nodes
-pub mod Soundness
+pub mod Invariant
 pub mod Words
 pub mod Table
 pub mod Unique

@@ -17,12 +17,12 @@ use Rattle.asl_machine.specs.View.{Configuration}
 use Rattle.asl_machine.proofs.Table.{step_is}
 use Rattle.asl_machine.proofs.Reached.{someone_goes_on}
 use Rattle.asl_machine.proofs.Runs.{start_reached, step_reached}
-use Rattle.asl_machine.specs.Twin.{turn_of, step_of, step_at}
-use Rattle.asl_machine.specs.Sound.{IsSound}
+use Rattle.asl_machine.specs.StepFunction.{turn_of, step_of, step_at}
+use Rattle.asl_machine.specs.WellFormed.{SatisfiesInvariant}
 use Rattle.asl_machine.specs.Ready.{IsMachine}
 use Rattle.asl_machine.specs.Cover.{is_fresh}
 use Rattle.asl_machine.specs.Fresh.{fresh_of, fresh_at, AreApart}
-use Rattle.asl_machine.proofs.Soundness.{start_sound, turn_follows, length-first_threads}
+use Rattle.asl_machine.proofs.Invariant.{start_sound, turn_follows, length-first_threads}
 use Rattle.asl_machine.proofs.ReachedApart.{start_apart, step_of_apart}
 
 -- the state that these parts make up
@@ -42,7 +42,7 @@ start_machine image objects forest threads n verified count os classes counted h
     record {
       verified = verified;
       reached = subst (λ k. IsReached image k (state_of objects forest.holding threads)) (sym l) (subst (IsReached image n) starts (start_reached image n));
-      sound = subst (IsSound image) starts (start_sound image n (image_fits image verified));
+      sound = subst (SatisfiesInvariant image) starts (start_sound image n (image_fits image verified));
       apart = subst (AreApart image) starts (start_apart image n);
       classes = classes;
       counted = counted ∙ sym l;
@@ -77,7 +77,7 @@ module _ (image : Image) (objects new_objects : List Object) (forest new_forest 
         verified = m.verified;
         reached = subst (λ k. IsReached image k (state_of new_objects new_forest.holding (set threads t new_thread))) (sym l)
             (subst (IsReached image (length threads)) (sym step_state) (step_reached image (length threads) old t m.reached (slice_get_within threads t thread at)));
-        sound = subst (IsSound image) (sym turn_state) (turn_follows image (state_of objects forest.holding threads) t thread m.sound at);
+        sound = subst (SatisfiesInvariant image) (sym turn_state) (turn_follows image (state_of objects forest.holding threads) t thread m.sound at);
         apart = subst (AreApart image) (sym step_state) (step_of_apart image (state_of objects forest.holding threads) t m.sound m.apart);
         classes = classes ∙ m.classes;
         counted = counted ∙ m.counted ∙ sym l;

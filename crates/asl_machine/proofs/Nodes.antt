@@ -27,8 +27,8 @@ use Rattle.asl_machine.specs.State.{Object, cell_at, class_of}
 use Rattle.asl_machine.specs.Access.{Points, AllPoint, AreOfClasses}
 use Rattle.asl_lock_expr.specs.Expression.{pointed, base_cell, walked, path_cell, cell_denoted}
 use Rattle.asl_machine.specs.Request.{heap_of, leaf_asks, cell_asks, asks_of, all_asks, joined_all, request_of, IsAsk}
-use Rattle.asl_machine.specs.Twin.{address_or_bounds}
-use Rattle.asl_machine.specs.Sound.{AreSound}
+use Rattle.asl_machine.specs.StepFunction.{address_or_bounds}
+use Rattle.asl_machine.specs.WellFormed.{AreWellFormed}
 use Rattle.asl_machine.specs.Nodes.{IsLeaf, IsNode}
 use Rattle.asl_machine.proofs.Heaps.{global_points, moved_points}
 use Rattle.asl_machine.proofs.RequestLaws.{ask_either, below_all}
@@ -50,7 +50,7 @@ read_there objects None all = tt
 read_there objects (Some v) all = pointed_there objects v (all v refl)
 
 -- where an evaluation begins is there, if it begins anywhere
-pub base_there : (image : Image) (objects : List Object) (regs : List Value) (b : Base) → AreSound image objects → AllPoint objects regs → HasBase image b → Denotes objects (base_cell regs b)
+pub base_there : (image : Image) (objects : List Object) (regs : List Value) (b : Base) → AreWellFormed image objects → AllPoint objects regs → HasBase image b → Denotes objects (base_cell regs b)
 base_there image objects regs (Reg r) sound all has = read_there objects (slice_get regs r) (all r)
 base_there image objects regs (Global g) sound all has = global_points image objects g sound has
 
@@ -58,13 +58,13 @@ bounds_there : (objects : List Object) (x : Option Cell) → IfOk (address_or_bo
 bounds_there objects None h = tt
 bounds_there objects (Some c) h = h
 
-after_there : (image : Image) (objects : List Object) (op : Op) (start : Option Cell) → AreSound image objects → Denotes objects (option_and_then (walked (heap_of objects) op) start)
+after_there : (image : Image) (objects : List Object) (op : Op) (start : Option Cell) → AreWellFormed image objects → Denotes objects (option_and_then (walked (heap_of objects) op) start)
 after_there image objects op None sound = tt
 after_there image objects Deref (Some cell) sound = read_there objects (cell_at objects cell) (sound.points cell)
 after_there image objects (Off places) (Some cell) sound = bounds_there objects _ (moved_points objects places (Addr cell.object cell.offset))
 
 -- a path that begins at a cell that is there leads to one that is there, if it leads anywhere
-pub path_there : (image : Image) (objects : List Object) (ops : List Op) (start : Option Cell) → AreSound image objects → Denotes objects start → Denotes objects (path_cell (heap_of objects) ops start)
+pub path_there : (image : Image) (objects : List Object) (ops : List Op) (start : Option Cell) → AreWellFormed image objects → Denotes objects start → Denotes objects (path_cell (heap_of objects) ops start)
 path_there image objects [] start sound h = h
 path_there image objects (op ∷ ops) start sound h =
     path_there image objects ops (option_and_then (walked (heap_of objects) op) start) sound (after_there image objects op start sound)
@@ -91,7 +91,7 @@ node_cell : (classes : ℕ) (objects : List Object) (effect : Effect) (cell : Op
 node_cell classes objects effect None k there n m h = absurd h
 node_cell classes objects effect (Some cell) k there n m h = node_leaf classes objects cell effect (class_of objects cell.object) refl (λ c e. k cell.object c e) there n m h
 
-node_lock : (image : Image) (objects : List Object) (regs : List Value) (l : Lock) → AreSound image objects → AllPoint objects regs → HasLock image l →
+node_lock : (image : Image) (objects : List Object) (regs : List Value) (l : Lock) → AreWellFormed image objects → AllPoint objects regs → HasLock image l →
     (n : Node) (m : Mode) → IsAsk (asks_of objects regs l) n m → IsNode image.classes objects n
 node_lock image objects regs (lock.Root effect) sound all has n m h = elim h [ inl e ↦ subst (IsNode image.classes objects) e.0 tt | inr i ↦ absurd i ]
 node_lock image objects regs (lock.Class class effect) sound all has n m h =
@@ -103,7 +103,7 @@ node_lock image objects regs (lock.Expr expr effect) sound all has n m h =
     node_cell image.classes objects effect (cell_denoted (heap_of objects) regs expr) sound.classes
     (path_there image objects expr.path (base_cell regs expr.base) sound (base_there image objects regs expr.base sound all has)) n m h
 
-node_locks : (image : Image) (objects : List Object) (regs : List Value) (locks : List Lock) → AreSound image objects → AllPoint objects regs → All (HasLock image) locks →
+node_locks : (image : Image) (objects : List Object) (regs : List Value) (locks : List Lock) → AreWellFormed image objects → AllPoint objects regs → All (HasLock image) locks →
     (n : Node) (m : Mode) → IsAsk (all_asks objects regs locks) n m → IsNode image.classes objects n
 node_locks image objects regs [] sound all has n m h = absurd h
 node_locks image objects regs (l ∷ ls) sound all has n m h =
@@ -134,7 +134,7 @@ asked_there asks n ne =
     ]
 
 -- a node that the request of a list asks for is there
-pub request_there : (image : Image) (objects : List Object) (regs : List Value) (locks : List Lock) → AreSound image objects → AllPoint objects regs → All (HasLock image) locks →
+pub request_there : (image : Image) (objects : List Object) (regs : List Value) (locks : List Lock) → AreWellFormed image objects → AllPoint objects regs → All (HasLock image) locks →
     (n : Node) → asked (request_of objects regs locks) n ≢ NL → IsNode image.classes objects n
 request_there image objects regs locks sound all has n ne =
     let found = asked_there (all_asks objects regs locks) n ne in node_locks image objects regs locks sound all has n found.0 found.1

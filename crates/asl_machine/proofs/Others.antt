@@ -15,7 +15,7 @@ use Rattle.asl_machine.specs.declared.fate.Fate.TheVariants as fate
 use Rattle.asl_machine.specs.declared.fault.Fault.{Fault}
 use Rattle.asl_machine.specs.State.{Object, Thread, Running, Done, Failed, State, written, new_object}
 use Rattle.asl_machine.specs.Request.{request_of, locks_of}
-use Rattle.asl_machine.specs.Twin.{Place, accessed_by, register_of, objects_stored, left_by, left_at, holding_after, turn_of, step_at, step_of}
+use Rattle.asl_machine.specs.StepFunction.{Place, accessed_by, register_of, objects_stored, left_by, left_at, holding_after, turn_of, step_at, step_of}
 use Rattle.asl_machine.proofs.Lists.{get_other}
 use Rattle.asl_machine.proofs.Heaps.{read_before}
 

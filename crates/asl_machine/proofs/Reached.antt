@@ -13,12 +13,12 @@ use Rattle.asl_machine.specs.declared.reply.Reply.TheVariants as reply
 use Rattle.asl_machine.specs.State.{Activity, Thread, Running, Done, Failed, State, activity_of, activity_at, depth_at}
 use Rattle.asl_machine.specs.Run.{start_of, state_after, IsReached}
 use Rattle.asl_machine.specs.Step.{At, Line, StepOf}
-use Rattle.asl_machine.specs.Twin.{step_at, step_of}
-use Rattle.asl_machine.specs.Sound.{IsSound}
+use Rattle.asl_machine.specs.StepFunction.{step_at, step_of}
+use Rattle.asl_machine.specs.WellFormed.{SatisfiesInvariant}
 use Rattle.asl_machine.specs.World.{SomeoneGoesOn}
 use Rattle.asl_lock_forest.proofs.Grantable.{can_grant-tells, can_grant-refused}
 use Rattle.asl_lock_forest.proofs.Lawful.{way_holds}
-use Rattle.asl_machine.proofs.Soundness.{start_sound, step_sound, length-first_threads}
+use Rattle.asl_machine.proofs.Invariant.{start_sound, step_sound, length-first_threads}
 use Rattle.asl_machine.proofs.Table.{step_is, at_of}
 use Rattle.asl_lock_forest.proofs.Laws.{held_nothing}
 
@@ -30,7 +30,7 @@ step_count image s t =
       | Some thread ↦ length-set s.threads t _
     ]
 
-run_sound : (image : Image) (schedule : List ℕ) (s : State) → IsSound image s → IsSound image (state_after image s schedule)
+run_sound : (image : Image) (schedule : List ℕ) (s : State) → SatisfiesInvariant image s → SatisfiesInvariant image (state_after image s schedule)
 run_sound image [] s sound = sound
 run_sound image (t ∷ ts) s sound = run_sound image ts (step_of image s t).state (step_sound image s t sound)
 
@@ -39,8 +39,8 @@ run_count image [] s = refl
 run_count image (t ∷ ts) s = run_count image ts (step_of image s t).state ∙ step_count image s t
 
 -- every reached state is sound
-pub reached_sound : (image : Image) (count : ℕ) (s : State) → FitsImage image → IsReached image count s → IsSound image s
-reached_sound image count s fits r = subst (IsSound image) (sym r.leads) (run_sound image r.schedule (start_of image count) (start_sound image count fits))
+pub reached_sound : (image : Image) (count : ℕ) (s : State) → FitsImage image → IsReached image count s → SatisfiesInvariant image s
+reached_sound image count s fits r = subst (SatisfiesInvariant image) (sym r.leads) (run_sound image r.schedule (start_of image count) (start_sound image count fits))
 
 -- a reached state has as many threads as the start
 pub reached_count : (image : Image) (count : ℕ) (s : State) → IsReached image count s → length s.threads ≡ count
@@ -65,7 +65,7 @@ blocked_at image s t (Running a) n h = line_blocked (at_of image s t a) h.0 n h.
 blocked_at image s t (Done v) n h = let e = h.0 in cc
 blocked_at image s t (Failed f) n h = let e = h.0 in cc
 
-blocked : (image : Image) (s : State) (t : ℕ) → IsSound image s → (step_of image s t).reply ≡ reply.Blocked →
+blocked : (image : Image) (s : State) (t : ℕ) → SatisfiesInvariant image s → (step_of image s t).reply ≡ reply.Blocked →
     (depth_at s.threads t ≡ 0) × ((request : Request) × (¬ CanGrant s.holding t request))
 blocked image s t sound e =
     elim (slice_get s.threads t) as (λ o. slice_get s.threads t ≡ o → (step_at image s t o).reply ≡ reply.Blocked →
@@ -92,7 +92,7 @@ running_is_there s t runs =
     ] refl runs
 
 -- where a step is blocked, some running thread holds a node and is not blocked
-pub someone_goes_on : (image : Image) (s : State) (t : ℕ) → IsSound image s → (step_of image s t).reply ≡ reply.Blocked → SomeoneGoesOn image s
+pub someone_goes_on : (image : Image) (s : State) (t : ℕ) → SatisfiesInvariant image s → (step_of image s t).reply ≡ reply.Blocked → SomeoneGoesOn image s
 someone_goes_on image s t sound e =
     let b = blocked image s t sound e in
     let request = b.1.0 in

@@ -10,12 +10,12 @@ use Rattle.asl_code.specs.declared.value.Effect.TheVariants.{Read, Write}
 use Rattle.asl_code.specs.Fits.{FitsImage}
 use Rattle.asl_machine.specs.Cover.{is_fresh, cover, Allows}
 use Rattle.asl_machine.specs.State.{Activity, State, activity_of, activity_at}
-use Rattle.asl_machine.specs.Sound.{IsSound}
+use Rattle.asl_machine.specs.WellFormed.{SatisfiesInvariant}
 use Rattle.asl_machine.specs.Run.{first_thread, first_threads, start_of, state_after, IsReached}
 use Rattle.asl_machine.specs.Fresh.{IsFreshFor, AreApart}
-use Rattle.asl_machine.specs.Twin.{step_of, step_at}
+use Rattle.asl_machine.specs.StepFunction.{step_of, step_at}
 use Rattle.asl_machine.proofs.Lists.{one_more}
-use Rattle.asl_machine.proofs.Soundness.{start_sound, step_sound}
+use Rattle.asl_machine.proofs.Invariant.{start_sound, step_sound}
 use Rattle.asl_machine.proofs.Table.{step_is}
 use Rattle.asl_machine.proofs.Freshness.{no_fresh, allowed_pairs}
 use Rattle.asl_machine.proofs.Apart.{step_apart}
@@ -50,14 +50,14 @@ start_apart image n = record {
 }
 
 -- a computed step keeps them apart
-pub step_of_apart : (image : Image) (s : State) (t : ℕ) → IsSound image s → AreApart image s → AreApart image (step_of image s t).state
+pub step_of_apart : (image : Image) (s : State) (t : ℕ) → SatisfiesInvariant image s → AreApart image s → AreApart image (step_of image s t).state
 step_of_apart image s t sound fr =
     elim (slice_get s.threads t) as (λ o. slice_get s.threads t ≡ o → AreApart image (step_of image s t).state) [
       | None ↦ λ is. subst (AreApart image) (sym (ap (λ o. (step_at image s t o).state) is)) fr
       | Some thread ↦ λ is. step_apart image s t (step_of image s t).reply (step_of image s t).state sound fr (step_is image s t sound (slice_get_within s.threads t thread is))
     ] refl
 
-run_apart : (image : Image) (schedule : List ℕ) (s : State) → IsSound image s → AreApart image s → AreApart image (state_after image s schedule)
+run_apart : (image : Image) (schedule : List ℕ) (s : State) → SatisfiesInvariant image s → AreApart image s → AreApart image (state_after image s schedule)
 run_apart image [] s sound fr = fr
 run_apart image (t ∷ ts) s sound fr = run_apart image ts (step_of image s t).state (step_sound image s t sound) (step_of_apart image s t sound fr)
 
@@ -75,7 +75,7 @@ not_addressed image s fr t u a b r cell apart is_a is_b reads f =
     (fr.registers u t cell.object b (λ e. apart (sym e)) (ap (λ x. is_fresh (option_map_or (λ (d : Activity). d.fresh) x []) cell.object) is_a ∙ f) is_b).0 r cell.offset reads
 
 -- what one thread may read, and is not fresh for the other, the other may not write by an address in a register
-pub write_pairs : (image : Image) (s : State) → IsSound image s → AreApart image s → (t u : ℕ) (a b : Activity) (r : ℕ) (cell : Cell) (x : ℕ) → t ≢ u → activity_at s.threads t ≡ Some a → activity_at s.threads u ≡ Some b →
+pub write_pairs : (image : Image) (s : State) → SatisfiesInvariant image s → AreApart image s → (t u : ℕ) (a b : Activity) (r : ℕ) (cell : Cell) (x : ℕ) → t ≢ u → activity_at s.threads t ≡ Some a → activity_at s.threads u ≡ Some b →
     slice_get b.top.regs r ≡ Some (Addr cell.object cell.offset) → Allows (cover s.holding a.fresh) t cell x Read → Allows (cover s.holding b.fresh) u cell x Write → (IsTrue (is_fresh b.fresh cell.object) → ⊥) → ⊥
 write_pairs image s sound fr t u a b r cell x apart is_a is_b reads allows writes other =
     allowed_pairs s.holding sound.lawful t u a.fresh b.fresh apart cell x allows writes (not_addressed image s fr t u a b r cell apart is_a is_b reads) other

@@ -7,7 +7,7 @@ use Rattle.asl_machine.specs.declared.reply.Reply.{Reply}
 use Rattle.asl_machine.specs.State.{State}
 use Rattle.asl_machine.specs.Run.{start_of, replies_of, state_after, IsReached}
 use Rattle.asl_machine.specs.Step.{Step}
-use Rattle.asl_machine.specs.Twin.{step_of}
+use Rattle.asl_machine.specs.StepFunction.{step_of}
 use Rattle.asl_machine.proofs.Reached.{reached_sound}
 use Rattle.asl_machine.proofs.Unique.{step_only}
 

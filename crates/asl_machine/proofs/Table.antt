@@ -24,11 +24,11 @@ use Rattle.asl_machine.specs.Access.{Points}
 use Rattle.asl_machine.specs.Calls.{frame_count, with_result, IsAwaited}
 use Rattle.asl_machine.specs.Request.{locks_of, request_of}
 use Rattle.asl_machine.specs.Step.{At, advanced, advanced_with, going_on, called, returned, having_made, left_last, after, Reads, is_allowed, GoesOn, is_zero, FailsOperands, Asks, Line, StepOf, Step}
-use Rattle.asl_machine.specs.Twin.{Left, set_left, computed, added, subtracted, compared, truth, same_value, jump_left, address_or_bounds, address_moved, make_left, allowed_cell, loaded, accessed, store_left, left_alone, call_left, return_left, activity_moved, release_left, left_by, left_at, turn_by, step_at, step_of, register_of}
-use Rattle.asl_machine.specs.Sound.{IsSound}
+use Rattle.asl_machine.specs.StepFunction.{Left, set_left, computed, added, subtracted, compared, truth, same_value, jump_left, address_or_bounds, address_moved, make_left, allowed_cell, loaded, accessed, store_left, left_alone, call_left, return_left, activity_moved, release_left, left_by, left_at, turn_by, step_at, step_of, register_of}
+use Rattle.asl_machine.specs.WellFormed.{SatisfiesInvariant}
 use Rattle.asl_lock_forest.proofs.Grantable.{can_grant-tells, CanGrant-tested}
 use Rattle.asl_machine.proofs.Words.{same_is, same_self}
-use Rattle.asl_machine.proofs.Soundness.{Here, here_of, here_place, instr_here, after_same, awaited_below}
+use Rattle.asl_machine.proofs.Invariant.{Here, here_of, here_place, instr_here, after_same, awaited_below}
 
 -- the line that a step by what an instruction leaves would be
 abbrev pub IsLine : At → Instr → Left → Type 0
@@ -315,7 +315,7 @@ line_there image s t a h here (instr.Acquire list) fits =
 line_there image s t a h here instr.Release fits = release_line (at_of image s t a)
 
 -- the computed step of what stands at the thread's number is a step
-pub step_there : (image : Image) (s : State) (t : ℕ) (thread : Thread) → IsSound image s → slice_get s.threads t ≡ Some thread →
+pub step_there : (image : Image) (s : State) (t : ℕ) (thread : Thread) → SatisfiesInvariant image s → slice_get s.threads t ≡ Some thread →
     StepOf image s t (Some thread) (step_at image s t (Some thread)).reply (step_at image s t (Some thread)).state
 step_there image s t (Running a) sound e =
     let h = here_of image s t a sound e in
@@ -327,7 +327,7 @@ step_there image s t (Done v) sound e = (refl, after_same s t (Done v) e)
 step_there image s t (Failed f) sound e = (refl, after_same s t (Failed f) e)
 
 -- the computed step is a step
-pub step_is : (image : Image) (s : State) (t : ℕ) → IsSound image s → t < length s.threads → Step image s t (step_of image s t).reply (step_of image s t).state
+pub step_is : (image : Image) (s : State) (t : ℕ) → SatisfiesInvariant image s → t < length s.threads → Step image s t (step_of image s t).reply (step_of image s t).state
 step_is image s t sound lt =
     elim (slice_get_cases s.threads t).1 [
       | inl found ↦ subst (λ o. StepOf image s t o (step_at image s t o).reply (step_at image s t o).state) (sym found.2) (step_there image s t found.0 sound found.2)

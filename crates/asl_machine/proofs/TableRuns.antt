@@ -5,15 +5,15 @@ use Rattle.asl_code.specs.declared.image.Image.{Image}
 use Rattle.asl_machine.specs.declared.reply.Reply.{Reply}
 use Rattle.asl_machine.specs.State.{State}
 use Rattle.asl_machine.specs.Run.{replies_of, state_after, RunsBy}
-use Rattle.asl_machine.specs.Twin.{step_of}
-use Rattle.asl_machine.specs.Sound.{IsSound}
-use Rattle.asl_machine.proofs.Soundness.{step_sound}
+use Rattle.asl_machine.specs.StepFunction.{step_of}
+use Rattle.asl_machine.specs.WellFormed.{SatisfiesInvariant}
+use Rattle.asl_machine.proofs.Invariant.{step_sound}
 use Rattle.asl_machine.proofs.Table.{step_is}
 use Rattle.asl_machine.proofs.Unique.{step_only}
 use Rattle.asl_machine.proofs.Reached.{step_count}
 
 -- the computed run goes by the table
-pub run_is : (image : Image) (count : ℕ) (schedule : List ℕ) (s : State) → IsSound image s → length s.threads ≡ count → All (λ t. t < count) schedule →
+pub run_is : (image : Image) (count : ℕ) (schedule : List ℕ) (s : State) → SatisfiesInvariant image s → length s.threads ≡ count → All (λ t. t < count) schedule →
     RunsBy image s schedule (replies_of image s schedule) (state_after image s schedule)
 run_is image count [] s sound threads there = refl
 run_is image count (t ∷ ts) s sound threads there = (
@@ -23,7 +23,7 @@ run_is image count (t ∷ ts) s sound threads there = (
 )
 
 -- a run by the table is the computed one
-pub run_only : (image : Image) (schedule : List ℕ) (s : State) → IsSound image s → (replies : List Reply) (end : State) → RunsBy image s schedule replies end →
+pub run_only : (image : Image) (schedule : List ℕ) (s : State) → SatisfiesInvariant image s → (replies : List Reply) (end : State) → RunsBy image s schedule replies end →
     (replies ≡ replies_of image s schedule) × (end ≡ state_after image s schedule)
 run_only image [] s sound [] end e = (refl, e)
 run_only image [] s sound (r ∷ rs) end e = absurd e

@@ -24,10 +24,10 @@ use Rattle.asl_machine.specs.Cover.{cover}
 use Rattle.asl_lock_expr.specs.Expression.{cell_of}
 use Rattle.asl_machine.specs.Request.{locks_of, request_of}
 use Rattle.asl_machine.specs.Step.{At, advanced, going_on, called, returned, having_made, left_last, after, Reads, ReadsAddress, is_allowed, Sets, GoesOn, GoesTo, Fails, are_integers, FailsOperands, is_zero, ReturnsTo, Asks, Line, StepOf, Step}
-use Rattle.asl_machine.specs.Twin.{Left, set_left, computed, added, subtracted, compared, truth, same_value, jump_left, address_or_bounds, address_moved, make_left, allowed_cell, loaded, accessed, accessed_by, store_left, left_alone, return_fate, call_left, return_left, activity_moved, acquire_left, release_left, left_by, left_at, turn_by, step_at, step_of, register_of}
-use Rattle.asl_machine.specs.Sound.{IsSound}
+use Rattle.asl_machine.specs.StepFunction.{Left, set_left, computed, added, subtracted, compared, truth, same_value, jump_left, address_or_bounds, address_moved, make_left, allowed_cell, loaded, accessed, accessed_by, store_left, left_alone, return_fate, call_left, return_left, activity_moved, acquire_left, release_left, left_by, left_at, turn_by, step_at, step_of, register_of}
+use Rattle.asl_machine.specs.WellFormed.{SatisfiesInvariant}
 use Rattle.asl_lock_forest.proofs.Grantable.{can_grant-tells, CanGrant-tested}
-use Rattle.asl_machine.proofs.Soundness.{here_place, after_same}
+use Rattle.asl_machine.proofs.Invariant.{here_place, after_same}
 use Rattle.asl_machine.proofs.Table.{at_of}
 use Rattle.asl_machine.proofs.Words.{same_is, same_self}
 
@@ -215,7 +215,7 @@ goes_same at d e objects holding n is h = subst (λ k. GoesOn at k objects holdi
 request_same : (at : At) (list : ℕ) (request : Request) → Asks at list request → request_of at.state.objects at.activity.top.regs (locks_of at.image list) ≡ request
 request_same at list request asks = ap (λ o. request_of at.state.objects at.activity.top.regs (unwrap_or o [])) asks.listed ∙ sym asks.is
 
-only_line : (image : Image) (s : State) (t : ℕ) (a : Activity) → IsSound image s → slice_get s.threads t ≡ Some (Running a) → (i : Instr) (r : Reply) (n : State) → Line (at_of image s t a) i r n →
+only_line : (image : Image) (s : State) (t : ℕ) (a : Activity) → SatisfiesInvariant image s → slice_get s.threads t ≡ Some (Running a) → (i : Instr) (r : Reply) (n : State) → Line (at_of image s t a) i r n →
     IsLeft (at_of image s t a) (left_by image (here_place s t a) i) r n
 only_line image s t a sound here (instr.SetInt to number) reply.Ran n h = (refl, h)
 only_line image s t a sound here (instr.SetNull to) reply.Ran n h = (refl, h)
@@ -349,7 +349,7 @@ only_line image s t a sound here instr.Release (reply.Fault fault.NoSection) n h
     only_release at true false (reply.Fault fault.NoSection) n (zero_test _ none) (ne_eqb a.depth 1 (λ e. absurd (omega arith))) (refl, h.1)
 only_line image s t a sound here i r n h = absurd h
 
-only_there : (image : Image) (s : State) (t : ℕ) (thread : Thread) → IsSound image s → slice_get s.threads t ≡ Some thread → (r : Reply) (n : State) → StepOf image s t (Some thread) r n →
+only_there : (image : Image) (s : State) (t : ℕ) (thread : Thread) → SatisfiesInvariant image s → slice_get s.threads t ≡ Some thread → (r : Reply) (n : State) → StepOf image s t (Some thread) r n →
     (r ≡ (step_at image s t (Some thread)).reply) × (n ≡ (step_at image s t (Some thread)).state)
 only_there image s t (Running a) sound e r n h =
     let l = only_line image s t a sound e h.0 r n h.2 in
@@ -358,7 +358,7 @@ only_there image s t (Done v) sound e r n h = (h.0, h.1 ∙ sym (after_same s t 
 only_there image s t (Failed f) sound e r n h = (h.0, h.1 ∙ sym (after_same s t (Failed f) e))
 
 -- a step that the table allows is the computed one
-pub step_only : (image : Image) (s : State) (t : ℕ) → IsSound image s → (r : Reply) (n : State) → Step image s t r n → (r ≡ (step_of image s t).reply) × (n ≡ (step_of image s t).state)
+pub step_only : (image : Image) (s : State) (t : ℕ) → SatisfiesInvariant image s → (r : Reply) (n : State) → Step image s t r n → (r ≡ (step_of image s t).reply) × (n ≡ (step_of image s t).state)
 step_only image s t sound r n h =
     elim (slice_get s.threads t) as (λ o. slice_get s.threads t ≡ o → StepOf image s t o r n → (r ≡ (step_at image s t o).reply) × (n ≡ (step_at image s t o).state)) [
       | None ↦ λ e k. absurd k

@@ -3,7 +3,7 @@ use Rattle.std.proofs.Common.{◌≡◌, ℕ, ◌==◌, ◌&&◌, Bool, true, fa
 use Rattle.std.proofs.lemmas.Bool.Decides.{Decides-int_eq}
 use Rattle.asl_code.specs.declared.value.Value.{Value}
 use Rattle.asl_code.specs.declared.value.Value.TheVariants.{Int, Null, Addr}
-use Rattle.asl_machine.specs.Twin.{same_value}
+use Rattle.asl_machine.specs.StepFunction.{same_value}
 use Rattle.asl_machine.specs.Word.{bits_of, value_of}
 
 -- two values of which the test says that they are the same, are

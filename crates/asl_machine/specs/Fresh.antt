@@ -11,39 +11,37 @@ use Rattle.asl_lock_forest.specs.Holding.{Covers}
 use Rattle.asl_machine.specs.Cover.{is_fresh}
 use Rattle.asl_machine.specs.State.{Frame, Activity, Thread, State, cell_at, class_of, activity_of, activity_at}
 
--- the objects that are fresh for a thread: none where it has ended (docs/LOCKS.md, Fresh objects)
+-- the objects that are fresh for a thread: none where it has ended
 abbrev pub fresh_of : Thread → List ℕ
 fresh_of thread = option_map_or (λ (a : Activity). a.fresh) (activity_of thread) []
 
 -- the objects that are fresh for the thread of this number: none where it has ended or is not there
--- (docs/LOCKS.md, Fresh objects)
 abbrev pub fresh_at : List Thread → ℕ → List ℕ
 fresh_at threads t = option_map_or (λ (a : Activity). a.fresh) (activity_at threads t) []
 
--- the object is fresh for the thread (docs/LOCKS.md, Fresh objects)
+-- the object is fresh for the thread
 abbrev pub IsFreshFor : State → ℕ → ℕ → Type 0
 IsFreshFor s t object = IsTrue (is_fresh (fresh_at s.threads t) object)
 
--- no register has an address in the object (docs/LOCKS.md, Fresh objects)
+-- no register has an address in the object
 abbrev pub PointElsewhere : ℕ → List Value → Type 0
 PointElsewhere object regs = (register offset : ℕ) → slice_get regs register ≢ Some (Addr object offset)
 
--- no register of the frames has one (docs/LOCKS.md, Fresh objects)
+-- no register of the frames has one
 abbrev pub AllElsewhere : ℕ → List Frame → Type 0
 AllElsewhere object [] = Unit {0}
 AllElsewhere object (f ∷ fs) = PointElsewhere object f.regs × AllElsewhere object fs
 
 -- an address in an object that is fresh for the thread may stand in the cell: the cell's object is fresh for the thread
--- too, or it is fresh for nobody and what the thread holds covers the cell for writing (docs/LOCKS.md, Fresh objects)
+-- too, or it is fresh for nobody and what the thread holds covers the cell for writing
 abbrev pub MayHold : State → ℕ → Cell → Type 0
 MayHold s t cell =
     IsFreshFor s t cell.object
     ⊎ (((u : ℕ) → ¬ IsFreshFor s u cell.object) × ((class : ℕ) → class_of s.objects cell.object ≡ Some class → Covers s.holding t cell class Write))
 
--- what holds of fresh objects: there are some by images of version 2 alone; a thread outside all sections has none; they
--- are there and no globals; none is fresh for two threads; no frame of another thread has an address in one, and no cell
--- but those that may hold it
--- (docs/LOCKS.md, Fresh objects)
+-- what holds of fresh objects: there are some by images of version 2 alone; a thread outside all sections has none;
+-- they are there and no globals; none is fresh for two threads; no frame of another thread has an address in one, and
+-- no cell but those that may hold it
 pub record AreApart (image : Image) (s : State) : Type 0 where
   pub version : (t object : ℕ) → IsFreshFor s t object → image.version ≡ 2
   pub outside : (t : ℕ) (a : Activity) → activity_at s.threads t ≡ Some a → a.depth ≡ 0 → a.fresh ≡ []

@@ -4,11 +4,11 @@ pub mod Request
 pub mod Cover
 pub mod Access
 pub mod Step
-pub mod Twin
+pub mod StepFunction
 pub mod Run
 pub mod Nodes
 pub mod Fresh
-pub mod Sound
+pub mod WellFormed
 pub mod View
 pub mod World
 -- Machinery of the proofs, not of the promise:

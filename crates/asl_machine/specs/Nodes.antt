@@ -5,13 +5,12 @@ use Rattle.asl_lock_forest.specs.declared.node.Node.{Node}
 use Rattle.asl_lock_forest.specs.declared.node.Node.TheVariants.{Root, Class, Leaf}
 use Rattle.asl_machine.specs.State.{Object, cell_at, class_of}
 
--- the cell is there, and its object is of the class (docs/LOCKS.md, Nodes)
+-- the cell is there, and its object is of the class
 pub record IsLeaf (objects : List Object) (cell : Cell) (class : ℕ) : Type 0 where
   pub classed : class_of objects cell.object ≡ Some class
   pub there : IsSome (cell_at objects cell)
 
 -- the node is there: the root, a class below the count, or the leaf of a cell that is there, under its object's class
--- (docs/LOCKS.md, Nodes)
 abbrev pub IsNode : ℕ → List Object → Node → Type 0
 IsNode classes objects Root = Unit {0}
 IsNode classes objects (Class class) = class < classes

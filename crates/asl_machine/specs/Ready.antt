@@ -16,22 +16,21 @@ use Rattle.asl_machine.specs.Calls.{function_of, frame_count, IsAwaited}
 use Rattle.asl_machine.specs.Request.{LockOfClass, locks_of}
 use Rattle.asl_machine.specs.Access.{AllPoint, AreOfClasses}
 use Rattle.asl_machine.specs.Run.{IsReached, IsThreadCount}
-use Rattle.asl_machine.specs.Sound.{IsSound}
+use Rattle.asl_machine.specs.WellFormed.{SatisfiesInvariant}
 use Rattle.asl_machine.specs.Fresh.{AreApart}
 
--- where each of these functions begins, of which the first begins at this place (docs/INSTRUCTIONS.md)
+-- where each of these functions begins, of which the first begins at this place
 abbrev pub firsts_from : ℕ → List Function → List ℕ
 firsts_from first [] = []
 firsts_from first (f ∷ fs) = first ∷ firsts_from (first + f.len) fs
 
--- a thread at this stage (docs/INSTRUCTIONS.md, State)
+-- a thread at this stage
 abbrev pub thread_of : Stage → Thread
 thread_of (stage.Running activity) = Running activity
 thread_of (stage.Done value) = Done value
 thread_of (stage.Failed f) = Failed f
 
 -- the registers, globals and lists that the instruction names are there, and the classes that its locks name
--- (docs/INSTRUCTIONS.md, A step)
 abbrev pub CanDo : Image → Frame → Instr → Type 0
 CanDo image f (SetInt to number) = to < length f.regs
 CanDo image f (SetNull to) = to < length f.regs
@@ -55,7 +54,6 @@ CanDo image f (Acquire list) = (list < length image.lists) × All (LockOfClass i
 CanDo image f Release = Unit {0}
 
 -- whether the instruction changes the frames of its thread alone, asks for no lock and no memory, and shows nothing
--- (docs/INSTRUCTIONS.md, A step)
 abbrev pub is_local : Instr → Bool
 is_local (Load to address) = false
 is_local (Store address from) = false
@@ -66,9 +64,9 @@ is_local (Acquire list) = false
 is_local Release = false
 is_local i = true
 
--- what an instruction of a thread stands on: the cells that its registers point to are there, outside all sections
--- the thread holds nothing, a frame below has the register that awaits the value of the one above, and what is fresh for
--- the thread is there (docs/INSTRUCTIONS.md, What always holds)
+-- what an instruction of a thread stands on: the cells that its registers point to are there, outside all sections the
+-- thread holds nothing, a frame below has the register that awaits the value of the one above, and what is fresh for
+-- the thread is there
 pub record IsReady (image : Image) (forest : Held) (objects : List Object) (thread : ℕ) (activity : Activity) : Type 0 where
   pub fits : FitsImage image
   pub there : thread < forest.threads
@@ -83,7 +81,6 @@ pub record IsReady (image : Image) (forest : Held) (objects : List Object) (thre
   pub fresh : All (λ object. object < length objects) activity.fresh
 
 -- a running thread is ready for the instruction that it is at, and that is one that it can do
--- (docs/INSTRUCTIONS.md, What always holds)
 abbrev pub ThreadReady : Image → Held → List Object → ℕ → Thread → Type 0
 ThreadReady image forest objects t (Running activity) =
     IsReady image forest objects t activity × IsSomeAnd (slice_get image.code activity.top.pc) (CanDo image activity.top)
@@ -92,11 +89,10 @@ ThreadReady image forest objects t (Failed f) = Unit {0}
 
 -- what every machine keeps: its program is verified, its state is reached, sound, and with its fresh objects apart, its
 -- forest is over its program's classes and its own threads, and the program's version allows so many
--- (docs/INSTRUCTIONS.md, What always holds)
 pub record IsMachine (image : Image) (objects : List Object) (forest : Held) (threads : List Thread) : Type 0 where
   pub verified : IsVerified image
   pub reached : IsReached image (length threads) (record { objects = objects; holding = forest.holding; threads = threads })
-  pub sound : IsSound image (record { objects = objects; holding = forest.holding; threads = threads })
+  pub sound : SatisfiesInvariant image (record { objects = objects; holding = forest.holding; threads = threads })
   pub apart : AreApart image (record { objects = objects; holding = forest.holding; threads = threads })
   pub classes : forest.classes ≡ image.classes
   pub counted : forest.threads ≡ length threads

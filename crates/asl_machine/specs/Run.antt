@@ -11,53 +11,51 @@ use Rattle.asl_machine.specs.declared.reply.Reply.{Reply}
 use Rattle.asl_machine.specs.State.{Object, Activity, Thread, Running, State}
 use Rattle.asl_machine.specs.Calls.{first_frame}
 use Rattle.asl_machine.specs.Step.{Step}
-use Rattle.asl_machine.specs.Twin.{step_of}
+use Rattle.asl_machine.specs.StepFunction.{step_of}
 
--- the object of a global: one cell, which holds Int 0 (docs/INSTRUCTIONS.md, State)
+-- the object of a global: one cell, which holds Int 0
 abbrev pub global_object : ℕ → Object
 global_object class = record { class = class; cells = Int (pos 0) ∷ [] }
 
 -- what thread t is at when it starts: in the entry function, with its own number as the parameter, in no section
--- (docs/INSTRUCTIONS.md, State)
 abbrev pub first_activity : Image → ℕ → Activity
 first_activity image t = record { depth = 0; top = first_frame image image.start (Int (pos t) ∷ []) None; below = []; fresh = [] }
 
--- thread t at its start (docs/INSTRUCTIONS.md, State)
+-- thread t at its start
 abbrev pub first_thread : Image → ℕ → Thread
 first_thread image t = Running (first_activity image t)
 
--- the first threads, so many, in order (docs/INSTRUCTIONS.md, State)
+-- the first threads, so many, in order
 abbrev pub first_threads : Image → ℕ → List Thread
 first_threads image zero = []
 first_threads image (suc t) = first_threads image t ++ first_thread image t ∷ []
 
--- the program may start with so many threads: 1 to as many as its version sets (docs/INSTRUCTIONS.md, State)
+-- the program may start with so many threads: 1 to as many as its version sets
 abbrev pub IsThreadCount : Image → ℕ → Type 0
 IsThreadCount image count = (0 < count) × (count ≤ most_threads image.version)
 
--- the state in which so many threads of the program start (docs/INSTRUCTIONS.md, State)
+-- the state in which so many threads of the program start
 abbrev pub start_of : Image → ℕ → State
 start_of image count = record { objects = map global_object image.globals; holding = no_holding; threads = first_threads image count }
 
--- the replies of a schedule from a state on (docs/INSTRUCTIONS.md, A step)
+-- the replies of a schedule from a state on
 abbrev pub replies_of : Image → State → List ℕ → List Reply
 replies_of image s [] = []
 replies_of image s (t ∷ ts) = (step_of image s t).reply ∷ replies_of image (step_of image s t).state ts
 
--- the state after a schedule from a state on (docs/INSTRUCTIONS.md, A step)
+-- the state after a schedule from a state on
 abbrev pub state_after : Image → State → List ℕ → State
 state_after image s [] = s
 state_after image s (t ∷ ts) = state_after image (step_of image s t).state ts
 
--- the schedule leads from a state to an end, each step by a line of the instruction table, with these replies: by the table
--- alone, and by no computed step (docs/INSTRUCTIONS.md, A step)
+-- the schedule leads from a state to an end, each step by a line of the instruction table, with these replies: by the
+-- table alone, and by no computed step
 abbrev pub RunsBy : Image → State → List ℕ → List Reply → State → Type 0
 RunsBy image s [] [] end = end ≡ s
 RunsBy image s (t ∷ ts) (r ∷ rs) end = (new : State) × Step image s t r new × RunsBy image new ts rs end
 RunsBy image s ts rs end = ⊥
 
 -- some schedule of threads below the count leads so many threads of the program from their start to the state
--- (docs/INSTRUCTIONS.md, What always holds)
 pub record IsReached (image : Image) (count : ℕ) (s : State) : Type 0 where
   pub schedule : List ℕ
   pub threads_there : All (λ t. t < count) schedule

@@ -3,7 +3,7 @@ ghost use Rattle.std.specs.Prelude.{◌≡◌, ◌<◌, ◌≤◌, ◌+◌, ◌^
 ghost use Rattle.asl_code.specs.Fits.{FitsImage};
 ghost use Rattle.asl_machine.specs.Calls.{function_of, frame_count, IsAwaited};
 ghost use Rattle.asl_machine.specs.Step.{placed_at, advanced, going_on, is_zero};
-ghost use Rattle.asl_machine.specs.Twin.{register_of, call_fate, activity_called, fate_returned, activity_returned};
+ghost use Rattle.asl_machine.specs.StepFunction.{register_of, call_fate, activity_called, fate_returned, activity_returned};
 
 use crate::code::Code;
 use crate::fate::Fate;
@@ -15,7 +15,7 @@ use asl_code::Value;
 use std::alloc::{AllocError, Global};
 
 /// The most frames of a thread.
-const MOST_FRAMES: usize = 256;
+const MAX_FRAMES: usize = 256;
 
 /// Goes to this place of the code.
 pub fn jump(activity: &mut Activity, target: u16) -> Fate
@@ -71,7 +71,7 @@ pub fn call(
     ensures memory { OnErr result (frame_count activity.old < 256) }
     ensures err { OnErr result (activity.new ≡ activity.old) }
 {
-    if activity.frames() == MOST_FRAMES {
+    if activity.frames() == MAX_FRAMES {
         return Ok(Fate::Fails(Fault::Stack));
     }
     activity.call(alloc, code, to, first, function)?;

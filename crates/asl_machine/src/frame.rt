@@ -223,7 +223,7 @@ impl Activity {
     ghost use Rattle.asl_machine.specs.Run.{first_activity};
     ghost use Rattle.asl_machine.specs.Cover.{is_fresh};
     ghost use Rattle.asl_machine.specs.Step.{placed_at, advanced, advanced_with, going_on, with_fresh, called, left_last};
-    ghost use Rattle.asl_machine.specs.Twin.{register_of, activity_returned};
+    ghost use Rattle.asl_machine.specs.StepFunction.{register_of, activity_returned};
 
     /// What thread t is at when it starts.
     pub fn first(alloc: Global, code: &Code<'_>, t: u32) -> Result<Activity, AllocError>

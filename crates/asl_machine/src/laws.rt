@@ -13,9 +13,9 @@ ghost use Rattle.asl_machine.specs.State.{Object, State, depth_at};
 ghost use Rattle.asl_machine.specs.Request.{IsLeast, all_asks, request_of};
 ghost use Rattle.asl_machine.specs.Run.{IsReached};
 ghost use Rattle.asl_machine.specs.Nodes.{IsNode};
-ghost use Rattle.asl_machine.specs.Sound.{IsWellFormed};
+ghost use Rattle.asl_machine.specs.WellFormed.{IsWellFormed};
 ghost use Rattle.asl_machine.specs.Step.{Step};
-ghost use Rattle.asl_machine.specs.Twin.{step_of};
+ghost use Rattle.asl_machine.specs.StepFunction.{step_of};
 ghost use Rattle.asl_machine.specs.World.{SomeoneGoesOn};
 
 /// The request of a lock list is the least map that is at least every ask of its locks. It names each node once and none in

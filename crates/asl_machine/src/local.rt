@@ -4,7 +4,7 @@ ghost use Rattle.asl_lock_forest.specs.Held.{Held};
 ghost use Rattle.asl_machine.specs.declared.fate.Fate.TheVariants.{GoesOn};
 ghost use Rattle.asl_machine.specs.Calls.{IsAwaited};
 ghost use Rattle.asl_machine.specs.Ready.{CanDo, is_local};
-ghost use Rattle.asl_machine.specs.Twin.{place, left_with, left_by, fate_of, activity_set, register_of, address_moved};
+ghost use Rattle.asl_machine.specs.StepFunction.{place, left_with, left_by, fate_of, activity_set, register_of, address_moved};
 
 use crate::code::Code;
 use crate::control::{give, jump, jump_if_zero};

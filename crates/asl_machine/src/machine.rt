@@ -52,13 +52,13 @@ impl<'p> Machine<'p> {
     ghost use Rattle.asl_lock_forest.specs.Holding.{held};
     ghost use Rattle.asl_lock_forest.specs.Node.{IsThere};
     ghost use Rattle.asl_machine.specs.Step.{Step};
-    ghost use Rattle.asl_machine.specs.Twin.{step_of};
+    ghost use Rattle.asl_machine.specs.StepFunction.{step_of};
     ghost use Rattle.asl_machine.specs.World.{SomeoneGoesOn};
     ghost use Rattle.asl_machine.specs.View.{status_of};
     ghost use Rattle.asl_machine.specs.Nodes.{IsNode};
     ghost use Rattle.asl_machine.specs.Cover.{is_fresh};
     ghost use Rattle.asl_machine.specs.Fresh.{fresh_at};
-    ghost use Rattle.asl_machine.specs.Sound.{MayWantMemory};
+    ghost use Rattle.asl_machine.specs.WellFormed.{MayWantMemory};
 
     /// The machine in which n threads of the program start: 1 to as many as the program's version sets.
     ///

@@ -6,7 +6,7 @@ ghost use Rattle.asl_machine.specs.Access.{is_protected, Points, AllPoint, AreOf
 ghost use Rattle.asl_machine.specs.State.{cell_at, new_object};
 ghost use Rattle.asl_machine.specs.Step.{with_fresh};
 ghost use Rattle.asl_machine.specs.Cover.{cover};
-ghost use Rattle.asl_machine.specs.Twin.{place, accessed_by, accessed, allowed_cell, register_of, fate_of, loaded, activity_stored, objects_stored, make_fate, activity_made, made_objects};
+ghost use Rattle.asl_machine.specs.StepFunction.{place, accessed_by, accessed, allowed_cell, register_of, fate_of, loaded, activity_stored, objects_stored, make_fate, activity_made, made_objects};
 
 use crate::fate::Fate;
 use crate::fault::Fault;
@@ -18,7 +18,7 @@ use asl_lock_forest::Forest;
 use std::alloc::{AllocError, Global};
 
 /// The most objects of a machine: their numbers have 16 bits.
-const MOST_OBJECTS: usize = 65_536;
+const MAX_OBJECTS: usize = 65_536;
 
 /// The value of the cell that the register holds the address of, where the thread may read it.
 pub fn load(
@@ -91,7 +91,7 @@ pub fn make(
     ensures err { OnErr result (activity.new ≡ activity.old) }
     ensures err_heap { OnErr result (heap.new ≡ heap.old) }
 {
-    if heap.len() == MOST_OBJECTS {
+    if heap.len() == MAX_OBJECTS {
         return Ok(Fate::Fails(Fault::Full));
     }
     let number = if version == 2 && activity.depth() > 0 {

@@ -1,8 +1,8 @@
 //! What one instruction does for the thread that is at it.
 ghost use Rattle.std.specs.Prelude.{◌≡◌, IfOk, OnErr};
 ghost use Rattle.asl_machine.specs.Ready.{IsReady, CanDo};
-ghost use Rattle.asl_machine.specs.Sound.{WantsMemory};
-ghost use Rattle.asl_machine.specs.Twin.{place, left_with, left_by};
+ghost use Rattle.asl_machine.specs.WellFormed.{WantsMemory};
+ghost use Rattle.asl_machine.specs.StepFunction.{place, left_with, left_by};
 
 use crate::code::Code;
 use crate::control::{call, show};

@@ -6,7 +6,7 @@ ghost use Rattle.asl_machine.specs.declared.reply.Reply.{Reply};
 ghost use Rattle.asl_machine.specs.State.{State};
 ghost use Rattle.asl_machine.specs.Run.{start_of, replies_of, state_after, RunsBy, IsReached};
 ghost use Rattle.asl_machine.specs.Step.{Step};
-ghost use Rattle.asl_machine.specs.Twin.{step_of};
+ghost use Rattle.asl_machine.specs.StepFunction.{step_of};
 
 /// A run over a schedule in two parts is a run over the first part, and one over the second from where the first ends.
 pub fn runs_go_on()

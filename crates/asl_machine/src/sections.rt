@@ -3,7 +3,7 @@ ghost use Rattle.std.specs.Prelude.{◌≡◌, ◌<◌, ◌+◌, ◌-◌, ◌^�
 ghost use Rattle.asl_lock_forest.specs.Holding.{HoldsNothing, can_grant};
 ghost use Rattle.asl_machine.specs.Access.{AreOfClasses};
 ghost use Rattle.asl_machine.specs.Request.{LockOfClass, request_of, locks_of};
-ghost use Rattle.asl_machine.specs.Twin.{release_fate, activity_moved, activity_left, holding_released, acquire_fate, holding_acquired};
+ghost use Rattle.asl_machine.specs.StepFunction.{release_fate, activity_moved, activity_left, holding_released, acquire_fate, holding_acquired};
 
 use crate::code::Code;
 use crate::fate::Fate;
@@ -17,7 +17,7 @@ use asl_mode_lanes::Mode;
 use std::alloc::AllocError;
 
 /// The most sections that a thread is in at once.
-const MOST_DEPTH: u8 = 255;
+const MAX_DEPTH: u8 = 255;
 
 /// Enters a section with the locks of a list. The outermost asks for them, and waits where others hold them.
 pub fn acquire(
@@ -51,7 +51,7 @@ pub fn acquire(
 {
     match activity.depth() {
         0 => enter(heap, forest, asks, t, activity, locks(code, list)),
-        MOST_DEPTH => Ok(Fate::Fails(Fault::Deep)),
+        MAX_DEPTH => Ok(Fate::Fails(Fault::Deep)),
         _ => {
             activity.enter();
             Ok(Fate::GoesOn)

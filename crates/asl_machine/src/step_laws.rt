@@ -12,7 +12,7 @@ ghost use Rattle.asl_lock_forest.specs.declared.node.Node.{Node};
 ghost use Rattle.asl_lock_forest.specs.Holding.{Holding, HoldsNothing, held, grant, Covers};
 ghost use Rattle.asl_machine.specs.State.{Object, State, cell_at, class_of, size_of, written};
 ghost use Rattle.asl_machine.specs.Request.{asks_of, request_of, IsAsk, IsOn};
-ghost use Rattle.asl_machine.specs.Twin.{step_of};
+ghost use Rattle.asl_machine.specs.StepFunction.{step_of};
 
 /// A step of a thread leaves every other thread as it was, and what it holds. An object that is there keeps its class and
 /// its size.

@@ -5,9 +5,9 @@ ghost use Rattle.asl_lock_forest.specs.Held.{Held};
 ghost use Rattle.asl_machine.specs.State.{Activity as AnyActivity, Running};
 ghost use Rattle.asl_machine.specs.Calls.{IsAwaited};
 ghost use Rattle.asl_machine.specs.Ready.{IsReady, CanDo, is_local};
-ghost use Rattle.asl_machine.specs.Sound.{ThreadWantsMemory, WantsMemory};
+ghost use Rattle.asl_machine.specs.WellFormed.{ThreadWantsMemory, WantsMemory};
 ghost use Rattle.asl_machine.specs.Ready.{ThreadReady};
-ghost use Rattle.asl_machine.specs.Twin.{place, left_by, left_with, left_at, turn_of, reply_of, holding_after};
+ghost use Rattle.asl_machine.specs.StepFunction.{place, left_by, left_with, left_at, turn_of, reply_of, holding_after};
 
 use crate::code::Code;
 use crate::fate::Fate;

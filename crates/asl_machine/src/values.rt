@@ -2,7 +2,7 @@
 ghost use Rattle.std.specs.Prelude.{◌≡◌, ◌<◌, ℤ, length, Err, IfOk, IfErr};
 ghost use Rattle.asl_code.specs.declared.value.Value.TheVariants.{Int};
 ghost use Rattle.asl_machine.specs.Step.{is_zero};
-ghost use Rattle.asl_machine.specs.Twin.{register_of, address_moved, computed, added, subtracted, compared, truth, same_value};
+ghost use Rattle.asl_machine.specs.StepFunction.{register_of, address_moved, computed, added, subtracted, compared, truth, same_value};
 
 use crate::fault::Fault;
 use crate::frame::Activity;

@@ -1,6 +1,6 @@
 //! Values as registers and cells keep them, each in one word.
 ghost use Rattle.std.specs.Prelude.{◌≡◌};
-ghost use Rattle.asl_machine.specs.Twin.{same_value};
+ghost use Rattle.asl_machine.specs.StepFunction.{same_value};
 ghost use Rattle.asl_machine.specs.Word.{integer_of};
 
 use asl_code::Value;

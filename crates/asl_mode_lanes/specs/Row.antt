@@ -4,24 +4,24 @@ use Rattle.asl_mode_lanes.specs.declared.mode.Mode.{Mode}
 use Rattle.asl_mode_lanes.specs.declared.mode.Mode.TheVariants.{NL, IS, IX, S, SIX, X}
 use Rattle.asl_mode_lanes.specs.Mode.{code_of, is_compatible}
 
--- the mode that has this code, and NL where none has (docs/LOCKS.md, Modes)
+-- the mode that has this code, and NL where none has
 abbrev pub mode_of : ℕ → Mode
 mode_of code =
     if code == 1 then IS else if code == 3 then IX else if code == 5 then S else if code == 7 then SIX else if code == 15 then X else NL
 
--- some mode has this code (docs/LOCKS.md, Modes)
+-- some mode has this code
 abbrev pub IsCode : ℕ → Type 0
 IsCode code = code_of (mode_of code) ≡ code
 
--- a row: a list of codes (docs/LOCKS.md, Modes)
+-- a row: a list of codes
 abbrev pub IsRow : List ℕ → Type 0
 IsRow row = All IsCode row
 
--- what thread t holds in this row: nothing from the end of the row on (docs/LOCKS.md, Modes)
+-- what thread t holds in this row: nothing from the end of the row on
 abbrev pub mode_at : List ℕ → ℕ → Mode
 mode_at row t = mode_of (slice_index row t)
 
--- thread t, another than `own`, holds a mode in this row that keeps `own` from `want` (docs/LOCKS.md, Modes)
+-- thread t, another than `own`, holds a mode in this row that keeps `own` from `want`
 pub record IsConflict (row : List ℕ) (own : ℕ) (want : Mode) (t : ℕ) : Type 0 where
   pub there : t < length row
   pub other : t ≢ own

@@ -17,7 +17,7 @@ use asl_lower::Lowering;
 use std::alloc::{AllocError, Global};
 
 /// The most classes that a program may have.
-const MOST_CLASSES: usize = CLASSES as usize;
+const MAX_CLASSES: usize = CLASSES as usize;
 
 /// How many globals and sites a program has.
 fn members(lowering: &Lowering) -> u32
@@ -49,7 +49,7 @@ pub fn classes(alloc: Global, lowering: &Lowering) -> Result<Classes, ClassesFau
 {
     let mut draft = settled(alloc, lowering)?;
     let numbers = number_classes(alloc, &mut draft.sets, members(lowering))?;
-    if numbers.firsts.len() > MOST_CLASSES {
+    if numbers.firsts.len() > MAX_CLASSES {
         return Err(ClassesFault::TooManyClasses);
     }
     Ok(Classes::numbered(alloc, lowering, &draft, &numbers)?)

@@ -1,6 +1,6 @@
 //! The machine and its journal under the lock.
 ghost use Rattle.std.specs.Prelude.{◌≡◌, ◌≢◌, ◌↔◌, ◌⊎◌, ◌<◌, ◌++◌, ◌∷◌, [], length, IfOk, IfErr, IsErrOf, OnErr, Err};
-ghost use Rattle.asl_machine.specs.Sound.{MayWantMemory};
+ghost use Rattle.asl_machine.specs.WellFormed.{MayWantMemory};
 ghost use Rattle.asl_journal.specs.Journal.{IsJournal, most_events, state_at};
 ghost use Rattle.asl_journal.specs.Recorded.{IsUnchanged, event_of, has_ended, last_state};
 

@@ -13,7 +13,7 @@ use crate::locked::{Locked, Named};
 use crate::report::Report;
 use crate::starting::start;
 use asl_code::Program;
-use asl_journal::{EVENT_LIMIT, Journaled};
+use asl_journal::{MAX_EVENTS, Journaled};
 use asl_turns::Turns;
 use std::alloc::Global;
 use std::marker::Brand;
@@ -21,10 +21,10 @@ use std::sync::{Mutex, Wait};
 use std::thread::Threads;
 
 /// How many workers there are at most.
-const WORKER_LIMIT: u32 = 8;
+const MAX_WORKERS: u32 = 8;
 
 /// How many steps a run makes at most: as many as a journal has events.
-const STEP_LIMIT: u64 = EVENT_LIMIT as u64;
+const MAX_STEPS: u64 = MAX_EVENTS as u64;
 
 /// Runs n threads of the program by 1 to 8 workers, each a thread of the system. Worker j steps the threads t with
 /// t mod workers = j, as long as they have not ended, one ticket for each step, until all have ended or `limit` tickets are
@@ -61,7 +61,7 @@ pub fn run<'p, R: Threads + Wait + Sync, G: Gate>(
     ensures refused { IfErr result (λ refusal. IsRefusal program.now n workers limit refusal.0 refusal.1) }
 {
     let threads = program.limits().threads;
-    if n == 0 || n > threads || workers == 0 || workers > WORKER_LIMIT || limit > STEP_LIMIT {
+    if n == 0 || n > threads || workers == 0 || workers > MAX_WORKERS || limit > MAX_STEPS {
         return Err((RunFault::BadCount, None));
     }
     let Ok(journaled) = Journaled::start(alloc, program, n) else {

@@ -8,17 +8,17 @@ ghost use Rattle.asl_runner.specs.Turning.{AfterTurn, IsAt, IsReadyAt};
 use crate::gate::Gate;
 use crate::locked::Steps;
 use asl_code::NEWEST_LIMITS;
-use asl_journal::{EVENT_LIMIT, JournalFault, Receipt};
+use asl_journal::{MAX_EVENTS, JournalFault, Receipt};
 use asl_machine::Reply;
 use asl_turns::{TurnSeat, Turns};
 use std::alloc::Global;
 use std::sync::Wait;
 
 /// No journal has an entry with this number.
-const NO_ENTRY: u32 = EVENT_LIMIT as u32;
+const NO_ENTRY: u32 = MAX_EVENTS as u32;
 
 /// How many threads a run has at most.
-const THREAD_LIMIT: usize = NEWEST_LIMITS.threads as usize;
+const MAX_THREADS: usize = NEWEST_LIMITS.threads as usize;
 
 /// Which worker it is, of how many, and how many threads there are: its threads are those t with t mod workers = worker.
 #[derive(Clone, Copy, Drop)]
@@ -34,7 +34,7 @@ pub struct Post {
 pub struct Working {
     pub seat: TurnSeat,
     pub receipts: Vec<Receipt>,
-    pub going: [bool; THREAD_LIMIT],
+    pub going: [bool; MAX_THREADS],
     pub from: u32,
 }
 
@@ -55,7 +55,7 @@ enum Next {
 }
 
 /// The first of the worker's threads from low to below high that goes on.
-fn first_going(post: Post, going: &[bool; THREAD_LIMIT], low: u32, high: u32) -> Option<u8>
+fn first_going(post: Post, going: &[bool; MAX_THREADS], low: u32, high: u32) -> Option<u8>
     requires high { high ≤ newest_threads }
     requires some { 0 < post.workers }
     ensures { MatchOption result
@@ -71,7 +71,7 @@ fn first_going(post: Post, going: &[bool; THREAD_LIMIT], low: u32, high: u32) ->
 }
 
 /// A thread of the worker that goes on, in turn from the number on.
-fn next_thread(post: Post, going: &[bool; THREAD_LIMIT], from: u32) -> Option<u8>
+fn next_thread(post: Post, going: &[bool; MAX_THREADS], from: u32) -> Option<u8>
     requires count { post.count ≤ newest_threads }
     requires some { 0 < post.workers }
     ensures { MatchOption result
@@ -121,7 +121,7 @@ fn turn<R: Wait, S: Steps, G: Gate>(
 }
 
 /// A thread of which the receipt says that it has ended goes on no more.
-fn note_end(going: &mut [bool; THREAD_LIMIT], receipt: &Receipt)
+fn note_end(going: &mut [bool; MAX_THREADS], receipt: &Receipt)
     requires { receipt.now.thread < newest_threads }
     ensures ended { receipt.now.ended ≡ true → going.new ≡ set going.old receipt.now.thread false }
     ensures goes { receipt.now.ended ≡ false → going.new ≡ going.old }
@@ -180,11 +180,11 @@ pub fn run_worker<R: Wait, S: Steps, G: Gate>(
 }
 
 /// All threads go on.
-fn all_going() -> [bool; THREAD_LIMIT]
+fn all_going() -> [bool; MAX_THREADS]
     ensures count { length result ≡ newest_threads }
     ensures each { (t : ℕ) → t < newest_threads → slice_get result t ≡ Some true }
 {
-    [true; THREAD_LIMIT]
+    [true; MAX_THREADS]
 }
 
 /// What the worker leaves.

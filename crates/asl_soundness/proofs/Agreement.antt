@@ -17,10 +17,10 @@ use Rattle.asl_machine.specs.declared.reply.Reply.{Reply}
 use Rattle.asl_machine.specs.declared.reply.Reply.TheVariants as reply
 use Rattle.asl_machine.specs.State.{Frame, Activity, Thread, Running, Done, Failed, State, cell_at, class_of, written, new_object, activity_of}
 use Rattle.asl_machine.specs.Calls.{first_registers, values_from, with_register}
-use Rattle.asl_machine.specs.Sound.{AreSuspended}
+use Rattle.asl_machine.specs.WellFormed.{AreSuspended}
 use Rattle.asl_machine.specs.Step.{Line, Sets, GoesOn, after, returned}
 use Rattle.asl_machine.proofs.Heaps.{class_of-written}
-use Rattle.asl_machine.proofs.Soundness.{Here, function_is}
+use Rattle.asl_machine.proofs.Invariant.{Here, function_is}
 use Rattle.asl_machine.proofs.Table.{at_of}
 use Rattle.asl_soundness.specs.Coded.{classed, IsImageOf}
 use Rattle.asl_soundness.specs.Agrees.{FrameAgrees, FramesAgree, ThreadAgrees, Agrees}

@@ -20,7 +20,7 @@ use Rattle.asl_lock_expr.proofs.Walks.{path_append, star_reads, moved_stays}
 use Rattle.asl_machine.specs.State.{Activity, State, cell_at, class_of, activity_at}
 use Rattle.asl_machine.specs.Cover.{Cover, cover, is_fresh, Allows}
 use Rattle.asl_machine.specs.Request.{heap_of}
-use Rattle.asl_machine.specs.Sound.{IsSound}
+use Rattle.asl_machine.specs.WellFormed.{SatisfiesInvariant}
 use Rattle.asl_machine.specs.Fresh.{IsFreshFor, PointElsewhere, AreApart}
 use Rattle.asl_machine.proofs.Heaps.{class_there, pointed_value}
 use Rattle.asl_machine.proofs.Apart.{read_elsewhere}
@@ -45,7 +45,7 @@ abbrev pub Shun : (ℕ → Type 0) → List Value → Type 0
 Shun shunned regs = (o : ℕ) → shunned o → PointElsewhere o regs
 
 -- thread t, which is at a, and thread u
-module _ (c : Classed) (image : Image) (s : State) (sound : IsSound image s) (fr : AreApart image s) (globals : image.globals ≡ c.globals) (t u : ℕ) (a : Activity) (apart : t ≢ u) (is_a : activity_at s.threads t ≡ Some a) where
+module _ (c : Classed) (image : Image) (s : State) (sound : SatisfiesInvariant image s) (fr : AreApart image s) (globals : image.globals ≡ c.globals) (t u : ℕ) (a : Activity) (apart : t ≢ u) (is_a : activity_at s.threads t ≡ Some a) where
   abbrev k : Cover
   k = cover s.holding a.fresh
 

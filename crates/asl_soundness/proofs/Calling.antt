@@ -27,7 +27,7 @@ use Rattle.asl_lock_expr.proofs.Leaves.{call_leaves}
 use Rattle.asl_backward_flow.specs.Closed.{Family}
 use Rattle.asl_machine.specs.State.{Object, Frame, Activity, State, cell_at, class_of, written}
 use Rattle.asl_machine.specs.Calls.{with_register}
-use Rattle.asl_machine.specs.Sound.{IsSuspended, AreSuspended}
+use Rattle.asl_machine.specs.WellFormed.{IsSuspended, AreSuspended}
 use Rattle.asl_machine.specs.Step.{placed_at, returned}
 use Rattle.asl_machine.specs.Request.{heap_of}
 use Rattle.asl_machine.specs.Cover.{Cover, cover}

@@ -27,7 +27,7 @@ use Rattle.asl_lock_expr.proofs.Leaves.{call_leaves, prefix_left}
 use Rattle.asl_backward_flow.specs.Closed.{Family, IsClosed}
 use Rattle.asl_machine.specs.State.{Object, Frame, Activity, State, cell_at, written, activity_at}
 use Rattle.asl_machine.specs.Access.{Points, AllPoint}
-use Rattle.asl_machine.specs.Sound.{IsPlaced, AreSuspended, IsSound}
+use Rattle.asl_machine.specs.WellFormed.{IsPlaced, AreSuspended, SatisfiesInvariant}
 use Rattle.asl_machine.specs.Fresh.{IsFreshFor, AllElsewhere, AreApart}
 use Rattle.asl_machine.specs.Request.{heap_of}
 use Rattle.asl_machine.specs.Cover.{is_fresh, Cover, cover, Allows}
@@ -89,7 +89,7 @@ pub more_keeps : (c : Classed) (t : ℕ) (k after : Cover) (objects : List Objec
 more_keeps c t k after objects more regs W points away whole all n wanted = more_protects t k after objects regs more n (all n wanted)
 
 -- another thread's store: it may write the cell, so no prefix of a protected lock reads it
-pub stored_keeps : (c : Classed) (image : Image) (s : State) → IsSound image s → AreApart image s → image.globals ≡ c.globals → (t u : ℕ) (a : Activity) → t ≢ u → activity_at s.threads t ≡ Some a → (cell : Cell) (value : Value) → MayWrite s u cell →
+pub stored_keeps : (c : Classed) (image : Image) (s : State) → SatisfiesInvariant image s → AreApart image s → image.globals ≡ c.globals → (t u : ℕ) (a : Activity) → t ≢ u → activity_at s.threads t ≡ Some a → (cell : Cell) (value : Value) → MayWrite s u cell →
     Keeps c t (IsFreshFor s u) (cover s.holding a.fresh) s.objects (cover s.holding a.fresh) (written s.objects cell value)
 stored_keeps c image s sound fr globals t u a apart is cell value w regs W points away whole all n wanted = by_lock n wanted
   where

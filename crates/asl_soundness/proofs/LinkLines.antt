@@ -24,9 +24,9 @@ use Rattle.asl_machine.specs.declared.reply.Reply.TheVariants as reply
 use Rattle.asl_machine.specs.State.{Object, Frame, Activity, Thread, Running, Done, Failed, State, cell_at, written, new_object, activity_of, activity_at}
 use Rattle.asl_machine.specs.Cover.{Cover, cover}
 use Rattle.asl_machine.specs.Step.{Line, after, placed_at, advanced, advanced_with, going_on, having_made}
-use Rattle.asl_machine.specs.Twin.{step_of}
+use Rattle.asl_machine.specs.StepFunction.{step_of}
 use Rattle.asl_machine.proofs.Freshness.{made_keeps, made_new}
-use Rattle.asl_machine.proofs.Soundness.{Here}
+use Rattle.asl_machine.proofs.Invariant.{Here}
 use Rattle.asl_machine.proofs.Table.{at_of}
 use Rattle.asl_soundness.specs.Coded.{classed, IsImageOf}
 use Rattle.asl_soundness.specs.Agrees.{Agrees}

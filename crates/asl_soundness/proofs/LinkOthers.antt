@@ -15,10 +15,10 @@ use Rattle.asl_points_to.specs.Classes.{Classed}
 use Rattle.asl_lock_expr.specs.Links.{dereferenced}
 use Rattle.asl_machine.specs.State.{Object, Frame, Activity, State, written, activity_at}
 use Rattle.asl_machine.specs.Access.{AllPoint}
-use Rattle.asl_machine.specs.Sound.{AreSuspended, IsPlaced}
+use Rattle.asl_machine.specs.WellFormed.{AreSuspended, IsPlaced}
 use Rattle.asl_machine.specs.Cover.{Cover, cover}
 use Rattle.asl_machine.specs.Fresh.{IsFreshFor, PointElsewhere, AllElsewhere, AreApart}
-use Rattle.asl_machine.specs.Twin.{step_of}
+use Rattle.asl_machine.specs.StepFunction.{step_of}
 use Rattle.asl_machine.proofs.Others.{step_leaves_held}
 use Rattle.asl_soundness.specs.Coded.{IsImageOf}
 use Rattle.asl_soundness.specs.Protected.{Protected, LockThere}

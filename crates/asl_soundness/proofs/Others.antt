@@ -18,13 +18,13 @@ use Rattle.asl_backward_flow.specs.Closed.{Family}
 use Rattle.asl_machine.specs.declared.reply.Reply.{Reply}
 use Rattle.asl_machine.specs.declared.reply.Reply.TheVariants as reply
 use Rattle.asl_machine.specs.State.{Object, Activity, State, cell_at, written, new_object, activity_at}
-use Rattle.asl_machine.specs.Sound.{IsPlaced}
+use Rattle.asl_machine.specs.WellFormed.{IsPlaced}
 use Rattle.asl_machine.specs.Cover.{cover}
 use Rattle.asl_machine.specs.Fresh.{IsFreshFor, AreApart}
 use Rattle.asl_machine.proofs.Freshness.{allowed_covers}
 use Rattle.asl_machine.specs.Step.{Line}
-use Rattle.asl_machine.specs.Twin.{step_of}
-use Rattle.asl_machine.proofs.Soundness.{Here}
+use Rattle.asl_machine.specs.StepFunction.{step_of}
+use Rattle.asl_machine.proofs.Invariant.{Here}
 use Rattle.asl_machine.proofs.Table.{at_of}
 use Rattle.asl_machine.proofs.Others.{step_leaves_held}
 use Rattle.asl_soundness.specs.Coded.{classed}

@@ -10,12 +10,12 @@ use Rattle.asl_backward_flow.specs.Closed.{Family}
 use Rattle.asl_machine.specs.State.{Activity, State, activity_at}
 use Rattle.asl_machine.specs.Run.{start_of, replies_of, first_activity, IsReached}
 use Rattle.asl_machine.specs.Cover.{cover}
-use Rattle.asl_machine.specs.Twin.{step_of}
+use Rattle.asl_machine.specs.StepFunction.{step_of}
 use Rattle.asl_machine.specs.Fresh.{AreApart}
-use Rattle.asl_machine.proofs.Soundness.{Here}
+use Rattle.asl_machine.proofs.Invariant.{Here}
 use Rattle.asl_machine.proofs.ReachedApart.{start_apart, step_of_apart}
 use Rattle.asl_machine.proofs.TableRuns.{run_only}
-use Rattle.asl_soundness.specs.Safe.{IsSafe, NeverUnprotected}
+use Rattle.asl_soundness.specs.Safe.{IsSafe, NeverFaultsForLocks}
 use Rattle.asl_soundness.proofs.Analysed.{IsAnalysed}
 use Rattle.asl_soundness.proofs.Having.{HasWanted, HaveWanted}
 use Rattle.asl_soundness.proofs.Regions.{no_region}
@@ -75,7 +75,7 @@ module _ (l : Lowered) (c : Classed) (stores : ℕ → ℕ → Bool) (longest : 
   replies_safe (t ∷ ts) s h = All-cons IsSafe (step_of image s t).reply (replies_of image (step_of image s t).state ts) (step_safe s t h) (replies_safe ts (step_of image s t).state (step_good s t h))
 
   -- no reply of any schedule is a fault for want of a lock, for a section that was not entered, or for one left open
-  pub sound_program : NeverUnprotected image
+  pub sound_program : NeverFaultsForLocks image
   sound_program count schedule replies end run =
       let good = start_good count in
       let computed = run_only image schedule (start_of image count) good.structured.sound replies end run in

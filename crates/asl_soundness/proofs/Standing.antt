@@ -13,7 +13,7 @@ use Rattle.asl_lower.specs.Region.{InBody, start_of}
 use Rattle.asl_points_to.specs.Classes.{Classed}
 use Rattle.asl_machine.specs.State.{State, class_of}
 use Rattle.asl_machine.specs.Access.{Points}
-use Rattle.asl_machine.specs.Sound.{IsSuspended, IsSound}
+use Rattle.asl_machine.specs.WellFormed.{IsSuspended, SatisfiesInvariant}
 use Rattle.asl_machine.proofs.Heaps.{global_points}
 use Rattle.asl_machine.specs.State.{Frame, Object}
 use Rattle.asl_soundness.specs.Coded.{classed, IsImageOf}
@@ -49,8 +49,8 @@ module _ (l : Lowered) (c : Classed) (image : Image) (made : IsImageOf l c image
       i.1 ∙ ap (λ j. Some j) (classed_call c i.0 u.to u.first above i.2)
 
   -- the globals' objects are there and of the globals' classes
-  pub globals_agree : (s : State) → IsSound image s → (g x : ℕ) → slice_get c.globals g ≡ Some x → class_of s.objects g ≡ Some x
+  pub globals_agree : (s : State) → SatisfiesInvariant image s → (g x : ℕ) → slice_get c.globals g ≡ Some x → class_of s.objects g ≡ Some x
   globals_agree s sound g x e = (sound.formed.objects.globals g x (ap (λ xs. slice_get xs g) made.globals ∙ e)).0
 
-  pub globals_point : (s : State) → IsSound image s → (g : ℕ) → g < length c.globals → Points s.objects (Addr g 0)
+  pub globals_point : (s : State) → SatisfiesInvariant image s → (g : ℕ) → g < length c.globals → Points s.objects (Addr g 0)
   globals_point s sound g lt = global_points image s.objects g sound.formed.objects (subst (λ xs. g < length xs) (sym made.globals) lt)

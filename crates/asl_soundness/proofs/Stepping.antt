@@ -15,12 +15,12 @@ use Rattle.asl_machine.specs.declared.reply.Reply.{Reply}
 use Rattle.asl_machine.specs.declared.reply.Reply.TheVariants as reply
 use Rattle.asl_machine.specs.State.{Activity, Thread, Running, Done, Failed, State, activity_of, activity_at}
 use Rattle.asl_machine.specs.Run.{start_of, state_after, first_thread, first_threads, first_activity, IsReached}
-use Rattle.asl_machine.specs.Sound.{IsSound}
+use Rattle.asl_machine.specs.WellFormed.{SatisfiesInvariant}
 use Rattle.asl_machine.specs.Step.{Line, StepOf}
-use Rattle.asl_machine.specs.Twin.{step_of, step_at}
+use Rattle.asl_machine.specs.StepFunction.{step_of, step_at}
 use Rattle.asl_machine.proofs.Lists.{one_more}
 use Rattle.asl_machine.proofs.Others.{step_leaves}
-use Rattle.asl_machine.proofs.Soundness.{Here, here_of}
+use Rattle.asl_machine.proofs.Invariant.{Here, here_of}
 use Rattle.asl_machine.proofs.Table.{at_of, step_is}
 use Rattle.asl_soundness.specs.Coded.{classed, IsImageOf}
 use Rattle.asl_soundness.proofs.Standing.{body_of, lowered_at}
@@ -70,7 +70,7 @@ module _ (l : Lowered) (c : Classed) (image : Image) (made : IsImageOf l c image
       )
 
   -- the step of a running thread is its line
-  pub own_step : (s : State) (t : ℕ) (a : Activity) → IsSound image s → activity_at s.threads t ≡ Some a →
+  pub own_step : (s : State) (t : ℕ) (a : Activity) → SatisfiesInvariant image s → activity_at s.threads t ≡ Some a →
       (h : Here image s t a) × ((i : Instr) × Does l c image s t a h i (step_of image s t).reply (step_of image s t).state)
   own_step s t a sound is =
       let e = running_there s.threads t a is in
@@ -81,7 +81,7 @@ module _ (l : Lowered) (c : Classed) (image : Image) (made : IsImageOf l c image
       )
 
   -- what holds of each step: of each running thread's line, and where nothing is done
-  pub each_step : (s : State) (t : ℕ) (P : Reply → State → Type 0) → IsSound image s →
+  pub each_step : (s : State) (t : ℕ) (P : Reply → State → Type 0) → SatisfiesInvariant image s →
       ((a : Activity) (h : Here image s t a) (i : Instr) → Does l c image s t a h i (step_of image s t).reply (step_of image s t).state → P (step_of image s t).reply (step_of image s t).state) →
       P reply.Ended s → P (step_of image s t).reply (step_of image s t).state
   each_step s t P sound running idle =

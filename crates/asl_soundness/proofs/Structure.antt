@@ -18,10 +18,10 @@ use Rattle.asl_machine.specs.declared.reply.Reply.TheVariants as reply
 use Rattle.asl_machine.specs.State.{Object, Activity, State, cell_at, class_of, activity_at}
 use Rattle.asl_machine.specs.Calls.{first_registers}
 use Rattle.asl_machine.specs.Run.{start_of, global_object, first_activity, IsReached}
-use Rattle.asl_machine.specs.Sound.{IsSound}
+use Rattle.asl_machine.specs.WellFormed.{SatisfiesInvariant}
 use Rattle.asl_machine.specs.Step.{At, Line}
-use Rattle.asl_machine.specs.Twin.{step_of}
-use Rattle.asl_machine.proofs.Soundness.{start_sound, step_sound}
+use Rattle.asl_machine.specs.StepFunction.{step_of}
+use Rattle.asl_machine.proofs.Invariant.{start_sound, step_sound}
 use Rattle.asl_machine.proofs.Table.{at_of}
 use Rattle.asl_soundness.specs.Coded.{classed, IsImageOf}
 use Rattle.asl_soundness.specs.Agrees.{FrameAgrees, FramesAgree, Agrees}
@@ -34,7 +34,7 @@ use Rattle.asl_soundness.proofs.Stepping.{sites_there, each_step, each_thread, r
 
 -- what the first pass knows of a state
 pub record IsStructured (l : Lowered) (c : Classed) (image : Image) (s : State) : Type 0 where
-  pub sound : IsSound image s
+  pub sound : SatisfiesInvariant image s
   pub agrees : Agrees c s
   pub nested : AreNested l s
 

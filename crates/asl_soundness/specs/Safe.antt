@@ -24,8 +24,8 @@ IsSafe (reply.Fault fault.Open) = ⊥
 IsSafe r = Unit {0}
 
 -- with any number of threads, and in any order of their steps: where the instruction table gives these replies, each is safe
-abbrev pub NeverUnprotected : Image → Type 0
-NeverUnprotected image =
+abbrev pub NeverFaultsForLocks : Image → Type 0
+NeverFaultsForLocks image =
     (count : ℕ) (schedule : List ℕ) (replies : List Reply) (end : State) → RunsBy image (start_of image count) schedule replies end → All IsSafe replies
 
 -- for each lock that the family has behind the `acq` of a section, a lock of the section's list stands over it

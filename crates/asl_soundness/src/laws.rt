@@ -12,10 +12,10 @@ ghost use Rattle.asl_backward_flow.specs.Needed.{Needed};
 ghost use Rattle.asl_machine.specs.State.{Frame, Activity, State, activity_at};
 ghost use Rattle.asl_machine.specs.Run.{IsReached};
 ghost use Rattle.asl_machine.specs.Cover.{cover};
-ghost use Rattle.asl_machine.specs.Twin.{step_of};
+ghost use Rattle.asl_machine.specs.StepFunction.{step_of};
 ghost use Rattle.asl_soundness.specs.Coded.{IsImageOf};
 ghost use Rattle.asl_soundness.specs.Protected.{Protected, LockThere};
-ghost use Rattle.asl_soundness.specs.Safe.{StandOver, TellsAllStores, NeverUnprotected};
+ghost use Rattle.asl_soundness.specs.Safe.{StandOver, TellsAllStores, NeverFaultsForLocks};
 ghost use Rattle.asl_soundness.specs.Wanted.{AreProtected, TopHas, WaitingHave};
 
 /// One step from a reached state, for any one lock. Of the thread's own step, in a section before and behind it and in the same
@@ -61,5 +61,5 @@ pub fn locks_of_waiting_frames_are_protected()
 pub fn never_unprotected()
     ensures { (l : Lowered) (c : Classed) (stores : ℕ → ℕ → Bool) (longest : ℕ) (image : Image)
         → IsKept l → IsImageOf l c image → TellsAllStores l c stores → StandOver l c (Needed l c stores longest) image
-        → NeverUnprotected image }
+        → NeverFaultsForLocks image }
 {}

@@ -11,7 +11,7 @@ ghost use Rattle.asl_machine.specs.declared.fault.Fault.TheVariants.{NoSection, 
 ghost use Rattle.asl_machine.specs.declared.reply.Reply.TheVariants as reply;
 ghost use Rattle.asl_machine.specs.State.{Activity, State, activity_at};
 ghost use Rattle.asl_machine.specs.Run.{IsReached};
-ghost use Rattle.asl_machine.specs.Twin.{step_of};
+ghost use Rattle.asl_machine.specs.StepFunction.{step_of};
 ghost use Rattle.asl_soundness.specs.Coded.{IsImageOf};
 ghost use Rattle.asl_soundness.specs.Agrees.{Agrees};
 ghost use Rattle.asl_soundness.specs.Nested.{AreNested};

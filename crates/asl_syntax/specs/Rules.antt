@@ -17,9 +17,9 @@ no_name q = false
 abbrev pub with_name : List ℕ → Names → Names
 with_name x known q = bytes_eq x q || known q
 
--- The first name that is declared a second time: of globals, of functions, or of the parameters of one function. That there
--- is none says that each is declared once: the law names_are_declared_once (docs/SOURCE.md, "Refusals"). Which is the
--- first: the law faults_of_names_are_the_first.
+-- The first name that is declared a second time: of globals, of functions, or of the parameters of one function. That
+-- there is none says that each is declared once: the law names_are_declared_once. Which is the first: the law
+-- faults_of_names_are_the_first.
 abbrev pub first_twice : Names → Names → Names → List Mention → Option (List ℕ)
 first_twice globals functions parameters [] = None
 first_twice globals functions parameters (DeclaresGlobal x ∷ ms) =
@@ -86,7 +86,7 @@ first_unknown globals functions (i ∷ is) =
     or_name (unknown_in_item globals functions i) (first_unknown globals functions is)
 
 -- The first name of a program that is used and nowhere declared. That there is none says that each is declared: the law
--- names_are_known (docs/SOURCE.md, "Refusals"). Which is the first: the law faults_of_names_are_the_first.
+-- names_are_known. Which is the first: the law faults_of_names_are_the_first.
 abbrev pub unknown : List Item → Option (List ℕ)
 unknown tree = first_unknown (names_in Globals (mentions tree)) (names_in Functions (mentions tree)) tree
 

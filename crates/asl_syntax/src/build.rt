@@ -15,7 +15,7 @@ ghost use Rattle.asl_syntax.specs.BuildView.{part_of, pending_of, header_in};
 ghost use Rattle.asl_syntax.specs.Parsed.{IsSpelled};
 ghost use Rattle.asl_syntax.specs.Checked.{IsWritten};
 
-use crate::limit::{Counts, MOST_BYTES, capped_value, first_wide};
+use crate::limit::{Counts, MAX_BYTES, capped_value, first_wide};
 use crate::name::Name;
 use crate::tree::{Function, Item, Statement, Value};
 use asl_grammar::control::{Act, Control, Kind, Line, Opening, Right, step};
@@ -338,7 +338,7 @@ impl Builder {
 pub fn build(alloc: Global, text: &[u8]) -> Result<Option<Vec<Item>>, AllocError>
     ensures { IfOk result (λ items. MatchOption items (IsWritten text.now → ⊥) (λ v. IsSpelled text.now (items_of v))) }
 {
-    if first_wide(text).is_some() || text.len() > MOST_BYTES {
+    if first_wide(text).is_some() || text.len() > MAX_BYTES {
         return Ok(None);
     }
     let mut tokens = Tokens::new(text);

@@ -12,7 +12,7 @@ use asl_grammar::lexer::{Found, Tokens};
 use asl_grammar::token::{Mark, Token};
 
 /// The most bytes that a text has.
-pub const MOST_BYTES: usize = 1_048_576;
+pub const MAX_BYTES: usize = 1_048_576;
 
 /// The place of the first byte that is not ASCII.
 pub fn first_wide(text: &[u8]) -> Option<usize>
@@ -180,8 +180,8 @@ pub fn reach(text: &[u8]) -> Extent
 fn byte_over(len: usize) -> Option<usize>
     ensures { result ≡ byte_over len }
 {
-    if len > MOST_BYTES {
-        Some(MOST_BYTES)
+    if len > MAX_BYTES {
+        Some(MAX_BYTES)
     } else {
         None
     }

@@ -336,7 +336,7 @@ static CELLS: [(&[u8], Base, &[Op], Effect); 3] = [
 fn path_of(ops: &[Op]) -> Path {
     let mut path = Path::new();
     for op in ops {
-        if path.len() < Path::MOST {
+        if path.len() < Path::MAX_LEN {
             path.push(*op);
         }
     }

@@ -11,8 +11,8 @@ use Rattle.asl_machine.specs.declared.fault.Fault.TheVariants as fault
 use Rattle.asl_machine.specs.declared.reply.Reply.{Reply}
 use Rattle.asl_machine.specs.declared.reply.Reply.TheVariants as reply
 use Rattle.asl_machine.specs.State.{State}
-use Rattle.asl_machine.specs.Twin.{same_value}
-use Rattle.asl_machine.specs.Twin.{step_of}
+use Rattle.asl_machine.specs.StepFunction.{same_value}
+use Rattle.asl_machine.specs.StepFunction.{step_of}
 use Rattle.asl_machine.proofs.Words.{same_is, same_self}
 use Rattle.asl_journal.specs.declared.event.Event.{Event}
 use Rattle.asl_journal.specs.Journal.{GoesBy}

@@ -8,7 +8,7 @@ use Rattle.asl_syntax.specs.Fault as syntax
 use Rattle.asl_emitter.specs.declared.fault.InferFault.{InferFault}
 use Rattle.asl_emitter.specs.Inferred.{IsInferredFor}
 use Rattle.asl_emitter.specs.Refused.{IsAccepted, IsRefused}
-use Rattle.asl_soundness.specs.Safe.{NeverUnprotected}
+use Rattle.asl_soundness.specs.Safe.{NeverFaultsForLocks}
 use Rattle.asl_atomicity.specs.Serial.{HasSerialRuns}
 use Rattle.asl_atomicity.specs.Renamed.{HasSerialRunsUpTo}
 use Rattle.asl_assembler.specs.Canonical.{canonical_text}
@@ -23,7 +23,7 @@ pub record IsProgramFor (source : List ℕ) (longest : ℕ) (image : Image) : Ty
   pub parsed : Parses source tree
   pub accepted : IsAccepted tree longest
   pub inferred : IsInferredFor tree longest image
-  pub safe : NeverUnprotected image
+  pub safe : NeverFaultsForLocks image
   pub atomic : (count : ℕ) → HasSerialRuns image count
   pub atomic_up_to_numbers : (count : ℕ) → HasSerialRunsUpTo image count
 

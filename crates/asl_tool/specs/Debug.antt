@@ -16,7 +16,7 @@ use Rattle.asl_words.specs.declared.debug_word.Move.TheVariants as step
 use Rattle.asl_tool.specs.RunFile.{SpellsRun}
 use Rattle.asl_tool.specs.View.{view_text}
 
--- what each move answers: the position to which it leads, or why it leads nowhere (docs/JOURNAL.md, The debugger)
+-- what each move answers: the position to which it leads, or why it leads nowhere
 abbrev pub IsAnswer : Session → Move → Answer → Type 0
 IsAnswer s (step.Goto k) (At p) = (k ≤ length s.log.events) × (p ≡ k)
 IsAnswer s (step.Goto k) NoSuchStep = length s.log.events < k
@@ -30,19 +30,19 @@ IsAnswer s step.Previous (At p) = IsLastStop s p
 IsAnswer s step.Previous AtStart = s.position ≡ 0
 IsAnswer s m answer = ⊥
 
--- where the session stands after an answer (docs/JOURNAL.md, The debugger)
+-- where the session stands after an answer
 abbrev pub arrived : Session → Answer → Session
 arrived s (At p) = moved s p
 arrived s answer = s
 
--- the line of an answer (docs/JOURNAL.md, Words of the debugger)
+-- the line of an answer
 abbrev pub answer_text : Answer → List ℕ
 answer_text (At p) = codes "at " ++ decimal p ++ 10 ∷ []
 answer_text AtEnd = codes "refused AtEnd\n"
 answer_text AtStart = codes "refused AtStart\n"
 answer_text NoSuchStep = codes "refused NoSuchStep\n"
 
--- what a word makes of a session, and the text that answers it (docs/JOURNAL.md, Words of the debugger)
+-- what a word makes of a session, and the text that answers it
 abbrev pub Says : Session → DebugWord → Session → List ℕ → Type 0
 Says s (word.Move m) next text = (answer : Answer) × IsAnswer s m answer × (next ≡ arrived s answer) × (text ≡ answer_text answer)
 Says s (word.Break pc) next text =
@@ -51,13 +51,13 @@ Says s (word.Clear pc) next text =
     (next ≡ with_breaks s next.breakpoints) × HasNoBreak s.breakpoints next.breakpoints pc × (text ≡ codes "clear " ++ decimal pc ++ 10 ∷ [])
 Says s word.View next text = (next ≡ s) × (text ≡ view_text (machine_before s.image s.log s.position))
 
--- the texts that answer the words, one after the other (docs/JOURNAL.md, Words of the debugger)
+-- the texts that answer the words, one after the other
 abbrev pub IsTalk : Session → List DebugWord → List ℕ → Type 0
 IsTalk s [] text = text ≡ []
 IsTalk s (w ∷ words) text =
     (next : Session) × (first : List ℕ) × (rest : List ℕ) × Says s w next first × IsTalk next words rest × (text ≡ first ++ rest)
 
--- a debugger over a journal, as it is opened (docs/JOURNAL.md, The debugger)
+-- a debugger over a journal, as it is opened
 abbrev pub opened : Image → Log → Session
 opened image log = record { image = image; log = log; position = 0; breakpoints = [] }
 

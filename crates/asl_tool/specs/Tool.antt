@@ -7,10 +7,10 @@ use Rattle.std.specs.Io.KnownBytes.{Appends}
 use Rattle.asl_words.specs.declared.command.Command.{Command}
 use Rattle.asl_words.specs.declared.command.Team.{Team}
 use Rattle.asl_words.specs.declared.command.Invocation.{Invocation}
-use Rattle.asl_words.specs.declared.command.Invocation.TheVariants.{Run, Work, Help, WrongUsage}
+use Rattle.asl_words.specs.declared.command.Invocation.TheVariants.{Alone, Run, Help, WrongUsage}
 use Rattle.asl_words.specs.Words.{AsksFor}
 use Rattle.asl_tool.specs.declared.command.CommandFault.{CommandFault}
-use Rattle.asl_tool.specs.declared.streams.TheConstants.{MOST_INPUT}
+use Rattle.asl_tool.specs.declared.streams.TheConstants.{MAX_INPUT}
 use Rattle.asl_tool.specs.declared.performing.ToolFault.{ToolFault}
 use Rattle.asl_tool.specs.declared.performing.ToolFault.TheVariants as fault
 use Rattle.asl_tool.specs.Streams.{AppendsPart, IsReadFault}
@@ -32,7 +32,7 @@ of_team team = record { output = IsWorkOutput team; refusal = IsRefusedWork team
 
 -- the input is all that the reader had, where that is known, and no longer than an input may be
 abbrev pub IsWhole : Option (List ℕ) → List ℕ → Type 0
-IsWhole known input = IfSome known (λ bytes. input ≡ bytes) × (length input ≤ MOST_INPUT)
+IsWhole known input = IfSome known (λ bytes. input ≡ bytes) × (length input ≤ MAX_INPUT)
 
 -- the writer got the command's output for the input
 pub record WritesOutput (known old new : Option (List ℕ)) (promise : Promise) : Type 0 where
@@ -83,8 +83,8 @@ IsAsked words None = Unit {0}
 -- the status of what was asked, with what the writer got: 2 is for wrong usage alone. Unless a command was asked for, the
 -- reader is as it was (`unread`); where there is nothing to write, the writer is as it was (`unwritten`)
 abbrev pub IsStatus : Type 0 → Type 0 → Option (List ℕ) → Option (List ℕ) → Option (List ℕ) → ℕ → Option Invocation → Type 0
-IsStatus unread unwritten known old new status (Some (Run command)) = IsCommandStatus unwritten known old new (of_command command) status
-IsStatus unread unwritten known old new status (Some (Work team)) = IsCommandStatus unwritten known old new (of_team team) status
+IsStatus unread unwritten known old new status (Some (Alone command)) = IsCommandStatus unwritten known old new (of_command command) status
+IsStatus unread unwritten known old new status (Some (Run team)) = IsCommandStatus unwritten known old new (of_team team) status
 IsStatus unread unwritten known old new status (Some (Help text)) = unread × IsTextStatus old new text.bytes.items status
 IsStatus unread unwritten known old new status (Some (WrongUsage text)) = unread × (unwritten × (status ≡ 2))
 IsStatus unread unwritten known old new status None = unread × (unwritten × (status ≡ 1))
@@ -96,7 +96,7 @@ EndsWith words unread unwritten known old new status =
 
 -- not the command `run`
 abbrev pub IsNoWork : Option Invocation → Type 0
-IsNoWork (Some (Work team)) = ⊥
+IsNoWork (Some (Run team)) = ⊥
 IsNoWork asked = Unit {0}
 
 -- the same where the words do not ask for `run`
@@ -106,4 +106,4 @@ EndsAlone words unread unwritten known old new status =
 
 -- the words ask for `run`
 abbrev pub AsksForWork : List (List ℕ) → Type 0
-AsksForWork words = (team : Team) × AsksFor words (Work team)
+AsksForWork words = (team : Team) × AsksFor words (Run team)

@@ -1,6 +1,6 @@
 //! A run of the program: words, a reader and two writers in, the exit status out.
 ghost use Rattle.std.specs.Prelude.{◌≡◌, ◌≤◌, length, map, Some, OnOk, IfErr, IfNone, IfSome, MatchOption, MatchResult, string_bytes};
-ghost use Rattle.asl_tool.specs.declared.streams.TheConstants.{MOST_INPUT};
+ghost use Rattle.asl_tool.specs.declared.streams.TheConstants.{MAX_INPUT};
 ghost use Rattle.asl_tool.specs.Tool.{AsksForWork, EndsAlone, EndsWith, IsCommandStatus, IsTextStatus, Refuses, WritesOutput, of_command, of_team};
 
 use crate::command::{CommandFault, output_of};
@@ -53,8 +53,8 @@ pub fn tool<H: Threads + Wait + Sync, R: Read, W: Write, E: Write>(
     ensures quiet { result ≡ 0 → errors.new ≡ errors.old }
 {
     match read_words(alloc, words) {
-        Ok(Invocation::Run(command)) => performed(alloc, &command, reader, writer, errors),
-        Ok(Invocation::Work(team)) => worked(rt, alloc, team, reader, writer, errors),
+        Ok(Invocation::Alone(command)) => performed(alloc, &command, reader, writer, errors),
+        Ok(Invocation::Run(team)) => worked(rt, alloc, team, reader, writer, errors),
         Ok(Invocation::Help(text)) => shown(text.as_str(), writer, errors),
         Ok(Invocation::WrongUsage(text)) => wrong_usage(text.as_str(), errors),
         Err(_) => status_of(Err(ToolFault::OutOfMemory), errors),
@@ -76,8 +76,8 @@ pub fn tool_alone<R: Read, W: Write, E: Write>(
     ensures quiet { IfSome result (λ status. status ≡ 0 → errors.new ≡ errors.old) }
 {
     match read_words(alloc, words) {
-        Ok(Invocation::Run(command)) => Some(performed(alloc, &command, reader, writer, errors)),
-        Ok(Invocation::Work(_)) => None,
+        Ok(Invocation::Alone(command)) => Some(performed(alloc, &command, reader, writer, errors)),
+        Ok(Invocation::Run(_)) => None,
         Ok(Invocation::Help(text)) => Some(shown(text.as_str(), writer, errors)),
         Ok(Invocation::WrongUsage(text)) => Some(wrong_usage(text.as_str(), errors)),
         Err(_) => Some(status_of(Err(ToolFault::OutOfMemory), errors)),
@@ -182,7 +182,7 @@ fn answer<W: Write>(
     input: &[u8],
     writer: &mut W,
 ) -> Result<(), ToolFault>
-    requires { length input.now ≤ MOST_INPUT }
+    requires { length input.now ≤ MAX_INPUT }
     ensures ok { OnOk result
         (WritesOutput (Some input.now) (W.contents writer.old) (W.contents writer.new) (of_command command.now)) }
     ensures err { IfErr result
@@ -206,7 +206,7 @@ fn answer_run<H: Threads + Wait + Sync, W: Write>(
     input: &[u8],
     writer: &mut W,
 ) -> Result<(), ToolFault>
-    requires { length input.now ≤ MOST_INPUT }
+    requires { length input.now ≤ MAX_INPUT }
     ensures ok { OnOk result
         (WritesOutput (Some input.now) (W.contents writer.old) (W.contents writer.new) (of_team team)) }
     ensures err { IfErr result

@@ -6,7 +6,7 @@ ghost use Rattle.asl_tool.specs.Step.{AllThere, IsSchedule, IsRecord, IsRefusedR
 
 use crate::replies::push_line;
 use asl_code::Program;
-use asl_journal::{EVENT_LIMIT, Event, Journal, JournalFault, Journaled};
+use asl_journal::{MAX_EVENTS, Event, Journal, JournalFault, Journaled};
 use std::alloc::{AllocError, Global};
 
 /// The journal of the program's run over the schedule. The schedule is judged before the first step.
@@ -32,11 +32,11 @@ fn judge(threads: u32, schedule: &[u32], program: &Program) -> Result<(), Journa
     if threads == 0 || threads > program.limits().threads {
         return Err(JournalFault::BadCount);
     }
-    let most = schedule.len().min(EVENT_LIMIT);
+    let most = schedule.len().min(MAX_EVENTS);
     if !all_there(threads, &schedule[..most]) {
         return Err(JournalFault::BadThread);
     }
-    if schedule.len() > EVENT_LIMIT {
+    if schedule.len() > MAX_EVENTS {
         return Err(JournalFault::JournalFull);
     }
     Ok(())

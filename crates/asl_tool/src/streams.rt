@@ -8,7 +8,7 @@ use std::io::{Read, Write};
 use thiserror::Error;
 
 /// The most bytes that an input may have.
-pub const MOST_INPUT: usize = 268_435_456;
+pub const MAX_INPUT: usize = 268_435_456;
 
 /// Why the input was not read to its end.
 #[derive(Clone, Copy, Debug, PartialEq, Eq, Error)]
@@ -37,7 +37,7 @@ pub struct WriteFault;
 /// memory hides neither an input that is too long nor a reader that fails.
 pub fn read_whole<R: Read>(alloc: Global, reader: &mut R) -> Result<Vec<u8>, ReadFault>
     ensures whole { IfOk result (λ all. IfSome (R.remaining reader.old) (λ bytes. all.items ≡ bytes)) }
-    ensures short { IfOk result (λ all. length all.items ≤ MOST_INPUT) }
+    ensures short { IfOk result (λ all. length all.items ≤ MAX_INPUT) }
     ensures fault { IfErr result (IsReadFault (R.remaining reader.old)) }
 {
     let mut kept = Some(Vec::new(alloc));
@@ -48,7 +48,7 @@ pub fn read_whole<R: Read>(alloc: Global, reader: &mut R) -> Result<Vec<u8>, Rea
         if count == 0 {
             return kept.ok_or(ReadFault::OutOfMemory);
         }
-        if count > MOST_INPUT - read {
+        if count > MAX_INPUT - read {
             return Err(ReadFault::TooLong);
         }
         read += count;

@@ -13,7 +13,7 @@ use asl_mode_lanes::Mode;
 use std::alloc::AllocError;
 
 /// How many registers a frame has at most.
-const MOST_REGISTERS: u32 = REGS as u32;
+const MAX_REGISTERS: u32 = REGS as u32;
 
 /// Adds the view of the machine: its threads, its cells, what each thread holds, and what is fresh for each.
 pub fn push_view(text: &mut String, machine: &Machine<'_>) -> Result<(), AllocError>
@@ -73,7 +73,7 @@ fn push_registers(text: &mut String, machine: &Machine<'_>, t: u32) -> Result<()
     ensures { OnOk result (string_bytes text.new ≡ string_bytes text.old
         ++ lines_from (register_at machine.now.state t) 0 64) }
 {
-    for register in 0..MOST_REGISTERS {
+    for register in 0..MAX_REGISTERS {
         push_register(text, machine, t, register)?;
     }
     Ok(())

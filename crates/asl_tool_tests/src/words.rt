@@ -57,8 +57,8 @@ fn is_team(team: &Team, wanted: &Wanted) -> bool {
 
 fn is_as_wanted(got: &Invocation, wanted: &Wanted) -> bool {
     match got {
-        Invocation::Run(command) => is_command(command, wanted),
-        Invocation::Work(team) => is_team(team, wanted),
+        Invocation::Alone(command) => is_command(command, wanted),
+        Invocation::Run(team) => is_team(team, wanted),
         Invocation::Help(text) => matches!(wanted, Wanted::Help) && !text.is_empty(),
         Invocation::WrongUsage(text) => matches!(wanted, Wanted::WrongUsage) && !text.is_empty(),
     }

@@ -5,7 +5,7 @@ use Rattle.clap.specs.declared.error.kind.ErrorKind.{ErrorKind}
 use Rattle.clap.specs.declared.error.kind.ErrorKind.TheVariants.{DisplayHelp, OutOfMemory}
 use Rattle.clap.proofs.OnLiterals.{clap_on_literals}
 use Rattle.asl_words.specs.declared.command.Invocation.{Invocation}
-use Rattle.asl_words.specs.declared.command.Invocation.TheVariants.{Run, Work, Help, WrongUsage}
+use Rattle.asl_words.specs.declared.command.Invocation.TheVariants.{Alone, Run, Help, WrongUsage}
 use Rattle.asl_words.specs.Arguments.{asl_app}
 use Rattle.asl_words.specs.Reading.{IsRefusal}
 use Rattle.asl_words.specs.Words.{AsksFor, IsTaken}
@@ -30,8 +30,8 @@ taken_words app words named i app_is free simple taken =
 -- an error of words that were not, as what it is made of
 made_of : (kinds : Kinds) (words : List Text) (kind : ErrorKind) (i : Invocation) → fault_of asl_app words ≡ kinds → IsAmong kind kinds → IsRefusal kind i
     → AsksFor words i
-made_of kinds words kind (Run command) same among refusal = absurd refusal
-made_of kinds words kind (Work team) same among refusal = absurd refusal
+made_of kinds words kind (Alone command) same among refusal = absurd refusal
+made_of kinds words kind (Run team) same among refusal = absurd refusal
 made_of kinds words kind (Help text) same among refusal =
     inr (subst (IsAmong DisplayHelp) (sym same) (subst (λ (k : ErrorKind). IsAmong k kinds) refusal among))
 made_of kinds words kind (WrongUsage text) same among refusal = inr (kind, subst (IsAmong kind) (sym same) among, refusal)

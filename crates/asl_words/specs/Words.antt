@@ -10,7 +10,7 @@ use Rattle.asl_words.specs.declared.command.Command.{Command}
 use Rattle.asl_words.specs.declared.command.Command.TheVariants as command
 use Rattle.asl_words.specs.declared.command.Team.{Team}
 use Rattle.asl_words.specs.declared.command.Invocation.{Invocation}
-use Rattle.asl_words.specs.declared.command.Invocation.TheVariants.{Run, Work, Help, WrongUsage}
+use Rattle.asl_words.specs.declared.command.Invocation.TheVariants.{Alone, Run, Help, WrongUsage}
 use Rattle.asl_words.specs.declared.debug_word.DebugWord.{DebugWord}
 use Rattle.asl_words.specs.declared.debug_word.DebugWord.TheVariants as word
 use Rattle.asl_words.specs.declared.debug_word.Move.TheVariants as move
@@ -108,8 +108,8 @@ IsMisused name rows =
 
 -- what the command of this name with these values asks for
 abbrev pub IsReading : Text → List Row → Invocation → Type 0
-IsReading name rows (Run command) = IsCommand name rows command
-IsReading name rows (Work team) = IsTeam name rows team
+IsReading name rows (Alone command) = IsCommand name rows command
+IsReading name rows (Run team) = IsTeam name rows team
 IsReading name rows (Help text) = ⊥
 IsReading name rows (WrongUsage text) = IsMisused name rows
 

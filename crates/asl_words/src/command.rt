@@ -51,9 +51,9 @@ pub struct Team {
 #[derive(Drop)]
 pub enum Invocation {
     /// The words name a command that waits for nobody.
-    Run(Command),
+    Alone(Command),
     /// The words are those of the command `run`.
-    Work(Team),
+    Run(Team),
     /// The words ask for help: the text to show.
     Help(String),
     /// The words are no legal use: the text that says why.

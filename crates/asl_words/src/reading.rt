@@ -18,7 +18,7 @@ use std::alloc::{AllocError, Global};
 /// What a number must be.
 const A_NUMBER: &str = "no number from 0 to 4294967295";
 /// What a length of paths must be.
-const A_LENGTH: &str = "no number from 0 to 8";
+const A_PATH_LIMIT: &str = "no number from 0 to 8";
 /// Where usage is explained.
 const HELP_IS_THERE: &str = "For more information, try '--help'.\n";
 /// What a word of the debugger must be.
@@ -58,10 +58,10 @@ fn read_command(
 {
     match name {
         "step" => read_step(alloc, values),
-        "asm" => Ok(Invocation::Run(Command::Assemble)),
-        "dis" => Ok(Invocation::Run(Command::Disassemble)),
+        "asm" => Ok(Invocation::Alone(Command::Assemble)),
+        "dis" => Ok(Invocation::Alone(Command::Disassemble)),
         "compile" => read_compile(alloc, values),
-        "replay" => Ok(Invocation::Run(Command::Replay)),
+        "replay" => Ok(Invocation::Alone(Command::Replay)),
         "debug" => read_debug(alloc, values),
         "run" => read_run(alloc, values),
         _ => wrong_usage(alloc, "the command is unknown"),
@@ -77,7 +77,7 @@ fn read_step(alloc: Global, values: &ArgMatches<'_>) -> Result<Invocation, Alloc
     };
     let record = flag_at(values, "record");
     match numbers_at(alloc, values, "schedule") {
-        Ok(schedule) => Ok(Invocation::Run(Command::Step {
+        Ok(schedule) => Ok(Invocation::Alone(Command::Step {
             threads,
             schedule,
             record,
@@ -103,7 +103,7 @@ fn read_run(alloc: Global, values: &ArgMatches<'_>) -> Result<Invocation, AllocE
         Err(word) => return invalid(alloc, word, "--limit <L>", A_NUMBER),
     };
     let record = flag_at(values, "record");
-    Ok(Invocation::Work(Team {
+    Ok(Invocation::Run(Team {
         threads,
         workers,
         limit,
@@ -117,9 +117,9 @@ fn read_compile(alloc: Global, values: &ArgMatches<'_>) -> Result<Invocation, Al
     match longest_at(values) {
         Ok(longest) => {
             let text = flag_at(values, "text");
-            Ok(Invocation::Run(Command::Compile { longest, text }))
+            Ok(Invocation::Alone(Command::Compile { longest, text }))
         }
-        Err(word) => invalid(alloc, word, "--k <K>", A_LENGTH),
+        Err(word) => invalid(alloc, word, "--k <K>", A_PATH_LIMIT),
     }
 }
 
@@ -187,7 +187,7 @@ fn read_debug(alloc: Global, values: &ArgMatches<'_>) -> Result<Invocation, Allo
     ensures { IfOk result (IsReading (codes "debug") (rows_of (found_of values.now))) }
 {
     match debug_words_at(alloc, values) {
-        Ok(words) => Ok(Invocation::Run(Command::Debug { words })),
+        Ok(words) => Ok(Invocation::Alone(Command::Debug { words })),
         Err(TalkFault::NoWord(word)) => invalid(alloc, word, "<WORD>...", A_WORD),
         Err(TalkFault::NoNumber(word)) => invalid(alloc, word, "<WORD>...", A_NUMBER),
         Err(TalkFault::NumberMissing) => {

@@ -1,6 +1,6 @@
 use Rattle.std.proofs.Common.{◌≡◌, List, Err, ◌∙◌, ap, arith, get_or, inl, inr}
 use Rattle.std.proofs.lemmas.Result.{err_from_is_err_and}
-use Rattle.asl_machine.specs.Sound.{MayWantMemory}
+use Rattle.asl_machine.specs.WellFormed.{MayWantMemory}
 use Rattle.asl_machine.specs.declared.fault.MachineFault.{MachineFault}
 use Rattle.asl_machine.specs.declared.reply.Reply.TheVariants.{Ran}
 use Rattle.asl_journal.specs.declared.event.Event.{Event}

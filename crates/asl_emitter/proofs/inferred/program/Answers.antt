@@ -5,7 +5,7 @@ use Rattle.asl_code.specs.declared.image.Image.{Image}
 use Rattle.asl_atomicity.specs.Serial.{HasSerialRuns}
 use Rattle.asl_atomicity.specs.Renamed.{HasSerialRunsUpTo}
 use Rattle.asl_emitter.proofs.Guarding.{inferred_serial, inferred_serial_up_to}
-use Rattle.asl_soundness.specs.Safe.{NeverUnprotected}
+use Rattle.asl_soundness.specs.Safe.{NeverFaultsForLocks}
 use Rattle.asl_emitter.proofs.Making.{made_inferred}
 use Rattle.asl_emitter.proofs.Verifying.{inferred_fits}
 use Rattle.asl_emitter.proofs.Sounding.{inferred_sound}
@@ -33,7 +33,7 @@ returns-clause-sound c =
     let made = c.in_ok-image.ensures in
     let image = c.in_ok-image.image in
     let inferred = made_inferred l k flow.stores c.args.k c.args.flow.now image flow.tells made.made in
-    subst NeverUnprotected (sym c.in-Ok.ensures.program) (inferred_sound l k flow.stores c.args.k image made.kept c.requires.classes c.requires.few flow.written inferred)
+    subst NeverFaultsForLocks (sym c.in-Ok.ensures.program) (inferred_sound l k flow.stores c.args.k image made.kept c.requires.classes c.requires.few flow.written inferred)
 
 pub returns-clause-atomic : goal.returns-clause-atomic
 returns-clause-atomic c =

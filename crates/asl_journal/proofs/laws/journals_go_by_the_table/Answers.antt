@@ -3,7 +3,7 @@ use Rattle.std.proofs.lemmas.List.Elements.{All-map}
 use Rattle.asl_code.proofs.FitsLaws.{image_fits}
 use Rattle.asl_machine.specs.declared.reply.Reply.{Reply}
 use Rattle.asl_machine.specs.Run.{start_of, RunsBy}
-use Rattle.asl_machine.proofs.Soundness.{start_sound, length-first_threads}
+use Rattle.asl_machine.proofs.Invariant.{start_sound, length-first_threads}
 use Rattle.asl_machine.proofs.TableRuns.{run_is, run_only}
 use Rattle.asl_journal.specs.declared.event.Event.{Event}
 use Rattle.asl_journal.specs.Journal.{schedule_of, replies_in, state_at}

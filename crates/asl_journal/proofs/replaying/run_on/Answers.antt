@@ -1,6 +1,6 @@
 use Rattle.std.proofs.Common.{ap, ◌∙◌, ℕ}
 use Rattle.asl_machine.specs.declared.reply.Reply.TheVariants.{Ran}
-use Rattle.asl_machine.specs.Twin.{step_of}
+use Rattle.asl_machine.specs.StepFunction.{step_of}
 use Rattle.asl_journal.proofs.Replays.{one_differs, one_followed}
 use Rattle.asl_journal.proofs.replaying.run_on.Goals as goal
 

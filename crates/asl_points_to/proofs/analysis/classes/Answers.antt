@@ -19,10 +19,10 @@ returns-clause-classes c =
     (subst Numbers (sym n.same) n.numbers)
     c.in_ok-numbered.ensures
 
-pub returns-then-len-gt-MOST_CLASSES-clause-refused :
-    goal.returns-then-len-gt-MOST_CLASSES-clause-refused
-returns-then-len-gt-MOST_CLASSES-clause-refused c =
+pub returns-then-len-gt-MAX_CLASSES-clause-refused :
+    goal.returns-then-len-gt-MAX_CLASSES-clause-refused
+returns-then-len-gt-MAX_CLASSES-clause-refused c =
     let n = c.in_ok-numbers.ensures in
     let k = some_classes c.args.lowering.now c.in_ok-draft.draft c.in_ok-numbers.numbers.of.items c.in_ok-numbers.numbers.firsts.items c.members.ensures.kept c.in_ok-draft.ensures n.numbers in
-    let many = c.if-len-gt-MOST_CLASSES.true in
+    let many = c.if-len-gt-MAX_CLASSES.true in
     (k.0, k.1, omega (arith, k.2, c.len.ensures, c.in_ok-numbers.numbers.firsts.ok.0))

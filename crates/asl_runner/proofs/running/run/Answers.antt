@@ -58,8 +58,8 @@ returns-in-Some-clause-refused g c =
       record {
         threads = (search (c.if-n-eq0.false, rules), search (c.if-n-threads.false, c.limits-threads.ensures.threads, rules));
         some = search (c.if-workers-eq0.false, rules);
-        few = search (c.if-workers-gt-WORKER_LIMIT.false, rules);
-        short = search (c.if-limit-gt-STEP_LIMIT.false, rules);
+        few = search (c.if-workers-gt-MAX_WORKERS.false, rules);
+        short = search (c.if-limit-gt-MAX_STEPS.false, rules);
       },
       wrong_at c.args.program.now c.args.n c.args.workers c.args.limit c.in-Some.worker c.in-Ok-run_as.report (rw (← c.in-Ok.ensures.image) ran) c.in-Some.ensures.0 c.in-Some.ensures.1,
     )

@@ -44,7 +44,7 @@ pub returns-in-End : goal.returns-in-End
 returns-in-End c =
     let ascii : first_wide c.args.text.now ≡ None = search rules in
     let whole = at_last (tally_in c.reading.counts) (control_of c.reading.control) (stack_of c.reading.builder) _ (spots_left c.reading.tokens) (bad_left c.reading.tokens) None c.reading.invariant.same c.in-End.ensures.found.0 c.in-End.ensures.found.1 in
-    told items_of c.args.text.now c.into_items.result ascii (omega (arith, c.if-text-gt-MOST_BYTES.false)) (c.into_items.ensures ∙ whole)
+    told items_of c.args.text.now c.into_items.result ascii (omega (arith, c.if-text-gt-MAX_BYTES.false)) (c.into_items.ensures ∙ whole)
 
 pub returns-in-Bad : goal.returns-in-Bad
 returns-in-Bad c =

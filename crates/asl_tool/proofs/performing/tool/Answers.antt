@@ -1,18 +1,18 @@
 use Rattle.std.proofs.Common.{rules, ◌≡◌, List, ℕ, Some, map, string_bytes, refl, subst}
 use Rattle.asl_words.specs.Words.{AsksFor}
-use Rattle.asl_words.specs.declared.command.Invocation.TheVariants.{Run, Work, Help, WrongUsage}
+use Rattle.asl_words.specs.declared.command.Invocation.TheVariants.{Alone, Run, Help, WrongUsage}
 use Rattle.asl_tool.specs.Tool.{IsTextStatus}
 use Rattle.asl_tool.proofs.performing.tool.Goals as goal
+
+pub returns-in-Ok-Alone-clause-status : goal.returns-in-Ok-Alone-clause-status
+returns-in-Ok-Alone-clause-status g c =
+    let asks = subst (AsksFor (map string_bytes c.args.words.now)) c.in-Ok-Alone.field-0-is c.in-Ok-Alone.ensures in
+    (Some (Alone c.in-Ok-Alone.command), asks, c.performed.ensures.status)
 
 pub returns-in-Ok-Run-clause-status : goal.returns-in-Ok-Run-clause-status
 returns-in-Ok-Run-clause-status g c =
     let asks = subst (AsksFor (map string_bytes c.args.words.now)) c.in-Ok-Run.field-0-is c.in-Ok-Run.ensures in
-    (Some (Run c.in-Ok-Run.command), asks, c.performed.ensures.status)
-
-pub returns-in-Ok-Work-clause-status : goal.returns-in-Ok-Work-clause-status
-returns-in-Ok-Work-clause-status g c =
-    let asks = subst (AsksFor (map string_bytes c.args.words.now)) c.in-Ok-Work.field-0-is c.in-Ok-Work.ensures in
-    (Some (Work c.in-Ok-Work.team), asks, c.worked.ensures.status)
+    (Some (Run c.in-Ok-Run.team), asks, c.worked.ensures.status)
 
 pub returns-in-Ok-Help-clause-status : goal.returns-in-Ok-Help-clause-status
 returns-in-Ok-Help-clause-status g c =

@@ -1,13 +1,13 @@
 use Rattle.std.proofs.Common.{rules, ◌≡◌, List, ℕ, Some, map, string_bytes, refl, subst}
 use Rattle.asl_words.specs.Words.{AsksFor}
-use Rattle.asl_words.specs.declared.command.Invocation.TheVariants.{Run, Help, WrongUsage}
+use Rattle.asl_words.specs.declared.command.Invocation.TheVariants.{Alone, Help, WrongUsage}
 use Rattle.asl_tool.specs.Tool.{IsTextStatus}
 use Rattle.asl_tool.proofs.performing.tool_alone.Goals as goal
 
-pub returns-in-Ok-Run-clause-status : goal.returns-in-Ok-Run-clause-status
-returns-in-Ok-Run-clause-status g c =
-    let asks = subst (AsksFor (map string_bytes c.args.words.now)) c.in-Ok-Run.field-0-is c.in-Ok-Run.ensures in
-    (Some (Run c.in-Ok-Run.command), tt, asks, c.performed.ensures.status)
+pub returns-in-Ok-Alone-clause-status : goal.returns-in-Ok-Alone-clause-status
+returns-in-Ok-Alone-clause-status g c =
+    let asks = subst (AsksFor (map string_bytes c.args.words.now)) c.in-Ok-Alone.field-0-is c.in-Ok-Alone.ensures in
+    (Some (Alone c.in-Ok-Alone.command), tt, asks, c.performed.ensures.status)
 
 pub returns-in-Ok-Help-clause-status : goal.returns-in-Ok-Help-clause-status
 returns-in-Ok-Help-clause-status g c =

@@ -10,8 +10,8 @@ returns-then-not-all_there c =
       λ each. let none = c.if-not-all_there.ensures.1 (rw first each) in absurd cc,
     )
 
-pub returns-then-schedule-gt-EVENT_LIMIT : goal.returns-then-schedule-gt-EVENT_LIMIT
-returns-then-schedule-gt-EVENT_LIMIT c =
+pub returns-then-schedule-gt-MAX_EVENTS : goal.returns-then-schedule-gt-MAX_EVENTS
+returns-then-schedule-gt-MAX_EVENTS c =
     let first = first_steps _ c.min-most.result c.args.schedule.now c.min-most.ensures in (
       (omega arith, omega (arith, c.limits.ensures.threads)),
       subst (λ (s : List ℕ). AllThere c.args.threads s) first (c.if-not-all_there.ensures.0 refl),

@@ -9,19 +9,19 @@ returns-in_err-number-clause-adds c =
     c.args.self.now.list.items c.args.self.now.list.items (search (rules, c.from.ensures)) (omega (arith, c.requires.there)) c.index_mut-region.ensures.value
     refl refl c.args.lock c.in_err-number.ensures.numbers c.args.pc c.requires.whole refl
 
-pub returns-then-len-gt-MOST-clause-adds : goal.returns-then-len-gt-MOST-clause-adds
-returns-then-len-gt-MOST-clause-adds c =
+pub returns-then-len-gt-MAX_LOCKS-clause-adds : goal.returns-then-len-gt-MAX_LOCKS-clause-adds
+returns-then-len-gt-MAX_LOCKS-clause-adds c =
     part_adds c.args.self.now.parts.items c.args.part c.from.result c.index_mut-region.result.now
     (record { region = c.index_mut-region.result.now.region; first = c.index_mut-region.result.now.first; locks = c.number.new.locks; needs = c.index_mut-region.result.now.needs })
     c.args.self.now.list.items c.args.self.now.list.items (search (rules, c.from.ensures)) (omega (arith, c.requires.there)) c.index_mut-region.ensures.value
     refl refl c.args.lock c.in_ok-number.ensures.numbers c.args.pc c.requires.whole refl
 
-pub returns-then-len-gt-MOST-clause-over : goal.returns-then-len-gt-MOST-clause-over
-returns-then-len-gt-MOST-clause-over c =
+pub returns-then-len-gt-MAX_LOCKS-clause-over : goal.returns-then-len-gt-MAX_LOCKS-clause-over
+returns-then-len-gt-MAX_LOCKS-clause-over c =
     part_over c.args.self.now.parts.items c.args.part c.from.result c.index_mut-region.result.now
     (record { region = c.index_mut-region.result.now.region; first = c.index_mut-region.result.now.first; locks = c.number.new.locks; needs = c.index_mut-region.result.now.needs })
     c.args.self.now.list.items c.args.self.now.list.items (search (rules, c.from.ensures)) (omega (arith, c.requires.there)) c.index_mut-region.ensures.value
-    refl refl c.args.lock c.in_ok-number.ensures.numbers (let many = c.if-len-gt-MOST.true in let len = c.len.ensures.len in omega arith)
+    refl refl c.args.lock c.in_ok-number.ensures.numbers (let many = c.if-len-gt-MAX_LOCKS.true in let len = c.len.ensures.len in omega arith)
 
 pub overflow_sub-pc : goal.overflow_sub-pc
 overflow_sub-pc c =
@@ -80,7 +80,7 @@ returns-clause-whole c =
     refl refl c.args.lock c.in_ok-number.ensures.numbers c.from-place.result c.in_ok-number.number c.in_ok-is_new.is_new c.in_ok-is_new.ensures.marked c.args.pc
     (let point = c.requires.point.1 in let first = first_before c.args.self.now.parts.items c.args.part c.from.result c.index_mut-region.result.now c.args.self.now.list.items (search (rules, c.from.ensures)) (omega (arith, c.requires.there)) c.index_mut-region.ensures.value in let place = c.from-place.ensures in omega (arith, point, first, place))
     c.in_ok-number.ensures.stored c.requires.whole c.in_ok-put.ensures.ok
-    (let few = c.if-len-gt-MOST.false in let len = c.len.ensures.len in omega arith)
+    (let few = c.if-len-gt-MAX_LOCKS.false in let len = c.len.ensures.len in omega arith)
 
 pub returns-clause-lists : goal.returns-clause-lists
 returns-clause-lists c =

@@ -1,0 +1,24 @@
+use Rattle.std.proofs.Common.{◌≤◌, ◌+◌, ℕ, List, length, ap, sym, ◌∙◌, subst}
+use Rattle.asl_lock_expr.specs.Storing.{AreListed, stored_class}
+use Rattle.asl_lock_expr.proofs.Storings.{listed_more, listed_same, instr_read}
+use Rattle.asl_lock_expr.proofs.stores.own_stores.Goals as goal
+use Rattle.asl_lock_expr.proofs.stores.own_stores.Goals.{in-Some+in_ok-add_at, in_default}
+
+pub loop-pc-preserved : goal.loop-pc-preserved
+loop-pc-preserved c =
+    let entry = stored_class c.args.classes.now in
+    let l = c.args.lowering.now in
+    let pc : ℕ = c.loop-pc.pc in
+    let f : ℕ = c.owner-function.result in
+    let P : List (List ℕ) → Type 0 = λ rows. AreListed entry l (pc + 1) rows × (length rows ≤ 65536) in
+    let both : P c.match-stored_class.rows.items = elim c.match-stored_class.branch [
+      | in-Some+in_ok-add_at w ↦ subst P (sym (ap (λ v. v.items) w.rows-is)) (
+        listed_more entry l pc f _ _ c.loop-pc.rows.items w.add_at.new.rows.items c.owner-function.ensures.owner (instr_read l.code c.code-instr-items.result.now pc _ c.code-instr-items.ensures.code c.loop-pc-test.true) (sym c.stored_class.ensures ∙ w.in-Some.is) w.in_ok-add_at.ensures.rows c.loop-pc.invariant.listed,
+        w.in_ok-add_at.ensures.few c.loop-pc.invariant.few,
+      )
+      | in_default w ↦ subst P (sym (ap (λ v. v.items) w.rows-is)) (
+        listed_same entry l pc f _ c.loop-pc.rows.items c.owner-function.ensures.owner (instr_read l.code c.code-instr-items.result.now pc _ c.code-instr-items.ensures.code c.loop-pc-test.true) (sym c.stored_class.ensures ∙ w.in_default.is) c.loop-pc.invariant.listed,
+        c.loop-pc.invariant.few,
+      )
+    ] in
+    record { listed = both.0; few = both.1 }
