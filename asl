@@ -1,36 +1,23 @@
 #!/usr/bin/env bash
-# Runs the program `asl`. Where its binary is missing or was built from other sources, the workspace is proved and built first:
-# there is no build without the proofs. Crates that do not stand on one another are proved side by side. What the build
-# says goes to crates/asl/out/build.log; how far it is goes to standard error.
+# Runs the program `asl`. Where its binary is missing or was built from other sources, the crates that it stands on are proved
+# and it is built first: there is no build without the proofs. What decides is a sum over the sources of these crates, so tests,
+# pages and times make nothing stale. Crates that do not stand on one another are proved side by side; a build that was
+# interrupted continues with those that are left. How far it is goes to standard error, what the prover says to
+# crates/asl/out/build.log.
+#
+# usage: ./asl WORD..              runs the program
+#        ./asl --unproved WORD..   runs the sources at once, with nothing proved: after a minute, and up to 1 MiB of output
 set -eu
 root=$(cd "$(dirname "$(readlink -f "${BASH_SOURCE[0]}")")" && pwd)
-binary=$root/crates/asl/out/asl
-log=$root/crates/asl/out/build.log
-# what the sources were when the build of the binary began
-list=$root/crates/asl/out/sources
+own=$root/crates/asl/out
+binary=$own/asl
+log=$own/build.log
+# the sum of the sources that the binary was built from
+built_from=$own/built-from
 # the logic in which the program says that it was proved
 logic=dac8208d650f15bf
 
-# find_sources WORD..: the files that a build reads, with what the words tell find to do with them
-find_sources() {
-  (cd "$root" && find HANDLES crates.txt crates -name out -prune -o -type f \
-    \( -name HANDLES -o -name crates.txt -o -name '*.rt' -o -name '*.antt' \) "$@")
-}
-
-# their names, sizes and times
-list_sources() { find_sources -printf '%p %s %T@\n' | LC_ALL=C sort; }
-
-is_stale() {
-  [ -x "$binary" ] || return 0
-  if [ -f "$list" ] && [ ! "$binary" -nt "$list" ]; then
-    [ "$(list_sources)" != "$(<"$list")" ]
-  else
-    # rt built the binary without this script, and of what is not known
-    [ -n "$(find_sources -newer "$binary" -print -quit)" ]
-  fi
-}
-
-# the crates of the repository below the program, lowest first, each with those of them that it stands on
+# the program and the crates of the repository below it, lowest first, each with those of them that it stands on
 crates_below() {
   awk -F: '
     !/^#/ && NF > 1 { split($1, word, " "); name[++count] = word[1]; uses[word[1]] = $2 }
@@ -38,13 +25,71 @@ crates_below() {
       needed["asl"] = 1
       for (i = count; i > 0; i--)
         if (name[i] in needed) { n = split(uses[name[i]], low, " "); for (k = 1; k <= n; k++) needed[low[k]] = 1 }
-      for (i = 1; i <= count; i++) if (name[i] != "asl" && name[i] in needed) {
+      for (i = 1; i <= count; i++) if (name[i] in needed) {
         line = name[i]
         n = split(uses[name[i]], low, " ")
         for (k = 1; k <= n; k++) if (low[k] in uses) line = line " " low[k]
         print line
       }
     }' "$root/crates.txt"
+}
+
+# line_of NAME: the crate's line in crates.txt
+line_of() { grep -E "^$1[ :]" "$root/crates.txt"; }
+
+# sources_of NAME..: the sum and the path of each file of these crates that a proof or a build reads
+sources_of() {
+  local name part
+  local -a folders=()
+  for name in "$@"; do
+    for part in src specs proofs; do
+      [ ! -d "$root/crates/$name/$part" ] || folders+=("crates/$name/$part")
+    done
+  done
+  (cd "$root" && find "${folders[@]}" -type f \( -name '*.rt' -o -name '*.antt' \) -print0 | LC_ALL=C sort -z | xargs -0r sha256sum)
+}
+
+sum_of_all() {
+  local below
+  below=$(crates_below)
+  # shellcheck disable=SC2046  # each name is a word
+  { echo "$logic"; cat "$root/HANDLES"; cut -d' ' -f1 <<<"$below" | while read -r name; do line_of "$name"; done
+    sources_of $(cut -d' ' -f1 <<<"$below"); } | sha256sum | cut -c1-64
+}
+
+# sums_below: each crate with a sum of its sources and of those of the crates below it
+sums_below() {
+  local -A sums=()
+  local name below low
+  while read -r name below; do
+    sums[$name]=$({
+      echo "$logic"
+      cat "$root/HANDLES"
+      line_of "$name"
+      sources_of "$name"
+      for low in $below; do echo "${sums[$low]}"; done
+    } | sha256sum | cut -c1-64)
+    echo "$name ${sums[$name]}"
+  done < <(crates_below)
+}
+
+# Where there is a binary and no sum, rt has built it without this script, as the gate does: then it counts if no source is newer.
+is_stale() {
+  [ -x "$binary" ] || return 0
+  if [ ! -f "$built_from" ]; then
+    local name
+    while read -r name _; do
+      [ -z "$(find "$root/crates/$name" -name out -prune -o -type f -newer "$binary" -print -quit)" ] || return 0
+    done < <(crates_below)
+    sum_of_all >"$built_from"
+  fi
+  [ "$(<"$built_from")" != "$(sum_of_all)" ]
+}
+
+# is_proved NAME SUM: a build has proved the crate from just these sources
+is_proved() {
+  local kept=$root/crates/$1/out
+  [ -d "$kept/rlib" ] && [ -f "$kept/proved-from" ] && [ "$(<"$kept/proved-from")" = "$2" ]
 }
 
 # as many crates at a time as there are processors, and as memory has room for at 3 GB each
@@ -57,12 +102,6 @@ crates_at_a_time() {
   memory=$((memory / 3000000))
   [ "$memory" -ge 1 ] || memory=1
   echo $((processors < memory ? processors : memory))
-}
-
-fail() {
-  echo "asl: $1 was not built; the last lines of $2:" >&2
-  tail -n 20 "$2" >&2
-  exit 1
 }
 
 # links_to VIEW NAME PART..: parts of a crate as links in a view
@@ -81,82 +120,180 @@ take_back() {
   rm -rf "$1"
 }
 
-# prove NAME JOBS BUILT..: proves a crate in a view, a folder with links to what is built already: rt lets nobody else work in
-# the crates that a run stands on, so in one folder crates that share a lower one would wait for each other
+# prove NAME SUM JOBS BUILT..: proves a crate in a view, a folder with links to what is built already: rt lets nobody else work
+# in the crates that a run stands on, so in one folder crates that share a lower one would wait for each other
 prove() {
-  local name=$1 jobs=$2 low view=$root/crates/asl/out/views/$1 status=0
-  shift 2
+  local name=$1 sum=$2 jobs=$3 low view=$own/views/$1 status=0
+  shift 3
   take_back "$view" "$name"
   links_to "$view" "$name" src specs proofs
   for low in "$@"; do
     mkdir -p "$view/crates/$low/out"
     links_to "$view" "$low" src specs proofs out/rlib
   done
-  for low in "$@" "$name"; do grep -E "^${low}[ :]" "$root/crates.txt"; done >"$view/crates.txt"
+  for low in "$@" "$name"; do line_of "$low"; done >"$view/crates.txt"
+  cp "$root/HANDLES" "$view/HANDLES"
   # the view has no `out` of its own before this: take_back would put it in the place of the crate's
   [ ! -d "$root/crates/$name/out" ] || mv "$root/crates/$name/out" "$view/crates/$name/out"
-  (cd "$view/crates/$name" && exec rt lib --jobs "$jobs") >"$root/crates/asl/out/build-$name.log" 2>&1 </dev/null || status=$?
+  (cd "$view/crates/$name" && exec rt lib --jobs "$jobs") >"$own/build-$name.log" 2>&1 </dev/null || status=$?
   take_back "$view" "$name"
+  [ "$status" != 0 ] || echo "$sum" >"$root/crates/$name/out/proved-from"
   return $status
 }
 
-build_libraries() {
-  local -A waits_for=() builds=()
-  local -a built=()
-  local most busy total ended=0 name below pid left began=$SECONDS
-  while read -r name below; do waits_for[$name]=$below; done < <(crates_below)
-  total=$((${#waits_for[@]} + 1))
+# the program itself, once all below it is proved
+link() { (cd "$root/crates/asl" && exec rt run -- --help) >"$own/build-asl.log" 2>&1 </dev/null; }
+
+# how long a number of seconds is, in words
+spell() { if [ "$1" -lt 100 ]; then echo "$1 s"; else echo "$((($1 + 30) / 60)) min"; fi; }
+
+# reads what is to be built, and how long it took elsewhere
+declare -A sums=() waits_for=() seconds=() height=() builds=() began=()
+declare -a names=() built=()
+plan() {
+  local name below low spent i
+  while read -r name spent; do seconds[$name]=$spent; done < <(grep -v '^#' "$root/bench/build-seconds" 2>/dev/null || :)
+  while read -r name spent; do sums[$name]=$spent; done < <(sums_below)
+  while read -r name below; do
+    names+=("$name")
+    waits_for[$name]=" $below "
+    height[$name]=0
+  done < <(crates_below)
+  # the longest chain of crates that begins at this one: those with the longest are proved first
+  for ((i = ${#names[@]} - 1; i >= 0; i--)); do
+    name=${names[i]}
+    height[$name]=$((height[$name] + ${seconds[$name]:-60}))
+    for low in ${waits_for[$name]}; do
+      [ "${height[$low]}" -ge "${height[$name]}" ] || height[$low]=${height[$name]}
+    done
+  done
+  for name in "${names[@]}"; do
+    [ "$name" != asl ] && is_proved "$name" "${sums[$name]}" && is_done "$name"
+  done
+  return 0
+}
+
+# is_done NAME: nothing waits for the crate any more
+is_done() {
+  local left
+  unset "waits_for[$1]"
+  built+=("$1")
+  for left in "${!waits_for[@]}"; do waits_for[$left]=${waits_for[$left]// $1 / }; done
+}
+
+# the seconds that what is left took elsewhere: its longest chain, or its sum on so many processors
+seconds_left() {
+  local name sum=0 longest=0
+  for name in "${!waits_for[@]}"; do
+    sum=$((sum + ${seconds[$name]:-60}))
+    [ "$longest" -ge "${height[$name]}" ] || longest=${height[$name]}
+  done
+  echo $((sum / $1 > longest ? sum / $1 : longest))
+}
+
+# the crates that wait for none, the one with the longest chain above it first
+ready() {
+  local name
+  for name in "${!waits_for[@]}"; do
+    [ -n "${waits_for[$name]// /}" ] || echo "${height[$name]} $name"
+  done | sort -rn | cut -d' ' -f2
+}
+
+# begin NAME JOBS: proves the crate in a group of processes of its own
+begin() {
+  set -m
+  if [ "$1" = asl ]; then link & else prove "$1" "${sums[$1]}" "$2" "${built[@]}" & fi
+  set +m
+  builds[$!]=$1
+  began[$1]=$SECONDS
+  unset "waits_for[$1]"
+  echo "asl: proving $1${seconds[$1]:+, which took $(spell "${seconds[$1]}") elsewhere}; $((${#waits_for[@]})) more are left" >&2
+}
+
+# ends what still runs, with all that it has started
+stop_builds() {
+  local pid
+  for pid in "${!builds[@]}"; do kill -TERM -- "-$pid" 2>/dev/null || :; done
+  wait 2>/dev/null || :
+}
+
+fail() {
+  stop_builds
+  builds=()
+  echo "asl: $1 was not built; the last lines of $2:" >&2
+  tail -n 20 "$2" >&2
+  exit 1
+}
+
+build_crates() {
+  local most busy name pid
+  local -a now
   most=$(crates_at_a_time)
-  echo "asl: proving and building $total crates first, up to $most side by side; a first build takes 15 minutes or more" >&2
+  echo "asl: ${#waits_for[@]} of ${#names[@]} crates are to be proved and built first, up to $most side by side; elsewhere this took $(spell "$(seconds_left "$most")")" >&2
   while [ ${#waits_for[@]} -gt 0 ] || [ ${#builds[@]} -gt 0 ]; do
-    busy=${#builds[@]}
-    for name in "${!waits_for[@]}"; do [ -n "${waits_for[$name]// /}" ] || busy=$((busy + 1)); done
-    for name in "${!waits_for[@]}"; do
-      [ ${#builds[@]} -lt "$most" ] || break
-      [ -z "${waits_for[$name]// /}" ] || continue
-      unset "waits_for[$name]"
-      prove "$name" "$(((most + busy - 1) / busy))" "${built[@]}" &
-      builds[$!]=$name
+    mapfile -t now < <(ready)
+    busy=$((${#builds[@]} + ${#now[@]}))
+    for name in "${now[@]}"; do
+      [ ${#builds[@]} -ge "$most" ] || begin "$name" "$(((most + busy - 1) / busy))"
     done
     [ ${#builds[@]} -gt 0 ] || { echo "asl: crates.txt has crates that stand on one another" >&2; exit 1; }
     if wait -n -p pid "${!builds[@]}"; then :; else
       name=${builds[$pid]}
-      # shellcheck disable=SC2046  # each process is a word
-      kill $(jobs -p) 2>/dev/null || :
-      fail "$name" "$root/crates/asl/out/build-$name.log"
+      unset "builds[$pid]"
+      fail "$name" "$own/build-$name.log"
     fi
     name=${builds[$pid]}
     unset "builds[$pid]"
-    ended=$((ended + 1))
-    built+=("$name")
-    echo "asl: $ended of $total: $name, $((SECONDS - began)) s" >&2
-    cat "$root/crates/asl/out/build-$name.log" >>"$log"
-    rm -f "$root/crates/asl/out/build-$name.log"
-    for left in "${!waits_for[@]}"; do
-      below=" ${waits_for[$left]} "
-      waits_for[$left]=${below// $name / }
-    done
+    echo "asl: proved $name in $(spell $((SECONDS - began[$name])))" >&2
+    cat "$own/build-$name.log" >>"$log"
+    rm -f "$own/build-$name.log"
+    is_done "$name"
   done
-  echo "asl: $total of $total: asl" >&2
 }
 
-build() {
-  local began state version
-  began=$(date +%s.%N)
-  state=$(list_sources)
+needs_kit() {
+  local version
   command -v rt >/dev/null || { echo "asl: the command rt of the Rattle kit is needed to build" >&2; exit 1; }
   version=$(rt version) || :
   [[ $version == *" logic $logic" ]] ||
     { echo "asl: a Rattle kit of the logic $logic is needed to build; rt version says: $version" >&2; exit 1; }
-  mkdir -p "$root/crates/asl/out"
-  : >"$log"
-  build_libraries
-  (cd "$root/crates/asl" && rt run -- --help) >>"$log" 2>&1 </dev/null || fail asl "$log"
-  # as old as the beginning of the build: what was changed meanwhile is newer
-  touch -d "@$began" "$binary"
-  echo "$state" >"$list"
 }
 
+build() {
+  local sum
+  needs_kit
+  mkdir -p "$own"
+  : >"$log"
+  trap stop_builds EXIT
+  trap 'exit 129' HUP
+  trap 'exit 130' INT
+  trap 'exit 143' TERM
+  plan
+  sum=$(sum_of_all)
+  rm -f "$built_from"
+  build_crates
+  trap - EXIT HUP INT TERM
+  # where a source was changed meanwhile, this is not its sum, and the next call builds again
+  echo "$sum" >"$built_from"
+}
+
+# the sources as they stand, with nothing proved: what rt says itself is shown only where it has no answer
+run_unproved() {
+  local said status=0
+  needs_kit
+  echo "asl: nothing is proved of this run" >&2
+  said=$(mktemp)
+  # shellcheck disable=SC2064  # the name of now
+  trap "rm -f '$said'" EXIT
+  (cd "$root/crates/asl" && exec rt try --seconds 3600 -- "$@") 2>"$said" || status=$?
+  if [[ $(tail -n 1 "$said") == run=ended* ]]; then sed '/^checked: ended status=/,$d' "$said" >&2; else cat "$said" >&2; fi
+  exit "$status"
+}
+
+if [ "${1:-}" = --unproved ]; then
+  shift
+  run_unproved "$@"
+fi
 if is_stale; then
   exec 9>"$root/.asl-build-lock"
   flock -n 9 || { echo "asl: waits for another build of this repository" >&2; flock 9; }
