@@ -49,12 +49,12 @@ use Rattle.asl_emitter.specs.Inferred.{IsInferred}
 use Rattle.asl_emitter.proofs.Fits.{fitted_all}
 
 -- only an `acq` is an `acq` in the image
-is_acquire : (c : Classed) (i : Instr) (list : ℕ) → classed c i ≡ instr.Acquire list → i ≡ instr.Acquire list
+pub is_acquire : (c : Classed) (i : Instr) (list : ℕ) → classed c i ≡ instr.Acquire list → i ≡ instr.Acquire list
 is_acquire c (instr.New a n site) list e = cc
 is_acquire c i list e = e
 
 -- where each prefix that is read is protected, the cells that are read are covered
-reads_covered : (h : Holding) (t : ℕ) (objects : List Object) (regs : List Value) (base : Base) (done ops : List Op)
+pub reads_covered : (h : Holding) (t : ℕ) (objects : List Object) (regs : List Value) (base : Base) (done ops : List Op)
     → ((n : Lock) → IsOne (prefixes base done ops) n → Protected (cover h []) t objects regs n)
     → ReadsCovered h t objects ops (path_cell (heap_of objects) done (base_cell regs base))
 reads_covered h t objects regs base done [] all = tt
@@ -91,7 +91,7 @@ classes_told given c f (lock.Class class effect) b (inr z) = absurd z
 classes_told given c f (lock.Root effect) b (inl e) = subst (IsTold given) e tt
 classes_told given c f (lock.Root effect) b (inr z) = absurd z
 
-expression_given : (c : Classed) (f most : ℕ) (given : Locks) (list : List Lock) → IsFitted c f most given list → (e : Expr) (effect : Effect) → IsOne list (lock.Expr e effect) → given (lock.Expr e effect)
+pub expression_given : (c : Classed) (f most : ℕ) (given : Locks) (list : List Lock) → IsFitted c f most given list → (e : Expr) (effect : Effect) → IsOne list (lock.Expr e effect) → given (lock.Expr e effect)
 unfolding IsTold
 expression_given c f most given list fitted e effect o =
     fitted_all (IsTold given) c f most given list (told given) (λ a b p q. classes_told given c f a b q) (λ x. tt) fitted (lock.Expr e effect) o

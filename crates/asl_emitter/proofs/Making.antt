@@ -14,7 +14,7 @@ use Rattle.asl_emitter.specs.Parts.{AreFitted, IsMade}
 use Rattle.asl_emitter.proofs.Fits.{fitted_same}
 
 -- what is told of the place behind an `acq` is what is needed there
-told_needed : (l : Lowered) (c : Classed) (stores : ℕ → ℕ → Bool) (longest : ℕ) (parts : List Part) → TellsNeeded l c stores longest parts → (r : Region) (pc : ℕ) (a : Lock) → IsTold parts r (pc + 1) a ↔ Needed l c stores longest r (suc pc) a
+pub told_needed : (l : Lowered) (c : Classed) (stores : ℕ → ℕ → Bool) (longest : ℕ) (parts : List Part) → TellsNeeded l c stores longest parts → (r : Region) (pc : ℕ) (a : Lock) → IsTold parts r (pc + 1) a ↔ Needed l c stores longest r (suc pc) a
 told_needed l c stores longest parts tells r pc a =
     let same : pc + 1 ≡ suc pc = omega arith in
     subst (λ q. IsTold parts r (pc + 1) a ↔ Needed l c stores longest r q a) same (tells r (pc + 1) a)

@@ -9,7 +9,7 @@ use asl_lock_expr::class_of;
 use asl_points_to::Classes;
 
 /// Whether the first effect is at least as strong as the second.
-fn covers(effect: Effect, other: Effect) -> bool
+pub fn covers(effect: Effect, other: Effect) -> bool
     ensures { result ≡ covers_effect effect other }
 {
     match effect {
@@ -33,7 +33,7 @@ fn are_same(lock: &Lock, other: &Lock) -> bool
 }
 
 /// Whether the first lock does in place of the second.
-fn does_for(classes: &Classes, function: u16, lock: &Lock, other: &Lock) -> bool
+pub fn does_for(classes: &Classes, function: u16, lock: &Lock, other: &Lock) -> bool
     ensures { IsTrue result ↔ DoesFor classes.now function lock.now other.now }
 {
     match (lock, other) {

@@ -31,7 +31,7 @@ pub fn code(alloc: Global, instrs: &[Instr], classes: &Classes) -> Result<Items<
 }
 
 /// The instruction, where a `new` makes objects of its site's class.
-fn classed(instr: &Instr, classes: &Classes) -> Instr
+pub fn classed(instr: &Instr, classes: &Classes) -> Instr
     requires { (to cells site : ℕ) → instr.now ≡ NewInstr to cells site → site < length classes.now.sites }
     ensures { result ≡ classed classes.now instr.now }
 {

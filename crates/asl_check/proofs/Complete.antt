@@ -1,0 +1,117 @@
+-- The inferred program of a tree is checked, and what is checked is refused only where the memory ran out.
+use Rattle.std.proofs.Common.{◌≡◌, ℕ, zero, suc, Bool, List, [], ◌∷◌, Some, length, slice_get, ap, sym, subst, inl, inr}
+use Rattle.std.proofs.lemmas.Option.{slice_get_within}
+use Rattle.asl_code.specs.declared.image.Image.{Image}
+use Rattle.asl_code.specs.declared.instr.Instr.{Instr}
+use Rattle.asl_code.specs.declared.lock.Lock.{Lock}
+use Rattle.asl_code.specs.declared.lock.Lock.TheVariants as lock
+use Rattle.asl_syntax.specs.Tree.{Item}
+use Rattle.asl_lower.specs.declared.section.Section.{Section}
+use Rattle.asl_lower.specs.Lowered.{Lowered, IsLowering}
+use Rattle.asl_lower.specs.Kept.{IsKept}
+use Rattle.asl_lower.specs.Regions.{Inside}
+use Rattle.asl_lower.proofs.Laid.{one_lowering}
+use Rattle.asl_points_to.specs.Classes.{Classed, AreClasses}
+use Rattle.asl_points_to.proofs.Uniques.{one_classed}
+use Rattle.asl_lock_expr.specs.ClassOf.{TellsStores}
+use Rattle.asl_lock_expr.specs.Links.{IsOne, dereferenced}
+use Rattle.asl_lock_expr.proofs.Ones.{flat_from}
+use Rattle.asl_backward_flow.specs.Needed.{Needed, Before}
+use Rattle.asl_emitter.specs.Inferred.{Analysis, IsInferred, IsInferredFor}
+use Rattle.asl_emitter.specs.Refused.{IsAccepted}
+use Rattle.asl_emitter.proofs.Alike.{one_test}
+use Rattle.asl_emitter.proofs.Covering.{fitted_covers}
+use Rattle.asl_emitter.proofs.Guarding.{expression_given}
+use Rattle.asl_emitter.proofs.Needing.{needed_class}
+use Rattle.asl_emitter.proofs.Outcomes.{accepted}
+use Rattle.asl_check.specs.declared.fault.CheckFault.{CheckFault}
+use Rattle.asl_check.specs.declared.fault.CheckFault.TheVariants.{Infer, OtherCode, Uncovered, Unguarded, OutOfMemory}
+use Rattle.asl_soundness.specs.Safe.{StandOver}
+use Rattle.asl_check.specs.Checked.{IsUnderOne, reads_of, IsCodeOf, IsOtherCode, AreGuarded, IsFirstLacking, IsFirstOpen}
+use Rattle.asl_check.specs.Refused.{IsChecked, IsRefused, IsOutOfMemory}
+
+-- what holds of one analysis of a tree holds of each
+module _ (is : List Item) (l : Lowered) (c : Classed) (stores : ℕ → ℕ → Bool) (lowers : IsLowering is l) (are : AreClasses l c) (tells : TellsStores l c stores) (P : Lowered → Classed → (ℕ → ℕ → Bool) → Type 0) where
+  by_classes : (d : Classed) → d ≡ c → (o : ℕ → ℕ → Bool) → TellsStores l d o → P l d o → P l c stores
+  by_classes d e o u p = subst (P l c) (one_test l c o stores (subst (λ x. TellsStores l x o) e u) tells) (subst (λ x. P l x o) e p)
+
+  pub same_analysis : (a : Analysis is) → P a.program.lowering a.program.classes a.stores → P l c stores
+  same_analysis a p =
+      let e : a.program.lowering ≡ l = one_lowering is a.program.lowering l a.program.lowers lowers in
+      subst (λ k. (d : Classed) → AreClasses k d → (o : ℕ → ℕ → Bool) → TellsStores k d o → P k d o → P l c stores) (sym e)
+      (λ d k o u q. by_classes d (one_classed l d c k are) o u q) a.program.classes a.program.are_classes a.stores a.tells p
+
+pub one_got : (xs : List Lock) (n : ℕ) (a : Lock) → slice_get xs n ≡ Some a → IsOne xs a
+one_got [] n a e = cc
+one_got (x ∷ xs) zero a e = inl (cc)
+one_got (x ∷ xs) (suc n) a e = inr (one_got xs n a e)
+
+module _ (l : Lowered) (c : Classed) (stores : ℕ → ℕ → Bool) (longest : ℕ) (image : Image) (kept : IsKept l) (are : AreClasses l c) (m : IsInferred l c stores longest image) where
+  under : (n : ℕ) (s : Section) (list : List Lock) (a : Lock) → slice_get l.sections n ≡ Some s → slice_get image.lists n ≡ Some list → Needed l c stores longest (Inside n) (suc s.acquire) a → IsUnderOne c s.function list a
+  under n s list a there at needed =
+      fitted_covers c s.function 256 (Needed l c stores longest (Inside n) (suc s.acquire)) list (m.lists n s list there at) a needed
+      (needed_class l c stores longest kept are n (suc s.acquire) s a there needed)
+
+  read_needed : (n : ℕ) (s : Section) (list : List Lock) → slice_get l.sections n ≡ Some s → slice_get image.lists n ≡ Some list → (b a : Lock) → IsOne list b → IsOne (dereferenced b) a → Needed l c stores longest (Inside n) (suc s.acquire) a
+  read_needed n s list there at (lock.Expr e effect) a o d =
+      Before (Inside n) (suc s.acquire) (lock.Expr e effect) a
+      (expression_given c s.function 256 (λ x. Needed l c stores longest (Inside n) (suc s.acquire) x) list (m.lists n s list there at) e effect o) d
+  read_needed n s list there at (lock.Class class effect) a o d = absurd d
+  read_needed n s list there at (lock.Root effect) a o d = absurd d
+
+  -- so the inferred lists are enough
+  inferred_over : StandOver l c (Needed l c stores longest) image
+  inferred_over n s list a there at needed = under n s list a there at needed
+
+  inferred_guarded : AreGuarded l c image.lists (length l.sections)
+  inferred_guarded n lt s list there at a o = let from = flat_from list a o in under n s list a there at (read_needed n s list there at from.0 a from.1 from.2)
+
+  inferred_code : IsCodeOf l c image
+  inferred_code =
+      record { tables = record { version = m.version; classes = m.classes; globals = m.globals; functions = m.functions; start = m.start; count = m.count }; code = m.code }
+
+pub inferred_checked : (is : List Item) (k : Lowered) (longest : ℕ) (image : Image) → IsLowering is k → IsKept k → IsAccepted is longest → IsInferredFor is longest image → IsChecked is longest image
+inferred_checked is k longest image lowers kept accept h =
+    let a = h.analysis in
+    let p = a.program in
+    let own : IsKept p.lowering = subst IsKept (one_lowering is k p.lowering lowers p.lowers) kept in
+    record {
+      covered = record {
+        of_tree = record { accepted = accept; analysis = a; code = inferred_code p.lowering p.classes a.stores longest image own p.are_classes h.inferred };
+        over = inferred_over p.lowering p.classes a.stores longest image own p.are_classes h.inferred;
+      };
+      guarded = inferred_guarded p.lowering p.classes a.stores longest image own p.are_classes h.inferred;
+    }
+
+-- ---- a program that is checked has no fault
+
+pub not_other : (l : Lowered) (c : Classed) (image : Image) (pc : ℕ) → IsCodeOf l c image → IsOtherCode l c image pc → ⊥
+not_other l c image pc m (inl first) = first.differ (ap (λ (is : List Instr). slice_get is pc) m.code)
+not_other l c image pc m (inr tables) = tables.1 m.tables
+
+pub not_lacking : (l : Lowered) (c : Classed) (stores : ℕ → ℕ → Bool) (longest : ℕ) (image : Image) (section : ℕ) (a : Lock) → StandOver l c (Needed l c stores longest) image → IsFirstLacking l c (Needed l c stores longest) image.lists section a → ⊥
+not_lacking l c stores longest image section a over h =
+    h.first.bare (over section h.is h.list a h.in_table h.listed (h.reduced.kept a (one_got h.needed h.first.index a h.first.at)).0)
+
+pub not_open : (l : Lowered) (c : Classed) (lists : List (List Lock)) (section : ℕ) (a : Lock) → AreGuarded l c lists (length l.sections) → IsFirstOpen l c lists section a → ⊥
+not_open l c lists section a guarded h =
+    h.first.bare (guarded section (slice_get_within l.sections section h.is h.in_table) h.is h.list h.in_table h.listed a (one_got (reads_of h.list) h.first.index a h.first.at))
+
+pub checked_only : (is : List Item) (longest : ℕ) (image : Image) (fault : CheckFault) → IsChecked is longest image → IsRefused is longest image fault → IsOutOfMemory fault
+checked_only is longest image (Infer fault) h r = accepted is longest fault h.covered.of_tree.accepted r
+checked_only is longest image (OtherCode pc) h r =
+    let a = h.covered.of_tree.analysis in let q = a.program in
+    absurd (not_other q.lowering q.classes image pc h.covered.of_tree.code
+    (same_analysis is q.lowering q.classes a.stores q.lowers q.are_classes a.tells (λ l c s. IsOtherCode l c image pc) r.analysis r.other))
+checked_only is longest image (Uncovered section x) h r =
+    let a = h.covered.of_tree.analysis in let q = a.program in
+    absurd (not_lacking q.lowering q.classes a.stores longest image section x h.covered.over
+    (same_analysis is q.lowering q.classes a.stores q.lowers q.are_classes a.tells (λ l c s. IsFirstLacking l c (Needed l c s longest) image.lists section x) r.of_tree.analysis r.lacking))
+checked_only is longest image (Unguarded section x) h r =
+    let a = h.covered.of_tree.analysis in let q = a.program in
+    absurd (not_open q.lowering q.classes image.lists section x h.guarded
+    (same_analysis is q.lowering q.classes a.stores q.lowers q.are_classes a.tells (λ l c s. IsFirstOpen l c image.lists section x) r.covered.of_tree.analysis r.open_at))
+checked_only is longest image OutOfMemory h r = tt
+
+pub only_memory : (is : List Item) (k : Lowered) (longest : ℕ) (image : Image) → IsLowering is k → IsKept k → IsAccepted is longest → IsInferredFor is longest image → (fault : CheckFault) → IsRefused is longest image fault → IsOutOfMemory fault
+only_memory is k longest image lowers kept accept h fault refused = checked_only is longest image fault (inferred_checked is k longest image lowers kept accept h) refused

@@ -1,0 +1,197 @@
+-- Lists that stand over what the flow tells stand over what is needed, and a program with such lists never faults for want of a lock.
+use Rattle.std.proofs.Common.{◌≡◌, ◌↔◌, ◌+◌, ℕ, suc, Bool, List, Some, length, slice_get, ap, sym, ◌∙◌, subst, inl, inr, arith}
+use Rattle.std.proofs.lemmas.Option.{slice_get_within}
+use Rattle.asl_code.specs.declared.image.Image.{Image}
+use Rattle.asl_code.specs.declared.lock.Lock.{Lock}
+use Rattle.asl_code.specs.Verified.{IsVerified}
+use Rattle.asl_code.proofs.FitsLaws.{image_fits}
+use Rattle.asl_lower.specs.declared.section.Section.{Section}
+use Rattle.asl_lower.specs.Lowered.{Lowered}
+use Rattle.asl_lower.specs.Kept.{IsKept}
+use Rattle.asl_lower.specs.Regions.{Inside}
+use Rattle.asl_points_to.specs.Classes.{Classed, AreClasses}
+use Rattle.asl_lock_expr.specs.Links.{IsOne}
+use Rattle.asl_backward_flow.specs.Needed.{Part, Needed, IsTold, TellsNeeded}
+use Rattle.asl_backward_flow.specs.Flows.{IsFlow}
+use Rattle.asl_soundness.specs.Coded.{IsImageOf}
+use Rattle.asl_soundness.specs.Safe.{StandOver, NeverFaultsForLocks}
+use Rattle.asl_soundness.proofs.Analysed.{IsAnalysed}
+use Rattle.asl_soundness.proofs.Soundness.{sound_program}
+use Rattle.asl_soundness.proofs.NeededLaws.{needed_analysed}
+use Rattle.std.proofs.lemmas.Bool.Decides.{eqb_tells}
+use Rattle.std.specs.Prelude.{IsTrue}
+use Rattle.asl_code.specs.Locks.{effect_of}
+use Rattle.asl_code.specs.declared.lock.Lock.TheVariants as lock
+use Rattle.asl_lock_expr.specs.ClassOf.{class_of}
+use Rattle.asl_soundness.specs.Over.{covers_effect, StandsOver}
+use Rattle.asl_emitter.specs.Lists.{DoesFor, IsReduced}
+use Rattle.asl_emitter.proofs.Absorbing.{IsOver, effect_trans, reduced_covers}
+use Rattle.asl_emitter.proofs.Fits.{reduced_same}
+use Rattle.asl_emitter.proofs.Making.{told_needed}
+use Rattle.asl_check.specs.Checked.{AreUnder, IsFirstBare, reads_of, IsCodeOf, StandOverFirst, AreGuarded, IsFirstLacking, IsFirstOpen}
+use Rattle.asl_check.specs.Told.{AreCovered, IsBare}
+
+-- a list that stands over what the flow says at an entry stands over what the parts tell there
+pub under_told : (c : Classed) (f : ℕ) (list given needed : List Lock) (parts : List Part) (n acquire entry : ℕ) → given ≡ needed → ((a : Lock) → IsOne needed a ↔ IsTold parts (Inside n) (entry + 1) a) → entry ≡ acquire →
+    AreUnder c f list (IsOne given) → AreUnder c f list (IsTold parts (Inside n) (acquire + 1))
+under_told c f list given needed parts n acquire entry is tells same under a told =
+    under a (subst (λ (xs : List Lock). IsOne xs a) (sym is) ((tells a).1 (subst (λ q. IsTold parts (Inside n) (q + 1) a) (sym same) told)))
+
+-- what stands over a lock stands over all for which that one does
+does_effect : (c : Classed) (f : ℕ) (a b : Lock) → DoesFor c f a b → IsTrue (covers_effect (effect_of a) (effect_of b))
+does_effect c f (lock.Class x e) (lock.Class y g) d = d.1
+does_effect c f (lock.Class x e) (lock.Expr b g) d = d.1
+does_effect c f (lock.Class x e) (lock.Root g) d = absurd d
+does_effect c f (lock.Expr a e) (lock.Expr b g) d = d.1
+does_effect c f (lock.Expr a e) (lock.Class x g) d = absurd d
+does_effect c f (lock.Expr a e) (lock.Root g) d = absurd d
+does_effect c f (lock.Root e) b d = absurd d
+
+stands_trans : (c : Classed) (f : ℕ) (m a b : Lock) → StandsOver c f m a → DoesFor c f a b → StandsOver c f m b
+stands_trans c f (lock.Root e) a b p d = effect_trans e (effect_of a) (effect_of b) p (does_effect c f a b d)
+stands_trans c f (lock.Class x e) (lock.Class y g) (lock.Class z h) p q = (p.0 ∙ q.0, effect_trans e g h p.1 q.1)
+stands_trans c f (lock.Class x e) (lock.Class y g) (lock.Expr b h) p q = (q.0 ∙ ap (λ k. Some k) (sym p.0), effect_trans e g h p.1 q.1)
+stands_trans c f (lock.Class x e) (lock.Class y g) (lock.Root h) p q = absurd q
+stands_trans c f (lock.Class x e) (lock.Expr b g) (lock.Expr d h) p q = (ap (class_of c f) (sym q.0) ∙ p.0, effect_trans e g h p.1 q.1)
+stands_trans c f (lock.Class x e) (lock.Expr b g) (lock.Class d h) p q = absurd q
+stands_trans c f (lock.Class x e) (lock.Expr b g) (lock.Root h) p q = absurd q
+stands_trans c f (lock.Class x e) (lock.Root g) d p q = absurd p
+stands_trans c f (lock.Expr a e) (lock.Expr b g) (lock.Expr d h) p q = (p.0 ∙ q.0, effect_trans e g h p.1 q.1)
+stands_trans c f (lock.Expr a e) (lock.Expr b g) (lock.Class d h) p q = absurd q
+stands_trans c f (lock.Expr a e) (lock.Expr b g) (lock.Root h) p q = absurd q
+stands_trans c f (lock.Expr a e) (lock.Class b g) d p q = absurd p
+stands_trans c f (lock.Expr a e) (lock.Root g) d p q = absurd p
+
+stands_all : (c : Classed) (f : ℕ) (m a b : Lock) → StandsOver c f m a → IsOver c f a b → StandsOver c f m b
+stands_all c f m a b p (inl e) = subst (StandsOver c f m) e p
+stands_all c f m a b p (inr d) = stands_trans c f m a b p d
+
+-- so a list that stands over what is left of a set stands over the set
+pub under_reduced : (c : Classed) (f : ℕ) (list given reduced : List Lock) → IsReduced c f (IsOne given) reduced → AreUnder c f list (IsOne reduced) → AreUnder c f list (IsOne given)
+under_reduced c f list given reduced r under a o =
+    let k = reduced_covers c f (IsOne given) reduced r a o in
+    let u = under k.0 k.1 in
+    (u.0, u.1, stands_all c f u.0 k.0 a u.2 k.2)
+
+-- one list more
+pub covered_more : (l : Lowered) (c : Classed) (parts : List Part) (lists : List (List Lock)) (n : ℕ) (s : Section) (listed list : List Lock) → AreCovered l c parts lists n →
+    slice_get l.sections n ≡ Some s → slice_get lists n ≡ Some listed → list ≡ listed → AreUnder c s.function list (IsTold parts (Inside n) (s.acquire + 1)) → AreCovered l c parts lists (n + 1)
+covered_more l c parts lists n s listed list old there at is under m lt t ls section own =
+    elim (eqb_tells m n) [
+      | inl same ↦ last (same.1)
+      | inr apart ↦ (let other = apart.1 in old m (omega (arith, lt, other)) t ls section own)
+    ]
+  where
+    last : m ≡ n → AreUnder c t.function ls (IsTold parts (Inside m) (t.acquire + 1))
+    last same =
+        let one : s ≡ t = (let u : Some s ≡ Some t = sym there ∙ subst (λ k. slice_get l.sections k ≡ Some t) same section in cc) in
+        let two : listed ≡ ls = (let u : Some listed ≡ Some ls = sym at ∙ subst (λ k. slice_get lists k ≡ Some ls) same own in cc) in
+        subst (λ k. AreUnder c t.function ls (IsTold parts (Inside k) (t.acquire + 1))) (sym same)
+        (subst (λ (u : Section). AreUnder c u.function ls (IsTold parts (Inside n) (u.acquire + 1))) one
+        (subst (λ (xs : List Lock). AreUnder c s.function xs (IsTold parts (Inside n) (s.acquire + 1))) (is ∙ two) under))
+
+-- the same of what lists read
+pub guarded_more : (l : Lowered) (c : Classed) (lists : List (List Lock)) (n : ℕ) (s : Section) (listed list reads given : List Lock) → AreGuarded l c lists n →
+    slice_get l.sections n ≡ Some s → slice_get lists n ≡ Some listed → list ≡ listed → given ≡ reads → reads ≡ reads_of list → AreUnder c s.function list (IsOne given) → AreGuarded l c lists (n + 1)
+guarded_more l c lists n s listed list reads given old there at is same all under m lt t ls section own =
+    elim (eqb_tells m n) [
+      | inl equal ↦ last (equal.1)
+      | inr apart ↦ (let other = apart.1 in old m (omega (arith, lt, other)) t ls section own)
+    ]
+  where
+    over : AreUnder c s.function list (IsOne (reads_of list))
+    over n o = under n (subst (λ (xs : List Lock). IsOne xs n) (sym (same ∙ all)) o)
+
+    last : m ≡ n → AreUnder c t.function ls (IsOne (reads_of ls))
+    last equal =
+        let one : s ≡ t = (let u : Some s ≡ Some t = sym there ∙ subst (λ k. slice_get l.sections k ≡ Some t) equal section in cc) in
+        let two : listed ≡ ls = (let u : Some listed ≡ Some ls = sym at ∙ subst (λ k. slice_get lists k ≡ Some ls) equal own in cc) in
+        subst (λ (u : Section). AreUnder c u.function ls (IsOne (reads_of ls))) one
+        (subst (λ (xs : List Lock). AreUnder c s.function xs (IsOne (reads_of xs))) (is ∙ two) over)
+
+-- the first of the locks that are read over which no lock of the list stands
+pub open_lock : (l : Lowered) (c : Classed) (lists : List (List Lock)) (n : ℕ) (s : Section) (listed list reads given : List Lock) (lock copy : Lock) → AreGuarded l c lists n →
+    slice_get l.sections n ≡ Some s → slice_get lists n ≡ Some listed → list ≡ listed → given ≡ reads → reads ≡ reads_of list →
+    copy ≡ lock → IsFirstBare c s.function list given lock → IsFirstOpen l c lists n copy
+open_lock l c lists n s listed list reads given lock copy earlier there at is same all copied first = record {
+  is = s;
+  in_table = there;
+  list = listed;
+  listed = at;
+  earlier = earlier;
+  first = subst (λ (xs : List Lock). IsFirstBare c s.function xs (reads_of xs) copy) is
+      (subst (λ (xs : List Lock). IsFirstBare c s.function list xs copy) (same ∙ all) (subst (λ (a : Lock). IsFirstBare c s.function list given a) (sym copied) first));
+}
+
+-- what the flow says at an entry is what its parts tell there
+entry_told : (parts : List Part) (n acquire entry : ℕ) (given all : List Lock) → given ≡ all → ((a : Lock) → IsOne all a ↔ IsTold parts (Inside n) (entry + 1) a) → entry ≡ acquire →
+    (a : Lock) → IsOne given a ↔ IsTold parts (Inside n) (acquire + 1) a
+entry_told parts n acquire entry given all have tells same a =
+    subst (λ q. IsOne given a ↔ IsTold parts (Inside n) (q + 1) a) same (subst (λ (xs : List Lock). IsOne xs a ↔ IsTold parts (Inside n) (entry + 1) a) (sym have) (tells a))
+
+-- the first of the locks that are told over which no lock of the list stands
+pub bare_lock : (l : Lowered) (c : Classed) (parts : List Part) (lists : List (List Lock)) (n : ℕ) (s : Section) (listed list given all reduced handed : List Lock) (entry : ℕ) (lock copy : Lock) → AreCovered l c parts lists n →
+    slice_get l.sections n ≡ Some s → slice_get lists n ≡ Some listed → list ≡ listed → given ≡ all → ((a : Lock) → IsOne all a ↔ IsTold parts (Inside n) (entry + 1) a) → entry ≡ s.acquire →
+    IsReduced c s.function (IsOne given) reduced → handed ≡ reduced → copy ≡ lock → IsFirstBare c s.function list handed lock → IsBare l c parts lists n copy
+bare_lock l c parts lists n s listed list given all reduced handed entry lock copy earlier there at is have tells same r second copied first = record {
+  is = s;
+  in_table = there;
+  list = listed;
+  listed = at;
+  earlier = earlier;
+  needed = reduced;
+  reduced = reduced_same c s.function (IsOne given) (IsTold parts (Inside n) (s.acquire + 1)) reduced (entry_told parts n s.acquire entry given all have tells same) r;
+  first = subst (λ (xs : List Lock). IsFirstBare c s.function xs reduced copy) is
+      (subst (λ (xs : List Lock). IsFirstBare c s.function list xs copy) second (subst (λ (a : Lock). IsFirstBare c s.function list handed a) (sym copied) first));
+}
+
+-- lists that stand over what is told stand over what is needed
+pub over_first : (l : Lowered) (c : Classed) (stores : ℕ → ℕ → Bool) (longest : ℕ) (parts : List Part) (lists : List (List Lock)) (so_many : ℕ) → TellsNeeded l c stores longest parts →
+    AreCovered l c parts lists so_many → StandOverFirst l c (Needed l c stores longest) lists so_many
+over_first l c stores longest parts lists so_many tells covered n lt s list there at a needed =
+    covered n lt s list there at a ((told_needed l c stores longest parts tells (Inside n) s.acquire a).1 needed)
+
+pub stand_over : (l : Lowered) (c : Classed) (stores : ℕ → ℕ → Bool) (longest : ℕ) (parts : List Part) (image : Image) → TellsNeeded l c stores longest parts →
+    AreCovered l c parts image.lists (length l.sections) → StandOver l c (Needed l c stores longest) image
+stand_over l c stores longest parts image tells covered n s list a there at needed =
+    over_first l c stores longest parts image.lists (length l.sections) tells covered n (slice_get_within l.sections n s there) s list there at a needed
+
+-- and the first lock that is told and lacking is the first that is needed and lacking
+pub bare_lacking : (l : Lowered) (c : Classed) (stores : ℕ → ℕ → Bool) (longest : ℕ) (parts : List Part) (lists : List (List Lock)) (n : ℕ) (lock : Lock) → TellsNeeded l c stores longest parts →
+    IsBare l c parts lists n lock → IsFirstLacking l c (Needed l c stores longest) lists n lock
+bare_lacking l c stores longest parts lists n lock tells h = record {
+  is = h.is;
+  in_table = h.in_table;
+  list = h.list;
+  listed = h.listed;
+  earlier = over_first l c stores longest parts lists n tells h.earlier;
+  needed = h.needed;
+  reduced = reduced_same c h.is.function (IsTold parts (Inside n) (h.is.acquire + 1)) (Needed l c stores longest (Inside n) (suc h.is.acquire)) h.needed
+      (λ a. told_needed l c stores longest parts tells (Inside n) h.is.acquire a) h.reduced;
+  first = h.first;
+}
+
+-- a verified image that is the lowering's but for its lists
+pub image_of : (l : Lowered) (c : Classed) (image : Image) → AreClasses l c → IsVerified image → IsCodeOf l c image → IsImageOf l c image
+image_of l c image are verified m = record {
+  fits = image_fits image verified;
+  version = m.tables.version;
+  legal = are.least.legal;
+  functions = m.tables.functions;
+  start = m.tables.start;
+  globals = m.tables.globals;
+  code = m.code;
+}
+
+-- where its lists stand over what is told, it is analysed
+pub covered_analysed : (l : Lowered) (c : Classed) (longest : ℕ) (parts : List Part) (image : Image) → IsKept l → AreClasses l c → IsVerified image → (flow : IsFlow l c longest parts) → IsCodeOf l c image →
+    AreCovered l c parts image.lists (length l.sections) → IsAnalysed l c flow.stores longest (Needed l c flow.stores longest) image
+covered_analysed l c longest parts image kept are verified flow m covered =
+    needed_analysed l c flow.stores longest image kept (image_of l c image are verified m) (λ f x may. (flow.written f x).1 may)
+    (stand_over l c flow.stores longest parts image flow.tells covered)
+
+-- and it never faults for want of a lock
+pub covered_sound : (l : Lowered) (c : Classed) (longest : ℕ) (parts : List Part) (image : Image) → IsKept l → AreClasses l c → IsVerified image → IsFlow l c longest parts → IsCodeOf l c image →
+    AreCovered l c parts image.lists (length l.sections) → NeverFaultsForLocks image
+covered_sound l c longest parts image kept are verified flow m covered =
+    sound_program l c flow.stores longest (Needed l c flow.stores longest) image (covered_analysed l c longest parts image kept are verified flow m covered)

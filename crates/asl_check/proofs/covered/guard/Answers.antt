@@ -1,0 +1,49 @@
+use Rattle.std.proofs.Common.{◌≡◌, List, Some, length, slice_get, get_or, ap, sym, ◌∙◌, refl, arith}
+use Rattle.std.proofs.lemmas.Option.{slice_get-get_or, slice_get_read}
+use Rattle.asl_lower.specs.declared.section.Section.{Section}
+use Rattle.asl_lower.proofs.Layouts.{kept_layout}
+use Rattle.asl_check.proofs.Covering.{guarded_more, open_lock}
+use Rattle.asl_check.proofs.covered.guard.Goals as goal
+
+pub overflow_cast-result : goal.overflow_cast-result
+overflow_cast-result c =
+    let few = (kept_layout c.args.lowering.now c.sections-section-items.ensures.kept).limits.few_sections in
+    let same = ap (length {A = Section}) c.sections-section-items.ensures.sections in
+    let lt = c.loop-number-test.true in
+    omega (arith, few, same, lt)
+
+pub returns-in-Some-clause-unguarded : goal.returns-in-Some-clause-unguarded
+returns-in-Some-clause-unguarded c =
+    let l = c.args.lowering.now in
+    let n = c.loop-number.number in
+    let s : Section = get_or c.sections-section-items.result.now n (record { function = 0; acquire = 0; release = 0 }) in
+    let there : slice_get l.sections n ≡ Some s =
+    ap (λ (ss : List Section). slice_get ss n) (sym c.sections-section-items.ensures.sections)
+    ∙ slice_get-get_or c.sections-section-items.result.now n (record { function = 0; acquire = 0; release = 0 }) c.loop-number-test.true in
+    let many = ap (length {A = Section}) c.sections-section-items.ensures.sections in
+    let lt = c.loop-number-test.true in
+    let req = c.requires in
+    let at = slice_get_read c.args.lists.now (length c.args.lists.now) n c.index-lists-number.result refl (omega (arith, many, lt, req)) c.index-lists-number.is in
+    open_lock l c.args.classes.now c.args.lists.now n s c.index-lists-number.result c.as_slice-list.result.now c.in_ok-reads.reads.items c.deref.result.now
+    c.in-Some.lock.now c.in_ok-copied.field-0 c.loop-number.invariant there at c.as_slice-list.ensures c.deref.ensures.value c.in_ok-reads.ensures c.in_ok-copied.ensures c.in-Some.ensures
+
+pub loop-number-preserved : goal.loop-number-preserved
+loop-number-preserved c =
+    let l = c.args.lowering.now in
+    let n = c.loop-number.number in
+    let s : Section = get_or c.sections-section-items.result.now n (record { function = 0; acquire = 0; release = 0 }) in
+    let there : slice_get l.sections n ≡ Some s =
+    ap (λ (ss : List Section). slice_get ss n) (sym c.sections-section-items.ensures.sections)
+    ∙ slice_get-get_or c.sections-section-items.result.now n (record { function = 0; acquire = 0; release = 0 }) c.loop-number-test.true in
+    let many = ap (length {A = Section}) c.sections-section-items.ensures.sections in
+    let lt = c.loop-number-test.true in
+    let req = c.requires in
+    let at = slice_get_read c.args.lists.now (length c.args.lists.now) n c.index-lists-number.result refl (omega (arith, many, lt, req)) c.index-lists-number.is in
+    guarded_more l c.args.classes.now c.args.lists.now n s c.index-lists-number.result c.as_slice-list.result.now c.in_ok-reads.reads.items c.deref.result.now c.loop-number.invariant there at c.as_slice-list.ensures
+    c.deref.ensures.value c.in_ok-reads.ensures c.in_default.ensures
+
+pub returns-clause-guarded : goal.returns-clause-guarded
+returns-clause-guarded c = λ n lt.
+    let past = c.loop-number-test.false in
+    let many = ap (length {A = Section}) c.sections-section-items.ensures.sections in
+    c.loop-number.invariant n (omega (arith, lt, past, many))

@@ -1,0 +1,46 @@
+//! Why a program is not checked.
+
+use asl_code::Lock;
+use asl_emitter::InferFault;
+use std::alloc::AllocError;
+
+/// Why a program is not checked: the first that applies, in this order.
+#[derive(Drop)]
+pub enum CheckFault {
+    /// No lists are inferred for the tree.
+    Infer(InferFault),
+    /// The program is not the tree's: the first instruction that is another's, or the number of instructions where the code is
+    /// the same, and the version or a table is not.
+    OtherCode(usize),
+    /// The section of this number needs the lock, and no lock of its list stands over it: the first such section, and of the locks
+    /// that it needs, but for those that another of them absorbs, the first in the order of locks.
+    Uncovered(u16, Lock),
+    /// An expression of the list of the section of this number reads the cell of the lock when it is evaluated, and no lock of the
+    /// list stands over it: the first such section, and its first such lock in the order in which they are read. Each list is
+    /// enough for what its section needs.
+    Unguarded(u16, Lock),
+    /// The memory ran out.
+    OutOfMemory,
+}
+
+impl From<InferFault> for CheckFault {
+    ghost use Rattle.std.specs.Prelude.{◌≡◌};
+    ghost use Rattle.asl_check.specs.declared.fault.CheckFault.TheVariants.{Infer};
+
+    ghost from_gives = { λ infer fault. fault ≡ Infer infer };
+
+    fn from(fault: InferFault) -> CheckFault {
+        CheckFault::Infer(fault)
+    }
+}
+
+impl From<AllocError> for CheckFault {
+    ghost use Rattle.std.specs.Prelude.{◌≡◌};
+    ghost use Rattle.asl_check.specs.declared.fault.CheckFault.TheVariants.{OutOfMemory};
+
+    ghost from_gives = { λ _ fault. fault ≡ OutOfMemory };
+
+    fn from(_failed: AllocError) -> CheckFault {
+        CheckFault::OutOfMemory
+    }
+}

@@ -1,0 +1,27 @@
+//! Laws of the check, as functions that do nothing: what each ensures is the law.
+ghost use Rattle.std.specs.Prelude.{◌≡◌, ℕ, List};
+ghost use Rattle.asl_code.specs.declared.image.Image.{Image};
+ghost use Rattle.asl_syntax.specs.Tree.{Item};
+ghost use Rattle.asl_syntax.specs.Parsed.{Parses};
+ghost use Rattle.asl_emitter.specs.Inferred.{IsInferredFor};
+ghost use Rattle.asl_emitter.specs.Refused.{IsAccepted};
+ghost use Rattle.asl_check.specs.declared.fault.CheckFault.{CheckFault};
+ghost use Rattle.asl_check.specs.Refused.{IsChecked, IsRefused, IsOutOfMemory, IsOfProgram};
+
+/// The lists that are inferred for an accepted program are enough for it, with paths of as many operations.
+pub fn inferred_lists_are_enough()
+    ensures { (source : List ℕ) (tree : List Item) (longest : ℕ) (image : Image) → Parses source tree → IsAccepted tree longest
+        → IsInferredFor tree longest image → IsChecked tree longest image }
+{}
+
+/// A program that is checked is refused only where the memory ran out.
+pub fn checked_programs_have_no_fault()
+    ensures { (tree : List Item) (longest : ℕ) (image : Image) (fault : CheckFault) → IsChecked tree longest image
+        → IsRefused tree longest image fault → IsOutOfMemory fault }
+{}
+
+/// A program has one refusal of its code and its lists at the most: the first.
+pub fn refusals_of_lists_are_one()
+    ensures { (tree : List Item) (longest : ℕ) (image : Image) (fault other : CheckFault) → IsOfProgram fault → IsOfProgram other
+        → IsRefused tree longest image fault → IsRefused tree longest image other → fault ≡ other }
+{}

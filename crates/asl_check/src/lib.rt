@@ -1,0 +1,13 @@
+//! Whether lock lists that were made by other means are enough for a program.
+#![tactic(auto)]
+
+mod analysis;
+mod checked;
+mod coded;
+mod covered;
+mod fault;
+pub mod laws;
+mod over;
+
+pub use checked::check;
+pub use fault::CheckFault;
