@@ -11,7 +11,8 @@ ghost use Rattle.asl_machine.specs.Step.{Step};
 
 /// No frame of another thread has an address in an object that is fresh for a thread, and no cell has one but those of the
 /// thread's own fresh objects, and those that it holds for writing, of objects that are fresh for nobody: from a sound state
-/// each line of the table keeps this, and it holds of each reached state. By images of version 1 no object is ever fresh.
+/// each line of the table keeps this, and it holds of each reached state. By images of a version without fresh
+/// objects none is ever fresh.
 pub fn fresh_objects_stay_apart()
     ensures line { (image : Image) (s : State) (t : ℕ) (reply : Reply) (new : State) → SatisfiesInvariant image s → AreApart image s
         → Step image s t reply new → AreApart image new }
