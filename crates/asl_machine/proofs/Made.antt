@@ -230,7 +230,7 @@ stays_now image s (u ∷ us) end t h = h.0
 
 stays_fresh : (image : Image) (s : State) (us : List ℕ) (end : State) (t o : ℕ) → StaysInside image s us end t → IsFreshFor s t o → IsFreshFor end t o
 stays_fresh image s [] end t o h f = ap (λ (x : State). is_fresh (fresh_at x.threads t) o) h.1 ∙ f
-stays_fresh image s (u ∷ us) end t o (low, r, new, step, rest) f =
+stays_fresh image s (u ∷ us) end t o (low, (r, new, step, rest)) f =
     stays_fresh image new us end t o rest (step_fresh_still image s u r new step t o (stays_now image new us end t rest) f)
 
 -- what the thread has made in its section is fresh
