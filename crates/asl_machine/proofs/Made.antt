@@ -1,5 +1,5 @@
 -- What the machine keeps as fresh is what the thread has made in its section, by the run.
-use Rattle.std.proofs.Common.{◌≡◌, ◌≢◌, ℕ, zero, suc, ◌+◌, ◌-◌, ◌<◌, ◌⊎◌, ◌++◌, Bool, true, false, List, [], ◌∷◌, Some, None, length, set, slice_get, refl, ap, sym, ◌∙◌, subst, inl, inr, arith}
+use Rattle.std.proofs.Common.{◌≡◌, ◌≢◌, ℕ, ◌<◌, ◌⊎◌, Bool, List, [], ◌∷◌, Some, None, length, set, slice_get, refl, ap, sym, ◌∙◌, subst, inl, inr, arith}
 use Rattle.std.specs.Prelude.{Option, option_and_then, IsTrue}
 use Rattle.std.specs.Option.{option_map_or}
 use Rattle.std.proofs.lemmas.Bool.{cases_lt}
@@ -20,7 +20,6 @@ use Rattle.asl_machine.specs.Fresh.{fresh_of, fresh_at, IsFreshFor, AreApart}
 use Rattle.asl_machine.specs.Made.{MakesInside, StaysInside, HasMadeInside}
 use Rattle.asl_machine.specs.Run.{start_of, RunsBy}
 use Rattle.asl_machine.specs.Step.{At, Line, StepOf, Step, Fails, after, made_fresh, having_made}
-use Rattle.asl_machine.specs.StepFunction.{step_of}
 use Rattle.asl_machine.specs.WellFormed.{SatisfiesInvariant}
 use Rattle.asl_machine.proofs.Lists.{get_same, get_other}
 use Rattle.asl_machine.proofs.Invariant.{start_sound, step_sound}

@@ -1,7 +1,7 @@
 use Rattle.std.proofs.Common.{ap, ◌∙◌, ℕ}
 use Rattle.asl_machine.specs.declared.reply.Reply.TheVariants.{Ran}
 use Rattle.asl_machine.specs.StepFunction.{step_of}
-use Rattle.asl_journal.proofs.Replays.{may_stop, one_differs, one_followed}
+use Rattle.asl_journal.proofs.Replays.{one_differs, one_followed}
 use Rattle.asl_journal.proofs.replaying.run_on.Goals as goal
 
 pub loop-index-preserved : goal.loop-index-preserved
