@@ -1,8 +1,11 @@
 //! Breakpoints: places of the code.
-ghost use Rattle.std.specs.Prelude.{◌≡◌, ◌==◌, filter, not, IsOk, IsTrue, OnErr, OnOk};
+ghost use Rattle.std.specs.Prelude.{◌≡◌, ◌==◌, ◌≤◌, filter, not, IsOk, IsTrue, OnErr, OnOk};
 ghost use Rattle.asl_debugger.specs.Breaks.{has_break, HasBreak, HasNoBreak};
 
 use std::alloc::AllocError;
+
+/// Code has places below this number alone.
+const PLACES: u32 = 65_536;
 
 /// Whether the place is among the breakpoints.
 pub fn has_break(breakpoints: &[u32], pc: u32) -> bool
@@ -11,14 +14,15 @@ pub fn has_break(breakpoints: &[u32], pc: u32) -> bool
     breakpoints.contains(&pc)
 }
 
-/// Puts the place among the breakpoints.
+/// Puts the place among the breakpoints, if code may have it.
 pub fn put_break(breakpoints: &mut Vec<u32>, pc: u32) -> Result<(), AllocError>
     ensures has { OnOk result (HasBreak breakpoints.old.items breakpoints.new.items pc) }
     ensures again { IsTrue (has_break breakpoints.old.items pc)
         → IsOk result × (breakpoints.new.items ≡ breakpoints.old.items) }
+    ensures never { 65536 ≤ pc → IsOk result × (breakpoints.new.items ≡ breakpoints.old.items) }
     ensures err { OnErr result (breakpoints.new.items ≡ breakpoints.old.items) }
 {
-    if !has_break(breakpoints.as_slice(), pc) {
+    if pc < PLACES && !has_break(breakpoints.as_slice(), pc) {
         breakpoints.push(pc)?;
     }
     Ok(())

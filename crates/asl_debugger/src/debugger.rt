@@ -194,8 +194,8 @@ impl<'p> Debugger<'p> {
         Ok(())
     }
 
-    /// Makes the place a breakpoint. A place out of the code never stops. Where it is one already, nothing is wanted and
-    /// nothing changes.
+    /// Makes the place a breakpoint. A place above 65,535, which no code has, is never one: nothing is kept of it. There, and
+    /// where the place is a breakpoint already, no memory is wanted and nothing changes.
     ///
     /// # Errors
     ///
@@ -204,6 +204,7 @@ impl<'p> Debugger<'p> {
         ensures same { self.new ≡ with_breaks self.old self.new.breakpoints }
         ensures has { OnOk result (HasBreak self.old.breakpoints self.new.breakpoints pc) }
         ensures again { IsTrue (has_break self.old.breakpoints pc) → IsOk result × (self.new ≡ self.old) }
+        ensures never { 65536 ≤ pc → IsOk result × (self.new ≡ self.old) }
         ensures memory { IfErr result (λ fault. fault ≡ DebugFault.OutOfMemory) }
         ensures err { OnErr result (self.new ≡ self.old) }
     {

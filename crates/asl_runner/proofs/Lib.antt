@@ -3,5 +3,4 @@ mod Workers
 mod Joins
 mod Sizes
 mod Ends
-mod NoneBehind
 mod Promises

@@ -1,5 +1,5 @@
 -- Words to a debugger have one answer: each move leads to one position, whatever list keeps the breakpoints.
-use Rattle.std.proofs.Common.{◌≡◌, ◌==◌, ℕ, zero, suc, ◌+◌, ◌-◌, ◌<◌, ◌≤◌, ◌⊎◌, inl, inr, Bool, true, false, IsTrue, if◌then◌else◌, List, [], ◌∷◌, ◌++◌, length, Option, None, Some, IsSomeAnd, refl, sym, ap, ap₂, subst, ◌∙◌, arith}
+use Rattle.std.proofs.Common.{◌≡◌, ◌==◌, ◌&&◌, ℕ, zero, suc, ◌+◌, ◌-◌, ◌<◌, ◌≤◌, ◌⊎◌, inl, inr, Bool, true, false, IsTrue, if◌then◌else◌, List, [], ◌∷◌, ◌++◌, length, Option, None, Some, IsSomeAnd, refl, sym, ap, ap₂, subst, ◌∙◌, arith}
 use Rattle.std.specs.Prelude.{slice_get, codes, filter, not, ◌||◌}
 use Rattle.std.specs.Fmt.{decimal}
 use Rattle.std.proofs.lemmas.Bool.{cases_lt, cases_eq}
@@ -7,7 +7,7 @@ use Rattle.asl_code.specs.declared.image.Image.{Image}
 use Rattle.asl_machine.specs.State.{State, Activity, activity_at}
 use Rattle.asl_journal.specs.declared.event.Event.{Event}
 use Rattle.asl_journal.specs.Journal.{Log}
-use Rattle.asl_debugger.specs.Breaks.{has_break, HasBreak, HasNoBreak}
+use Rattle.asl_debugger.specs.Breaks.{has_break, is_place, HasBreak, HasNoBreak}
 use Rattle.asl_debugger.specs.Session.{Session, IsAtBreak, IsStop, IsNextStop, IsLastStop, machine_before, state_before}
 use Rattle.asl_debugger.proofs.Places.{without_place}
 use Rattle.asl_debugger.proofs.Halts.{IsSearching, searching_start, searching_next, found_next, IsNoneFrom, none_from_start, none_found}
@@ -129,7 +129,7 @@ arrives image log p bs NoSuchStep = refl
 
 broken_alike : (bs cs new other : List ℕ) (pc : ℕ) → Alike bs cs → HasBreak bs new pc → HasBreak cs other pc → Alike new other
 broken_alike bs cs new other pc same x y place =
-    x place ∙ ap (λ (b : Bool). if pc == place then true else b) (same place) ∙ sym (y place)
+    x place ∙ ap (λ (b : Bool). if is_place pc && (pc == place) then true else b) (same place) ∙ sym (y place)
 
 cleared_alike : (bs cs new other : List ℕ) (pc : ℕ) → Alike bs cs → HasNoBreak bs new pc → HasNoBreak cs other pc → Alike new other
 cleared_alike bs cs new other pc same x y place =
@@ -250,8 +250,15 @@ either false c = refl
 abbrev without : ℕ → List ℕ → List ℕ
 without pc places = filter (λ place. not (place == pc)) places
 
-put_place : (pc : ℕ) (bs : List ℕ) → HasBreak bs (pc ∷ bs) pc
-put_place pc bs place = either (pc == place) (has_break bs place)
+abbrev with_place : ℕ → List ℕ → List ℕ
+with_place pc bs = if is_place pc then pc ∷ bs else bs
+
+put_place : (pc : ℕ) (bs : List ℕ) → HasBreak bs (with_place pc bs) pc
+put_place pc bs place = by (is_place pc)
+  where
+    by : (b : Bool) → has_break (if b then pc ∷ bs else bs) place ≡ (if b && (pc == place) then true else has_break bs place)
+    by true = either (pc == place) (has_break bs place)
+    by false = refl
 
 pub some_talk : (image : Image) (log : Log) (p : ℕ) (bs : List ℕ) (ws : List DebugWord) → p ≤ length log.events → (text : List ℕ) × IsTalk (at image log p bs) ws text
 some_talk image log p bs [] within = ([], refl)
@@ -260,8 +267,8 @@ some_talk image log p bs (word.Move m ∷ ws) within =
     let rest = some_talk image log (place_of p a.0) bs ws a.2 in
     (answer_text a.0 ++ rest.0, (at image log (place_of p a.0) bs, answer_text a.0, rest.0, (a.0, a.1, sym (arrives image log p bs a.0), refl), rest.1, refl))
 some_talk image log p bs (word.Break pc ∷ ws) within =
-    let rest = some_talk image log p (pc ∷ bs) ws within in
-    (break_text pc ++ rest.0, (at image log p (pc ∷ bs), break_text pc, rest.0, (refl, put_place pc bs, refl), rest.1, refl))
+    let rest = some_talk image log p (with_place pc bs) ws within in
+    (break_text pc ++ rest.0, (at image log p (with_place pc bs), break_text pc, rest.0, (refl, put_place pc bs, refl), rest.1, refl))
 some_talk image log p bs (word.Clear pc ∷ ws) within =
     let rest = some_talk image log p (without pc bs) ws within in
     (clear_text pc ++ rest.0, (at image log p (without pc bs), clear_text pc, rest.0, (refl, (λ place. without_place pc place bs), refl), rest.1, refl))
