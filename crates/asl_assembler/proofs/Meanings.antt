@@ -72,7 +72,7 @@ is_base word b e =
       | inr h ↦ (let m = mapped base.Global (global_of word) b h.1 in rw (← m.2) (read_marked 103 65536 word m.0 m.1))
     ]
 
--- Paths, with the effect behind them.
+-- Paths, with the effect after them.
 path_reads : (ops done : List Op) (e : Effect) (words : List (List ℕ)) → AreWords (map op_token ops ++ effect_token e ∷ []) words → length done + length ops ≤ 8 → path_of done words ≡ Some (done ++ ops, e)
 path_reads [] done e [] h l = absurd h
 path_reads [] done e (word ∷ []) h l =

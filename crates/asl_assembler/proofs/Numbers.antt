@@ -53,7 +53,7 @@ read_number limit word n e =
       fits = rw (← same) (ltb-true b.0 limit small.0);
     }
 
--- A word behind a mark.
+-- A word after a mark.
 pub marked_read : (mark limit : ℕ) (word : List ℕ) (n : ℕ) → IsMarked mark limit word n → marked_of mark limit word ≡ Some n
 unfolding marked_of
 marked_read mark limit [] n h = absurd h
@@ -70,7 +70,7 @@ read_marked mark limit (c ∷ word) n e =
     let same : word ≡ b.0 = cc in
     ((Decides-eqb c mark).0 g.0, read_number limit word n (rw same b.2))
 
--- No mark, no number behind it.
+-- No mark, no number after it.
 pub not_marked : (mark limit c : ℕ) (word : List ℕ) → (c == mark) ≡ false → marked_of mark limit (c ∷ word) ≡ None
 unfolding marked_of
 not_marked mark limit c word other = rw other refl

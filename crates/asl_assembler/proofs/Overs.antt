@@ -1,4 +1,4 @@
--- More of something than a program has: that stays so however the text goes on, and breaks a limit.
+-- More of something than a program has: that stays so however the text continues, and breaks a limit.
 use Rattle.std.proofs.Common.{◌≡◌, ℕ, ◌+◌, ◌<◌, true, false, List, [], ◌∷◌, ◌++◌, length, Option, Some, None, Result, Ok, Err, refl, sym, ap, ◌∙◌, inl, inr, arith, nat_le, Bool, ◌≤◌}
 use Rattle.std.specs.List.{list_all}
 use Rattle.std.proofs.lemmas.Bool.{lt-leb, ltb-true, or_cases}
@@ -195,7 +195,7 @@ too_many p i is = elim (or_cases _ _ is) [
 pub over_limit : (n : ℕ) (p : Place) (i : Image) (ls : List (List ℕ)) (j : Image) → is_over p i ≡ true → image_from n p i ls ≡ Ok j → IsOver j
 over_limit n p i ls j is e = stays_over n p i ls j (too_many p i is) e
 
--- a line behind which the state is over a limit
+-- a line after which the state is over a limit
 pub over_step : (n : ℕ) (p q : Place) (i k : Image) (l rest behind text : List ℕ) (o : Option Place) (j : Image)
     → image_from n p i (lines_of rest) ≡ image_from 0 place.Version blank_image (lines_of text) → lines_of rest ≡ l ∷ lines_of behind
     → paired o k ≡ step_line p i l → o ≡ Some q → is_over q k ≡ true → image_from 0 place.Version blank_image (lines_of text) ≡ Ok j → IsOver j

@@ -33,7 +33,7 @@ global = record { token = GlobalName; read = global_of; reads = marked_read 103 
 abbrev pub effect : Reader Effect
 effect = record { token = effect_token; read = effect_of; reads = (λ word e h. effect_read e word h); is_read = read_effect }
 
--- The words behind a name, and what they are read as.
+-- The words after a name, and what they are read as.
 pub record Behind {A : Type 0} (k : Keyword) (words : List (List ℕ)) (read : List (List ℕ) → Option A) (x : A) : Type 0 where
   pub rest : List (List ℕ)
   pub split : words ≡ name_of k ∷ rest

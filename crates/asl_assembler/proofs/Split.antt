@@ -37,7 +37,7 @@ past_gap (b ∷ bs) =
       | inr h ↦ rw (gap_none b bs h) refl
     ]
 
--- A word goes on over a byte that is no separator.
+-- A word continues over a byte that is no separator.
 word_more : (b : ℕ) (bs : List ℕ) → is_separator b ≡ false → prefix_len is_word_byte (b ∷ bs) ≡ suc (prefix_len is_word_byte bs)
 word_more b bs h = rw h (one-add (prefix_len is_word_byte bs))
 

@@ -15,7 +15,7 @@ use Rattle.asl_assembler.proofs.Options.{bound}
 use Rattle.asl_assembler.proofs.Meanings.{meaning_reads, is_meaning}
 use Rattle.asl_assembler.proofs.Listings.{complete, is_listing, listing_taken}
 
--- The state behind lines of bytes, and the image that they leave.
+-- The state after lines of bytes, and the image that they leave.
 abbrev pub walk : List (List ℕ) → State → Option State
 walk [] s = Some s
 walk (l ∷ ls) s = step_line s.0 s.1 l >>= λ t. walk ls t
@@ -93,7 +93,7 @@ one_image text i j h k =
     let b = spells_leaves (lines_of text) j k in
     cc
 
--- From each state a text can go on to its end.
+-- From each state a text can continue to its end.
 pub record CanFinish (s : State) : Type 0 where
   pub more : List (List ℕ)
   pub image : Image

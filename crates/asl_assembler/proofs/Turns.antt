@@ -19,7 +19,7 @@ turn_of place.Functions = turn.Functions
 turn_of (place.Body f) = turn.Body
 turn_of (place.Locks locks) = turn.Locks
 
--- which line comes behind a state, if there is one
+-- which line comes after a state, if there is one
 abbrev turns : Option State → Option Turn
 turns None = None
 turns (Some s) = Some (turn_of s.0)
@@ -87,14 +87,14 @@ bytes_turn : (p : Place) (i : Image) (l : List ℕ) → turns (step_line p i l) 
 unfolding step_line turn_line
 bytes_turn p i l = words_turn p i (words_of l)
 
--- behind so many lines a text is at a place where such a line comes next
+-- after so many lines a text is at a place where such a line comes next
 pub record AtTurn (t : Turn) (n : ℕ) (rest text : List ℕ) : Type 0 where
   pub at : Place
   pub so_far : Image
   pub turn : turn_of at ≡ t
   pub same : image_from n at so_far (lines_of rest) ≡ image_from 0 place.Version blank_image (lines_of text)
 
--- the line of a text goes on to another
+-- the line of a text continues to another
 pub goes_on : (t u : Turn) (n : ℕ) (l rest behind text : List ℕ) → AtTurn t n rest text → lines_of rest ≡ l ∷ lines_of behind → turn_line t l ≡ Some u → AtTurn u (n + 1) behind text
 goes_on t u n l rest behind text a split e = by_step (step_line a.at a.so_far l) refl
   where

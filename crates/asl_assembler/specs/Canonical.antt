@@ -22,12 +22,12 @@ word_of (GlobalName n) = codes "g" ++ decimal n
 word_of Star = codes "*"
 word_of (Offset n) = codes "." ++ decimal n
 
--- The rest of a line: each word behind what stands between words, and the line feed
+-- The rest of a line: each word after what stands between words, and the line feed
 abbrev pub later_words : List ℕ → List Token → List ℕ
 later_words between [] = codes "\n"
 later_words between (t ∷ ts) = between ++ (word_of t ++ later_words between ts)
 
--- The operands of a line, of which the first stands behind a space
+-- The operands of a line, of which the first stands after a space
 abbrev pub operands : List ℕ → List Token → List ℕ
 operands between [] = codes "\n"
 operands between (t ∷ ts) = codes " " ++ (word_of t ++ later_words between ts)

@@ -1,4 +1,4 @@
--- Why a text is no program, and what a text's one outcome is (docs/ASSEMBLY.md, docs/LIMITS.md).
+-- Why a text is not a program, and what a text's one outcome is (docs/ASSEMBLY.md, docs/LIMITS.md).
 use Rattle.std.specs.Prelude.{◌≢◌, ℕ, List, Result, Ok, Err}
 use Rattle.asl_code.specs.declared.image.Image.{Image}
 use Rattle.asl_code.specs.Verified.{IsVerified, IsAnswer}
@@ -8,7 +8,7 @@ use Rattle.asl_assembler.specs.declared.assembly.AsmFault.{AsmFault}
 use Rattle.asl_assembler.specs.declared.assembly.AsmFault.TheVariants.{Line, Verify, OutOfMemory}
 
 -- The text is refused with this error: its first line that is not as its place asks, or, where all lines are right, the
--- first rule that the image which they spell breaks. Want of memory hides no line: the text spells an image
+-- first rule that the image which they spell breaks. Running out of memory hides no line: the text spells an image
 abbrev pub IsFault : List ℕ → AsmFault → Type 0
 IsFault text (Line number) = IsBadLine (lines_of text) number
 IsFault text (Verify cause) = (image : Image) × Spells text image × IsAnswer image cause

@@ -65,7 +65,7 @@ others = keyword.Load ∷ keyword.Store ∷ keyword.New ∷ keyword.Jmp ∷ keyw
 unfoldable pub keyword_of : List ℕ → Option Keyword
 keyword_of word = or_else (first_named others word) (or_else (first_named setters word) (first_named directives word))
 
--- the value of decimal digits, behind digits that are worth `high`
+-- the value of decimal digits, after digits that are worth `high`
 abbrev pub decimal_after : ℕ → List ℕ → Option ℕ
 decimal_after high [] = Some high
 decimal_after high (d ∷ ds) = if is_ascii_digit d then decimal_after (10 * high + (d - 48)) ds else None
@@ -82,16 +82,16 @@ below limit n = if nat_lt n limit then Some n else None
 unfoldable pub number_of : ℕ → List ℕ → Option ℕ
 number_of limit word = decimal_of word >>= below limit
 
--- what stands behind this mark, where the word begins with it
+-- what stands after this mark, where the word begins with it
 abbrev pub after_mark : ℕ → List ℕ → Option (List ℕ)
 after_mark mark [] = None
 after_mark mark (c ∷ word) = if c == mark then Some word else None
 
--- a mark, and behind it a number below the limit
+-- a mark, and after it a number below the limit
 unfoldable pub marked_of : ℕ → ℕ → List ℕ → Option ℕ
 marked_of mark limit word = after_mark mark word >>= number_of limit
 
--- a 32-bit integer: what stands behind a `-`, if the word has one, else the word
+-- a 32-bit integer: what stands after a `-`, if the word has one, else the word
 abbrev pub integer_by : Option (List ℕ) → List ℕ → Option ℤ
 integer_by None word = option_map pos (number_of (2 ^ 31) word)
 integer_by (Some digits) word = option_map (λ n. neg_ℤ (pos n)) (number_of (2 ^ 31 + 1) digits)
@@ -126,7 +126,7 @@ base_of word = or_else (option_map base.Reg (register_of word)) (option_map base
 unfoldable pub op_of : List ℕ → Option Op
 op_of word = if bytes_eq word (codes "*") then Some op.Deref else option_map op.Off (marked_of 46 256 word)
 
--- a byte of a line is no line feed (10)
+-- a byte of a line is not a line feed (10)
 abbrev pub is_line_byte : ℕ → Bool
 is_line_byte b = not (b == 10)
 
@@ -174,7 +174,7 @@ registers_3 = three register_of register_of register_of
 abbrev pub registers_2 : List (List ℕ) → Option (ℕ × ℕ)
 registers_2 = two register_of register_of
 
--- the instruction of a keyword and the words behind it, where an operand is no register, and of `rel`
+-- the instruction of a keyword and the words after it, where an operand is not a register, and of `rel`
 unfoldable pub with_numbers_of : Keyword → List (List ℕ) → Option Instr
 with_numbers_of keyword.Glob words = option_map (λ x. instr.GlobalAddress x.0 x.1) (two register_of global_of words)
 with_numbers_of keyword.Field words = option_map (λ x. instr.FieldAddress x.0 x.1 x.2) (three register_of register_of (number_of 256) words)
@@ -186,7 +186,7 @@ with_numbers_of keyword.Acq words = option_map instr.Acquire (one (number_of 655
 with_numbers_of keyword.Rel words = option_map (λ _. instr.Release) (no_word words)
 with_numbers_of _ words = None
 
--- the instruction of a keyword and the words behind it
+-- the instruction of a keyword and the words after it
 unfoldable pub instr_of : Keyword → List (List ℕ) → Option Instr
 instr_of keyword.Int words = option_map (λ x. instr.SetInt x.0 x.1) (two register_of integer_of words)
 instr_of keyword.Null words = option_map instr.SetNull (one register_of words)
@@ -206,7 +206,7 @@ abbrev pub by_op : {A : Type 0} → Option Op → (Op → A) → A → A
 by_op (Some o) some none = some o
 by_op None some none = none
 
--- the operations and the effect, behind a path that was read so far: eight operations at the most
+-- the operations and the effect, after a path that was read so far: eight operations at the most
 abbrev pub path_of : List Op → List (List ℕ) → Option (List Op × Effect)
 path_of path [] = None
 path_of path (word ∷ words) = by_op (op_of word)
@@ -217,7 +217,7 @@ path_of path (word ∷ words) = by_op (op_of word)
 abbrev pub lock_with : Base → Option (List Op × Effect) → Option Lock
 lock_with b path = path >>= λ p. Some (lock.Expr (record { base = b; path = p.0 }) p.1)
 
--- the lock on an expression, of the words behind `expr`
+-- the lock on an expression, of the words after `expr`
 unfoldable pub expr_of : List (List ℕ) → Option Lock
 expr_of [] = None
 expr_of (word ∷ words) = base_of word >>= λ b. lock_with b (path_of [] words)
@@ -226,7 +226,7 @@ expr_of (word ∷ words) = base_of word >>= λ b. lock_with b (path_of [] words)
 abbrev pub version_of : ℕ → Option Line
 version_of n = if is_version n then Some (line.Version n) else None
 
--- the line of a keyword and the words behind it
+-- the line of a keyword and the words after it
 unfoldable pub line_of : Keyword → List (List ℕ) → Option Line
 line_of keyword.Version words = one (number_of 65536) words >>= version_of
 line_of keyword.Classes words = option_map line.Classes (one (number_of 65536) words)
@@ -269,13 +269,13 @@ paired (Some p) i = Some (p, i)
 abbrev pub opened : ℕ → ℕ → Place
 opened params regs = place.Body (record { params = params; regs = regs; len = 0 })
 
--- the place behind a line that opens a function or a list
+-- the place after a line that opens a function or a list
 abbrev pub open_of : Line → Option Place
 open_of (line.Function params regs) = Some (opened params regs)
 open_of line.List = Some (place.Locks [])
 open_of _ = None
 
--- the line at this place: the place behind it, and the image so far
+-- the line at this place: the place after it, and the image so far
 unfoldable pub next : Place → Line → Image → Option State
 next place.Version (line.Version n) i = Some (place.Classes, record i { version = n })
 next place.Classes (line.Classes n) i = Some (place.Globals, record i { classes = n })
@@ -356,13 +356,13 @@ Answers (Err (fault.Line n)) answer = answer ≡ Err n
 Answers (Err fault.Over) answer = (image : Image) → answer ≡ Ok image → IsOver image
 Answers (Err fault.OutOfMemory) answer = Unit {0}
 
--- which line comes behind one that opens a function or a list
+-- which line comes after one that opens a function or a list
 abbrev pub turn_opened : Line → Option Turn
 turn_opened (line.Function params regs) = Some turn.Body
 turn_opened line.List = Some turn.Locks
 turn_opened _ = None
 
--- which line comes behind this one, if it may stand here
+-- which line comes after this one, if it may stand here
 unfoldable pub turn_behind : Turn → Line → Option Turn
 turn_behind turn.Version (line.Version n) = Some turn.Classes
 turn_behind turn.Classes (line.Classes n) = Some turn.Globals

@@ -164,7 +164,7 @@ abbrev pub CanBegin : List (List ℕ) → Type 0
 CanBegin lines = (more : List (List ℕ)) × (image : Image) × LinesSpell (lines ++ more) image
 
 -- The line of this number, from 1, is the first that is not as its place asks: the lines before it can begin a text,
--- and with it they cannot. Or it is the number behind the last, where the text ends too early
+-- and with it they cannot. Or it is the number after the last, where the text ends too early
 pub record IsBadLine (lines : List (List ℕ)) (number : ℕ) : Type 0 where
   pub counted : 0 < number
   pub before : CanBegin (take (number - 1) lines)

@@ -29,7 +29,7 @@ abbrev pub words_of : List ℕ → List (List ℕ)
 words_of [] = []
 words_of (b ∷ bs) = if is_separator b then words_of bs else (if begins_word bs then with_first b (words_of bs) else (b ∷ []) ∷ words_of bs)
 
--- What decimal digits are worth behind digits that are worth `high`
+-- What decimal digits are worth after digits that are worth `high`
 abbrev pub worth_after : ℕ → List ℕ → ℕ
 worth_after high [] = high
 worth_after high (d ∷ ds) = worth_after (10 * high + (d - 48)) ds
@@ -42,7 +42,7 @@ pub record IsNumber (below : ℕ) (word : List ℕ) (n : ℕ) : Type 0 where
   pub value : n ≡ worth_after 0 word
   pub fits : n < below
 
--- The word is a mark, and behind it a number
+-- The word is a mark, and after it a number
 abbrev pub IsMarked : ℕ → ℕ → List ℕ → ℕ → Type 0
 IsMarked mark below [] n = ⊥
 IsMarked mark below (c ∷ word) n = (c ≡ mark) × IsNumber below word n

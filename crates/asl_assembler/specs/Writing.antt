@@ -37,7 +37,7 @@ base_text b = word_of (base_token b)
 abbrev pub FitsOpWord : Op → Type 0
 FitsOpWord o = FitsField (op_token o)
 
--- how an operation of a path is written, behind a space
+-- how an operation of a path is written, after a space
 abbrev pub op_text : Op → List ℕ
 op_text o = codes " " ++ word_of (op_token o)
 

@@ -13,7 +13,7 @@ use asl_code::{Program, VerifyFault};
 use std::alloc::Global;
 use thiserror::Error;
 
-/// Why a text is no program.
+/// Why a text is not a program.
 #[derive(Clone, Copy, Debug, PartialEq, Eq, Error)]
 pub enum AsmFault {
     /// The line of this number, from 1, is the first that is not as its place asks; or it is one past the last, where

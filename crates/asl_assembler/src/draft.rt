@@ -35,7 +35,7 @@ fn one_longer(function: Function) -> Function
     }
 }
 
-/// Takes a line in: the place behind it, or none where the line is not as its place asks.
+/// Takes a line in: the place after it, or none where the line is not as its place asks.
 #[tactic(auto, unfolding(crate::specs::Reading::next))]
 fn take_line(
     alloc: Global,
@@ -172,7 +172,7 @@ pub(crate) fn close(place: Place, image: &mut Image) -> Result<bool, AllocError>
 }
 
 /// Whether there are more locks in the open list, or more lists, globals, functions or instructions, than a program of any
-/// version has, however the text goes on. A list or a function is counted once it is closed, an instruction at once.
+/// version has, however the text continues. A list or a function is counted once it is closed, an instruction at once.
 pub(crate) fn is_over(place: &Place, image: &Image) -> bool
     ensures { result ≡ is_over place.now image.now }
 {

@@ -15,7 +15,7 @@ pub fn texts_spell_one_image()
     ensures either { (text : List ℕ) (image : Image) (number : ℕ) → Spells text image → IsBadLine (lines_of text) number → ⊥ }
 {}
 
-/// A text has exactly one outcome: a program, or one refusal. Want of memory is left out.
+/// A text has exactly one outcome: a program, or one refusal. Running out of memory is left out.
 pub fn texts_have_one_outcome()
     ensures some { (text : List ℕ) → (outcome : Result Image AsmFault) × IsOutcome text outcome }
     ensures one { (text : List ℕ) (outcome other : Result Image AsmFault) → IsOutcome text outcome → IsOutcome text other → outcome ≡ other }

@@ -1,4 +1,4 @@
-//! What a line says by itself: its keyword, and the operands behind it.
+//! What a line says by itself: its keyword, and the operands after it.
 
 ghost use Rattle.std.specs.Prelude.{◌≡◌, []};
 ghost use Rattle.asl_assembler.specs.Words.{words_of};
@@ -34,7 +34,7 @@ pub(crate) enum Line {
     Lock(Lock),
 }
 
-/// The instruction of a keyword and of the words behind it.
+/// The instruction of a keyword and of the words after it.
 #[tactic(auto, unfolding(crate::specs::Reading::instr_of))]
 fn instruction(name: Keyword, rest: &[u8]) -> Option<Instr>
     ensures { result ≡ instr_of name (words_of rest.now) }
@@ -67,7 +67,7 @@ fn instruction(name: Keyword, rest: &[u8]) -> Option<Instr>
     }
 }
 
-/// The same of the instructions that have an operand that is no register, and of `rel`.
+/// The same of the instructions that have an operand that is not a register, and of `rel`.
 #[tactic(auto, unfolding(crate::specs::Reading::with_numbers_of))]
 fn with_numbers(name: Keyword, rest: &[u8]) -> Option<Instr>
     ensures { result ≡ with_numbers_of name (words_of rest.now) }
@@ -99,7 +99,7 @@ fn with_numbers(name: Keyword, rest: &[u8]) -> Option<Instr>
     }
 }
 
-/// The lock on an expression, of the words behind `expr`.
+/// The lock on an expression, of the words after `expr`.
 #[tactic(auto, unfolding(crate::specs::Reading::expr_of))]
 fn expression(line: &[u8]) -> Option<Lock>
     ensures { result ≡ expr_of (words_of line.now) }
@@ -108,7 +108,7 @@ fn expression(line: &[u8]) -> Option<Lock>
     with_path(base(word)?, rest)
 }
 
-/// The lock on the expression with this base, of the words behind it.
+/// The lock on the expression with this base, of the words after it.
 fn with_path(base: Base, line: &[u8]) -> Option<Lock>
     ensures { result ≡ lock_with base (path_of [] (words_of line.now)) }
 {
@@ -133,7 +133,7 @@ fn with_path(base: Base, line: &[u8]) -> Option<Lock>
     None
 }
 
-/// The line of a keyword and of the words behind it.
+/// The line of a keyword and of the words after it.
 #[tactic(auto, unfolding(crate::specs::Reading::line_of))]
 fn line_named(name: Keyword, rest: &[u8]) -> Option<Line>
     ensures { result ≡ line_of name (words_of rest.now) }

@@ -1,4 +1,4 @@
-//! Numbers in words: decimal digits, alone or behind a mark.
+//! Numbers in words: decimal digits, alone or after a mark.
 
 ghost use Rattle.std.specs.Prelude.{◌≡◌};
 ghost use Rattle.std.specs.Option.{option_copied};
@@ -44,7 +44,7 @@ pub(crate) fn short(word: &[u8]) -> Option<u16>
     }
 }
 
-/// What stands behind the mark at the front of the word.
+/// What stands after the mark at the front of the word.
 fn behind(mark: u8, word: &[u8]) -> Option<&[u8]>
     ensures { option_copied result ≡ after_mark mark word.now }
 {
@@ -79,7 +79,7 @@ pub(crate) fn integer(word: &[u8]) -> Option<i32>
     }
 }
 
-/// A mark and a number of 8 bits behind it.
+/// A mark and a number of 8 bits after it.
 #[tactic(auto, unfolding(crate::specs::Reading::marked_of))]
 pub(crate) fn marked_byte(mark: u8, word: &[u8]) -> Option<u8>
     ensures { result ≡ marked_of mark 256 word.now }
@@ -87,7 +87,7 @@ pub(crate) fn marked_byte(mark: u8, word: &[u8]) -> Option<u8>
     byte(behind(mark, word)?)
 }
 
-/// A mark and a number of 16 bits behind it.
+/// A mark and a number of 16 bits after it.
 #[tactic(auto, unfolding(crate::specs::Reading::marked_of))]
 pub(crate) fn marked_short(mark: u8, word: &[u8]) -> Option<u16>
     ensures { result ≡ marked_of mark 65536 word.now }

@@ -37,7 +37,7 @@ fn opened(line: &Line) -> Option<Turn>
     }
 }
 
-/// Which line comes behind this one, if it may stand here.
+/// Which line comes after this one, if it may stand here.
 #[tactic(auto, unfolding(crate::specs::Reading::turn_behind))]
 fn behind(turn: Turn, line: &Line) -> Option<Turn>
     ensures { result ≡ turn_behind turn line.now }

@@ -76,7 +76,7 @@ pub record HasSerialUpTo (image : Image) (count : ℕ) (schedule : List ℕ) : T
   pub replies : (thread : ℕ) → told image (start_of image count) thread serial ≡ each (reply_by renaming.new) (told image (start_of image count) thread schedule)
   pub order : outside image (start_of image count) serial ≡ outside image (start_of image count) schedule
 
--- no step of the run finds that there is no room for an object, inside a section
+-- no step of the run finds that there is no capacity for an object, inside a section
 abbrev pub FindsRoomInside : Image → State → List ℕ → Type 0
 FindsRoomInside image s [] = Unit {0}
 FindsRoomInside image s (t ∷ ts) = ((depth_at s.threads t ≡ 0) ⊎ ((step_of image s t).reply ≢ reply.Fault fault.Full)) × FindsRoomInside image (step_of image s t).state ts

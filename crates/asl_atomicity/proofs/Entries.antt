@@ -37,7 +37,7 @@ use Rattle.asl_atomicity.proofs.Unseen.{other_cell}
 use Rattle.asl_atomicity.proofs.Renaming.{HasGlobals}
 
 -- an evaluation that meets no object of others, and reads no cell that is stored to, goes as before: where a cell that is
--- covered for reading is no object of others, it is another cell, and holds no address in one
+-- covered for reading is not an object of others, it is another cell, and holds no address in one
 module _ (objects : List Object) (c0 : Cell) (v : Value) (there : IsSome (cell_at objects c0)) (h : Holding) (u : ℕ) (others : ℕ → Type 0)
     (unread : (c : Cell) (class : ℕ) → ¬ others c.object → class_of objects c.object ≡ Some class → Covers h u c class Read → c0 ≢ c)
     (reads : (c : Cell) (class : ℕ) → ¬ others c.object → class_of objects c.object ≡ Some class → Covers h u c class Read → (o i : ℕ) → cell_at objects c ≡ Some (Addr o i) → ¬ others o)
@@ -102,7 +102,7 @@ module _ (objects : List Object) (c0 : Cell) (v : Value) (there : IsSome (cell_a
     pub request_same : (ls : List Lock) → HasGlobals globals ls → ListCovered h u objects regs ls → request_of (written objects c0 v) regs ls ≡ request_of objects regs ls
     request_same ls known r = ap (joined_all []) (asks_same ls known r)
 
--- a step that is no entry leaves its thread what it held, or nothing
+-- a step that is not an entry leaves its thread what it held, or nothing
 after_less : (f : Fate) (t : ℕ) (h : Holding) (n : Node) → (held (holding_after f t h) t n ≡ held h t n) ⊎ (held (holding_after f t h) t n ≡ NL)
 after_less fate.GoesOn t h n = inl refl
 after_less (fate.Shows v) t h n = inl refl

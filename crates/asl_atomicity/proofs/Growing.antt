@@ -90,7 +90,7 @@ module _ (image : Image) (objects more : List Object) (sound : AreWellFormed ima
         let path = path_kept e.path (base_cell regs e.base) (base_there e.base there.0) in
         ap₂ (λ a b. a ++ b) (ap (cell_asks (objects ++ more) effect) path.0 ∙ asks_kept effect (cell_denoted (heap_of objects) regs e) path.1) (all_kept ls there.1)
 
--- the same request over one object more, if there is room for it
+-- the same request over one object more, if there is capacity for it
 pub request_grown : (image : Image) (objects : List Object) (cells class : ℕ) → AreWellFormed image objects → (regs : List Value) → AllPoint objects regs → (ls : List Lock) → HasGlobals (length image.globals) ls
     → request_of (made_objects objects cells class) regs ls ≡ request_of objects regs ls
 request_grown image objects cells class sound regs points ls there = by_room (length objects == 65536)

@@ -214,7 +214,7 @@ module _ (image : Image) (s : State) (sound : SatisfiesInvariant image s) (fr : 
     runs_there : (x : Thread) (objects : List Object) → slice_get (set s.threads u x) t ≡ Some (Running a)
     runs_there x objects = get_other s.threads u t x (λ e. apart (sym e)) ∙ runs
 
-    -- there was room for both
+    -- there was capacity for both
     full_after : (z : State) → slice_get z.threads t ≡ Some (Running a) → (length z.objects == 65536) ≡ true → (step_of image z t).reply ≡ reply.Fault fault.Full
     full_after z is e = ap (λ (w : Stepped). w.reply) (steps_new image z t a to cells class is at) ∙ ap (λ b. (new_step image z t a to cells class b).reply) e
 

@@ -50,7 +50,7 @@ none_more image us t s e = outside_more image us t s ∙ ap (λ z. outside image
 pub same_outside : (t d e : ℕ) (r q : Reply) → d ≡ e → r ≡ q → (if is_outside d then each (λ z. t) (heard r) else []) ≡ (if is_outside e then each (λ z. t) (heard q) else [])
 same_outside t d e r q depth same = ap₂ (λ n z. if is_outside n then each (λ y. t) (heard z) else []) depth same
 
--- the others' steps outside stay so behind a step inside a section
+-- the others' steps outside stay so after a step inside a section
 pub moved_outside : (image : Image) (count : ℕ) → CanSwap image count →
     (t : ℕ) (us : List ℕ) (s : State) → Stands image count s → IsInside image s t → AreOthers t us → AllCount image s us → outside image (step_of image s t).state us ≡ outside image s us
 moved_outside image count swap t [] s good i others counts = refl

@@ -57,7 +57,7 @@ same_bool false false to from = refl
 abbrev pub request_by : (ℕ → ℕ) → Request → Request
 request_by f = each (λ (ask : Node × Mode). (node_by f ask.0, ask.1))
 
--- what is fresh behind a `new`, with other numbers
+-- what is fresh after a `new`, with other numbers
 pub made_fresh_by : (f : ℕ → ℕ) (version depth object : ℕ) (fresh : List ℕ) → made_fresh version depth (f object) (each f fresh) ≡ each f (made_fresh version depth object fresh)
 made_fresh_by f version depth object fresh = by_test (has_fresh version && nat_lt 0 depth)
   where

@@ -1,4 +1,4 @@
--- A serial schedule, made step by step: a step inside a section goes behind the last of its thread.
+-- A serial schedule, made step by step: a step inside a section goes after the last of its thread.
 use Rattle.std.proofs.Common.{◌≡◌, ◌≢◌, ℕ, zero, suc, ◌<◌, ◌==◌, ◌⊎◌, ◌++◌, Bool, true, false, List, [], ◌∷◌, Option, Some, None, length, slice_get, refl, ap, ap₂, sym, ◌∙◌, subst, inl, inr, arith}
 use Rattle.std.specs.Prelude.{if◌then◌else◌, option_and_then, All}
 use Rattle.std.specs.Option.{option_map_or}
@@ -166,7 +166,7 @@ module _ (image : Image) (count : ℕ) (swap : CanSwap image count) (s : State) 
         ∙ sym (told_parts image other (t ∷ []) s x),
   )
 
-  -- alike behind one front
+  -- alike after one front
   behind : (front a b : List ℕ) → AreAlike image (state_after image s front) a b → AreAlike image s (front ++ a) (front ++ b)
   behind front a b k = (
     state_parts image front a s ∙ k.0 ∙ sym (state_parts image front b s),

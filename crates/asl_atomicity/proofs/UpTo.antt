@@ -62,7 +62,7 @@ module _ (image : Image) (count : ℕ) (fits : FitsImage image) (guarded : IsGua
           order = f.order ∙ sym (none_more image done t s (quiet_outside image (state_after image s done) t e));
         }
 
-    -- the step behind both
+    -- the step after both
     module _ (done : List ℕ) (t : ℕ) (f : From done) where
       abbrev here : State
       here = state_after image s done

@@ -89,7 +89,7 @@ pub record HasSerialUpTo (image : Image) (count : ℕ) (run : List TakenStep) (e
   pub replies : (thread : ℕ) → told thread serial ≡ each (reply_by renaming.new) (told thread run)
   pub order : outside serial ≡ outside run
 
--- the step does not find, inside a section, that there is no room for an object
+-- the step does not find, inside a section, that there is no capacity for an object
 abbrev pub FindsRoomInside : TakenStep → Type 0
 FindsRoomInside step = IsOutside step ⊎ (step.reply ≢ reply.Fault fault.Full)
 

@@ -151,7 +151,7 @@ body_from first (g ∷ fs) (suc n) b is =
     let r : (f : Function) × (slice_get fs n ≡ Some f) × (b ≡ body_at (begin (first + g.len) fs n) f) = body_from (first + g.len) fs n b is in
     (r.0, r.1, r.2 ∙ ap (λ k. body_at k r.0) (sym (begin-suc first g fs n)))
 
--- the last instruction of each body ends it, since behind any other the body goes on
+-- the last instruction of each body ends it, since after any other the body continues
 pub fit_end : (i : Image) → FitsImage i → (n : ℕ) (f : Function) → slice_get i.functions n ≡ Some f → has_end i.code (body_at (first_of i.functions n) f) ≡ true
 fit_end i facts n f is =
     let pc = first_of i.functions n + f.len - 1 in

@@ -28,7 +28,7 @@ use Rattle.asl_code.proofs.Versions.{version_of, locks_set}
 abbrev pub begin : ℕ → List Function → ℕ → ℕ
 begin first fs n = first + total_len (take n fs)
 
--- behind the first function, the others begin after its body
+-- after the first function, the others begin after its body
 pub begin-suc : (first : ℕ) (g : Function) (fs : List Function) (n : ℕ) → begin first (g ∷ fs) (suc n) ≡ begin (first + g.len) fs n
 begin-suc first g fs n =
     let sums = sum_by-cons (λ (f : Function). f.len) g (take n fs) in
@@ -259,7 +259,7 @@ body_there first (g ∷ fs) zero f is =
 body_there first (g ∷ fs) (suc n) f is =
     body_there (first + g.len) fs n f is ∙ ap (λ k. Some (body_at k f)) (sym (begin-suc first g fs n))
 
--- behind an instruction that ends no function, the next place lies in the same body
+-- after an instruction that ends no function, the next place lies in the same body
 pub next_at : (i : Image) → IsVerified i → (n pc : ℕ) (f : Function) (instr : Instr) → LiesIn i n pc f → slice_get i.code pc ≡ Some instr → is_end instr ≡ false → LiesIn i n (pc + 1) f
 next_at i v n pc f instr at is ends =
     elim (cases_lt (pc + 1) (first_of i.functions n + f.len)) [

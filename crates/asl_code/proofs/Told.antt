@@ -48,7 +48,7 @@ slice_get-drop (suc n) (x ∷ xs) k =
     let e : suc (n + k) ≡ suc n + k = omega arith in
     slice_get-drop n xs k ∙ ap (slice_get (x ∷ xs)) e
 
--- an instruction behind the first body fails where it does among the rest
+-- an instruction after the first body fails where it does among the rest
 pub fails_later : (passes : Body → Instr → Bool) (first : ℕ) (f : Function) (fs : List Function) (code : List Instr) (k : ℕ) → fails_in passes first (f ∷ fs) code (f.len + k) ≡ fails_in passes (first + f.len) fs (drop f.len code) k
 fails_later passes first f fs code k =
     let e : first + (f.len + k) ≡ first + f.len + k = omega arith in
@@ -84,7 +84,7 @@ passed_first passes first f fs code d fits none k lt =
     let within : k < length (take f.len code) = omega arith in
     fails_first passes first f fs code k d lt fits ∙ position-None (λ (x : Instr). not (passes (body_at first f) x)) (take f.len code) d none k within
 
--- a place behind the first body is one of the rest
+-- a place after the first body is one of the rest
 behind : (test rest : ℕ → Bool) (n : ℕ) → ((k : ℕ) → test (n + k) ≡ rest k) → (k : ℕ) → n ≤ k → test k ≡ rest (k - n)
 behind test rest n same k le =
     let e : k ≡ n + (k - n) = omega arith in

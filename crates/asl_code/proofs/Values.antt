@@ -105,7 +105,7 @@ is_found bytes (Err f) fit e = tt
 begun : (bytes : List ℕ) (v : Value) (next : ℕ) (more : List ℕ) → SpellsValue v (bytes ++ next ∷ more) → BeginsValue bytes
 begun bytes v next more s = (v, next, more, s)
 
--- where a value's bytes go on
+-- where a value's bytes continue
 pub short_begins : (bytes : List ℕ) → AreBytes bytes → value_at bytes ≡ Err Short → BeginsValue bytes
 short_begins [] fit e = begun [] Null 1 [] (record { fits = tt; spelled = refl })
 short_begins (zero ∷ []) fit e = begun (0 ∷ []) (int_of 0 0 0 0) 0 (0 ∷ 0 ∷ 0 ∷ []) (int_spells 0 0 0 0 (four_bytes 0 0 0 0 (lit< tt) (lit< tt) (lit< tt) (lit< tt)))

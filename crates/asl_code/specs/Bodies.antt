@@ -17,7 +17,7 @@ bodies_from first (f ∷ fs) = record { first = first; function = f } ∷ bodies
 abbrev pub total_len : List Function → ℕ
 total_len fs = sum_by (λ (f : Function). f.len) fs
 
--- where the body of a function begins, by its number: behind the bodies of those before it
+-- where the body of a function begins, by its number: after the bodies of those before it
 abbrev pub first_of : List Function → ℕ → ℕ
 first_of fs number = total_len (take number fs)
 

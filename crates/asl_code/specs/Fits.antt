@@ -72,8 +72,8 @@ FitsInstr i n f (Acquire list) = (locks : List Lock) × (slice_get i.lists list 
 FitsInstr i n f Release = Unit {0}
 
 -- the facts of a verified image: the version is 1 or 2, the counts are within their limits, what the tables name is
--- there, the bodies are the code, each instruction fits its body, and after an instruction that is no end of a body the
--- body goes on
+-- there, the bodies are the code, each instruction fits its body, and after an instruction that is not an end of a body the
+-- body continues
 pub record FitsImage (i : Image) : Type 0 where
   pub version : IsVersion i.version
   pub few_classes : i.classes ≤ 1024

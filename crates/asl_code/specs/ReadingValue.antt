@@ -8,11 +8,11 @@ use Rattle.asl_code.specs.declared.value.Value.TheVariants.{Int, Null, Addr}
 use Rattle.asl_code.specs.declared.value_bytes.ValueFault.{ValueFault}
 use Rattle.asl_code.specs.declared.value_bytes.ValueFault.TheVariants.{Short, Bad}
 
--- the integer behind its kind
+-- the integer after its kind
 abbrev pub int_at : List ℕ → Result (Value × ℕ) ValueFault
 int_at bytes = if nat_lt (length bytes) 4 then Err Short else Ok (Int (cast_signed w32 (from_be_bytes w32 (take 4 bytes))), 5)
 
--- the cell behind its kind
+-- the cell after its kind
 abbrev pub address_at : List ℕ → Result (Value × ℕ) ValueFault
 address_at bytes = if nat_lt (length bytes) 3 then Err Short else Ok (Addr (from_be_bytes w16 (take 2 bytes)) (slice_index bytes 2), 4)
 

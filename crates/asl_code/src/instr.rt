@@ -29,9 +29,9 @@ pub enum Instr {
     Store { address: u8, from: u8 },
     /// `new`: makes an object of `cells` cells and of class `class`; `to` becomes its address.
     New { to: u8, cells: u8, class: u16 },
-    /// `jmp`: goes on at `target`.
+    /// `jmp`: continues at `target`.
     Jump { target: u16 },
-    /// `jz`: goes on at `target` where `test` is the integer 0 or null.
+    /// `jz`: continues at `target` where `test` is the integer 0 or null.
     JumpIfZero { test: u8, target: u16 },
     /// `call`: calls `function` with the registers from `first` on; its result will go to `to`.
     Call { to: u8, first: u8, function: u16 },

@@ -62,7 +62,7 @@ impl<T> Items<T> {
     ///
     /// # Errors
     ///
-    /// A growth was refused; the item is handed back.
+    /// An allocation failed; the item is handed back.
     pub fn push(&mut self, item: T) -> Result<(), AllocFailed<T>>
         ensures items { self.new ≡ (if is_ok result then self.old ++ item ∷ [] else self.old) }
         ensures value_returned { IfErr result (λ e. e.value ≡ item) }

@@ -14,7 +14,7 @@ pub enum Base {
     Global(u16),
 }
 
-/// A lock expression: a base, and the path that goes on from it.
+/// A lock expression: a base, and the path that continues from it.
 #[derive(Clone, Drop, PartialEq, Eq, PartialOrd, Ord, Hash)]
 pub struct Expr {
     /// Where the evaluation begins.

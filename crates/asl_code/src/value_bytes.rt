@@ -78,7 +78,7 @@ fn value_at(bytes: &[u8]) -> Result<(Value, usize), ValueFault>
     }
 }
 
-/// The integer behind its kind.
+/// The integer after its kind.
 fn int_at(bytes: &[u8]) -> Result<(Value, usize), ValueFault>
     ensures { result ≡ int_at bytes.now }
 {
@@ -89,7 +89,7 @@ fn int_at(bytes: &[u8]) -> Result<(Value, usize), ValueFault>
     Ok((Value::Int(n), 5))
 }
 
-/// The cell behind its kind.
+/// The cell after its kind.
 fn address_at(bytes: &[u8]) -> Result<(Value, usize), ValueFault>
     ensures { result ≡ address_at bytes.now }
 {

@@ -101,7 +101,7 @@ first_there n (suc count) spacing lt = omega arith
 pub first_is : (image : Image) (log : Log) (spacing : ℕ) (checkpoints : List Configuration) (checkpoint : Configuration) → AreCheckpoints image log spacing checkpoints → slice_get checkpoints 0 ≡ Some checkpoint → checkpoint ≡ machine_before image log 0
 first_is image log spacing checkpoints checkpoint each at = let nothing : 0 * spacing ≡ 0 = omega arith in each 0 checkpoint at ∙ ap (machine_before image log) nothing
 
--- what refuses a journal of the program is want of memory
+-- what refuses a journal of the program is running out of memory
 pub only_memory : (image : Image) (log : Log) (fault : DebugFault) → IsJournal image log.threads log.events → IsOpenFault image log fault → fault ≡ OutOfMemory
 only_memory image log AtEnd j is = absurd is
 only_memory image log AtStart j is = absurd is

@@ -46,7 +46,7 @@ module _ (image : Image) (log : Log) (start end : ℕ) (le : start ≤ end) wher
       sym (state_events image (start_of image log.threads) (take start log.events) (take (end - start) (drop start log.events)))
       ∙ ap (λ (es : List Event). state_after image (start_of image log.threads) (schedule_of es)) (sym (events_between log.events start end le))
 
-  -- events that go on as the run does
+  -- events that continue as the run does
   pub goes_between : GoesBy image (start_of image log.threads) (take start log.events) → GoesBy image (state_before image log start) (take (end - start) (drop start log.events)) → GoesBy image (start_of image log.threads) (take end log.events)
   goes_between front back =
       subst (GoesBy image (start_of image log.threads)) (sym (events_between log.events start end le))
@@ -87,7 +87,7 @@ module _ (image : Image) (log : Log) (start end : ℕ) (le : start ≤ end) wher
 pub is_at : (machine : Configuration) (image : Image) (s : State) → machine.image ≡ image → machine.state ≡ s → machine ≡ record { image = image; state = s }
 is_at machine image s p q = rw (← p, ← q) refl
 
--- the machine behind the event at a position is the one at the next
+-- the machine after the event at a position is the one at the next
 pub made : (log : Log) (machine new : Configuration) (position : ℕ) (d : Event) (t : ℕ) → position < length log.events → machine.state ≡ state_before machine.image log position → t ≡ (get_or log.events position d).thread
     → new.image ≡ machine.image → new.state ≡ (step_of machine.image machine.state t).state → new ≡ machine_before machine.image log (position + 1)
 made log machine new position d t lt at thread image state =
@@ -108,7 +108,7 @@ thread_there image log k machine at is i d lt =
 pub threads_of : (image : Image) (log : Log) (k : ℕ) (s : State) → s ≡ state_before image log k → IsLog log → length s.threads ≡ log.threads
 threads_of image log k s at is = ap (λ (u : State). length u.threads) at ∙ count_at image log k is.there
 
--- the thread of the event at a position is there in the state there, and where its step may want memory, so may the
+-- the thread of the event at a position is there in the state there, and where its step may need memory, so may the
 -- event's
 module _ (machine : Configuration) (log : Log) (k : ℕ) (d : Event) (t : ℕ) (lt : k < length log.events) (at : machine.state ≡ state_before machine.image log k) where
   pub there_at : IsLog log → t ≡ (get_or log.events k d).thread → t < length machine.state.threads

@@ -23,7 +23,7 @@ state_before image log k = state_at image log.threads (take k log.events)
 abbrev pub machine_before : Image → Log → ℕ → Configuration
 machine_before image log k = record { image = image; state = state_before image log k }
 
--- there is an event after this position, and its step may want memory in the state there
+-- there is an event after this position, and its step may need memory in the state there
 abbrev pub MayWantMemoryAt : Image → Log → ℕ → Type 0
 MayWantMemoryAt image log k = IsSomeAnd (slice_get log.events k) (λ event. MayWantMemory image (state_before image log k) event.thread)
 

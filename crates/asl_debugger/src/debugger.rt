@@ -54,7 +54,7 @@ impl<'p> Debugger<'p> {
     /// # Errors
     ///
     /// `BadCount` where the program cannot start so many threads; else `Differs` with the first event that differs;
-    /// `OutOfMemory` where a growth was refused. The journal comes back with the fault.
+    /// `OutOfMemory` where an allocation failed. The journal comes back with the fault.
     pub fn open(
         alloc: Global,
         program: &'p Program,
@@ -70,7 +70,7 @@ impl<'p> Debugger<'p> {
         }) }
         ensures journal { OnOk result (IsJournal program.now journal.threads journal.events) }
         ensures refused { IfErr result (λ refusal. IsOpenFault program.now journal refusal.0) }
-        // A journal of the program is refused for want of memory alone.
+        // A journal of the program is refused only because memory ran out.
         ensures only { IsJournal program.now journal.threads journal.events
             → IfErr result (λ refusal. refusal.0 ≡ DebugFault.OutOfMemory) }
         ensures back { IfErr result (λ refusal. refusal.1 ≡ journal) }
@@ -92,7 +92,7 @@ impl<'p> Debugger<'p> {
     ///
     /// # Errors
     ///
-    /// `NoSuchStep` where the journal has no such position; `OutOfMemory` where a growth was refused. Then nothing has moved.
+    /// `NoSuchStep` where the journal has no such position; `OutOfMemory` where an allocation failed. Then nothing has moved.
     pub fn goto(&mut self, alloc: Global, k: u32) -> Result<(), DebugFault>
         ensures moves { OnOk result (self.new ≡ moved self.old k) }
         ensures none { IsErrOf result DebugFault.NoSuchStep ↔ (length self.old.log.events < k) }
@@ -112,7 +112,7 @@ impl<'p> Debugger<'p> {
     ///
     /// # Errors
     ///
-    /// `AtEnd` after the last event; `OutOfMemory` where a growth was refused. Then nothing has moved.
+    /// `AtEnd` after the last event; `OutOfMemory` where an allocation failed. Then nothing has moved.
     pub fn forward(&mut self, alloc: Global) -> Result<(), DebugFault>
         ensures moves { OnOk result (self.new ≡ moved self.old (self.old.position + 1)) }
         ensures end { IsErrOf result DebugFault.AtEnd ↔ (self.old.position ≡ length self.old.log.events) }
@@ -134,7 +134,7 @@ impl<'p> Debugger<'p> {
     ///
     /// # Errors
     ///
-    /// `AtStart` before the first event; `OutOfMemory` where a growth was refused. Then nothing has moved.
+    /// `AtStart` before the first event; `OutOfMemory` where an allocation failed. Then nothing has moved.
     pub fn back(&mut self, alloc: Global) -> Result<(), DebugFault>
         ensures moves { OnOk result (self.new ≡ moved self.old (self.old.position - 1)) }
         ensures start { IsErrOf result DebugFault.AtStart ↔ (self.old.position ≡ 0) }
@@ -155,7 +155,7 @@ impl<'p> Debugger<'p> {
     ///
     /// # Errors
     ///
-    /// `AtEnd` after the last event; `OutOfMemory` where a growth was refused. Then nothing has moved.
+    /// `AtEnd` after the last event; `OutOfMemory` where an allocation failed. Then nothing has moved.
     pub fn forward_to_break(&mut self, alloc: Global) -> Result<(), DebugFault>
         ensures moves { OnOk result (self.new ≡ moved self.old self.new.position) }
         ensures stop { OnOk result (IsNextStop self.old self.new.position) }
@@ -176,7 +176,7 @@ impl<'p> Debugger<'p> {
     ///
     /// # Errors
     ///
-    /// `AtStart` before the first event; `OutOfMemory` where a growth was refused. Then nothing has moved.
+    /// `AtStart` before the first event; `OutOfMemory` where an allocation failed. Then nothing has moved.
     pub fn back_to_break(&mut self, alloc: Global) -> Result<(), DebugFault>
         ensures moves { OnOk result (self.new ≡ moved self.old self.new.position) }
         ensures stop { OnOk result (IsLastStop self.old self.new.position) }
@@ -199,7 +199,7 @@ impl<'p> Debugger<'p> {
     ///
     /// # Errors
     ///
-    /// `OutOfMemory` where a growth was refused.
+    /// `OutOfMemory` where an allocation failed.
     pub fn break_at(&mut self, pc: u32) -> Result<(), DebugFault>
         ensures same { self.new ≡ with_breaks self.old self.new.breakpoints }
         ensures has { OnOk result (HasBreak self.old.breakpoints self.new.breakpoints pc) }

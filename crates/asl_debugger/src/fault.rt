@@ -19,7 +19,7 @@ pub enum DebugFault {
     /// The program's run replies something else at this event, counted from 0.
     #[error("Differs({0})")]
     Differs(u32),
-    /// A growth was refused.
+    /// An allocation failed.
     #[error("OutOfMemory")]
     OutOfMemory,
     /// The program cannot start so many threads as the journal has.

@@ -1,4 +1,4 @@
--- A token's bytes are read as the token where no byte that it could go on with stands behind.
+-- A token's bytes are read as the token where no byte that it could continue with stands behind.
 use Rattle.std.proofs.Common.{◌≡◌, ℕ, suc, ◌<◌, ◌≤◌, List, [], ◌∷◌, ◌++◌, Bool, true, false, ◌||◌, ◌==◌, nat_le, Option, Some, None, IsTrue, is_none, refl, sym, ap, ◌∙◌, arith, length, take, drop, ⊎_elim}
 use Rattle.std.proofs.lemmas.Bool.{cond-true, cond-false, and_parts, and_from, and_left, or_left, or_from, leb-true, lt-leb, ne_eqb, eqb-true, or_cases, false_from_ne_true}
 use Rattle.asl_grammar.specs.declared.token.Mark.{Mark}
@@ -6,7 +6,7 @@ use Rattle.asl_grammar.specs.declared.token.Mark.TheVariants as mark
 use Rattle.asl_grammar.specs.Token.{Token, Fixed, Name, Number}
 use Rattle.asl_grammar.specs.Lex.{is_blank, is_digit, is_letter, is_name_byte, leading, word_of, word_or_name, equals_token, letters_token, digits_token, number_value, front, all_bytes, has_name_bytes, is_name, IsAtToken}
 
--- no token before these bytes goes on with them
+-- no token before these bytes continues with them
 pub record Apart (bs : List ℕ) : Type 0 where
   pub names : leading is_name_byte bs ≡ 0
   pub digits : leading is_digit bs ≡ 0

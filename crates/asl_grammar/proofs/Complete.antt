@@ -44,7 +44,7 @@ block_goes_on (More (IfStmt x a e) b) ts g = tt
 block_goes_on (More (WhileStmt x a) b) ts g = tt
 block_goes_on (More (AtomicStmt a) b) ts g = tt
 
--- the parameters behind the first
+-- the parameters after the first
 later_parameters : (is : List Item) (n : List ℕ) (d : List Stmt) (fs : List Frame) (ps xs : List (List ℕ)) (ts : List Token) → run (at AfterParameter (stack_in is n ps d fs)) (later_names_on xs (Fixed mark.CloseParen ∷ ts)) ≡ run (at BodyStart (stack_in is n (ps ++ xs) d fs)) ts
 later_parameters is n d fs ps [] ts =
     ap (λ (p : List (List ℕ)). run (at BodyStart (stack_in is n p d fs)) ts) (sym (append-nil ps))
@@ -89,7 +89,7 @@ line_reads (Calls x f args) is n ps d fs ts =
 line_reads (Stores x y) is n ps d fs ts = refl
 line_reads (Shows x) is n ps d fs ts = refl
 
--- statements behind others
+-- statements after others
 abbrev added : List Stmt → Block → List Stmt
 added d End = d
 added d (More s b) = added (d ++ s ∷ []) b

@@ -144,7 +144,7 @@ bare_more : (before : List Spot) (x : Spot) → reverse (bare (before ++ x ∷ [
 bare_more before x =
     ap reverse (map-append (λ (s : Spot). s.token) before (x ∷ [])) ∙ reverse-append (bare before) (x.token ∷ [])
 
--- behind one more token
+-- after one more token
 room_next : (p : Place) (x : Spot) (before : List Spot) → length p.kinds + inside p.control ≤ open_braces (reverse (bare before)) → HasRoom (open_braces (reverse (bare (before ++ x ∷ [])))) (step_at p x.token) p.kinds
 room_next p x before h =
     let o = step_at p x.token in
@@ -166,7 +166,7 @@ split_more : (all before rest left : List Spot) (x : Spot) → all ≡ before ++
 split_more all before rest left x e f =
     e ∙ ap (λ (ss : List Spot). before ++ ss) f ∙ sym (append_assoc before (x ∷ []) left)
 
--- the answer stays the same behind a token
+-- the answer stays the same after a token
 pub goes_on : (p q : Place) (x : Spot) (rest left : List Spot) (end : ℕ) (all : Option ℕ) → fault_from p rest end ≡ all → rest ≡ x ∷ left → Some q ≡ next_place p x.token → fault_from q left end ≡ all
 goes_on p q x rest left end all h e n =
     ap (λ (o : Option Place). fault_with o x.at (λ w. fault_from w left end)) n
@@ -183,7 +183,7 @@ leads_on p q x before h n =
     led_to h.state x before (next h.state x.token) q h.runs refl
     (next_as h.state x.token ∙ ap (λ (w : Place). next_place w x.token) h.place ∙ sym n)
 
--- a token that opens a block is one with which some program goes on
+-- a token that opens a block is one with which some program continues
 opens_viable : (p : Place) (x : Spot) (before : List Spot) (o : Option (Control × Act)) → Leads before p → step_at p x.token ≡ o → OpensFull o p.kinds → IsViable (bare (before ++ x ∷ []))
 opens_viable p x before None h e f = absurd f
 opens_viable p x before (Some (c, a)) h e f =

@@ -1,4 +1,4 @@
--- The automaton stops at the first token with which no program goes on, and nowhere else.
+-- The automaton stops at the first token with which no program continues, and nowhere else.
 use Rattle.std.proofs.Common.{◌≡◌, ℕ, List, [], ◌∷◌, ◌++◌, Option, Some, None, refl, sym, ap, ◌∙◌, subst, append_assoc, map}
 use Rattle.std.proofs.lemmas.List.{append-nil, map-append}
 use Rattle.asl_grammar.specs.declared.token.Mark.TheVariants as mark
@@ -108,7 +108,7 @@ spelled ts is e = spelled_by (run (state_of []) ts) ts is (run_keeps ts (state_o
 program_runs : (ts : List Token) → (p : IsProgram ts) → run (state_of []) ts ≡ Some (state_of p.program)
 program_runs ts p = ap (run (state_of [])) (sym p.spelled) ∙ run_program p.program
 
--- what has been read can go on
+-- what has been read can continue
 pub viable : (ts : List Token) (w : State) → run (state_of []) ts ≡ Some w → IsViable ts
 viable ts w e =
     let c : CanEnd w = can_end w.control w.stack in
@@ -121,7 +121,7 @@ viable ts w e =
       };
     }
 
--- what is not read to an end is no program
+-- what is not read to an end is not a program
 not_program : (ts : List Token) (w : State) → run (state_of []) ts ≡ Some w → whole (Some w) ≡ None → IsProgram ts → ⊥
 not_program ts w e n p =
     let h : whole (Some w) ≡ Some p.program = ap whole (sym e ∙ program_runs ts p) in cc
@@ -187,7 +187,7 @@ judged_from (s ∷ rest) before end w e =
     let P : Option Place → Type 0 = λ o. Judges (before ++ s ∷ rest) end (fault_with o s.at (λ q. fault_from q rest end)) in
     subst P (next_as w s.token) (judged_next s rest before end w (next w s.token) e refl (λ b v h. judged_from rest b end v h))
 
--- the automaton's answer: the tokens are a program, or it is the place of the first with which none goes on
+-- the automaton's answer: the tokens are a program, or it is the place of the first with which none continues
 pub judged : (ss : List Spot) (end : ℕ) → Judges ss end (fault_from start_place ss end)
 judged ss end = judged_from ss [] end (state_of []) refl
 

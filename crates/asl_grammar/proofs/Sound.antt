@@ -54,7 +54,7 @@ abbrev pub call_on : List ℕ → List ℕ → Stack → List Token → List Tok
 call_on x f s rest =
     body_on s (Name x ∷ Fixed mark.Becomes ∷ Name f ∷ Fixed mark.OpenParen ∷ names_on s.arguments rest)
 
--- all tokens read so far, and behind them `rest`
+-- all tokens read so far, and after them `rest`
 abbrev pub state_on : Control → Stack → List Token → List Token
 state_on ItemStart s rest = program_on s.items rest
 state_on AfterGlobal s rest = program_on s.items (Fixed mark.Global ∷ rest)

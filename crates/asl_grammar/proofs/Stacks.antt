@@ -43,7 +43,7 @@ pub record State : Type 0 where
 abbrev pub no_part : Part
 no_part = record { done = []; pending = None }
 
--- nothing behind these items
+-- nothing after these items
 abbrev pub stack_of : List Item → Stack
 stack_of is = record { items = is; name = []; parameters = []; arguments = []; top = no_part; frames = [] }
 
@@ -136,12 +136,12 @@ abbrev pub kind_of : List Frame → Kind
 kind_of [] = Body
 kind_of (f ∷ fs) = header_kind f.header
 
--- behind the block of an `if` any token but `else` begins a new statement
+-- after the block of an `if` any token but `else` begins a new statement
 abbrev pub ready_then : Token → Stack → State
 ready_then (Fixed mark.Else) s = record { control = AfterThen; stack = s }
 ready_then _ s = record { control = StatementStart; stack = settle s }
 
--- what stands behind the last block, once the next token is known
+-- what stands after the last block, once the next token is known
 abbrev pub ready : Control → Token → Stack → State
 ready AfterThen t s = ready_then t s
 ready c t s = record { control = c; stack = s }
@@ -159,7 +159,7 @@ next_ready w t = moved (step w.control (kind_of w.stack.frames) t) w.stack
 abbrev pub next : State → Token → Option State
 next w t = next_ready (ready w.control t w.stack) t
 
--- goes on from a state, if there is one
+-- continues from a state, if there is one
 abbrev pub run_with : Option State → (State → Option State) → Option State
 run_with None go = None
 run_with (Some w) go = go w

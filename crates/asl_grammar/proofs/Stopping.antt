@@ -8,7 +8,7 @@ use Rattle.asl_grammar.specs.Seen.{Place, next_place, fault_at_end}
 abbrev pub start_place : Place
 start_place = record { control = ItemStart; kinds = [] }
 
--- the place itself, or what is answered behind a token
+-- the place itself, or what is answered after a token
 abbrev pub fault_with : Option Place → ℕ → (Place → Option ℕ) → Option ℕ
 fault_with None at go = Some at
 fault_with (Some p) at go = go p

@@ -69,8 +69,8 @@ pub data Act : Type 0 where
   Close : Act
   Finish : List ℕ → Act
 
--- The six tables give the control behind a token and what the token completes, or nothing where the token may not
--- stand; each goes on with the one above it.
+-- The six tables give the control after a token and what the token completes, or nothing where the token may not
+-- stand; each continues with the one above it.
 
 -- the arguments of a call
 abbrev pub argument_step : Control → Token → Option (Control × Act)

@@ -39,7 +39,7 @@ pub record IsNumber (n : ℕ) (bytes : List ℕ) : Type 0 where
   pub digits : IsTrue (all_bytes is_digit bytes)
   pub value : number_value bytes ≡ n
 
--- the name itself, which is no word
+-- the name itself, which is not a word
 pub record IsNamed (x bytes : List ℕ) : Type 0 where
   pub same : bytes ≡ x
   pub real : IsTrue (is_name x)

@@ -92,6 +92,6 @@ act_of (acts.Begin x) = Begin (opening_of x)
 act_of acts.Close = Close
 act_of (acts.Finish x) = Finish x.now
 
--- the control behind a token, and what it completes
+-- the control after a token, and what it completes
 abbrev pub transition_of : code.Transition → Control × Act
 transition_of s = (control_of s.control, act_of s.act)

@@ -4,7 +4,7 @@ use Rattle.asl_grammar.specs.declared.token.Mark.TheVariants as mark
 use Rattle.asl_grammar.specs.Token.{Token, Fixed, Spot}
 use Rattle.asl_grammar.specs.Grammar.{IsViable, bare}
 
--- how many braces are open behind these tokens, which stand with the last one first
+-- how many braces are open after these tokens, which stand with the last one first
 abbrev pub open_braces : List Token → ℕ
 open_braces [] = 0
 open_braces (Fixed mark.OpenBrace ∷ ts) = suc (open_braces ts)

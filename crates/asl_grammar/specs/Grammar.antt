@@ -21,12 +21,12 @@ pub record IsViable (ts : List Token) : Type 0 where
 abbrev pub bare : List Spot → List Token
 bare ss = map (λ (s : Spot). s.token) ss
 
--- behind `before`, which begins a program, no program goes on with the next token, or none ends at the end
+-- after `before`, which begins a program, no program continues with the next token, or none ends at the end
 abbrev pub StopsAt : List Token → List Spot → ℕ → ℕ → Type 0
 StopsAt before [] end at = (at ≡ end) × (IsProgram before → ⊥)
 StopsAt before (s ∷ rest) end at = (at ≡ s.at) × (IsViable (before ++ s.token ∷ []) → ⊥)
 
--- `at` is the place of the first token with which no program goes on, or the end where the text stops too early
+-- `at` is the place of the first token with which no program continues, or the end where the text stops too early
 pub record IsGrammarFault (ss : List Spot) (end at : ℕ) : Type 0 where
   pub before : List Spot
   pub rest : List Spot

@@ -25,7 +25,7 @@ is_digit b = nat_le 48 b && nat_le b 57
 abbrev pub is_letter : ℕ → Bool
 is_letter b = nat_le 65 b && nat_le b 90 || nat_le 97 b && nat_le b 122 || b == 95
 
--- what a name goes on with
+-- what a name continues with
 abbrev pub is_name_byte : ℕ → Bool
 is_name_byte b = is_letter b || is_digit b
 
@@ -54,7 +54,7 @@ abbrev pub word_or_name : Option Mark → List ℕ → Token
 word_or_name None w = Name w
 word_or_name (Some m) w = Fixed m
 
--- `=` or `==`, by the byte behind the first
+-- `=` or `==`, by the byte after the first
 abbrev pub equals_token : List ℕ → Token × ℕ
 equals_token [] = (Fixed mark.Becomes, 1)
 equals_token (b ∷ bs) = if b == 61 then (Fixed mark.Same, 2) else (Fixed mark.Becomes, 1)
@@ -82,7 +82,7 @@ abbrev pub symbol_token : Option Mark → Option (Token × ℕ)
 symbol_token None = None
 symbol_token (Some m) = Some (Fixed m, 1)
 
--- the value of decimal digits behind others of value n
+-- the value of decimal digits after others of value n
 abbrev pub value_from : ℕ → List ℕ → ℕ
 value_from n [] = n
 value_from n (d ∷ ds) = value_from (n * 10 + (d - 48)) ds
@@ -107,19 +107,19 @@ front (b ∷ bs) =
     else if b == 61 then Some (equals_token bs)
     else symbol_token (symbol_of_byte b)
 
--- a token and the tokens behind it
+-- a token and the tokens after it
 abbrev pub spot_then : Option (Token × ℕ) → ℕ → (ℕ → List Spot) → List Spot
 spot_then None at go = []
 spot_then (Some (t, n)) at go = record { token = t; at = at } ∷ go (n - 1)
 
--- the tokens of a text behind the next `skip` bytes, up to a byte where none stands; its first byte has the place `at`
+-- the tokens of a text after the next `skip` bytes, up to a byte where none stands; its first byte has the place `at`
 abbrev pub spots : List ℕ → ℕ → ℕ → List Spot
 spots [] skip at = []
 spots (b ∷ bs) (suc skip) at = spots bs skip (suc at)
 spots (b ∷ bs) zero at =
     if is_blank b then spots bs 0 (suc at) else spot_then (front (b ∷ bs)) at (λ k. spots bs k (suc at))
 
--- the place itself, or what stands behind a token
+-- the place itself, or what stands after a token
 abbrev pub bad_then : Option (Token × ℕ) → ℕ → (ℕ → Option ℕ) → Option ℕ
 bad_then None at go = Some at
 bad_then (Some (t, n)) at go = go (n - 1)

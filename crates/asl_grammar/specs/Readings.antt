@@ -1,11 +1,11 @@
--- What the tokens of a text are, apart from how it is read: blanks, the longest token behind them, and so on to the end
+-- What the tokens of a text are, apart from how it is read: blanks, the longest token after them, and so on to the end
 -- (docs/SOURCE.md). The law `a_text_has_one_reading` says that `tokens_of` and `bad_place` of specs/Lex are this.
 use Rattle.std.specs.Prelude.{◌≡◌, ℕ, ◌+◌, ◌<◌, ◌≤◌, List, [], ◌∷◌, IsTrue, Option, Some, None, length, take, drop}
 use Rattle.asl_grammar.specs.Token.{Spot}
 use Rattle.asl_grammar.specs.Lex.{is_blank, all_bytes, IsAtToken}
 use Rattle.asl_grammar.specs.Bytes.{IsLongest, BeginsWithNone}
 
--- behind some blanks stands the token `s`, the longest there, and `rest` behind it; the text's first byte has the place
+-- after some blanks stands the token `s`, the longest there, and `rest` after it; the text's first byte has the place
 -- `at`, and that of `rest` has the place `next`
 pub record IsFirstToken (text : List ℕ) (at : ℕ) (s : Spot) (rest : List ℕ) (next : ℕ) : Type 0 where
   pub blanks : ℕ
@@ -17,7 +17,7 @@ pub record IsFirstToken (text : List ℕ) (at : ℕ) (s : Spot) (rest : List ℕ
   pub left : rest ≡ drop len (drop blanks text)
   pub behind : next ≡ at + blanks + len
 
--- behind some blanks stands a byte that is no blank and begins no token, at this place
+-- after some blanks stands a byte that is not a blank and begins no token, at this place
 pub record IsStop (text : List ℕ) (at stop : ℕ) : Type 0 where
   pub blanks : ℕ
   pub within : blanks < length text

@@ -18,7 +18,7 @@ abbrev pub innermost : List Kind → Kind
 innermost [] = Body
 innermost (k ∷ ks) = k
 
--- the control behind the block of an `if`, once the next token is known
+-- the control after the block of an `if`, once the next token is known
 abbrev pub settled_by : Token → Control
 settled_by (Fixed mark.Else) = AfterThen
 settled_by _ = StatementStart

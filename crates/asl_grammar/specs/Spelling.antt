@@ -15,7 +15,7 @@ symbol_of Subtract = mark.Minus
 symbol_of IsLess = mark.Less
 symbol_of IsEqual = mark.Same
 
--- names behind a first one, each after a comma
+-- names after a first one, each after a comma
 abbrev pub later_names_on : List (List ℕ) → List Token → List Token
 later_names_on [] rest = rest
 later_names_on (x ∷ xs) rest = Fixed mark.Comma ∷ Name x ∷ later_names_on xs rest

@@ -115,7 +115,7 @@ pub enum Act<'t> {
     Finish(&'t [u8]),
 }
 
-/// The control behind a token, and what the token completes.
+/// The control after a token, and what the token completes.
 #[derive(Clone, Copy)]
 pub struct Transition<'t> {
     pub control: Control<'t>,
@@ -383,7 +383,7 @@ fn statement_step(kind: Kind, token: Token<'_>) -> Option<Transition<'_>>
     }
 }
 
-/// The `else` behind the block of an `if`.
+/// The `else` after the block of an `if`.
 #[inline(always)]
 fn else_step(token: Token<'_>) -> Option<Transition<'_>>
     ensures { (kind : Kind) → option_map transition_of result ≡ step AfterThen kind (token_of token.entry) }

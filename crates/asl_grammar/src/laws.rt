@@ -12,7 +12,7 @@ pub fn a_text_has_real_tokens()
     ensures { (text : List ℕ) → IsTrue (are_tokens (bare (tokens_of text))) }
 {}
 
-/// A name and a number are read whole where nothing that they could go on with stands behind them.
+/// A name and a number are read whole where nothing that they could continue with stands after them.
 pub fn a_token_is_read_whole()
     ensures name { (x r : List ℕ) → IsTrue (is_name x) → leading is_name_byte r ≡ 0 → front (x ++ r) ≡ Some (Name x, length x) }
     ensures number { (ds r : List ℕ) → 0 < length ds → IsTrue (all_bytes is_digit ds) → leading is_digit r ≡ 0 → front (ds ++ r) ≡ Some (Number (number_value ds), length ds) }

@@ -154,7 +154,7 @@ fn digits(text: &[u8]) -> Lexeme<'_>
     }
 }
 
-/// `=` or `==`, where `behind` are the bytes behind the first.
+/// `=` or `==`, where `behind` are the bytes after the first.
 #[inline(always)]
 fn equals<'t>(behind: &[u8]) -> Lexeme<'t>
     ensures { front_view result ≡ equals_token behind.now }

@@ -16,7 +16,7 @@ use crate::lexer::{Found, Tokens};
 use crate::token::{Mark, Token};
 use std::alloc::{AllocError, Global};
 
-/// The control behind the block of an `if`, once the next token is known: only an `else` belongs to the `if`.
+/// The control after the block of an `if`, once the next token is known: only an `else` belongs to the `if`.
 #[inline(always)]
 pub fn settled<'t>(control: Control<'t>, token: Token<'t>) -> Control<'t>
     ensures { control_of result ≡ settled (control_of control.entry) (token_of token.entry) }
@@ -44,7 +44,7 @@ fn nest(kinds: &mut Kinds, act: Act<'_>) -> Result<(), AllocError>
     Ok(())
 }
 
-/// The control behind a token, or nothing where no program goes on with it.
+/// The control after a token, or nothing where no program continues with it.
 fn advance<'t>(
     control: Control<'t>,
     kinds: &mut Kinds,
@@ -73,14 +73,14 @@ fn fault_at_end(control: Control<'_>, end: usize) -> Option<usize>
     }
 }
 
-/// The place of the first token with which no program goes on, or the text's length where it stops too early; nothing
+/// The place of the first token with which no program continues, or the text's length where it stops too early; nothing
 /// where the tokens are a program.
 ///
 /// A text is read up to its first place where no token stands.
 ///
 /// # Errors
 ///
-/// A growth was refused: for each brace that is open behind 64 others, the function's own among them, a byte is asked
+/// An allocation failed: for each brace that is open behind 64 others, the function's own among them, a byte is asked
 /// for. Then the tokens up to that brace begin a program.
 pub fn first_fault(alloc: Global, text: &[u8]) -> Result<Option<usize>, AllocError>
     ensures ok { IfOk result (Judges (tokens_of text.now) (length text.now)) }

@@ -33,7 +33,7 @@ pub whole_again : (bytes : List ℕ) (i : Log) → SpellsLog i bytes → whole_o
 unfolding whole_of
 whole_again bytes i s = whole.whole_again Log JournalFault HasBytes log_fields log_at log_reads (λ n. Truncated n) bad_fault (λ n. Trailing n) bytes i s.fits s.spelled
 
--- the fault of a bad byte names it, and is not want of memory
+-- the fault of a bad byte names it, and is not running out of memory
 bad_is : (bytes : List ℕ) (at : ℕ) (p q : Bool) → eqb at 0 ≡ p → eqb at 4 ≡ q → IsBadLogByte bytes at → IsBytesFault bytes (bad_fault at) × (bad_fault at ≢ OutOfMemory)
 bad_is bytes at true q e f bad = rw e (subst (IsBadLogByte bytes) (eqb-true at 0 e) bad, λ z. absurd cc)
 bad_is bytes at false true e f bad = rw (e, f) (subst (IsBadLogByte bytes) (eqb-true at 4 f) bad, λ z. absurd cc)

@@ -27,7 +27,7 @@ schedule_append (e ∷ es) fs = ap (λ (ts : List ℕ). e.thread ∷ ts) (schedu
 pub state_events : (image : Image) (s : State) (es fs : List Event) → state_after image s (schedule_of (es ++ fs)) ≡ state_after image (state_after image s (schedule_of es)) (schedule_of fs)
 state_events image s es fs = ap (state_after image s) (schedule_append es fs) ∙ state_after-append image s (schedule_of es) (schedule_of fs)
 
--- the first event goes by its step, and the others by the run behind it
+-- the first event goes by its step, and the others by the run after it
 pub goes_head : (image : Image) (s : State) (e : Event) (es : List Event) → GoesBy image s (e ∷ es) → e.reply ≡ (step_of image s e.thread).reply
 goes_head image s e es h = cc
 

@@ -11,7 +11,7 @@ abbrev pub IsBadLogByte : List ℕ → ℕ → Type 0
 IsBadLogByte bytes at = HasBadByte Log HasBytes log_fields bytes at
 
 -- The fault is the first thing that is wrong with the bytes, from front to back. The field at byte 0 is the letters,
--- and the one at byte 4 the version. Want of memory hides nothing that is wrong with the bytes: they spell a journal.
+-- and the one at byte 4 the version. Running out of memory hides nothing that is wrong with the bytes: they spell a journal.
 abbrev pub IsBytesFault : List ℕ → JournalFault → Type 0
 IsBytesFault bytes Magic = IsBadLogByte bytes 0
 IsBytesFault bytes Version = IsBadLogByte bytes 4

@@ -34,7 +34,7 @@ pub enum JournalFault {
     /// A journal ends before this byte.
     #[error("Trailing({0})")]
     Trailing(usize),
-    /// A growth was refused.
+    /// An allocation failed.
     #[error("OutOfMemory")]
     OutOfMemory,
 }

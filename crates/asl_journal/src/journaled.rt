@@ -45,7 +45,7 @@ impl<'p> Journaled<'p> {
     ///
     /// # Errors
     ///
-    /// `BadCount` for no thread and for more than the program's version sets; `OutOfMemory` where a growth was refused.
+    /// `BadCount` for no thread and for more than the program's version sets; `OutOfMemory` where an allocation failed.
     pub fn start(alloc: Global, program: &'p Program, n: u32) -> Result<Journaled<'p>, JournalFault>
         ensures image { IfOk result (λ journaled. journaled.image ≡ program.now) }
         ensures threads { IfOk result (λ journaled. journaled.count ≡ n) }
@@ -107,11 +107,11 @@ impl<'p> Journaled<'p> {
         })
     }
 
-    /// Makes room for m events, or for as many as the limit leaves where that is less.
+    /// Makes capacity for m events, or for as many as the limit leaves where that is less.
     ///
     /// # Errors
     ///
-    /// `OutOfMemory` where a growth was refused.
+    /// `OutOfMemory` where an allocation failed.
     pub fn reserve(&mut self, m: u32) -> Result<(), JournalFault>
         ensures room { OnOk result (min m (most_events - length self.old.events) ≤ self.new.spare) }
         ensures grows { self.old.spare ≤ self.new.spare }

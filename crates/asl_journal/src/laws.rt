@@ -16,7 +16,7 @@ pub fn journal_and_bytes_are_one()
     ensures bytes { SpellingOfLogIsOne }
 {}
 
-/// Bytes have exactly one outcome: a journal, or one refusal. Want of memory says nothing of them.
+/// Bytes have exactly one outcome: a journal, or one refusal. Running out of memory says nothing of them.
 pub fn bytes_have_one_outcome()
     ensures some { BytesHaveAnOutcome }
     ensures one { OutcomeIsOne }

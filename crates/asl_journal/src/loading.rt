@@ -16,7 +16,7 @@ use std::alloc::Global;
 ///
 /// # Errors
 ///
-/// The first refusal from front to back; `OutOfMemory` where a growth was refused, and then the bytes spell a journal.
+/// The first refusal from front to back; `OutOfMemory` where an allocation failed, and then the bytes spell a journal.
 pub fn get(alloc: Global, bytes: &[u8]) -> Result<Journal, JournalFault>
     ensures found { IfOk result (λ journal. SpellsLog journal bytes.now) }
     // What is spelled is answered, unless memory was refused.

@@ -1,4 +1,4 @@
-//! Reading a journal from front to back. Where memory is refused the reading goes on and keeps nothing, so that want of memory
+//! Reading a journal from front to back. Where memory is refused the reading continues and keeps nothing, so that running out of memory
 //! hides nothing that is wrong with the bytes.
 ghost use Rattle.std.specs.Option.{option_map};
 ghost use Rattle.asl_loader.specs.Parts.{Gives};

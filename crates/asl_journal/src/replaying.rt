@@ -17,7 +17,7 @@ use std::alloc::Global;
 /// # Errors
 ///
 /// `BadCount` where the program's version sets fewer threads; `Differs` with the first event that differs; `OutOfMemory` where a
-/// growth was refused.
+/// allocation failed.
 pub fn replay<'p>(
     alloc: Global,
     program: &'p Program,
@@ -29,7 +29,7 @@ pub fn replay<'p>(
       state = state_at program.now journal.now.threads journal.now.events;
     }) }
     ensures refused { IfErr result (λ fault. IsReplayFault program.now journal.now fault) }
-    // A journal of the program is refused for want of memory alone.
+    // A journal of the program is refused only because memory ran out.
     ensures only { IsJournal program.now journal.now.threads journal.now.events
         → IfErr result (λ fault. fault ≡ JournalFault.OutOfMemory) }
 {
@@ -41,7 +41,7 @@ pub fn replay<'p>(
 ///
 /// # Errors
 ///
-/// `Differs` with the first event that differs; `OutOfMemory` where a growth was refused.
+/// `Differs` with the first event that differs; `OutOfMemory` where an allocation failed.
 pub fn follow<'p>(
     alloc: Global,
     from: &Machine<'p>,
@@ -55,7 +55,7 @@ pub fn follow<'p>(
       state = state_after from.now.image from.now.state (schedule_of events.now);
     }) }
     ensures refused { IfErr result (λ fault. IsFollowFault from.now.image from.now.state events.now fault) }
-    // Events of the machine's run are refused for want of memory alone.
+    // Events of the machine's run are refused only because memory ran out.
     ensures only { GoesBy from.now.image from.now.state events.now
         → IfErr result (λ fault. fault ≡ JournalFault.OutOfMemory) }
 {

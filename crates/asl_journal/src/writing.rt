@@ -20,7 +20,7 @@ use std::alloc::{AllocError, Global};
 ///
 /// # Errors
 ///
-/// A growth was refused.
+/// An allocation failed.
 pub fn put(alloc: Global, journal: &Journal) -> Result<Vec<u8>, AllocError>
     ensures { IfOk result (λ bytes. SpellsLog journal.now bytes.items) }
 {

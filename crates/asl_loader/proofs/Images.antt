@@ -187,7 +187,7 @@ effect_in (lock.Expr expr effect) = effect
 expr_lock : Base → List Op → Effect → Lock
 expr_lock base path effect = lock.Expr (record { base = base; path = path }) effect
 
--- the fields behind the kind, and behind the effect
+-- the fields after the kind, and after the effect
 after_kind : Lock → List Field
 after_kind l = drop 1 (lock_fields l)
 

@@ -36,7 +36,7 @@ pub whole_again : (bytes : List ℕ) (i : Image) → SpellsImage i bytes → who
 unfolding whole_of
 whole_again bytes i s = whole.whole_again Image LoadFault IsImage image_fields image_at image_reads (λ n. Truncated n) bad_fault (λ n. Trailing n) bytes i s.fits s.spelled
 
--- the fault of a bad byte names it, and is not want of memory
+-- the fault of a bad byte names it, and is not running out of memory
 bad_is : (bytes : List ℕ) (at : ℕ) (p q : Bool) → eqb at 0 ≡ p → eqb at 4 ≡ q → IsBadImageByte bytes at → IsFault bytes (bad_fault at) × (bad_fault at ≢ OutOfMemory)
 bad_is bytes at true q e f bad = rw e (subst (IsBadImageByte bytes) (eqb-true at 0 e) bad, λ z. absurd cc)
 bad_is bytes at false true e f bad = rw (e, f) (subst (IsBadImageByte bytes) (eqb-true at 4 f) bad, λ z. absurd cc)
@@ -92,7 +92,7 @@ only_is bytes i j w s =
       | inr (inr out) ↦ let both : answered i ≡ refused OutOfMemory = out.0 in absurd cc
     ]
 
--- a program is refused for want of memory alone
+-- a program is refused only because memory ran out
 pub only_memory : (bytes : List ℕ) (f : LoadFault) (j : Image) → Answers (Err f) (whole_of bytes) → SpellsImage j bytes → IsVerified j → f ≡ OutOfMemory
 only_memory bytes f j w s verified =
     elim w [

@@ -152,7 +152,7 @@ module _ (X Y : Type 0) (IsX : X → Type 0) (IsY : Y → Type 0) (fields_x : X 
         },
       )
 
-  -- what is wrong behind the first part is wrong in the whole
+  -- what is wrong after the first part is wrong in the whole
   then_cut : (bytes : List ℕ) (x : X) (rest : List ℕ) → IsX x → bytes ≡ text_of (fields_x x) ++ rest → EndsWithin Y (λ y. IsY y × Has y x) after rest → EndsWithin Y IsY fields_y bytes
   then_cut bytes x rest is e w =
       record {

@@ -23,7 +23,7 @@ abbrev pub are_short : List (List Lock) → Bool
 are_short lists = nat_le (length lists) 1024 && list_all is_short lists
 
 -- The fault is the first thing that is wrong with the bytes, from front to back. The field at byte 0 is the letters,
--- and the one at byte 4 the version. Want of memory hides none but what the verifier finds, and of that neither too
+-- and the one at byte 4 the version. Running out of memory hides none but what the verifier finds, and of that neither too
 -- many lists nor too many locks in one: the bytes spell an image whose lists are short.
 abbrev pub IsFault : List ℕ → LoadFault → Type 0
 IsFault bytes Magic = IsBadImageByte bytes 0

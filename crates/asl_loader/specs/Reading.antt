@@ -137,7 +137,7 @@ image_at bytes = do
 abbrev pub ended : {X F : Type 0} → (ℕ → F) → X → ℕ → ℕ → Result X F
 ended trailing x left len = if left == 0 then Ok x else Err (trailing (len - left))
 
--- the thing that was read of so many bytes, or the fault: of bytes that end within a field, have a bad byte, or go on
+-- the thing that was read of so many bytes, or the fault: of bytes that end within a field, have a bad byte, or continue
 abbrev pub whole_from : {X F : Type 0} → (ℕ → F) → (ℕ → F) → (ℕ → F) → ℕ → Result (X × List ℕ) Stop → Result X F
 whole_from cut bad trailing len (Ok x) = ended trailing x.0 (length x.1) len
 whole_from cut bad trailing len (Err Short) = Err (cut len)
@@ -151,7 +151,7 @@ bad_fault at = if at == 0 then Magic else if at == 4 then Version else BadField 
 unfoldable pub whole_of : List ℕ → Result Image LoadFault
 whole_of bytes = whole_from (λ n. Truncated n) bad_fault (λ n. Trailing n) (length bytes) (image_at bytes)
 
--- What the reader of all the bytes returned is this answer; but an image may be lost, for its lists or for want of memory.
+-- What the reader of all the bytes returned is this answer; but an image may be lost, for its lists or because memory ran out.
 abbrev pub Answers : Result Image LoadFault → Result Image LoadFault → Type 0
 Answers result answer =
     (result ≡ answer)

@@ -21,7 +21,7 @@ pub enum LoadFault {
     /// An image ends before this byte.
     #[error("Trailing({0})")]
     Trailing(usize),
-    /// The bytes spell an image that is no program.
+    /// The bytes spell an image that is not a program.
     #[error("Verify({0})")]
     Verify(VerifyFault),
     /// The bytes spell an image, and memory was refused.

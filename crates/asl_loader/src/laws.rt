@@ -15,7 +15,7 @@ pub fn load_and_store_undo_each_other()
     ensures store { StoreUndoesLoad }
 {}
 
-/// Bytes have exactly one outcome: a program, or one refusal. Want of memory is left out.
+/// Bytes have exactly one outcome: a program, or one refusal. Running out of memory is left out.
 pub fn bytes_have_one_outcome()
     ensures some { BytesHaveAnOutcome }
     ensures one { OutcomeIsOne }

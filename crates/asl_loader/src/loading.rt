@@ -16,7 +16,7 @@ use std::alloc::Global;
 ///
 /// # Errors
 ///
-/// The first refusal from front to back, then that of the verifier; `OutOfMemory` where a growth was refused, and then the
+/// The first refusal from front to back, then that of the verifier; `OutOfMemory` where an allocation failed, and then the
 /// bytes spell an image with no more lists, and no more locks in one, than a program may have.
 pub fn load(alloc: Global, bytes: &[u8]) -> Result<Program, LoadFault>
     ensures found { IfOk result (λ program. SpellsImage program bytes.now) }

@@ -1,6 +1,6 @@
 //! Readers and writers of the parts that images and journals share. A reader answers what stands at the front of the bytes and
-//! the bytes behind it, or what stopped it. Where memory is refused the reading goes on and keeps nothing (`with_item`), so that
-//! want of memory hides nothing that is wrong with the bytes. A writer adds the part's bytes to those before; where memory is
+//! the bytes after it, or what stopped it. Where memory is refused the reading continues and keeps nothing (`with_item`), so that
+//! running out of memory hides nothing that is wrong with the bytes. A writer adds the part's bytes to those before; where memory is
 //! refused, it adds none.
 
 ghost use Rattle.std.specs.Prelude.{◌≡◌, ◌<◌, ◌^◌, ℕ, List, [], ◌∷◌, ◌++◌, length, IfOk, OnOk, OnErr};
@@ -149,7 +149,7 @@ pub fn with_item<T: Drop>(kept: Option<Items<T>>, item: T) -> Option<Items<T>>
 /// Writes a byte.
 ///
 /// # Errors
-/// A growth was refused.
+/// An allocation failed.
 pub fn put_byte(out: &mut Vec<u8>, number: u8) -> Result<(), AllocError>
     ensures added { OnOk result (Writes ℕ (λ n. n < 256) (λ n. one n ∷ []) out.old.items out.new.items number) }
     ensures kept { OnErr result (out.new.items ≡ out.old.items) }
@@ -161,7 +161,7 @@ pub fn put_byte(out: &mut Vec<u8>, number: u8) -> Result<(), AllocError>
 /// Writes a number of two bytes, the high one first.
 ///
 /// # Errors
-/// A growth was refused.
+/// An allocation failed.
 pub fn put_two(out: &mut Vec<u8>, number: u16) -> Result<(), AllocError>
     ensures added { OnOk result (Writes ℕ (λ n. n < 2 ^ 16) (λ n. two n ∷ []) out.old.items out.new.items number) }
     ensures kept { OnErr result (out.new.items ≡ out.old.items) }
@@ -172,7 +172,7 @@ pub fn put_two(out: &mut Vec<u8>, number: u16) -> Result<(), AllocError>
 /// Writes an effect: 0 reads, 1 writes.
 ///
 /// # Errors
-/// A growth was refused.
+/// An allocation failed.
 pub fn put_effect(out: &mut Vec<u8>, effect: Effect) -> Result<(), AllocError>
     ensures added { OnOk result (Writes Effect (λ e. Unit {0}) (λ e. effect_field e ∷ []) out.old.items out.new.items effect) }
     ensures kept { OnErr result (out.new.items ≡ out.old.items) }

@@ -1,5 +1,5 @@
-//! Reading the fields of an image from the front of bytes. Where memory is refused the reading goes on and keeps nothing,
-//! so that want of memory hides nothing that is wrong with the bytes. It keeps no lists either where there are more of them,
+//! Reading the fields of an image from the front of bytes. Where memory is refused the reading continues and keeps nothing,
+//! so that running out of memory hides nothing that is wrong with the bytes. It keeps no lists either where there are more of them,
 //! or more locks in one, than any program has, so that the lists of an image take no more memory than a program's may.
 
 ghost use Rattle.std.specs.Prelude.{◌≡◌, ◌≤◌, ◌<◌, ℕ, Bool, ◌&&◌, List, [], ◌∷◌, ◌++◌, length, take};
@@ -100,7 +100,7 @@ fn expr_at(base: Base, effect: Effect, bytes: &[u8]) -> Result<(Lock, &[u8]), St
     Ok((Lock::Expr(Expr { base, path }, effect), rest))
 }
 
-/// The rest of a lock, behind its kind and its effect.
+/// The rest of a lock, after its kind and its effect.
 #[tactic(auto, unfolding(crate::specs::Reading::lock_of))]
 fn lock_of(kind: u8, effect: Effect, bytes: &[u8]) -> Result<(Lock, &[u8]), Stop>
     ensures { Gives (λ x. (x.0, x.1.now)) result (lock_of kind effect bytes.now) }
@@ -275,7 +275,7 @@ pub(crate) fn image_at(alloc: Global, bytes: &[u8]) -> Result<(Result<Image, Los
     Ok((image, rest))
 }
 
-/// The image of its parts, as long as each was kept. Lists that are too long are told before want of memory.
+/// The image of its parts, as long as each was kept. Lists that are too long are told before running out of memory.
 fn image_of(
     version: u16,
     classes: u16,

@@ -21,7 +21,7 @@ use std::alloc::{AllocError, Global};
 ///
 /// # Errors
 ///
-/// A growth was refused.
+/// An allocation failed.
 pub fn store(alloc: Global, program: &Program) -> Result<Vec<u8>, AllocError>
     ensures { IfOk result (λ bytes. SpellsImage program.now bytes.items) }
 {

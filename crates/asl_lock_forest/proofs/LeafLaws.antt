@@ -190,7 +190,7 @@ module _ (old new : Leaves) (kept : IsKept old) (leaf : Leaf) (none : key_of_lea
     | inr other ↦ absurd (other.1 refl)
   ]
 
-  -- a key of the index is no vacant key
+  -- a key of the index is not a vacant key
   used : (q : Leaf) (k : ℕ) → key_of_leaf old q ≡ Some k → k ≢ key
   used q k is e =
       let row_at = kept.there q k is in

@@ -215,7 +215,7 @@ asked_at (ask ∷ others) (suc i) d once there =
           ∙ asked_at others i d (and_parts (not (names others ask.0)) _ once).1 (omega arith)
     ]
 
--- Room for some rows is room for fewer.
+-- Room for some rows is capacity for fewer.
 pub some_room : (leaves : Leaves) (n : ℕ) → 0 < n → HasRoom leaves n → HasRoom leaves 1
 some_room leaves n some room = record { rows = let a = room.rows in omega (arith, a); index = let b = room.index in omega (arith, b) }
 

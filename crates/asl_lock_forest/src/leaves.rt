@@ -57,7 +57,7 @@ impl Leaves {
         })
     }
 
-    /// Makes room for so many more rows.
+    /// Makes capacity for so many more rows.
     pub fn reserve(&mut self, more: usize) -> Result<(), AllocError>
         requires { IsKept self.old }
         ensures kept { IsKept self.new }

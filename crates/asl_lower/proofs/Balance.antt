@@ -1,4 +1,4 @@
--- The sections that are open before the code of a statement are open behind it again.
+-- The sections that are open before the code of a statement are open after it again.
 use Rattle.std.proofs.Common.{◌≡◌, ℕ, suc, List, [], ◌∷◌, Option, Some, refl, ap, ◌∙◌}
 use Rattle.asl_code.specs.declared.instr.Instr.{Instr}
 use Rattle.asl_grammar.specs.declared.control.Operator.{Operator}
@@ -13,7 +13,7 @@ use Rattle.asl_lower.specs.Region.{without_innermost, open_behind, open_at}
 abbrev pub opened : Lowered → Place → List ℕ
 opened l p = open_at l.code p.pc
 
--- what is open behind an instruction that stands at the place
+-- what is open after an instruction that stands at the place
 pub behind : (l : Lowered) (p : Place) (i : Instr) → Has l p i → open_at l.code (suc p.pc) ≡ open_behind (Some i) (opened l p)
 behind l p i h = ap (λ (v : Option Instr). open_behind v (opened l p)) h
 

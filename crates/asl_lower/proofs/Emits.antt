@@ -21,7 +21,7 @@ use Rattle.asl_lower.proofs.Grows.{Precedes, joined, by_moves, by_stmt, by_block
 pub place_same : (p q : Place) → p.pc ≡ q.pc → p.site ≡ q.site → p.section ≡ q.section → p ≡ q
 place_same p q a b c = λ i. record { pc = a i; site = b i; section = c i }
 
--- where there is room for all, there is room for one `mov` more
+-- where there is capacity for all, there is capacity for one `mov` more
 pub moves_room : (args : List (List ℕ)) (i : ℕ) (p q : Place) → past_moves args q ≡ past_moves (drop i args) p → i < length args → (past_moves args q).pc ≤ 65535 → (next p).pc ≤ 65535
 moves_room args i p q e low h =
     let f : drop i args ≡ get_or args i [] ∷ drop (suc i) args = drop-cons args i [] low in
@@ -62,7 +62,7 @@ around_code {X} old c1 c2 c3 one first last e1 e2 e3 =
     let f2 : c2 ≡ old ++ first ∷ one = e2 ∙ ap (λ (l : List X). l ++ one) e1 ∙ append_assoc old (first ∷ []) one in
     e3 ∙ ap (λ (l : List X). l ++ last ∷ []) f2 ∙ append_assoc old (first ∷ one) (last ∷ [])
 
--- where there is room for all statements, there is room for the next
+-- where there is capacity for all statements, there is capacity for the next
 pub block_room : (ss : List tree.Statement) (i : ℕ) (s : tree.Statement) (p q : Place) → past_block (block_of ss) q ≡ past_block (block_of (drop i ss)) p → i < length ss → s ≡ get_or ss i s → (past_block (block_of ss) q).pc ≤ 65535 → (past_stmt (statement_of s) p).pc ≤ 65535
 block_room ss i s p q e low same h =
     let f : drop i ss ≡ get_or ss i s ∷ drop (suc i) ss = drop-cons ss i s low in
@@ -72,7 +72,7 @@ block_room ss i s p q e low same h =
     let k : past_block (block_of (drop i ss)) p ≡ past_block (block_of (drop (suc i) ss)) m = ap (λ (xs : List tree.Statement). past_block (block_of xs) p) f2 in
     omega (arith, h, g.pc, ap (λ (r : Place). r.pc) (e ∙ k))
 
--- where there is room for a statement, there is room inside
+-- where there is capacity for a statement, there is room inside
 pub room_if_test : (x : List ℕ) (a b : Block) (p : Place) → (past_stmt (IfStatement x a b) p).pc ≤ 65535 → (next p).pc ≤ 65535
 room_if_test x a b p h =
     omega (arith, h, (by_block a (next p)).pc, (by_else b (past_block a (next p))).pc)
@@ -188,7 +188,7 @@ atomic_adds sc a old o1 o2 o3 h1 h2 e3 s3 n3 =
       place = place_same (place_of o3) (next (place_of o2)) len n3 seen ∙ ap next end2;
     }
 
--- a section whose `rel` may want memory
+-- a section whose `rel` may need memory
 pub leave_adds : {E : Type 0} (sc : Scope) (a : Block) (old o1 o2 o3 : Output) (r : Result (Unit {0}) E) (number acquire : ℕ) → number ≡ length old.sections.items → acquire ≡ length old.code.items → Adds old o1 (instr.Acquire (length old.sections.items) ∷ []) (record { function = sc.function; acquire = length old.code.items; release = 0 } ∷ []) (entered (place_of old)) → Adds o1 o2 (block_code sc a (place_of o1)) (block_sections sc a (place_of o1)) (past_block a (place_of o1)) → IfOk r (λ _. o3.code.items ≡ o2.code.items ++ instr.Release ∷ []) → IfOk r (λ _. o3.sections.items ≡ set o2.sections.items number (record { function = sc.function; acquire = acquire; release = length o2.code.items })) → IfOk r (λ _. o3.sites ≡ o2.sites) → IfOk r (λ _. Adds old o3 (stmt_code sc (AtomicStatement a) (place_of old)) (stmt_sections sc (AtomicStatement a) (place_of old)) (past_stmt (AtomicStatement a) (place_of old)))
 leave_adds sc a old o1 o2 o3 (Err e) number acquire en ea h1 h2 e3 s3 n3 = tt
 leave_adds sc a old o1 o2 o3 (Ok u) number acquire en ea h1 h2 e3 s3 n3 =

@@ -1,4 +1,4 @@
--- Code grows: no place behind a statement has fewer instructions, sites or sections before it.
+-- Code grows: no place after a statement has fewer instructions, sites or sections before it.
 use Rattle.std.proofs.Common.{ℕ, ◌≤◌, List, [], ◌∷◌, arith}
 use Rattle.asl_syntax.specs.Tree.{Value, IntegerValue, NullValue, LocalValue, BinaryValue, GlobalValue, FieldValue, LoadValue, NewValue, CallValue, Statement, AssignStatement, StoreStatement, OutStatement, IfStatement, WhileStatement, AtomicStatement, Block, NoMore, Then, Function}
 use Rattle.asl_lower.specs.Place.{Place, next, created, entered, past_moves, past_value, past_stmt, past_block, past_else, past_function, past_functions}

@@ -206,7 +206,7 @@ lowering_returns is l h =
           omega (arith, at, n, g.pc, b.placed.start);
     }
 
--- a section that is open stays open where control goes on, but for its `rel`
+-- a section that is open stays open where control continues, but for its `rel`
 section_stays : (is : List Item) (l : Lowered) → IsLowering is l → (pc to number : ℕ) (i : Instr) (s : Section) → slice_get l.sections number ≡ Some s → InSection l number pc → pc ≢ s.release → slice_get l.code pc ≡ Some i → GoesOn i pc to → InSection l number to
 section_stays is l h pc to number i s e x other f g =
     let low : pc < length l.code = slice_get_within l.code pc i f in

@@ -105,7 +105,7 @@ region_body l lay (Inside n) f pc h =
     let P : ℕ → Type 0 = λ m. InBody l m pc in
     subst P h.function (section_body l lay n pc s)
 
--- where control goes on from a region is a point of it, or its end
+-- where control continues from a region is a point of it, or its end
 pub region_goes_on : (l : Lowered) → HasLayout l → (r : Region) (f pc to : ℕ) (i : Instr) → IsIn l r f pc → slice_get l.code pc ≡ Some i → GoesOn i pc to → IsIn l r f to ⊎ IsEnd l r to
 region_goes_on l lay (Body g) f pc to i h e goes = inl (h.0, h.1, lay.inside.body pc to g i h.2 e goes)
 region_goes_on l lay (Inside n) f pc to i h e goes =
@@ -121,7 +121,7 @@ section_entered l lay n s e =
     let t : InSection l n (suc s.acquire) = (s, e, record { behind = omega arith; within = omega (arith, k.before) }) in
     open_inside l lay s.function (suc s.acquire) n (section_body l lay n (suc s.acquire) t) t
 
--- the sections that are open behind an `acq` and behind a `rel`
+-- the sections that are open after an `acq` and after a `rel`
 pub opened_behind_acquire : (l : Lowered) (pc n : ℕ) → slice_get l.code pc ≡ Some (instr.Acquire n) → open_at l.code (suc pc) ≡ n ∷ open_at l.code pc
 opened_behind_acquire l pc n e = ap (λ i. open_behind i (open_at l.code pc)) e
 
@@ -150,7 +150,7 @@ outermost_end l lay pc n e out =
     let d : AreDistinct (n ∷ open_at l.code a.0.acquire) = subst AreDistinct a.2 (open_distinct l lay pc) in
     a.2 ∙ ap (λ (xs : List ℕ). n ∷ xs) (alone (open_at l.code a.0.acquire) n d (sym (ap outermost a.2) ∙ out))
 
--- behind it nothing is open
+-- after it nothing is open
 pub outermost_left : (l : Lowered) → HasLayout l → (pc n : ℕ) → release_of l n ≡ Some pc → outermost (open_at l.code pc) ≡ Some n → open_at l.code (suc pc) ≡ []
 outermost_left l lay pc n e out =
     opened_behind_release l pc (end_stands l lay pc n e) ∙ ap without_innermost (outermost_end l lay pc n e out)

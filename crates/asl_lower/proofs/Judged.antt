@@ -272,6 +272,6 @@ mutual
       (judged_stmt sc l lay s (next p) h.1 here) (subst P size (judged_block sc l lay b q h.2 there)) in
       judged_join l p.pc (suc p.pc) (past_block b q).pc None (or_else (stmt_access s (suc p.pc)) (block_access b (suc p.pc + stmt_size s))) [] (stmt_callees sc.functions s ++ block_callees sc.functions b) (omega arith) (omega (arith, g.pc, k.pc)) jump both
 
--- a `ret` behind it
+-- a `ret` after it
 pub judged_return : (l : Lowered) (a b from : ℕ) (p : Option ℕ) (xs : List ℕ) → a ≤ b → Judged l a b p xs → slice_get l.code b ≡ Some (instr.Return from) → Judged l a (suc b) p xs
 judged_return l a b from p xs low j h = judged_end l a b p xs low j (judged_other l b (instr.Return from) h refl)

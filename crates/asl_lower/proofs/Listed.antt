@@ -24,7 +24,7 @@ use Rattle.asl_lower.proofs.Numbering.{block_locals_grow}
 pub few_parameters : (f : Function) → registers_of f ≤ 64 → length f.parameters ≤ 64
 few_parameters f h = omega (arith, block_locals_grow f.parameters f.body)
 
--- where no function from a number on is crowded, the first is not, and none behind it
+-- where no function from a number on is crowded, the first is not, and none after it
 crowded_step : (b : Bool) (number : ℕ) (o : Option ℕ) → (if b then Some number else o) ≡ None → (b ≡ false) × (o ≡ None)
 crowded_step true number o e = absurd cc
 crowded_step false number o e = (refl, e)
@@ -47,7 +47,7 @@ at_global is i x y low same e =
     ∙ ap (λ (z : items.Item). functions_of (map item_of (z ∷ drop (suc i) is))) (sym same ∙ e)
     ∙ ap (λ (n : ℕ). functions_of (map item_of (drop n is))) (sym (add-one i))
 
--- where there is room for all functions, there is room for the next
+-- where there is capacity for all functions, there is capacity for the next
 pub functions_room : (f : Function) (left rest : List Function) (p q : Place) → left ≡ f ∷ rest → q ≡ past_functions left p → q.pc ≤ 65535 → (past_function f p).pc ≤ 65535
 functions_room f left rest p q e g h =
     omega (arith, h, (by_functions rest (past_function f p)).pc, ap (λ (r : Place). r.pc) g, ap (λ (fs : List Function). (past_functions fs p).pc) e)

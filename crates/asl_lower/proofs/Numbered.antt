@@ -29,7 +29,7 @@ none_numbered m names e x k h =
     let z : None ≡ Some k = sym (ap (λ (f : Counts). f x) e) ∙ h in
     absurd cc
 
--- the names from a place on, where those behind it have their numbers
+-- the names from a place on, where those after it have their numbers
 pub one_before : (names : List (Bor (List ℕ))) (i j : ℕ) (x : Bor (List ℕ)) (old new : Counts) → i < length names → j ≡ suc i → x ≡ get_or names i x → old ≡ numbers_from j (names_of (drop j names)) → new ≡ with_count x.now i old → new ≡ numbers_from i (names_of (drop i names))
 one_before names i j x old new low next same rest e =
     let d : drop i names ≡ x ∷ drop (suc i) names = drop-cons names i x low ∙ ap (λ y. y ∷ drop (suc i) names) (sym same) in

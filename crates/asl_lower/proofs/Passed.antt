@@ -26,7 +26,7 @@ none_over before (s ∷ ss) e =
     let k = goes_on (is_over (tally_of before) s.token) s.at (limit_from (s.token ∷ before) ss) e in
     (k.0, none_over (s.token ∷ before) ss k.1)
 
--- so it is of the tokens behind a part of the program
+-- so it is of the tokens after a part of the program
 abbrev Passed : List Token → Type 0
 Passed rest = (before : List Token) × NoneOver before rest
 

@@ -1,4 +1,4 @@
--- What stands at a pc of a program, where control goes on from it, and which sections are open there.
+-- What stands at a pc of a program, where control continues from it, and which sections are open there.
 use Rattle.std.proofs.Common.{◌≡◌, ℕ, suc, ◌<◌, ◌≤◌, ◌⊎◌, inl, inr, IsTrue, List, Some, slice_get, refl, sym, ap, ◌∙◌, subst, arith}
 use Rattle.std.proofs.lemmas.Bool.{cases_lt, false≢true}
 use Rattle.asl_code.specs.declared.instr.Instr.{Instr}
@@ -11,7 +11,7 @@ use Rattle.asl_lower.specs.Region.{open_at, open_behind, GoesOn}
 use Rattle.asl_lower.proofs.Stands.{is_plain, Stands, Plainly, Makes, Invokes, Jumps, Tests, Enters, Leaves, block_stands}
 use Rattle.asl_lower.proofs.Bodies.{Body}
 
--- a plain instruction goes on to the next and keeps what is open
+-- a plain instruction continues to the next and keeps what is open
 pub plain_goes : (i : Instr) (pc to : ℕ) → IsTrue (is_plain i) → GoesOn i pc to → to ≡ suc pc
 plain_goes (instr.New r c n) pc to t g = absurd (false≢true t)
 plain_goes (instr.Jump n) pc to t g = absurd (false≢true t)
@@ -32,7 +32,7 @@ plain_keeps (instr.Acquire n) os t = absurd (false≢true t)
 plain_keeps instr.Release os t = absurd (false≢true t)
 plain_keeps i os t = refl
 
--- control goes on between two places, and what is open there is what the instruction leaves open
+-- control continues between two places, and what is open there is what the instruction leaves open
 pub record Motion (l : Lowered) (lo hi : Place) (pc to : ℕ) (i : Instr) : Type 0 where
   pub low : lo.pc ≤ to
   pub high : to ≤ hi.pc
@@ -48,7 +48,7 @@ leap : (l : Lowered) (lo hi : Place) (pc to target : ℕ) (i : Instr) → ((os :
 leap l lo hi pc to target i k low high o e =
     record { low = omega arith; high = omega arith; opened = ap (λ (n : ℕ). open_at l.code n) e ∙ o ∙ sym (k (open_at l.code pc)) }
 
--- where control goes on from what stands at a pc
+-- where control continues from what stands at a pc
 moves_at : (sc : Scope) (l : Lowered) (lo hi : Place) (pc to : ℕ) → lo.pc ≤ pc → pc < hi.pc → Stands sc l lo hi pc → (i : Instr) × (slice_get l.code pc ≡ Some i) × (GoesOn i pc to → Motion l lo hi pc to i)
 moves_at sc l lo hi pc to low high (Plainly i e t) =
     (i, e, λ g. onward l lo hi pc to i low high e (plain_goes i pc to t g))

@@ -49,7 +49,7 @@ pub some_else : (ss : List tree.Statement) → 0 < length ss → 2 + block_size 
 some_else [] l = absurd (omega arith)
 some_else (s ∷ ss) l = omega arith
 
--- instructions are left behind the functions exactly where they are enough
+-- instructions are left after the functions exactly where they are enough
 pub enough : (fs : List Function) (left : Option ℕ) (b : Bool) → b ≡ is_some left → IfSome left (λ n. functions_size fs + n ≡ 65535) → IfNone left (65535 < functions_size fs) → (IsTrue b → (past_functions fs origin).pc ≤ 65535) × ((past_functions fs origin).pc ≤ 65535 → IsTrue b)
 enough fs (Some n) b e some none = (λ t. omega (arith, functions_sized fs origin), λ few. e)
 enough fs None b e some none = (λ t. absurd cc, λ few. absurd (omega (arith, functions_sized fs origin)))

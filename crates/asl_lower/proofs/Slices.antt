@@ -20,7 +20,7 @@ splits xs k m (a ∷ us) bs e h =
     let r = splits xs (suc k) m us bs (omega arith) h.1 in
     ((h.0, r.0), r.1)
 
--- behind one element more
+-- after one element more
 shifts : {X : Type 0} (x : X) (xs : List X) (k : ℕ) (ys : List X) → StandAt (x ∷ xs) (suc k) ys → StandAt xs k ys
 shifts x xs k [] h = tt
 shifts x xs k (y ∷ ys) h = (h.0, shifts x xs (suc k) ys h.1)

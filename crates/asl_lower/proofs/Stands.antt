@@ -16,7 +16,7 @@ use Rattle.asl_lower.proofs.Grows.{Precedes, itself, joined, by_next, by_entered
 use Rattle.asl_lower.proofs.Counts.{Counted, counted_next, counted_entered, stmt_counted, block_counted}
 use Rattle.asl_lower.proofs.Balance.{opened, behind, stmt_balance, block_balance, else_balance}
 
--- an instruction that only goes on to the next, in the same sections, and makes and calls nothing
+-- an instruction that only continues to the next, in the same sections, and makes and calls nothing
 abbrev pub is_plain : Instr → Bool
 is_plain (instr.New to cells class) = false
 is_plain (instr.Jump target) = false
@@ -124,7 +124,7 @@ made_section sc l a p h k =
       around = block_balance sc l a (entered p) h.1 ∙ behind l p _ h.0;
     }
 
--- the target of the `jz` of an `if` lies behind its block, and nothing more is open there
+-- the target of the `jz` of an `if` lies after its block, and nothing more is open there
 target_low : (e : Block) (p : Place) → p.pc ≤ else_target e p
 target_low NoMore p = omega arith
 target_low (Then s b) p = omega arith

@@ -1,4 +1,4 @@
--- What the calls of a `Lowering` tell: places of bodies, owners, returned registers, and where control goes on.
+-- What the calls of a `Lowering` tell: places of bodies, owners, returned registers, and where control continues.
 use Rattle.std.proofs.Common.{◌≡◌, ℕ, suc, ◌+◌, ◌-◌, ◌<◌, ◌≤◌, inl, inr, nat_lt, List, [], ◌∷◌, length, get_or, drop, Some, slice_get, sym, ap, ◌∙◌, subst, arith}
 use Rattle.std.specs.List.{Contains}
 use Rattle.std.proofs.lemmas.Bool.{cond-true, lt-ltb}
@@ -20,7 +20,7 @@ start_within l lay number =
     let len : entry.Function → ℕ = λ f. f.len in
     omega (arith, sum_by-take-le len l.functions number, lay.parted.total)
 
--- the owner of a place, in one of the bodies and behind them all
+-- the owner of a place, in one of the bodies and after them all
 pub owner_found : (fs : List entry.Function) (i number left pc : ℕ) (d : entry.Function) → i < length fs → left < (get_or fs i d).len → number + owner_of (drop i fs) left ≡ owner_of fs pc → number ≡ owner_of fs pc
 owner_found fs i number left pc d low inside e =
     let f = get_or fs i d in
@@ -66,7 +66,7 @@ returned_each l lay number pc from b e =
     let q : Some (instr.Return from) ≡ Some (instr.Return (returned l number)) = sym e ∙ lay.returns.there number pc b.function b.in_table (sym end) in
     cc
 
--- where control goes on is what is listed
+-- where control continues is what is listed
 pub listed_goes : (i : Instr) (pc to : ℕ) → Contains (successors i pc) to → GoesOn i pc to
 listed_goes (instr.Jump target) pc to c =
     elim (member_cases to target [] c) [ inl e ↦ sym e | inr old ↦ absurd (no_member to old) ]

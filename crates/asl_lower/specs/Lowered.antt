@@ -59,12 +59,12 @@ IsLoweredValue sc l to (CallValue f args) p =
     AreMoved sc l args p (length sc.locals) × Has l (past_moves args p) (value_instr sc to p.site (CallValue f args))
 IsLoweredValue sc l to v p = Has l p (value_instr sc to p.site v)
 
--- where the `jz` of an `if` goes: behind its block, and behind the jump over the other block
+-- where the `jz` of an `if` goes: after its block, and after the jump over the other block
 abbrev pub else_target : Block → Place → ℕ
 else_target NoMore p = p.pc
 else_target (Then s b) p = suc p.pc
 
--- the section of a block that begins behind the place
+-- the section of a block that begins after the place
 abbrev pub section_of : Scope → Block → Place → Section
 section_of sc a p = record { function = sc.function; acquire = p.pc; release = (past_block a (entered p)).pc }
 

@@ -12,11 +12,11 @@ abbrev pub number_of : List (List ℕ) → List ℕ → ℕ
 number_of [] x = 0
 number_of (y ∷ ys) x = if bytes_eq y x then 0 else suc (number_of ys x)
 
--- the names, and behind them one more if it is new
+-- the names, and after them one more if it is new
 abbrev pub with_name : List (List ℕ) → List ℕ → List (List ℕ)
 with_name xs x = if has_name xs x then xs else xs ++ x ∷ []
 
--- the names, and behind them the new ones that are assigned, in the order of the text
+-- the names, and after them the new ones that are assigned, in the order of the text
 abbrev mutual
   pub stmt_locals : List (List ℕ) → Statement → List (List ℕ)
   stmt_locals xs (AssignStatement x v) = with_name xs x

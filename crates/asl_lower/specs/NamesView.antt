@@ -1,4 +1,4 @@
--- Machinery of the proofs, not of the promise: the bytes of names behind references, as the names that definitions
+-- Machinery of the proofs, not of the promise: the bytes of names after references, as the names that definitions
 -- speak of (docs/SOURCE.md).
 use Rattle.std.specs.Prelude.{ℕ, List, map}
 use Rattle.std.specs.Borrow.{Bor}

@@ -9,11 +9,11 @@ use Rattle.asl_lower.specs.Names.{Scope}
 use Rattle.asl_lower.specs.Place.{Place, past_stmt}
 use Rattle.asl_lower.specs.Layout.{stmt_code, stmt_sections}
 
--- the place behind all that has been emitted
+-- the place after all that has been emitted
 abbrev pub place_of : Output → Place
 place_of o = record { pc = length o.code.items; site = o.sites; section = length o.sections.items }
 
--- this code and these sections have been added, and the output is at the place behind them
+-- this code and these sections have been added, and the output is at the place after them
 pub record Adds (old new : Output) (code : List Instr) (sections : List Section) (past : Place) : Type 0 where
   pub adds_code : new.code.items ≡ old.code.items ++ code
   pub adds_sections : new.sections.items ≡ old.sections.items ++ sections

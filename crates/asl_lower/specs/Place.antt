@@ -12,30 +12,30 @@ pub record Place : Type 0 where
 abbrev pub origin : Place
 origin = record { pc = 0; site = 0; section = 0 }
 
--- behind one instruction that is no `new` and no `acq`
+-- after one instruction that is no `new` and no `acq`
 abbrev pub next : Place → Place
 next p = record { pc = suc p.pc; site = p.site; section = p.section }
 
--- behind one `new`
+-- after one `new`
 abbrev pub created : Place → Place
 created p = record { pc = suc p.pc; site = suc p.site; section = p.section }
 
--- behind one `acq`
+-- after one `acq`
 abbrev pub entered : Place → Place
 entered p = record { pc = suc p.pc; site = p.site; section = suc p.section }
 
--- behind as many `mov` as there are arguments
+-- after as many `mov` as there are arguments
 abbrev pub past_moves : List (List ℕ) → Place → Place
 past_moves [] p = p
 past_moves (a ∷ rest) p = past_moves rest (next p)
 
--- behind the code of a value
+-- after the code of a value
 abbrev pub past_value : Value → Place → Place
 past_value (NewValue n) p = created p
 past_value (CallValue f args) p = next (past_moves args p)
 past_value v p = next p
 
--- behind the code of a statement, a block, and what follows the first block of an `if`
+-- after the code of a statement, a block, and what follows the first block of an `if`
 abbrev mutual
   pub past_stmt : Statement → Place → Place
   past_stmt (AssignStatement x v) p = past_value v p
@@ -53,11 +53,11 @@ abbrev mutual
   past_else NoMore p = p
   past_else (Then s b) p = past_block b (past_stmt s (next p))
 
--- behind a function: its statements and its `ret`
+-- after a function: its statements and its `ret`
 abbrev pub past_function : Function → Place → Place
 past_function f p = next (past_block f.body p)
 
--- behind functions, one after the other
+-- after functions, one after the other
 abbrev pub past_functions : List Function → Place → Place
 past_functions [] p = p
 past_functions (f ∷ fs) p = past_functions fs (past_function f p)

@@ -8,7 +8,7 @@ use Rattle.asl_lower.specs.declared.reach.Calls.TheVariants as calls
 use Rattle.asl_lower.specs.Lowered.{Lowered}
 use Rattle.asl_lower.specs.Region.{open_at, is_access, InBody, CallsAt}
 
--- how many sections are open behind an instruction, where so many are open before it
+-- how many sections are open after an instruction, where so many are open before it
 abbrev pub depth_behind : Instr → ℕ → ℕ
 depth_behind (instr.Acquire s) depth = suc depth
 depth_behind instr.Release depth = depth - 1

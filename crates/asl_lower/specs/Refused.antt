@@ -22,7 +22,7 @@ abbrev pub HasAccessesInside : List Item → Type 0
 HasAccessesInside is = (l : Lowered) → IsLowering is l → (function pc : ℕ) → ¬ IsBareAccess l function pc
 
 -- the program has this fault, and none that is listed before it. All is judged in the tree, without memory, before any
--- code is made, so want of memory hides no other fault
+-- code is made, so running out of memory hides no other fault
 abbrev pub IsRefused : List Item → LowerFault → Type 0
 IsRefused is (Registers number) = first_crowded 0 (functions_of is) ≡ Some number
 IsRefused is CodeSize = (first_crowded 0 (functions_of is) ≡ None) × (65535 < (end_of is).pc)

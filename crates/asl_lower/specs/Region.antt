@@ -1,4 +1,4 @@
--- Sections that are open, bare and inner functions, and where an instruction goes on (docs/SOURCE.md, "Templates"
+-- Sections that are open, bare and inner functions, and where an instruction continues (docs/SOURCE.md, "Templates"
 -- and "Regions"). The type `Region` stands in specs/Regions.
 use Rattle.std.specs.Prelude.{◌≡◌, ◌≢◌, ℕ, suc, zero, ◌+◌, ◌-◌, ◌<◌, ◌≤◌, ◌⊎◌, Bool, true, false, ◌||◌, ◌==◌, nat_lt, if◌then◌else◌, IsTrue, List, [], ◌∷◌, Option, Some, option_map, take, slice_get, sum_by, count_by}
 use Rattle.asl_code.specs.declared.image.Function as entry
@@ -12,7 +12,7 @@ abbrev pub without_innermost : List ℕ → List ℕ
 without_innermost [] = []
 without_innermost (s ∷ opened) = opened
 
--- the sections that are open behind an instruction: an `acq` opens one, a `rel` closes the innermost
+-- the sections that are open after an instruction: an `acq` opens one, a `rel` closes the innermost
 abbrev pub open_behind : Option Instr → List ℕ → List ℕ
 open_behind (Some (instr.Acquire s)) opened = s ∷ opened
 open_behind (Some instr.Release) opened = without_innermost opened
@@ -46,7 +46,7 @@ sites_before code pc = count_by is_new (take pc code)
 abbrev pub sections_before : List Instr → ℕ → ℕ
 sections_before code pc = count_by is_acquire (take pc code)
 
--- the section is open before the instruction at the pc: behind its `acq`, up to and with its `rel`
+-- the section is open before the instruction at the pc: after its `acq`, up to and with its `rel`
 pub record IsOpenAt (s : Section) (pc : ℕ) : Type 0 where
   pub behind : s.acquire < pc
   pub within : pc ≤ s.release
@@ -71,7 +71,7 @@ pub record InBody (l : Lowered) (number pc : ℕ) : Type 0 where
   pub start : start_of l.functions number ≤ pc
   pub before_end : pc < start_of l.functions number + function.len
 
--- the section of this number: its `acq` and its `rel` stand in the body of its function, and behind the `acq` it is
+-- the section of this number: its `acq` and its `rel` stand in the body of its function, and after the `acq` it is
 -- open until the `rel`, around all that is entered in it
 pub record IsSection (l : Lowered) (number : ℕ) : Type 0 where
   pub section : Section
@@ -99,7 +99,7 @@ returned_by i = 0
 abbrev pub returned : Lowered → ℕ → ℕ
 returned l number = returned_by (slice_get l.code (start_of l.functions (suc number) - 1))
 
--- where control may go on in the same body, from an instruction at a pc
+-- where control may continue in the same body, from an instruction at a pc
 abbrev pub GoesOn : Instr → ℕ → ℕ → Type 0
 GoesOn (instr.Jump target) pc to = to ≡ target
 GoesOn (instr.JumpIfZero test target) pc to = (to ≡ target) ⊎ (to ≡ suc pc)

@@ -9,7 +9,7 @@ pub data Region : Type 0 where
   Body : (function : ℕ) → Region
   Inside : (section : ℕ) → Region
 
--- the pc is behind the `acq` of the section and before its `rel`, and the section stands in the function
+-- the pc is after the `acq` of the section and before its `rel`, and the section stands in the function
 pub record Between (l : Lowered) (section f pc : ℕ) : Type 0 where
   pub is : Section
   pub in_table : slice_get l.sections section ≡ Some is

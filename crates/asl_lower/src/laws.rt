@@ -80,7 +80,7 @@ pub fn limits_are_kept()
     ensures kept_main { (l : Lowered) → IsKept l → HasMain l }
 {}
 
-/// Where control goes on from a region is a point of it, or its end. A section is entered at its first point, or at its
+/// Where control continues from a region is a point of it, or its end. A section is entered at its first point, or at its
 /// end; and where a section is open, the place is a point of the outermost one, or its end.
 pub fn regions_are_left_at_their_ends()
     ensures goes_on { (l : Lowered) → IsKept l → (r : Region) (f pc to : ℕ) (i : Instr) → IsIn l r f pc → slice_get l.code pc ≡ Some i → GoesOn i pc to → IsIn l r f to ⊎ IsEnd l r to }
@@ -94,7 +94,7 @@ pub fn open_sections_are_distinct()
 {}
 
 /// Behind an `acq` its section is the innermost that is open. The outermost stays so with each step until its own `rel`,
-/// behind which nothing is open.
+/// after which nothing is open.
 pub fn the_outermost_section_stays()
     ensures opened { (l : Lowered) (pc n : ℕ) → slice_get l.code pc ≡ Some (Instr.Acquire n) → open_at l.code (suc pc) ≡ n ∷ open_at l.code pc }
     ensures stays { (l : Lowered) → IsKept l → (pc to n : ℕ) (i : Instr) → slice_get l.code pc ≡ Some i → GoesOn i pc to → outermost (open_at l.code pc) ≡ Some n → ¬ (release_of l n ≡ Some pc) → outermost (open_at l.code to) ≡ Some n }

@@ -129,7 +129,7 @@ impl Lowering {
         }
     }
 
-    /// Where control may go on from a pc, in the same body.
+    /// Where control may continue from a pc, in the same body.
     pub fn successors(&self, pc: u16) -> ArrayVec<u16, 2>
         requires { pc < length self.now.code }
         ensures goes_on { (i : Instr) → slice_get self.now.code pc ≡ Some i → (to : ℕ) → Contains result.items to ↔ GoesOn i pc to }
@@ -146,7 +146,7 @@ impl Lowering {
     }
 }
 
-/// Where control may go on from an instruction at a pc, in the same body.
+/// Where control may continue from an instruction at a pc, in the same body.
 fn successors(instr: &Instr, pc: u16) -> ArrayVec<u16, 2>
     requires { pc < 65535 }
     ensures { result.items ≡ successors instr.now pc }

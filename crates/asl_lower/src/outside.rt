@@ -128,7 +128,7 @@ struct Access {
     pc: u16,
 }
 
-/// The pc behind statements that begin at a pc, or the first access outside sections in them.
+/// The pc after statements that begin at a pc, or the first access outside sections in them.
 #[cycle(access)]
 fn pass_block(pc: usize, block: &[Statement]) -> Result<usize, Access>
     requires { pc + block_size (block_of block.now) ≤ 65535 }
@@ -143,7 +143,7 @@ fn pass_block(pc: usize, block: &[Statement]) -> Result<usize, Access>
     Ok(pc)
 }
 
-/// The pc behind a statement that begins at a pc, or the first access outside sections in it.
+/// The pc after a statement that begins at a pc, or the first access outside sections in it.
 #[cycle(access)]
 fn pass_statement(pc: usize, statement: &Statement) -> Result<usize, Access>
     requires { pc + stmt_size (statement_of statement.now) ≤ 65535 }
@@ -175,7 +175,7 @@ fn jumps_over(second: &[Statement]) -> usize
     if second.is_empty() { 0 } else { 1 }
 }
 
-/// The pc behind the code of a value that begins at a pc, or its access.
+/// The pc after the code of a value that begins at a pc, or its access.
 fn pass_value(pc: usize, value: &Value) -> Result<usize, Access>
     requires { pc + value_size (value_of value.now) ≤ 65535 }
     ensures past { IfOk result (λ past. past ≡ pc + value_size (value_of value.now)) }

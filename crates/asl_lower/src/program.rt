@@ -49,7 +49,7 @@ fn lower_items(alloc: Global, items: &[Item]) -> Result<Lowering, LowerFault>
 ///
 /// # Errors
 ///
-/// The first fault of the program; `OutOfMemory` where a growth was refused.
+/// The first fault of the program; `OutOfMemory` where an allocation failed.
 pub fn lower(alloc: Global, ast: &Ast) -> Result<Lowering, LowerFault>
     ensures lowering { IfOk result (λ l. IsLowering (tree_of ast.now) l) }
     ensures room { IfOk result (λ _. HasRoom (tree_of ast.now)) }

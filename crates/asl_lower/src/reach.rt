@@ -25,7 +25,7 @@ enum Calls {
     All,
 }
 
-/// How many sections are open behind an instruction.
+/// How many sections are open after an instruction.
 fn depth_behind(depth: usize, instr: &Instr) -> usize
     requires { depth < 2 ^ 63 }
     ensures { result ≡ depth_behind instr.now depth }

@@ -16,7 +16,7 @@ pub fn has_few_instructions(items: &[Item]) -> bool
     left_behind_items(Output::MAX_LEN, items).is_some()
 }
 
-/// How many of so many instructions are left behind the code of the functions, if there are enough.
+/// How many of so many instructions are left after the code of the functions, if there are enough.
 fn left_behind_items(most: usize, items: &[Item]) -> Option<usize>
     ensures enough { IfSome result (λ left. functions_size (functions_of (map item_of items.now)) + left ≡ most) }
     ensures short { IfNone result (most < functions_size (functions_of (map item_of items.now))) }
@@ -30,7 +30,7 @@ fn left_behind_items(most: usize, items: &[Item]) -> Option<usize>
     Some(left)
 }
 
-/// How many of so many instructions are left behind the code of statements, if there are enough.
+/// How many of so many instructions are left after the code of statements, if there are enough.
 #[cycle(size)]
 fn left_behind_block(most: usize, block: &[Statement]) -> Option<usize>
     ensures enough { IfSome result (λ left. block_size (block_of block.now) + left ≡ most) }
@@ -43,7 +43,7 @@ fn left_behind_block(most: usize, block: &[Statement]) -> Option<usize>
     Some(left)
 }
 
-/// How many of so many instructions are left behind the code of a statement, if there are enough.
+/// How many of so many instructions are left after the code of a statement, if there are enough.
 #[cycle(size)]
 fn left_behind_statement(most: usize, statement: &Statement) -> Option<usize>
     ensures enough { IfSome result (λ left. stmt_size (statement_of statement.now) + left ≡ most) }

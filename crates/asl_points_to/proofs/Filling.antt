@@ -42,7 +42,7 @@ put_forced c s rows place m h f e = record {
   cells = f.cells;
 }
 
--- the draft behind one in which the cells of the class of `x` pointed nowhere
+-- the draft after one in which the cells of the class of `x` pointed nowhere
 pub record IsFill (s : Draft) (x m here : ℕ) : Type 0 where
   pub draft : IsDraft s
   pub there : x < length s.sets

@@ -14,7 +14,7 @@ first_joined [] kept gone m lt = sym (joined_other kept gone 0 (omega arith))
 first_joined (f ∷ fs) kept gone zero lt = refl
 first_joined (f ∷ fs) kept gone (suc m) lt = first_joined fs kept gone m lt
 
--- a draft in which `kept` and `gone` were first members of classes, and the one behind it
+-- a draft in which `kept` and `gone` were first members of classes, and the one after it
 pub record IsJoin (old : Draft) (sets : List ℕ) (cells : Vec (Option ℕ) Global) (left right kept gone : ℕ) (both : Option (ℕ × ℕ)) : Type 0 where
   pub draft : IsDraft old
   pub left_there : left < length old.sets

@@ -5,7 +5,7 @@ use Rattle.asl_points_to.specs.declared.fault.ClassesFault.{ClassesFault}
 use Rattle.asl_points_to.specs.declared.fault.ClassesFault.TheVariants.{TooManyClasses, OutOfMemory}
 use Rattle.asl_points_to.specs.Classes.{Classed, AreClasses}
 
--- the classes of the program are more than 1,024; want of memory says nothing of the program
+-- the classes of the program are more than 1,024; running out of memory says nothing of the program
 abbrev pub IsRefused : Lowered → ClassesFault → Type 0
 IsRefused l TooManyClasses = (c : Classed) × AreClasses l c × (1024 < c.count)
 IsRefused l OutOfMemory = Unit {0}

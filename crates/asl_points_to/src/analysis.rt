@@ -61,7 +61,7 @@ fn numbered(
 ///
 /// # Errors
 ///
-/// `TooManyClasses` for more than 1,024; `OutOfMemory` where a growth was refused.
+/// `TooManyClasses` for more than 1,024; `OutOfMemory` where an allocation failed.
 pub fn classes(alloc: Global, lowering: &Lowering) -> Result<Classes, ClassesFault>
     ensures classes { IfOk result (AreClasses lowering.now) }
     ensures few { IfOk result (λ c. c.count ≤ 1024) }

@@ -3,7 +3,7 @@
 use std::alloc::AllocError;
 use thiserror::Error;
 
-/// Why a program has no classes. The first that applies is answered; want of memory may come before
+/// Why a program has no classes. The first that applies is answered; running out of memory may come before
 /// too many classes are found, and is answered then.
 #[derive(Clone, Copy, Debug, PartialEq, Eq, Error)]
 pub enum ClassesFault {

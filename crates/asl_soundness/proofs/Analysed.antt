@@ -12,7 +12,7 @@ use Rattle.asl_soundness.specs.Coded.{IsImageOf}
 use Rattle.asl_soundness.specs.Protected.{LockThere}
 use Rattle.asl_soundness.specs.Safe.{StandOver, TellsAllStores}
 
--- the image of a lowering, with legal classes, whose lists stand over a closed family of locks; each of these begins on a
+-- the image of a lowering, with legal classes, whose lists cover a closed family of locks; each of these begins on a
 -- register, or on a global that is there
 pub record IsAnalysed (l : Lowered) (c : Classed) (stores : ℕ → ℕ → Bool) (longest : ℕ) (K : Family) (image : Image) : Type 0 where
   pub kept : IsKept l

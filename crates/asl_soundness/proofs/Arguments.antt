@@ -9,7 +9,7 @@ use Rattle.asl_machine.specs.Calls.{first_registers, values_from}
 use Rattle.asl_machine.proofs.Lists.{get_before, replicated}
 use Rattle.asl_soundness.proofs.Protecting.{get_within}
 
--- what stands in a list or behind it
+-- what stands in a list or after it
 pub filled : (xs : List Value) (m r : ℕ) (z v : Value) → slice_get (xs ++ replicate m z) r ≡ Some v → (slice_get xs r ≡ Some v) ⊎ (v ≡ z)
 filled [] m r z v e = inr (replicated m r z v e)
 filled (x ∷ xs) m zero z v e = inl e

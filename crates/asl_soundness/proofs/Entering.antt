@@ -1,4 +1,4 @@
--- After a grant of a list's request, what a lock of the list stands over is protected.
+-- After a grant of a list's request, what a lock of the list covers is protected.
 use Rattle.std.proofs.Common.{◌≡◌, ℕ, suc, true, false, List, [], ◌∷◌, Some, slice_get, refl, ap, sym, ◌∙◌, subst, inl, inr}
 use Rattle.std.specs.Prelude.{IsTrue}
 use Rattle.std.proofs.lemmas.Bool.{or_left, or_right}

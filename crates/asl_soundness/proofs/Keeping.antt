@@ -1,4 +1,4 @@
--- What keeps the locks of a frame protected while other frames and other threads go on: a thread that is covered for at least
+-- What keeps the locks of a frame protected while other frames and other threads continue: a thread that is covered for at least
 -- what it was, a store to a cell that none of its locks reads, and objects that are added.
 use Rattle.std.proofs.Common.{◌≡◌, ◌≢◌, ℕ, ◌<◌, ◌||◌, ◌++◌, Bool, true, false, List, [], ◌∷◌, Option, Some, length, refl, subst, inl, inr}
 use Rattle.std.specs.Prelude.{IsTrue}

@@ -1,5 +1,5 @@
 -- The law of links of one step: where all to which a lock is linked is protected before the step of a thread that stays in its
--- frame and in a section, the lock is protected behind it.
+-- frame and in a section, the lock is protected after it.
 use Rattle.std.proofs.Common.{◌≡◌, ◌≢◌, ℕ, suc, ◌+◌, ◌<◌, ◌++◌, Bool, List, [], ◌∷◌, Some, None, length, slice_get, refl, ap, sym, ◌∙◌, subst, inl, inr, arith}
 use Rattle.std.specs.Prelude.{unwrap_or}
 use Rattle.std.proofs.lemmas.Option.{same_Some}
@@ -71,7 +71,7 @@ module _ (l : Lowered) (c : Classed) (stores : ℕ → ℕ → Bool) (longest : 
   ends : (thread : Thread) (holding : Holding) (new : State) → activity_of thread ≡ None → new ≡ after s t thread s.objects holding → IsBehind new
   ends thread holding new none e = ends_on Behind s t h.there s.objects holding new thread none e
 
-  -- an instruction with such a law, which goes on in the frame
+  -- an instruction with such a law, which continues in the frame
   linked : (i : Instr) (depth : ℕ) (g : Frame) (objects : List Object) (new : State) → AllProtected k t s.objects a.top.regs (link v i n) → GlobalsThere c i →
       ((e : Expr) (effect : Effect) → BaseThere c e.base → AllProtected k t s.objects a.top.regs (before v i e effect) → Protected k t objects g.regs (lock.Expr e effect)) →
       new ≡ after s t (Running (going_on a depth g)) objects s.holding → IsBehind new

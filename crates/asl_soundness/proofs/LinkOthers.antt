@@ -1,4 +1,4 @@
--- A lock of a frame that is protected with its dereferenced prefixes is protected behind each step of another thread.
+-- A lock of a frame that is protected with its dereferenced prefixes is protected after each step of another thread.
 use Rattle.std.proofs.Common.{◌≡◌, ◌≢◌, ℕ, zero, suc, ◌++◌, List, [], ◌∷◌, Option, Some, slice_get, refl, sym, subst}
 use Rattle.std.proofs.lemmas.Option.{same_Some}
 use Rattle.asl_code.specs.declared.image.Image.{Image}
@@ -74,7 +74,7 @@ module _ (l : Lowered) (c : Classed) (image : Image) (made : IsImageOf l c image
   changed new (Writes cell value w e) regs points away n there read p = subst (λ objects. Protected k t objects regs n) (sym e) (stored cell value w regs away n there read p)
   changed new (Adds more e) regs points away n there read p = subst (λ objects. Protected k t objects regs n) (sym e) (added more regs points n there p)
 
-  -- and under the holding behind the step, of which its own part is the same
+  -- and under the holding after the step, of which its own part is the same
   pub others_leave : (place : ℕ) (f : Frame) (n : Lock) → slice_get (a.top ∷ a.below) place ≡ Some f → LockThere c n → AllProtected k t s.objects f.regs (dereferenced n) → Protected k t s.objects f.regs n →
       Protected (cover (step_of image s u).state.holding a.fresh) t (step_of image s u).state.objects f.regs n
   others_leave place f n at there read p =

@@ -98,7 +98,7 @@ link_there v i (lock.Expr e effect) g there = all_settle_there v (before v i e e
 
 -- ---- one instruction
 
--- for an instruction that keeps the holding: where all to which a lock is linked is protected before it, the lock is behind it
+-- for an instruction that keeps the holding: where all to which a lock is linked is protected before it, the lock is after it
 pub link_protects : (v : View) (k : Cover) (t : ℕ) (objects new : List Object) (regs after : List Value) (i : Instr) → Stands v objects regs → GlobalsThere v.classes i →
     ((e : Expr) (effect : Effect) → BaseThere v.classes e.base → AllProtected k t objects regs (before v i e effect) → Protected k t new after (lock.Expr e effect)) →
     (n : Lock) → LockThere v.classes n → AllProtected k t objects regs (link v i n) → Protected k t new after n

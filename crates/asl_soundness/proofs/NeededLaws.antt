@@ -12,7 +12,7 @@ use Rattle.asl_soundness.specs.Safe.{StandOver, TellsAllStores}
 use Rattle.asl_soundness.proofs.Analysed.{IsAnalysed}
 use Rattle.asl_soundness.proofs.Based.{needed_there}
 
--- a program whose lists stand over the needed locks is analysed
+-- a program whose lists cover the needed locks is analysed
 pub needed_analysed : (l : Lowered) (c : Classed) (stores : ℕ → ℕ → Bool) (longest : ℕ) (image : Image) → IsKept l → IsImageOf l c image → TellsAllStores l c stores → StandOver l c (Needed l c stores longest) image →
     IsAnalysed l c stores longest (Needed l c stores longest) image
 needed_analysed l c stores longest image kept made told lists = record {

@@ -59,7 +59,7 @@ closed_behind i e = refl
 -- ---- one line
 
 module _ (l : Lowered) (nests : IsNested l) (a : Activity) (nested : IsNestedAt l a) where
-  -- the top frame goes on at another place of its body, the depth with what is open there
+  -- the top frame continues at another place of its body, the depth with what is open there
   pub goes_on : (depth : ℕ) (top : Frame) → top.function ≡ a.top.function → depth + length (open_at l.code a.top.pc) ≡ a.depth + length (open_at l.code top.pc) → IsNestedAt l (going_on a depth top)
   goes_on depth top same e =
       let d = nested.depth in

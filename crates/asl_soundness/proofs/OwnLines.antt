@@ -82,7 +82,7 @@ module _ (l : Lowered) (c : Classed) (stores : ℕ → ℕ → Bool) (longest : 
   number i r w new at goes plain globals lt none same e =
       sets i r w new at goes plain globals (λ d effect there all. number_row (cover s.holding a.fresh) t s.objects a.top.regs r lt d effect w none (subst (AllProtected (cover s.holding a.fresh) t s.objects a.top.regs) (same d effect) all)) e
 
-  -- an instruction that changes no register, and goes on at the target
+  -- an instruction that changes no register, and continues at the target
   moves : (i : Instr) (target : ℕ) (new : State) → slice_get l.code a.top.pc ≡ Some i → GoesOn i a.top.pc target → is_acquire i ≡ false → GlobalsThere c i → ((e : Expr) (effect : Effect) → before v i e effect ≡ lock.Expr e effect ∷ []) →
       GoesTo (at_of image s t a) target new → IsOwned new
   moves i target new at goes plain globals same e =

@@ -1,4 +1,4 @@
--- The region of a frame: its instruction is one of the region, and control goes on in it until its end.
+-- The region of a frame: its instruction is one of the region, and control continues in it until its end.
 use Rattle.std.proofs.Common.{◌≡◌, ℕ, suc, ◌||◌, Bool, true, false, cond, List, [], ◌∷◌, Option, Some, None, slice_get, refl, ap, ap₂, sym, ◌∙◌, subst, inl, inr, arith}
 use Rattle.std.specs.Prelude.{option_map}
 use Rattle.std.proofs.lemmas.Option.{same_Some}
@@ -50,7 +50,7 @@ module _ (l : Lowered) (lay : HasLayout l) (f : Frame) (below : List Frame) (bod
       let next : to ≡ suc f.pc = subst (λ j. GoesOn j f.pc to) is goes in
       ap (open_at l.code) next ∙ outermost_left l lay f.pc n end out
 
-  -- where control goes on in a region, it was in it: at an instruction that enters none
+  -- where control continues in a region, it was in it: at an instruction that enters none
   pub region_goes : (g : Frame) (i : Instr) → slice_get l.code f.pc ≡ Some i → GoesOn i f.pc g.pc → g.function ≡ f.function → (is_inside l below ≡ false → open_at l.code f.pc ≡ [] → open_at l.code g.pc ≡ []) →
       (r : Region) → region_of l g below ≡ Some r → (region_of l f below ≡ Some r) × IsIn l r f.function f.pc
   region_goes g i at goes same none r e =

@@ -46,7 +46,7 @@ module _ (k : Cover) (t : ℕ) (objects : List Object) (regs : List Value) (a : 
         | false ↦ λ p. p (lock.Expr e effect) (inl refl)
       ] all)
 
-  -- `int`, `null`, `add` and the like: what is set is no address
+  -- `int`, `null`, `add` and the like: what is set is not an address
   pub number_row : (v : Value) → pointed v ≡ None → AllProtected k t objects regs (replaced a e effect []) → Protected k t objects (set regs a v) (lock.Expr e effect)
   number_row v none all =
       set_row v [] all (λ p. subst (CellProtected k t objects effect) (sym (ap (path_cell (heap_of objects) e.path) none ∙ no_cell_from_none (heap_of objects) e.path)) tt)

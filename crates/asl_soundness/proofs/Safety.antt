@@ -1,4 +1,4 @@
--- An access of a thread that has what it wants is allowed; so no line of such a thread is a fault for want of a lock.
+-- An access of a thread that has what it wants is allowed; so no line of such a thread is a fault for a missing lock.
 use Rattle.std.proofs.Common.{◌≡◌, ℕ, suc, ◌&&◌, ◌||◌, Bool, true, false, cond, List, [], ◌∷◌, Some, IsTrue, slice_get, refl, ap, ap₂, sym, ◌∙◌, subst, inl, arith, rules}
 use Rattle.std.specs.Prelude.{option_and_then, nat_lt, nat_le}
 use Rattle.std.specs.Option.{option_map_or}

@@ -68,7 +68,7 @@ module _ (l : Lowered) (c : Classed) (stores : ℕ → ℕ → Bool) (longest : 
   pub nested : IsNestedAt l a
   nested = q.structured.nested t a q.here.is
 
-  -- an instruction with such a law that goes on in the frame, and enters no outermost section
+  -- an instruction with such a law that continues in the frame, and enters no outermost section
   pub goes_on : (k : Cover) → HasWanted l c stores longest K k t s.objects a → (i : Instr) (depth : ℕ) (g : Frame) (new : List Object) → slice_get l.code a.top.pc ≡ Some i → GoesOn i a.top.pc g.pc → g.function ≡ a.top.function →
       (is_inside l a.below ≡ false → open_at l.code a.top.pc ≡ [] → open_at l.code g.pc ≡ []) → GlobalsThere c i →
       ((e : Expr) (effect : Effect) → BaseThere c e.base → AllProtected k t s.objects a.top.regs (before own_view i e effect) → Protected k t new g.regs (lock.Expr e effect)) →

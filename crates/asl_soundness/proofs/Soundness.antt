@@ -74,7 +74,7 @@ module _ (l : Lowered) (c : Classed) (stores : ℕ → ℕ → Bool) (longest : 
   replies_safe [] s h = All-nil IsSafe
   replies_safe (t ∷ ts) s h = All-cons IsSafe (step_of image s t).reply (replies_of image (step_of image s t).state ts) (step_safe s t h) (replies_safe ts (step_of image s t).state (step_good s t h))
 
-  -- no reply of any schedule is a fault for want of a lock, for a section that was not entered, or for one left open
+  -- no reply of any schedule is a fault for a missing lock, for a section that was not entered, or for one left open
   pub sound_program : NeverFaultsForLocks image
   sound_program count schedule replies end run =
       let good = start_good count in

@@ -42,7 +42,7 @@ module _ (l : Lowered) (c : Classed) (image : Image) (made : IsImageOf l c image
         | Some i ↦ λ is f. (i, is, same_Some (classed c i) j f)
       ] refl mapped
 
-  -- the call behind which a frame waits stands in the lowering too
+  -- the call after which a frame waits stands in the lowering too
   pub call_at : (objects : List Object) (above : ℕ) (result : Option ℕ) (f : Frame) → (u : IsSuspended image objects above result f) → slice_get l.code u.call ≡ Some (instr.Call u.to u.first above)
   call_at objects above result f u =
       let i = lowered_at u.call (instr.Call u.to u.first above) u.calls in

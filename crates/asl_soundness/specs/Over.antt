@@ -14,7 +14,7 @@ covers_effect Write other = true
 covers_effect Read Read = true
 covers_effect Read Write = false
 
--- the first lock stands over the second in a function: it is the root, the same class, the class of the expression or the
+-- the first lock covers the second in a function: it is the root, the same class, the class of the expression or the
 -- same expression, with an effect at least as strong
 abbrev pub StandsOver : Classed → ℕ → Lock → Lock → Type 0
 StandsOver c function (lock.Root effect) n = IsTrue (covers_effect effect (effect_of n))

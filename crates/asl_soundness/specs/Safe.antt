@@ -1,4 +1,4 @@
--- The promise: no run of an image ever faults for want of a lock (docs/SOUNDNESS.md, "The statement").
+-- The promise: no run of an image ever faults for a missing lock (docs/SOUNDNESS.md, "The statement").
 use Rattle.std.specs.Prelude.{◌≡◌, ℕ, suc, Bool, true, List, Some, slice_get, All}
 use Rattle.asl_code.specs.declared.image.Image.{Image}
 use Rattle.asl_code.specs.declared.lock.Lock.{Lock}
@@ -16,7 +16,7 @@ use Rattle.asl_machine.specs.State.{State}
 use Rattle.asl_machine.specs.Run.{start_of, RunsBy}
 use Rattle.asl_soundness.specs.Over.{StandsOver}
 
--- a reply that is no fault for want of a lock, for leaving a section that was not entered, or for one that was left open
+-- a reply that is not a fault for a missing lock, for leaving a section that was not entered, or for one that was left open
 abbrev pub IsSafe : Reply → Type 0
 IsSafe (reply.Fault (fault.Unprotected cell effect)) = ⊥
 IsSafe (reply.Fault fault.NoSection) = ⊥
@@ -28,7 +28,7 @@ abbrev pub NeverFaultsForLocks : Image → Type 0
 NeverFaultsForLocks image =
     (count : ℕ) (schedule : List ℕ) (replies : List Reply) (end : State) → RunsBy image (start_of image count) schedule replies end → All IsSafe replies
 
--- for each lock that the family has behind the `acq` of a section, a lock of the section's list stands over it
+-- for each lock that the family has after the `acq` of a section, a lock of the section's list covers it
 abbrev pub StandOver : Lowered → Classed → Family → Image → Type 0
 StandOver l c K image =
     (section : ℕ) (s : Section) (list : List Lock) (n : Lock) → slice_get l.sections section ≡ Some s → slice_get image.lists section ≡ Some list →

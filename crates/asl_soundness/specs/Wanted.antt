@@ -18,7 +18,7 @@ use Rattle.asl_soundness.specs.Protected.{Protected}
 abbrev pub AreProtected : Cover → ℕ → List Object → List Value → (Lock → Type 0) → Type 0
 AreProtected k t objects regs Wanted = (n : Lock) → Wanted n → Protected k t objects regs n
 
--- the lock is one that the call, behind which the frame waits, leaves of what the family has behind it
+-- the lock is one that the call, after which the frame waits, leaves of what the family has after it
 pub record IsLeft (l : Lowered) (c : Classed) (stores : ℕ → ℕ → Bool) (longest : ℕ) (K : Family) (f : Frame) (r : Region) (n : Lock) : Type 0 where
   pub call : ℕ
   pub to : ℕ

@@ -1,5 +1,5 @@
 //! The second and the third pass, and the end: a law of one step, whatever the lists, and laws of the runs of a program whose
-//! lists stand over the locks that it needs, as functions that do nothing: what each ensures is the law.
+//! lists cover the locks that it needs, as functions that do nothing: what each ensures is the law.
 ghost use Rattle.std.specs.Prelude.{◌≡◌, ◌≢◌, ◌<◌, ℕ, ◌∷◌, Bool, Some, slice_get};
 ghost use Rattle.asl_code.specs.declared.image.Image.{Image};
 ghost use Rattle.asl_code.specs.declared.instr.Instr.{Instr};
@@ -18,9 +18,9 @@ ghost use Rattle.asl_soundness.specs.Protected.{Protected, LockThere};
 ghost use Rattle.asl_soundness.specs.Safe.{StandOver, TellsAllStores, NeverFaultsForLocks};
 ghost use Rattle.asl_soundness.specs.Wanted.{AreProtected, TopHas, WaitingHave};
 
-/// One step from a reached state, for any one lock. Of the thread's own step, in a section before and behind it and in the same
+/// One step from a reached state, for any one lock. Of the thread's own step, in a section before and after it and in the same
 /// frame, as over any instruction but a `call` and a `ret`: where each lock that the link over its instruction gives is
-/// protected before it, the lock is protected behind it. Of another thread's step: a lock that is protected for a frame with
+/// protected before it, the lock is protected after it. Of another thread's step: a lock that is protected for a frame with
 /// its dereferenced prefixes stays protected. Neither asks more of the lists than that the verifier takes them.
 pub fn links_keep_locks_protected()
     ensures own { (l : Lowered) (c : Classed) (stores : ℕ → ℕ → Bool) (longest : ℕ) (image : Image) (count : ℕ) (s : State) (t : ℕ) (a b : Activity) (i : Instr) (n : Lock)
@@ -48,8 +48,8 @@ pub fn needed_locks_are_protected()
         → TopHas l (Needed l c stores longest) (cover s.holding a.fresh) t s.objects a.top a.below }
 {}
 
-/// In each reached state, for each frame that waits behind a call, all locks that the call leaves of what the frame's region
-/// needs behind it are protected: over all that the callee does, and the steps of other threads.
+/// In each reached state, for each frame that waits after a call, all locks that the call leaves of what the frame's region
+/// needs after it are protected: over all that the callee does, and the steps of other threads.
 pub fn locks_of_waiting_frames_are_protected()
     ensures { (l : Lowered) (c : Classed) (stores : ℕ → ℕ → Bool) (longest : ℕ) (image : Image) (count : ℕ) (s : State) (t : ℕ) (a : Activity)
         → IsKept l → IsImageOf l c image → TellsAllStores l c stores → StandOver l c (Needed l c stores longest) image
@@ -57,7 +57,7 @@ pub fn locks_of_waiting_frames_are_protected()
         → WaitingHave l c stores longest (Needed l c stores longest) (cover s.holding a.fresh) t s.objects a.below }
 {}
 
-/// No run of such a program ever faults for want of a lock, for a section that was not entered, or for one left open.
+/// No run of such a program ever faults for a missing lock, for a section that was not entered, or for one left open.
 pub fn never_unprotected()
     ensures { (l : Lowered) (c : Classed) (stores : ℕ → ℕ → Bool) (longest : ℕ) (image : Image)
         → IsKept l → IsImageOf l c image → TellsAllStores l c stores → StandOver l c (Needed l c stores longest) image

@@ -1,4 +1,4 @@
-//! Soundness of inferred locks: a program whose lists stand over the locks that it needs never faults for want of a lock.
+//! Soundness of inferred locks: a program whose lists cover the locks that it needs never faults for a missing lock.
 //! Nothing is computed here; the laws are functions that do nothing.
 #![tactic(auto)]
 

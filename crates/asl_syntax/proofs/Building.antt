@@ -39,7 +39,7 @@ stopped_token y c s x all rest left bad h e o n =
     ∙ ap (λ (ss : List Spot). read_from y c s ss bad) (sym e)
     ∙ h
 
--- behind the last token
+-- after the last token
 pub at_last : (y : Tally) (c : Control) (s : Stack) (all : Option (List Item)) (rest : List Spot) (bad after : Option ℕ) → read_from y c s rest bad ≡ all → rest ≡ [] → bad ≡ after → whole_text c s after ≡ all
 at_last y c s all rest bad after h e b =
     ap (whole_text c s) (sym b) ∙ ap (λ (ss : List Spot). read_from y c s ss bad) (sym e) ∙ h
@@ -54,7 +54,7 @@ at_end : (y : Tally) (c : Control) (s : Stack) (bad : Option ℕ) (v : List Item
 at_end y c s None v e = record { tokens = refl; limits = refl; built = e }
 at_end y c s (Some at) v e = cc
 
--- behind a token
+-- after a token
 abbrev Goes : Tally → Option State → List Spot → Option ℕ → List Item → Type 0
 Goes y o xs bad v = (bad ≡ None) × ((over_from y xs ≡ None) × (built_with o (λ d r. built_from d r xs) ≡ Some v))
 

@@ -12,7 +12,7 @@ use Rattle.asl_syntax.specs.FirstFault.{IsOwnParameter, IsRepeated, IsFirstTwice
 use Rattle.asl_syntax.proofs.Among.{Among, among, contained}
 use Rattle.asl_syntax.proofs.Used.{Declares, declares_global, declares_function, same_bytes, declared_here, more_declared, one_declared}
 
--- ---- what is known behind some mentions
+-- ---- what is known after some mentions
 
 abbrev after : Space → List Mention → Names → Names
 after sp [] known = known
@@ -28,14 +28,14 @@ abbrev after_parameters : List Mention → Names → Names
 after_parameters [] ps = ps
 after_parameters (m ∷ ms) ps = after_parameters ms (step_parameters m ps)
 
--- the mention declares what is known behind the mentions
+-- the mention declares what is known after the mentions
 abbrev Seen : Names → Names → Names → List Mention → Mention → Type 0
 Seen gs fs ps ms (DeclaresGlobal x) = after Globals ms gs x ≡ true
 Seen gs fs ps ms (DeclaresFunction x) = after Functions ms fs x ≡ true
 Seen gs fs ps ms (DeclaresParameter x) = after_parameters ms ps x ≡ true
 Seen gs fs ps ms _ = ⊥
 
--- what is known behind one more mention
+-- what is known after one more mention
 abbrev SeenLater : Names → Names → Names → Mention → List Mention → Mention → Type 0
 SeenLater gs fs ps n ms m =
     Seen (with_declared (declared_in Globals n) gs) (with_declared (declared_in Functions n) fs) (step_parameters n ps) ms m

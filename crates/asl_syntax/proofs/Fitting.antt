@@ -12,7 +12,7 @@ use Rattle.asl_syntax.specs.Limit.{Tally, is_over, number_over}
 use Rattle.asl_syntax.specs.Fits.{NameFits, LineFits, OpeningFits, ActFits, NextFits}
 use Rattle.asl_syntax.specs.Fits as fits
 
--- those of a line so far; a number is to come behind the token that says its range
+-- those of a line so far; a number is to come after the token that says its range
 abbrev pub ControlFits : Control → Option Token → Type 0
 ControlFits ItemStart last = Unit {0}
 ControlFits AfterGlobal last = Unit {0}
@@ -175,7 +175,7 @@ moved_keeps t (Some (b, a)) q d r f e =
     let g : record { control = b; stack = apply a q } ≡ record { control = d; stack = r } = cc in
     subst P g f.0
 
--- and what stands behind it fits
+-- and what stands after it fits
 pub keeps_fitting : (c d : Control) (s r : Stack) (y : Tally) (t : Token) → ControlFits c y.last → is_over y t ≡ false → Some (record { control = d; stack = r }) ≡ next c s t → ControlFits d (Some t)
 keeps_fitting c d s r y t f h e =
     let q = ready c t s in

@@ -84,7 +84,7 @@ found_tree text t p =
     (found_none fault.Unknown (unknown t) _ None p.unknown
     (found_none fault.Arity (wrong_call t (tokens_of text)) _ None p.arity (ap main_fault p.main))))
 
--- a fault is found, or it is want of memory
+-- a fault is found, or it is running out of memory
 abbrev IsSaid : List ℕ → code.SyntaxFault → Type 0
 IsSaid text e = (text_fault text ≡ Some e) ⊎ (e ≡ fault.OutOfMemory)
 

@@ -10,7 +10,7 @@ use Rattle.asl_grammar.proofs.Scan.{spots_token, bad_token}
 use Rattle.asl_syntax.specs.Printed.{decimal, token_bytes, spaced}
 use Rattle.asl_syntax.proofs.Decimals.{IsDecimal, decimal_is}
 
--- what stands behind a printed token
+-- what stands after a printed token
 abbrev behind : List Token → List ℕ
 behind ts = spaced ts ++ 10 ∷ []
 
@@ -22,13 +22,13 @@ front_decimal : (n : ℕ) (ds r : List ℕ) → IsDecimal n ds → Apart r → f
 front_decimal n ds r d a =
     front_number ds r d.some d.digits a.digits ∙ ap (λ (k : ℕ). Some (Number k, length ds)) d.value
 
--- a token behind which a space or a newline stands
+-- a token after which a space or a newline stands
 front_token : (t : Token) (r : List ℕ) → IsTrue (is_token t) → Apart r → front (token_bytes t ++ r) ≡ Some (t, length (token_bytes t))
 front_token (Fixed m) r h a = front_mark m r a
 front_token (Name x) r h a = front_name x r h a.names
 front_token (Number n) r h a = front_decimal n (decimal n) r (decimal_is n) a
 
--- a token and all behind it, from any place on
+-- a token and all after it, from any place on
 read_token : (t : Token) (ts : List Token) (at : ℕ) → IsTrue (is_token t) → ((n : ℕ) → bare (spots (behind ts) 0 n) ≡ ts) → bare (spots ((token_bytes t ++ spaced ts) ++ 10 ∷ []) 0 at) ≡ t ∷ ts
 read_token t ts at h rest =
     let bs : List ℕ = token_bytes t in

@@ -134,7 +134,7 @@ item_spaced (FunctionItem f) r =
     ∙ ap (λ (bs : List ℕ). head_bytes f ++ bs) (append_assoc (block_bytes f.body) (last_line_bytes f.returned) (spaced r) ∙ ap (λ (bs : List ℕ). block_bytes f.body ++ bs) (last_line_spaced f.returned r) ∙ block_spaced f.body after)
     ∙ head_spaced f (block_on (block_writing f.body) after)
 
--- what is printed is the tree's own writing, each token behind a space
+-- what is printed is the tree's own writing, each token after a space
 pub items_spaced : (is : List Item) (r : List Token) → items_bytes is ++ spaced r ≡ spaced (program_on (writing is) r)
 items_spaced [] r = refl
 items_spaced (i ∷ is) r =

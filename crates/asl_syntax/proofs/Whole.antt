@@ -7,7 +7,7 @@ use Rattle.asl_syntax.specs.Limit.{Tally, is_over}
 use Rattle.asl_syntax.specs.Tallied.{noted}
 use Rattle.asl_syntax.specs.Built.{Stack, State, next, whole_at}
 
--- goes on from a state, if there is one
+-- continues from a state, if there is one
 abbrev pub built_with : Option State → (Control → Stack → Option (List Item)) → Option (List Item)
 built_with None go = None
 built_with (Some w) go = go w.control w.stack

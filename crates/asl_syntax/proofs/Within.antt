@@ -45,7 +45,7 @@ same_within t ts us r y h =
 sign_within : (ts us : List Token) → StaysWithin ts us → StaysWithin (Fixed mark.Becomes ∷ Fixed mark.Minus ∷ Number 0 ∷ ts) (Fixed mark.Becomes ∷ Number 0 ∷ us)
 sign_within ts us r y h = r (noted (noted y (Fixed mark.Becomes)) (Number 0)) h
 
--- the tally behind a block, with this many braces open
+-- the tally after a block, with this many braces open
 abbrev closed : Tally → ℕ → Tally
 closed y n = record {
   last = Some (Fixed mark.CloseBrace);

@@ -119,7 +119,7 @@ abbrev pub kind_of : List Frame → Kind
 kind_of [] = kind.Body
 kind_of (f ∷ fs) = header_kind f.header
 
--- behind the block of an `if` any token but `else` begins a new statement
+-- after the block of an `if` any token but `else` begins a new statement
 abbrev pub ready_then : Token → Stack → Stack
 ready_then (Fixed mark.Else) s = s
 ready_then _ s = record s { top = settle_part s.top }
@@ -143,7 +143,7 @@ moved (Some (c, a)) s = Some (record { control = c; stack = apply a s })
 abbrev pub next_ready : Control → Stack → Token → Option State
 next_ready c s t = moved (step c (kind_of s.frames) t) s
 
--- one token behind any control
+-- one token after any control
 abbrev pub next : Control → Stack → Token → Option State
 next c s t = next_ready (settled c t) (ready c t s) t
 

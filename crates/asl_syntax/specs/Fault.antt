@@ -21,7 +21,7 @@ pub record IsNoToken (text : List ℕ) (at : ℕ) : Type 0 where
   pub ascii : first_wide text ≡ None
   pub place : bad_place text ≡ Some at
 
--- the first token with which no program goes on, or the end
+-- the first token with which no program continues, or the end
 pub record IsNoProgram (text : List ℕ) (at : ℕ) : Type 0 where
   pub lexed : IsLexed text
   pub place : IsGrammarFault (tokens_of text) (length text) at
@@ -62,8 +62,8 @@ pub record IsWithoutMain (text : List ℕ) : Type 0 where
   pub arity : wrong_call tree (tokens_of text) ≡ None
   pub none : has_main tree ≡ false
 
--- want of memory hides no byte, token, line or limit: the text is a program within the limits, of which names alone are
--- left to judge. Only behind the beginning of a program that has more than 64 braces open does it take memory to tell
+-- running out of memory hides no byte, token, line or limit: the text is a program within the limits, of which names alone are
+-- left to judge. Only after the beginning of a program that has more than 64 braces open does it take memory to tell
 -- whether the text is one
 pub record IsOutOfMemory (text : List ℕ) : Type 0 where
   pub lexed : IsLexed text

@@ -1,4 +1,4 @@
--- Machinery of the proofs, not of the promise: which names and numbers the code's tree has room for. Texts within the
+-- Machinery of the proofs, not of the promise: which names and numbers the code's tree has capacity for. Texts within the
 -- limits of docs/SOURCE.md, which are those of specs/Limit, have no others.
 use Rattle.std.specs.Prelude.{ℕ, ◌≤◌, List, true, false, Option, Some, None, length}
 use Rattle.asl_grammar.specs.Token.{Token}

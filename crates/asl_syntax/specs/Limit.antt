@@ -29,7 +29,7 @@ abbrev pub one_more : Option ℕ → Option ℕ
 one_more None = None
 one_more (Some n) = Some (suc n)
 
--- how many names stand in the head of a function, its own name first, where only a head's tokens stand behind its `fn`
+-- how many names stand in the head of a function, its own name first, where only a head's tokens stand after its `fn`
 abbrev pub names_in_head : List Token → Option ℕ
 names_in_head [] = None
 names_in_head (Fixed mark.Fn ∷ ts) = Some 0

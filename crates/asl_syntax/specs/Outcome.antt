@@ -11,7 +11,7 @@ pub record HasTree (text : List ℕ) : Type 0 where
   pub tree : List Item
   pub parses : Parses text tree
 
--- it has a fault; want of memory is none
+-- it has a fault; running out of memory is none
 pub record HasFault (text : List ℕ) : Type 0 where
   pub found : code.SyntaxFault
   pub holds : IsFault text found

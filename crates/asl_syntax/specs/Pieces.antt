@@ -57,7 +57,7 @@ if_head x = mark_piece mark.If ++ (piece x ++ mark_piece mark.OpenBrace)
 abbrev pub while_head : List ℕ → List ℕ
 while_head x = mark_piece mark.While ++ (piece x ++ mark_piece mark.OpenBrace)
 
--- what stands between the two blocks of an `if`, and behind the second: an `else` is printed where it has statements
+-- what stands between the two blocks of an `if`, and after the second: an `else` is printed where it has statements
 abbrev pub else_open : Block → List ℕ
 else_open NoMore = mark_piece mark.CloseBrace
 else_open (Then s b) = mark_piece mark.CloseBrace ++ (mark_piece mark.Else ++ mark_piece mark.OpenBrace)

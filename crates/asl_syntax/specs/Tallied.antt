@@ -5,7 +5,7 @@ use Rattle.asl_grammar.specs.declared.token.Mark.TheVariants as mark
 use Rattle.asl_grammar.specs.Token.{Token, Fixed, Name}
 use Rattle.asl_syntax.specs.Limit.{Tally, one_more}
 
--- the names in a head behind one more token
+-- the names in a head after one more token
 abbrev pub head_after : Option ℕ → Token → Option ℕ
 head_after h (Fixed mark.Fn) = Some 0
 head_after h (Fixed mark.OpenParen) = h

@@ -42,7 +42,7 @@ impl Ast {
     ///
     /// # Errors
     ///
-    /// A growth was refused.
+    /// An allocation failed.
     pub fn globals(&self, alloc: Global) -> Result<Vec<&Name>, AllocError>
         ensures { IfOk result (λ v. map (λ x. x.now) v.items ≡ globals_of (tree_of self.now)) }
     {
@@ -59,7 +59,7 @@ impl Ast {
     ///
     /// # Errors
     ///
-    /// A growth was refused.
+    /// An allocation failed.
     pub fn functions(&self, alloc: Global) -> Result<Vec<&Function>, AllocError>
         ensures { IfOk result (λ v. map (λ f. function_of f.now) v.items ≡ functions_of (tree_of self.now)) }
     {

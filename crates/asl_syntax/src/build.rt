@@ -25,7 +25,7 @@ use asl_grammar::token::{Mark, Token};
 use std::alloc::{AllocError, Global};
 use std::mem;
 
-/// The number that digits behind a minus, or without one, say.
+/// The number that digits after a minus, or without one, say.
 fn number(minus: bool, digits: &[u8]) -> i32
     requires { RightFits (Literal minus (number_value digits.now)) }
     ensures { result ≡ literal minus (number_value digits.now) }
@@ -300,7 +300,7 @@ impl Builder {
         Ok(())
     }
 
-    /// Reads one token: the control behind it, or nothing where it may not stand.
+    /// Reads one token: the control after it, or nothing where it may not stand.
     fn advance<'t>(
         &mut self,
         control: Control<'t>,
@@ -334,7 +334,7 @@ impl Builder {
     }
 }
 
-/// The items of a text, or nothing where it is no program within the limits. Its tokens are read once.
+/// The items of a text, or nothing where it is not a program within the limits. Its tokens are read once.
 pub fn build(alloc: Global, text: &[u8]) -> Result<Option<Vec<Item>>, AllocError>
     ensures { IfOk result (λ items. MatchOption items (IsWritten text.now → ⊥) (λ v. IsSpelled text.now (items_of v))) }
 {

@@ -1,10 +1,10 @@
-//! Why a text is no program.
+//! Why a text is not a program.
 
 use crate::name::Name;
 use std::alloc::AllocError;
 use thiserror::Error;
 
-/// Why a text is no program, in the order in which faults are judged; each names its first place, or its first name.
+/// Why a text is not a program, in the order in which faults are judged; each names its first place, or its first name.
 #[derive(Debug, Drop, PartialEq, Eq, Error)]
 pub enum SyntaxFault {
     /// A byte is not ASCII.
@@ -13,7 +13,7 @@ pub enum SyntaxFault {
     /// Neither a blank nor a token stands there.
     #[error("Token({0})")]
     Token(usize),
-    /// No program goes on with the token there, or the text ends too early, at its length.
+    /// No program continues with the token there, or the text ends too early, at its length.
     #[error("Grammar({0})")]
     Grammar(usize),
     /// A limit is passed.

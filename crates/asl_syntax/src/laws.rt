@@ -59,7 +59,7 @@ pub fn a_printed_tree_is_spelled()
     ensures { (t : List Item) → Spells t (program_on (writing t) []) }
 {}
 
-/// Tokens with one space between and a newline behind are read back. So the text that a tree with real names is printed
+/// Tokens with one space between and a newline after are read back. So the text that a tree with real names is printed
 /// as is ASCII and all blanks and tokens, and its tokens are the tree's own spelling; a tree that some text spells has
 /// real names.
 pub fn a_printed_tree_is_lexed()
@@ -89,7 +89,7 @@ pub fn a_printed_ast_is_read_back(ast: &Ast)
     ensures answer { (r : Result Ast SyntaxFault) → IfOk r (λ a. Parses (printed (tree_of ast.now)) (tree_of a)) → IfErr r (IsFault (printed (tree_of ast.now))) → IsReadBack (tree_of ast.now) (printed (tree_of ast.now)) r }
 {}
 
-/// A text has one outcome: a tree, or one fault. Want of memory is no fault of a text, and may stand beside its outcome.
+/// A text has one outcome: a tree, or one fault. Running out of memory is not a fault of a text, and may stand beside its outcome.
 pub fn a_text_has_one_outcome()
     ensures some { (text : List ℕ) → HasTree text ⊎ HasFault text }
     ensures tree { (text : List ℕ) (t : List Item) (e : SyntaxFault) → Parses text t → IsFault text e → e ≡ OutOfMemory }

@@ -127,7 +127,7 @@ impl<'t> Counts<'t> {
         self.last = Some(token);
     }
 
-    /// How many names stand in the head of a function behind one more token, or nothing where that belongs to no head.
+    /// How many names stand in the head of a function after one more token, or nothing where that belongs to no head.
     #[inline(always)]
     fn head_after(&self, token: Token<'_>) -> Option<u32>
         ensures told { result ≡ head_after self.now.head (token_of token.entry) }

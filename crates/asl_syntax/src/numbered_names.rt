@@ -29,7 +29,7 @@ impl<'a> NumberedNames<'a> {
     ///
     /// # Errors
     ///
-    /// A growth was refused, which only a name that is not there yet may want. Then all is as it was.
+    /// An allocation failed, which only a name that is not there yet may want. Then all is as it was.
     pub fn add(&mut self, name: &'a Name, number: usize) -> Result<(), AllocError>
         ensures counts { IfOk result (λ _. counts_in self.new ≡ with_count name.now number (counts_in self.old)) }
         ensures names { IfOk result (λ _. names_known self.new ≡ with_name name.now (names_known self.old)) }

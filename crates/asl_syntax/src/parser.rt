@@ -95,7 +95,7 @@ fn check_names(alloc: Global, items: &[Item], text: &[u8]) -> Result<(), SyntaxF
 ///
 /// # Errors
 ///
-/// The first fault; `OutOfMemory` where a growth was refused, and then only for a program within the limits or a text with
+/// The first fault; `OutOfMemory` where an allocation failed, and then only for a program within the limits or a text with
 /// more than 64 braces open at once.
 pub fn parse(alloc: Global, text: &[u8]) -> Result<Ast, SyntaxFault>
     ensures ok { IfOk result (λ a. Parses text.now (tree_of a)) }

@@ -51,7 +51,7 @@ fn mark_bytes(mark: Mark) -> &'static [u8]
     }
 }
 
-/// Writes a token behind a space.
+/// Writes a token after a space.
 fn push_piece(out: &mut Vec<u8>, bytes: &[u8]) -> Result<(), AllocError>
     ensures { IfOk result (λ _. out.new.items ≡ out.old.items ++ piece bytes.now) }
 {
@@ -106,7 +106,7 @@ fn push_integer(out: &mut Vec<u8>, number: i32) -> Result<(), AllocError>
     push_number(out, number.unsigned_abs())
 }
 
-/// Writes names behind a first one.
+/// Writes names after a first one.
 fn push_later_names(out: &mut Vec<u8>, names: &[Name]) -> Result<(), AllocError>
     ensures { IfOk result (λ _. out.new.items ≡ out.old.items ++ later_names_bytes names.now) }
 {
@@ -258,7 +258,7 @@ fn open_else(out: &mut Vec<u8>, block: &[Statement]) -> Result<(), AllocError>
     }
 }
 
-/// Writes what stands behind the second block of an `if`.
+/// Writes what stands after the second block of an `if`.
 fn close_else(out: &mut Vec<u8>, block: &[Statement]) -> Result<(), AllocError>
     ensures { IfOk result (λ _. out.new.items ≡ out.old.items ++ else_close (block_of block.now)) }
 {
@@ -359,7 +359,7 @@ fn push_items(out: &mut Vec<u8>, items: &[Item]) -> Result<(), AllocError>
     Ok(())
 }
 
-/// The tokens of a program, each behind a space.
+/// The tokens of a program, each after a space.
 fn print_items(alloc: Global, items: &[Item]) -> Result<Vec<u8>, AllocError>
     ensures { IfOk result (λ v. v.items ≡ spaced (program_on (writing (map item_of items.now)) [])) }
 {
@@ -372,7 +372,7 @@ fn print_items(alloc: Global, items: &[Item]) -> Result<Vec<u8>, AllocError>
 ///
 /// # Errors
 ///
-/// A growth was refused.
+/// An allocation failed.
 pub fn print(alloc: Global, ast: &Ast) -> Result<Vec<u8>, AllocError>
     ensures { IfOk result (λ v. v.items ≡ printed (tree_of ast.now)) }
 {

@@ -1,4 +1,4 @@
--- the names behind a place have their numbers
+-- the names after a place have their numbers
 use Rattle.std.proofs.Common.{◌≡◌, ◌≤◌, drop, length}
 use Rattle.asl_syntax.specs.NumberedNamesView.{counts_in}
 use Rattle.asl_lower.specs.NamesView.{names_of}

@@ -20,7 +20,7 @@ inside_all is none l h =
     let P : Lowered → Type 0 = λ m. (function pc : ℕ) → ¬ IsBareAccess m function pc in
     subst P (one_lowering is (lowering_of is) l (lowering_of_is_lowering is) h) none
 
--- want of memory is the fault
+-- running out of memory is the fault
 only_memory : (is : List Item) (r : Result Lowered LowerFault) → IsErrAnd r (λ e. e ≡ OutOfMemory) → IsRefused is OutOfMemory → IfErr r (IsRefused is)
 only_memory is (Ok l) h k = tt
 only_memory is (Err e) h k = let P : LowerFault → Type 0 = IsRefused is in subst P (sym h) k
