@@ -62,6 +62,7 @@ fn read_command(
         "dis" => Ok(Invocation::Alone(Command::Disassemble)),
         "compile" => read_compile(alloc, values),
         "replay" => Ok(Invocation::Alone(Command::Replay)),
+        "log" => Ok(read_log(values)),
         "debug" => read_debug(alloc, values),
         "run" => read_run(alloc, values),
         _ => wrong_usage(alloc, "the command is unknown"),
@@ -121,6 +122,13 @@ fn read_compile(alloc: Global, values: &ArgMatches<'_>) -> Result<Invocation, Al
         }
         Err(word) => invalid(alloc, word, "--k <K>", A_PATH_LIMIT),
     }
+}
+
+fn read_log(values: &ArgMatches<'_>) -> Invocation
+    ensures { IsReading (codes "log") (rows_of (found_of values.now)) result }
+{
+    let trace = flag_at(values, "trace");
+    Invocation::Alone(Command::Log { trace })
 }
 
 /// Whether the flag was given.
@@ -236,6 +244,7 @@ fn refused(alloc: Global, error: &Error) -> Result<Invocation, AllocError>
     match error.kind() {
         ErrorKind::OutOfMemory => Err(AllocError),
         ErrorKind::DisplayHelp => Ok(Invocation::Help(error.to_string(alloc)?)),
+        ErrorKind::DisplayVersion => Ok(Invocation::Version),
         _ => Ok(Invocation::WrongUsage(error.to_string(alloc)?)),
     }
 }
