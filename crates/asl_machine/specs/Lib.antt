@@ -11,6 +11,8 @@ pub mod Fresh
 pub mod WellFormed
 pub mod View
 pub mod World
+pub mod Frames
+pub mod Asked
 -- Machinery of the proofs, not of the promise:
 pub mod Ready
 pub mod Asking

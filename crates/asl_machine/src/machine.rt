@@ -7,6 +7,10 @@ ghost use Rattle.asl_lock_forest.specs.declared.node.Node.{Node};
 ghost use Rattle.asl_machine.specs.Run.{start_of, first_threads, IsReached, IsThreadCount};
 ghost use Rattle.asl_machine.specs.State.{cell_at, size_of, class_of, activity_at, depth_at};
 
+mod readers;
+
+pub use readers::FramePlace;
+
 use crate::code::Code;
 use crate::fault::MachineFault;
 use crate::heap::Heap;

@@ -15,6 +15,7 @@ use Rattle.asl_tool.specs.declared.command.CommandFault.TheVariants as fault
 use Rattle.asl_tool.specs.Program.{IsNoProgram}
 use Rattle.asl_tool.specs.Compile.{IsCompiled, IsRefusedSource}
 use Rattle.asl_tool.specs.Debug.{IsDebugged}
+use Rattle.asl_tool.specs.Log.{IsLogged}
 use Rattle.asl_tool.specs.Replay.{IsReplayed, HasRefusedReplay}
 use Rattle.asl_tool.specs.RunFile.{IsFileFault}
 use Rattle.asl_tool.specs.Step.{IsStepped, IsSteppable, HasRefusedRun}
@@ -38,6 +39,7 @@ IsOutput command.Assemble input image = IsAssembled input image
 IsOutput command.Disassemble input text = IsDisassembled input text
 IsOutput (command.Compile longest as_text) input output = IsCompiled input longest as_text output
 IsOutput command.Replay input text = IsReplayed input text
+IsOutput (command.Log trace) input text = IsLogged input trace text
 IsOutput (command.Debug words) input text = IsDebugged input words.items text
 
 -- what each refusal of `step` says of the input; want of memory for the output comes only where the input is a program that
@@ -74,4 +76,5 @@ IsRefused command.Assemble input f = IsRefusedText input f
 IsRefused command.Disassemble input f = IsRefusedImage input f
 IsRefused (command.Compile longest as_text) input f = IsRefusedSource input longest f
 IsRefused command.Replay input f = IsRefusedReplay input f
+IsRefused (command.Log trace) input f = IsRefusedReplay input f
 IsRefused (command.Debug words) input f = IsRefusedReplay input f

@@ -1,12 +1,14 @@
 //! The commands: from the bytes of an input to those of the output.
 ghost use Rattle.std.specs.Prelude.{◌≡◌, IfOk, IfErr};
 ghost use Rattle.asl_tool.specs.Debug.{IsDebugged};
+ghost use Rattle.asl_tool.specs.Log.{IsLogged};
 ghost use Rattle.asl_tool.specs.Replay.{IsReplayed};
 ghost use Rattle.asl_tool.specs.Step.{IsStepped, written};
 ghost use Rattle.asl_tool.specs.Command.{IsAssembled, IsDisassembled, IsOutput, IsRefused, IsRefusedStep, IsRefusedText, IsRefusedImage, IsRefusedReplay};
 
 use crate::compiling::compiled;
 use crate::debugging::debugged_text;
+use crate::logging::logged_text;
 use crate::program::{ProgramFault, read_program};
 use crate::replaying::replayed_text;
 use crate::run_file::{FileFault, get_run, put_run};
@@ -68,6 +70,7 @@ pub fn output_of(alloc: Global, command: &Command, input: &[u8]) -> Result<Vec<u
         Command::Disassemble => disassembled(alloc, input),
         Command::Compile { longest, text } => compiled(alloc, longest, *text, input),
         Command::Replay => replayed(alloc, input),
+        Command::Log { trace } => logged(alloc, *trace, input),
         Command::Debug { words } => debugged(alloc, words.as_slice(), input),
     }
 }
@@ -154,6 +157,21 @@ fn replayed(alloc: Global, file: &[u8]) -> Result<Vec<u8>, CommandFault>
         Err(fault) => return Err(CommandFault::File(fault)),
     };
     match replayed_text(alloc, &program, &journal) {
+        Ok(text) => Ok(text.into_bytes()),
+        Err(fault) => Err(CommandFault::Journal(fault)),
+    }
+}
+
+/// The lines of the events of the run file, if it is a run of its program.
+fn logged(alloc: Global, trace: bool, file: &[u8]) -> Result<Vec<u8>, CommandFault>
+    ensures ok { IfOk result (λ text. IsLogged file.now trace text.items) }
+    ensures err { IfErr result (λ fault. IsRefusedReplay file.now fault) }
+{
+    let (program, journal) = match get_run(alloc, file) {
+        Ok(run) => run,
+        Err(fault) => return Err(CommandFault::File(fault)),
+    };
+    match logged_text(alloc, &program, &journal, trace) {
         Ok(text) => Ok(text.into_bytes()),
         Err(fault) => Err(CommandFault::Journal(fault)),
     }

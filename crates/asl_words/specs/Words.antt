@@ -47,6 +47,9 @@ IsDebugWord words (word.Move move.Previous) = words ≡ codes "prev" ∷ []
 IsDebugWord words (word.Break pc) = (text : Text) × (words ≡ codes "break" ∷ text ∷ []) × IsNumber text pc
 IsDebugWord words (word.Clear pc) = (text : Text) × (words ≡ codes "clear" ∷ text ∷ []) × IsNumber text pc
 IsDebugWord words word.View = words ≡ codes "view" ∷ []
+IsDebugWord words word.Asks = words ≡ codes "asks" ∷ []
+IsDebugWord words word.Stack = words ≡ codes "stack" ∷ []
+IsDebugWord words word.Objects = words ≡ codes "objects" ∷ []
 
 -- the words ask the debugger for these, one after the other
 abbrev pub AreDebugWords : List Text → List DebugWord → Type 0

@@ -218,12 +218,14 @@ pub const LOG: Page = Page {
 pub const DEBUG: Page = Page {
     about: "Goes back and forth in a recorded run",
     more: "Input: a run file (docs/JOURNAL.md)\n\
-        Output: a line for each word: 'at K' or 'refused NAME', for break P and clear P the word; and what view shows\n\
-        Words: goto K, forward, back, next, prev (breakpoints), view, break P, clear P (P: place in the code, from 0)\n\
+        Output: for each word 'at K' or 'refused NAME'; for break P and clear P the word; for the last four what they show\n\
+        Words: goto K, forward, back, next, prev (breakpoints), break P, clear P (P: place in the code, from 0),\n\
+        view (the machine), asks (what threads ask for, and who is in the way), stack (all frames), objects\n\
         \n\
         Examples, from the top of the repository:\n\
         \u{20} asl debug goto 4 back back view < examples/counter.run\n\
         \u{20} asl debug break 1 next next prev < examples/counter.run\n\
+        \u{20} asl debug goto 4 asks stack < examples/counter.run\n\
         \n\
         Status: 0 done; 1 refused, with one line 'asl: NAME' on standard error; 2 wrong usage.\n\
         \n\

@@ -22,7 +22,8 @@ const A_PATH_LIMIT: &str = "no number from 0 to 8";
 /// Where usage is explained.
 const HELP_IS_THERE: &str = "For more information, try '--help'.\n";
 /// What a word of the debugger must be.
-const A_WORD: &str = "none of goto, forward, back, next, prev, break, clear, view";
+const A_WORD: &str =
+    "none of goto, forward, back, next, prev, break, clear, view, asks, stack, objects";
 
 /// Judges the words, which are those after the program's name.
 ///
