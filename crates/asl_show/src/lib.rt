@@ -2,6 +2,7 @@
 #![tactic(auto)]
 
 mod asks;
+mod laws;
 mod nodes;
 mod objects;
 mod replies;
@@ -10,6 +11,7 @@ mod trace;
 mod view;
 
 pub use asks::push_asks;
+pub use laws::clashes_are_blocks;
 pub use objects::push_objects;
 pub use replies::push_line;
 pub use stack::push_stack;

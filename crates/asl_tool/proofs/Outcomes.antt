@@ -1,5 +1,5 @@
 -- A command has one outcome: its program is one, and what is made of it is one.
-use Rattle.std.proofs.Common.{◌≡◌, ◌≢◌, ℕ, ◌<◌, ◌⊎◌, inl, inr, List, [], take, arith, codes, All, Bool, Result, Ok, Err, MatchResult, refl, sym, ap, ◌∙◌, subst}
+use Rattle.std.proofs.Common.{◌≡◌, ◌≢◌, ◌↔◌, ℕ, ◌<◌, ◌⊎◌, inl, inr, List, [], take, arith, codes, All, Bool, false, Result, Ok, Err, MatchResult, refl, sym, ap, ◌∙◌, subst}
 use Rattle.std.proofs.lemmas.Bool.{both_ways, cases_Bool, cases_lt}
 use Rattle.std.proofs.lemmas.Slice.Eq.{bytes_eq-Decides}
 use Rattle.std.specs.Str.{bytes_eq}
@@ -29,15 +29,15 @@ use Rattle.asl_tool.specs.Program.{BeginsAsImage, IsProgram, IsNoProgram}
 use Rattle.asl_tool.specs.declared.run_file.FileFault.{FileFault}
 use Rattle.asl_tool.specs.declared.run_file.FileFault.TheVariants as file
 use Rattle.asl_tool.specs.RunFile.{IsFileOutcome}
-use Rattle.asl_tool.specs.Step.{IsStepped, written}
+use Rattle.asl_tool.specs.Step.{IsRecorded, IsStepped, written}
 use Rattle.asl_words.specs.declared.debug_word.DebugWord.{DebugWord}
 use Rattle.asl_tool.specs.Debug.{IsDebugged, IsTalk, opened}
-use Rattle.asl_tool.specs.Log.{log_text}
+use Rattle.asl_tool.specs.Log.{IsLogged, log_text}
 use Rattle.asl_tool.specs.Replay.{IsTold, same_text}
 use Rattle.asl_tool.specs.Command.{IsAssembled, IsDisassembled, IsOutput, IsRefused, IsRefusedStep, IsRefusedText, IsRefusedImage, IsRefusedReplay}
 use Rattle.asl_tool.proofs.Differences.{some_difference}
 use Rattle.asl_tool.proofs.Records.{RunOutcome, run_one, some_run}
-use Rattle.asl_tool.proofs.RunFiles.{files_have_an_outcome, file_outcome_is_one}
+use Rattle.asl_tool.proofs.RunFiles.{files_have_an_outcome, file_outcome_is_one, run_is_one}
 use Rattle.asl_tool.proofs.Talks.{talk_one, some_talk}
 use Rattle.asl_tool.proofs.Stored.{stored}
 use Rattle.asl_tool.specs.Outcome.{IsWantOfMemory, IsOutcome, IsSettled}
@@ -461,3 +461,32 @@ some_outcome texts bytes (command.Debug words) input settled all =
     let o = some_debug words.items input q.0 q.1 in
     (o.0, uncased (command.Debug words) input o.0 o.1)
 some_outcome texts bytes (command.Compile longest as_text) input settled all = absurd settled
+
+-- ---- `log` after `step --record`
+
+ok_same : (x y : List ℕ) → ◌≡◌ {A = Result (List ℕ) CommandFault} (Ok x) (Ok y) → x ≡ y
+ok_same x y e = cc
+
+-- the lines of the journal of the input over the schedule
+record_lines : (input file : List ℕ) (n : ℕ) (schedule : List ℕ) (r : IsRecorded input n schedule file) → IsStepped input n schedule false (written false r.image r.log)
+record_lines input file n schedule r = record { image = r.image; log = r.log; program = r.program; legal = r.legal; recorded = r.recorded; output_is = refl }
+
+pub log_is_step : TextsAreOne → BytesAreOne → (input file output : List ℕ) (n : ℕ) (schedule : List ℕ) → All (λ b. b < 256) input → IsRecorded input n schedule file
+    → (IsLogged file false output ↔ IsStepped input n schedule false output)
+log_is_step texts bytes input file output n schedule all r = (there, back)
+  where
+    there : IsLogged file false output → IsStepped input n schedule false output
+    there l =
+        let same = run_is_one r.image l.image r.log l.log file r.spelled l.run in
+        record { image = r.image; log = r.log; program = r.program; legal = r.legal; recorded = r.recorded; output_is = l.output_is ∙ ap (λ (g : Log). written false r.image g) (sym same.1) }
+    back : IsStepped input n schedule false output → IsLogged file false output
+    back s =
+        let one = step_one texts bytes n schedule false input (Ok (written false r.image r.log)) (Ok output) all
+        (step_is n schedule false input (Ok (written false r.image r.log)) (record_lines input file n schedule r)) (step_is n schedule false input (Ok output) s) in
+        record {
+          image = r.image;
+          log = r.log;
+          run = r.spelled;
+          journal = subst (λ (k : ℕ). IsJournal r.image k r.log.events) (sym r.recorded.threads_are) r.recorded.journal;
+          output_is = sym (ok_same (written false r.image r.log) output one);
+        }

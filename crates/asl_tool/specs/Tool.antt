@@ -14,7 +14,7 @@ use Rattle.asl_tool.specs.declared.streams.TheConstants.{MAX_INPUT}
 use Rattle.asl_tool.specs.declared.exit_status.ToolFault.{ToolFault}
 use Rattle.asl_tool.specs.declared.exit_status.ToolFault.TheVariants as fault
 use Rattle.asl_tool.specs.Streams.{AppendsPart, IsReadFault}
-use Rattle.asl_tool.specs.Command.{IsOutput, IsRefused}
+use Rattle.asl_tool.specs.Command.{IsOutput, IsRunFile, IsRefused}
 use Rattle.asl_tool.specs.Work.{IsWorkOutput, IsRefusedWork}
 
 -- what a command makes of an input, and why it may refuse to
@@ -24,7 +24,7 @@ pub record Promise : Type 1 where
 
 -- the promise of a command that waits for nobody
 abbrev pub of_command : Command → Promise
-of_command command = record { output = IsOutput command; refusal = IsRefused command }
+of_command command = record { output = λ input output. IsOutput command input output × IsRunFile command input output; refusal = IsRefused command }
 
 -- the promise of the command `run`
 abbrev pub of_team : Team → Promise
