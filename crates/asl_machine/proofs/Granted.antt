@@ -74,17 +74,19 @@ not_granted false never = refl
 pub granted_runs : (image : Image) (s : State) (t : ℕ) (request : Request) → request_at image s t ≡ Some request
     → ((step_of image s t).reply ≡ reply.Ran) ↔ CanGrant s.holding t request
 granted_runs image s t request e =
-    let told = asked_reply image s t request e in
-    (λ ran. can_grant-tells s.holding t request (ran_free (can_grant s.holding t request) (sym told ∙ ran)),
-    λ can. told ∙ ap answer (CanGrant-tested s.holding t request can))
+    let told = asked_reply image s t request e in (
+      λ ran. can_grant-tells s.holding t request (ran_free (can_grant s.holding t request) (sym told ∙ ran)),
+      λ can. told ∙ ap answer (CanGrant-tested s.holding t request can),
+    )
 
 pub refused_waits : (image : Image) (s : State) (t : ℕ) (request : Request) → request_at image s t ≡ Some request
     → ((step_of image s t).reply ≡ reply.Blocked) ↔ IsRefused s.holding t request
 refused_waits image s t request e =
-    let told = asked_reply image s t request e in
-    (λ blocked. can_grant-refused s.holding t request (blocked_taken (can_grant s.holding t request) (sym told ∙ blocked)),
-    λ refused. told ∙ ap answer (not_granted (can_grant s.holding t request)
-    (λ free. refused_cannot s.holding t request refused (can_grant-tells s.holding t request free))))
+    let told = asked_reply image s t request e in (
+      λ blocked. can_grant-refused s.holding t request (blocked_taken (can_grant s.holding t request) (sym told ∙ blocked)),
+      λ refused. told ∙ ap answer (not_granted (can_grant s.holding t request)
+          (λ free. refused_cannot s.holding t request refused (can_grant-tells s.holding t request free))),
+    )
 
 -- ---- the nodes that are asked for
 

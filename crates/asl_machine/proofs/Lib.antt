@@ -20,3 +20,4 @@ pub mod Rising
 pub mod Apart
 pub mod ReachedApart
 pub mod Machines
+pub mod Granted

@@ -9,8 +9,6 @@ ghost use Rattle.asl_machine.specs.State.{cell_at, size_of, class_of, activity_a
 
 mod readers;
 
-pub use readers::FramePlace;
-
 use crate::code::Code;
 use crate::fault::MachineFault;
 use crate::heap::Heap;
@@ -19,6 +17,7 @@ use crate::thread::Thread;
 use asl_code::{Cell, Program, Value};
 use asl_lock_forest::{Forest, Node};
 use asl_mode_lanes::Mode;
+pub use readers::FramePlace;
 use std::alloc::{AllocError, Global};
 use std::marker::Model;
 

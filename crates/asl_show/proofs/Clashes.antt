@@ -88,11 +88,15 @@ free_lines s t node m free = named (mode_name m)
           | inl same ↦ ap (λ (b : Bool). cond (b || is_compatible m (held s.holding u node)) [] line) (eq-eqb u t same)
           | inr other ↦ ap₂ (λ (a b : Bool). cond (a || b) [] line) (ne_eqb u t other) (free u other)
         ]
+
     named : (o : Option (List ℕ)) → option_map_or (clashes_at s t node m) o [] ≡ []
     named None = refl
     named (Some name) = lines_none (clash_at s t node m name) 0 (length s.threads) (one name)
 
 -- ---- all nodes
+
+nothing_there : false ≡ true → ⊥
+nothing_there e = cc
 
 -- where the lines of all nodes are none, each node that is there has none
 node_empty : (classes : ℕ) (s : State) (line : Node → List ℕ) (node : Node) → IsNode classes s.objects node → node_lines classes s line ≡ [] → line node ≡ []
@@ -109,17 +113,20 @@ node_empty classes s line (Leaf cell class) there e =
     let leaves : leaves_of s line cell.object class ≡ [] = sym (ap (λ (o : Option ℕ). option_map_or (leaves_of s line cell.object) o []) there.classed) ∙ own in
     lines_each (λ i. line (Leaf (cell_of cell.object i) class)) 0 (cell_count s cell.object) cell.offset (omega arith) (omega (arith, within.1)) leaves
   where
+    some_within : (cells : List Value) (offset : ℕ) (o : Option Value) → slice_get cells offset ≡ o → IsSome o → offset < length cells
+    some_within cells offset None at h = absurd (nothing_there h)
+    some_within cells offset (Some value) at h = slice_get_within cells offset value at
+
     sized : (o : Option Object) (offset : ℕ) → IsSome (option_and_then (λ (object : Object). slice_get object.cells offset) o)
         → offset < option_map_or (λ size. size) (option_map (λ (object : Object). length object.cells) o) 0
-    sized None offset h = absurd h
+    sized None offset h = absurd (nothing_there h)
     sized (Some object) offset h = some_within object.cells offset (slice_get object.cells offset) refl h
-    some_within : (cells : List Value) (offset : ℕ) (o : Option Value) → slice_get cells offset ≡ o → IsSome o → offset < length cells
-    some_within cells offset None at h = absurd h
-    some_within cells offset (Some value) at h = slice_get_within cells offset value at
+
     object_within : (objects : List Object) (number offset : ℕ) (o : Option Object) → slice_get objects number ≡ o
         → IsSome (option_and_then (λ (object : Object). slice_get object.cells offset) o) → number < length objects
-    object_within objects number offset None at h = absurd h
+    object_within objects number offset None at h = absurd (nothing_there h)
     object_within objects number offset (Some object) at h = slice_get_within objects number object at
+
     cell_within : (objects : List Object) (cell : Cell) → IsSome (option_and_then (λ (object : Object). slice_get object.cells cell.offset) (slice_get objects cell.object))
         → (cell.object < length objects) × (cell.offset < option_map_or (λ size. size) (size_of objects cell.object) 0)
     cell_within objects cell h = (object_within objects cell.object cell.offset (slice_get objects cell.object) refl h, sized (slice_get objects cell.object) cell.offset h)

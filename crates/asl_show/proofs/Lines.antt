@@ -1,6 +1,6 @@
 -- The lines of a view, as loops write them: those so far, and then those that are left.
 use Rattle.std.proofs.Common.{◌≡◌, ℕ, suc, ◌+◌, ◌-◌, ◌<◌, ◌≤◌, List, ◌++◌, refl, sym, ap, ◌∙◌, append_assoc, append-nil, add-one, arith}
-use Rattle.asl_show.specs.View.{lines_from}
+use Rattle.asl_show.specs.Lines.{lines_from}
 
 -- the lines of the numbers that are left
 abbrev left : (ℕ → List ℕ) → ℕ → ℕ → List ℕ

@@ -41,11 +41,18 @@ abbrev pub ask_line : ℕ → Request → Node → List ℕ
 ask_line t request node =
     option_map_or (λ name. codes "asks " ++ decimal t ++ codes " " ++ node_text node ++ codes " " ++ name ++ 10 ∷ []) (mode_name (asked request node)) []
 
+-- who asks for which node
+abbrev pub asker_text : ℕ → Node → List ℕ
+asker_text t node = codes "clash " ++ decimal t ++ codes " " ++ node_text node ++ codes " "
+
+-- the mode that is asked, by its name, and who holds the node in which one
+abbrev pub clashing_text : List ℕ → ℕ → List ℕ → List ℕ
+clashing_text name other held_name = name ++ codes " " ++ decimal other ++ codes " " ++ held_name ++ 10 ∷ []
+
 -- the line of a clash: a thread asks for the node in the mode of the first name, and the other thread holds it in that of the
 -- second
 abbrev pub clash_line : ℕ → Node → List ℕ → ℕ → List ℕ → List ℕ
-clash_line t node name other held_name =
-    codes "clash " ++ decimal t ++ codes " " ++ node_text node ++ codes " " ++ name ++ codes " " ++ decimal other ++ codes " " ++ held_name ++ 10 ∷ []
+clash_line t node name other held_name = asker_text t node ++ clashing_text name other held_name
 
 -- the same, if the other is another thread, whose mode does not go with the one that is asked
 abbrev pub clash_at : State → ℕ → Node → Mode → List ℕ → ℕ → List ℕ

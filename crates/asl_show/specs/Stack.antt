@@ -1,21 +1,22 @@
 -- The frames of the threads, as the word `stack` writes them (docs/JOURNAL.md, "Stacks, objects and requests").
-use Rattle.std.specs.Prelude.{ℕ, List, [], ◌∷◌, ◌++◌, length, Option, slice_get, option_and_then, codes}
+use Rattle.std.specs.Prelude.{ℕ, List, [], ◌∷◌, ◌++◌, length, option_map, codes}
 use Rattle.std.specs.Fmt.{decimal}
 use Rattle.std.specs.Option.{option_map_or}
 use Rattle.asl_code.specs.declared.value.Value.{Value}
-use Rattle.asl_machine.specs.State.{Frame, State}
-use Rattle.asl_machine.specs.View.{frame_at, frame_reg_at}
+use Rattle.asl_machine.specs.declared.machine.readers.FramePlace.{FramePlace}
+use Rattle.asl_machine.specs.State.{State}
+use Rattle.asl_machine.specs.Frames.{frame_at, frame_reg_at, place_of}
 use Rattle.asl_show.specs.Replies.{value_text}
 use Rattle.asl_show.specs.Lines.{lines_from}
 
 -- the line of a frame: its thread, its number from the top, its function, and where it goes on
-abbrev pub frame_line : ℕ → ℕ → Frame → List ℕ
+abbrev pub frame_line : ℕ → ℕ → FramePlace → List ℕ
 frame_line t index f =
     codes "frame " ++ decimal t ++ codes " " ++ decimal index ++ codes " fn " ++ decimal f.function ++ codes " pc " ++ decimal f.pc ++ 10 ∷ []
 
 -- the same of the frame of this number, if it is there
 abbrev pub frame_at_line : State → ℕ → ℕ → List ℕ
-frame_at_line s t index = option_map_or (frame_line t index) (frame_at s t index) []
+frame_at_line s t index = option_map_or (frame_line t index) (option_map place_of (frame_at s t index)) []
 
 -- the line of a register of a frame
 abbrev pub local_line : ℕ → ℕ → ℕ → Value → List ℕ

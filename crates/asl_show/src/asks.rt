@@ -9,11 +9,7 @@ use asl_mode_lanes::Mode;
 use std::alloc::{AllocError, Global};
 
 /// Adds what each thread asks for that stands at an `acq` in no section, and who is in its way.
-pub fn push_asks(
-    alloc: Global,
-    text: &mut String,
-    machine: &Machine<'_>,
-) -> Result<(), AllocError>
+pub fn push_asks(alloc: Global, text: &mut String, machine: &Machine<'_>) -> Result<(), AllocError>
     ensures { OnOk result (string_bytes text.new ≡ string_bytes text.old ++ asks_text machine.now) }
 {
     for t in 0..machine.threads() {
@@ -33,7 +29,13 @@ fn push_asks_of(
     ensures { OnOk result (string_bytes text.new ≡ string_bytes text.old ++ asks_of machine.now t) }
 {
     match machine.request(alloc, t)? {
-        Some(request) => push_request(text, machine.program().classes(), machine, t, request.as_slice()),
+        Some(request) => push_request(
+            text,
+            machine.program().classes(),
+            machine,
+            t,
+            request.as_slice(),
+        ),
         None => Ok(()),
     }
 }

@@ -4,7 +4,7 @@ ghost use Rattle.asl_lock_forest.specs.declared.node.Node.TheVariants.{Class, Le
 ghost use Rattle.asl_lock_forest.specs.Holding.{asked};
 ghost use Rattle.asl_show.specs.Lines.{lines_from};
 ghost use Rattle.asl_show.specs.About.{line_about};
-ghost use Rattle.asl_show.specs.Nodes.{ask_line, clash_at, clash_lines, clashes_at, held_line, leaf_lines, leaves_of, mode_name, node_lines, node_text};
+ghost use Rattle.asl_show.specs.Nodes.{ask_line, asker_text, clash_at, clash_line, clash_lines, clashes_at, clashing_text, held_line, leaf_lines, leaves_of, mode_name, node_lines, node_text};
 
 use crate::objects::cells;
 use crate::replies::push_address;
@@ -225,13 +225,40 @@ fn push_clash(
         return Ok(());
     }
     match name_of(held) {
-        Some(held) => {
-            write!(text, "clash {t} ")?;
-            push_node(text, node)?;
-            write!(text, " {name} {other} {held}\n")
-        }
+        Some(held) => push_clash_line(text, t, node, name, other, held),
         None => Ok(()),
     }
+}
+
+/// Adds the line of a clash.
+fn push_clash_line(
+    text: &mut String,
+    t: u32,
+    node: Node,
+    name: &str,
+    other: u32,
+    held: &str,
+) -> Result<(), AllocError>
+    ensures { OnOk result (string_bytes text.new ≡ string_bytes text.old ++ clash_line t node name.now other held.now) }
+{
+    push_asker(text, t, node)?;
+    push_clashing(text, name, other, held)
+}
+
+/// Adds who asks for which node.
+fn push_asker(text: &mut String, t: u32, node: Node) -> Result<(), AllocError>
+    ensures { OnOk result (string_bytes text.new ≡ string_bytes text.old ++ asker_text t node) }
+{
+    write!(text, "clash {t} ")?;
+    push_node(text, node)?;
+    text.push_str(" ")
+}
+
+/// Adds the mode that is asked, and who holds the node in which one.
+fn push_clashing(text: &mut String, name: &str, other: u32, held: &str) -> Result<(), AllocError>
+    ensures { OnOk result (string_bytes text.new ≡ string_bytes text.old ++ clashing_text name.now other held.now) }
+{
+    write!(text, "{name} {other} {held}\n")
 }
 
 /// The mode in which the request asks for the node: NL where it does not.

@@ -19,11 +19,7 @@ pub fn push_objects(text: &mut String, machine: &Machine<'_>) -> Result<(), Allo
 }
 
 /// Adds the object's own line, if it is there.
-fn push_object_line(
-    text: &mut String,
-    machine: &Machine<'_>,
-    object: u32,
-) -> Result<(), AllocError>
+fn push_object_line(text: &mut String, machine: &Machine<'_>, object: u32) -> Result<(), AllocError>
     ensures { OnOk result (string_bytes text.new ≡ string_bytes text.old ++ object_line machine.now.state object) }
 {
     match machine.class(object) {

@@ -479,6 +479,7 @@ log_is_step texts bytes input file output n schedule all r = (there, back)
     there l =
         let same = run_is_one r.image l.image r.log l.log file r.spelled l.run in
         record { image = r.image; log = r.log; program = r.program; legal = r.legal; recorded = r.recorded; output_is = l.output_is ∙ ap (λ (g : Log). written false r.image g) (sym same.1) }
+
     back : IsStepped input n schedule false output → IsLogged file false output
     back s =
         let one = step_one texts bytes n schedule false input (Ok (written false r.image r.log)) (Ok output) all

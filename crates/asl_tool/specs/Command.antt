@@ -44,7 +44,7 @@ IsOutput (command.Debug words) input text = IsDebugged input words.items text
 
 -- where a command records a run of the input, the output is its run file
 abbrev pub IsRunFile : Command → List ℕ → List ℕ → Type 0
-IsRunFile (command.Step threads schedule true) input output = IsRecorded input threads schedule.items output
+IsRunFile (command.Step threads schedule record_it) input output = record_it ≡ true → IsRecorded input threads schedule.items output
 IsRunFile c input output = Unit {0}
 
 -- what each refusal of `step` says of the input; want of memory for the output comes only where the input is a program that

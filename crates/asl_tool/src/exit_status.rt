@@ -4,8 +4,8 @@ ghost use Rattle.asl_tool.specs.declared.streams.TheConstants.{MAX_INPUT};
 ghost use Rattle.asl_tool.specs.Tool.{AsksForWork, EndsAlone, EndsWith, IsCommandStatus, IsTextStatus, Refuses, WritesOutput, of_command, of_team};
 
 use crate::command::{CommandFault, output_of};
-use crate::streams::{ReadFault, WriteFault, read_whole, write_whole};
 use crate::run::run_output;
+use crate::streams::{ReadFault, WriteFault, read_whole, write_whole};
 use asl_words::{Command, Invocation, Team, read_words};
 use std::alloc::Global;
 use std::io::{Read, Write};
@@ -80,7 +80,9 @@ pub fn tool_alone<R: Read, W: Write, E: Write>(
     ensures quiet { IfSome result (λ status. status ≡ 0 → errors.new ≡ errors.old) }
 {
     match read_words(alloc, words) {
-        Ok(Invocation::Alone(command)) => Some(alone_status(alloc, &command, reader, writer, errors)),
+        Ok(Invocation::Alone(command)) => Some(alone_status(
+            alloc, &command, reader, writer, errors,
+        )),
         Ok(Invocation::Run(_)) => None,
         Ok(Invocation::Help(text)) => Some(shown(text.as_str(), writer, errors)),
         Ok(Invocation::Version) => Some(shown(VERSION, writer, errors)),

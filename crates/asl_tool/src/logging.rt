@@ -9,7 +9,7 @@ ghost use Rattle.asl_tool.specs.Output.{trace_lines};
 
 use crate::step::lines_of;
 use asl_code::Program;
-use asl_journal::{Journal, JournalFault, replay};
+use asl_journal::{Event, Journal, JournalFault, replay};
 use asl_machine::Machine;
 use asl_show::push_trace_line;
 use std::alloc::{AllocError, Global};
@@ -44,21 +44,25 @@ fn told(
     ensures { IfOk result (λ text. string_bytes text ≡ log_text trace program.now journal.now) }
 {
     if trace {
-        traced(alloc, program, journal)
+        traced(alloc, program, journal.threads(), journal.events())
     } else {
         lines_of(alloc, journal.events())
     }
 }
 
-/// The lines of the events of a journal of the program, with the place of each step.
-fn traced(alloc: Global, program: &Program, journal: &Journal) -> Result<String, AllocError>
-    requires { IsJournal program.now journal.now.threads journal.now.events }
-    ensures { IfOk result (λ text. string_bytes text
-        ≡ trace_lines program.now (start_of program.now journal.now.threads) 0 journal.now.events) }
+/// The lines of the events, which are a journal of so many threads of the program, with the place of each step.
+fn traced(
+    alloc: Global,
+    program: &Program,
+    threads: u32,
+    events: &[Event],
+) -> Result<String, AllocError>
+    requires { IsJournal program.now threads events.now }
+    ensures { IfOk result (λ text. string_bytes text ≡ trace_lines program.now (start_of program.now threads) 0 events.now) }
 {
-    let mut machine = first_machine(alloc, program, journal.threads())?;
+    let mut machine = first_machine(alloc, program, threads)?;
     let mut text = String::new(alloc);
-    for (number, event) in journal.events().iter().enumerate() {
+    for (number, event) in events.iter().enumerate() {
         push_trace_line(&mut text, number, &machine, event.thread, event.reply)?;
         make_step(alloc, &mut machine, event.thread)?;
     }

@@ -5,7 +5,7 @@ ghost use Rattle.asl_tool.specs.Output.{event_lines};
 ghost use Rattle.asl_tool.specs.Step.{AllThere, IsSchedule, IsRecord, IsRefusedRun, IsFaultySchedule};
 
 use asl_code::Program;
-use asl_journal::{MAX_EVENTS, Event, Journal, JournalFault, Journaled};
+use asl_journal::{Event, Journal, JournalFault, Journaled, MAX_EVENTS};
 use asl_show::push_line;
 use std::alloc::{AllocError, Global};
 

@@ -75,8 +75,11 @@ fn asked(
 ) -> Result<Option<Vec<(Node, Mode)>>, AllocError>
     ensures { IfOk result (λ request. option_map (λ asks. asks.items) request ≡ asked_of code.now heap.now activity.now) }
 {
+    if activity.depth() > 0 {
+        return Ok(None);
+    }
     match code.program().code().get(usize::from(activity.pc())) {
-        Some(Instr::Acquire { list }) if activity.depth() == 0 => {
+        Some(Instr::Acquire { list }) => {
             let request = whole_request(alloc, locks(code, *list), activity.regs(), heap)?;
             Ok(Some(request))
         }

@@ -3,4 +3,4 @@ use Rattle.asl_tool.proofs.Traces.{HasTraced}
 use Rattle.asl_tool.proofs.logging.traced.Given as goal
 
 abbrev pub invariant-loop-number : goal.invariant-loop-number
-invariant-loop-number l = HasTraced l.program l.journal l.machine l.number (string_bytes l.text)
+invariant-loop-number l = HasTraced l.program l.threads l.events l.machine l.number (string_bytes l.text)
