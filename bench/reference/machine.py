@@ -86,6 +86,7 @@ def inferred(text, k):
 class Frame:
     """`awaits` is the register of the frame below that gets the value; None in the first frame."""
 
+    function: int
     pc: int
     registers: list
     awaits: int = None
@@ -115,7 +116,7 @@ class Machine:
         self.image = image
         self.objects = [(number, [0]) for number in image.global_classes]
         body = image.bodies[image.start]
-        self.threads = [Thread([Frame(body.start, [t] + [0] * (body.registers - 1))]) for t in range(count)]
+        self.threads = [Thread([Frame(image.start, body.start, [t] + [0] * (body.registers - 1))]) for t in range(count)]
 
     def step(self, t):
         """Makes a step of the thread, and answers its reply."""
@@ -222,7 +223,7 @@ class Machine:
         body = self.image.bodies[one.d]
         given = frame.registers[one.b : one.b + body.parameters]
         frame.pc += 1
-        thread.frames.append(Frame(body.start, given + [0] * (body.registers - body.parameters), one.a))
+        thread.frames.append(Frame(one.d, body.start, given + [0] * (body.registers - body.parameters), one.a))
 
     def do_ret(self, thread, frame, one):
         value = frame.registers[one.a]
@@ -303,6 +304,44 @@ class Machine:
         return lines
 
 
+    def asked(self, t):
+        """What the thread asks for at each node, where it stands at an `acq` in no section, else None."""
+        thread = self.threads[t]
+        if not thread.frames or thread.depth > 0:
+            return None
+        frame = thread.frames[-1]
+        one = self.image.code[frame.pc]
+        return self.request(frame.registers, self.image.lists[one.d]) if one.op == "acq" else None
+
+    def asks(self):
+        """The lines of the debugger's word `asks`."""
+        lines = []
+        for t in range(len(self.threads)):
+            request = self.asked(t)
+            if request is None:
+                continue
+            nodes = sorted(request)
+            lines += [f"asks {t} {node_text(node)} {MODES[request[node]]}" for node in nodes] or [f"asks {t}"]
+            for node in nodes:
+                for other, thread in enumerate(self.threads):
+                    if other != t and clash(request[node], thread.held.get(node, 0)):
+                        lines.append(f"clash {t} {node_text(node)} {MODES[request[node]]} {other} {MODES[thread.held[node]]}")
+        return lines
+
+    def stack(self):
+        """The lines of the debugger's word `stack`."""
+        lines = []
+        for t, thread in enumerate(self.threads):
+            for number, frame in enumerate(reversed(thread.frames)):
+                lines.append(f"frame {t} {number} fn {frame.function} pc {frame.pc}")
+                lines += [f"local {t} {number} {register} {value_text(value)}" for register, value in enumerate(frame.registers)]
+        return lines
+
+    def object_lines(self):
+        """The lines of the debugger's word `objects`."""
+        return [f"object {number} {kind} {len(cells)}" for number, (kind, cells) in enumerate(self.objects)]
+
+
 def clash(one, other):
     return any(one & a and other & b or one & b and other & a for a, b in CLASHES)
 
@@ -329,6 +368,15 @@ def thread_lines(t, thread):
     return [f"thread {t} pc {frame.pc} depth {thread.depth}", *registers]
 
 
+def reply_text(reply):
+    if reply.kind == "out":
+        return f"out {value_text(reply.given)}"
+    if reply.kind == "fault":
+        name, cell, effect = reply.given
+        return f"fault {name}" + (f" {cell.object}.{cell.offset} {effect}" if cell else "")
+    return reply.kind
+
+
 def reply_bytes(reply):
     kind = ["ran", "out", "blocked", "ended", "fault"].index(reply.kind)
     return bytes([kind]) + {"out": value_bytes, "fault": fault_bytes}.get(reply.kind, lambda given: b"")(reply.given)
@@ -350,11 +398,12 @@ class Run:
 
     def __init__(self, image, count, schedule):
         self.image, self.count, self.schedule = image, count, schedule
-        self.places, self.replies = [], []
+        self.places, self.depths, self.replies = [], [], []
         machine = Machine(image, count)
         for t in schedule:
             frames = machine.threads[t].frames
             self.places.append(frames[-1].pc if frames else None)
+            self.depths.append(machine.threads[t].depth)
             self.replies.append(machine.step(t))
 
     def bytes(self):
@@ -364,6 +413,15 @@ class Run:
         head = struct.pack(">4sHBI", b"ASLJ", version, self.count, len(self.schedule))
         events = [bytes([t]) + reply_bytes(reply) for t, reply in zip(self.schedule, self.replies)]
         return struct.pack(">I", len(image)) + image + head + b"".join(events)
+
+    def log(self, trace=False):
+        """The lines of `log`."""
+        lines = []
+        for number, (t, reply) in enumerate(zip(self.schedule, self.replies)):
+            pc, depth = self.places[number], self.depths[number]
+            place = ("- - " if pc is None else f"{pc} {depth} ") if trace else ""
+            lines.append(f"{number} {t} {place}{reply_text(reply)}")
+        return lines
 
     def machine_at(self, position):
         machine = Machine(self.image, self.count)
@@ -379,8 +437,10 @@ class Run:
                 number = int(next(words))
                 (breakpoints.add if word == "break" else breakpoints.discard)(number)
                 lines.append(f"{word} {number}")
-            elif word == "view":
-                lines += self.machine_at(position).view()
+            elif word in ("view", "asks", "stack", "objects"):
+                machine = self.machine_at(position)
+                shows = {"view": machine.view, "asks": machine.asks, "stack": machine.stack, "objects": machine.object_lines}
+                lines += shows[word]()
             else:
                 moved = self.moved(word, position, breakpoints, words)
                 position = position if isinstance(moved, str) else moved

@@ -1,6 +1,7 @@
 -- The frames of a thread, which the code keeps with the nearest one last.
-use Rattle.std.proofs.Common.{◌≡◌, ℕ, ◌+◌, ◌<◌, ◌≤◌, ◌++◌, List, [], ◌∷◌, length, take, set, reverse, replicate, ap, sym, subst, ◌∙◌}
-use Rattle.std.proofs.lemmas.List.{reverse-append, append_assoc, replicate_more, length-set, take-set, take_more_set, take-append-le}
+use Rattle.std.proofs.Common.{◌≡◌, ℕ, zero, suc, ◌+◌, ◌-◌, ◌<◌, ◌≤◌, ◌++◌, List, [], ◌∷◌, Option, None, Some, length, take, set, get_or, slice_get, reverse, replicate, ap, sym, subst, ◌∙◌, arith}
+use Rattle.std.proofs.lemmas.Option.{slice_get-get_or, slice_get_past}
+use Rattle.std.proofs.lemmas.List.{get_or-reverse, get_or-take, length-reverse, length-take-le, reverse-append, append_assoc, replicate_more, length-set, take-set, take_more_set, take-append-le}
 use Rattle.asl_code.specs.declared.value.Value.{Value}
 use Rattle.asl_machine.specs.State.{Frame, Activity}
 
@@ -26,3 +27,22 @@ same_activity d a b xs ys fresh p q = λ i. record { depth = d; top = p i; below
 pub one_filled : (arguments : List Value) (k n : ℕ) (z : Value) → k + 1 ≡ n → (arguments ++ replicate k z) ++ z ∷ [] ≡ arguments ++ replicate n z
 one_filled arguments k n z e =
     append_assoc arguments (replicate k z) (z ∷ []) ∙ ap (λ (xs : List Value). arguments ++ xs) (replicate_more k z ∙ ap (λ (m : ℕ). replicate m z) e)
+
+-- a frame below by its number: 1 is the nearest, which comes last
+pub frame_below : (top : Frame) (frames : List Frame) (below index : ℕ) (d : Frame) → 0 < index → index ≤ below → below ≤ length frames
+    → slice_get (top ∷ reverse (take below frames)) index ≡ Some (get_or frames (below - index) d)
+frame_below top frames below zero d some within few = absurd (omega (arith, some))
+frame_below top frames below (suc j) d some within few =
+    let size : length (take below frames) ≡ below = length-take-le below frames few in
+    let turned : length (reverse (take below frames)) ≡ length (take below frames) = length-reverse (take below frames) in
+    slice_get-get_or (reverse (take below frames)) j d (omega (arith, within, size, turned))
+    ∙ ap (λ (f : Frame). Some f) (get_or-reverse (take below frames) j d (omega (arith, within, size))
+    ∙ get_or-take below frames (length (take below frames) - 1 - j) d (omega (arith, within, size, some))
+    ∙ ap (λ (n : ℕ). get_or frames n d) (let e : length (take below frames) - 1 - j ≡ below - suc j = omega (arith, within, size) in e))
+
+-- past the frames below there is none
+pub no_frame_below : (top : Frame) (frames : List Frame) (below index : ℕ) → below < index → below ≤ length frames → slice_get (top ∷ reverse (take below frames)) index ≡ None
+no_frame_below top frames below index past few =
+    let size : length (take below frames) ≡ below = length-take-le below frames few in
+    let turned : length (reverse (take below frames)) ≡ length (take below frames) = length-reverse (take below frames) in
+    slice_get_past (top ∷ reverse (take below frames)) index (omega (arith, past, size, turned))

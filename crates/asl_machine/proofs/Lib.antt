@@ -21,3 +21,4 @@ pub mod Apart
 pub mod ReachedApart
 pub mod Made
 pub mod Machines
+pub mod Granted

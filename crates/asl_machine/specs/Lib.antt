@@ -12,6 +12,8 @@ pub mod Made
 pub mod WellFormed
 pub mod View
 pub mod World
+pub mod Frames
+pub mod Asked
 -- Machinery of the proofs, not of the promise:
 pub mod Ready
 pub mod Asking

@@ -99,6 +99,13 @@ impl Frame {
         Ok(())
     }
 
+    /// The number of the function.
+    pub fn function(&self) -> u16
+        ensures { result ≡ self.now.function }
+    {
+        self.function
+    }
+
     /// The place of the next instruction.
     pub fn pc(&self) -> u16
         ensures { result ≡ self.now.pc }
@@ -217,7 +224,8 @@ impl Model for Activity {
 }
 
 impl Activity {
-    ghost use Rattle.std.specs.Prelude.{[]};
+    ghost use Rattle.std.specs.Prelude.{[], option_copied};
+    ghost use Rattle.asl_machine.specs.Frames.{frames_of};
     ghost use Rattle.asl_code.specs.Fits.{FitsImage};
     ghost use Rattle.asl_machine.specs.Calls.{frame_count, IsAwaited};
     ghost use Rattle.asl_machine.specs.Run.{first_activity};
@@ -265,6 +273,19 @@ impl Activity {
         ensures { result ≡ frame_count self.now }
     {
         self.below + 1
+    }
+
+    /// The frame of this number, 0 the top one, if it is there.
+    pub fn frame(&self, index: usize) -> Option<&Frame>
+        ensures { option_copied result ≡ slice_get (frames_of self.now) index }
+    {
+        if index == 0 {
+            return Some(&self.top);
+        }
+        if index > self.below {
+            return None;
+        }
+        Some(&self.frames[self.below - index])
     }
 
     /// The place of the next instruction.

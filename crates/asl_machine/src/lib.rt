@@ -1,6 +1,7 @@
 //! The machine: threads that step through a verified program over one heap, under the locks of their sections.
 #![tactic(auto)]
 
+mod asked_laws;
 mod code;
 mod control;
 mod fate;
@@ -22,13 +23,14 @@ mod thread;
 mod values;
 mod word;
 
+pub use asked_laws::requests_are_granted;
 pub use fault::{Fault, MachineFault};
 pub use fresh_laws::{fresh_objects_are_made_in_the_section, fresh_objects_stay_apart};
 pub use laws::{
     held_nodes_are_there, no_world_is_blocked, reached_holdings_are_lawful,
     reached_states_are_well_formed, requests_are_least, steps_have_one_line,
 };
-pub use machine::Machine;
+pub use machine::{FramePlace, Machine};
 pub use reply::{Reply, Status};
 pub use run_laws::{runs_are_the_tables, runs_go_on, runs_reach};
 pub use step_laws::{

@@ -13,7 +13,7 @@ use asl_code::{Base, Cell, Effect, Expr, Lock};
 use asl_lock_expr::{follow, pointed};
 use asl_lock_forest::{Forest, Node};
 use asl_mode_lanes::{Mode, join};
-use std::alloc::AllocError;
+use std::alloc::{AllocError, Global};
 
 /// Makes the request of the locks in these registers and this heap: at each node the join of what the locks ask there. Ends
 /// where another thread is in the way of one of them: whether none is.
@@ -42,6 +42,37 @@ pub fn request(
         }
     }
     Ok(true)
+}
+
+/// The request of the locks in these registers and this heap, whoever is in the way.
+pub fn whole_request(
+    alloc: Global,
+    locks: &[Lock],
+    regs: &[Word],
+    heap: &Heap,
+) -> Result<Vec<(Node, Mode)>, AllocError>
+    ensures { IfOk result (λ asks. asks.items ≡ request_of heap.now regs.now locks.now) }
+{
+    let mut asks = Vec::new(alloc);
+    for lock in locks {
+        add_asks(&mut asks, lock, regs, heap)?;
+    }
+    Ok(asks)
+}
+
+/// Adds what the lock asks.
+fn add_asks(
+    request: &mut Vec<(Node, Mode)>,
+    lock: &Lock,
+    regs: &[Word],
+    heap: &Heap,
+) -> Result<(), AllocError>
+    ensures { OnOk result (request.new.items ≡ joined_all request.old.items (asks_of heap.now regs.now lock.now)) }
+{
+    match node_of(lock, regs, heap) {
+        Some(node) => add_all(request, node, lock.effect()),
+        None => Ok(()),
+    }
 }
 
 /// Adds what the lock asks, unless another thread is in the way: whether none is.

@@ -474,6 +474,7 @@ fn want_of_memory_for_objects_and_frames_changes_nothing(rt: HostRuntime) -> Res
 #[test]
 fn laws_are_there() {
     asl_machine::requests_are_least();
+    asl_machine::requests_are_granted();
     asl_machine::steps_have_one_line();
     asl_machine::reached_states_are_well_formed();
     asl_machine::reached_holdings_are_lawful();

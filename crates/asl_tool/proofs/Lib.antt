@@ -1,14 +1,13 @@
 mod Writing
 mod Parting
-mod Texts
 mod Lines
+mod Traces
 mod Schedules
 mod Stored
 mod Lengths
 mod RunFiles
 mod Differences
 mod Records
-mod Views
 mod Sessions
 mod Talks
 mod Outcomes

@@ -2,7 +2,8 @@
 use Rattle.std.proofs.Common.{◌≡◌, ℕ, ◌+◌, ◌<◌, List, [], ◌++◌, length, drop, get_or, refl, ◌∙◌, ap, drop-cons, add-one, arith}
 use Rattle.std.proofs.Math.ListN.{drop_of_length-le}
 use Rattle.asl_journal.specs.declared.event.Event.{Event}
-use Rattle.asl_tool.specs.Output.{step_line, event_lines}
+use Rattle.asl_show.specs.Replies.{step_line}
+use Rattle.asl_tool.specs.Output.{event_lines}
 
 -- the lines of what is left
 abbrev pub left_lines : List Event → ℕ → List ℕ

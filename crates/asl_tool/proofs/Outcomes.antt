@@ -1,5 +1,5 @@
 -- A command has one outcome: its program is one, and what is made of it is one.
-use Rattle.std.proofs.Common.{◌≡◌, ◌≢◌, ℕ, ◌<◌, ◌⊎◌, inl, inr, List, [], take, arith, codes, All, Bool, Result, Ok, Err, MatchResult, refl, sym, ap, ◌∙◌, subst}
+use Rattle.std.proofs.Common.{◌≡◌, ◌≢◌, ◌↔◌, ℕ, ◌<◌, ◌⊎◌, inl, inr, List, [], take, arith, codes, All, Bool, false, Result, Ok, Err, MatchResult, refl, sym, ap, ◌∙◌, subst}
 use Rattle.std.proofs.lemmas.Bool.{both_ways, cases_Bool, cases_lt}
 use Rattle.std.proofs.lemmas.Slice.Eq.{bytes_eq-Decides}
 use Rattle.std.specs.Str.{bytes_eq}
@@ -29,14 +29,15 @@ use Rattle.asl_tool.specs.Program.{BeginsAsImage, IsProgram, IsNoProgram}
 use Rattle.asl_tool.specs.declared.run_file.FileFault.{FileFault}
 use Rattle.asl_tool.specs.declared.run_file.FileFault.TheVariants as file
 use Rattle.asl_tool.specs.RunFile.{IsFileOutcome}
-use Rattle.asl_tool.specs.Step.{IsStepped, written}
+use Rattle.asl_tool.specs.Step.{IsRecorded, IsStepped, written}
 use Rattle.asl_words.specs.declared.debug_word.DebugWord.{DebugWord}
 use Rattle.asl_tool.specs.Debug.{IsDebugged, IsTalk, opened}
-use Rattle.asl_tool.specs.Replay.{IsReplayed, same_text}
+use Rattle.asl_tool.specs.Log.{IsLogged, log_text}
+use Rattle.asl_tool.specs.Replay.{IsTold, same_text}
 use Rattle.asl_tool.specs.Command.{IsAssembled, IsDisassembled, IsOutput, IsRefused, IsRefusedStep, IsRefusedText, IsRefusedImage, IsRefusedReplay}
 use Rattle.asl_tool.proofs.Differences.{some_difference}
 use Rattle.asl_tool.proofs.Records.{RunOutcome, run_one, some_run}
-use Rattle.asl_tool.proofs.RunFiles.{files_have_an_outcome, file_outcome_is_one}
+use Rattle.asl_tool.proofs.RunFiles.{files_have_an_outcome, file_outcome_is_one, run_is_one}
 use Rattle.asl_tool.proofs.Talks.{talk_one, some_talk}
 use Rattle.asl_tool.proofs.Stored.{stored}
 use Rattle.asl_tool.specs.Outcome.{IsWantOfMemory, IsOutcome, IsSettled}
@@ -138,7 +139,7 @@ step_is n schedule record_it input (Err (fault.Infer cause)) x = absurd x.0
 step_is n schedule record_it input (Err (fault.Run cause)) x = absurd x.0
 step_is n schedule record_it input (Err fault.OutOfMemory) x = absurd (x.1 tt)
 
--- ---- `replay`
+-- ---- `replay` and `log`
 
 -- what a journal is to replay
 abbrev ReplayOutcome : Image → Log → Result Log JournalFault → Type 0
@@ -170,39 +171,46 @@ ok_no_err log f e = cc
 err_one : (f g : JournalFault) → ◌≡◌ {A = Result Log JournalFault} (Err f) (Err g) → f ≡ g
 err_one f g e = cc
 
-abbrev from_replay : Result Log JournalFault → Result (List ℕ) CommandFault
-from_replay (Ok log) = Ok (same_text log)
-from_replay (Err f) = Err (fault.Journal f)
+-- a text that is told of a program and a journal of it
+abbrev TextOf : Type 0
+TextOf = Image → Log → List ℕ
+
+abbrev from_replay : TextOf → Image → Result Log JournalFault → Result (List ℕ) CommandFault
+from_replay text_of image (Ok log) = Ok (text_of image log)
+from_replay text_of image (Err f) = Err (fault.Journal f)
 
 -- what a run file, or none, makes of replay
-abbrev ReplayForm : Result (Image × Log) FileFault → Result (List ℕ) CommandFault → Type 0
-ReplayForm (Ok run) o = (r : Result Log JournalFault) × (o ≡ from_replay r) × ReplayOutcome run.0 run.1 r
-ReplayForm (Err f) o = o ≡ Err (fault.File f)
+abbrev ReplayForm : TextOf → Result (Image × Log) FileFault → Result (List ℕ) CommandFault → Type 0
+ReplayForm text_of (Ok run) o = (r : Result Log JournalFault) × (o ≡ from_replay text_of run.0 r) × ReplayOutcome run.0 run.1 r
+ReplayForm text_of (Err f) o = o ≡ Err (fault.File f)
 
-abbrev HasReplayForm : List ℕ → Result (List ℕ) CommandFault → Type 0
-HasReplayForm input o = (q : Result (Image × Log) FileFault) × IsFileOutcome input q × ReplayForm q o
+abbrev HasReplayForm : TextOf → List ℕ → Result (List ℕ) CommandFault → Type 0
+HasReplayForm text_of input o = (q : Result (Image × Log) FileFault) × IsFileOutcome input q × ReplayForm text_of q o
 
-replay_form_one : (q : Result (Image × Log) FileFault) (o p : Result (List ℕ) CommandFault) → ReplayForm q o → ReplayForm q p → o ≡ p
-replay_form_one (Ok run) o p x y = x.1 ∙ ap from_replay (replay_one run.0 run.1 x.0 y.0 x.2 y.2) ∙ sym y.1
-replay_form_one (Err f) o p x y = x ∙ sym y
+replay_form_one : (text_of : TextOf) (q : Result (Image × Log) FileFault) (o p : Result (List ℕ) CommandFault) → ReplayForm text_of q o → ReplayForm text_of q p → o ≡ p
+replay_form_one text_of (Ok run) o p x y = x.1 ∙ ap (from_replay text_of run.0) (replay_one run.0 run.1 x.0 y.0 x.2 y.2) ∙ sym y.1
+replay_form_one text_of (Err f) o p x y = x ∙ sym y
 
 no_memory_file : (f : FileFault) → (IsWantOfMemory (fault.File f) → ⊥) → f ≢ file.OutOfMemory
 no_memory_file f tells e = tells (subst (λ (g : FileFault). IsWantOfMemory (fault.File g)) (sym e) tt)
 
-replay_is : (input : List ℕ) (o : Result (List ℕ) CommandFault) → MatchResult o (λ output. IsReplayed input output) (λ f. IsRefusedReplay input f × (IsWantOfMemory f → ⊥)) → HasReplayForm input o
-replay_is input (Ok output) x = (Ok (x.image, x.log), x.run, (Ok x.log, ap Ok x.output_is, (x.journal, refl)))
-replay_is input (Err (fault.Program cause)) x = absurd x.0
-replay_is input (Err (fault.File cause)) x = (Err cause, (x.0, no_memory_file cause x.1), refl)
-replay_is input (Err (fault.Journal cause)) x = (Ok (x.0.image, x.0.log), x.0.run, (Err cause, refl, (x.0.refused, no_memory_run cause x.1)))
-replay_is input (Err (fault.Source cause)) x = absurd x.0
-replay_is input (Err (fault.Infer cause)) x = absurd x.0
-replay_is input (Err (fault.Run cause)) x = absurd x.0
-replay_is input (Err fault.OutOfMemory) x = absurd (x.1 tt)
+replay_is : (text_of : TextOf) (input : List ℕ) (o : Result (List ℕ) CommandFault) → MatchResult o (λ output. IsTold text_of input output) (λ f. IsRefusedReplay input f × (IsWantOfMemory f → ⊥)) → HasReplayForm text_of input o
+replay_is text_of input (Ok output) x = (Ok (x.image, x.log), x.run, (Ok x.log, ap Ok x.output_is, (x.journal, refl)))
+replay_is text_of input (Err (fault.Program cause)) x = absurd x.0
+replay_is text_of input (Err (fault.File cause)) x = (Err cause, (x.0, no_memory_file cause x.1), refl)
+replay_is text_of input (Err (fault.Journal cause)) x = (Ok (x.0.image, x.0.log), x.0.run, (Err cause, refl, (x.0.refused, no_memory_run cause x.1)))
+replay_is text_of input (Err (fault.Source cause)) x = absurd x.0
+replay_is text_of input (Err (fault.Infer cause)) x = absurd x.0
+replay_is text_of input (Err (fault.Run cause)) x = absurd x.0
+replay_is text_of input (Err fault.OutOfMemory) x = absurd (x.1 tt)
 
-replays_one : (input : List ℕ) (o p : Result (List ℕ) CommandFault) → All (λ b. b < 256) input → HasReplayForm input o → HasReplayForm input p → o ≡ p
-replays_one input o p all x y =
+replays_one : (text_of : TextOf) (input : List ℕ) (o p : Result (List ℕ) CommandFault) → All (λ b. b < 256) input → HasReplayForm text_of input o → HasReplayForm text_of input p → o ≡ p
+replays_one text_of input o p all x y =
     let same : y.0 ≡ x.0 = file_outcome_is_one input y.0 x.0 all y.1 x.1 in
-    replay_form_one x.0 o p x.2 (subst (λ (q : Result (Image × Log) FileFault). ReplayForm q p) same y.2)
+    replay_form_one text_of x.0 o p x.2 (subst (λ (q : Result (Image × Log) FileFault). ReplayForm text_of q p) same y.2)
+
+abbrev same_of : TextOf
+same_of image log = same_text log
 
 -- ---- `debug`
 
@@ -326,7 +334,10 @@ one_outcome texts bytes command.Disassemble input o p settled all x y =
     image_one bytes input o p all (image_is input o (cases command.Disassemble input o x)) (image_is input p (cases command.Disassemble input p y))
 one_outcome texts bytes (command.Compile longest as_text) input o p settled all x y = absurd settled
 one_outcome texts bytes command.Replay input o p settled all x y =
-    replays_one input o p all (replay_is input o (cases command.Replay input o x)) (replay_is input p (cases command.Replay input p y))
+    replays_one same_of input o p all (replay_is same_of input o (cases command.Replay input o x)) (replay_is same_of input p (cases command.Replay input p y))
+one_outcome texts bytes (command.Log trace) input o p settled all x y =
+    let c = command.Log trace in
+    replays_one (log_text trace) input o p all (replay_is (log_text trace) input o (cases c input o x)) (replay_is (log_text trace) input p (cases c input p y))
 one_outcome texts bytes (command.Debug words) input o p settled all x y =
     let c = command.Debug words in
     debugs_one words.items input o p all (debug_is words.items input o (cases c input o x)) (debug_is words.items input p (cases c input p y))
@@ -381,18 +392,18 @@ some_step : (n : ℕ) (schedule : List ℕ) (record_it : Bool) (input : List ℕ
 some_step n schedule record_it input (Ok image) p = let r = some_run image n schedule in (from_run record_it image r.0, step_run n schedule record_it input image r.0 p r.1)
 some_step n schedule record_it input (Err f) p = (Err (fault.Program f), (p.0, p.1))
 
-some_replay : (input : List ℕ) (q : Result (Image × Log) FileFault) → IsFileOutcome input q
-    → (o : Result (List ℕ) CommandFault) × MatchResult o (λ output. IsReplayed input output) (λ f. IsRefusedReplay input f × (IsWantOfMemory f → ⊥))
-some_replay input (Ok run) x =
+some_replay : (text_of : TextOf) (input : List ℕ) (q : Result (Image × Log) FileFault) → IsFileOutcome input q
+    → (o : Result (List ℕ) CommandFault) × MatchResult o (λ output. IsTold text_of input output) (λ f. IsRefusedReplay input f × (IsWantOfMemory f → ⊥))
+some_replay text_of input (Ok run) x =
     elim (cases_lt (most_threads run.0.version) run.1.threads) [
       | inl many ↦ (Err (fault.Journal journal.BadCount), (record { image = run.0; log = run.1; run = x; refused = many }, λ w. absurd w))
       | inr few ↦ elim (some_difference run.0 (start_of run.0 run.1.threads) run.1.events) [
         | inl goes ↦
-            (Ok (same_text run.1), record { image = run.0; log = run.1; run = x; journal = record { counted = (x.journal.fits.is_log.count.0, few); there = x.journal.fits.is_log.there; replies = goes }; output_is = refl })
+            (Ok (text_of run.0 run.1), record { image = run.0; log = run.1; run = x; journal = record { counted = (x.journal.fits.is_log.count.0, few); there = x.journal.fits.is_log.there; replies = goes }; output_is = refl })
         | inr d ↦ (Err (fault.Journal (journal.Differs d.0)), (record { image = run.0; log = run.1; run = x; refused = (few, d.1) }, λ w. absurd w))
       ]
     ]
-some_replay input (Err f) x = (Err (fault.File f), (x.0, λ w. x.1 (want_file f w)))
+some_replay text_of input (Err f) x = (Err (fault.File f), (x.0, λ w. x.1 (want_file f w)))
 
 some_debug : (words : List DebugWord) (input : List ℕ) (q : Result (Image × Log) FileFault) → IsFileOutcome input q
     → (o : Result (List ℕ) CommandFault) × MatchResult o (λ output. IsDebugged input words output) (λ f. IsRefusedReplay input f × (IsWantOfMemory f → ⊥))
@@ -439,10 +450,44 @@ some_outcome texts bytes command.Disassemble input settled all =
     (o.0, uncased command.Disassemble input o.0 o.1)
 some_outcome texts bytes command.Replay input settled all =
     let q = files_have_an_outcome input all in
-    let o = some_replay input q.0 q.1 in
+    let o = some_replay same_of input q.0 q.1 in
     (o.0, uncased command.Replay input o.0 o.1)
+some_outcome texts bytes (command.Log trace) input settled all =
+    let q = files_have_an_outcome input all in
+    let o = some_replay (log_text trace) input q.0 q.1 in
+    (o.0, uncased (command.Log trace) input o.0 o.1)
 some_outcome texts bytes (command.Debug words) input settled all =
     let q = files_have_an_outcome input all in
     let o = some_debug words.items input q.0 q.1 in
     (o.0, uncased (command.Debug words) input o.0 o.1)
 some_outcome texts bytes (command.Compile longest as_text) input settled all = absurd settled
+
+-- ---- `log` after `step --record`
+
+ok_same : (x y : List ℕ) → ◌≡◌ {A = Result (List ℕ) CommandFault} (Ok x) (Ok y) → x ≡ y
+ok_same x y e = cc
+
+-- the lines of the journal of the input over the schedule
+record_lines : (input file : List ℕ) (n : ℕ) (schedule : List ℕ) (r : IsRecorded input n schedule file) → IsStepped input n schedule false (written false r.image r.log)
+record_lines input file n schedule r = record { image = r.image; log = r.log; program = r.program; legal = r.legal; recorded = r.recorded; output_is = refl }
+
+pub log_is_step : TextsAreOne → BytesAreOne → (input file output : List ℕ) (n : ℕ) (schedule : List ℕ) → All (λ b. b < 256) input → IsRecorded input n schedule file
+    → (IsLogged file false output ↔ IsStepped input n schedule false output)
+log_is_step texts bytes input file output n schedule all r = (there, back)
+  where
+    there : IsLogged file false output → IsStepped input n schedule false output
+    there l =
+        let same = run_is_one r.image l.image r.log l.log file r.spelled l.run in
+        record { image = r.image; log = r.log; program = r.program; legal = r.legal; recorded = r.recorded; output_is = l.output_is ∙ ap (λ (g : Log). written false r.image g) (sym same.1) }
+
+    back : IsStepped input n schedule false output → IsLogged file false output
+    back s =
+        let one = step_one texts bytes n schedule false input (Ok (written false r.image r.log)) (Ok output) all
+        (step_is n schedule false input (Ok (written false r.image r.log)) (record_lines input file n schedule r)) (step_is n schedule false input (Ok output) s) in
+        record {
+          image = r.image;
+          log = r.log;
+          run = r.spelled;
+          journal = subst (λ (k : ℕ). IsJournal r.image k r.log.events) (sym r.recorded.threads_are) r.recorded.journal;
+          output_is = sym (ok_same (written false r.image r.log) output one);
+        }

@@ -18,7 +18,10 @@ use Rattle.asl_words.specs.declared.debug_word.DebugWord.TheVariants as word
 use Rattle.asl_words.specs.declared.debug_word.Move.{Move}
 use Rattle.asl_words.specs.declared.debug_word.Move.TheVariants as step
 use Rattle.asl_tool.specs.Debug.{IsAnswer, IsTalk, arrived, answer_text}
-use Rattle.asl_tool.specs.View.{view_text}
+use Rattle.asl_show.specs.View.{view_text}
+use Rattle.asl_show.specs.Asks.{asks_text}
+use Rattle.asl_show.specs.Stack.{stack_text}
+use Rattle.asl_show.specs.Objects.{objects_text}
 
 -- the same places are breakpoints
 abbrev Alike : List ℕ → List ℕ → Type 0
@@ -156,6 +159,18 @@ talk_one image log p bs cs (word.View ∷ ws) x y same h k =
     let left = subst (λ (s : Session). IsTalk s ws h.2) h.3.0 h.4 in
     let right = subst (λ (s : Session). IsTalk s ws k.2) k.3.0 k.4 in
     h.5 ∙ ap₂ (λ (u v : List ℕ). u ++ v) (h.3.1 ∙ sym k.3.1) (talk_one image log p bs cs ws h.2 k.2 same left right) ∙ sym k.5
+talk_one image log p bs cs (word.Asks ∷ ws) x y same h k =
+    let left = subst (λ (s : Session). IsTalk s ws h.2) h.3.0 h.4 in
+    let right = subst (λ (s : Session). IsTalk s ws k.2) k.3.0 k.4 in
+    h.5 ∙ ap₂ (λ (u v : List ℕ). u ++ v) (h.3.1 ∙ sym k.3.1) (talk_one image log p bs cs ws h.2 k.2 same left right) ∙ sym k.5
+talk_one image log p bs cs (word.Stack ∷ ws) x y same h k =
+    let left = subst (λ (s : Session). IsTalk s ws h.2) h.3.0 h.4 in
+    let right = subst (λ (s : Session). IsTalk s ws k.2) k.3.0 k.4 in
+    h.5 ∙ ap₂ (λ (u v : List ℕ). u ++ v) (h.3.1 ∙ sym k.3.1) (talk_one image log p bs cs ws h.2 k.2 same left right) ∙ sym k.5
+talk_one image log p bs cs (word.Objects ∷ ws) x y same h k =
+    let left = subst (λ (s : Session). IsTalk s ws h.2) h.3.0 h.4 in
+    let right = subst (λ (s : Session). IsTalk s ws k.2) k.3.0 k.4 in
+    h.5 ∙ ap₂ (λ (u v : List ℕ). u ++ v) (h.3.1 ∙ sym k.3.1) (talk_one image log p bs cs ws h.2 k.2 same left right) ∙ sym k.5
 
 -- ---- there is an answer
 
@@ -275,4 +290,16 @@ some_talk image log p bs (word.Clear pc ∷ ws) within =
 some_talk image log p bs (word.View ∷ ws) within =
     let rest = some_talk image log p bs ws within in
     let shown = view_text (machine_before image log p) in
+    (shown ++ rest.0, (at image log p bs, shown, rest.0, (refl, refl), rest.1, refl))
+some_talk image log p bs (word.Asks ∷ ws) within =
+    let rest = some_talk image log p bs ws within in
+    let shown = asks_text (machine_before image log p) in
+    (shown ++ rest.0, (at image log p bs, shown, rest.0, (refl, refl), rest.1, refl))
+some_talk image log p bs (word.Stack ∷ ws) within =
+    let rest = some_talk image log p bs ws within in
+    let shown = stack_text (state_before image log p) in
+    (shown ++ rest.0, (at image log p bs, shown, rest.0, (refl, refl), rest.1, refl))
+some_talk image log p bs (word.Objects ∷ ws) within =
+    let rest = some_talk image log p bs ws within in
+    let shown = objects_text (state_before image log p) in
     (shown ++ rest.0, (at image log p bs, shown, rest.0, (refl, refl), rest.1, refl))

@@ -1,5 +1,5 @@
 -- What each command makes of an input, and why it may refuse to (docs/LIMITS.md, "Refusals of the program asl").
-use Rattle.std.specs.Prelude.{◌≡◌, ℕ, List}
+use Rattle.std.specs.Prelude.{◌≡◌, ℕ, true, List}
 use Rattle.asl_code.specs.declared.image.Image.{Image}
 use Rattle.asl_assembler.specs.Canonical.{canonical_text}
 use Rattle.asl_assembler.specs.Faults.{IsProgramText}
@@ -15,9 +15,10 @@ use Rattle.asl_tool.specs.declared.command.CommandFault.TheVariants as fault
 use Rattle.asl_tool.specs.Program.{IsNoProgram}
 use Rattle.asl_tool.specs.Compile.{IsCompiled, IsRefusedSource}
 use Rattle.asl_tool.specs.Debug.{IsDebugged}
+use Rattle.asl_tool.specs.Log.{IsLogged}
 use Rattle.asl_tool.specs.Replay.{IsReplayed, HasRefusedReplay}
 use Rattle.asl_tool.specs.RunFile.{IsFileFault}
-use Rattle.asl_tool.specs.Step.{IsStepped, IsSteppable, HasRefusedRun}
+use Rattle.asl_tool.specs.Step.{IsRecorded, IsStepped, IsSteppable, HasRefusedRun}
 
 -- the text is a program, and the bytes are its image
 pub record IsAssembled (text bytes : List ℕ) : Type 0 where
@@ -38,7 +39,13 @@ IsOutput command.Assemble input image = IsAssembled input image
 IsOutput command.Disassemble input text = IsDisassembled input text
 IsOutput (command.Compile longest as_text) input output = IsCompiled input longest as_text output
 IsOutput command.Replay input text = IsReplayed input text
+IsOutput (command.Log trace) input text = IsLogged input trace text
 IsOutput (command.Debug words) input text = IsDebugged input words.items text
+
+-- where a command records a run of the input, the output is its run file
+abbrev pub IsRunFile : Command → List ℕ → List ℕ → Type 0
+IsRunFile (command.Step threads schedule record_it) input output = record_it ≡ true → IsRecorded input threads schedule.items output
+IsRunFile c input output = Unit {0}
 
 -- what each refusal of `step` says of the input; want of memory for the output comes only where the input is a program that
 -- may run over the schedule
@@ -74,4 +81,5 @@ IsRefused command.Assemble input f = IsRefusedText input f
 IsRefused command.Disassemble input f = IsRefusedImage input f
 IsRefused (command.Compile longest as_text) input f = IsRefusedSource input longest f
 IsRefused command.Replay input f = IsRefusedReplay input f
+IsRefused (command.Log trace) input f = IsRefusedReplay input f
 IsRefused (command.Debug words) input f = IsRefusedReplay input f

@@ -4,7 +4,7 @@ use Rattle.std.specs.Fmt.{decimal}
 use Rattle.asl_code.specs.declared.image.Image.{Image}
 use Rattle.asl_journal.specs.Journal.{Log, IsJournal}
 use Rattle.asl_debugger.specs.Breaks.{HasBreak, HasNoBreak}
-use Rattle.asl_debugger.specs.Session.{Session, IsNextStop, IsLastStop, machine_before, moved, with_breaks}
+use Rattle.asl_debugger.specs.Session.{Session, IsNextStop, IsLastStop, machine_before, state_before, moved, with_breaks}
 use Rattle.asl_debugger.specs.declared.fault.DebugFault.{DebugFault}
 use Rattle.asl_debugger.specs.declared.fault.DebugFault.TheVariants as fault
 use Rattle.asl_tool.specs.declared.debugging.Answer.{Answer}
@@ -14,7 +14,10 @@ use Rattle.asl_words.specs.declared.debug_word.DebugWord.TheVariants as word
 use Rattle.asl_words.specs.declared.debug_word.Move.{Move}
 use Rattle.asl_words.specs.declared.debug_word.Move.TheVariants as step
 use Rattle.asl_tool.specs.RunFile.{SpellsRun}
-use Rattle.asl_tool.specs.View.{view_text}
+use Rattle.asl_show.specs.View.{view_text}
+use Rattle.asl_show.specs.Asks.{asks_text}
+use Rattle.asl_show.specs.Stack.{stack_text}
+use Rattle.asl_show.specs.Objects.{objects_text}
 
 -- what each move answers: the position to which it leads, or why it leads nowhere
 abbrev pub IsAnswer : Session → Move → Answer → Type 0
@@ -50,6 +53,9 @@ Says s (word.Break pc) next text =
 Says s (word.Clear pc) next text =
     (next ≡ with_breaks s next.breakpoints) × HasNoBreak s.breakpoints next.breakpoints pc × (text ≡ codes "clear " ++ decimal pc ++ 10 ∷ [])
 Says s word.View next text = (next ≡ s) × (text ≡ view_text (machine_before s.image s.log s.position))
+Says s word.Asks next text = (next ≡ s) × (text ≡ asks_text (machine_before s.image s.log s.position))
+Says s word.Stack next text = (next ≡ s) × (text ≡ stack_text (state_before s.image s.log s.position))
+Says s word.Objects next text = (next ≡ s) × (text ≡ objects_text (state_before s.image s.log s.position))
 
 -- the texts that answer the words, one after the other
 abbrev pub IsTalk : Session → List DebugWord → List ℕ → Type 0

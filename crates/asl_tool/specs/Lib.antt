@@ -4,7 +4,7 @@ pub mod Program
 pub mod RunFile
 pub mod Step
 pub mod Replay
-pub mod View
+pub mod Log
 pub mod Debug
 pub mod Compile
 pub mod Command

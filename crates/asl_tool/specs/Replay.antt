@@ -11,13 +11,17 @@ use Rattle.asl_tool.specs.RunFile.{SpellsRun}
 abbrev pub same_text : Log → List ℕ
 same_text log = codes "same " ++ decimal (length log.events) ++ 10 ∷ []
 
--- the input is a run file whose journal is one of its program, and the output says how many events it has
-pub record IsReplayed (input output : List ℕ) : Type 0 where
+-- the input is a run file whose journal is one of its program, and the output is this text of the two
+pub record IsTold (text : Image → Log → List ℕ) (input output : List ℕ) : Type 0 where
   pub image : Image
   pub log : Log
   pub run : SpellsRun image log input
   pub journal : IsJournal image log.threads log.events
-  pub output_is : output ≡ same_text log
+  pub output_is : output ≡ text image log
+
+-- the output says how many events it has
+abbrev pub IsReplayed : List ℕ → List ℕ → Type 0
+IsReplayed input output = IsTold (λ image log. same_text log) input output
 
 -- the input is a run file whose journal is none of its program: it has more threads than the program's version sets, or there
 -- is a first event that differs; or memory was wanted

@@ -7,7 +7,7 @@ use Rattle.asl_journal.specs.declared.fault.JournalFault.TheVariants as journal
 use Rattle.asl_journal.specs.Journal.{Log, IsJournal, schedule_of, most_events}
 use Rattle.asl_tool.specs.Output.{event_lines}
 use Rattle.asl_tool.specs.Program.{IsProgram}
-use Rattle.asl_tool.specs.RunFile.{run_bytes}
+use Rattle.asl_tool.specs.RunFile.{SpellsRun, run_bytes}
 
 -- every thread of the schedule is there
 abbrev pub AllThere : ℕ → List ℕ → Type 0
@@ -38,6 +38,16 @@ pub record IsStepped (input : List ℕ) (threads : ℕ) (schedule : List ℕ) (r
   pub legal : IsSchedule image threads schedule
   pub recorded : IsRecord image threads schedule log
   pub output_is : output ≡ written record_it image log
+
+-- the input is a program, and the file is the run file of its journal over the schedule, which is read as that run: what
+-- `step --record` writes
+pub record IsRecorded (input : List ℕ) (threads : ℕ) (schedule file : List ℕ) : Type 0 where
+  pub image : Image
+  pub log : Log
+  pub program : IsProgram input image
+  pub legal : IsSchedule image threads schedule
+  pub recorded : IsRecord image threads schedule log
+  pub spelled : SpellsRun image log file
 
 -- the input is a program that may run over the schedule
 pub record IsSteppable (input : List ℕ) (threads : ℕ) (schedule : List ℕ) : Type 0 where

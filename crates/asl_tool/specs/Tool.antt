@@ -2,19 +2,19 @@
 -- "Refusals of the program asl"). `unread` and `unwritten` stand for what the contracts put there: that the reader, or the
 -- writer, is the very value that it was at first. That is more than that its bytes are the same: of a writer that may be any
 -- one no call is known to keep the value, not even a flush.
-use Rattle.std.specs.Prelude.{◌≡◌, ◌≤◌, ◌⊎◌, ℕ, List, Option, None, Some, IfSome, length}
+use Rattle.std.specs.Prelude.{◌≡◌, ◌≤◌, ◌⊎◌, ℕ, List, Option, None, Some, IfSome, codes, length}
 use Rattle.std.specs.Io.KnownBytes.{Appends}
 use Rattle.asl_words.specs.declared.command.Command.{Command}
 use Rattle.asl_words.specs.declared.command.Team.{Team}
 use Rattle.asl_words.specs.declared.command.Invocation.{Invocation}
-use Rattle.asl_words.specs.declared.command.Invocation.TheVariants.{Alone, Run, Help, WrongUsage}
+use Rattle.asl_words.specs.declared.command.Invocation.TheVariants.{Alone, Run, Help, Version, WrongUsage}
 use Rattle.asl_words.specs.Words.{AsksFor}
 use Rattle.asl_tool.specs.declared.command.CommandFault.{CommandFault}
 use Rattle.asl_tool.specs.declared.streams.TheConstants.{MAX_INPUT}
-use Rattle.asl_tool.specs.declared.performing.ToolFault.{ToolFault}
-use Rattle.asl_tool.specs.declared.performing.ToolFault.TheVariants as fault
+use Rattle.asl_tool.specs.declared.exit_status.ToolFault.{ToolFault}
+use Rattle.asl_tool.specs.declared.exit_status.ToolFault.TheVariants as fault
 use Rattle.asl_tool.specs.Streams.{AppendsPart, IsReadFault}
-use Rattle.asl_tool.specs.Command.{IsOutput, IsRefused}
+use Rattle.asl_tool.specs.Command.{IsOutput, IsRunFile, IsRefused}
 use Rattle.asl_tool.specs.Work.{IsWorkOutput, IsRefusedWork}
 
 -- what a command makes of an input, and why it may refuse to
@@ -24,7 +24,7 @@ pub record Promise : Type 1 where
 
 -- the promise of a command that waits for nobody
 abbrev pub of_command : Command → Promise
-of_command command = record { output = IsOutput command; refusal = IsRefused command }
+of_command command = record { output = λ input output. IsOutput command input output × IsRunFile command input output; refusal = IsRefused command }
 
 -- the promise of the command `run`
 abbrev pub of_team : Team → Promise
@@ -75,6 +75,10 @@ IsCommandStatus unwritten known old new promise status =
 abbrev pub IsTextStatus : Option (List ℕ) → Option (List ℕ) → List ℕ → ℕ → Type 0
 IsTextStatus old new text status = ((status ≡ 0) × Appends old new text) ⊎ ((status ≡ 1) × AppendsPart old new text)
 
+-- which version of the program this is, and in which logic it is proved
+abbrev pub version_text : List ℕ
+version_text = codes "asl 2, logic dac8208d650f15bf\n"
+
 -- what the words ask for, or that there was no memory to judge them
 abbrev pub IsAsked : List (List ℕ) → Option Invocation → Type 0
 IsAsked words (Some invocation) = AsksFor words invocation
@@ -86,13 +90,15 @@ abbrev pub IsStatus : Type 0 → Type 0 → Option (List ℕ) → Option (List �
 IsStatus unread unwritten known old new status (Some (Alone command)) = IsCommandStatus unwritten known old new (of_command command) status
 IsStatus unread unwritten known old new status (Some (Run team)) = IsCommandStatus unwritten known old new (of_team team) status
 IsStatus unread unwritten known old new status (Some (Help text)) = unread × IsTextStatus old new text.bytes.items status
+IsStatus unread unwritten known old new status (Some Version) = unread × IsTextStatus old new version_text status
 IsStatus unread unwritten known old new status (Some (WrongUsage text)) = unread × (unwritten × (status ≡ 2))
 IsStatus unread unwritten known old new status None = unread × (unwritten × (status ≡ 1))
 
 -- the status is that of what the words ask for
-abbrev pub EndsWith : List (List ℕ) → Type 0 → Type 0 → Option (List ℕ) → Option (List ℕ) → Option (List ℕ) → ℕ → Type 0
-EndsWith words unread unwritten known old new status =
-    (asked : Option Invocation) × IsAsked words asked × IsStatus unread unwritten known old new status asked
+pub record EndsWith (words : List (List ℕ)) (unread unwritten : Type 0) (known old new : Option (List ℕ)) (status : ℕ) : Type 0 where
+  pub invocation : Option Invocation
+  pub is_asked : IsAsked words invocation
+  pub is_status : IsStatus unread unwritten known old new status invocation
 
 -- not the command `run`
 abbrev pub IsNoWork : Option Invocation → Type 0
@@ -100,9 +106,11 @@ IsNoWork (Some (Run team)) = ⊥
 IsNoWork asked = Unit {0}
 
 -- the same where the words do not ask for `run`
-abbrev pub EndsAlone : List (List ℕ) → Type 0 → Type 0 → Option (List ℕ) → Option (List ℕ) → Option (List ℕ) → ℕ → Type 0
-EndsAlone words unread unwritten known old new status =
-    (asked : Option Invocation) × IsNoWork asked × IsAsked words asked × IsStatus unread unwritten known old new status asked
+pub record EndsAlone (words : List (List ℕ)) (unread unwritten : Type 0) (known old new : Option (List ℕ)) (status : ℕ) : Type 0 where
+  pub invocation : Option Invocation
+  pub waits_not : IsNoWork invocation
+  pub is_asked : IsAsked words invocation
+  pub is_status : IsStatus unread unwritten known old new status invocation
 
 -- the words ask for `run`
 abbrev pub AsksForWork : List (List ℕ) → Type 0

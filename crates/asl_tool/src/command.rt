@@ -1,12 +1,15 @@
 //! The commands: from the bytes of an input to those of the output.
-ghost use Rattle.std.specs.Prelude.{◌≡◌, IfOk, IfErr};
+ghost use Rattle.std.specs.Prelude.{◌≡◌, true, IfOk, IfErr};
 ghost use Rattle.asl_tool.specs.Debug.{IsDebugged};
+ghost use Rattle.asl_tool.specs.RunFile.{SpellsRun};
+ghost use Rattle.asl_tool.specs.Log.{IsLogged};
 ghost use Rattle.asl_tool.specs.Replay.{IsReplayed};
-ghost use Rattle.asl_tool.specs.Step.{IsStepped, written};
-ghost use Rattle.asl_tool.specs.Command.{IsAssembled, IsDisassembled, IsOutput, IsRefused, IsRefusedStep, IsRefusedText, IsRefusedImage, IsRefusedReplay};
+ghost use Rattle.asl_tool.specs.Step.{IsRecorded, IsStepped, written};
+ghost use Rattle.asl_tool.specs.Command.{IsAssembled, IsDisassembled, IsOutput, IsRunFile, IsRefused, IsRefusedStep, IsRefusedText, IsRefusedImage, IsRefusedReplay};
 
 use crate::compiling::compiled;
 use crate::debugging::debugged_text;
+use crate::logging::logged_text;
 use crate::program::{ProgramFault, read_program};
 use crate::replaying::replayed_text;
 use crate::run_file::{FileFault, get_run, put_run};
@@ -56,6 +59,7 @@ pub enum CommandFault {
 /// The command's refusal of the input (`docs/LIMITS.md`); `OutOfMemory` where a growth was refused.
 pub fn output_of(alloc: Global, command: &Command, input: &[u8]) -> Result<Vec<u8>, CommandFault>
     ensures ok { IfOk result (λ bytes. IsOutput command.now input.now bytes.items) }
+    ensures run_file { IfOk result (λ bytes. IsRunFile command.now input.now bytes.items) }
     ensures err { IfErr result (λ fault. IsRefused command.now input.now fault) }
 {
     match command {
@@ -68,6 +72,7 @@ pub fn output_of(alloc: Global, command: &Command, input: &[u8]) -> Result<Vec<u
         Command::Disassemble => disassembled(alloc, input),
         Command::Compile { longest, text } => compiled(alloc, longest, *text, input),
         Command::Replay => replayed(alloc, input),
+        Command::Log { trace } => logged(alloc, *trace, input),
         Command::Debug { words } => debugged(alloc, words.as_slice(), input),
     }
 }
@@ -81,6 +86,7 @@ fn stepped(
     input: &[u8],
 ) -> Result<Vec<u8>, CommandFault>
     ensures ok { IfOk result (λ bytes. IsStepped input.now threads schedule.now «record» bytes.items) }
+    ensures run_file { IfOk result (λ bytes. «record» ≡ true → IsRecorded input.now threads schedule.now bytes.items) }
     ensures err { IfErr result (λ fault. IsRefusedStep input.now threads schedule.now fault) }
 {
     let program = match read_program(alloc, input) {
@@ -104,7 +110,8 @@ pub fn written(
     journal: &Journal,
     record: bool,
 ) -> Result<Vec<u8>, AllocError>
-    ensures { IfOk result (λ bytes. bytes.items ≡ written «record» program.now journal.now) }
+    ensures bytes { IfOk result (λ bytes. bytes.items ≡ written «record» program.now journal.now) }
+    ensures spelled { IfOk result (λ bytes. «record» ≡ true → SpellsRun program.now journal.now bytes.items) }
 {
     if record {
         put_run(alloc, program, journal)
@@ -154,6 +161,21 @@ fn replayed(alloc: Global, file: &[u8]) -> Result<Vec<u8>, CommandFault>
         Err(fault) => return Err(CommandFault::File(fault)),
     };
     match replayed_text(alloc, &program, &journal) {
+        Ok(text) => Ok(text.into_bytes()),
+        Err(fault) => Err(CommandFault::Journal(fault)),
+    }
+}
+
+/// The lines of the events of the run file, if it is a run of its program.
+fn logged(alloc: Global, trace: bool, file: &[u8]) -> Result<Vec<u8>, CommandFault>
+    ensures ok { IfOk result (λ text. IsLogged file.now trace text.items) }
+    ensures err { IfErr result (λ fault. IsRefusedReplay file.now fault) }
+{
+    let (program, journal) = match get_run(alloc, file) {
+        Ok(run) => run,
+        Err(fault) => return Err(CommandFault::File(fault)),
+    };
+    match logged_text(alloc, &program, &journal, trace) {
         Ok(text) => Ok(text.into_bytes()),
         Err(fault) => Err(CommandFault::Journal(fault)),
     }

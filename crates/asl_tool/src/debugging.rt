@@ -6,10 +6,10 @@ ghost use Rattle.asl_journal.specs.Journal.{IsJournal};
 ghost use Rattle.asl_journal.specs.Replay.{IsReplayFault};
 ghost use Rattle.asl_tool.specs.Debug.{Follows, IsAnswer, IsNoMove, IsTalk, answer_text, arrived, opened};
 
-use crate::view::push_view;
 use asl_code::Program;
 use asl_debugger::{DebugFault, Debugger};
 use asl_journal::{Journal, JournalFault};
+use asl_show::{push_asks, push_objects, push_stack, push_view};
 use asl_words::{DebugWord, Move};
 use std::alloc::{AllocError, Global};
 
@@ -89,6 +89,9 @@ fn obey(
             write!(text, "clear {pc}\n")
         }
         DebugWord::View => push_view(text, debugger.view()),
+        DebugWord::Asks => push_asks(alloc, text, debugger.view()),
+        DebugWord::Stack => push_stack(text, debugger.view()),
+        DebugWord::Objects => push_objects(text, debugger.view()),
     }
 }
 

@@ -1,9 +1,11 @@
 //! Laws of the commands, as functions that do nothing: what each ensures is the law.
-ghost use Rattle.std.specs.Prelude.{◌≡◌, ◌<◌, ℕ, List, All, Result};
+ghost use Rattle.std.specs.Prelude.{◌≡◌, ◌<◌, ◌↔◌, ℕ, false, List, All, Result};
 ghost use Rattle.asl_words.specs.declared.command.Command.{Command};
 ghost use Rattle.asl_tool.specs.declared.command.CommandFault.{CommandFault};
+ghost use Rattle.asl_tool.specs.Log.{IsLogged};
 ghost use Rattle.asl_tool.specs.Outcome.{IsOutcome, IsSettled};
 ghost use Rattle.asl_tool.specs.RunFile.{RunOfSpellingIsOne, SpellingOfRunIsOne, FilesHaveAnOutcome, FileOutcomeIsOne};
+ghost use Rattle.asl_tool.specs.Step.{IsRecorded, IsStepped};
 
 use asl_assembler::laws::texts_have_one_outcome;
 use asl_loader::laws::bytes_have_one_outcome;
@@ -32,3 +34,12 @@ pub fn run_files_have_one_outcome()
     ensures some { FilesHaveAnOutcome }
     ensures one { FileOutcomeIsOne }
 {}
+
+/// What `step --record` writes is printed by `log` as `step` without `--record` prints the same steps, and in no other way.
+pub fn logs_are_steps()
+    ensures { (input file output : List ℕ) (threads : ℕ) (schedule : List ℕ) → All (λ b. b < 256) input
+        → IsRecorded input threads schedule file → (IsLogged file false output ↔ IsStepped input threads schedule false output) }
+{
+    texts_have_one_outcome();
+    bytes_have_one_outcome();
+}

@@ -4,19 +4,18 @@
 mod command;
 mod compiling;
 mod debugging;
+mod exit_status;
 pub mod laws;
-mod performing;
+mod logging;
 mod program;
 mod replaying;
-mod replies;
+mod run;
 mod run_file;
 mod step;
 mod streams;
-mod view;
-mod working;
 
 pub use command::{CommandFault, output_of};
-pub use performing::{tool, tool_alone};
+pub use exit_status::{tool, tool_alone};
 pub use program::ProgramFault;
 pub use run_file::{FileFault, get_run, put_run};
 pub use streams::{ReadFault, WriteFault, read_whole, write_whole};

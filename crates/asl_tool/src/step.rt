@@ -4,9 +4,9 @@ ghost use Rattle.asl_journal.specs.Journal.{most_events, schedule_of};
 ghost use Rattle.asl_tool.specs.Output.{event_lines};
 ghost use Rattle.asl_tool.specs.Step.{AllThere, IsSchedule, IsRecord, IsRefusedRun, IsFaultySchedule};
 
-use crate::replies::push_line;
 use asl_code::Program;
-use asl_journal::{MAX_EVENTS, Event, Journal, JournalFault, Journaled};
+use asl_journal::{Event, Journal, JournalFault, Journaled, MAX_EVENTS};
+use asl_show::push_line;
 use std::alloc::{AllocError, Global};
 
 /// The journal of the program's run over the schedule. The schedule is judged before the first step.

@@ -5,7 +5,7 @@ mod sections;
 mod values;
 
 use asl_tool::laws::{
-    commands_have_one_outcome, run_and_bytes_are_one, run_files_have_one_outcome,
+    commands_have_one_outcome, logs_are_steps, run_and_bytes_are_one, run_files_have_one_outcome,
 };
 use asl_tool::output_of;
 use asl_words::Command;
@@ -100,6 +100,7 @@ fn expect_cases(rt: &(impl Abort + AllocGlobal), cases: &[Case]) {
 #[test]
 fn the_laws_are_there(_rt: HostRuntime) {
     commands_have_one_outcome();
+    logs_are_steps();
     run_and_bytes_are_one();
     run_files_have_one_outcome();
 }

@@ -29,14 +29,42 @@ fn a_recorded_run_comes_again(rt: HostRuntime) {
     assert!(rt; done == Some(true));
 }
 
+/// The lines of the counter's run, and those with the place of each step.
+static LOGS: [(&str, &str); 2] = [
+    ("log", "0 0 ran\n1 0 ran\n2 1 ran\n3 1 blocked\n"),
+    (
+        "log --trace",
+        "0 0 0 0 ran\n1 0 1 0 ran\n2 1 0 0 ran\n3 1 1 0 blocked\n",
+    ),
+];
+
+#[test]
+fn a_recorded_run_is_told(rt: HostRuntime) {
+    for (line, lines) in LOGS.iter() {
+        let done = is_done(rt.alloc(), line, &FILE, (0, lines.as_bytes(), ""));
+        assert!(rt; done == Some(true), "{line}");
+    }
+}
+
 /// The words of a debugger over the counter's run, and what it answers.
-static TALKS: [(&str, &str); 9] = [
+static TALKS: [(&str, &str); 12] = [
     (
         "debug goto 4 back back view",
         "at 4\nat 3\nat 2\nthread 0 pc 2 depth 1\nreg 0 0 int 0\nreg 0 1 addr 0.0\nreg 0 2 int 0\nreg 0 3 int 0\n\
         reg 0 4 int 0\nthread 1 pc 0 depth 0\nreg 1 0 int 1\nreg 1 1 int 0\nreg 1 2 int 0\nreg 1 3 int 0\n\
         reg 1 4 int 0\ncell 0.0 int 0\nheld 0 root IX\nheld 0 class 0 IX\nheld 0 leaf 0.0 X\n",
     ),
+    (
+        "debug goto 4 asks",
+        "at 4\nasks 1 root IX\nasks 1 class 0 IX\nasks 1 leaf 0.0 X\nclash 1 leaf 0.0 X 0 X\n",
+    ),
+    (
+        "debug stack",
+        "frame 0 0 fn 0 pc 0\nlocal 0 0 0 int 0\nlocal 0 0 1 int 0\nlocal 0 0 2 int 0\nlocal 0 0 3 int 0\n\
+        local 0 0 4 int 0\nframe 1 0 fn 0 pc 0\nlocal 1 0 0 int 1\nlocal 1 0 1 int 0\nlocal 1 0 2 int 0\n\
+        local 1 0 3 int 0\nlocal 1 0 4 int 0\n",
+    ),
+    ("debug objects", "object 0 0 1\n"),
     ("debug back", "refused AtStart\n"),
     ("debug prev", "refused AtStart\n"),
     ("debug goto 5", "refused NoSuchStep\n"),

@@ -11,11 +11,13 @@ enum Wanted {
     /// The threads, the workers, the limit, and whether the run is recorded.
     Work(u32, u32, u32, bool),
     Replay,
+    Log(bool),
     Compile(u32, bool),
     Debug(&'static [DebugWord]),
     Assemble,
     Disassemble,
     Help,
+    Version,
     WrongUsage,
 }
 
@@ -33,6 +35,7 @@ fn is_command(got: &Command, wanted: &Wanted) -> bool {
             matches!(wanted, Wanted::Step(count, order, is_recorded) if threads == count && schedule.as_slice() == *order && record == is_recorded)
         }
         Command::Replay => matches!(wanted, Wanted::Replay),
+        Command::Log { trace } => matches!(wanted, Wanted::Log(is_trace) if trace == is_trace),
         Command::Compile { longest, text } => {
             matches!(wanted, Wanted::Compile(k, is_text) if longest.operations() == *k && text == is_text)
         }
@@ -60,6 +63,7 @@ fn is_as_wanted(got: &Invocation, wanted: &Wanted) -> bool {
         Invocation::Alone(command) => is_command(command, wanted),
         Invocation::Run(team) => is_team(team, wanted),
         Invocation::Help(text) => matches!(wanted, Wanted::Help) && !text.is_empty(),
+        Invocation::Version => matches!(wanted, Wanted::Version),
         Invocation::WrongUsage(text) => matches!(wanted, Wanted::WrongUsage) && !text.is_empty(),
     }
 }
@@ -112,10 +116,12 @@ fn steps(rt: HostRuntime) {
     check(&rt, &STEPPING);
 }
 
-static TRANSLATIONS: [Row; 3] = [
+static TRANSLATIONS: [Row; 5] = [
     ("asm", Wanted::Assemble),
     ("dis", Wanted::Disassemble),
     ("replay", Wanted::Replay),
+    ("log", Wanted::Log(false)),
+    ("log --trace", Wanted::Log(true)),
 ];
 
 #[test]
@@ -123,7 +129,7 @@ fn texts_and_images(rt: HostRuntime) {
     check(&rt, &TRANSLATIONS);
 }
 
-static HELPFUL: [Row; 8] = [
+static HELPFUL: [Row; 12] = [
     ("--help", Wanted::Help),
     ("-h", Wanted::Help),
     ("step --help", Wanted::Help),
@@ -132,6 +138,10 @@ static HELPFUL: [Row; 8] = [
     ("dis -h", Wanted::Help),
     ("replay --help", Wanted::Help),
     ("step --threads 2 --help", Wanted::Help),
+    ("log --help", Wanted::Help),
+    ("--version", Wanted::Version),
+    ("-V", Wanted::Version),
+    ("--version step", Wanted::Version),
 ];
 
 #[test]
@@ -150,7 +160,7 @@ static NO_COMMANDS: [Row; 12] = [
     ("dis 0", Wanted::WrongUsage),
     ("asm -", Wanted::WrongUsage),
     ("--threads 1 step 0", Wanted::WrongUsage),
-    ("--version", Wanted::WrongUsage),
+    ("asm --version", Wanted::WrongUsage),
     ("-- step --threads 1 0", Wanted::WrongUsage),
 ];
 
@@ -159,7 +169,7 @@ fn wrong_commands(rt: HostRuntime) {
     check(&rt, &NO_COMMANDS);
 }
 
-static NO_WORDS: [Row; 15] = [
+static NO_WORDS: [Row; 17] = [
     ("step", Wanted::WrongUsage),
     ("step 0", Wanted::WrongUsage),
     ("step --threads", Wanted::WrongUsage),
@@ -172,6 +182,8 @@ static NO_WORDS: [Row; 15] = [
     ("step --threads 1 --record=1 0", Wanted::WrongUsage),
     ("step --threads 1 --rec 0", Wanted::WrongUsage),
     ("replay 0", Wanted::WrongUsage),
+    ("log 0", Wanted::WrongUsage),
+    ("log --trace --trace", Wanted::WrongUsage),
     ("replay --threads 1", Wanted::WrongUsage),
     ("step --threads 1 --help=1 0", Wanted::WrongUsage),
     ("step -t 1 0", Wanted::WrongUsage),

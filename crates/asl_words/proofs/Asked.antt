@@ -2,10 +2,10 @@
 use Rattle.std.proofs.Common.{◌≡◌, ◌≢◌, ◌⊎◌, ◌∙◌, inl, inr, ap, refl, subst, sym, true, List, [], Option}
 use Rattle.clap.specs.Words.{App, IsAmong, Kinds, Row, Text, fault_of, is_simple, is_simple_and_free, subcommand_of}
 use Rattle.clap.specs.declared.error.kind.ErrorKind.{ErrorKind}
-use Rattle.clap.specs.declared.error.kind.ErrorKind.TheVariants.{DisplayHelp, OutOfMemory}
+use Rattle.clap.specs.declared.error.kind.ErrorKind.TheVariants.{DisplayHelp, DisplayVersion, OutOfMemory}
 use Rattle.clap.proofs.OnLiterals.{clap_on_literals}
 use Rattle.asl_words.specs.declared.command.Invocation.{Invocation}
-use Rattle.asl_words.specs.declared.command.Invocation.TheVariants.{Alone, Run, Help, WrongUsage}
+use Rattle.asl_words.specs.declared.command.Invocation.TheVariants.{Alone, Run, Help, Version, WrongUsage}
 use Rattle.asl_words.specs.Arguments.{asl_app}
 use Rattle.asl_words.specs.Reading.{IsRefusal}
 use Rattle.asl_words.specs.Words.{AsksFor, IsTaken}
@@ -34,7 +34,9 @@ made_of kinds words kind (Alone command) same among refusal = absurd refusal
 made_of kinds words kind (Run team) same among refusal = absurd refusal
 made_of kinds words kind (Help text) same among refusal =
     inr (subst (IsAmong DisplayHelp) (sym same) (subst (λ (k : ErrorKind). IsAmong k kinds) refusal among))
-made_of kinds words kind (WrongUsage text) same among refusal = inr (kind, subst (IsAmong kind) (sym same) among, refusal)
+made_of kinds words kind Version same among refusal =
+    inr (subst (IsAmong DisplayVersion) (sym same) (subst (λ (k : ErrorKind). IsAmong k kinds) refusal among))
+made_of kinds words kind (WrongUsage text) same among refusal = inr (kind, subst (IsAmong kind) (sym same) among, refusal.0, refusal.1)
 
 -- words that were not taken
 pub refused_words : (app : App) (words : List Text) (kind : ErrorKind) (i : Invocation) → app ≡ asl_app

@@ -63,6 +63,9 @@ spanned first (word.Move move.Previous) is = spans first _ is (refl, omega arith
 spanned first (word.Break pc) is = spans first _ is.1 (refl, omega arith)
 spanned first (word.Clear pc) is = spans first _ is.1 (refl, omega arith)
 spanned first word.View is = spans first _ is (refl, omega arith)
+spanned first word.Asks is = spans first _ is (refl, omega arith)
+spanned first word.Stack is = spans first _ is (refl, omega arith)
+spanned first word.Objects is = spans first _ is (refl, omega arith)
 
 -- words behind the first change nothing
 pub span_front : (first rest : List Text) → 0 < length first → span (first ++ rest) ≡ span first
@@ -111,6 +114,9 @@ no_first name rest bare numbered first other e (word.Move move.Previous) is = on
 no_first name rest bare numbered first other e (word.Break pc) is = two_first name rest numbered (codes "break") is.0 other (word.Break pc) (e ∙ ap (λ (xs : List Text). xs ++ other) is.1) (is.0, refl, is.2)
 no_first name rest bare numbered first other e (word.Clear pc) is = two_first name rest numbered (codes "clear") is.0 other (word.Clear pc) (e ∙ ap (λ (xs : List Text). xs ++ other) is.1) (is.0, refl, is.2)
 no_first name rest bare numbered first other e word.View is = one_first name rest bare (codes "view") other word.View (e ∙ ap (λ (xs : List Text). xs ++ other) is) refl
+no_first name rest bare numbered first other e word.Asks is = one_first name rest bare (codes "asks") other word.Asks (e ∙ ap (λ (xs : List Text). xs ++ other) is) refl
+no_first name rest bare numbered first other e word.Stack is = one_first name rest bare (codes "stack") other word.Stack (e ∙ ap (λ (xs : List Text). xs ++ other) is) refl
+no_first name rest bare numbered first other e word.Objects is = one_first name rest bare (codes "objects") other word.Objects (e ∙ ap (λ (xs : List Text). xs ++ other) is) refl
 
 -- a first word that is none, with whatever stands behind it
 pub no_front : (name : Text) (rest : List Text) → IsNoBareWord name
@@ -134,6 +140,9 @@ number_behind name text (word.Move move.Previous) is = absurd (two_are_not_one (
 number_behind name text (word.Break k) is = (k, subst (λ (t : Text). IsNumber t k) (sym (ap (λ (xs : List Text). get_or xs 1 []) is.1)) is.2)
 number_behind name text (word.Clear k) is = (k, subst (λ (t : Text). IsNumber t k) (sym (ap (λ (xs : List Text). get_or xs 1 []) is.1)) is.2)
 number_behind name text word.View is = absurd (two_are_not_one (name ∷ text ∷ []) (codes "view") is refl)
+number_behind name text word.Asks is = absurd (two_are_not_one (name ∷ text ∷ []) (codes "asks") is refl)
+number_behind name text word.Stack is = absurd (two_are_not_one (name ∷ text ∷ []) (codes "stack") is refl)
+number_behind name text word.Objects is = absurd (two_are_not_one (name ∷ text ∷ []) (codes "objects") is refl)
 
 -- a first word that is none alone and none with another behind it
 pub no_word_first : (all : List (Bor Text)) (d : Bor Text) → 0 < length all → IsNoBareWord (slice_index_or all 0 d).now

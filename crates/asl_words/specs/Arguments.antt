@@ -54,20 +54,24 @@ run_app =
     with_rule (with_rule (with_rule (with_rule (new_app (codes "run")) (needed_rule (codes "threads"))) (needed_rule (codes "workers")))
     (needed_rule (codes "limit"))) (flag_rule (codes "record"))
 
+-- `log [--trace]`
+abbrev pub log_app : App
+log_app = with_rule (new_app (codes "log")) (flag_rule (codes "trace"))
+
 -- `debug WORD..`
 abbrev pub debug_app : App
 debug_app = with_rule (new_app (codes "debug")) (words_rule (codes "words"))
 
--- the program's words are those behind its own name, and name a command
+-- the program's words are those after its own name, and name a command; it has the flags `--version` and `-V`
 abbrev pub bare_app : App
 bare_app = record {
-  top = record (new_app (codes "asl")).top { no_binary_name = true; subcommand_required = true; disable_help_subcommand = true };
+  top = record (new_app (codes "asl")).top { has_version = true; no_binary_name = true; subcommand_required = true; disable_help_subcommand = true };
   subs = [];
 }
 
 -- the program
 abbrev pub asl_app : App
 asl_app =
-    with_subcommand (with_subcommand (with_subcommand (with_subcommand (with_subcommand (with_subcommand (with_subcommand bare_app
-    compile_app.top) asm_app.top) dis_app.top) step_app.top) run_app.top) replay_app.top)
+    with_subcommand (with_subcommand (with_subcommand (with_subcommand (with_subcommand (with_subcommand (with_subcommand (with_subcommand bare_app
+    compile_app.top) asm_app.top) dis_app.top) step_app.top) run_app.top) replay_app.top) log_app.top)
     debug_app.top

@@ -4,7 +4,7 @@ use Rattle.clap.specs.Words.{Text}
 use Rattle.clap.specs.declared.error.kind.ErrorKind.{ErrorKind}
 use Rattle.clap.specs.declared.error.kind.ErrorKind.TheVariants as kinds
 use Rattle.asl_words.specs.declared.command.Invocation.{Invocation}
-use Rattle.asl_words.specs.declared.command.Invocation.TheVariants.{Help, WrongUsage}
+use Rattle.asl_words.specs.declared.command.Invocation.TheVariants.{Help, Version, WrongUsage}
 use Rattle.asl_words.specs.declared.number.NumbersFault.{NumbersFault}
 use Rattle.asl_words.specs.declared.number.NumbersFault.TheVariants as fault
 use Rattle.asl_words.specs.declared.debug_word.DebugWord.{DebugWord}
@@ -21,7 +21,8 @@ IsWrongUsage i = ⊥
 -- what is made of an error of this kind
 abbrev pub IsRefusal : ErrorKind → Invocation → Type 0
 IsRefusal kind (Help text) = kind ≡ kinds.DisplayHelp
-IsRefusal kind (WrongUsage text) = kind ≢ kinds.DisplayHelp
+IsRefusal kind Version = kind ≡ kinds.DisplayVersion
+IsRefusal kind (WrongUsage text) = (kind ≢ kinds.DisplayHelp) × (kind ≢ kinds.DisplayVersion)
 IsRefusal kind i = ⊥
 
 -- why texts are no numbers; of want of memory nothing is said

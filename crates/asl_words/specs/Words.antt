@@ -5,12 +5,12 @@ use Rattle.std.specs.Prelude.{◌≡◌, ◌≢◌, ◌≤◌, ◌⊎◌, ℕ, B
 use Rattle.std.specs.List.{All}
 use Rattle.clap.specs.Words.{Kinds, IsAmong, Row, Text, all_of, fault_of, first_of, one_of, subcommand_of}
 use Rattle.clap.specs.declared.error.kind.ErrorKind.{ErrorKind}
-use Rattle.clap.specs.declared.error.kind.ErrorKind.TheVariants.{DisplayHelp}
+use Rattle.clap.specs.declared.error.kind.ErrorKind.TheVariants.{DisplayHelp, DisplayVersion}
 use Rattle.asl_words.specs.declared.command.Command.{Command}
 use Rattle.asl_words.specs.declared.command.Command.TheVariants as command
 use Rattle.asl_words.specs.declared.command.Team.{Team}
 use Rattle.asl_words.specs.declared.command.Invocation.{Invocation}
-use Rattle.asl_words.specs.declared.command.Invocation.TheVariants.{Alone, Run, Help, WrongUsage}
+use Rattle.asl_words.specs.declared.command.Invocation.TheVariants.{Alone, Run, Help, Version, WrongUsage}
 use Rattle.asl_words.specs.declared.debug_word.DebugWord.{DebugWord}
 use Rattle.asl_words.specs.declared.debug_word.DebugWord.TheVariants as word
 use Rattle.asl_words.specs.declared.debug_word.Move.TheVariants as move
@@ -47,6 +47,9 @@ IsDebugWord words (word.Move move.Previous) = words ≡ codes "prev" ∷ []
 IsDebugWord words (word.Break pc) = (text : Text) × (words ≡ codes "break" ∷ text ∷ []) × IsNumber text pc
 IsDebugWord words (word.Clear pc) = (text : Text) × (words ≡ codes "clear" ∷ text ∷ []) × IsNumber text pc
 IsDebugWord words word.View = words ≡ codes "view" ∷ []
+IsDebugWord words word.Asks = words ≡ codes "asks" ∷ []
+IsDebugWord words word.Stack = words ≡ codes "stack" ∷ []
+IsDebugWord words word.Objects = words ≡ codes "objects" ∷ []
 
 -- the words ask the debugger for these, one after the other
 abbrev pub AreDebugWords : List Text → List DebugWord → Type 0
@@ -65,6 +68,7 @@ IsCommand name rows command.Disassemble = name ≡ codes "dis"
 IsCommand name rows (command.Compile longest text) =
     (name ≡ codes "compile") × IsLengthAt rows longest × IsFlagAt (codes "text") rows text
 IsCommand name rows command.Replay = name ≡ codes "replay"
+IsCommand name rows (command.Log trace) = (name ≡ codes "log") × IsFlagAt (codes "trace") rows trace
 IsCommand name rows (command.Debug words) = (name ≡ codes "debug") × AreDebugWords (words_at (codes "words") rows) words.items
 
 -- the command is `run` with these values
@@ -96,7 +100,7 @@ AskNothing rows = (words : List DebugWord) → AreDebugWords (words_at (codes "w
 -- the name is none of the program's commands
 abbrev pub IsUnknown : Text → Type 0
 IsUnknown name = All (λ known. name ≢ known)
-    (codes "step" ∷ codes "asm" ∷ codes "dis" ∷ codes "compile" ∷ codes "replay" ∷ codes "debug" ∷ codes "run" ∷ [])
+    (codes "step" ∷ codes "asm" ∷ codes "dis" ∷ codes "compile" ∷ codes "replay" ∷ codes "log" ∷ codes "debug" ∷ codes "run" ∷ [])
 
 -- the command has this name, and one of its values is none
 abbrev pub IsMisused : Text → List Row → Type 0
@@ -111,6 +115,7 @@ abbrev pub IsReading : Text → List Row → Invocation → Type 0
 IsReading name rows (Alone command) = IsCommand name rows command
 IsReading name rows (Run team) = IsTeam name rows team
 IsReading name rows (Help text) = ⊥
+IsReading name rows Version = ⊥
 IsReading name rows (WrongUsage text) = IsMisused name rows
 
 -- ---- words
@@ -121,13 +126,14 @@ IsTaken (Some named) invocation = IsReading named.0 named.1 invocation
 IsTaken None (WrongUsage text) = Unit {0}
 IsTaken None invocation = ⊥
 
--- what words ask for that `clap` does not take: help, or else nothing that is legal
+-- what words ask for that `clap` does not take: help, or the version, or else nothing that is legal
 abbrev pub IsNotTaken : Kinds → Invocation → Type 0
 IsNotTaken kinds (Help text) = IsAmong DisplayHelp kinds
-IsNotTaken kinds (WrongUsage text) = (kind : ErrorKind) × IsAmong kind kinds × (kind ≢ DisplayHelp)
+IsNotTaken kinds Version = IsAmong DisplayVersion kinds
+IsNotTaken kinds (WrongUsage text) = (kind : ErrorKind) × IsAmong kind kinds × (kind ≢ DisplayHelp) × (kind ≢ DisplayVersion)
 IsNotTaken kinds invocation = ⊥
 
--- what the words ask for: a command where `clap` takes them, help where they ask for it
+-- what the words ask for: a command where `clap` takes them, help or the version where they ask for it
 abbrev pub AsksFor : List Text → Invocation → Type 0
 AsksFor words invocation =
     ((fault_of asl_app words ≡ []) × IsTaken (subcommand_of asl_app words) invocation)

@@ -2,7 +2,7 @@
 ghost use Rattle.std.specs.Prelude.{◌≡◌, false, IfOk};
 ghost use Rattle.clap.specs.Words.{app_of, new_app, rule_of, with_rule, with_subcommand};
 ghost use Rattle.clap.specs.declared.builder.command.Command.TheViews.{out-Command};
-ghost use Rattle.asl_words.specs.Arguments.{asl_app, asm_app, bare_app, compile_app, debug_app, dis_app, flag_rule, needed_rule, replay_app, run_app, step_app, value_rule, words_rule};
+ghost use Rattle.asl_words.specs.Arguments.{asl_app, asm_app, bare_app, compile_app, debug_app, dis_app, flag_rule, log_app, needed_rule, replay_app, run_app, step_app, value_rule, words_rule};
 ghost use Rattle.asl_words.specs.Building.{IsBuilt};
 
 use crate::help;
@@ -20,6 +20,7 @@ pub fn program<'a>(alloc: Global) -> Result<Command<'a>, AllocError>
     let command = with_command(command, step_command(alloc)?)?;
     let command = with_command(command, run_command(alloc)?)?;
     let command = with_command(command, replay_command(alloc)?)?;
+    let command = with_command(command, log_command(alloc)?)?;
     with_command(command, debug_command(alloc)?)
 }
 
@@ -30,6 +31,7 @@ fn bare_program<'a>(alloc: Global) -> Result<Command<'a>, AllocError>
     let command = named(alloc, "asl", "asl", help::PROGRAM)?;
     Ok(
         command
+            .version(help::VERSION)
             .no_binary_name(true)
             .subcommand_required(true)
             .disable_help_subcommand(true),
@@ -79,6 +81,13 @@ fn run_command<'a>(alloc: Global) -> Result<Command<'a>, AllocError>
     let command = with_argument(command, needed(alloc, "workers", "W", help::WORKERS))?;
     let command = with_argument(command, needed(alloc, "limit", "L", help::LIMIT))?;
     with_argument(command, flag(alloc, "record", help::RECORD))
+}
+
+fn log_command<'a>(alloc: Global) -> Result<Command<'a>, AllocError>
+    ensures { IfOk result (λ command. IsBuilt command log_app) }
+{
+    let command = named(alloc, "log", "asl log", help::LOG)?;
+    with_argument(command, flag(alloc, "trace", help::TRACE))
 }
 
 fn debug_command<'a>(alloc: Global) -> Result<Command<'a>, AllocError>

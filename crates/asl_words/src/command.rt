@@ -27,6 +27,11 @@ pub enum Command {
     },
     /// `replay`: whether the input, a run file, is a run of its program.
     Replay,
+    /// `log`: the lines of the replies of the input, a run file, if it is a run of its program.
+    Log {
+        /// Whether each line also says where its thread was before the step.
+        trace: bool,
+    },
     /// `debug`: what a debugger over the input, a run file, answers to the words.
     Debug {
         /// What it is asked, one after the other.
@@ -56,6 +61,8 @@ pub enum Invocation {
     Run(Team),
     /// The words ask for help: the text to show.
     Help(String),
+    /// The words ask which version of the program this is.
+    Version,
     /// The words are no legal use: the text that says why.
     WrongUsage(String),
 }

@@ -26,4 +26,10 @@ pub enum DebugWord {
     Clear(u32),
     /// `view`: shows the machine.
     View,
+    /// `asks`: shows what threads ask for, and who is in their way.
+    Asks,
+    /// `stack`: shows the frames of the threads.
+    Stack,
+    /// `objects`: shows the objects.
+    Objects,
 }

@@ -9,6 +9,9 @@ pub struct Page {
     pub more: &'static str,
 }
 
+/// What `--version` says after the program's name.
+pub const VERSION: &str = "2, logic dac8208d650f15bf";
+
 /// The page of the program without a command.
 pub const PROGRAM: Page = Page {
     about: "Programs with atomic sections: infers the locks of sections, runs programs step by step, and goes back and forth in recorded runs",
@@ -21,7 +24,7 @@ pub const PROGRAM: Page = Page {
         Status: 0 done; 1 refused, with one line 'asl: NAME' on standard error; 2 wrong usage.\n\
         A command's --help lists the names of its refusals.\n\
         \n\
-        asl 1, proved in the logic dac8208d650f15bf",
+        asl 2, proved in the logic dac8208d650f15bf",
 };
 
 /// The page of the command `compile`.
@@ -53,7 +56,7 @@ pub const COMPILE: Page = Page {
         \u{20} Write                        standard output failed; a part of the output may have been written\n\
         \u{20} OutOfMemory                  memory ran out\n\
         \n\
-        asl 1, proved in the logic dac8208d650f15bf",
+        asl 2, proved in the logic dac8208d650f15bf",
 };
 
 /// The page of the command `asm`.
@@ -76,7 +79,7 @@ pub const ASM: Page = Page {
         \u{20} Write         standard output failed; a part of the output may have been written\n\
         \u{20} OutOfMemory   memory ran out\n\
         \n\
-        asl 1, proved in the logic dac8208d650f15bf",
+        asl 2, proved in the logic dac8208d650f15bf",
 };
 
 /// The page of the command `dis`.
@@ -102,7 +105,7 @@ pub const DIS: Page = Page {
         \u{20} Write           standard output failed; a part of the output may have been written\n\
         \u{20} OutOfMemory     memory ran out\n\
         \n\
-        asl 1, proved in the logic dac8208d650f15bf",
+        asl 2, proved in the logic dac8208d650f15bf",
 };
 
 /// The page of the command `step`.
@@ -129,7 +132,7 @@ pub const STEP: Page = Page {
         \u{20} Write                 standard output failed; a part of the output may have been written\n\
         \u{20} OutOfMemory           memory ran out\n\
         \n\
-        asl 1, proved in the logic dac8208d650f15bf",
+        asl 2, proved in the logic dac8208d650f15bf",
 };
 
 /// The page of the command `run`.
@@ -156,7 +159,7 @@ pub const RUN: Page = Page {
         \u{20} Write                 standard output failed; a part of the output may have been written\n\
         \u{20} OutOfMemory           memory ran out\n\
         \n\
-        asl 1, proved in the logic dac8208d650f15bf",
+        asl 2, proved in the logic dac8208d650f15bf",
 };
 
 /// The page of the command `replay`.
@@ -182,19 +185,18 @@ pub const REPLAY: Page = Page {
         \u{20} Write          standard output failed; a part of the output may have been written\n\
         \u{20} OutOfMemory    memory ran out\n\
         \n\
-        asl 1, proved in the logic dac8208d650f15bf",
+        asl 2, proved in the logic dac8208d650f15bf",
 };
 
-/// The page of the command `debug`.
-pub const DEBUG: Page = Page {
-    about: "Goes back and forth in a recorded run",
+/// The page of the command `log`.
+pub const LOG: Page = Page {
+    about: "Makes the steps of a recorded run again, and prints them",
     more: "Input: a run file (docs/JOURNAL.md)\n\
-        Output: a line for each word: 'at K' or 'refused NAME', for break P and clear P the word; and what view shows\n\
-        Words: goto K, forward, back, next, prev (breakpoints), view, break P, clear P (P: place in the code, from 0)\n\
+        Output: a line for each event, 'NUMBER THREAD REPLY', as step prints it; with --trace 'NUMBER THREAD PC DEPTH REPLY'\n\
         \n\
         Examples, from the top of the repository:\n\
-        \u{20} asl debug goto 4 back back view < examples/counter.run\n\
-        \u{20} asl debug break 1 next next prev < examples/counter.run\n\
+        \u{20} asl log < examples/counter.run\n\
+        \u{20} asl run --threads 8 --workers 4 --limit 1000 --record < examples/counter.asm | asl log --trace\n\
         \n\
         Status: 0 done; 1 refused, with one line 'asl: NAME' on standard error; 2 wrong usage.\n\
         \n\
@@ -209,7 +211,36 @@ pub const DEBUG: Page = Page {
         \u{20} Write          standard output failed; a part of the output may have been written\n\
         \u{20} OutOfMemory    memory ran out\n\
         \n\
-        asl 1, proved in the logic dac8208d650f15bf",
+        asl 2, proved in the logic dac8208d650f15bf",
+};
+
+/// The page of the command `debug`.
+pub const DEBUG: Page = Page {
+    about: "Goes back and forth in a recorded run",
+    more: "Input: a run file (docs/JOURNAL.md)\n\
+        Output: for each word 'at K' or 'refused NAME'; for break P and clear P the word; for the last four what they show\n\
+        Words: goto K, forward, back, next, prev (breakpoints), break P, clear P (P: place in the code, from 0),\n\
+        view (the machine), asks (what threads ask for, and who is in the way), stack (all frames), objects\n\
+        \n\
+        Examples, from the top of the repository:\n\
+        \u{20} asl debug goto 4 back back view < examples/counter.run\n\
+        \u{20} asl debug break 1 next next prev < examples/counter.run\n\
+        \u{20} asl debug goto 4 asks stack < examples/counter.run\n\
+        \n\
+        Status: 0 done; 1 refused, with one line 'asl: NAME' on standard error; 2 wrong usage.\n\
+        \n\
+        Refusals, where several apply the first of them:\n\
+        \u{20} Read           standard input failed\n\
+        \u{20} TooLong        the input is longer than 268435456 bytes\n\
+        \u{20} Truncated(n)   the run file, of n bytes, ends before its image does\n\
+        \u{20} Image(NAME)    its image is refused: asl dis --help\n\
+        \u{20} Journal(NAME)  its journal is refused: Magic, Version, Truncated(n), BadField(n), Trailing(n)\n\
+        \u{20} BadCount       the journal has more threads than the program's version sets\n\
+        \u{20} Differs(n)     the journal is none of the program: event n, from 0, is the first that differs\n\
+        \u{20} Write          standard output failed; a part of the output may have been written\n\
+        \u{20} OutOfMemory    memory ran out\n\
+        \n\
+        asl 2, proved in the logic dac8208d650f15bf",
 };
 
 /// The argument `--k`.
@@ -227,6 +258,9 @@ pub const WORKERS: &str =
 pub const LIMIT: &str = "How many steps are made at most, 0 to 16777216";
 /// The flag `--record`.
 pub const RECORD: &str = "Writes the run file, the program and its journal, in place of the lines";
+/// The flag `--trace`.
+pub const TRACE: &str =
+    "Says before each reply the thread's pc and depth before the step, '-' for a thread that had ended";
 /// The words of `step`.
 pub const SCHEDULE: &str = "The thread of each step, from 0";
 /// The words of `debug`.

@@ -22,7 +22,8 @@ const A_PATH_LIMIT: &str = "no number from 0 to 8";
 /// Where usage is explained.
 const HELP_IS_THERE: &str = "For more information, try '--help'.\n";
 /// What a word of the debugger must be.
-const A_WORD: &str = "none of goto, forward, back, next, prev, break, clear, view";
+const A_WORD: &str =
+    "none of goto, forward, back, next, prev, break, clear, view, asks, stack, objects";
 
 /// Judges the words, which are those after the program's name.
 ///
@@ -62,6 +63,7 @@ fn read_command(
         "dis" => Ok(Invocation::Alone(Command::Disassemble)),
         "compile" => read_compile(alloc, values),
         "replay" => Ok(Invocation::Alone(Command::Replay)),
+        "log" => Ok(read_log(values)),
         "debug" => read_debug(alloc, values),
         "run" => read_run(alloc, values),
         _ => wrong_usage(alloc, "the command is unknown"),
@@ -121,6 +123,13 @@ fn read_compile(alloc: Global, values: &ArgMatches<'_>) -> Result<Invocation, Al
         }
         Err(word) => invalid(alloc, word, "--k <K>", A_PATH_LIMIT),
     }
+}
+
+fn read_log(values: &ArgMatches<'_>) -> Invocation
+    ensures { IsReading (codes "log") (rows_of (found_of values.now)) result }
+{
+    let trace = flag_at(values, "trace");
+    Invocation::Alone(Command::Log { trace })
 }
 
 /// Whether the flag was given.
@@ -236,6 +245,7 @@ fn refused(alloc: Global, error: &Error) -> Result<Invocation, AllocError>
     match error.kind() {
         ErrorKind::OutOfMemory => Err(AllocError),
         ErrorKind::DisplayHelp => Ok(Invocation::Help(error.to_string(alloc)?)),
+        ErrorKind::DisplayVersion => Ok(Invocation::Version),
         _ => Ok(Invocation::WrongUsage(error.to_string(alloc)?)),
     }
 }

@@ -74,6 +74,9 @@ fn bare_word(word: &str) -> Option<DebugWord>
         "next" => Some(DebugWord::Move(Move::Next)),
         "prev" => Some(DebugWord::Move(Move::Previous)),
         "view" => Some(DebugWord::View),
+        "asks" => Some(DebugWord::Asks),
+        "stack" => Some(DebugWord::Stack),
+        "objects" => Some(DebugWord::Objects),
         _ => None,
     }
 }

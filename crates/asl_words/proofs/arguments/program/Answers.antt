@@ -15,7 +15,8 @@ returns c =
     let with_step = c.in_ok-command-5.ensures.app_is ∙ joined with_dis c.in_ok-step_command.ensures.app_is in
     let with_run = c.in_ok-command-6.ensures.app_is ∙ joined with_step c.in_ok-run_command.ensures.app_is in
     let with_replay = c.in_ok-command-7.ensures.app_is ∙ joined with_run c.in_ok-replay_command.ensures.app_is in
-    IfOk-weaker c.with_command-7.result _ _ (λ command built. record {
-      app_is = built.app_is ∙ joined with_replay c.in_ok-debug_command.ensures.app_is;
+    let with_log = c.in_ok-command-8.ensures.app_is ∙ joined with_replay c.in_ok-log_command.ensures.app_is in
+    IfOk-weaker c.with_command-8.result _ _ (λ command built. record {
+      app_is = built.app_is ∙ joined with_log c.in_ok-debug_command.ensures.app_is;
       local = built.local;
-    }) c.with_command-7.ensures
+    }) c.with_command-8.ensures

@@ -1,0 +1,36 @@
+-- The lines of a view, as loops write them: those so far, and then those that are left.
+use Rattle.std.proofs.Common.{◌≡◌, ℕ, suc, ◌+◌, ◌-◌, ◌<◌, ◌≤◌, List, ◌++◌, refl, sym, ap, ◌∙◌, append_assoc, append-nil, add-one, arith}
+use Rattle.asl_show.specs.Lines.{lines_from}
+
+-- the lines of the numbers that are left
+abbrev left : (ℕ → List ℕ) → ℕ → ℕ → List ℕ
+left line n end = lines_from line n (end - n)
+
+-- the text so far, and then the lines that are left, are the first text and all lines
+pub record Written (line : ℕ → List ℕ) (n end : ℕ) (first text : List ℕ) : Type 0 where
+  pub all : text ++ lines_from line n (end - n) ≡ first ++ lines_from line 0 end
+
+left_step : (line : ℕ → List ℕ) (n end : ℕ) → n < end → left line n end ≡ line n ++ left line (n + 1) end
+unfolding lines_from
+left_step line n end lt =
+    let gap : end - n ≡ suc (end - (n + 1)) = omega (arith, lt) in
+    ap (lines_from line n) gap ∙ rw add-one refl
+
+pub none_written : (line : ℕ → List ℕ) (end : ℕ) (first : List ℕ) → Written line 0 end first first
+none_written line end first =
+    let whole : end - 0 ≡ end = omega arith in
+    record { all = ap (λ (k : ℕ). first ++ lines_from line 0 k) whole }
+
+pub more_written : (line : ℕ → List ℕ) (n end : ℕ) (first old new : List ℕ) → n < end → new ≡ old ++ line n → Written line n end first old → Written line (n + 1) end first new
+more_written line n end first old new lt grows w = record {
+  all = ap (λ (l : List ℕ). l ++ left line (n + 1) end) grows
+      ∙ append_assoc old (line n) (left line (n + 1) end)
+      ∙ ap (λ (l : List ℕ). old ++ l) (sym (left_step line n end lt))
+      ∙ w.all;
+}
+
+pub all_written : (line : ℕ → List ℕ) (n end : ℕ) (first text : List ℕ) → end ≤ n → Written line n end first text → text ≡ first ++ lines_from line 0 end
+unfolding lines_from
+all_written line n end first text le w =
+    let none : end - n ≡ 0 = omega (arith, le) in
+    sym (append-nil text) ∙ ap (λ (k : ℕ). text ++ lines_from line n k) (sym none) ∙ w.all

@@ -1,0 +1,7 @@
+use Rattle.std.proofs.Common.{string_bytes, length}
+use Rattle.asl_show.specs.Objects.{object_line}
+use Rattle.asl_show.proofs.Lines.{Written}
+use Rattle.asl_show.proofs.objects.push_objects.Given as goal
+
+abbrev pub invariant-loop-object : goal.invariant-loop-object
+invariant-loop-object l = Written (object_line l.machine.state) l.object (length l.machine.state.objects) (string_bytes l.initial.text) (string_bytes l.text)

@@ -1,0 +1,7 @@
+use Rattle.std.proofs.Common.{string_bytes, length}
+use Rattle.asl_show.specs.View.{holding_text}
+use Rattle.asl_show.proofs.Lines.{Written}
+use Rattle.asl_show.proofs.view.push_holdings.Given as goal
+
+abbrev pub invariant-loop-t : goal.invariant-loop-t
+invariant-loop-t l = Written (holding_text l.classes l.machine.state) l.t (length l.machine.state.threads) (string_bytes l.initial.text) (string_bytes l.text)

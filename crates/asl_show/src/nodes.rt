@@ -1,0 +1,301 @@
+//! The lines of the nodes: who holds them, who asks for them, and who is in whose way there.
+ghost use Rattle.std.specs.Prelude.{◌≡◌, ◌<◌, ◌≤◌, ◌++◌, Some, length, option_map, OnOk, string_bytes};
+ghost use Rattle.asl_lock_forest.specs.declared.node.Node.TheVariants.{Class, Leaf, Root};
+ghost use Rattle.asl_lock_forest.specs.Holding.{asked};
+ghost use Rattle.asl_show.specs.Lines.{lines_from};
+ghost use Rattle.asl_show.specs.About.{line_about};
+ghost use Rattle.asl_show.specs.Nodes.{ask_line, asker_text, clash_at, clash_line, clash_lines, clashes_at, clashing_text, held_line, leaf_lines, leaves_of, mode_name, node_lines, node_text};
+
+use crate::objects::cells;
+use crate::replies::push_address;
+use asl_code::Cell;
+use asl_lock_forest::Node;
+use asl_machine::Machine;
+use asl_mode_lanes::{Mode, compatible};
+use std::alloc::AllocError;
+
+/// What is said of each node.
+#[derive(Clone, Copy)]
+pub enum About<'a> {
+    /// In which mode the thread holds it.
+    Held,
+    /// In which mode the thread asks for it, by this request.
+    Asked(&'a [(Node, Mode)]),
+    /// Who is in the way of the thread that asks for it by this request.
+    Clashes(&'a [(Node, Mode)]),
+}
+
+/// Adds the lines of all nodes: the root, the classes, the leaves by object and offset.
+pub fn push_nodes(
+    text: &mut String,
+    classes: u32,
+    machine: &Machine<'_>,
+    t: u32,
+    about: &About<'_>,
+) -> Result<(), AllocError>
+    requires thread { t < length machine.now.state.threads }
+    requires few { classes ≤ 65536 }
+    ensures { OnOk result (string_bytes text.new ≡ string_bytes text.old
+        ++ node_lines classes machine.now.state (line_about machine.now.state t about.now)) }
+{
+    push_at(text, machine, t, Node::Root, about)?;
+    push_classes(text, classes, machine, t, about)?;
+    push_leaves(text, machine, t, about)
+}
+
+fn push_classes(
+    text: &mut String,
+    classes: u32,
+    machine: &Machine<'_>,
+    t: u32,
+    about: &About<'_>,
+) -> Result<(), AllocError>
+    requires thread { t < length machine.now.state.threads }
+    requires few { classes ≤ 65536 }
+    ensures { OnOk result (string_bytes text.new ≡ string_bytes text.old
+        ++ lines_from (λ class. line_about machine.now.state t about.now (Class class)) 0 classes) }
+{
+    for class in 0..classes {
+        push_at(text, machine, t, Node::Class(class as u16), about)?;
+    }
+    Ok(())
+}
+
+fn push_leaves(
+    text: &mut String,
+    machine: &Machine<'_>,
+    t: u32,
+    about: &About<'_>,
+) -> Result<(), AllocError>
+    requires { t < length machine.now.state.threads }
+    ensures { OnOk result (string_bytes text.new ≡ string_bytes text.old
+        ++ lines_from (leaf_lines machine.now.state (line_about machine.now.state t about.now)) 0 (length machine.now.state.objects)) }
+{
+    for object in 0..machine.objects() {
+        push_leaves_of(text, machine, t, object as u16, about)?;
+    }
+    Ok(())
+}
+
+/// Adds the lines of the object's leaves.
+fn push_leaves_of(
+    text: &mut String,
+    machine: &Machine<'_>,
+    t: u32,
+    object: u16,
+    about: &About<'_>,
+) -> Result<(), AllocError>
+    requires { t < length machine.now.state.threads }
+    ensures { OnOk result (string_bytes text.new ≡ string_bytes text.old
+        ++ leaf_lines machine.now.state (line_about machine.now.state t about.now) object) }
+{
+    match machine.class(u32::from(object)) {
+        Some(class) => push_leaves_in(text, machine, t, object, class as u16, about),
+        None => Ok(()),
+    }
+}
+
+fn push_leaves_in(
+    text: &mut String,
+    machine: &Machine<'_>,
+    t: u32,
+    object: u16,
+    class: u16,
+    about: &About<'_>,
+) -> Result<(), AllocError>
+    requires { t < length machine.now.state.threads }
+    ensures { OnOk result (string_bytes text.new ≡ string_bytes text.old
+        ++ leaves_of machine.now.state (line_about machine.now.state t about.now) object class) }
+{
+    for offset in 0..cells(machine, object) {
+        let cell = Cell {
+            object,
+            offset: offset as u8,
+        };
+        push_at(text, machine, t, Node::Leaf(cell, class), about)?;
+    }
+    Ok(())
+}
+
+/// Adds what is said of the node.
+fn push_at(
+    text: &mut String,
+    machine: &Machine<'_>,
+    t: u32,
+    node: Node,
+    about: &About<'_>,
+) -> Result<(), AllocError>
+    requires { t < length machine.now.state.threads }
+    ensures { OnOk result (string_bytes text.new ≡ string_bytes text.old ++ line_about machine.now.state t about.now node) }
+{
+    match about {
+        About::Held => push_held(text, machine, t, node),
+        About::Asked(request) => push_ask(text, t, request, node),
+        About::Clashes(request) => push_clashes(text, machine, t, request, node),
+    }
+}
+
+/// Adds the node, if the thread holds it.
+fn push_held(text: &mut String, machine: &Machine<'_>, t: u32, node: Node) -> Result<(), AllocError>
+    requires { t < length machine.now.state.threads }
+    ensures { OnOk result (string_bytes text.new ≡ string_bytes text.old ++ held_line machine.now.state t node) }
+{
+    match name_of(machine.held(t, node)) {
+        Some(name) => {
+            write!(text, "held {t} ")?;
+            push_node(text, node)?;
+            write!(text, " {name}\n")
+        }
+        None => Ok(()),
+    }
+}
+
+/// Adds the node, if the request asks for it.
+fn push_ask(
+    text: &mut String,
+    t: u32,
+    request: &[(Node, Mode)],
+    node: Node,
+) -> Result<(), AllocError>
+    ensures { OnOk result (string_bytes text.new ≡ string_bytes text.old ++ ask_line t request.now node) }
+{
+    match name_of(mode_in(request, node)) {
+        Some(name) => {
+            write!(text, "asks {t} ")?;
+            push_node(text, node)?;
+            write!(text, " {name}\n")
+        }
+        None => Ok(()),
+    }
+}
+
+/// Adds those who are in the way of the request at the node, if it asks for the node.
+fn push_clashes(
+    text: &mut String,
+    machine: &Machine<'_>,
+    t: u32,
+    request: &[(Node, Mode)],
+    node: Node,
+) -> Result<(), AllocError>
+    requires { t < length machine.now.state.threads }
+    ensures { OnOk result (string_bytes text.new ≡ string_bytes text.old ++ clash_lines machine.now.state t request.now node) }
+{
+    let mode = mode_in(request, node);
+    match name_of(mode) {
+        Some(name) => push_clashes_at(text, machine, t, node, mode, name),
+        None => Ok(()),
+    }
+}
+
+/// Adds those who hold the node in a mode that does not go with the one that the thread asks for.
+fn push_clashes_at(
+    text: &mut String,
+    machine: &Machine<'_>,
+    t: u32,
+    node: Node,
+    mode: Mode,
+    name: &str,
+) -> Result<(), AllocError>
+    requires { t < length machine.now.state.threads }
+    ensures { OnOk result (string_bytes text.new ≡ string_bytes text.old
+        ++ clashes_at machine.now.state t node mode name.now) }
+{
+    for other in 0..machine.threads() {
+        push_clash(text, machine, t, node, mode, name, other)?;
+    }
+    Ok(())
+}
+
+/// Adds the other thread, if it is in the way.
+fn push_clash(
+    text: &mut String,
+    machine: &Machine<'_>,
+    t: u32,
+    node: Node,
+    mode: Mode,
+    name: &str,
+    other: u32,
+) -> Result<(), AllocError>
+    requires { other < length machine.now.state.threads }
+    ensures { OnOk result (string_bytes text.new ≡ string_bytes text.old
+        ++ clash_at machine.now.state t node mode name.now other) }
+{
+    let held = machine.held(other, node);
+    if other == t || compatible(mode, held) {
+        return Ok(());
+    }
+    match name_of(held) {
+        Some(held) => push_clash_line(text, t, node, name, other, held),
+        None => Ok(()),
+    }
+}
+
+/// Adds the line of a clash.
+fn push_clash_line(
+    text: &mut String,
+    t: u32,
+    node: Node,
+    name: &str,
+    other: u32,
+    held: &str,
+) -> Result<(), AllocError>
+    ensures { OnOk result (string_bytes text.new ≡ string_bytes text.old ++ clash_line t node name.now other held.now) }
+{
+    push_asker(text, t, node)?;
+    push_clashing(text, name, other, held)
+}
+
+/// Adds who asks for which node.
+fn push_asker(text: &mut String, t: u32, node: Node) -> Result<(), AllocError>
+    ensures { OnOk result (string_bytes text.new ≡ string_bytes text.old ++ asker_text t node) }
+{
+    write!(text, "clash {t} ")?;
+    push_node(text, node)?;
+    text.push_str(" ")
+}
+
+/// Adds the mode that is asked, and who holds the node in which one.
+fn push_clashing(text: &mut String, name: &str, other: u32, held: &str) -> Result<(), AllocError>
+    ensures { OnOk result (string_bytes text.new ≡ string_bytes text.old ++ clashing_text name.now other held.now) }
+{
+    write!(text, "{name} {other} {held}\n")
+}
+
+/// The mode in which the request asks for the node: NL where it does not.
+fn mode_in(request: &[(Node, Mode)], node: Node) -> Mode
+    ensures { result ≡ asked request.now node }
+{
+    for ask in request {
+        if ask.0.is_same(node) {
+            return ask.1;
+        }
+    }
+    Mode::NL
+}
+
+/// The name of a mode, but of NL.
+fn name_of(mode: Mode) -> Option<&'static str>
+    ensures { option_map (λ name. name.now) result ≡ mode_name mode }
+{
+    match mode {
+        Mode::NL => None,
+        Mode::IS => Some("IS"),
+        Mode::IX => Some("IX"),
+        Mode::S => Some("S"),
+        Mode::SIX => Some("SIX"),
+        Mode::X => Some("X"),
+    }
+}
+
+fn push_node(text: &mut String, node: Node) -> Result<(), AllocError>
+    ensures { OnOk result (string_bytes text.new ≡ string_bytes text.old ++ node_text node) }
+{
+    match node {
+        Node::Root => text.push_str("root"),
+        Node::Class(class) => write!(text, "class {class}"),
+        Node::Leaf(cell, _) => {
+            text.push_str("leaf ")?;
+            push_address(text, cell.object, cell.offset)
+        }
+    }
+}

@@ -1,5 +1,0 @@
-use Rattle.std.proofs.Common.{rules}
-use Rattle.asl_tool.proofs.replies.push_reply.Goals as goal
-
-pub returns-in-Blocked : goal.returns-in-Blocked
-returns-in-Blocked c = search rules

@@ -1,0 +1,13 @@
+use Rattle.std.proofs.Common.{rules, ℕ, subst}
+use Rattle.asl_runner.specs.History.{IsAsked}
+use Rattle.asl_tool.proofs.run.run_journal.Goals as goal
+
+pub returns-in-Ok-clause-asked : goal.returns-in-Ok-clause-asked
+returns-in-Ok-clause-asked g c =
+    subst (λ (n : ℕ). IsAsked c.args.program.now c.args.team.threads c.args.team.workers n) c.from-limit.ensures c.in-Ok.ensures.asked
+
+pub returns-in-Ok-clause-ok : goal.returns-in-Ok-clause-ok
+returns-in-Ok-clause-ok g c = search rules
+
+pub returns-in-Err-clause-err : goal.returns-in-Err-clause-err
+returns-in-Err-clause-err g c = search rules
