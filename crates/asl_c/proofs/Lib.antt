@@ -1,0 +1,4 @@
+mod Weaker
+mod AsBox
+mod Laws
+mod Sends

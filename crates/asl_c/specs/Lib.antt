@@ -1,0 +1,5 @@
+pub mod Asks
+pub mod Fits
+pub mod Called
+-- Machinery: what a handle owns.
+pub mod Owned
