@@ -1,4 +1,4 @@
--- How a process ends (docs/LIMITS.md, "Refusals of the program asl").
+-- How a process ends (docs/CLI.md, "Refusals").
 use Rattle.std.specs.Prelude.{◌≡◌, ◌⊎◌, ℕ, List, Option}
 use Rattle.asl_tool.specs.Tool.{EndsWith}
 use Rattle.asl.specs.declared.process.WordsFault.{WordsFault}

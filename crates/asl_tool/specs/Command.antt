@@ -1,4 +1,4 @@
--- What each command makes of an input, and why it may refuse to (docs/LIMITS.md, "Refusals of the program asl").
+-- What each command makes of an input, and why it may refuse to (docs/CLI.md, "Refusals").
 use Rattle.std.specs.Prelude.{◌≡◌, ℕ, true, List}
 use Rattle.asl_code.specs.declared.image.Image.{Image}
 use Rattle.asl_assembler.specs.Canonical.{canonical_text}

@@ -1,4 +1,4 @@
--- The one outcome of a command for an input, where memory is there (docs/LIMITS.md, "Refusals of the program asl").
+-- The one outcome of a command for an input, where memory is there (docs/CLI.md, "Refusals").
 use Rattle.std.specs.Prelude.{ℕ, List, Result, Ok, Err}
 use Rattle.asl_assembler.specs.declared.assembly.AsmFault.TheVariants as asm
 use Rattle.asl_loader.specs.declared.fault.LoadFault.TheVariants as load

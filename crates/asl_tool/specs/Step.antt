@@ -1,4 +1,4 @@
--- What the command `step` answers: its output, or a named refusal (docs/LIMITS.md, "Refusals of the program asl").
+-- What the command `step` answers: its output, or a named refusal (docs/CLI.md, "Refusals").
 use Rattle.std.specs.Prelude.{◌≡◌, ℕ, ◌<◌, ◌≤◌, Bool, true, false, List, length, take, All}
 use Rattle.asl_code.specs.declared.image.Image.{Image}
 use Rattle.asl_machine.specs.Run.{IsThreadCount}

@@ -1,5 +1,5 @@
--- What a write that failed on its way leaves in a writer, and when an input is too long (docs/LIMITS.md, "Refusals of the
--- program asl"). Of a reader or a writer contracts know the bytes where it says them, as one over memory does.
+-- What a write that failed on its way leaves in a writer, and when an input is too long (docs/CLI.md,
+-- "Refusals"). Of a reader or a writer contracts know the bytes where it says them, as one over memory does.
 use Rattle.std.specs.Prelude.{ℕ, ◌<◌, ◌≤◌, List, Option, take, length, IfSome}
 use Rattle.asl_tool.specs.declared.streams.ReadFault.{ReadFault}
 use Rattle.asl_tool.specs.declared.streams.ReadFault.TheVariants as fault

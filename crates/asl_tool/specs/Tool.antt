@@ -1,5 +1,5 @@
--- What a run of the program leaves in the writer, by what the words ask for and what the reader had (docs/LIMITS.md,
--- "Refusals of the program asl"). `unread` and `unwritten` stand for what the contracts put there: that the reader, or the
+-- What a run of the program leaves in the writer, by what the words ask for and what the reader had (docs/CLI.md,
+-- "Refusals"). `unread` and `unwritten` stand for what the contracts put there: that the reader, or the
 -- writer, is the very value that it was at first. That is more than that its bytes are the same: of a writer that may be any
 -- one no call is known to keep the value, not even a flush.
 use Rattle.std.specs.Prelude.{◌≡◌, ◌≤◌, ◌⊎◌, ℕ, List, Option, None, Some, IfSome, codes, length}

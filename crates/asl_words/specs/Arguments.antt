@@ -1,5 +1,5 @@
 -- The commands of the program `asl` and their arguments, in the terms in which `clap` says what words make of them
--- (docs/LIMITS.md, "The commands of the program asl").
+-- (docs/CLI.md, "Commands").
 use Rattle.std.specs.Prelude.{true, [], Some, codes}
 use Rattle.clap.specs.Words.{App, Rule, Text, new_app, new_rule, with_rule, with_subcommand}
 use Rattle.clap.specs.Lexer.{usize_max}
