@@ -6,7 +6,6 @@ use Rattle.asl_code.specs.declared.lock.Lock.{Lock}
 use Rattle.asl_lane_sets.specs.NumberSet.{IsIn}
 use Rattle.asl_backward_flow.specs.declared.span.Span.{Span}
 use Rattle.asl_backward_flow.specs.declared.part.Part.{Part}
-use Rattle.asl_backward_flow.specs.declared.found.Fact.{Fact}
 use Rattle.asl_backward_flow.specs.Found.{table_of, list_at, first_of, sets_of, HasPoint, IsBlankPart, IsBlank}
 use Rattle.asl_backward_flow.proofs.Sets.{some_same}
 
@@ -84,7 +83,7 @@ none_set [] h p k n e = cc
 none_set (x ∷ parts) h zero k n e = let is = h 0 x refl in none_in is.0 k n (subst (λ l. IsIn (list_at l k) n) is.1 e)
 none_set (x ∷ parts) h (suc p) k n e = none_set parts (λ j y at. h (suc j) y at) p k n e
 
-module _ (spans : List Span) (parts : List Part) (list : List Fact) (none : list ≡ []) (so : AreMade spans (length spans) parts) where
+module _ (spans : List Span) (parts : List Part) (list : List (ℕ × ℕ)) (none : list ≡ []) (so : AreMade spans (length spans) parts) where
   part_at : (p : ℕ) (s : Span) → slice_get spans p ≡ Some s → (x : Part) × (slice_get parts p ≡ Some x) × IsBlankPart s x
   part_at p s at =
       let lt = slice_get_within spans p s at in
@@ -112,5 +111,5 @@ module _ (spans : List Span) (parts : List Part) (list : List Fact) (none : list
     list = none;
   }
 
-pub made_blank : (spans : List Span) (below : ℕ) (parts : List Part) (list : List Fact) → list ≡ [] → length spans ≡ below → AreMade spans below parts → IsBlank (table_of parts list) spans
+pub made_blank : (spans : List Span) (below : ℕ) (parts : List Part) (list : List (ℕ × ℕ)) → list ≡ [] → length spans ≡ below → AreMade spans below parts → IsBlank (table_of parts list) spans
 made_blank spans below parts list none end so = blank_table spans parts list none (subst (λ n. AreMade spans n parts) (sym end) so)

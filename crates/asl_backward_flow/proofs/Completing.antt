@@ -11,7 +11,6 @@ use Rattle.asl_backward_flow.specs.declared.region.Region as code
 use Rattle.asl_backward_flow.specs.declared.region.Region.TheVariants as variant
 use Rattle.asl_backward_flow.specs.declared.found.AddFault.{AddFault}
 use Rattle.asl_backward_flow.specs.declared.found.AddFault.TheVariants.{OutOfMemory}
-use Rattle.asl_backward_flow.specs.declared.found.Fact.{Fact}
 use Rattle.asl_backward_flow.specs.declared.span.Span.{Span}
 use Rattle.asl_backward_flow.specs.Needed.{Needed, Accessed, Linked, Entered, Before, region_of}
 use Rattle.asl_backward_flow.specs.Closed.{Family, IsClosed}
@@ -19,6 +18,7 @@ use Rattle.asl_backward_flow.specs.Found.{Table, HasFact, IsName, IsBlank, locks
 use Rattle.asl_backward_flow.specs.Follows.{Read, IsRead, IsReady, HasAll, seen, IsAtPoint, IsSeed, Follows, Added, Stopped, IsFollowed, Overflows, IsAll}
 use Rattle.asl_backward_flow.proofs.Leasts.{needed_inside, needed_least}
 use Rattle.asl_backward_flow.proofs.Sound.{seed_needed}
+use Rattle.asl_backward_flow.proofs.Fronts.{fronts_more, seeds_fronted}
 
 abbrev number_of : Region → ℕ
 number_of (Body g) = g
@@ -36,10 +36,10 @@ module _ (r : Read) (read : IsRead r) (t : Table) (so : IsFollowed r t []) where
   abbrev FoundToo : Family
   FoundToo region q m = Is region q m × ((p : ℕ) (s : Span) → slice_get r.spans p ≡ Some s → region_of s.region ≡ region → HasFact t p q m)
 
-  follow : (p q : ℕ) (m : Lock) (x y : ℕ) (n : Lock) → HasFact t p q m → Follows r p q m x y n → HasFact t x y n
-  follow p q m x y n has f = ⊎_elim (λ w. absurd (none w.0 _ w.1)) (λ (all : HasAll t (Follows r p q m)). all x y n f) (so.closed p q has.0 m has.1 has.2)
+  follow : (p q : ℕ) (m : Lock) (x y : ℕ) (n : Lock) → HasFact t p q m → Follows r p q (λ l. m ≡ l) x y n → HasFact t x y n
+  follow p q m x y n has f = ⊎_elim (λ w. absurd (none w.0 _ w.1)) (λ (all : HasAll t (Follows r p q (λ l. m ≡ l))). all x y n f) (so.closed p q m has)
     where
-      none : (k : ℕ) (g : Fact) → slice_get {X = Fact} [] k ≡ Some g → ⊥
+      none : (k : ℕ) (g : ℕ × ℕ) → slice_get {X = ℕ × ℕ} [] k ≡ Some g → ⊥
       none k g e = cc
 
   point : (region : Region) (f pc p : ℕ) (s : Span) → IsIn r.lowered region f pc → slice_get r.spans p ≡ Some s → region_of s.region ≡ region → (f ≡ s.function) × IsAtPoint r p pc
@@ -49,14 +49,14 @@ module _ (r : Read) (read : IsRead r) (t : Table) (so : IsFollowed r t []) where
       → (p : ℕ) (s : Span) → slice_get r.spans p ≡ Some s → region_of s.region ≡ region → HasFact t p pc n
   found_accessed region f pc i n isin at o p s there e =
       let here = point region f pc p s isin there e in
-      so.seeds p pc n (here.1, record { span = s; there = there; instruction = i; stands = at; one = subst (λ g. IsOne (accesses (seen r g) i) n) here.0 o })
+      so.seeds p pc n (here.1, inl (record { span = s; there = there; instruction = i; stands = at; one = subst (λ g. IsOne (accesses (seen r g) i) n) here.0 o }))
 
   found_linked : (region : Region) (f pc next : ℕ) (i : Instr) (m n : Lock) → IsIn r.lowered region f pc → slice_get r.lowered.code pc ≡ Some i → GoesOn i pc next
       → FoundToo region next m → IsOne (link (seen r f) i m) n → (p : ℕ) (s : Span) → slice_get r.spans p ≡ Some s → region_of s.region ≡ region → HasFact t p pc n
   found_linked region f pc next i m n isin at goes k o p s there e =
       let here = point region f pc p s isin there e in
       follow p next m p pc n (k.1 p s there e)
-      (inr (inl (refl, (i, at, goes), here.1, record { span = s; there = there; instruction = i; stands = at; one = subst (λ g. IsOne (link (seen r g) i m) n) here.0 o })))
+      (inl (refl, (i, at, goes), here.1, inl (m, refl, record { span = s; there = there; instruction = i; stands = at; one = subst (λ g. IsOne (link (seen r g) i m) n) here.0 o })))
 
   found_entered : (region : Region) (f pc to first g : ℕ) (callee : entry.Function) (m passed n : Lock) → IsIn r.lowered region f pc
       → slice_get r.lowered.code pc ≡ Some (instr.Call to first g) → slice_get r.lowered.functions g ≡ Some callee
@@ -68,36 +68,40 @@ module _ (r : Read) (read : IsRead r) (t : Table) (so : IsFollowed r t []) where
       let body = read.spans.all (Body g) inside.0 (start_of r.lowered.functions g) inside.1 in
       let named : body.1.region ≡ variant.Body g = body_named body.1.region g body.3 in
       follow body.0 (start_of r.lowered.functions g) m p pc n (k.1 body.0 body.1 body.2 body.3)
-      (inr (inr (record {
-        body = body.1;
-        function = g;
-        there = body.2;
-        region = named;
-        entry = sym ((read.spans.each body.0 body.1 body.2).entry g named);
-        call = (
-          (to, first, at),
-          (
-            refl,
-            here.1,
-            record {
-              span = s;
-              there = there;
-              to = to;
-              first = first;
-              function = g;
-              callee = callee;
-              stands = at;
-              in_table = in_table;
-              passed = passed;
-              renames = renames;
-              one = subst (λ h. IsOne (settle (seen r h) passed) n) here.0 o;
-            },
-          ),
-        );
-      })))
+      (inr (
+        m,
+        refl,
+        record {
+          body = body.1;
+          function = g;
+          there = body.2;
+          region = named;
+          entry = sym ((read.spans.each body.0 body.1 body.2).entry g named);
+          call = (
+            (to, first, at),
+            (
+              refl,
+              here.1,
+              inl (record {
+                span = s;
+                there = there;
+                to = to;
+                first = first;
+                function = g;
+                callee = callee;
+                stands = at;
+                in_table = in_table;
+                passed = passed;
+                renames = renames;
+                one = subst (λ h. IsOne (settle (seen r h) passed) n) here.0 o;
+              }),
+            ),
+          );
+        },
+      ))
 
   found_before : (region : Region) (pc : ℕ) (m n : Lock) → FoundToo region pc m → IsOne (dereferenced m) n → (p : ℕ) (s : Span) → slice_get r.spans p ≡ Some s → region_of s.region ≡ region → HasFact t p pc n
-  found_before region pc m n k o p s there e = follow p pc m p pc n (k.1 p s there e) (inl (refl, refl, o))
+  found_before region pc m n k o p s there e = so.fronts p pc m n (k.1 p s there e) o
 
   found_closed : IsClosed r.lowered r.classes r.stores r.longest FoundToo
   found_closed = record {
@@ -137,7 +141,7 @@ blank_ready r t blank = record {
   };
 }
   where
-    none : (n : ℕ) (f : Fact) → slice_get {X = Fact} [] n ≡ Some f → ⊥
+    none : (n : ℕ) (f : ℕ × ℕ) → slice_get {X = ℕ × ℕ} [] n ≡ Some f → ⊥
     none n f e = cc
 
 -- with the seeds alone all that is found waits
@@ -147,7 +151,8 @@ followed_begin r t new read blank x = record {
   sound = λ p q m h. ⊎_elim (λ o. absurd (no_fact t r.spans blank p q m o)) (λ k. seed_needed r read p q m k) (x.adds.only.facts p q m h);
   names = λ p m h. ⊎_elim (λ o. absurd (no_name t r.spans blank p m o)) (λ k. (k.0, seed_needed r read p k.0 m k.1)) (x.adds.only.names p m h);
   seeds = x.has;
-  closed = λ p q n m h e. ⊎_elim (λ was. absurd (blank.sets p q n was)) (λ l. inl l) (x.lists.fresh p q n h);
+  fronts = fronts_more r t new (IsSeed r) (λ p q m d h k. absurd (no_fact t r.spans blank p q m h)) (seeds_fronted r) x;
+  closed = λ p q m h. ⊎_elim (λ was. absurd (blank.sets p q h.0 was)) (λ l. inl l) (x.lists.fresh p q h.0 h.1);
 }
 
 pub seeds_over : (r : Read) (t new : Table) (fault : AddFault) → IsRead r → IsBlank t r.spans → Stopped t new (IsSeed r) fault → (x : Table) × Overflows r x fault

@@ -1,5 +1,5 @@
 -- What each turn of the loops over regions, pcs and calls adds.
-use Rattle.std.proofs.Common.{◌≡◌, ℕ, ◌+◌, ◌<◌, ◌≤◌, List, Some, length, slice_get, refl, ap, sym, subst, ◌∙◌, arith}
+use Rattle.std.proofs.Common.{◌≡◌, ℕ, ◌+◌, ◌<◌, ◌≤◌, inl, inr, List, Some, length, slice_get, refl, ap, sym, subst, ◌∙◌, arith}
 use Rattle.std.proofs.lemmas.Option.{slice_get_within}
 use Rattle.asl_code.specs.declared.lock.Lock.{Lock}
 use Rattle.asl_backward_flow.specs.declared.found.AddFault.{AddFault}
@@ -7,12 +7,9 @@ use Rattle.asl_backward_flow.specs.declared.region.Region.TheVariants as variant
 use Rattle.asl_backward_flow.specs.declared.span.Span.{Span}
 use Rattle.asl_backward_flow.specs.Graph.{IsCall}
 use Rattle.asl_backward_flow.specs.Found.{Table, list_at}
-use Rattle.asl_backward_flow.specs.Follows.{Read, IsRead, IsAtPoint, IsLinkedAlone, IsEntered, IsSeed, IsSeedIn, IsAccessed, IsBackOver, IsCalledAt, IsAtCall, At, Added, Stopped, AddedBelow}
+use Rattle.asl_backward_flow.specs.Follows.{Read, IsRead, IsAtPoint, WithFronts, IsEntered, IsSeed, IsSeedIn, IsAccessed, IsCalledAt, IsAtCall, At, Added, Stopped, AddedBelow}
 use Rattle.asl_backward_flow.proofs.Sets.{some_same}
-use Rattle.asl_backward_flow.proofs.Adding.{below_more, below_skip, below_end, below_stopped}
-
-abbrev pub each_back : Read → ℕ → Lock → List ℕ → ℕ → ℕ → ℕ → Lock → Type 0
-each_back r part lock pcs j p q m = (p ≡ part) × (slice_get pcs j ≡ Some q) × IsAtPoint r p q × IsLinkedAlone r p q lock m
+use Rattle.asl_backward_flow.proofs.Adding.{below_more, below_end, below_stopped}
 
 abbrev pub each_point : Read → ℕ → ℕ → ℕ → ℕ → Lock → Type 0
 each_point r part j p q m = (p ≡ part) × (q ≡ j) × IsSeed r p q m
@@ -21,7 +18,7 @@ abbrev pub each_region : Read → ℕ → ℕ → ℕ → Lock → Type 0
 each_region r j p q m = (p ≡ j) × IsSeed r p q m
 
 abbrev pub each_call : Read → ℕ → Lock → List ℕ → ℕ → ℕ → ℕ → Lock → Type 0
-each_call r pc lock parts j p q m = (slice_get parts j ≡ Some p) × (q ≡ pc) × IsAtPoint r p q × IsEntered r p q lock m
+each_call r pc lock parts j p q m = (slice_get parts j ≡ Some p) × (q ≡ pc) × IsAtPoint r p q × WithFronts (IsEntered r p q lock) m
 
 abbrev pub each_call_of : Read → Lock → List ℕ → ℕ → ℕ → ℕ → Lock → Type 0
 each_call_of r lock pcs j p q m = (slice_get pcs j ≡ Some q) × IsCalledAt r q lock p q m
@@ -39,16 +36,16 @@ at_point r part pc point p q a b = subst (λ x. IsAtPoint r x q) (sym a) (subst 
 
 -- the turns over the pcs of a region
 pub points_more : (r : Read) (initial now new : Table) (part pc : ℕ) → IsAtPoint r part pc → AddedBelow r initial now (each_point r part) pc
-    → Added r now new (At part pc (IsAccessed r part pc)) → AddedBelow r initial new (each_point r part) (pc + 1)
+    → Added r now new (At part pc (WithFronts (IsAccessed r part pc))) → AddedBelow r initial new (each_point r part) (pc + 1)
 points_more r initial now new part pc point so x = below_more r initial now new (each_point r part) pc _
-    (λ p q m h. (h.0, h.1, (at_point r part pc point p q h.0 h.1, to_point r part pc (IsAccessed r) p q m h)))
-    (λ p q m h. from_point r part pc (IsAccessed r) p q m h.0 h.1 h.2.1) so x
+    (λ p q m h. (h.0, h.1, (at_point r part pc point p q h.0 h.1, to_point r part pc (λ a b. WithFronts (IsAccessed r a b)) p q m h)))
+    (λ p q m h. from_point r part pc (λ a b. WithFronts (IsAccessed r a b)) p q m h.0 h.1 h.2.1) so x
 
 pub points_stopped : (r : Read) (initial now new : Table) (part pc : ℕ) (fault : AddFault) → IsAtPoint r part pc → AddedBelow r initial now (each_point r part) pc
-    → Stopped now new (At part pc (IsAccessed r part pc)) fault → Stopped initial new (IsSeedIn r part) fault
+    → Stopped now new (At part pc (WithFronts (IsAccessed r part pc))) fault → Stopped initial new (IsSeedIn r part) fault
 points_stopped r initial now new part pc fault point so x = below_stopped r initial now new (each_point r part) pc _ (IsSeedIn r part) fault
     (λ j p q m h. (h.0, h.2))
-    (λ p q m h. (h.0, (at_point r part pc point p q h.0 h.1, to_point r part pc (IsAccessed r) p q m h))) so x
+    (λ p q m h. (h.0, (at_point r part pc point p q h.0 h.1, to_point r part pc (λ a b. WithFronts (IsAccessed r a b)) p q m h))) so x
 
 pub points_end : (r : Read) (initial now : Table) (part pc : ℕ) (s : Span) → slice_get r.spans part ≡ Some s → s.end ≤ pc → AddedBelow r initial now (each_point r part) pc → Added r initial now (IsSeedIn r part)
 points_end r initial now part pc s there end so = below_end r initial now (each_point r part) pc (IsSeedIn r part)
@@ -69,25 +66,30 @@ pub regions_end : (r : Read) (initial now : Table) (part : ℕ) → length r.spa
 regions_end r initial now part end so = below_end r initial now (each_region r) part (IsSeed r) (λ j p q m h. h.1)
     (λ p q m h. let lt = slice_get_within r.spans p h.0.0 h.0.1 in (p, omega (arith, lt, end), (refl, h))) so
 
+-- where something is entered, a function is called
+pub called_there : (r : Read) (p q : ℕ) (lock m : Lock) → WithFronts (IsEntered r p q lock) m → (callee : ℕ) × IsCall r.lowered callee q
+called_there r p q lock m (inl h) = (h.function, (h.to, h.first, h.stands))
+called_there r p q lock m (inr h) = let e = h.1 in (e.function, (e.to, e.first, e.stands))
+
 -- the turns over the regions that have a call
 pub calls_more : (r : Read) (initial now new : Table) (j part pc : ℕ) (lock : Lock) (parts : List ℕ) → slice_get parts j ≡ Some part → IsAtPoint r part pc → AddedBelow r initial now (each_call r pc lock parts) j
-    → Added r now new (At part pc (IsEntered r part pc lock)) → AddedBelow r initial new (each_call r pc lock parts) (j + 1)
+    → Added r now new (At part pc (WithFronts (IsEntered r part pc lock))) → AddedBelow r initial new (each_call r pc lock parts) (j + 1)
 calls_more r initial now new j part pc lock parts at point so x = below_more r initial now new (each_call r pc lock parts) j _
-    (λ p q m h. (at ∙ ap Some (sym h.0), h.1, at_point r part pc point p q h.0 h.1, to_point r part pc (λ a b. IsEntered r a b lock) p q m h))
-    (λ p q m h. from_point r part pc (λ a b. IsEntered r a b lock) p q m (some_same (sym h.0 ∙ at)) h.1 h.3) so x
+    (λ p q m h. (at ∙ ap Some (sym h.0), h.1, at_point r part pc point p q h.0 h.1, to_point r part pc (λ a b. WithFronts (IsEntered r a b lock)) p q m h))
+    (λ p q m h. from_point r part pc (λ a b. WithFronts (IsEntered r a b lock)) p q m (some_same (sym h.0 ∙ at)) h.1 h.3) so x
 
 pub calls_stopped : (r : Read) (initial now new : Table) (j part pc : ℕ) (lock : Lock) (parts : List ℕ) (fault : AddFault) → slice_get parts j ≡ Some part → IsAtPoint r part pc → AddedBelow r initial now (each_call r pc lock parts) j
-    → Stopped now new (At part pc (IsEntered r part pc lock)) fault → Stopped initial new (IsCalledAt r pc lock) fault
+    → Stopped now new (At part pc (WithFronts (IsEntered r part pc lock))) fault → Stopped initial new (IsCalledAt r pc lock) fault
 calls_stopped r initial now new j part pc lock parts fault at point so x = below_stopped r initial now new (each_call r pc lock parts) j _ (IsCalledAt r pc lock) fault
     (λ k p q m h. (h.1, h.2, h.3))
-    (λ p q m h. (h.1, at_point r part pc point p q h.0 h.1, to_point r part pc (λ a b. IsEntered r a b lock) p q m h)) so x
+    (λ p q m h. (h.1, at_point r part pc point p q h.0 h.1, to_point r part pc (λ a b. WithFronts (IsEntered r a b lock)) p q m h)) so x
 
 pub calls_end : (r : Read) (initial now : Table) (j pc : ℕ) (lock : Lock) (parts : List ℕ) → parts ≡ list_at r.regions pc → IsRead r → length parts ≤ j
     → AddedBelow r initial now (each_call r pc lock parts) j → Added r initial now (IsCalledAt r pc lock)
 calls_end r initial now j pc lock parts is read end so = below_end r initial now (each_call r pc lock parts) j (IsCalledAt r pc lock) (λ k p q m h. (h.1, h.2, h.3))
     (λ p q m h.
     let point : IsAtPoint r p pc = subst (λ y. IsAtPoint r p y) h.0 h.1 in
-    let call : (callee : ℕ) × IsCall r.lowered callee pc = subst (λ y. (callee : ℕ) × IsCall r.lowered callee y) h.0 (h.2.function, (h.2.to, h.2.first, h.2.stands)) in
+    let call : (callee : ℕ) × IsCall r.lowered callee pc = subst (λ y. (callee : ℕ) × IsCall r.lowered callee y) h.0 (called_there r p q lock m h.2) in
     let at = read.regions.all pc p (slice_get_within r.spans p point.0 point.1) (point, call) in
     let here : slice_get parts at.0 ≡ Some p = ap (λ l. slice_get l at.0) is ∙ at.1 in
     let lt = slice_get_within parts at.0 p here in
@@ -119,31 +121,3 @@ calls_of_end r initial now j lock pcs g is read end so = below_end r initial now
     let here : slice_get pcs at.0 ≡ Some q = ap (λ l. slice_get l at.0) is ∙ at.1 in
     let lt = slice_get_within pcs at.0 q here in
     (at.0, omega (arith, lt, end), (here, h.1))) so
-
--- the turns over the other pcs from which control goes on to one
-pub back_more : (r : Read) (initial now new : Table) (j part q : ℕ) (lock : Lock) (pcs : List ℕ) → slice_get pcs j ≡ Some q → IsAtPoint r part q → AddedBelow r initial now (each_back r part lock pcs) j
-    → Added r now new (At part q (IsLinkedAlone r part q lock)) → AddedBelow r initial new (each_back r part lock pcs) (j + 1)
-back_more r initial now new j part q lock pcs at point so x = below_more r initial now new (each_back r part lock pcs) j _
-    (λ p y m h. (h.0, at ∙ ap Some (sym h.1), at_point r part q point p y h.0 h.1, to_point r part q (λ a b. IsLinkedAlone r a b lock) p y m h))
-    (λ p y m h. from_point r part q (λ a b. IsLinkedAlone r a b lock) p y m h.0 (some_same (sym h.1 ∙ at)) h.3) so x
-
-pub back_skip : (r : Read) (initial now : Table) (j part q : ℕ) (lock : Lock) (pcs : List ℕ) → slice_get pcs j ≡ Some q → ¬ IsAtPoint r part q → AddedBelow r initial now (each_back r part lock pcs) j
-    → AddedBelow r initial now (each_back r part lock pcs) (j + 1)
-back_skip r initial now j part q lock pcs at not so = below_skip r initial now (each_back r part lock pcs) j
-    (λ p y m h. let same : y ≡ q = some_same (sym h.1 ∙ at) in not (subst (λ x. IsAtPoint r x q) h.0 (subst (λ z. IsAtPoint r p z) same h.2))) so
-
-pub back_stopped : (r : Read) (initial now new : Table) (j part q : ℕ) (lock : Lock) (pcs : List ℕ) (pc : ℕ) (fault : AddFault) → pcs ≡ list_at r.jumps pc → IsRead r → slice_get pcs j ≡ Some q → IsAtPoint r part q
-    → AddedBelow r initial now (each_back r part lock pcs) j → Stopped now new (At part q (IsLinkedAlone r part q lock)) fault → Stopped initial new (IsBackOver r part pc lock) fault
-back_stopped r initial now new j part q lock pcs pc fault is read at point so x = below_stopped r initial now new (each_back r part lock pcs) j _ (IsBackOver r part pc lock) fault
-    (λ k p y m h. (h.0, (read.jumps.only pc y (k, ap (λ l. slice_get l k) (sym is) ∙ h.1)).1, h.2, h.3))
-    (λ p y m h. (h.0, (read.jumps.only pc y (j, ap (λ l. slice_get l j) (sym is) ∙ at ∙ ap Some (sym h.1))).1, at_point r part q point p y h.0 h.1, to_point r part q (λ a b. IsLinkedAlone r a b lock) p y m h)) so x
-
-pub back_end : (r : Read) (initial now : Table) (j part : ℕ) (lock : Lock) (pcs : List ℕ) (pc : ℕ) → pcs ≡ list_at r.jumps pc → IsRead r → length pcs ≤ j
-    → AddedBelow r initial now (each_back r part lock pcs) j → Added r initial now (IsBackOver r part pc lock)
-back_end r initial now j part lock pcs pc is read end so = below_end r initial now (each_back r part lock pcs) j (IsBackOver r part pc lock)
-    (λ k p y m h. (h.0, (read.jumps.only pc y (k, ap (λ l. slice_get l k) (sym is) ∙ h.1)).1, h.2, h.3))
-    (λ p y m h.
-    let at = read.jumps.all pc y (slice_get_within r.lowered.code y _ h.1.0.1) h.1 in
-    let here : slice_get pcs at.0 ≡ Some y = ap (λ l. slice_get l at.0) is ∙ at.1 in
-    let lt = slice_get_within pcs at.0 y here in
-    (at.0, omega (arith, lt, end), (h.0, here, h.2, h.3))) so

@@ -9,8 +9,11 @@ mod Adding
 mod Numbering
 mod Points
 mod Each
-mod Backs
-mod Chains
+mod Fronts
+mod Befores
+mod Masking
+mod Linking
+mod Entries
 pub mod Leasts
 mod Sound
 mod Closing

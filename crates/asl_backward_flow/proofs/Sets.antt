@@ -71,7 +71,7 @@ module _ {A : Type 0} where
             cc
 
 -- the numbers of locks after one more is put in
-pub made_numbers : (eq : Lock → Lock → Bool) → ((x : Lock) → eq x x ≡ true) → (old new : List Lock) (lock : Lock) → new ≡ insert_key eq old lock → IsDistinct eq new → Numbers old new lock
+pub made_numbers : (eq : Lock → Lock → Bool) → ((x : Lock) → eq x x ≡ true) → (old new : List Lock) (lock : Lock) → new ≡ insert_key eq old lock → IsDistinct eq new → Numbers old new (λ m. m ≡ lock)
 made_numbers eq itself old new lock is distinct = record {
   kept = λ n m e. ap (λ l. slice_get l n) is ∙ insert_kept eq old lock n m e;
   only = λ n m e. insert_only eq old lock n m (ap (λ l. slice_get l n) (sym is) ∙ e);
@@ -79,7 +79,7 @@ made_numbers eq itself old new lock is distinct = record {
   longer = subst (λ l. length l ≤ length old + 1) (sym is) (insert_longer eq old lock);
 }
 
-pub same_numbers : (eq : Lock → Lock → Bool) → ((x : Lock) → eq x x ≡ true) → (old new : List Lock) (lock : Lock) → new ≡ old → IsDistinct eq new → Numbers old new lock
+pub same_numbers : (eq : Lock → Lock → Bool) → ((x : Lock) → eq x x ≡ true) → (old new : List Lock) (lock : Lock) → new ≡ old → IsDistinct eq new → Numbers old new (λ m. m ≡ lock)
 same_numbers eq itself old new lock is distinct = record {
   kept = λ n m e. ap (λ l. slice_get l n) is ∙ e;
   only = λ n m e. inl (ap (λ l. slice_get l n) (sym is) ∙ e);

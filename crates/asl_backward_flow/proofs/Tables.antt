@@ -1,5 +1,5 @@
 -- What one addition does to what is found.
-use Rattle.std.proofs.Common.{◌≡◌, ◌≢◌, ◌⊎◌, ⊎_elim, if◌then◌else◌, ℕ, zero, suc, ◌+◌, ◌<◌, ◌≤◌, Bool, true, false, List, [], ◌∷◌, ◌++◌, Some, length, map, slice_get, slice_set, unwrap_or, inl, inr, refl, ap, sym, subst, get_or, length-set, length-append, ◌∙◌, arith}
+use Rattle.std.proofs.Common.{◌≡◌, ◌≢◌, ◌⊎◌, ⊎_elim, ℕ, zero, suc, ◌+◌, ◌<◌, ◌≤◌, Bool, List, [], ◌∷◌, Some, length, map, slice_get, slice_set, unwrap_or, inl, inr, refl, ap, sym, subst, get_or, length-set, ◌∙◌, arith}
 use Rattle.std.specs.List.{sum_by}
 use Rattle.std.proofs.lemmas.Bool.Decides.{eqb_tells}
 use Rattle.std.proofs.lemmas.List.{length-map}
@@ -7,9 +7,8 @@ use Rattle.std.proofs.lemmas.List.Sums.{sum_by-set}
 use Rattle.asl_code.specs.declared.lock.Lock.{Lock}
 use Rattle.asl_lane_sets.specs.NumberSet.{IsIn}
 use Rattle.asl_backward_flow.specs.declared.part.Part.{Part}
-use Rattle.asl_backward_flow.specs.declared.found.Fact.{Fact}
-use Rattle.asl_backward_flow.specs.Found.{Table, table_of, IsAt, AreApart, list_at, locks_of, first_of, sets_of, fact, HasPoint, Has, HasFact, IsWhole, Adds, Lists, Numbers, IsMarked, free_in}
-use Rattle.asl_backward_flow.proofs.Sets.{some_same, at_front, at_push, at_last}
+use Rattle.asl_backward_flow.specs.Found.{Table, table_of, IsAt, AreApart, list_at, locks_of, first_of, sets_of, HasPoint, Has, HasFact, IsWhole, Adds, Lists, Numbers, IsMarked, IsPut, free_in}
+use Rattle.asl_backward_flow.proofs.Sets.{some_same}
 
 module _ {A : Type 0} where
   pub list_here : (lists : List (List A)) (p : ℕ) (new : List A) → p < length lists → list_at (slice_set lists p new) p ≡ new
@@ -56,7 +55,7 @@ pub record Step (old new : Table) (p : ℕ) (keys : List Lock) (sets : List (Lis
   pub locks_are : new.locks ≡ slice_set old.locks p keys
   pub sets_are : new.sets ≡ slice_set old.sets p sets
 
-pub step_of : (parts : List Part) (p q : ℕ) (x y : Part) (list more : List Fact) → q ≡ p → p < length parts → x ≡ get_or parts q x → y.region ≡ x.region → y.first ≡ x.first
+pub step_of : (parts : List Part) (p q : ℕ) (x y : Part) (list more : List (ℕ × ℕ)) → q ≡ p → p < length parts → x ≡ get_or parts q x → y.region ≡ x.region → y.first ≡ x.first
     → Step (table_of parts list) (table_of (slice_set parts q y) more) p y.locks.keys y.needs.items
 step_of parts p q x y list more same there is region first = record {
   regions = map_same (λ (z : Part). z.region) parts q y (region ∙ ap (λ (z : Part). z.region) old);
@@ -79,13 +78,13 @@ step_of parts p q x y list more same there is region first = record {
     old = is ∙ one parts q x y within
 
 -- the locks and the sets of a region before it is changed
-pub locks_before : (parts : List Part) (p q : ℕ) (x : Part) (list : List Fact) → q ≡ p → p < length parts → x ≡ get_or parts q x → locks_of (table_of parts list) p ≡ x.locks.keys
+pub locks_before : (parts : List Part) (p q : ℕ) (x : Part) (list : List (ℕ × ℕ)) → q ≡ p → p < length parts → x ≡ get_or parts q x → locks_of (table_of parts list) p ≡ x.locks.keys
 locks_before parts p q x list same there is = list_of (λ (z : Part). z.locks.keys) parts p x there ∙ ap (λ (z : Part). z.locks.keys) (ap (λ n. get_or parts n x) (sym same) ∙ sym is)
 
-pub sets_before : (parts : List Part) (p q : ℕ) (x : Part) (list : List Fact) → q ≡ p → p < length parts → x ≡ get_or parts q x → sets_of (table_of parts list) p ≡ x.needs.items
+pub sets_before : (parts : List Part) (p q : ℕ) (x : Part) (list : List (ℕ × ℕ)) → q ≡ p → p < length parts → x ≡ get_or parts q x → sets_of (table_of parts list) p ≡ x.needs.items
 sets_before parts p q x list same there is = list_of (λ (z : Part). z.needs.items) parts p x there ∙ ap (λ (z : Part). z.needs.items) (ap (λ n. get_or parts n x) (sym same) ∙ sym is)
 
-pub first_before : (parts : List Part) (p q : ℕ) (x : Part) (list : List Fact) → q ≡ p → p < length parts → x ≡ get_or parts q x → first_of (table_of parts list) p ≡ x.first
+pub first_before : (parts : List Part) (p q : ℕ) (x : Part) (list : List (ℕ × ℕ)) → q ≡ p → p < length parts → x ≡ get_or parts q x → first_of (table_of parts list) p ≡ x.first
 first_before parts p q x list same there is = first_at parts p there ∙ ap (λ (z : Part). z.first) (ap (λ n. get_or parts n x) (sym same) ∙ sym is)
   where
     first_at : (xs : List Part) (n : ℕ) → n < length xs → unwrap_or (slice_get (map (λ (z : Part). z.first) xs) n) 0 ≡ (get_or xs n x).first
@@ -93,7 +92,7 @@ first_before parts p q x list same there is = first_at parts p there ∙ ap (λ 
     first_at (z ∷ xs) zero lt = refl
     first_at (z ∷ xs) (suc n) lt = first_at xs n (omega arith)
 
-module _ (old new : Table) (p : ℕ) (keys : List Lock) (sets : List (List Bool)) (s : Step old new p keys sets) (lock : Lock) (numbers : Numbers (locks_of old p) keys lock) where
+module _ (old new : Table) (p : ℕ) (keys : List Lock) (sets : List (List Bool)) (s : Step old new p keys sets) (These : Lock → Type 0) (numbers : Numbers (locks_of old p) keys These) where
   locks_each : (P : ℕ → List Lock → Type 0) → P p keys → ((q : ℕ) → q ≢ p → P q (locks_of old q)) → (q : ℕ) → P q (locks_of new q)
   locks_each P here rest q = subst (λ l. P q (list_at l q)) (sym s.locks_are) (list_each old.locks p keys s.there P here rest q)
 
@@ -103,9 +102,9 @@ module _ (old new : Table) (p : ℕ) (keys : List Lock) (sets : List (List Bool)
   names_kept : (q n : ℕ) (m : Lock) → slice_get (locks_of old q) n ≡ Some m → slice_get (locks_of new q) n ≡ Some m
   names_kept q = locks_each (λ r l. (n : ℕ) (m : Lock) → slice_get (locks_of old r) n ≡ Some m → slice_get l n ≡ Some m) numbers.kept (λ r no n m e. e) q
 
-  names_only : (q n : ℕ) (m : Lock) → slice_get (locks_of new q) n ≡ Some m → slice_get (locks_of old q) n ≡ Some m ⊎ ((q ≡ p) × (m ≡ lock))
+  names_only : (q n : ℕ) (m : Lock) → slice_get (locks_of new q) n ≡ Some m → slice_get (locks_of old q) n ≡ Some m ⊎ ((q ≡ p) × These m)
   names_only q =
-      locks_each (λ r l. (n : ℕ) (m : Lock) → slice_get l n ≡ Some m → slice_get (locks_of old r) n ≡ Some m ⊎ ((r ≡ p) × (m ≡ lock)))
+      locks_each (λ r l. (n : ℕ) (m : Lock) → slice_get l n ≡ Some m → slice_get (locks_of old r) n ≡ Some m ⊎ ((r ≡ p) × These m))
       (λ n m e. ⊎_elim (λ x. inl x) (λ x. inr (refl, x)) (numbers.only n m e)) (λ r no n m e. inl e) q
 
   names_apart : ((q : ℕ) → AreApart (locks_of old q)) → (q : ℕ) → AreApart (locks_of new q)
@@ -147,8 +146,8 @@ module _ (old new : Table) (p : ℕ) (keys : List Lock) (sets : List (List Bool)
         (sets_each (λ x l. (k i : ℕ) → IsIn (list_at l k) i → IsIn (list_at (sets_of old x) k) i ⊎ ((x ≡ p) × More k i))
         (λ k i e. ⊎_elim (λ y. inl y) (λ y. inr (refl, y)) (only k i e)) (λ x no k i e. inl e) q h.0 n h.2)
 
-    -- these are the numbers of the lock at the pc
-    pub adds_here : (pc : ℕ) → IsWhole old → ((k n : ℕ) → More k n → (pc ≡ first_of old p + k) × (slice_get keys n ≡ Some lock)) → Adds old new (λ q r m. (q ≡ p) × (r ≡ pc) × (m ≡ lock))
+    -- these are the numbers of such locks at the pc
+    pub adds_here : (pc : ℕ) → IsWhole old → ((k n : ℕ) → More k n → (pc ≡ first_of old p + k) × ((m : Lock) × (slice_get keys n ≡ Some m) × These m)) → Adds old new (λ q r m. (q ≡ p) × (r ≡ pc) × These m)
     adds_here pc whole named = record {
       grows = record { regions = s.regions; parts = ap length s.locks_are ∙ length-set old.locks p keys; names = names_kept; points = points_kept; facts = has_kept };
       only = record {
@@ -161,24 +160,25 @@ module _ (old new : Table) (p : ℕ) (keys : List Lock) (sets : List (List Bool)
             (λ e.
             let of = named e.1 has.0 e.3 in
             let found : slice_get keys has.0 ≡ Some m = ap (λ l. slice_get l has.0) (sym keys_here ∙ ap (λ x. locks_of new x) (sym e.0)) ∙ has.2 in
-            inr (e.0, e.2 ∙ sym of.0, some_same (sym found ∙ of.1)))
+            inr (e.0, e.2 ∙ sym of.0, subst These (some_same (sym of.1.1 ∙ found)) of.1.2))
             (has_only q r has.0 has.1);
         names = λ q m h. ⊎_elim (λ x. inl (h.0, x)) (λ x. inr (pc, (x.0, refl, x.1))) (names_only q h.0 m h.1);
       };
     }
 
 -- sets that stay
-module _ (old new : Table) (p : ℕ) (keys : List Lock) (sets : List (List Bool)) (s : Step old new p keys sets) (lock : Lock) (numbers : Numbers (locks_of old p) keys lock) (same : sets ≡ sets_of old p) where
-  pub adds_name : (pc : ℕ) → IsWhole old → Adds old new (λ q r m. (q ≡ p) × (r ≡ pc) × (m ≡ lock))
+module _ (old new : Table) (p : ℕ) (keys : List Lock) (sets : List (List Bool)) (s : Step old new p keys sets) (These : Lock → Type 0) (numbers : Numbers (locks_of old p) keys These) (same : sets ≡ sets_of old p) where
+  pub adds_name : (pc : ℕ) → IsWhole old → Adds old new (λ q r m. (q ≡ p) × (r ≡ pc) × These m)
   adds_name pc whole =
-      adds_here old new p keys sets s lock numbers (ap length same) (λ k n e. subst (λ l. IsIn (list_at l k) n) (sym same) e) (λ k n. ⊥)
+      adds_here old new p keys sets s These numbers (ap length same) (λ k n e. subst (λ l. IsIn (list_at l k) n) (sym same) e) (λ k n. ⊥)
       (λ k n e. inl (subst (λ l. IsIn (list_at l k) n) same e)) pc whole (λ k n e. absurd e)
 
--- the number of the lock comes into a set
-module _ (old new : Table) (p : ℕ) (keys : List Lock) (sets : List (List Bool)) (s : Step old new p keys sets) (lock : Lock) (numbers : Numbers (locks_of old p) keys lock)
-    (place number : ℕ) (is_new : Bool) (marked : IsMarked (sets_of old p) sets place number is_new) (pc : ℕ) (at_place : pc ≡ first_of old p + place) (stored : slice_get keys number ≡ Some lock) where
+-- numbers of such locks come into a set
+module _ (old new : Table) (p : ℕ) (keys : List Lock) (sets : List (List Bool)) (s : Step old new p keys sets) (These : Lock → Type 0) (numbers : Numbers (locks_of old p) keys These)
+    (place : ℕ) (these : ℕ → Type 0) (is_new : Bool) (marked : IsMarked (sets_of old p) sets place these is_new) (pc : ℕ) (at_place : pc ≡ first_of old p + place)
+    (stored : (n : ℕ) → these n → (m : Lock) × (slice_get keys n ≡ Some m) × These m) where
   abbrev More : ℕ → ℕ → Type 0
-  More k n = (k ≡ place) × (n ≡ number)
+  More k n = (k ≡ place) × these n
 
   kept : (k n : ℕ) → IsIn (list_at (sets_of old p) k) n → IsIn (list_at sets k) n
   kept k n e =
@@ -195,74 +195,56 @@ module _ (old new : Table) (p : ℕ) (keys : List Lock) (sets : List (List Bool)
       (eqb_tells k place)
 
   still : (q r n : ℕ) → Has old q r n → Has new q r n
-  still = has_kept old new p keys sets s lock numbers marked.count kept More only
+  still = has_kept old new p keys sets s These numbers marked.count kept More only
 
-  pub adds_fact : IsWhole old → Adds old new (λ q r m. (q ≡ p) × (r ≡ pc) × (m ≡ lock))
+  pub adds_fact : IsWhole old → Adds old new (λ q r m. (q ≡ p) × (r ≡ pc) × These m)
   adds_fact whole =
-      adds_here old new p keys sets s lock numbers marked.count kept More only pc whole
-      (λ k n e. (at_place ∙ ap (λ j. first_of old p + j) (sym e.0), ap (slice_get keys) e.1 ∙ stored))
+      adds_here old new p keys sets s These numbers marked.count kept More only pc whole
+      (λ k n e. (at_place ∙ ap (λ j. first_of old p + j) (sym e.0), stored n e.1))
 
-  has_number : Has new p pc number
-  has_number = (
+  has_marked : (n : ℕ) → IsIn (list_at sets place) n → Has new p pc n
+  has_marked n e = (
     place,
-    at_place ∙ ap (λ f. f + place) (sym (first_same old new p keys sets s lock numbers p)),
-    subst (λ l. IsIn (list_at l place) number) (sym (ap (λ l. list_at l p) s.sets_are ∙ list_here old.sets p sets s.too)) ((marked.here number).1 (inr refl)),
+    at_place ∙ ap (λ f. f + place) (sym (first_same old new p keys sets s These numbers p)),
+    subst (λ l. IsIn (list_at l place) n) (sym (ap (λ l. list_at l p) s.sets_are ∙ list_here old.sets p sets s.too)) e,
   )
 
-  pub has_fact : HasFact new p pc lock
-  has_fact = (number, has_number, ap (λ l. slice_get l number) (keys_here old new p keys sets s lock numbers) ∙ stored)
+  pub has_fact : (n : ℕ) (m : Lock) → these n → slice_get keys n ≡ Some m → HasFact new p pc m
+  has_fact n m h e = (n, has_marked n ((marked.here n).1 (inr h)), ap (λ l. slice_get l n) (keys_here old new p keys sets s These numbers) ∙ e)
 
-  -- the fact is listed if it is new
-  module _ (listed : new.list ≡ (if is_new then old.list ++ fact p pc number ∷ [] else old.list)) where
-    on_list : (b : Bool) → new.list ≡ (if b then old.list ++ fact p pc number ∷ [] else old.list) → (f : Fact) → IsAt new.list f → IsAt old.list f ⊎ (f ≡ fact p pc number)
-    on_list true is f h = ⊎_elim (λ e. inl (h.0, e)) (λ e. inr e) (at_push old.list (fact p pc number) h.0 f (ap (λ l. slice_get l h.0) (sym is) ∙ h.1))
-    on_list false is f h = inl (h.0, ap (λ l. slice_get l h.0) (sym is) ∙ h.1)
-
+  -- the point is listed if something is new
+  module _ (listed : IsPut old.list new.list (p, pc) is_new) where
     pub whole_fact : IsWhole old → length keys ≤ 4096 → IsWhole new
     whole_fact whole few = record {
       named = λ q r n h.
           ⊎_elim
-          (λ was. let name = whole.named q r n was in (name.0, names_kept old new p keys sets s lock numbers q n name.0 name.1))
-          (λ e. (lock, ap (λ x. slice_get (locks_of new x) n) e.0 ∙ ap (λ l. slice_get l n) (keys_here old new p keys sets s lock numbers) ∙ ap (slice_get keys) e.3.1 ∙ stored))
-          (has_only old new p keys sets s lock numbers marked.count kept More only q r n h);
+          (λ was. let name = whole.named q r n was in (name.0, names_kept old new p keys sets s These numbers q n name.0 name.1))
+          (λ e. let name = stored n e.3.1 in (name.0, ap (λ x. slice_get (locks_of new x) n) e.0 ∙ ap (λ l. slice_get l n) (keys_here old new p keys sets s These numbers) ∙ name.1))
+          (has_only old new p keys sets s These numbers marked.count kept More only q r n h);
       listed = λ f h.
           ⊎_elim
-          (λ was. still f.part f.pc f.lock (whole.listed f was))
-          (λ (e : f ≡ fact p pc number). subst (λ (g : Fact). Has new g.part g.pc g.lock) (sym e) has_number)
-          (on_list is_new listed f h);
-      apart = names_apart old new p keys sets s lock numbers whole.apart;
-      few = names_few old new p keys sets s lock numbers whole.few few;
+          (λ was. let has = whole.listed f was in (has.0, still f.0 f.1 has.0 has.1))
+          (λ e. let some = marked.some e.1 in subst (λ (g : ℕ × ℕ). (n : ℕ) × Has new g.0 g.1 n) (sym e.0) (some.0, has_marked some.0 some.1))
+          (listed.only f h);
+      apart = names_apart old new p keys sets s These numbers whole.apart;
+      few = names_few old new p keys sets s These numbers whole.few few;
     }
 
-    stays : (b : Bool) → new.list ≡ (if b then old.list ++ fact p pc number ∷ [] else old.list) → (f : Fact) → IsAt old.list f → IsAt new.list f
-    stays true is f h = (h.0, ap (λ l. slice_get l h.0) is ∙ at_front old.list (fact p pc number ∷ []) h.0 f h.1)
-    stays false is f h = (h.0, ap (λ l. slice_get l h.0) is ∙ h.1)
-
-    here : (b : Bool) → new.list ≡ (if b then old.list ++ fact p pc number ∷ [] else old.list) → (b ≡ true) ⊎ IsIn (list_at (sets_of old p) place) number → Has old p pc number ⊎ IsAt new.list (fact p pc number)
-    here b is (inr was) = inl (place, at_place, was)
-    here true is (inl e) = inr (length old.list, ap (λ l. slice_get l (length old.list)) is ∙ at_last old.list (fact p pc number))
-    here false is (inl e) = absurd cc
-
-    longer : (b : Bool) → new.list ≡ (if b then old.list ++ fact p pc number ∷ [] else old.list) → length new.list ≡ length old.list + (if b then 1 else 0)
-    longer true is = ap length is ∙ length-append old.list (fact p pc number ∷ [])
-    longer false is = ap length is ∙ omega arith
+    here : (q r n : ℕ) → q ≡ p → r ≡ pc → these n → Has old q r n ⊎ IsAt new.list (q, r)
+    here q r n q_is r_is h =
+        let Goal : ℕ → ℕ → Type 0 = λ a b. Has old a b n ⊎ IsAt new.list (a, b) in
+        subst (λ a. Goal a r) (sym q_is) (subst (Goal p) (sym r_is) (⊎_elim (λ e. inr (listed.there e)) (λ was. inl (place, at_place, was n h)) marked.fresh))
 
     pub lists_fact : Lists old new
     lists_fact = record {
-      stay = stays is_new listed;
+      stay = listed.stay;
       fresh = λ q r n h.
           ⊎_elim
           (λ was. inl was)
-          (λ e.
-          let pc_is : r ≡ pc = e.2 ∙ ap (λ k. first_of old p + k) e.3.0 ∙ sym at_place in
-          let fact_is : fact p pc number ≡ fact q r n = ap (λ x. fact x pc number) (sym e.0) ∙ ap (λ x. fact q x number) (sym pc_is) ∙ ap (λ x. fact q r x) (sym e.3.1) in
-          ⊎_elim
-          (λ was. inl (subst (λ (f : Fact). Has old f.part f.pc f.lock) fact_is was))
-          (λ on. inr (subst (λ f. IsAt new.list f) fact_is on))
-          (here is_new listed marked.fresh))
-          (has_only old new p keys sets s lock numbers marked.count kept More only q r n h);
+          (λ e. here q r n e.0 (e.2 ∙ ap (λ k. first_of old p + k) e.3.0 ∙ sym at_place) e.3.1)
+          (has_only old new p keys sets s These numbers marked.count kept More only q r n h);
       less =
-          let count = longer is_new listed in
+          let count = listed.longer in
           let low = marked.less in
           let sums : sum_by free_in new.sets + free_in (get_or old.sets p sets) ≡ sum_by free_in old.sets + free_in sets = ap (λ l. sum_by free_in l + free_in (get_or old.sets p sets)) s.sets_are ∙ sum_by-set free_in old.sets p sets sets s.too in
           let was : free_in (sets_of old p) ≡ free_in (get_or old.sets p sets) = ap free_in (get_here old.sets p s.too) in
@@ -274,9 +256,9 @@ module _ (old new : Table) (p : ℕ) (keys : List Lock) (sets : List (List Bool)
         get_here (l ∷ ls) zero lt = refl
         get_here (l ∷ ls) (suc n) lt = get_here ls n (omega arith)
 
--- one region has one more lock, perhaps, and its number in a set, perhaps
-module _ (parts : List Part) (p q : ℕ) (x y : Part) (list more : List Fact) (same : q ≡ p) (there : p < length parts) (is : x ≡ get_or parts q x) (region : y.region ≡ x.region) (first : y.first ≡ x.first)
-    (lock : Lock) (numbers : Numbers x.locks.keys y.locks.keys lock) where
+-- one region has one more lock, perhaps, and numbers in a set, perhaps
+module _ (parts : List Part) (p q : ℕ) (x y : Part) (list more : List (ℕ × ℕ)) (same : q ≡ p) (there : p < length parts) (is : x ≡ get_or parts q x) (region : y.region ≡ x.region) (first : y.first ≡ x.first)
+    (These : Lock → Type 0) (numbers : Numbers x.locks.keys y.locks.keys These) where
   abbrev before : Table
   before = table_of parts list
 
@@ -286,32 +268,32 @@ module _ (parts : List Part) (p q : ℕ) (x y : Part) (list more : List Fact) (s
   step : Step before after p y.locks.keys y.needs.items
   step = step_of parts p q x y list more same there is region first
 
-  numbered : Numbers (locks_of before p) y.locks.keys lock
-  numbered = subst (λ l. Numbers l y.locks.keys lock) (sym (locks_before parts p q x list same there is)) numbers
+  numbered : Numbers (locks_of before p) y.locks.keys These
+  numbered = subst (λ l. Numbers l y.locks.keys These) (sym (locks_before parts p q x list same there is)) numbers
 
-  pub part_adds : (pc : ℕ) → IsWhole before → y.needs.items ≡ x.needs.items → Adds before after (λ r s m. (r ≡ p) × (s ≡ pc) × (m ≡ lock))
-  part_adds pc whole kept = adds_name before after p y.locks.keys y.needs.items step lock numbered (kept ∙ sym (sets_before parts p q x list same there is)) pc whole
+  pub part_adds : (pc : ℕ) → IsWhole before → y.needs.items ≡ x.needs.items → Adds before after (λ r s m. (r ≡ p) × (s ≡ pc) × These m)
+  part_adds pc whole kept = adds_name before after p y.locks.keys y.needs.items step These numbered (kept ∙ sym (sets_before parts p q x list same there is)) pc whole
 
   pub part_over : 4096 < length y.locks.keys → (4096 < length (locks_of after p)) × AreApart (locks_of after p)
-  part_over over = is_over before after p y.locks.keys y.needs.items step lock numbered over
+  part_over over = is_over before after p y.locks.keys y.needs.items step These numbered over
 
-  module _ (place number : ℕ) (is_new : Bool) (marked : IsMarked x.needs.items y.needs.items place number is_new) (pc : ℕ) (at_place : pc ≡ x.first + place) (stored : slice_get y.locks.keys number ≡ Some lock)
-      (whole : IsWhole before) where
-    mark : IsMarked (sets_of before p) y.needs.items place number is_new
-    mark = subst (λ l. IsMarked l y.needs.items place number is_new) (sym (sets_before parts p q x list same there is)) marked
+  module _ (place : ℕ) (these : ℕ → Type 0) (is_new : Bool) (marked : IsMarked x.needs.items y.needs.items place these is_new) (pc : ℕ) (at_place : pc ≡ x.first + place)
+      (stored : (n : ℕ) → these n → (m : Lock) × (slice_get y.locks.keys n ≡ Some m) × These m) (whole : IsWhole before) where
+    mark : IsMarked (sets_of before p) y.needs.items place these is_new
+    mark = subst (λ l. IsMarked l y.needs.items place these is_new) (sym (sets_before parts p q x list same there is)) marked
 
     pc_is : pc ≡ first_of before p + place
     pc_is = at_place ∙ ap (λ n. n + place) (sym (first_before parts p q x list same there is))
 
-    pub mark_adds : Adds before after (λ r s m. (r ≡ p) × (s ≡ pc) × (m ≡ lock))
-    mark_adds = adds_fact before after p y.locks.keys y.needs.items step lock numbered place number is_new mark pc pc_is stored whole
+    pub mark_adds : Adds before after (λ r s m. (r ≡ p) × (s ≡ pc) × These m)
+    mark_adds = adds_fact before after p y.locks.keys y.needs.items step These numbered place these is_new mark pc pc_is stored whole
 
-    pub mark_has : HasFact after p pc lock
-    mark_has = has_fact before after p y.locks.keys y.needs.items step lock numbered place number is_new mark pc pc_is stored
+    pub mark_has : (n : ℕ) (m : Lock) → these n → slice_get y.locks.keys n ≡ Some m → HasFact after p pc m
+    mark_has = has_fact before after p y.locks.keys y.needs.items step These numbered place these is_new mark pc pc_is stored
 
-    module _ (listed : more ≡ (if is_new then list ++ fact p pc number ∷ [] else list)) where
+    module _ (listed : IsPut list more (p, pc) is_new) where
       pub mark_whole : length y.locks.keys ≤ 4096 → IsWhole after
-      mark_whole few = whole_fact before after p y.locks.keys y.needs.items step lock numbered place number is_new mark pc pc_is stored listed whole few
+      mark_whole few = whole_fact before after p y.locks.keys y.needs.items step These numbered place these is_new mark pc pc_is stored listed whole few
 
       pub mark_lists : Lists before after
-      mark_lists = lists_fact before after p y.locks.keys y.needs.items step lock numbered place number is_new mark pc pc_is stored listed
+      mark_lists = lists_fact before after p y.locks.keys y.needs.items step These numbered place these is_new mark pc pc_is stored listed

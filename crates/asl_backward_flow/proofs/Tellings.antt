@@ -14,7 +14,6 @@ use Rattle.asl_backward_flow.specs.Flows.{IsFlow}
 use Rattle.asl_backward_flow.specs.declared.span.Span.{Span}
 use Rattle.asl_backward_flow.specs.declared.part.Part as code
 use Rattle.asl_backward_flow.specs.declared.region.Region.TheVariants as variant
-use Rattle.asl_backward_flow.specs.declared.found.Fact.{Fact}
 use Rattle.asl_lane_sets.specs.NumberSet.{IsIn}
 use Rattle.std.proofs.lemmas.List.{length-map}
 use Rattle.asl_backward_flow.specs.declared.found.AddFault.TheVariants.{Many}
@@ -27,7 +26,7 @@ use Rattle.asl_backward_flow.proofs.Blanks.{mapped, unmapped, some_there}
 use Rattle.asl_backward_flow.proofs.Listing.{of_part, part_of, region_one}
 use Rattle.asl_backward_flow.proofs.Sets.{some_same}
 
-module _ (r : Read) (read : IsRead r) (items : List code.Part) (list : List Fact) (all : IsAll r (table_of items list)) where
+module _ (r : Read) (read : IsRead r) (items : List code.Part) (list : List (ℕ × ℕ)) (all : IsAll r (table_of items list)) where
   abbrev t : Table
   t = table_of items list
 

@@ -1,20 +1,21 @@
 -- Machinery of the proofs, not of the promise: what is needed at once, and what follows from a fact (src/step.rt).
-use Rattle.std.specs.Prelude.{◌≡◌, ◌⊎◌, ◌+◌, ◌<◌, ◌≤◌, ℕ, Bool, List, length, map, Some, slice_get}
+use Rattle.std.specs.Prelude.{◌≡◌, ◌⊎◌, ◌<◌, ◌≤◌, ℕ, Bool, List, length, map, Some, slice_get}
 use Rattle.asl_code.specs.declared.image.Function as entry
 use Rattle.asl_code.specs.declared.instr.Instr.{Instr}
 use Rattle.asl_code.specs.declared.instr.Instr.TheVariants as instr
 use Rattle.asl_code.specs.declared.lock.Lock.{Lock}
+use Rattle.asl_lane_sets.specs.NumberSet.{IsIn}
 use Rattle.asl_lower.specs.Lowered.{Lowered}
 use Rattle.asl_lower.specs.Kept.{IsKept}
 use Rattle.asl_points_to.specs.Classes.{Classed}
 use Rattle.asl_lock_expr.specs.Links.{View, view, IsOne, link, settle, accesses, renamed, dereferenced}
 use Rattle.asl_lock_expr.specs.Stores.{stores}
+use Rattle.asl_lock_expr.specs.Touches.{Stays}
 use Rattle.asl_backward_flow.specs.declared.region.Region.TheVariants as variant
 use Rattle.asl_backward_flow.specs.declared.span.Span.{Span}
-use Rattle.asl_backward_flow.specs.declared.program.Program.{Program}
-use Rattle.asl_backward_flow.specs.declared.found.Fact.{Fact}
+use Rattle.asl_backward_flow.specs.declared.analysis.Analysis.{Analysis}
 use Rattle.asl_backward_flow.specs.declared.found.AddFault.{AddFault}
-use Rattle.asl_backward_flow.specs.Found.{Table, Has, HasPoint, HasFact, IsAt, IsName, IsWhole, IsOver, Adds, Lists, fact, locks_of}
+use Rattle.asl_backward_flow.specs.Found.{Table, HasPoint, HasFact, IsAt, IsName, IsWhole, IsOver, IsNamed, Adds, Lists}
 use Rattle.asl_backward_flow.specs.Graph.{HasPc, HasRows, HasCall, IsEdge, IsJump, IsCall}
 use Rattle.asl_backward_flow.specs.Needed.{Needed, region_of}
 use Rattle.asl_backward_flow.specs.Spans.{AreSpans}
@@ -30,7 +31,7 @@ pub record Read : Type 0 where
   pub calls : List (List ℕ)
   pub regions : List (List ℕ)
 
-abbrev pub read : Program → Read
+abbrev pub read : Analysis → Read
 read p = record {
   lowered = p.lowering.now;
   classes = p.classes.now;
@@ -65,6 +66,10 @@ pub record IsAccessed (r : Read) (part pc : ℕ) (m : Lock) : Type 0 where
   pub stands : slice_get r.lowered.code pc ≡ Some instruction
   pub one : IsOne (accesses (seen r span.function) instruction) m
 
+-- such locks, and their dereferenced prefixes
+abbrev pub WithFronts : (Lock → Type 0) → Lock → Type 0
+WithFronts Such m = Such m ⊎ ((l : Lock) × Such l × IsOne (dereferenced l) m)
+
 -- the first lock becomes the second over the instruction at the pc, dereferenced prefixes left out
 pub record IsLinkedAlone (r : Read) (part pc : ℕ) (lock m : Lock) : Type 0 where
   pub span : Span
@@ -73,7 +78,11 @@ pub record IsLinkedAlone (r : Read) (part pc : ℕ) (lock m : Lock) : Type 0 whe
   pub stands : slice_get r.lowered.code pc ≡ Some instruction
   pub one : IsOne (link (seen r span.function) instruction lock) m
 
--- the first lock, at the entry of the callee, becomes the second at the call at the pc
+-- such a lock becomes the lock over the instruction at the pc
+abbrev pub IsLinkedOf : Read → ℕ → ℕ → (Lock → Type 0) → Lock → Type 0
+IsLinkedOf r part pc Such = WithFronts (λ n. (l : Lock) × Such l × IsLinkedAlone r part pc l n)
+
+-- the first lock, at the entry of the callee, becomes the second at the call at the pc, dereferenced prefixes left out
 pub record IsEntered (r : Read) (part pc : ℕ) (lock m : Lock) : Type 0 where
   pub span : Span
   pub there : slice_get r.spans part ≡ Some span
@@ -93,36 +102,39 @@ At part pc these p q m = (p ≡ part) × (q ≡ pc) × these m
 
 -- an access at a point needs the lock
 abbrev pub IsSeed : Read → ℕ → ℕ → Lock → Type 0
-IsSeed r p q m = IsAtPoint r p q × IsAccessed r p q m
+IsSeed r p q m = IsAtPoint r p q × WithFronts (IsAccessed r p q) m
 
 abbrev pub IsSeedIn : Read → ℕ → ℕ → ℕ → Lock → Type 0
 IsSeedIn r part p q m = (p ≡ part) × IsSeed r p q m
 
--- the second lock is a dereferenced prefix of the first, at the same point
-abbrev pub IsPrefix : ℕ → ℕ → Lock → ℕ → ℕ → Lock → Type 0
-IsPrefix part pc lock = At part pc (IsOne (dereferenced lock))
+-- the lock comes from such a one, needed at the pc, over an instruction of the region from which control goes on to the pc
+abbrev pub IsBack : Read → ℕ → ℕ → (Lock → Type 0) → ℕ → ℕ → Lock → Type 0
+IsBack r part pc Such p q m = (p ≡ part) × IsEdge r.lowered pc q × IsAtPoint r p q × IsLinkedOf r p q Such m
 
--- the second lock comes by a link over an instruction that is related to the pc
-abbrev pub IsBackBy : (ℕ → ℕ → Type 0) → Read → ℕ → ℕ → Lock → ℕ → ℕ → Lock → Type 0
-IsBackBy related r part pc lock p q m = (p ≡ part) × related pc q × IsAtPoint r p q × IsLinkedAlone r p q lock m
+-- pcs of the region from which control goes on to the pc, and all of them that are related so
+pub record AreBefore (r : Read) (part pc : ℕ) (related : ℕ → Type 0) (pcs : List ℕ) : Type 0 where
+  pub only : (q : ℕ) → IsAt pcs q → IsAtPoint r part q × IsEdge r.lowered pc q
+  pub all : (q : ℕ) → IsAtPoint r part q → related q → IsAt pcs q
 
--- the same over an instruction from which control goes on to the pc: over the one before it, or over another
-abbrev pub IsBack : Read → ℕ → ℕ → Lock → ℕ → ℕ → Lock → Type 0
-IsBack r = IsBackBy (IsEdge r.lowered) r
-
-abbrev pub IsBackBefore : Read → ℕ → ℕ → Lock → ℕ → ℕ → Lock → Type 0
-IsBackBefore r = IsBackBy (λ to pc. IsEdge r.lowered to pc × (to ≡ pc + 1)) r
-
-abbrev pub IsBackOver : Read → ℕ → ℕ → Lock → ℕ → ℕ → Lock → Type 0
-IsBackOver r = IsBackBy (IsJump r.lowered) r
+-- the lock, and its dereferenced prefixes, stay as they are over the instruction at the pc
+pub record StaysAt (r : Read) (part pc : ℕ) (m : Lock) : Type 0 where
+  pub span : Span
+  pub there : slice_get r.spans part ≡ Some span
+  pub instruction : Instr
+  pub stands : slice_get r.lowered.code pc ≡ Some instruction
+  pub stays : Stays (seen r span.function) instruction m
 
 -- the second lock is needed at the call at the pc, at the entry of whose callee the first is needed
 abbrev pub IsCalledAt : Read → ℕ → Lock → ℕ → ℕ → Lock → Type 0
-IsCalledAt r pc lock p q m = (q ≡ pc) × IsAtPoint r p q × IsEntered r p q lock m
+IsCalledAt r pc lock p q m = (q ≡ pc) × IsAtPoint r p q × WithFronts (IsEntered r p q lock) m
 
 -- the second lock is needed at a call of the function, at whose entry the first is needed
 abbrev pub IsAtCall : Read → ℕ → Lock → ℕ → ℕ → Lock → Type 0
 IsAtCall r function lock p q m = IsCall r.lowered function q × IsCalledAt r q lock p q m
+
+-- the same where such a lock is needed at the entry
+abbrev pub AtCallOf : Read → ℕ → (Lock → Type 0) → ℕ → ℕ → Lock → Type 0
+AtCallOf r function Such p q m = (l : Lock) × Such l × IsAtCall r function l p q m
 
 -- the pc is the entry of a body, and the second lock is needed at a call of its function
 pub record IsEntry (r : Read) (part pc : ℕ) (lock : Lock) (p q : ℕ) (m : Lock) : Type 0 where
@@ -133,13 +145,22 @@ pub record IsEntry (r : Read) (part pc : ℕ) (lock : Lock) (p q : ℕ) (m : Loc
   pub entry : pc ≡ body.first
   pub call : IsAtCall r function lock p q m
 
--- what follows at once from a fact
-abbrev pub Follows : Read → ℕ → ℕ → Lock → ℕ → ℕ → Lock → Type 0
-Follows r part pc lock p q m = IsPrefix part pc lock p q m ⊎ (IsBack r part pc lock p q m ⊎ IsEntry r part pc lock p q m)
+-- the same of such a lock
+abbrev pub IsEntryOf : Read → ℕ → ℕ → (Lock → Type 0) → ℕ → ℕ → Lock → Type 0
+IsEntryOf r part pc Such p q m = (l : Lock) × Such l × IsEntry r part pc l p q m
+
+-- what follows at once where such locks are needed at a point
+abbrev pub Follows : Read → ℕ → ℕ → (Lock → Type 0) → ℕ → ℕ → Lock → Type 0
+Follows r part pc Such p q m = IsBack r part pc Such p q m ⊎ IsEntryOf r part pc Such p q m
 
 -- all these are found
 abbrev pub HasAll : Table → (ℕ → ℕ → Lock → Type 0) → Type 0
 HasAll t these = (p q : ℕ) (m : Lock) → these p q m → HasFact t p q m
+
+-- the numbers are those of locks, and have those of their dereferenced prefixes
+pub record IsChosen (locks : List Lock) (set : List Bool) : Type 0 where
+  pub named : (n : ℕ) → IsIn set n → (m : Lock) × (slice_get locks n ≡ Some m)
+  pub fronts : (m d : Lock) → IsNamed locks set m → IsOne (dereferenced m) d → IsNamed locks set d
 
 -- the region needs the lock there
 abbrev pub NeededAt : Read → ℕ → ℕ → Lock → Type 0
@@ -171,13 +192,15 @@ pub record AddedBelow (r : Read) (initial now : Table) (each : ℕ → ℕ → �
   pub lists : Lists initial now
   pub has : (j : ℕ) → j < k → HasAll now (each j)
 
--- the seeds are there, what follows from each fact that does not wait too, and all is needed
-pub record IsFollowed (r : Read) (t : Table) (waiting : List Fact) : Type 0 where
+-- the seeds are there, dereferenced prefixes too, and what follows from each fact at a point that does not wait; and all is
+-- needed
+pub record IsFollowed (r : Read) (t : Table) (waiting : List (ℕ × ℕ)) : Type 0 where
   pub ready : IsReady r t
   pub sound : (p q : ℕ) (m : Lock) → HasFact t p q m → NeededAt r p q m
   pub names : (p : ℕ) (m : Lock) → IsName t p m → (q : ℕ) × NeededAt r p q m
   pub seeds : HasAll t (IsSeed r)
-  pub closed : (p q n : ℕ) (m : Lock) → Has t p q n → slice_get (locks_of t p) n ≡ Some m → IsAt waiting (fact p q n) ⊎ HasAll t (Follows r p q m)
+  pub fronts : (p q : ℕ) (m d : Lock) → HasFact t p q m → IsOne (dereferenced m) d → HasFact t p q d
+  pub closed : (p q : ℕ) (m : Lock) → HasFact t p q m → IsAt waiting (p, q) ⊎ HasAll t (Follows r p q (λ l. m ≡ l))
 
 -- a region has too many locks, each needed somewhere
 pub record Overflows (r : Read) (t : Table) (fault : AddFault) : Type 0 where

@@ -1,26 +1,26 @@
 -- Machinery of the proofs, not of the promise: what has been found so far (src/part.rt, src/found.rt).
 use Rattle.std.specs.Prelude.{◌≡◌, ◌≢◌, ◌⊎◌, ◌↔◌, ◌+◌, ◌-◌, ◌<◌, ◌≤◌, ℕ, zero, suc, Bool, true, false, if◌then◌else◌, List, [], Some, map, length, slice_get, unwrap_or, replicate, sum_by}
 use Rattle.asl_code.specs.declared.lock.Lock.{Lock}
+use Rattle.std.specs.BinaryHeap.{heap_items}
 use Rattle.asl_lane_sets.specs.NumberSet.{IsIn}
 use Rattle.asl_lock_expr.specs.Links.{IsOne}
 use Rattle.asl_backward_flow.specs.declared.region.Region.{Region}
 use Rattle.asl_backward_flow.specs.declared.span.Span.{Span}
 use Rattle.asl_backward_flow.specs.declared.part.Part.{Part}
-use Rattle.asl_backward_flow.specs.declared.found.Fact.{Fact}
 use Rattle.asl_backward_flow.specs.declared.found.Found.{Found}
 use Rattle.asl_backward_flow.specs.declared.found.AddFault.{AddFault}
 use Rattle.asl_backward_flow.specs.declared.found.AddFault.TheVariants.{Many, OutOfMemory}
 
 -- of each region its name, its first pc, its locks, and for each of its points the set of the numbers of those that are needed
--- there; and the facts that are not followed yet
+-- there; and the points, as regions and pcs, whose needs are not followed yet
 pub record Table : Type 0 where
   pub regions : List Region
   pub firsts : List ℕ
   pub locks : List (List Lock)
   pub sets : List (List (List Bool))
-  pub list : List Fact
+  pub list : List (ℕ × ℕ)
 
-abbrev pub table_of : List Part → List Fact → Table
+abbrev pub table_of : List Part → List (ℕ × ℕ) → Table
 table_of parts list = record {
   regions = map (λ (p : Part). p.region) parts;
   firsts = map (λ (p : Part). p.first) parts;
@@ -30,7 +30,7 @@ table_of parts list = record {
 }
 
 abbrev pub table : Found → Table
-table f = table_of f.parts.items f.list.items
+table f = table_of f.parts.items (heap_items f.list)
 
 -- the value stands somewhere in the list
 abbrev pub IsAt : {A : Type 0} → List A → A → Type 0
@@ -54,9 +54,6 @@ first_of t part = unwrap_or (slice_get t.firsts part) 0
 abbrev pub sets_of : Table → ℕ → List (List Bool)
 sets_of t part = list_at t.sets part
 
-abbrev pub fact : ℕ → ℕ → ℕ → Fact
-fact part pc number = record { part = part; pc = pc; lock = number }
-
 -- the pc is one of the region
 abbrev pub HasPoint : Table → ℕ → ℕ → Type 0
 HasPoint t part pc = (k : ℕ) × (pc ≡ first_of t part + k) × (k < length (sets_of t part))
@@ -76,10 +73,11 @@ IsName t part lock = IsAt (locks_of t part) lock
 abbrev pub IsNamed : List Lock → List Bool → Lock → Type 0
 IsNamed locks set lock = (n : ℕ) × IsIn set n × (slice_get locks n ≡ Some lock)
 
--- each number that is found is that of a lock, what is listed is found, no lock has two numbers, and no region has too many
+-- each number that is found is that of a lock, at a point that is listed something is found, no lock has two numbers, and no
+-- region has too many
 pub record IsWhole (t : Table) : Type 0 where
   pub named : (part pc n : ℕ) → Has t part pc n → (m : Lock) × (slice_get (locks_of t part) n ≡ Some m)
-  pub listed : (f : Fact) → IsAt t.list f → Has t f.part f.pc f.lock
+  pub listed : (f : ℕ × ℕ) → IsAt t.list f → (n : ℕ) × Has t f.0 f.1 n
   pub apart : (part : ℕ) → AreApart (locks_of t part)
   pub few : (part : ℕ) → length (locks_of t part) ≤ 4096
 
@@ -112,10 +110,10 @@ pub record Grows (old new : Table) : Type 0 where
   pub points : (part pc : ℕ) → HasPoint old part pc → HasPoint new part pc
   pub facts : (part pc n : ℕ) → Has old part pc n → Has new part pc n
 
--- a list of locks in which one more may have got a number
-pub record Numbers (old new : List Lock) (lock : Lock) : Type 0 where
+-- a list of locks in which one of these may have got a number
+pub record Numbers (old new : List Lock) (These : Lock → Type 0) : Type 0 where
   pub kept : (n : ℕ) (m : Lock) → slice_get old n ≡ Some m → slice_get new n ≡ Some m
-  pub only : (n : ℕ) (m : Lock) → slice_get new n ≡ Some m → slice_get old n ≡ Some m ⊎ (m ≡ lock)
+  pub only : (n : ℕ) (m : Lock) → slice_get new n ≡ Some m → slice_get old n ≡ Some m ⊎ These m
   pub apart : AreApart new
   pub longer : length new ≤ length old + 1
 
@@ -127,13 +125,21 @@ free (suc n) set = (if unwrap_or (slice_get set n) false then 0 else 1) + free n
 abbrev pub free_in : List (List Bool) → ℕ
 free_in sets = sum_by (free 4096) sets
 
--- sets in which the one at a place has a number, and whether that is new there
-pub record IsMarked (old new : List (List Bool)) (place number : ℕ) (is_new : Bool) : Type 0 where
+-- sets in which the one at a place has these numbers, and whether some are new there
+pub record IsMarked (old new : List (List Bool)) (place : ℕ) (numbers : ℕ → Type 0) (is_new : Bool) : Type 0 where
   pub count : length new ≡ length old
   pub rest : (k : ℕ) → k ≢ place → list_at new k ≡ list_at old k
-  pub here : (n : ℕ) → IsIn (list_at new place) n ↔ (IsIn (list_at old place) n ⊎ (n ≡ number))
-  pub fresh : (is_new ≡ true) ⊎ IsIn (list_at old place) number
+  pub here : (n : ℕ) → IsIn (list_at new place) n ↔ (IsIn (list_at old place) n ⊎ numbers n)
+  pub fresh : (is_new ≡ true) ⊎ ((n : ℕ) → numbers n → IsIn (list_at old place) n)
+  pub some : is_new ≡ true → (n : ℕ) × IsIn (list_at new place) n
   pub less : free_in new + (if is_new then 1 else 0) ≤ free_in old
+
+-- a list that has an item more, if that is new
+pub record IsPut (old new : List (ℕ × ℕ)) (item : ℕ × ℕ) (is_new : Bool) : Type 0 where
+  pub stay : (f : ℕ × ℕ) → IsAt old f → IsAt new f
+  pub only : (f : ℕ × ℕ) → IsAt new f → IsAt old f ⊎ ((f ≡ item) × (is_new ≡ true))
+  pub there : is_new ≡ true → IsAt new item
+  pub longer : length new ≤ length old + (if is_new then 1 else 0)
 
 -- nothing is found but what was found, and these
 pub record Only (old new : Table) (these : ℕ → ℕ → Lock → Type 0) : Type 0 where
@@ -145,14 +151,14 @@ pub record Adds (old new : Table) (these : ℕ → ℕ → Lock → Type 0) : Ty
   pub grows : Grows old new
   pub only : Only old new these
 
--- the steps that are left at most: each takes a fact off the list, and each fact comes on it once
+-- the steps that are left at most: each takes a point off the list, and a point comes on it only with a new fact
 abbrev pub left : Table → ℕ
 left t = sum_by free_in t.sets + length t.list
 
--- what is listed stays so, and what is new is listed
+-- what is listed stays so, and the point of what is new is listed
 pub record Lists (old new : Table) : Type 0 where
-  pub stay : (f : Fact) → IsAt old.list f → IsAt new.list f
-  pub fresh : (part pc n : ℕ) → Has new part pc n → Has old part pc n ⊎ IsAt new.list (fact part pc n)
+  pub stay : (f : ℕ × ℕ) → IsAt old.list f → IsAt new.list f
+  pub fresh : (part pc n : ℕ) → Has new part pc n → Has old part pc n ⊎ IsAt new.list (part, pc)
   pub less : left new ≤ left old
 
 -- how far the locks of a list have been added at a pc of a region

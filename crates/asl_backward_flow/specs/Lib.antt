@@ -7,4 +7,5 @@ pub mod Found
 pub mod Spans
 pub mod Graph
 pub mod Follows
+pub mod Masked
 pub mod Parts

@@ -1,88 +1,27 @@
-//! Which locks each region needs at each of its points.
-ghost use Rattle.std.specs.Prelude.{◌≤◌, IfOk, IfErr};
-ghost use Rattle.asl_backward_flow.specs.Flows.{IsFlow, IsRefused};
-ghost use Rattle.asl_backward_flow.specs.Found.{table, Table};
-ghost use Rattle.asl_backward_flow.specs.Follows.{read, IsRead, IsAll, Overflows};
-ghost use Rattle.asl_backward_flow.specs.Parts.{TellsAll, HasMany};
+//! What the flow backwards goes over: a program, where its regions lie, and the ways into its points.
 
-use crate::fault::FlowFault;
-use crate::flow::follow_all;
-use crate::found::{AddFault, Found};
-use crate::graph::{calls, jumps, regions};
-use crate::parts::{Flow, flow_of};
-use crate::program::Program;
-use crate::span::spans;
-use crate::step::add_seeds;
-use asl_lock_expr::writes;
+use crate::span::Span;
+use asl_lock_expr::Writes;
 use asl_lower::Lowering;
 use asl_points_to::Classes;
-use std::alloc::Global;
 
-/// Which locks each region needs at each of its points, where paths have at most `k` operations (`docs/ANALYSIS.md`, "Needed
-/// locks"). A region that needs more than 4,096 different locks is refused.
-///
-/// # Errors
-///
-/// `TooManyLocks` with a region that needs more than 4,096 locks; `OutOfMemory` where a growth was refused.
-pub fn needed(
-    alloc: Global,
-    lowering: &Lowering,
-    classes: &Classes,
-    k: u32,
-) -> Result<Flow, FlowFault>
-    requires { k ≤ 8 }
-    ensures flow { IfOk result (IsFlow lowering.now classes.now k) }
-    ensures refused { IfErr result (IsRefused lowering.now classes.now k) }
-{
-    let writes = writes(alloc, lowering, classes)?;
-    let spans = spans(alloc, lowering)?;
-    let jumps = jumps(alloc, lowering)?;
-    let calls = calls(alloc, lowering)?;
-    let regions = regions(alloc, lowering, spans.as_slice())?;
-    let program = Program {
-        lowering,
-        classes,
-        writes: &writes,
-        longest: k as usize,
-        spans: spans.as_slice(),
-        jumps: jumps.as_slice(),
-        calls: calls.as_slice(),
-        regions: regions.as_slice(),
-    };
-    flow(alloc, &program)
-}
-
-/// The flow of a program whose regions and graph are at hand.
-fn flow(alloc: Global, program: &Program) -> Result<Flow, FlowFault>
-    requires { IsRead (read program.now) }
-    ensures ok { IfOk result (TellsAll (read program.now)) }
-    ensures err { IfErr result (HasMany (read program.now)) }
-{
-    match find(alloc, program) {
-        Ok(found) => Ok(flow_of(found.parts)),
-        Err(fault) => Err(named(program, fault)),
-    }
-}
-
-/// The fault, with the region in place of its number.
-fn named(program: &Program, fault: AddFault) -> FlowFault
-    requires { (t : Table) × Overflows (read program.now) t fault }
-    ensures { HasMany (read program.now) result }
-{
-    match fault {
-        AddFault::Many(part) => { FlowFault::TooManyLocks(program.spans[usize::from(part)].region) }
-        AddFault::OutOfMemory => FlowFault::OutOfMemory,
-    }
-}
-
-/// What accesses need, and all that follows from it.
-fn find(alloc: Global, program: &Program) -> Result<Found, AddFault>
-    requires { IsRead (read program.now) }
-    ensures ok { IfOk result (λ found. IsAll (read program.now) (table found)) }
-    ensures err { IfErr result (λ fault. (t : Table) × Overflows (read program.now) t fault) }
-{
-    let mut found = Found::new(alloc, program.spans)?;
-    add_seeds(alloc, program, &mut found)?;
-    follow_all(alloc, program, &mut found)?;
-    Ok(found)
+/// What the flow backwards goes over.
+#[derive(Clone, Copy)]
+pub struct Analysis<'a> {
+    /// The program.
+    pub lowering: &'a Lowering,
+    /// Its classes.
+    pub classes: &'a Classes,
+    /// The classes that its functions may store to.
+    pub writes: &'a Writes,
+    /// The most operations that a path keeps, at most eight.
+    pub longest: usize,
+    /// Where its regions lie.
+    pub spans: &'a [Span],
+    /// For each pc, the pcs from which control goes on to it, without the one before it.
+    pub jumps: &'a [Vec<u16>],
+    /// For each function, the pcs at which it is called.
+    pub calls: &'a [Vec<u16>],
+    /// For each pc at which a function is called, the regions that have it, by their places among the spans.
+    pub regions: &'a [Vec<u16>],
 }

@@ -1,44 +1,47 @@
-//! What follows from the seeds, found one after the other.
-ghost use Rattle.std.specs.Prelude.{◌≡◌, ◌≤◌, ◌∷◌, [], OnOk, IfOk, IfErr};
+//! What follows from the seeds, found point by point.
+ghost use Rattle.std.specs.Prelude.{◌≡◌, ◌≤◌, ◌∷◌, [], map, OnOk, IfErr};
 ghost use Rattle.asl_backward_flow.specs.Found.{table, Has, left};
+ghost use Rattle.asl_backward_flow.specs.Masked.{AreAllMasks};
 ghost use Rattle.asl_backward_flow.specs.Follows.{read, IsRead, IsFollowed, Overflows};
 
-use crate::found::{AddFault, Fact, Found};
-use crate::program::Program;
-use crate::step::add_following;
-use asl_code::Lock;
-use std::alloc::{AllocError, Global};
+use crate::analysis::Analysis;
+use crate::found::{AddFault, Found};
+use crate::masks::{Mask, no_masks};
+use crate::step::{add_back, add_entry};
+use std::alloc::Global;
 
-/// Adds what follows from a fact that was taken off the list.
-fn follow(alloc: Global, program: &Program, fact: Fact, found: &mut Found) -> Result<(), AddFault>
-    requires program { IsRead (read program.now) }
-    requires there { Has (table found.old) fact.part fact.pc fact.lock }
-    requires followed { IsFollowed (read program.now) (table found.old) (fact ∷ (table found.old).list) }
-    ensures ok { OnOk result (IsFollowed (read program.now) (table found.new) (table found.new).list) }
+/// Adds what follows from all that is needed at a point that was taken off the list.
+fn follow(
+    alloc: Global,
+    analysis: &Analysis,
+    point: (u16, u16),
+    masks: &mut Vec<Vec<Mask>>,
+    found: &mut Found,
+) -> Result<(), AddFault>
+    requires analysis { IsRead (read analysis.now) }
+    requires there { (n : _) × Has (table found.old) point.0 point.1 n }
+    requires followed { IsFollowed (read analysis.now) (table found.old) (point ∷ (table found.old).list) }
+    requires masks { AreAllMasks (read analysis.now) (table found.old) (map (λ v. v.items) masks.old.items) }
+    ensures masks { OnOk result (AreAllMasks (read analysis.now) (table found.new) (map (λ v. v.items) masks.new.items)) }
+    ensures ok { OnOk result (IsFollowed (read analysis.now) (table found.new) (table found.new).list) }
     ensures less { OnOk result (left (table found.new) ≤ left (table found.old)) }
-    ensures err { IfErr result (Overflows (read program.now) (table found.new)) }
+    ensures err { IfErr result (Overflows (read analysis.now) (table found.new)) }
 {
-    let locks = found.parts[usize::from(fact.part)].locks.as_slice();
-    let lock = copied(&locks[usize::from(fact.lock)])?;
-    add_following(alloc, program, fact.part, fact.pc, fact.lock, &lock, found)
+    let set = found.needs(point.0, point.1)?;
+    add_back(alloc, analysis, point.0, point.1, &set, masks, found)?;
+    add_entry(alloc, analysis, point.0, point.1, &set, found)
 }
 
-/// Adds what follows from each fact on the list, also from those that are put on it on the way.
-pub fn follow_all(alloc: Global, program: &Program, found: &mut Found) -> Result<(), AddFault>
-    requires program { IsRead (read program.now) }
-    requires followed { IsFollowed (read program.now) (table found.old) (table found.old).list }
-    ensures ok { OnOk result (IsFollowed (read program.now) (table found.new) []) }
-    ensures err { IfErr result (Overflows (read program.now) (table found.new)) }
+/// Adds what follows at each point on the list, also at those that are put on it on the way.
+pub fn follow_all(alloc: Global, analysis: &Analysis, found: &mut Found) -> Result<(), AddFault>
+    requires analysis { IsRead (read analysis.now) }
+    requires followed { IsFollowed (read analysis.now) (table found.old) (table found.old).list }
+    ensures ok { OnOk result (IsFollowed (read analysis.now) (table found.new) []) }
+    ensures err { IfErr result (Overflows (read analysis.now) (table found.new)) }
 {
-    while let Some(fact) = found.list.pop_front() {
-        follow(alloc, program, fact, found)?;
+    let mut masks = no_masks(alloc, analysis.spans.len())?;
+    while let Some(point) = found.list.pop() {
+        follow(alloc, analysis, point, &mut masks, found)?;
     }
     Ok(())
-}
-
-/// The same lock.
-fn copied(lock: &Lock) -> Result<Lock, AllocError>
-    ensures { IfOk result (λ copy. copy ≡ lock.now) }
-{
-    lock.clone()
 }

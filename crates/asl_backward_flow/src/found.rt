@@ -1,31 +1,27 @@
 //! What is found to be needed so far, region by region, and what of it is still to be followed.
-ghost use Rattle.std.specs.Prelude.{◌≡◌, ◌<◌, ◌∷◌, ◌++◌, [], Some, slice_get, if◌then◌else◌, vec_len, IfOk, OnOk, OnErr, IfErr};
+ghost use Rattle.std.specs.Prelude.{◌≡◌, ◌<◌, ◌↔◌, ℕ, true, Some, slice_get, vec_len, IfOk, OnOk, OnErr, IfErr};
+ghost use Rattle.std.specs.BinaryHeap.{heap_items};
 ghost use Rattle.asl_code.specs.declared.lock.Lock.{Lock};
+ghost use Rattle.asl_lane_sets.specs.NumberSet.{IsIn};
 ghost use Rattle.asl_lock_expr.specs.Links.{IsOne};
-ghost use Rattle.asl_backward_flow.specs.Found.{table, locks_of, IsBlank, HasPoint, HasFact, IsWhole, IsOver, Adds, Lists};
+ghost use Rattle.asl_backward_flow.specs.Found.{table, locks_of, IsAt, IsBlank, Has, HasPoint, HasFact, IsNamed, IsPut, IsWhole, IsOver, Adds, Lists};
 
-use crate::part::{Part, mark, number};
+use crate::part::{Part, mark, merge, number};
 use crate::span::Span;
 use asl_code::Lock;
+use asl_lane_sets::Bits;
 use std::alloc::{AllocError, Global};
-use std::collections::VecDeque;
+use std::collections::BinaryHeap;
 
 /// The most locks that a region may need.
 const MAX_LOCKS: usize = 4096;
 
-/// That a region needs a lock at a pc: the region by its place among the spans, the lock by its number in the region.
-#[derive(Clone, Copy)]
-pub struct Fact {
-    pub part: u16,
-    pub pc: u16,
-    pub lock: u16,
-}
-
-/// The regions with what they are found to need, and a list of the facts that are not followed yet.
+/// The regions with what they are found to need, and the points at which something is needed that is not followed yet: a
+/// point as the place of its region among the spans, and the pc. The last is followed first, since locks flow backwards.
 #[derive(Drop)]
 pub struct Found {
     pub parts: Vec<Part>,
-    pub list: VecDeque<Fact>,
+    pub list: BinaryHeap<(u16, u16)>,
 }
 
 /// Why a fact was not added.
@@ -48,15 +44,25 @@ impl From<AllocError> for AddFault {
     }
 }
 
-/// Puts a fact at the end of a list, if it is new.
-fn put(list: &mut VecDeque<Fact>, is_new: bool, fact: Fact) -> Result<(), AllocError>
-    ensures ok { OnOk result (list.new.items ≡ (if is_new then list.old.items ++ fact ∷ [] else list.old.items)) }
-    ensures err { OnErr result (list.new.items ≡ list.old.items) }
+/// Puts a point on a list, if something is new there.
+fn put(list: &mut BinaryHeap<(u16, u16)>, is_new: bool, point: (u16, u16)) -> Result<(), AllocError>
+    ensures ok { OnOk result (IsPut (heap_items list.old) (heap_items list.new) point is_new) }
+    ensures err { OnErr result (heap_items list.new ≡ heap_items list.old) }
 {
-    if is_new {
-        list.push_back(fact)?;
+    if is_new && !is_top(list, point) {
+        list.push(point)?;
     }
     Ok(())
+}
+
+/// Whether the point is the first of a list.
+fn is_top(list: &BinaryHeap<(u16, u16)>, point: (u16, u16)) -> bool
+    ensures { result ≡ true → IsAt (heap_items list.now) point }
+{
+    match list.peek() {
+        Some(top) => top.0 == point.0 && top.1 == point.1,
+        None => false,
+    }
 }
 
 impl Found {
@@ -70,12 +76,12 @@ impl Found {
         }
         Ok(Found {
             parts,
-            list: VecDeque::new(alloc),
+            list: BinaryHeap::new(alloc),
         })
     }
 
-    /// Adds that a region needs a lock at a pc, and lists it if that is new.
-    pub fn add(&mut self, alloc: Global, part: u16, pc: u16, lock: Lock) -> Result<(), AddFault>
+    /// Adds that a region needs a lock at a pc, and lists the point if that is new.
+    pub fn add(&mut self, part: u16, pc: u16, lock: Lock) -> Result<(), AddFault>
         requires there { part < vec_len self.old.parts }
         requires point { HasPoint (table self.old) part pc }
         requires whole { IsWhole (table self.old) }
@@ -91,51 +97,33 @@ impl Found {
             return Err(AddFault::Many(part));
         }
         let place = usize::from(pc - region.first);
-        let is_new = mark(alloc, &mut region.needs, place, number)?;
-        let lock = number as u16;
-        put(&mut self.list, is_new, Fact { part, pc, lock })?;
+        let is_new = mark(&mut region.needs, place, number)?;
+        put(&mut self.list, is_new, (part, pc))?;
         Ok(())
     }
 
-    /// Adds that a region needs at a pc its lock of this number, and lists it if that is new.
-    pub fn add_numbered(
-        &mut self,
-        alloc: Global,
-        part: u16,
-        pc: u16,
-        number: u16,
-    ) -> Result<(), AddFault>
+    /// Adds that a region needs at a pc its locks of these numbers, and lists the point if one of that is new.
+    pub fn add_numbered(&mut self, part: u16, pc: u16, numbers: &Bits) -> Result<(), AddFault>
         requires there { part < vec_len self.old.parts }
         requires point { HasPoint (table self.old) part pc }
         requires whole { IsWhole (table self.old) }
-        requires named { (m : Lock) × (slice_get (locks_of (table self.old) part) number ≡ Some m) }
+        requires named { (n : ℕ) → IsIn numbers.now n → (m : Lock) × (slice_get (locks_of (table self.old) part) n ≡ Some m) }
         ensures whole { OnOk result (IsWhole (table self.new)) }
-        ensures has { OnOk result ((m : Lock) → slice_get (locks_of (table self.old) part) number ≡ Some m → HasFact (table self.new) part pc m) }
+        ensures has { OnOk result ((m : Lock) → IsNamed (locks_of (table self.old) part) numbers.now m → HasFact (table self.new) part pc m) }
         ensures lists { OnOk result (Lists (table self.old) (table self.new)) }
         ensures adds { Adds (table self.old) (table self.new)
-            (λ p q m. (p ≡ part) × (q ≡ pc) × (slice_get (locks_of (table self.old) part) number ≡ Some m)) }
+            (λ p q m. (p ≡ part) × (q ≡ pc) × IsNamed (locks_of (table self.old) part) numbers.now m) }
         ensures over { IfErr result (IsOver (table self.new)) }
     {
         let needing = &mut self.parts[usize::from(part)];
         let place = usize::from(pc - needing.first);
-        let is_new = mark(alloc, &mut needing.needs, place, usize::from(number))?;
-        let fact = Fact {
-            part,
-            pc,
-            lock: number,
-        };
-        put(&mut self.list, is_new, fact)?;
+        let is_new = merge(&mut needing.needs, place, numbers)?;
+        put(&mut self.list, is_new, (part, pc))?;
         Ok(())
     }
 
     /// Adds that a region needs each of these locks at a pc.
-    pub fn add_all(
-        &mut self,
-        alloc: Global,
-        part: u16,
-        pc: u16,
-        mut locks: Vec<Lock>,
-    ) -> Result<(), AddFault>
+    pub fn add_all(&mut self, part: u16, pc: u16, mut locks: Vec<Lock>) -> Result<(), AddFault>
         requires there { part < vec_len self.old.parts }
         requires point { HasPoint (table self.old) part pc }
         requires whole { IsWhole (table self.old) }
@@ -146,8 +134,28 @@ impl Found {
         ensures over { IfErr result (IsOver (table self.new)) }
     {
         while let Some(lock) = locks.pop() {
-            self.add(alloc, part, pc, lock)?;
+            self.add(part, pc, lock)?;
         }
         Ok(())
+    }
+
+    /// The numbers of the locks that a region is found to need at a pc.
+    pub fn needs(&self, part: u16, pc: u16) -> Result<Bits, AllocError>
+        requires there { part < vec_len self.now.parts }
+        requires point { HasPoint (table self.now) part pc }
+        ensures { IfOk result (λ set. (n : ℕ) → IsIn set n ↔ Has (table self.now) part pc n) }
+    {
+        let region = &self.parts[usize::from(part)];
+        region.needs[usize::from(pc - region.first)].copy()
+    }
+
+    /// The lock of this number of a region.
+    pub fn lock(&self, part: u16, number: usize) -> Result<Lock, AllocError>
+        requires there { part < vec_len self.now.parts }
+        requires named { (m : Lock) × (slice_get (locks_of (table self.now) part) number ≡ Some m) }
+        ensures { IfOk result (λ lock. slice_get (locks_of (table self.now) part) number ≡ Some lock) }
+    {
+        let locks = self.parts[usize::from(part)].locks.as_slice();
+        locks[number].clone()
     }
 }

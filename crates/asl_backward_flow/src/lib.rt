@@ -7,14 +7,14 @@ mod flow;
 mod found;
 mod graph;
 mod laws;
+mod masks;
 mod part;
 mod parts;
-mod program;
 mod region;
+mod solve;
 mod span;
 mod step;
 
-pub use analysis::needed;
 pub use fault::FlowFault;
 pub use laws::{
     needed_locks_depend_on_written_classes_alone, nothing_is_needed_outside_a_region,
@@ -22,3 +22,4 @@ pub use laws::{
 };
 pub use parts::Flow;
 pub use region::Region;
+pub use solve::needed;

@@ -1,5 +1,5 @@
 //! A region with the locks that it needs, and the points at which it needs them.
-ghost use Rattle.std.specs.Prelude.{◌≡◌, ◌<◌, ◌≤◌, ◌+◌, ◌↔◌, ◌⊎◌, ℕ, Some, [], length, replicate, slice_get, IfOk, OnOk, OnErr};
+ghost use Rattle.std.specs.Prelude.{◌≡◌, ◌<◌, ◌≤◌, ◌↔◌, ◌⊎◌, ℕ, Some, [], length, replicate, slice_get, IfOk, OnOk, OnErr};
 ghost use Rattle.asl_code.specs.declared.lock.Lock.{Lock};
 ghost use Rattle.asl_lane_sets.specs.NumberSet.{IsIn};
 ghost use Rattle.asl_lock_expr.specs.Links.{IsOne};
@@ -16,6 +16,9 @@ use asl_lock_expr::add_in_order;
 use indexmap::IndexSet;
 use std::alloc::{AllocError, Global};
 
+/// By how many numbers a set grows at least, where numbers come one by one.
+pub const STEP: usize = 256;
+
 /// A region with its locks in the order in which they were found. For each of its points, from the first pc on, a set has the
 /// numbers of the locks that are needed there; a set is as long as its numbers made it.
 #[derive(Drop)]
@@ -29,7 +32,7 @@ pub struct Part {
 /// The number of a lock among those found, at which it is put in if it is new.
 pub fn number(locks: &mut IndexSet<Lock>, lock: Lock) -> Result<usize, AllocError>
     ensures stored { IfOk result (λ n. slice_get locks.new.keys n ≡ Some lock) }
-    ensures numbers { Numbers locks.old.keys locks.new.keys lock }
+    ensures numbers { Numbers locks.old.keys locks.new.keys (λ m. m ≡ lock) }
     ensures within { IfOk result (λ n. n < length locks.new.keys) }
 {
     let (number, _is_new) = locks.insert_full(lock)?;
@@ -37,19 +40,14 @@ pub fn number(locks: &mut IndexSet<Lock>, lock: Lock) -> Result<usize, AllocErro
 }
 
 /// Puts a number into the set at a place, and tells whether it is new there.
-pub fn mark(
-    alloc: Global,
-    sets: &mut Vec<Bits>,
-    place: usize,
-    number: usize,
-) -> Result<bool, AllocError>
+pub fn mark(sets: &mut Vec<Bits>, place: usize, number: usize) -> Result<bool, AllocError>
     requires there { place < length sets.old.items }
     requires small { number < 4096 }
-    ensures marked { IfOk result (IsMarked sets.old.items sets.new.items place number) }
+    ensures marked { IfOk result (IsMarked sets.old.items sets.new.items place (λ n. n ≡ number)) }
     ensures err { OnErr result (sets.new.items ≡ sets.old.items) }
 {
     let set = &mut sets[place];
-    make_room(alloc, set, number)?;
+    make_room(set, (number / STEP + 1) * STEP)?;
     if set.has(number) {
         return Ok(false);
     }
@@ -57,32 +55,28 @@ pub fn mark(
     Ok(true)
 }
 
-/// Makes the set long enough for a number.
-fn make_room(alloc: Global, set: &mut Bits, number: usize) -> Result<(), AllocError>
-    requires small { number < 4096 }
-    ensures room { OnOk result (number < length set.new) }
+/// Puts numbers into the set at a place, and tells whether some are new there.
+pub fn merge(sets: &mut Vec<Bits>, place: usize, numbers: &Bits) -> Result<bool, AllocError>
+    requires there { place < length sets.old.items }
+    requires small { (n : ℕ) → IsIn numbers.now n → n < 4096 }
+    ensures marked { IfOk result (IsMarked sets.old.items sets.new.items place (IsIn numbers.now)) }
+    ensures err { OnErr result (sets.new.items ≡ sets.old.items) }
+{
+    let set = &mut sets[place];
+    make_room(set, numbers.len())?;
+    Ok(set.add_all(numbers))
+}
+
+/// Makes the set at least so long.
+pub fn make_room(set: &mut Bits, len: usize) -> Result<(), AllocError>
+    ensures room { OnOk result (len ≤ length set.new) }
     ensures same { OnOk result ((k : ℕ) → IsIn set.new k ↔ IsIn set.old k) }
     ensures err { OnErr result (set.new ≡ set.old) }
 {
-    if set.len() <= number {
-        *set = longer(alloc, set, number)?;
+    if set.len() < len {
+        set.grow(len)?;
     }
     Ok(())
-}
-
-/// The same set with room for a number that is past its end.
-fn longer(alloc: Global, set: &Bits, number: usize) -> Result<Bits, AllocError>
-    requires past { length set.now ≤ number }
-    requires small { number < 4096 }
-    ensures room { IfOk result (λ new. number < length new) }
-    ensures same { IfOk result (λ new. (k : ℕ) → IsIn new k ↔ IsIn set.now k) }
-{
-    let mut new = Bits::with_len(alloc, (number / 128 + 1) * 256)?;
-    let members = set.members(alloc)?;
-    for member in members.as_slice() {
-        new.add(*member);
-    }
-    Ok(new)
 }
 
 /// So many sets without numbers.

@@ -1,11 +1,14 @@
 -- The numbers of a set in their order.
-use Rattle.std.proofs.Common.{◌≡◌, ◌⊎◌, ⊎_elim, ◌↔◌, ℕ, zero, suc, ◌+◌, ◌-◌, ◌*◌, ◌/◌, ◌%◌, ◌<◌, ◌≤◌, Bool, true, false, cond, List, [], ◌∷◌, ◌++◌, map, length, get_or, refl, sym, ap, subst, ◌∙◌, inl, inr, arith, eqb, eq-eqb, eqb-true, ◌^◌, bit_and}
+use Rattle.std.proofs.Common.{◌≡◌, ◌⊎◌, ⊎_elim, ◌↔◌, ℕ, zero, suc, ◌+◌, ◌-◌, ◌*◌, ◌/◌, ◌%◌, ◌<◌, ◌≤◌, Bool, true, false, cond, List, [], ◌∷◌, ◌++◌, map, length, get_or, refl, sym, ap, subst, ◌∙◌, inl, inr, arith, eqb, eq-eqb, eqb-true, ◌^◌, bit_and, w64}
 use Rattle.std.specs.List.{range_with_len, filter, Contains, slice_index_or}
+use Rattle.std.proofs.lemmas.Bool.{cases_lt}
 use Rattle.std.proofs.lemmas.List.{map-append}
 use Rattle.std.proofs.lemmas.List.Elements.{filter-append}
 use Rattle.std.proofs.lemmas.List.FromFn.{length-range_with_len, get_or-range_with_len}
 use Rattle.std.proofs.lemmas.List.Kept.{AllPairs-from_increasing, IsStrictlyIncreasing-filter}
-use Rattle.std.proofs.lemmas.Nat.Bits.{bit_at-zero, shr_and_one}
+use Rattle.std.specs.Int.{bit_at, trailing_zeros}
+use Rattle.std.proofs.lemmas.Nat.{shr-shr, shr_le}
+use Rattle.std.proofs.lemmas.Nat.Bits.{bit_at-zero, shr_and_one, bit_at-trailing_zeros, bit_at_above}
 use Rattle.asl_lane_sets.specs.NumberSet.{IsIn, IsRising, members_from, members_of}
 use Rattle.asl_lane_sets.specs.Packed.{has_bit, is_set, told, IsPacked, ones}
 
@@ -146,3 +149,52 @@ members_tell set k = (
 -- the test of a bit, as the code makes it
 pub bit_told : (word bit : ℕ) → (bit_and (word / 2 ^ bit) 1 ≡ 1) ↔ (has_bit word bit ≡ true)
 bit_told word bit = (λ e. eq-eqb _ _ (sym (shr_and_one word bit) ∙ e), λ e. shr_and_one word bit ∙ eqb-true _ _ e)
+
+-- the bits of a word that is shifted
+shifted_bit : (word from bit : ℕ) → bit_at (word / 2 ^ from) bit ≡ bit_at word (from + bit)
+shifted_bit word from bit = ap (λ n. n % 2) (shr-shr word from bit)
+
+module _ (word from : ℕ) where
+  pub zero_shifted : (k : ℕ) → word / 2 ^ from ≡ 0 → from ≤ k → has_bit word k ≡ false
+  zero_shifted k none le =
+      let at : from + (k - from) ≡ k = omega arith in
+      ap (λ n. eqb n 1) (ap (bit_at word) (sym at) ∙ sym (shifted_bit word from (k - from)) ∙ ap (λ w. bit_at w (k - from)) none ∙ bit_at-zero (k - from))
+
+  module _ (fits : word < 2 ^ 64) where
+    small : word / 2 ^ from < 2 ^ 64
+    small = let le = shr_le word from in omega (arith, le, fits)
+
+    pub none_shifted : (word / 2 ^ from ≡ 0 → ⊥) → (k : ℕ) → from ≤ k → k < from + trailing_zeros w64 (word / 2 ^ from) → has_bit word k ≡ false
+    none_shifted some k le lt =
+        let at : from + (k - from) ≡ k = omega arith in
+        let low = bit_at-trailing_zeros w64 (word / 2 ^ from) (omega (arith, some)) small in
+        ap (λ n. eqb n 1) (ap (bit_at word) (sym at) ∙ sym (shifted_bit word from (k - from)) ∙ low.2 (k - from) (omega (arith, lt, le)))
+
+    pub one_shifted : from < 64 → (word / 2 ^ from ≡ 0 → ⊥) → (from + trailing_zeros w64 (word / 2 ^ from) ≤ 64) × (from + trailing_zeros w64 (word / 2 ^ from) < 64 → has_bit word (from + trailing_zeros w64 (word / 2 ^ from)) ≡ true)
+    one_shifted below some =
+        let low = bit_at-trailing_zeros w64 (word / 2 ^ from) (omega (arith, some)) small in
+        let one : bit_at word (from + trailing_zeros w64 (word / 2 ^ from)) ≡ 1 = sym (shifted_bit word from (trailing_zeros w64 (word / 2 ^ from))) ∙ low.1 in
+        (inside one, λ lt. eq-eqb _ _ one)
+      where
+        inside : bit_at word (from + trailing_zeros w64 (word / 2 ^ from)) ≡ 1 → from + trailing_zeros w64 (word / 2 ^ from) ≤ 64
+        inside one = elim (cases_lt (from + trailing_zeros w64 (word / 2 ^ from)) 64) [
+          | inl lt ↦ omega (arith, lt)
+          | inr past ↦ (let none = bit_at_above word 64 _ fits past in absurd (omega (arith, none, one)))
+        ]
+
+-- no bit between two places
+pub none_between : (word first low high : ℕ) → low ≤ high → ((k : ℕ) → low ≤ k → k < high → has_bit word k ≡ false) → ones word first high ≡ ones word first low
+none_between word first low high le none =
+    let split : high ≡ low + (high - low) = omega (arith, le) in
+    ap (ones word first) split
+    ∙ ap (λ xs. map (λ b. first + b) (filter (has_bit word) xs)) (range_split 0 low (high - low))
+    ∙ ap (map (λ b. first + b)) (filter-append (has_bit word) (range_with_len 0 low) (range_with_len (0 + low) (high - low)) ∙ ap (λ xs. filter (has_bit word) (range_with_len 0 low) ++ xs) (none_in (0 + low) (high - low) (λ k l h. none k (omega (arith, l)) (omega (arith, h, le)))))
+    ∙ ap (map (λ b. first + b)) (nothing_more (filter (has_bit word) (range_with_len 0 low)))
+  where
+    nothing_more : (xs : List ℕ) → xs ++ [] ≡ xs
+    nothing_more [] = refl
+    nothing_more (x ∷ xs) = ap (λ ys. x ∷ ys) (nothing_more xs)
+
+    none_in : (a n : ℕ) → ((k : ℕ) → a ≤ k → k < a + n → has_bit word k ≡ false) → filter (has_bit word) (range_with_len a n) ≡ []
+    none_in a zero h = refl
+    none_in a (suc n) h = ap (λ t. cond t (a ∷ filter (has_bit word) (range_with_len (a + 1) n)) (filter (has_bit word) (range_with_len (a + 1) n))) (h a (omega arith) (omega arith)) ∙ none_in (a + 1) n (λ k l lt. h k (omega (arith, l)) (omega (arith, lt)))

@@ -1,5 +1,5 @@
 -- The numbers of a set, by the bits of its words.
-use Rattle.std.proofs.Common.{IsTrue, subst, ◌++◌, take, drop, bit_and, ◌≡◌, ◌⊎◌, ⊎_elim, ◌↔◌, ℕ, zero, suc, ◌+◌, ◌*◌, ◌/◌, ◌%◌, ◌^◌, ◌<◌, Bool, true, false, List, [], ◌∷◌, Some, map, length, get_or, replicate, slice_set, bit_or, refl, sym, ap, ◌∙◌, inl, inr, arith, w64, eqb, eqb-true, eq-eqb, length-set}
+use Rattle.std.proofs.Common.{IsTrue, subst, ◌++◌, take, drop, bit_and, ◌≡◌, ◌⊎◌, ⊎_elim, ◌↔◌, ℕ, zero, suc, ◌+◌, ◌*◌, ◌/◌, ◌%◌, ◌^◌, ◌<◌, ◌≤◌, Bool, true, false, List, [], ◌∷◌, Some, map, length, get_or, replicate, slice_set, bit_or, refl, sym, ap, ◌∙◌, inl, inr, arith, w64, eqb, eqb-true, eq-eqb, length-set}
 use Rattle.std.specs.Int.{bit_at}
 use Rattle.std.specs.List.{range_with_len}
 use Rattle.std.proofs.lemmas.Bool.{cases_lt, false_from_ne_true}
@@ -11,7 +11,7 @@ use Rattle.std.proofs.lemmas.Grind.{get_or_default_zero}
 use Rattle.std.proofs.lemmas.Nat.Bits.{shr_and_one, bit_at-zero, bit_at_or, bit_at-lt, bit_at_above, bit_at_set_same, bit_at_set_other, same_from_bits}
 use Rattle.std.proofs.Math.Seq.{take-append_seam}
 use Rattle.asl_lane_sets.specs.NumberSet.{IsIn}
-use Rattle.asl_lane_sets.specs.Packed.{AreWords, has_bit, is_set, told, IsPacked, AreJoined, Differ}
+use Rattle.asl_lane_sets.specs.Packed.{AreWords, has_bit, is_set, told, IsPacked, AreJoined, AreCleared, Differ}
 
 pub has_tells : (word bit : ℕ) → (has_bit word bit ≡ true) ↔ (bit_at word bit ≡ 1)
 has_tells word bit = (λ e. eqb-true _ _ e, λ e. eq-eqb _ _ e)
@@ -113,22 +113,24 @@ module _ (a b c : List ℕ) (joins : AreJoined a b c) where
       let each = bit_of_either (get_or a (k / 64) 0) (get_or b (k / 64) 0) (k % 64) in
       (λ e. each.0 (sym is ∙ e), λ h. is ∙ each.1 h)
 
-  pub packed_joined : (len : ℕ) → IsPacked len a → IsPacked len b → IsPacked len c
-  packed_joined len pa pb = record {
-    fits = pa.fits;
-    count = joins.0 ∙ pa.count;
-    clear = λ k past. false_from_ne_true _ (λ e.
-        ⊎_elim (λ (x : is_set a k ≡ true). let clear = pa.clear k past in let never : false ≡ true = sym clear ∙ x in cc) (λ (x : is_set b k ≡ true). let clear = pb.clear k past in let never : false ≡ true = sym clear ∙ x in cc) ((set_joined k).0 e));
-  }
+  -- where the second set is no longer than the first
+  module _ (len other : ℕ) (le : other ≤ len) (pa : IsPacked len a) (pb : IsPacked other b) where
+    pub packed_joined : IsPacked len c
+    packed_joined = record {
+      fits = pa.fits;
+      count = joins.0 ∙ pa.count;
+      clear = λ k past. false_from_ne_true _ (λ e.
+          ⊎_elim (λ (x : is_set a k ≡ true). let clear = pa.clear k past in let never : false ≡ true = sym clear ∙ x in cc) (λ (x : is_set b k ≡ true). let clear = pb.clear k (omega (arith, le, past)) in let never : false ≡ true = sym clear ∙ x in cc) ((set_joined k).0 e));
+    }
 
-  pub in_joined : (len : ℕ) → IsPacked len a → IsPacked len b → (k : ℕ) → IsIn (told len c) k ↔ (IsIn (told len a) k ⊎ IsIn (told len b) k)
-  in_joined len pa pb k =
-      let now = in_told len c (packed_joined len pa pb) k in
-      let of_a = in_told len a pa k in
-      let of_b = in_told len b pb k in (
-        λ is. ⊎_elim (λ x. inl (of_a.1 x)) (λ x. inr (of_b.1 x)) ((set_joined k).0 (now.0 is)),
-        λ is. now.1 ((set_joined k).1 (⊎_elim (λ x. inl (of_a.0 x)) (λ x. inr (of_b.0 x)) is)),
-      )
+    pub in_joined : (k : ℕ) → IsIn (told len c) k ↔ (IsIn (told len a) k ⊎ IsIn (told other b) k)
+    in_joined k =
+        let now = in_told len c packed_joined k in
+        let of_a = in_told len a pa k in
+        let of_b = in_told other b pb k in (
+          λ is. ⊎_elim (λ x. inl (of_a.1 x)) (λ x. inr (of_b.1 x)) ((set_joined k).0 (now.0 is)),
+          λ is. now.1 ((set_joined k).1 (⊎_elim (λ x. inl (of_a.0 x)) (λ x. inr (of_b.0 x)) is)),
+        )
 
 -- words whose bits are all those of others add nothing
 module _ (a b : List ℕ) (fits_a : (i : ℕ) → get_or a i 0 < 2 ^ 64) (fits_b : (i : ℕ) → get_or b i 0 < 2 ^ 64) where
@@ -178,25 +180,25 @@ new_or_none (false ∷ old) (false ∷ from) = ⊎_elim
     (λ some. inr (suc some.0, some.1, some.2))
     (new_or_none old from)
 
-module _ (len : ℕ) (a b : List ℕ) (fits_a : (i : ℕ) → get_or a i 0 < 2 ^ 64) (fits_b : (i : ℕ) → get_or b i 0 < 2 ^ 64) (pa : IsPacked len a) (pb : IsPacked len b) where
-  within_words : ((k : ℕ) → IsIn (told len b) k → IsIn (told len a) k) → (place : ℕ) → get_or a place 0 ≡ bit_or (get_or a place 0) (get_or b place 0)
-  within_words all = nothing_added a b fits_a fits_b (λ k is. (in_told len a pa k).0 (all k ((in_told len b pb k).1 is)))
+module _ (len other : ℕ) (le : other ≤ len) (a b : List ℕ) (fits_a : (i : ℕ) → get_or a i 0 < 2 ^ 64) (fits_b : (i : ℕ) → get_or b i 0 < 2 ^ 64) (pa : IsPacked len a) (pb : IsPacked other b) where
+  within_words : ((k : ℕ) → IsIn (told other b) k → IsIn (told len a) k) → (place : ℕ) → get_or a place 0 ≡ bit_or (get_or a place 0) (get_or b place 0)
+  within_words all = nothing_added a b fits_a fits_b (λ k is. (in_told len a pa k).0 (all k ((in_told other b pb k).1 is)))
 
   -- one set is within another where joining adds nothing to its words
-  pub within_told : AreJoined a b a ↔ ((k : ℕ) → IsIn (told len b) k → IsIn (told len a) k)
+  pub within_told : AreJoined a b a ↔ ((k : ℕ) → IsIn (told other b) k → IsIn (told len a) k)
   within_told = (
-    λ joins k is. (in_joined a b a joins len pa pb k).1 (inr is),
+    λ joins k is. (in_joined a b a joins len other le pa pb k).1 (inr is),
     λ all. (refl, within_words all),
   )
 
   -- words that change gain a number
-  pub grown_told : (c : List ℕ) → AreJoined a b c → Differ a c ↔ ((k : ℕ) × IsIn (told len b) k × ¬ IsIn (told len a) k)
+  pub grown_told : (c : List ℕ) → AreJoined a b c → Differ a c ↔ ((k : ℕ) × IsIn (told other b) k × ¬ IsIn (told len a) k)
   grown_told c joins = (
-    λ d. ⊎_elim (λ all. absurd (d.different (within_words all d.place ∙ sym (joins.1 d.place)))) (λ some. some) (new_or_none (told len a) (told len b)),
+    λ d. ⊎_elim (λ all. absurd (d.different (within_words all d.place ∙ sym (joins.1 d.place)))) (λ some. some) (new_or_none (told len a) (told other b)),
     λ some. record {
       place = some.0 / 64;
       different = λ e.
-          let is : is_set c some.0 ≡ true = (set_joined a b c joins some.0).1 (inr ((in_told len b pb some.0).0 some.1)) in
+          let is : is_set c some.0 ≡ true = (set_joined a b c joins some.0).1 (inr ((in_told other b pb some.0).0 some.1)) in
           some.2 ((in_told len a pa some.0).1 (ap (λ w. has_bit w (some.0 % 64)) e ∙ is));
     },
   )
@@ -225,35 +227,109 @@ module _ (len other : ℕ) (same : len ≡ other) (va vb a b : List ℕ) where
       let qb : IsPacked len b = subst (IsPacked len) (sym is_b) (subst (λ n. IsPacked n vb) (sym same) pb) in
       let of_a : told len a ≡ xs = ap (told len) is_a ∙ xs_is in
       let of_b : told len b ≡ ys = ap (λ n. told n b) same ∙ ap (told other) is_b ∙ ys_is in
-      let all = within_told len b a fits_b fits_a qb qa in (
+      let all = within_told len len (omega arith) b a fits_b fits_a qb qa in (
         λ e k is. subst (λ s. IsIn s k) of_b (all.0 (tells.0 e) k (subst (λ s. IsIn s k) (sym of_a) is)),
         λ h. tells.1 (all.1 (λ k is. subst (λ s. IsIn s k) (sym of_b) (h k (subst (λ s. IsIn s k) of_a is)))),
       )
 
-  module _ (c : List ℕ) where
-    pub merged_packed : IsPacked len va → IsPacked other vb → a ≡ va → b ≡ vb → AreJoined a b c → IsPacked len c
-    merged_packed pa pb is_a is_b joins =
-        packed_joined a b c joins len (subst (IsPacked len) (sym is_a) pa) (subst (IsPacked len) (sym is_b) (subst (λ n. IsPacked n vb) (sym same) pb))
+-- the second set is no longer than the first
+module _ (len other : ℕ) (le : other ≤ len) (va vb a b c : List ℕ) where
+  pub merged_packed : IsPacked len va → IsPacked other vb → a ≡ va → b ≡ vb → AreJoined a b c → IsPacked len c
+  merged_packed pa pb is_a is_b joins =
+      packed_joined a b c joins len other le (subst (IsPacked len) (sym is_a) pa) (subst (IsPacked other) (sym is_b) pb)
 
-    module _ (xs ys : List Bool) (pa : IsPacked len va) (pb : IsPacked other vb) (is_a : a ≡ va) (is_b : b ≡ vb) (joins : AreJoined a b c) (xs_is : told len va ≡ xs) (ys_is : told other vb ≡ ys) where
-      qa : IsPacked len a
-      qa = subst (IsPacked len) (sym is_a) pa
+  module _ (xs ys : List Bool) (pa : IsPacked len va) (pb : IsPacked other vb) (is_a : a ≡ va) (is_b : b ≡ vb) (joins : AreJoined a b c) (xs_is : told len va ≡ xs) (ys_is : told other vb ≡ ys) where
+    qa : IsPacked len a
+    qa = subst (IsPacked len) (sym is_a) pa
 
-      qb : IsPacked len b
-      qb = subst (IsPacked len) (sym is_b) (subst (λ n. IsPacked n vb) (sym same) pb)
+    qb : IsPacked other b
+    qb = subst (IsPacked other) (sym is_b) pb
 
-      of_a : told len a ≡ xs
-      of_a = ap (told len) is_a ∙ xs_is
+    of_a : told len a ≡ xs
+    of_a = ap (told len) is_a ∙ xs_is
 
-      of_b : told len b ≡ ys
-      of_b = ap (λ n. told n b) same ∙ ap (told other) is_b ∙ ys_is
+    of_b : told other b ≡ ys
+    of_b = ap (told other) is_b ∙ ys_is
 
-      pub merged_in : (k : ℕ) → IsIn (told len c) k ↔ (IsIn xs k ⊎ IsIn ys k)
-      merged_in k = subst (λ s. IsIn (told len c) k ↔ (IsIn s k ⊎ IsIn ys k)) of_a (subst (λ s. IsIn (told len c) k ↔ (IsIn (told len a) k ⊎ IsIn s k)) of_b (in_joined a b c joins len qa qb k))
+    pub merged_in : (k : ℕ) → IsIn (told len c) k ↔ (IsIn xs k ⊎ IsIn ys k)
+    merged_in k = subst (λ s. IsIn (told len c) k ↔ (IsIn s k ⊎ IsIn ys k)) of_a (subst (λ s. IsIn (told len c) k ↔ (IsIn (told len a) k ⊎ IsIn s k)) of_b (in_joined a b c joins len other le qa qb k))
 
-      pub merged_grew : AreWords a → AreWords b → (result : Bool) → (IsTrue result ↔ Differ a c) → IsTrue result ↔ ((k : ℕ) × IsIn ys k × ¬ IsIn xs k)
-      merged_grew fits_a fits_b result tells =
-          let grown = grown_told len a b fits_a fits_b qa qb c joins in (
-            λ e. let some = grown.0 (tells.0 e) in (some.0, subst (λ s. IsIn s some.0) of_b some.1, λ is. some.2 (subst (λ s. IsIn s some.0) (sym of_a) is)),
-            λ some. tells.1 (grown.1 (some.0, subst (λ s. IsIn s some.0) (sym of_b) some.1, λ is. some.2 (subst (λ s. IsIn s some.0) of_a is))),
-          )
+    pub merged_grew : AreWords a → AreWords b → (result : Bool) → (IsTrue result ↔ Differ a c) → IsTrue result ↔ ((k : ℕ) × IsIn ys k × ¬ IsIn xs k)
+    merged_grew fits_a fits_b result tells =
+        let grown = grown_told len other le a b fits_a fits_b qa qb c joins in (
+          λ e. let some = grown.0 (tells.0 e) in (some.0, subst (λ s. IsIn s some.0) of_b some.1, λ is. some.2 (subst (λ s. IsIn s some.0) (sym of_a) is)),
+          λ some. tells.1 (grown.1 (some.0, subst (λ s. IsIn s some.0) (sym of_b) some.1, λ is. some.2 (subst (λ s. IsIn s some.0) of_a is))),
+        )
+
+-- the numbers of one set that are none of another
+module _ (a b c : List ℕ) (cleared : AreCleared a b c) where
+  pub set_cleared : (k : ℕ) → (is_set c k ≡ true) ↔ ((is_set a k ≡ true) × (is_set b k ≡ false))
+  set_cleared k = cleared.1 (k / 64) (k % 64)
+
+  pub packed_cleared : (len : ℕ) → IsPacked len a → IsPacked len c
+  packed_cleared len pa = record {
+    fits = pa.fits;
+    count = cleared.0 ∙ pa.count;
+    clear = λ k past. false_from_ne_true _ (λ e. let was = ((set_cleared k).0 e).0 in let clear = pa.clear k past in let never : false ≡ true = sym clear ∙ was in cc);
+  }
+
+  pub in_cleared : (len other : ℕ) → IsPacked len a → IsPacked other b → (k : ℕ) → IsIn (told len c) k ↔ (IsIn (told len a) k × ¬ IsIn (told other b) k)
+  in_cleared len other pa pb k =
+      let now = in_told len c (packed_cleared len pa) k in
+      let of_a = in_told len a pa k in
+      let of_b = in_told other b pb k in (
+        λ is. (let both = (set_cleared k).0 (now.0 is) in (of_a.1 both.0, λ h. (let yes = of_b.0 h in let no = both.1 in let never : false ≡ true = sym no ∙ yes in cc))),
+        λ both. now.1 ((set_cleared k).1 (of_a.0 both.0, false_from_ne_true _ (λ e. both.1 (of_b.1 e)))),
+      )
+
+pub removed_packed : (len : ℕ) (va a b c : List ℕ) → IsPacked len va → a ≡ va → AreCleared a b c → IsPacked len c
+removed_packed len va a b c pa is_a cleared = packed_cleared a b c cleared len (subst (IsPacked len) (sym is_a) pa)
+
+pub removed_in : (len other : ℕ) (va vb a b c : List ℕ) (xs ys : List Bool) → IsPacked len va → IsPacked other vb → a ≡ va → b ≡ vb → AreCleared a b c → told len va ≡ xs → told other vb ≡ ys
+    → (k : ℕ) → IsIn (told len c) k ↔ (IsIn xs k × ¬ IsIn ys k)
+removed_in len other va vb a b c xs ys pa pb is_a is_b cleared xs_is ys_is k =
+    subst (λ s. IsIn (told len c) k ↔ (IsIn s k × ¬ IsIn ys k)) (ap (told len) is_a ∙ xs_is)
+    (subst (λ s. IsIn (told len c) k ↔ (IsIn (told len a) k × ¬ IsIn s k)) (ap (told other) is_b ∙ ys_is)
+    (in_cleared a b c cleared len other (subst (IsPacked len) (sym is_a) pa) (subst (IsPacked other) (sym is_b) pb) k))
+
+-- words with none behind them
+pub set_longer : (words : List ℕ) (more k : ℕ) → is_set (words ++ replicate more 0) k ≡ is_set words k
+set_longer words more k = ap (λ w. has_bit w (k % 64)) (same words more (k / 64))
+  where
+    zeros : (n i : ℕ) → get_or (replicate {A = ℕ} n 0) i 0 ≡ 0
+    zeros zero i = refl
+    zeros (suc n) zero = refl
+    zeros (suc n) (suc i) = zeros n i
+
+    same : (ws : List ℕ) (n i : ℕ) → get_or (ws ++ replicate n 0) i 0 ≡ get_or ws i 0
+    same [] n i = zeros n i
+    same (w ∷ ws) n zero = refl
+    same (w ∷ ws) n (suc i) = same ws n i
+
+-- the words that a longer set has
+longer_words : (len more : ℕ) (words : List ℕ) (n : ℕ) → IsPacked len words → len ≤ more → n ≡ 4 * ((more + 255) / 256) → length words ≤ n
+longer_words len more words n packed le is = let count = packed.count in omega (arith, count, le, is)
+
+take_long : (words : List ℕ) (n : ℕ) → length words ≤ n → take n words ≡ words
+take_long [] zero le = refl
+take_long [] (suc n) le = refl
+take_long (w ∷ words) zero le = absurd (omega (arith, le))
+take_long (w ∷ words) (suc n) le = ap (λ ws. w ∷ ws) (take_long words n (omega (arith, le)))
+
+module _ (len more : ℕ) (words new : List ℕ) (n m : ℕ) (packed : IsPacked len words) (le : len ≤ more) (n_is : n ≡ 4 * ((more + 255) / 256)) (is : new ≡ take n words ++ replicate m 0) where
+  words_are : new ≡ words ++ replicate m 0
+  words_are = is ∙ ap (λ ws. ws ++ replicate m 0) (take_long words n (longer_words len more words n packed le n_is))
+
+  pub packed_longer : more < 2 ^ 64 → length new ≡ n → IsPacked more new
+  packed_longer fits count = record {
+    fits = fits;
+    count = count ∙ n_is;
+    clear = λ k past. ap (λ ws. is_set ws k) words_are ∙ set_longer words m k ∙ packed.clear k (omega (arith, le, past));
+  }
+
+  pub in_longer : IsPacked more new → (set : List Bool) → told len words ≡ set → (k : ℕ) → IsIn (told more new) k ↔ IsIn set k
+  in_longer now set set_is k =
+      let one = in_told more new now k in
+      let two = in_told len words packed k in
+      let same : is_set new k ≡ is_set words k = ap (λ ws. is_set ws k) words_are ∙ set_longer words m k in
+      (λ h. subst (λ s. IsIn s k) set_is (two.1 (sym same ∙ one.0 h)), λ h. one.1 (same ∙ two.0 (subst (λ s. IsIn s k) (sym set_is) h)))

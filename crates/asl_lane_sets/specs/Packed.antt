@@ -1,5 +1,5 @@
 -- Machinery of the proofs, not of the promise: sets as words of 64 bits (src/bits.rt, src/words.rt).
-use Rattle.std.specs.Prelude.{◌≡◌, ◌≢◌, ◌+◌, ◌*◌, ◌/◌, ◌%◌, ◌^◌, ◌<◌, ◌≤◌, ◌==◌, ℕ, Bool, false, List, length, map, slice_index, bit_or}
+use Rattle.std.specs.Prelude.{◌≡◌, ◌≢◌, ◌↔◌, ◌+◌, ◌*◌, ◌/◌, ◌%◌, ◌^◌, ◌<◌, ◌≤◌, ◌==◌, ℕ, Bool, true, false, List, length, map, slice_index, bit_or}
 use Rattle.std.specs.Int.{bit_at}
 use Rattle.std.specs.List.{filter, range_with_len}
 
@@ -31,6 +31,20 @@ ones word first count = map (λ bit. first + bit) (filter (has_bit word) (range_
 -- the third words have the bits of both others
 abbrev pub AreJoined : List ℕ → List ℕ → List ℕ → Type 0
 AreJoined a b c = (length c ≡ length a) × ((k : ℕ) → slice_index c k ≡ bit_or (slice_index a k) (slice_index b k))
+
+-- the second word's bits are taken away from the first
+abbrev pub IsCleared : ℕ → ℕ → ℕ → Type 0
+IsCleared a b c = (bit : ℕ) → (has_bit c bit ≡ true) ↔ ((has_bit a bit ≡ true) × (has_bit b bit ≡ false))
+
+-- the same word by word
+abbrev pub AreCleared : List ℕ → List ℕ → List ℕ → Type 0
+AreCleared a b c = (length c ≡ length a) × ((k : ℕ) → IsCleared (slice_index a k) (slice_index b k) (slice_index c k))
+
+-- the same of the words below a place, and the others stay
+pub record ClearedBelow (place : ℕ) (old from new : List ℕ) : Type 0 where
+  pub count : length new ≡ length old
+  pub below : (k : ℕ) → k < place → IsCleared (slice_index old k) (slice_index from k) (slice_index new k)
+  pub above : (k : ℕ) → place ≤ k → slice_index new k ≡ slice_index old k
 
 -- the words differ somewhere
 pub record Differ (a b : List ℕ) : Type 0 where

@@ -1,10 +1,10 @@
 //! A set of numbers below its length.
-ghost use Rattle.std.specs.Prelude.{◌≡◌, ◌<◌, ◌≤◌, ◌⊎◌, ◌↔◌, ◌++◌, ◌+◌, ◌^◌, ℕ, IsTrue, length, false, replicate, IfOk, OnOk};
+ghost use Rattle.std.specs.Prelude.{◌≡◌, ◌<◌, ◌≤◌, ◌⊎◌, ◌↔◌, ◌++◌, ◌+◌, ◌^◌, ℕ, IsTrue, length, true, false, replicate, IfOk, OnOk, OnErr};
 ghost use Rattle.std.specs.List.{Contains};
 ghost use Rattle.asl_lane_sets.specs.NumberSet.{IsIn, IsRising, members_of};
-ghost use Rattle.asl_lane_sets.specs.Packed.{ones};
+ghost use Rattle.asl_lane_sets.specs.Packed.{has_bit, ones};
 
-use crate::words::{BLOCK, LANES, WORD, are_within, merge_words};
+use crate::words::{BLOCK, LANES, WORD, are_within, clear_words, merge_words};
 use std::alloc::{AllocError, Global};
 use std::marker::Model;
 
@@ -65,6 +65,69 @@ impl Bits {
         self.words[number / WORD] >> (number % WORD) & 1 == 1
     }
 
+    /// Makes the set one of numbers below a greater length.
+    ///
+    /// # Errors
+    ///
+    /// A growth was refused; the set is as it was.
+    pub fn grow(&mut self, len: usize) -> Result<(), AllocError>
+        requires { length self.old ≤ len }
+        ensures length { OnOk result (length self.new ≡ len) }
+        ensures numbers { OnOk result ((k : ℕ) → IsIn self.new k ↔ IsIn self.old k) }
+        ensures err { OnErr result (self.new ≡ self.old) }
+    {
+        self.words.resize(len.div_ceil(BLOCK) * LANES, 0)?;
+        self.len = len;
+        Ok(())
+    }
+
+    /// Adds the numbers of a set that is no longer, and tells whether there were new ones among them.
+    pub fn add_all(&mut self, other: &Bits) -> bool
+        requires { length other.now ≤ length self.old }
+        ensures length { length self.new ≡ length self.old }
+        ensures numbers { (k : ℕ) → IsIn self.new k ↔ (IsIn self.old k ⊎ IsIn other.now k) }
+        ensures grew { IsTrue result ↔ ((k : ℕ) × IsIn other.now k × ¬ IsIn self.old k) }
+    {
+        merge_words(&mut self.words, &other.words)
+    }
+
+    /// Takes away the numbers of another set.
+    pub fn remove_all(&mut self, other: &Bits)
+        ensures length { length self.new ≡ length self.old }
+        ensures numbers { (k : ℕ) → IsIn self.new k ↔ (IsIn self.old k × ¬ IsIn other.now k) }
+    {
+        clear_words(&mut self.words, &other.words)
+    }
+
+    /// The same set.
+    ///
+    /// # Errors
+    ///
+    /// A growth was refused.
+    pub fn copy(&self) -> Result<Bits, AllocError>
+        ensures { IfOk result (λ set. set ≡ self.now) }
+    {
+        let words = self.words.clone()?;
+        Ok(Bits {
+            len: self.len,
+            words,
+        })
+    }
+
+    /// The numbers that are none of another set.
+    ///
+    /// # Errors
+    ///
+    /// A growth was refused.
+    pub fn without(&self, other: &Bits) -> Result<Bits, AllocError>
+        ensures length { IfOk result (λ set. length set ≡ length self.now) }
+        ensures numbers { IfOk result (λ set. (k : ℕ) → IsIn set k ↔ (IsIn self.now k × ¬ IsIn other.now k)) }
+    {
+        let mut set = self.copy()?;
+        set.remove_all(other);
+        Ok(set)
+    }
+
     /// Adds the numbers of another set, and tells whether there were new ones among them.
     pub fn merge(&mut self, other: &Bits) -> bool
         requires { length self.old ≡ length other.now }
@@ -108,10 +171,28 @@ fn add_members(word: u64, first: usize, members: &mut Vec<usize>) -> Result<(), 
     requires { first + 64 ≤ 2 ^ 64 }
     ensures { OnOk result (members.new.items ≡ members.old.items ++ ones word first 64) }
 {
-    for bit in 0..WORD {
-        if word >> bit & 1 == 1 {
-            members.push(first + bit)?;
-        }
+    let mut bit = next_one(word, 0);
+    while bit < WORD {
+        members.push(first + bit)?;
+        bit = next_one(word, bit + 1);
     }
     Ok(())
+}
+
+/// The lowest bit from a place on that is 1; the bits of a word where none is.
+fn next_one(word: u64, from: usize) -> usize
+    requires { from ≤ 64 }
+    ensures low { from ≤ result }
+    ensures high { result ≤ 64 }
+    ensures none { (k : ℕ) → from ≤ k → k < result → has_bit word k ≡ false }
+    ensures one { result < 64 → has_bit word result ≡ true }
+{
+    if from == WORD {
+        return WORD;
+    }
+    let rest = word >> from;
+    if rest == 0 {
+        return WORD;
+    }
+    from + rest.trailing_zeros() as usize
 }

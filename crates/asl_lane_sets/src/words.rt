@@ -1,6 +1,6 @@
 //! Words of 64 bits, four at a time.
 ghost use Rattle.std.specs.Prelude.{◌≡◌, ◌≤◌, ◌+◌, ◌%◌, ◌↔◌, IsTrue, length};
-ghost use Rattle.asl_lane_sets.specs.Packed.{AreWords, AreJoined, Differ, JoinsAt};
+ghost use Rattle.asl_lane_sets.specs.Packed.{AreWords, AreJoined, AreCleared, Differ, JoinsAt};
 
 use std::simd::prelude::*;
 
@@ -13,21 +13,31 @@ pub const LANES: usize = 4;
 /// The bits of so many words.
 pub const BLOCK: usize = 256;
 
-/// Joins each word of `from` to the word at its place in `into`, and tells whether one changed.
+/// Joins each word of `from`, which has no more words than `into`, to the word at its place there, and tells whether one
+/// changed.
 pub fn merge_words(into: &mut [u64], from: &[u64]) -> bool
-    requires same_length { length into.old ≡ length from.now }
-    requires blocks { length into.old % 4 ≡ 0 }
+    requires no_longer { length from.now ≤ length into.old }
+    requires blocks { length from.now % 4 ≡ 0 }
     ensures joined { AreJoined into.old from.now into.new }
     ensures grew { IsTrue result ↔ Differ into.old into.new }
     ensures words { AreWords into.old × AreWords from.now }
 {
     let mut grew = false;
-    for block in 0..into.len() / LANES {
+    for block in 0..from.len() / LANES {
         if merge_lanes(into, from, block * LANES) {
             grew = true;
         }
     }
     grew
+}
+
+/// Takes the bits of `from` away from the word at the same place, wherever there is one.
+pub fn clear_words(words: &mut [u64], from: &[u64])
+    ensures { AreCleared words.old from.now words.new }
+{
+    for place in 0..words.len().min(from.len()) {
+        words[place] &= !from[place];
+    }
 }
 
 /// Whether each bit of `low` is one of `high`.

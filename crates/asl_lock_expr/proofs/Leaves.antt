@@ -70,11 +70,11 @@ call_keeps v a first g e effect x kept of short =
     (subst (λ o. IsOne (settled v e effect o ++ []) (lock.Expr e effect)) (sym of)
     (subst (λ (b : Bool). IsOne (cond b (lock.Expr e effect) (lock.Class x effect) ∷ []) (lock.Expr e effect)) (sym short) (inl refl)))
 
-or_first : (a b : Bool) → (a || b) ≡ false → a ≡ false
+pub or_first : (a b : Bool) → (a || b) ≡ false → a ≡ false
 or_first true b e = cc
 or_first false b e = refl
 
-or_second : (a b : Bool) → (a || b) ≡ false → b ≡ false
+pub or_second : (a b : Bool) → (a || b) ≡ false → b ≡ false
 or_second true b e = cc
 or_second false b e = e
 
@@ -94,7 +94,7 @@ prefix_is base done (Deref ∷ ops) k effect (inr o) =
     (Deref ∷ r.0, r.1, r.2, r.3 ∙ ap (λ (p : List Op). record { base = base; path = p }) (append_assoc done (Deref ∷ []) r.0), ap (λ (p : List Op). Deref ∷ p) r.4)
 
 -- a front of a path that does not go through does not
-front_past : (c : Classed) (stores : ℕ → Bool) (class : Option ℕ) (p rest : List Op) → goes_through c stores class (p ++ rest) ≡ false → goes_through c stores class p ≡ false
+pub front_past : (c : Classed) (stores : ℕ → Bool) (class : Option ℕ) (p rest : List Op) → goes_through c stores class (p ++ rest) ≡ false → goes_through c stores class p ≡ false
 front_past c stores class [] rest e = refl
 front_past c stores class (op ∷ p) rest e =
     ap₂ (λ x y. x || y) (or_first (is_star op && is_stored_to stores class) _ e) (front_past c stores (option_and_then (step_class c op) class) p rest (or_second (is_star op && is_stored_to stores class) _ e))
@@ -112,7 +112,7 @@ front_class c p rest start x e =
       | Some y ↦ λ is f. (y, is)
     ] refl (sym (class_append c p rest start) ∙ e)
 
-shorter : (m n k : ℕ) → m ≤ n → nat_le n k ≡ true → nat_le m k ≡ true
+pub shorter : (m n k : ℕ) → m ≤ n → nat_le n k ≡ true → nat_le m k ≡ true
 shorter m n k le e = search (rules, arith, le, e)
 
 -- the dereferenced prefixes of what a call leaves are left too

@@ -9,3 +9,4 @@ pub mod Leaves
 pub mod Walks
 pub mod Sets
 pub mod Partings
+pub mod Touching

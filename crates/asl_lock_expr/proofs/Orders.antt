@@ -1,7 +1,10 @@
 -- Laws of the order of locks, and of a lock put at its place in a list in order.
-use Rattle.std.proofs.Common.{◌≡◌, ℕ, ◌+◌, ◌⊎◌, ◌↔◌, ◌++◌, List, [], ◌∷◌, map, refl, sym, ap, ap₂, ◌∙◌, subst, inl, inr, arith}
+use Rattle.std.proofs.Common.{◌≡◌, IsTrue, Bool, true, false, not, Option, None, Some, IfSome, IfNone, ℕ, zero, suc, ◌+◌, ◌<◌, ◌≤◌, ◌⊎◌, ◌↔◌, ◌++◌, List, [], ◌∷◌, map, length, get_or, refl, sym, ap, ap₂, ◌∙◌, subst, inl, inr, arith}
 use Rattle.std.specs.declared.cmp.Ordering.TheVariants.{Less, Equal, Greater}
+use Rattle.std.specs.Prelude.{insert}
+use Rattle.std.specs.Option.{is_some}
 use Rattle.std.specs.Ordering.{ordering_reverse}
+use Rattle.std.proofs.lemmas.Bool.{cases_lt}
 use Rattle.std.specs.Cmp.{IsTotalOrder, on_total}
 use Rattle.std.specs.Cmp.Lexicographic.{nat_list_cmp_total}
 use Rattle.std.specs.FinMap.{nat_cmp-IsAntisymmetric, slice_cmp-IsAntisymmetric}
@@ -138,3 +141,82 @@ one_list (m ∷ ms) (n ∷ ns) up vp same =
       λ o. elim ((same l).1 (inr o)) [ inl is ↦ absurd (not_less_itself n (subst (λ (x : Lock). lock_cmp n x ≡ Less) (sym is ∙ e) (vp.0 l o))) | inr p ↦ p ],
     ) in
     ap₂ (λ (a : Lock) (b : List Lock). a ∷ b) e (one_list ms ns up.1 vp.1 rest)
+
+itself : (a : Lock) → lock_cmp a a ≡ Equal
+itself a = elim (lock_cmp a a) as (λ r. lock_cmp a a ≡ r → lock_cmp a a ≡ Equal) [
+  | Less ↦ λ is. absurd (not_less_itself a is)
+  | Equal ↦ λ is. is
+  | Greater ↦ λ is. (let back : lock_cmp a a ≡ Less = lock_total.antisymm a a ∙ ap ordering_reverse is in absurd (not_less_itself a back))
+] refl
+
+-- where a lock goes in a list in order
+pub placed_there : (ms : List Lock) (n : Lock) → AreInOrder ms → IsOne ms n → placed ms n ≡ ms
+placed_there [] n all o = absurd o
+placed_there (m ∷ ms) n all (inl e) = ap (λ t. placed_by t m ms n (placed ms n)) (subst (λ (x : Lock). lock_cmp m x ≡ Equal) e (itself m))
+placed_there (m ∷ ms) n all (inr o) = ap (λ t. placed_by t m ms n (placed ms n)) (all.0 n o) ∙ ap (λ (xs : List Lock). m ∷ xs) (placed_there ms n all.1 o)
+
+pub placed_at : (ms : List Lock) (n : Lock) (i : ℕ) (d : Lock) → i ≤ length ms → ((k : ℕ) → k < i → lock_cmp (get_or ms k d) n ≡ Less) → ((k : ℕ) → i ≤ k → k < length ms → lock_cmp (get_or ms k d) n ≡ Greater) → placed ms n ≡ insert ms i n
+placed_at [] n zero d le low high = refl
+placed_at [] n (suc i) d le low high = absurd (omega (arith, le))
+placed_at (m ∷ ms) n zero d le low high = ap (λ t. placed_by t m ms n (placed ms n)) (high 0 (omega arith) (omega arith))
+placed_at (m ∷ ms) n (suc i) d le low high =
+    ap (λ t. placed_by t m ms n (placed ms n)) (low 0 (omega arith))
+    ∙ ap (λ (xs : List Lock). m ∷ xs) (placed_at ms n i d (omega (arith, le)) (λ k lt. low (suc k) (omega (arith, lt))) (λ k ge lt. high (suc k) (omega (arith, ge)) (omega (arith, lt))))
+
+-- the locks before one that comes before another come before that too, and those behind one that comes behind it, behind it
+one_at : (ms : List Lock) (k : ℕ) (d : Lock) → k < length ms → IsOne ms (get_or ms k d)
+one_at [] k d lt = absurd (omega (arith, lt))
+one_at (m ∷ ms) zero d lt = inl refl
+one_at (m ∷ ms) (suc k) d lt = inr (one_at ms k d (omega (arith, lt)))
+
+rising : (ms : List Lock) (d : Lock) → AreInOrder ms → (i j : ℕ) → i < j → j < length ms → lock_cmp (get_or ms i d) (get_or ms j d) ≡ Less
+rising [] d all i j lt below = absurd (omega (arith, below))
+rising (m ∷ ms) d all i zero lt below = absurd (omega (arith, lt))
+rising (m ∷ ms) d all zero (suc j) lt below = all.0 _ (one_at ms j d (omega (arith, below)))
+rising (m ∷ ms) d all (suc i) (suc j) lt below = rising ms d all.1 i j (omega (arith, lt)) (omega (arith, below))
+
+pub lower_before : (ms : List Lock) (n d : Lock) (middle : ℕ) → AreInOrder ms → middle < length ms → lock_cmp (get_or ms middle d) n ≡ Less → (k : ℕ) → k < middle + 1 → lock_cmp (get_or ms k d) n ≡ Less
+lower_before ms n d middle all there less k lt = elim (cases_lt k middle) [
+  | inl low ↦ lock_total.trans (get_or ms k d) (get_or ms middle d) n (rising ms d all k middle low there) less
+  | inr high ↦ let same : middle ≡ k = omega (arith, lt, high) in subst (λ i. lock_cmp (get_or ms i d) n ≡ Less) same less
+]
+
+pub higher_behind : (ms : List Lock) (n d : Lock) (middle : ℕ) → AreInOrder ms → lock_cmp (get_or ms middle d) n ≡ Greater → (k : ℕ) → middle ≤ k → k < length ms → lock_cmp (get_or ms k d) n ≡ Greater
+higher_behind ms n d middle all greater k ge lt = elim (cases_lt middle k) [
+  | inl low ↦
+      let below : lock_cmp n (get_or ms middle d) ≡ Less = lock_total.antisymm n (get_or ms middle d) ∙ ap ordering_reverse greater in
+      let after = lock_total.trans n (get_or ms middle d) (get_or ms k d) below (rising ms d all middle k low lt) in
+      lock_total.antisymm (get_or ms k d) n ∙ ap ordering_reverse after
+  | inr high ↦ let same : middle ≡ k = omega (arith, ge, high) in subst (λ i. lock_cmp (get_or ms i d) n ≡ Greater) same greater
+]
+
+pub equal_there : (ms : List Lock) (n d : Lock) (middle : ℕ) → AreInOrder ms → middle < length ms → lock_cmp (get_or ms middle d) n ≡ Equal → placed ms n ≡ ms
+equal_there ms n d middle all there equal =
+    placed_there ms n all (subst (IsOne ms) (lock_exact (get_or ms middle d) n equal) (one_at ms middle d there))
+
+-- a lock that goes into a list is none of it
+pub not_there : (ms : List Lock) (n : Lock) (i : ℕ) → AreInOrder ms → i ≤ length ms → placed ms n ≡ insert ms i n → ¬ IsOne ms n
+not_there ms n i all le is o =
+    let same : length ms ≡ length (insert ms i n) = ap length (sym (placed_there ms n all o) ∙ is) in
+    let more = longer ms i le in
+    omega (arith, same, more)
+  where
+    longer : (xs : List Lock) (k : ℕ) → k ≤ length xs → length (insert xs k n) ≡ length xs + 1
+    longer [] zero l = refl
+    longer [] (suc k) l = absurd (omega (arith, l))
+    longer (x ∷ xs) zero l = omega arith
+    longer (x ∷ xs) (suc k) l = let r = longer xs k (omega (arith, l)) in omega (arith, r)
+
+-- a list is read alike whatever stands for what is past its end
+pub read_alike : (xs : List Lock) (k : ℕ) (c d : Lock) → k < length xs → get_or xs k c ≡ get_or xs k d
+read_alike [] k c d lt = absurd (omega (arith, lt))
+read_alike (x ∷ xs) zero c d lt = refl
+read_alike (x ∷ xs) (suc k) c d lt = read_alike xs k c d (omega (arith, lt))
+
+-- a lock has no place to go to where it is one of the list
+pub one_of_place : (ms : List Lock) (n : Lock) → AreInOrder ms → (o : Option ℕ) → IfSome o (λ i. i ≤ length ms) → IfSome o (λ i. placed ms n ≡ insert ms i n) → IfNone o (placed ms n ≡ ms)
+    → (b : Bool) → is_some o ≡ not b → IsTrue b ↔ IsOne ms n
+one_of_place ms n all None bound place there true e = (λ t. subst (λ (xs : List Lock). IsOne xs n) there (placed_from ms n n (inr refl)), λ o. refl)
+one_of_place ms n all None bound place there false e = absurd cc
+one_of_place ms n all (Some i) bound place there true e = absurd cc
+one_of_place ms n all (Some i) bound place there false e = (λ t. absurd cc, λ o. absurd (not_there ms n i all bound place o))

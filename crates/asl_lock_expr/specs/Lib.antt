@@ -10,3 +10,4 @@ pub mod Agrees
 pub mod Storing
 pub mod Placing
 pub mod Meeting
+pub mod Touches

@@ -9,6 +9,7 @@ mod linked;
 mod order;
 mod stay;
 mod stores;
+mod touch;
 mod written;
 
 pub use class::class_of;
@@ -20,8 +21,9 @@ pub use laws::{
     stores_move_paths_as_links_say, written_classes_pass_on,
 };
 pub use link::{View, add_accesses, add_dereferenced, add_entered, add_links};
-pub use linked::links;
-pub use order::add_in_order;
+pub use linked::{links, prefixes};
+pub use order::{add_in_order, is_one};
 pub use stay::stays;
 pub use stores::writes;
+pub use touch::{Touch, is_clear, set_by, stored_by};
 pub use written::Writes;

@@ -61,7 +61,11 @@ fn with_prefixes(alloc: Global, locks: Vec<Lock>) -> Result<Vec<Lock>, AllocErro
 }
 
 /// The dereferenced prefixes of all locks.
-fn prefixes(alloc: Global, locks: &[Lock]) -> Result<Vec<Lock>, AllocError>
+///
+/// # Errors
+///
+/// A growth was refused.
+pub fn prefixes(alloc: Global, locks: &[Lock]) -> Result<Vec<Lock>, AllocError>
     ensures { IfOk result (λ v. v.items ≡ flat_map dereferenced locks.now) }
 {
     let mut prefixes = Vec::new(alloc);

@@ -1,5 +1,5 @@
 //! The order of locks, and lists in that order.
-ghost use Rattle.std.specs.Prelude.{◌≡◌, ◌≤◌, ◌↔◌, ◌⊎◌, OnOk, OnErr, IfNone, IfSome, length, insert};
+ghost use Rattle.std.specs.Prelude.{IsTrue, ◌≡◌, ◌≤◌, ◌↔◌, ◌⊎◌, OnOk, OnErr, IfNone, IfSome, length, insert};
 ghost use Rattle.asl_lock_expr.specs.Links.{IsOne};
 ghost use Rattle.asl_lock_expr.specs.Order.{lock_cmp, AreInOrder};
 ghost use Rattle.asl_lock_expr.specs.Placing.{placed};
@@ -25,20 +25,32 @@ pub fn add_in_order(locks: &mut Vec<Lock>, new: Lock) -> Result<(), AllocError>
     Ok(())
 }
 
-/// Where the lock goes, unless it is there.
+/// Whether the lock is one of a list in order.
+pub fn is_one(locks: &[Lock], lock: &Lock) -> bool
+    requires { AreInOrder locks.now }
+    ensures { IsTrue result ↔ IsOne locks.now lock.now }
+{
+    place(locks, lock).is_none()
+}
+
+/// Where the lock goes in a list in order, unless it is there.
 fn place(locks: &[Lock], new: &Lock) -> Option<usize>
+    requires { AreInOrder locks.now }
     ensures bound { IfSome result (λ i. i ≤ length locks.now) }
     ensures place { IfSome result (λ i. placed locks.now new.now ≡ insert locks.now i new.now) }
     ensures there { IfNone result (placed locks.now new.now ≡ locks.now) }
 {
-    for (i, other) in locks.iter().enumerate() {
-        match compare(other, new) {
-            Ordering::Less => {}
+    let mut low = 0;
+    let mut high = locks.len();
+    while low < high {
+        let middle = low + (high - low) / 2;
+        match compare(&locks[middle], new) {
+            Ordering::Less => low = middle + 1,
             Ordering::Equal => return None,
-            Ordering::Greater => return Some(i),
+            Ordering::Greater => high = middle,
         }
     }
-    Some(locks.len())
+    Some(low)
 }
 
 /// Which lock comes first.

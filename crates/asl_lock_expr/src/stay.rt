@@ -27,7 +27,7 @@ pub fn stays(view: &View, instr: &Instr, lock: &Lock) -> bool
 }
 
 /// Whether the expression is not too long, and has a class.
-fn is_settled(view: &View, expr: &Expr) -> bool
+pub fn is_settled(view: &View, expr: &Expr) -> bool
     ensures { (effect : AnyEffect) → IsTrue result ↔ IsSettled (seen view.now) (Lock.Expr expr.now effect) }
 {
     expr.path.len() <= view.longest && class_of(view.classes, view.function, expr).is_some()
@@ -64,7 +64,7 @@ fn is_untouched(view: &View, instr: &Instr, expr: &Expr) -> bool
 }
 
 /// Whether a store at the address may write a cell that the expression reads.
-fn is_stored_over(view: &View, address: u8, expr: &Expr) -> bool
+pub fn is_stored_over(view: &View, address: u8, expr: &Expr) -> bool
     ensures { result ≡ ((is_register address expr.now.base && begins_with_star expr.now.path)
         || meets view.now.classes.now (to view.now.classes.now view.now.function address)
         (base_class view.now.classes.now view.now.function expr.now.base) expr.now.path) }

@@ -4,4 +4,4 @@ use Rattle.asl_backward_flow.proofs.Each.{each_call}
 use Rattle.asl_backward_flow.proofs.step.add_call.Given as goal
 
 abbrev pub invariant-loop-part : goal.invariant-loop-part
-invariant-loop-part l = AddedBelow (read l.fn.program) (table l.fn.found) (table l.found) (each_call (read l.fn.program) l.fn.pc l.fn.lock l.part-items) l.part-index
+invariant-loop-part l = AddedBelow (read l.fn.analysis) (table l.fn.found) (table l.found) (each_call (read l.fn.analysis) l.fn.pc l.fn.lock l.part-items) l.part-index

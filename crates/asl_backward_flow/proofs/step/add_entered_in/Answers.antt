@@ -1,15 +1,12 @@
 use Rattle.asl_backward_flow.specs.Found.{table}
 use Rattle.asl_backward_flow.specs.Follows.{read}
-use Rattle.asl_backward_flow.proofs.Adding.{added_list, stopped_list}
+use Rattle.asl_backward_flow.proofs.Fronts.{such_ok, such_err}
 use Rattle.asl_backward_flow.proofs.step.add_entered_in.Goals as goal
 
 pub returns-clause-ok : goal.returns-clause-ok
 returns-clause-ok c =
-    let is = c.in_ok-locks.ensures in
-    added_list (read c.args.program.now) (table c.args.found.now) (table c.add_all.new.self) c.args.part c.args.pc _ _ (λ m. (is m).0) (λ m. (is m).1) c.requires.ready
-    c.add_all.result c.add_all.ensures.whole c.add_all.ensures.has c.add_all.ensures.lists c.add_all.ensures.adds
+    such_ok (table c.args.found.now) (table c.add_with_prefixes.new.found) c.args.part c.args.pc _ _ c.in_ok-locks.ensures (read c.args.analysis.now) c.add_with_prefixes.result c.add_with_prefixes.ensures.ok
 
 pub returns-clause-err : goal.returns-clause-err
 returns-clause-err c =
-    let is = c.in_ok-locks.ensures in
-    stopped_list (table c.args.found.now) (table c.add_all.new.self) c.args.part c.args.pc _ _ (λ m. (is m).0) c.add_all.result c.add_all.ensures.over c.add_all.ensures.adds
+    such_err (table c.args.found.now) (table c.add_with_prefixes.new.found) c.args.part c.args.pc _ _ c.in_ok-locks.ensures c.add_with_prefixes.result c.add_with_prefixes.ensures.err

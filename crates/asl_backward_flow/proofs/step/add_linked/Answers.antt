@@ -1,42 +1,33 @@
-use Rattle.std.proofs.Common.{[], ◌∷◌, refl, sym}
+use Rattle.std.proofs.Common.{rules, map}
 use Rattle.asl_backward_flow.specs.Found.{table}
 use Rattle.asl_backward_flow.specs.Follows.{read}
-use Rattle.asl_backward_flow.proofs.Adding.{added_list, stopped_list}
-use Rattle.asl_backward_flow.proofs.Numbering.{numbered_added, numbered_stopped}
-use Rattle.asl_backward_flow.proofs.Points.{stands_at, linked_list}
+use Rattle.asl_backward_flow.proofs.Adding.{ready_still}
+use Rattle.asl_backward_flow.proofs.Linking.{stay_stopped, changed_named, linked_ok, linked_err, masks_ok}
 use Rattle.asl_backward_flow.proofs.step.add_linked.Goals as goal
 
-pub returns-then-stays-clause-ok : goal.returns-then-stays-clause-ok
-returns-then-stays-clause-ok c =
-    let is = linked_list (read c.args.program.now) c.args.part c.args.pc _ _
-    (stands_at c.args.program.now.spans.now c.args.program.now.spans.now c.from.result c.args.part _ refl c.from.ensures c.requires.there)
-    (stands_at c.args.program.now.lowering.now.code c.code.result.now c.from-2.result c.args.pc _ c.code.ensures.code c.from-2.ensures c.requires.code)
-    _ c.view-view.ensures c.args.lock.now [] (c.args.lock.now ∷ []) refl (sym (c.stays.ensures.stays c.if-stays.true)) in
-    numbered_added (table c.args.found.now) (table c.add_numbered.new.self) c.args.part c.args.pc c.args.number c.args.lock.now c.requires.named _ (λ m. (is m).0)
-    (read c.args.program.now) (λ m. (is m).1) c.requires.ready c.add_numbered.result c.add_numbered.ensures.whole c.add_numbered.ensures.has c.add_numbered.ensures.lists c.add_numbered.ensures.adds
+pub add_numbered-requires-clause-named : goal.add_numbered-requires-clause-named
+add_numbered-requires-clause-named c n h = c.requires.chosen.named n (c.in_ok-stay.ensures.within n h)
 
-pub returns-then-stays-clause-err : goal.returns-then-stays-clause-err
-returns-then-stays-clause-err c =
-    let is = linked_list (read c.args.program.now) c.args.part c.args.pc _ _
-    (stands_at c.args.program.now.spans.now c.args.program.now.spans.now c.from.result c.args.part _ refl c.from.ensures c.requires.there)
-    (stands_at c.args.program.now.lowering.now.code c.code.result.now c.from-2.result c.args.pc _ c.code.ensures.code c.from-2.ensures c.requires.code)
-    _ c.view-view.ensures c.args.lock.now [] (c.args.lock.now ∷ []) refl (sym (c.stays.ensures.stays c.if-stays.true)) in
-    numbered_stopped (table c.args.found.now) (table c.add_numbered.new.self) c.args.part c.args.pc c.args.number c.args.lock.now c.requires.named _ (λ m. (is m).0)
-    c.add_numbered.result c.add_numbered.ensures.over c.add_numbered.ensures.adds
+pub add_changed-requires-clause-ready : goal.add_changed-requires-clause-ready
+add_changed-requires-clause-ready c = ready_still (read c.args.analysis.now) (table c.args.found.now) (table c.add_numbered.new.self) _ c.requires.ready c.in_ok-add_numbered.ensures.adds c.in_ok-add_numbered.ensures.whole
+
+pub add_changed-requires-clause-named : goal.add_changed-requires-clause-named
+add_changed-requires-clause-named c =
+    changed_named (read c.args.analysis.now) (table c.args.found.now) (table c.add_numbered.new.self) (table c.add_numbered.new.self) c.args.part c.args.pc c.args.set.now c.in_ok-stay.stay c.in_ok-changed.changed c.requires.chosen c.in_ok-stay.ensures.within c.in_ok-stay.ensures.stays c.in_ok-changed.ensures.numbers c.in_ok-add_numbered.ensures.adds
+
+pub returns-in_err-add_numbered-clause-err : goal.returns-in_err-add_numbered-clause-err
+returns-in_err-add_numbered-clause-err c =
+    let stopped = stay_stopped (read c.args.analysis.now) (table c.args.found.now) (table c.add_numbered.new.self) (table c.add_numbered.new.self) c.args.part c.args.pc c.args.set.now c.in_ok-stay.stay c.in_ok-changed.changed c.requires.chosen c.in_ok-stay.ensures.within c.in_ok-stay.ensures.stays c.in_ok-changed.ensures.numbers _ c.in_err-add_numbered.ensures.adds c.in_err-add_numbered.ensures.over in
+    search (rules, stopped)
 
 pub returns-clause-ok : goal.returns-clause-ok
 returns-clause-ok c =
-    let is = linked_list (read c.args.program.now) c.args.part c.args.pc _ _
-    (stands_at c.args.program.now.spans.now c.args.program.now.spans.now c.from.result c.args.part _ refl c.from.ensures c.requires.there)
-    (stands_at c.args.program.now.lowering.now.code c.code.result.now c.from-2.result c.args.pc _ c.code.ensures.code c.from-2.ensures c.requires.code)
-    _ c.view-view.ensures c.args.lock.now _ _ c.new-locks.ensures.items c.in_ok-add_links.ensures.ok in
-    added_list (read c.args.program.now) (table c.args.found.now) (table c.add_all.new.self) c.args.part c.args.pc _ _ (λ m. (is m).0) (λ m. (is m).1) c.requires.ready
-    c.add_all.result c.add_all.ensures.whole c.add_all.ensures.has c.add_all.ensures.lists c.add_all.ensures.adds
+    linked_ok (read c.args.analysis.now) (table c.args.found.now) (table c.add_numbered.new.self) (table c.add_changed.new.found) c.args.part c.args.pc c.args.set.now c.in_ok-stay.stay c.in_ok-changed.changed c.requires.chosen c.in_ok-stay.ensures.within c.in_ok-stay.ensures.stays c.in_ok-changed.ensures.numbers c.in_ok-add_numbered.ensures.adds c.in_ok-add_numbered.ensures.has c.in_ok-add_numbered.ensures.lists c.add_changed.result c.add_changed.ensures.ok
 
 pub returns-clause-err : goal.returns-clause-err
 returns-clause-err c =
-    let is = linked_list (read c.args.program.now) c.args.part c.args.pc _ _
-    (stands_at c.args.program.now.spans.now c.args.program.now.spans.now c.from.result c.args.part _ refl c.from.ensures c.requires.there)
-    (stands_at c.args.program.now.lowering.now.code c.code.result.now c.from-2.result c.args.pc _ c.code.ensures.code c.from-2.ensures c.requires.code)
-    _ c.view-view.ensures c.args.lock.now _ _ c.new-locks.ensures.items c.in_ok-add_links.ensures.ok in
-    stopped_list (table c.args.found.now) (table c.add_all.new.self) c.args.part c.args.pc _ _ (λ m. (is m).0) c.add_all.result c.add_all.ensures.over c.add_all.ensures.adds
+    linked_err (read c.args.analysis.now) (table c.args.found.now) (table c.add_numbered.new.self) (table c.add_changed.new.found) c.args.part c.args.pc c.args.set.now c.in_ok-stay.stay c.in_ok-changed.changed c.requires.chosen c.in_ok-stay.ensures.within c.in_ok-stay.ensures.stays c.in_ok-changed.ensures.numbers c.in_ok-add_numbered.ensures.adds c.add_changed.result c.add_changed.ensures.err
+
+pub returns-clause-masks : goal.returns-clause-masks
+returns-clause-masks c =
+    masks_ok (read c.args.analysis.now) (table c.args.found.now) (table c.add_numbered.new.self) (table c.add_changed.new.found) (map (λ v. v.items) c.stay_over.new.masks.items) _ _ c.in_ok-stay.ensures.masks c.in_ok-add_numbered.ensures.adds c.add_changed.result c.add_changed.ensures.ok

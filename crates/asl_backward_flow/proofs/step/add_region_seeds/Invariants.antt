@@ -4,4 +4,4 @@ use Rattle.asl_backward_flow.proofs.Each.{each_point}
 use Rattle.asl_backward_flow.proofs.step.add_region_seeds.Given as goal
 
 abbrev pub invariant-loop-pc : goal.invariant-loop-pc
-invariant-loop-pc l = AddedBelow (read l.fn.program) (table l.fn.found) (table l.found) (each_point (read l.fn.program) l.fn.part) l.pc
+invariant-loop-pc l = AddedBelow (read l.fn.analysis) (table l.fn.found) (table l.found) (each_point (read l.fn.analysis) l.fn.part) l.pc

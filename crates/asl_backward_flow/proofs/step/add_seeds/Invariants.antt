@@ -4,4 +4,4 @@ use Rattle.asl_backward_flow.proofs.Each.{each_region}
 use Rattle.asl_backward_flow.proofs.step.add_seeds.Given as goal
 
 abbrev pub invariant-loop-part : goal.invariant-loop-part
-invariant-loop-part l = AddedBelow (read l.fn.program) (table l.fn.found) (table l.found) (each_region (read l.fn.program)) l.part
+invariant-loop-part l = AddedBelow (read l.fn.analysis) (table l.fn.found) (table l.found) (each_region (read l.fn.analysis)) l.part

@@ -1,30 +1,32 @@
-use Rattle.std.proofs.Common.{◌≡◌, ◌+◌, ◌∷◌, [], ◌++◌, ◌∙◌, Vec, Global, ℕ, List, true, false, cond, refl, ap, sym, arith, append_assoc}
-use Rattle.std.proofs.lemmas.Bool.{false_from_ne_true}
+use Rattle.std.proofs.Common.{◌≡◌, ◌+◌, ◌∷◌, [], ◌++◌, ◌∙◌, refl, ap, sym, arith, append_assoc, cond, true}
+use Rattle.std.proofs.lemmas.List.{append-nil}
 use Rattle.asl_lane_sets.specs.Packed.{has_bit, ones}
-use Rattle.asl_lane_sets.proofs.Members.{one_more, bit_told}
+use Rattle.asl_lane_sets.proofs.Members.{one_more, none_between}
 use Rattle.asl_lane_sets.proofs.bits.add_members.Goals as goal
-use Rattle.asl_lane_sets.proofs.bits.add_members.Goals.{then-word-bit-eq1+in_ok-push, else-word-bit-eq1}
 
-abbrev vec_items : Vec ℕ Global → List ℕ
-vec_items v = v.items
+pub loop-bit-init : goal.loop-bit-init
+loop-bit-init c = record {
+  added = sym (append-nil c.args.members.now.items) ∙ ap (λ xs. c.args.members.now.items ++ xs) (sym (none_between c.args.word c.args.first 0 c.next_one-bit.result c.next_one-bit.ensures.low c.next_one-bit.ensures.none));
+  most = c.next_one-bit.ensures.high;
+  one = c.next_one-bit.ensures.one;
+}
 
 pub loop-bit-preserved : goal.loop-bit-preserved
-loop-bit-preserved c = elim c.if-word-bit-eq1.branch [
-  | then-word-bit-eq1+in_ok-push w ↦
-      let is : has_bit c.args.word c.loop-bit.bit ≡ true = (bit_told c.args.word c.loop-bit.bit).0 w.if-word-bit-eq1.true in
-      ap vec_items w.members-is ∙ w.in_ok-push.ensures.items ∙ ap (λ xs. xs ++ (c.args.first + c.loop-bit.bit) ∷ []) c.loop-bit.invariant ∙ append_assoc c.args.members.now.items (ones c.args.word c.args.first c.loop-bit.bit) _
-      ∙ ap (λ xs. c.args.members.now.items ++ xs) (sym (one_more c.args.word c.args.first c.loop-bit.bit ∙ ap (λ t. ones c.args.word c.args.first c.loop-bit.bit ++ cond t ((c.args.first + c.loop-bit.bit) ∷ []) []) is))
-  | else-word-bit-eq1 w ↦
-      let isnt : has_bit c.args.word c.loop-bit.bit ≡ false = false_from_ne_true _ (λ e. w.if-word-bit-eq1.false ((bit_told c.args.word c.loop-bit.bit).1 e)) in
-      ap vec_items w.members-is ∙ c.loop-bit.invariant ∙ ap (λ xs. c.args.members.now.items ++ xs)
-      (sym (one_more c.args.word c.args.first c.loop-bit.bit ∙ ap (λ t. ones c.args.word c.args.first c.loop-bit.bit ++ cond t ((c.args.first + c.loop-bit.bit) ∷ []) []) isnt ∙ nothing_more (ones c.args.word c.args.first c.loop-bit.bit)))
-]
-  where
-    nothing_more : (xs : List ℕ) → xs ++ [] ≡ xs
-    nothing_more [] = refl
-    nothing_more (x ∷ xs) = ap (λ ys. x ∷ ys) (nothing_more xs)
+loop-bit-preserved c =
+    let bit = c.loop-bit.bit in
+    let next = c.next_one-bit-in-loop-bit in
+    let is : has_bit c.args.word bit ≡ true = c.loop-bit.invariant.one c.loop-bit-test.true in
+    let more : ones c.args.word c.args.first next.result ≡ ones c.args.word c.args.first bit ++ (c.args.first + bit) ∷ [] =
+    none_between c.args.word c.args.first (bit + 1) next.result next.ensures.low next.ensures.none
+    ∙ one_more c.args.word c.args.first bit ∙ ap (λ t. ones c.args.word c.args.first bit ++ cond t ((c.args.first + bit) ∷ []) []) is in
+    record {
+      added = c.in_ok-push.ensures.items ∙ ap (λ xs. xs ++ (c.args.first + bit) ∷ []) c.loop-bit.invariant.added
+          ∙ append_assoc c.args.members.now.items (ones c.args.word c.args.first bit) _ ∙ ap (λ xs. c.args.members.now.items ++ xs) (sym more);
+      most = next.ensures.high;
+      one = next.ensures.one;
+    }
 
 pub returns : goal.returns
 returns c =
-    let end : c.loop-bit.bit ≡ 64 = omega (arith, c.loop-bit-test.false, c.loop-bit.auto.bit-end) in
-    c.loop-bit.invariant ∙ ap (λ n. c.args.members.now.items ++ ones c.args.word c.args.first n) end
+    let end : c.loop-bit.bit ≡ 64 = omega (arith, c.loop-bit-test.false, c.loop-bit.invariant.most) in
+    c.loop-bit.invariant.added ∙ ap (λ n. c.args.members.now.items ++ ones c.args.word c.args.first n) end

@@ -22,7 +22,7 @@ loop-block-preserved c = record {
 }
 
 pub returns-clause-joined : goal.returns-clause-joined
-returns-clause-joined c = let end = c.loop-block-test.false in joined_all _ _ _ c.loop-block.block c.requires.same_length c.requires.blocks (omega (arith, end)) c.loop-block.invariant.joined
+returns-clause-joined c = let end = c.loop-block-test.false in joined_all _ _ _ c.loop-block.block c.requires.no_longer c.requires.blocks (omega (arith, end)) c.loop-block.invariant.joined
 
 pub returns-clause-grew : goal.returns-clause-grew
 returns-clause-grew c = c.loop-block.invariant.grew

@@ -1,0 +1,5 @@
+use Rattle.std.proofs.Common.{◌≡◌, map, replicate, []}
+use Rattle.asl_backward_flow.proofs.masks.no_masks.Given as goal
+
+abbrev pub invariant-loop : goal.invariant-loop
+invariant-loop l = map (λ v. v.items) l.all.items ≡ replicate l.counter []

@@ -1,0 +1,133 @@
+//! Which locks of a region stay as they are over an instruction.
+ghost use Rattle.std.specs.Prelude.{◌≡◌, ◌≤◌, ◌<◌, ◌↔◌, ◌⊎◌, ◌++◌, ◌∷◌, [], ℕ, Some, length, map, replicate, ◌^◌, slice_get, OnOk, IfOk, IfSome};
+ghost use Rattle.asl_code.specs.declared.lock.Lock.{Lock as AnyLock};
+ghost use Rattle.asl_lane_sets.specs.NumberSet.{IsIn};
+ghost use Rattle.asl_lock_expr.specs.LinksView.{seen as seen_by};
+ghost use Rattle.asl_lock_expr.specs.Touches.{IsClear, Stays};
+ghost use Rattle.asl_backward_flow.specs.Masked.{IsMask, AreMasks, IsMaskOf};
+
+use crate::part::{STEP, make_room};
+use asl_code::{Instr, Lock};
+use asl_lane_sets::Bits;
+use asl_lock_expr::{Touch, View, is_clear, set_by, stored_by};
+use std::alloc::{AllocError, Global};
+
+/// The numbers of the locks of a region that what is touched may concern, so far as the locks have numbers below one.
+#[derive(Drop)]
+pub struct Mask {
+    pub touch: Touch,
+    pub below: usize,
+    pub touched: Bits,
+}
+
+/// So many regions without masks.
+pub fn no_masks(alloc: Global, count: usize) -> Result<Vec<Vec<Mask>>, AllocError>
+    ensures { IfOk result (λ all. map (λ v. v.items) all.items ≡ replicate count []) }
+{
+    let mut all = Vec::new(alloc);
+    for _ in 0..count {
+        all.push(Vec::new(alloc))?;
+    }
+    Ok(all)
+}
+
+/// The numbers of a set whose locks stay as they are over an instruction, by the masks of their region.
+pub fn staying(
+    alloc: Global,
+    view: &View,
+    instr: Instr,
+    locks: &[Lock],
+    set: &Bits,
+    masks: &mut Vec<Mask>,
+) -> Result<Bits, AllocError>
+    requires { AreMasks (seen_by view.now) locks.now masks.old.items }
+    ensures masks { OnOk result (AreMasks (seen_by view.now) locks.now masks.new.items) }
+    ensures within { IfOk result (λ stay. (n : ℕ) → IsIn stay n → IsIn set.now n) }
+    ensures stays { IfOk result (λ stay. (n : ℕ) (m : AnyLock) → IsIn stay n → slice_get locks.now n ≡ Some m → Stays (seen_by view.now) instr m) }
+{
+    let stay = clear_of(alloc, view, set_by(instr), locks, set, masks)?;
+    clear_of(alloc, view, stored_by(instr), locks, &stay, masks)
+}
+
+/// The numbers of a set whose locks are not concerned by what is touched.
+fn clear_of(
+    alloc: Global,
+    view: &View,
+    touch: Touch,
+    locks: &[Lock],
+    set: &Bits,
+    masks: &mut Vec<Mask>,
+) -> Result<Bits, AllocError>
+    requires { AreMasks (seen_by view.now) locks.now masks.old.items }
+    ensures masks { OnOk result (AreMasks (seen_by view.now) locks.now masks.new.items) }
+    ensures within { IfOk result (λ clear. (n : ℕ) → IsIn clear n → IsIn set.now n) }
+    ensures clear { IfOk result (λ clear. (n : ℕ) (m : AnyLock) → IsIn clear n → slice_get locks.now n ≡ Some m → IsClear (seen_by view.now) touch m) }
+{
+    let place = mask_of(alloc, view, touch, locks, masks)?;
+    let mask = &mut masks[place];
+    extend(view, locks, mask)?;
+    set.without(&mask.touched)
+}
+
+/// The place of the mask of what is touched, where one is put if there is none.
+fn mask_of(
+    alloc: Global,
+    view: &View,
+    touch: Touch,
+    locks: &[Lock],
+    masks: &mut Vec<Mask>,
+) -> Result<usize, AllocError>
+    requires { AreMasks (seen_by view.now) locks.now masks.old.items }
+    ensures masks { OnOk result (AreMasks (seen_by view.now) locks.now masks.new.items) }
+    ensures place { IfOk result (IsMaskOf touch masks.new.items) }
+{
+    if let Some(place) = find(touch, masks) {
+        return Ok(place);
+    }
+    let place = masks.len();
+    let touched = Bits::with_len(alloc, 0)?;
+    masks.push(Mask {
+        touch,
+        below: 0,
+        touched,
+    })?;
+    Ok(place)
+}
+
+/// The place of the mask of what is touched, if there is one.
+fn find(touch: Touch, masks: &[Mask]) -> Option<usize>
+    ensures { IfSome result (IsMaskOf touch masks.now) }
+{
+    for (place, mask) in masks.iter().enumerate() {
+        if mask.touch.is(touch) {
+            return Some(place);
+        }
+    }
+    None
+}
+
+/// Extends a mask to all locks.
+fn extend(view: &View, locks: &[Lock], mask: &mut Mask) -> Result<(), AllocError>
+    requires { IsMask (seen_by view.now) locks.now mask.old }
+    ensures mask { OnOk result (IsMask (seen_by view.now) locks.now mask.new) }
+    ensures touch { OnOk result (mask.new.touch ≡ mask.old.touch) }
+    ensures all { OnOk result (length locks.now ≤ mask.new.below) }
+{
+    while mask.below < locks.len() {
+        if !is_clear(view, mask.touch, &locks[mask.below]) {
+            add(&mut mask.touched, mask.below)?;
+        }
+        mask.below += 1;
+    }
+    Ok(())
+}
+
+/// Adds a number, for which room is made.
+fn add(set: &mut Bits, number: usize) -> Result<(), AllocError>
+    requires { number < 2 ^ 63 }
+    ensures { OnOk result ((k : ℕ) → IsIn set.new k ↔ (IsIn set.old k ⊎ (k ≡ number))) }
+{
+    make_room(set, (number / STEP + 1) * STEP)?;
+    set.add(number);
+    Ok(())
+}
