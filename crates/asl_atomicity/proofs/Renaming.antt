@@ -20,6 +20,7 @@ use Rattle.asl_code.specs.declared.path.Op.TheVariants.{Deref, Off}
 use Rattle.asl_code.specs.declared.image.Image.{Image}
 use Rattle.asl_code.specs.declared.image.Function.{Function}
 use Rattle.asl_code.specs.Fits.{FitsLock, FitsBase}
+use Rattle.asl_code.specs.Versions.{has_fresh}
 use Rattle.asl_mode_lanes.specs.declared.mode.Mode.{Mode}
 use Rattle.asl_mode_lanes.specs.declared.mode.Mode.TheVariants.{NL}
 use Rattle.asl_mode_lanes.specs.Mode.{AreCompatible, is_at_most, join_of}
@@ -58,7 +59,7 @@ request_by f = each (λ (ask : Node × Mode). (node_by f ask.0, ask.1))
 
 -- what is fresh behind a `new`, with other numbers
 pub made_fresh_by : (f : ℕ → ℕ) (version depth object : ℕ) (fresh : List ℕ) → made_fresh version depth (f object) (each f fresh) ≡ each f (made_fresh version depth object fresh)
-made_fresh_by f version depth object fresh = by_test (version == 2 && nat_lt 0 depth)
+made_fresh_by f version depth object fresh = by_test (has_fresh version && nat_lt 0 depth)
   where
     by_test : (b : Bool) → (if b then each f fresh ++ f object ∷ [] else each f fresh) ≡ each f (if b then fresh ++ object ∷ [] else fresh)
     by_test true = sym (map-append f fresh (object ∷ []))

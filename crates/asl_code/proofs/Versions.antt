@@ -1,20 +1,20 @@
 -- What each version sets, told of the versions that are there and of all.
-use Rattle.std.proofs.Common.{◌≡◌, ◌≢◌, ◌==◌, ℕ, ◌<◌, ◌≤◌, ◌^◌, nat_le, List, [], ◌∷◌, length, Option, Some, None, is_some, true, false, if◌then◌else◌, refl, ap, sym, ◌∙◌, inl, inr, arith}
+use Rattle.std.proofs.Common.{◌≡◌, ◌≢◌, ◌==◌, ℕ, ◌<◌, ◌≤◌, ◌^◌, nat_le, List, [], ◌∷◌, length, Option, Some, None, is_some, true, false, IsTrue, if◌then◌else◌, refl, ap, sym, ◌∙◌, inl, inr, arith}
 use Rattle.std.specs.List.{list_all}
 use Rattle.std.specs.Option.{option_map_or}
 use Rattle.std.proofs.lemmas.Bool.{cases_lt, le-leb, lt-leb, leb-true, and_from, and_parts}
 use Rattle.std.proofs.lemmas.Bool.Decides.{eqb_tells}
-use Rattle.asl_code.specs.Versions.{IsVersion, newest, newest_threads, newest_locks, limits_of, is_version, most_threads, version_for, most_locks}
+use Rattle.asl_code.specs.Versions.{IsVersion, newest, newest_threads, newest_locks, limits_of, is_version, most_threads, version_for, most_locks, has_fresh}
 use Rattle.asl_code.specs.Verified.{keeps_list_limit}
 use Rattle.asl_code.specs.declared.limits.Limits.{Limits}
 use Rattle.asl_code.specs.declared.lock.Lock.{Lock}
 
 -- what versions 1 and 2 set
 abbrev pub first : Limits
-first = record { threads = 64; locks = 64 }
+first = record { threads = 64; locks = 64; fresh = false }
 
 abbrev pub second : Limits
-second = record { threads = newest_threads; locks = newest_locks }
+second = record { threads = newest_threads; locks = newest_locks; fresh = true }
 
 pub first_set : limits_of 1 ≡ Some first
 unfolding limits_of
@@ -72,6 +72,28 @@ threads_set v l set = sym (ap (λ o. option_map_or (λ (k : Limits). k.threads) 
 pub locks_set : (v : ℕ) (l : Limits) → limits_of v ≡ Some l → l.locks ≡ most_locks v
 unfolding most_locks
 locks_set v l set = sym (ap (λ o. option_map_or (λ (k : Limits). k.locks) o 0) set)
+
+pub fresh_set : (v : ℕ) (l : Limits) → limits_of v ≡ Some l → l.fresh ≡ has_fresh v
+unfolding has_fresh
+fresh_set v l set = sym (ap (λ o. option_map_or (λ (k : Limits). k.fresh) o false) set)
+
+pub none_fresh : (v : ℕ) → limits_of v ≡ None → has_fresh v ≡ false
+unfolding has_fresh
+none_fresh v none = ap (λ o. option_map_or (λ (k : Limits). k.fresh) o false) none
+
+-- what a section has made is fresh for it by images of the newest version, and of no other
+pub fresh_by_newest : (v : ℕ) → v ≡ newest → IsTrue (has_fresh v)
+fresh_by_newest v is = sym (fresh_set v second (ap limits_of is ∙ second_set))
+
+pub newest_by_fresh : (v : ℕ) → IsTrue (has_fresh v) → v ≡ newest
+unfolding has_fresh
+newest_by_fresh v fresh = elim (eqb_tells v 1) [
+  | inl is ↦ let none = fresh_set v first (ap limits_of is.1 ∙ first_set) in cc
+  | inr not_one ↦ elim (eqb_tells v 2) [
+    | inl is ↦ is.1
+    | inr not_two ↦ let none = ap (λ o. option_map_or (λ (k : Limits). k.fresh) o false) (other_set v not_one.1 not_two.1) in cc
+  ]
+]
 
 -- the most that any version sets
 pub few_threads : (v : ℕ) → most_threads v ≤ newest_threads

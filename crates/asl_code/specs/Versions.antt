@@ -1,6 +1,5 @@
--- What a version of the format sets (docs/LIMITS.md, "Versions"). Beside this, versions differ in
--- fresh objects alone (docs/LOCKS.md).
-use Rattle.std.specs.Prelude.{◌≡◌, ◌⊎◌, ◌==◌, ℕ, Bool, nat_le, Option, None, Some, is_some, if◌then◌else◌}
+-- What a version of the format sets (docs/LIMITS.md, "Versions"). Nothing else depends on the version.
+use Rattle.std.specs.Prelude.{◌≡◌, ◌⊎◌, ◌==◌, ℕ, Bool, true, false, nat_le, Option, None, Some, is_some, if◌then◌else◌}
 use Rattle.std.specs.Option.{option_map_or}
 use Rattle.asl_code.specs.declared.limits.Limits.{Limits}
 
@@ -23,8 +22,8 @@ newest_locks = 256
 -- what this version sets, if there is such a version
 unfoldable pub limits_of : ℕ → Option Limits
 limits_of version =
-    if version == 1 then Some (record { threads = 64; locks = 64 })
-    else if version == 2 then Some (record { threads = newest_threads; locks = newest_locks })
+    if version == 1 then Some (record { threads = 64; locks = 64; fresh = false })
+    else if version == 2 then Some (record { threads = newest_threads; locks = newest_locks; fresh = true })
     else None
 
 -- whether there is such a version
@@ -42,3 +41,7 @@ version_for threads = if nat_le threads (most_threads 1) then 1 else 2
 -- the most locks of a list of an image of this version
 unfoldable pub most_locks : ℕ → ℕ
 most_locks version = option_map_or (λ (l : Limits). l.locks) (limits_of version) 0
+
+-- whether what a section has made is fresh for it, by images of this version (docs/LOCKS.md, "Fresh objects")
+unfoldable pub has_fresh : ℕ → Bool
+has_fresh version = option_map_or (λ (l : Limits). l.fresh) (limits_of version) false

@@ -25,7 +25,7 @@ pub use laws::{
     bodies_part_the_code, images_have_one_answer, the_first_version_has_the_threads,
     verified_images_fit,
 };
-pub use limits::{Limits, NEWEST, NEWEST_LIMITS, is_version, limits_of, version_for};
+pub use limits::{Limits, NEWEST, NEWEST_LIMITS, has_fresh, is_version, limits_of, version_for};
 pub use lock::{Base, Expr, Lock};
 pub use path::{Op, Path};
 pub use program::Program;

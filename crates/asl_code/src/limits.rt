@@ -1,7 +1,7 @@
 //! What a version of the format sets, and how many there are at the most of each other part of an image.
 
 ghost use Rattle.std.specs.Prelude.{◌≡◌, ◌↔◌, IsTrue, IfSome, IfNone};
-ghost use Rattle.asl_code.specs.Versions.{IsVersion, limits_of, is_version, most_threads, most_locks, version_for};
+ghost use Rattle.asl_code.specs.Versions.{IsVersion, limits_of, is_version, most_threads, most_locks, has_fresh, version_for};
 
 /// What a version of the format sets.
 #[derive(Clone, Copy)]
@@ -10,12 +10,15 @@ pub struct Limits {
     pub threads: u32,
     /// The most locks of a list.
     pub locks: usize,
+    /// Whether what a section has made is fresh for it.
+    pub fresh: bool,
 }
 
 /// What version 1 sets.
 const FIRST_LIMITS: Limits = Limits {
     threads: 64,
     locks: 64,
+    fresh: false,
 };
 
 /// The newest version.
@@ -25,21 +28,32 @@ pub const NEWEST: u32 = 2;
 pub const NEWEST_LIMITS: Limits = Limits {
     threads: 128,
     locks: 256,
+    fresh: true,
 };
 
-/// What this version of the format sets, if there is such a version. Beside this, only what a `new` makes asks which version it
-/// is, since objects are fresh in version 2 alone.
+/// What this version of the format sets, if there is such a version. Nothing else depends on the version.
 pub fn limits_of(version: u32) -> Option<Limits>
     ensures limits { result ≡ limits_of version }
     ensures known { IfSome result (λ limits. IsVersion version) }
     ensures threads { IfSome result (λ limits. limits.threads ≡ most_threads version) }
     ensures locks { IfSome result (λ limits. limits.locks ≡ most_locks version) }
+    ensures fresh { IfSome result (λ limits. limits.fresh ≡ has_fresh version) }
     ensures unknown { IfNone result (¬ IsVersion version) }
 {
     match version {
         1 => Some(FIRST_LIMITS),
         2 => Some(NEWEST_LIMITS),
         _ => None,
+    }
+}
+
+/// Whether what a section has made is fresh for it, by images of this version.
+pub fn has_fresh(version: u32) -> bool
+    ensures { result ≡ has_fresh version }
+{
+    match limits_of(version) {
+        Some(limits) => limits.fresh,
+        None => false,
     }
 }
 

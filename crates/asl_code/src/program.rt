@@ -30,7 +30,7 @@ impl Model for Program {
 
 impl Program {
     ghost use Rattle.asl_code.specs.Verified.{IsVerified, IsAnswer};
-    ghost use Rattle.asl_code.specs.Versions.{most_threads, most_locks};
+    ghost use Rattle.asl_code.specs.Versions.{most_threads, most_locks, has_fresh};
 
     /// The program of the image.
     ///
@@ -78,6 +78,7 @@ impl Program {
     pub fn limits(&self) -> Limits
         ensures threads { result.threads ≡ most_threads self.now.version }
         ensures locks { result.locks ≡ most_locks self.now.version }
+        ensures fresh { result.fresh ≡ has_fresh self.now.version }
         ensures verified { IsVerified self.now }
     {
         match limits_of(self.image.version) {

@@ -1,5 +1,5 @@
 //! What versions there are, and what each sets.
-use asl_code::{NEWEST, NEWEST_LIMITS, is_version, limits_of, version_for};
+use asl_code::{NEWEST, NEWEST_LIMITS, has_fresh, is_version, limits_of, version_for};
 
 /// A version, and the most threads and the most locks of a list that it sets, if it is there.
 static VERSIONS: [(u32, Option<(u32, usize)>); 5] = [
@@ -16,6 +16,7 @@ fn two_versions_are_there(rt: HostRuntime) {
         let found = limits_of(version).map(|limits| (limits.threads, limits.locks));
         assert!(rt; found == wanted);
         assert!(rt; is_version(version) == wanted.is_some());
+        assert!(rt; has_fresh(version) == (version == 2));
     }
     assert!(rt; NEWEST == 2 && NEWEST_LIMITS.threads == 128 && NEWEST_LIMITS.locks == 256);
 }

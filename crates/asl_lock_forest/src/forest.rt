@@ -106,7 +106,7 @@ impl Forest {
     ///
     /// # Errors
     ///
-    /// A growth was refused, and no other thread is in the way. Then nothing is granted.
+    /// A growth was refused, something is asked, and no other thread is in the way. Then nothing is granted.
     pub fn try_acquire(&mut self, thread: u32, request: &[(Node, Mode)]) -> Result<bool, AllocError>
         requires thread_there { thread < self.old.threads }
         requires nothing_held { HoldsNothing self.old.holding thread }
@@ -122,6 +122,7 @@ impl Forest {
         ensures threads { self.new.threads ≡ self.old.threads }
         ensures unchanged { IfOk result (λ all. all ≡ false → self.new ≡ self.old) }
         ensures memory { OnErr result (CanGrant self.old.holding thread request.now) }
+        ensures asks { OnErr result (0 < length request.now) }
         ensures err { OnErr result (self.new ≡ self.old) }
         ensures others { (other : ℕ) → other ≢ thread → HoldsNothing self.old.holding other → HoldsNothing self.new.holding other }
         ensures lawful { IsForest self.new }
@@ -146,7 +147,7 @@ impl Forest {
     ///
     /// # Errors
     ///
-    /// A growth was refused. Then nothing is granted.
+    /// A growth was refused, and something is asked. Then nothing is granted.
     pub fn grant(&mut self, thread: u32, request: &[(Node, Mode)]) -> Result<(), AllocError>
         requires thread_there { thread < self.old.threads }
         requires nothing_held { HoldsNothing self.old.holding thread }
@@ -156,15 +157,20 @@ impl Forest {
         requires classes_there { IsOfClasses self.old.classes request.now }
         requires free { CanGrant self.old.holding thread request.now }
         ensures holding { OnOk result (self.new.holding ≡ grant self.old.holding thread request.now) }
+        ensures asks { OnErr result (0 < length request.now) }
         ensures classes { self.new.classes ≡ self.old.classes }
         ensures threads { self.new.threads ≡ self.old.threads }
         ensures err { OnErr result (self.new ≡ self.old) }
         ensures others { (other : ℕ) → other ≢ thread → HoldsNothing self.old.holding other → HoldsNothing self.new.holding other }
         ensures lawful { IsForest self.new }
     {
-        self.rows.leaves.reserve(request.len())?;
+        let rows = &mut self.rows;
+        if request.is_empty() {
+            return Ok(());
+        }
+        rows.leaves.reserve(request.len())?;
         note(&mut self.held, thread, request)?;
-        self.rows.grant(thread, request);
+        rows.grant(thread, request);
         Ok(())
     }
 

@@ -13,6 +13,7 @@ use Rattle.asl_code.specs.declared.value.Cell.{Cell}
 use Rattle.asl_code.specs.declared.value.Effect.TheVariants.{Read, Write}
 use Rattle.asl_code.specs.declared.instr.Instr.{Instr}
 use Rattle.asl_code.specs.declared.instr.Instr.TheVariants as instr
+use Rattle.asl_code.specs.Versions.{has_fresh}
 use Rattle.asl_lock_forest.specs.declared.node.Node.{Node}
 use Rattle.asl_lock_forest.specs.Holding.{Holding, held, Covers, is_covered, grant, release}
 use Rattle.asl_lock_forest.proofs.Laws.{held_grant_other, held_release_other}
@@ -276,7 +277,7 @@ module _ (image : Image) (s : State) (t : ℕ) (a : Activity) (sound : Satisfies
       let b = having_made image.version a r size in
       let more = s.objects ++ new_object class n ∷ [] in
       let longer : length more ≡ suc size = (let l = length_push s.objects (new_object class n) in omega (arith, l)) in
-      let old : (u o : ℕ) → IsTrue (is_fresh (fresh_at (set s.threads t (Running b)) u) o) → IsFreshFor s u o ⊎ ((u ≡ t) × (o ≡ size) × (image.version ≡ 2)) =
+      let old : (u o : ℕ) → IsTrue (is_fresh (fresh_at (set s.threads t (Running b)) u) o) → IsFreshFor s u o ⊎ ((u ≡ t) × (o ≡ size) × IsTrue (has_fresh image.version)) =
       λ u o f. elim (was (Running b) u o f) [
         | inl own ↦ elim (made_either image.version a.depth size a.fresh o own.1) [ inl g ↦ inl (subst (λ w. IsFreshFor s w o) (sym own.0) (own_old o g)) | inr g ↦ inr (own.0, g.0, g.1) ]
         | inr other ↦ inl other.1

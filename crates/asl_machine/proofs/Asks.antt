@@ -1,6 +1,7 @@
 -- What a grant of a list's request lets the thread do.
-use Rattle.std.proofs.Common.{◌≡◌, ℕ, zero, suc, List, [], ◌∷◌, Some, slice_get, refl, ap, sym, ◌∙◌, subst, inl, inr}
+use Rattle.std.proofs.Common.{◌≡◌, ℕ, zero, suc, ◌<◌, true, false, cond, List, [], ◌∷◌, length, Some, slice_get, refl, ap, sym, ◌∙◌, subst, inl, inr, arith}
 use Rattle.std.specs.Option.{option_map_or}
+use Rattle.std.proofs.lemmas.List.{length-append}
 use Rattle.std.proofs.lemmas.Option.{same_Some}
 use Rattle.asl_code.specs.Locks.{effect_of}
 use Rattle.asl_code.specs.declared.value.Value.{Value}
@@ -8,14 +9,15 @@ use Rattle.asl_code.specs.declared.value.Cell.{Cell}
 use Rattle.asl_code.specs.declared.lock.Lock.{Lock}
 use Rattle.asl_code.specs.declared.lock.Lock.TheVariants as lock
 use Rattle.asl_mode_lanes.specs.declared.mode.Mode.{Mode}
-use Rattle.asl_mode_lanes.specs.Mode.{AtMost}
+use Rattle.asl_mode_lanes.specs.Mode.{AtMost, join_of}
 use Rattle.asl_lock_forest.specs.declared.node.Node.{Node}
 use Rattle.asl_lock_forest.specs.declared.node.Node.TheVariants.{Root, Class, Leaf}
-use Rattle.asl_lock_forest.specs.Holding.{Holding, HoldsNothing, held, grant, covering_mode, Covers}
+use Rattle.asl_lock_forest.specs.Node.{same_node}
+use Rattle.asl_lock_forest.specs.Holding.{Request, Holding, HoldsNothing, held, grant, covering_mode, Covers}
 use Rattle.asl_lock_forest.proofs.Laws.{held_grant_own}
 use Rattle.asl_lock_forest.proofs.NinePairs.{covers_at, at_leaf, at_class, at_root}
 use Rattle.asl_machine.specs.State.{Object}
-use Rattle.asl_machine.specs.Request.{leaf_asks, cell_asks, asks_of, all_asks, request_of, IsAsk, IsOn}
+use Rattle.asl_machine.specs.Request.{leaf_asks, cell_asks, asks_of, all_asks, joined_with, joined_all, request_of, IsAsk, IsOn}
 use Rattle.asl_machine.proofs.RequestLaws.{ask_left, ask_right, request_is_least}
 
 -- what a lock asks is among the asks of its list
@@ -49,3 +51,32 @@ lock_covers h t objects regs locks place (lock.Expr expr effect) cell class none
     covers_at _ t cell class effect at_leaf
     (asked_held h t objects regs locks place (lock.Expr expr effect) (Leaf cell class) (covering_mode effect) none at
     (subst (λ r. IsAsk r (Leaf cell class) (covering_mode effect)) (sym asks) (inr (inr (inl (refl, refl))))))
+
+-- a list with a lock that asks for something asks for something
+some_among : (objects : List Object) (regs : List Value) (locks : List Lock) (place : ℕ) (l : Lock) → slice_get locks place ≡ Some l → 0 < length (asks_of objects regs l) →
+    0 < length (all_asks objects regs locks)
+some_among objects regs [] place l e some = cc
+some_among objects regs (k ∷ ls) zero l e some =
+    let here : 0 < length (asks_of objects regs k) = subst (λ x. 0 < length (asks_of objects regs x)) (sym (same_Some k l e)) some in
+    omega (arith, here, length-append (asks_of objects regs k) (all_asks objects regs ls))
+some_among objects regs (k ∷ ls) (suc place) l e some =
+    let later = some_among objects regs ls place l e some in
+    omega (arith, later, length-append (asks_of objects regs k) (all_asks objects regs ls))
+
+-- and so does its request
+some_joined : (request : Request) (node : Node) (mode : Mode) → 0 < length (joined_with request node mode)
+some_joined [] node mode = omega arith
+some_joined (ask ∷ others) node mode =
+    elim (same_node ask.0 node) as (λ b. 0 < length (cond b ((ask.0, join_of ask.1 mode) ∷ others) (ask ∷ joined_with others node mode))) [ true ↦ omega arith | false ↦ omega arith ]
+
+some_joined_all : (request asks : Request) → 0 < length request → 0 < length (joined_all request asks)
+some_joined_all request [] some = some
+some_joined_all request (ask ∷ asks) some = some_joined_all (joined_with request ask.0 ask.1) asks (some_joined request ask.0 ask.1)
+
+some_joined_asks : (asks : Request) → 0 < length asks → 0 < length (joined_all [] asks)
+some_joined_asks [] some = absurd (omega arith)
+some_joined_asks (ask ∷ asks) some = some_joined_all (joined_with [] ask.0 ask.1) asks (some_joined [] ask.0 ask.1)
+
+pub some_requested : (objects : List Object) (regs : List Value) (locks : List Lock) (place : ℕ) (l : Lock) → slice_get locks place ≡ Some l → 0 < length (asks_of objects regs l) →
+    0 < length (request_of objects regs locks)
+some_requested objects regs locks place l at some = some_joined_asks (all_asks objects regs locks) (some_among objects regs locks place l at some)

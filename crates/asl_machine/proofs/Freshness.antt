@@ -4,6 +4,7 @@ use Rattle.std.specs.Prelude.{IsTrue, nat_lt, All}
 use Rattle.std.specs.Option.{option_map_or}
 use Rattle.std.proofs.lemmas.Bool.{or_right, and_parts}
 use Rattle.asl_code.specs.declared.image.Image.{Image}
+use Rattle.asl_code.specs.Versions.{has_fresh}
 use Rattle.asl_code.specs.declared.value.Cell.{Cell}
 use Rattle.asl_code.specs.declared.value.Effect.{Effect}
 use Rattle.asl_code.specs.declared.value.Effect.TheVariants.{Read, Write}
@@ -42,25 +43,25 @@ fresh_last [] n = ap (λ b. b || false) (eq-eqb n n refl)
 fresh_last (x ∷ xs) n = elim (x == n) as (λ b. (b || is_fresh (xs ++ n ∷ []) n) ≡ true) [ true ↦ refl | false ↦ fresh_last xs n ]
 
 -- the fresh objects of a thread that makes one
-pub made_either : (version depth n : ℕ) (xs : List ℕ) (o : ℕ) → IsTrue (is_fresh (made_fresh version depth n xs) o) → IsTrue (is_fresh xs o) ⊎ ((o ≡ n) × (version ≡ 2))
+pub made_either : (version depth n : ℕ) (xs : List ℕ) (o : ℕ) → IsTrue (is_fresh (made_fresh version depth n xs) o) → IsTrue (is_fresh xs o) ⊎ ((o ≡ n) × IsTrue (has_fresh version))
 made_either version depth n xs o e =
-    elim (version == 2 && nat_lt 0 depth) as (λ b. (version == 2 && nat_lt 0 depth) ≡ b → IsTrue (is_fresh (cond b (xs ++ n ∷ []) xs) o) → IsTrue (is_fresh xs o) ⊎ ((o ≡ n) × (version ≡ 2))) [
-      | true ↦ λ is f. elim (fresh_either xs n o f) [ inl old ↦ inl old | inr new ↦ inr (new, eqb-true version 2 (and_parts (version == 2) (nat_lt 0 depth) is).0) ]
+    elim (has_fresh version && nat_lt 0 depth) as (λ b. (has_fresh version && nat_lt 0 depth) ≡ b → IsTrue (is_fresh (cond b (xs ++ n ∷ []) xs) o) → IsTrue (is_fresh xs o) ⊎ ((o ≡ n) × IsTrue (has_fresh version))) [
+      | true ↦ λ is f. elim (fresh_either xs n o f) [ inl old ↦ inl old | inr new ↦ inr (new, (and_parts (has_fresh version) (nat_lt 0 depth) is).0) ]
       | false ↦ λ is f. inl f
     ] refl e
 
 pub made_keeps : (version depth n : ℕ) (xs : List ℕ) (o : ℕ) → IsTrue (is_fresh xs o) → IsTrue (is_fresh (made_fresh version depth n xs) o)
 made_keeps version depth n xs o e =
-    elim (version == 2 && nat_lt 0 depth) as (λ b. IsTrue (is_fresh (cond b (xs ++ n ∷ []) xs) o)) [ true ↦ fresh_before xs n o e | false ↦ e ]
+    elim (has_fresh version && nat_lt 0 depth) as (λ b. IsTrue (is_fresh (cond b (xs ++ n ∷ []) xs) o)) [ true ↦ fresh_before xs n o e | false ↦ e ]
 
-pub made_new : (version depth n : ℕ) (xs : List ℕ) → version ≡ 2 → 0 < depth → IsTrue (is_fresh (made_fresh version depth n xs) n)
-made_new version depth n xs two inside =
+pub made_new : (version depth n : ℕ) (xs : List ℕ) → IsTrue (has_fresh version) → 0 < depth → IsTrue (is_fresh (made_fresh version depth n xs) n)
+made_new version depth n xs has inside =
     let lt : nat_lt 0 depth ≡ true = search (rules, arith) in
-    subst (λ (b : Bool). IsTrue (is_fresh (cond b (xs ++ n ∷ []) xs) n)) (sym (ap₂ (λ a b. a && b) (eq-eqb version 2 two) lt)) (fresh_last xs n)
+    subst (λ (b : Bool). IsTrue (is_fresh (cond b (xs ++ n ∷ []) xs) n)) (sym (ap₂ (λ a b. a && b) has lt)) (fresh_last xs n)
 
 pub made_outside : (version depth n : ℕ) (xs : List ℕ) → depth ≡ 0 → made_fresh version depth n xs ≡ xs
 made_outside version depth n xs z =
-    ap (λ (d : ℕ). cond (version == 2 && nat_lt 0 d) (xs ++ n ∷ []) xs) z ∙ by (version == 2) xs n
+    ap (λ (d : ℕ). cond (has_fresh version && nat_lt 0 d) (xs ++ n ∷ []) xs) z ∙ by (has_fresh version) xs n
   where
     by : (b : Bool) (xs : List ℕ) (n : ℕ) → cond (b && nat_lt 0 0) (xs ++ n ∷ []) xs ≡ xs
     by true xs n = refl

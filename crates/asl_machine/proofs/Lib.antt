@@ -19,4 +19,5 @@ pub mod Freshness
 pub mod Rising
 pub mod Apart
 pub mod ReachedApart
+pub mod Made
 pub mod Machines

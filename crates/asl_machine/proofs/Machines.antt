@@ -1,9 +1,10 @@
 -- What every machine keeps, at its start and over a step.
-use Rattle.std.proofs.Common.{◌≡◌, ℕ, zero, suc, ◌<◌, ◌≤◌, Bool, true, false, List, [], ◌∷◌, Some, length, get_or, set, slice_get, map, refl, ap, sym, ◌∙◌, subst, arith, length-set}
+use Rattle.std.proofs.Common.{◌≡◌, ℕ, zero, suc, ◌<◌, Bool, true, false, List, [], ◌∷◌, Some, length, get_or, set, slice_get, map, refl, ap, sym, ◌∙◌, subst, arith, length-set}
 use Rattle.std.specs.Prelude.{IsTrue}
 use Rattle.std.proofs.lemmas.Option.{slice_get_within}
 use Rattle.asl_code.specs.declared.image.Image.{Image}
 use Rattle.asl_code.specs.Verified.{IsVerified}
+use Rattle.asl_code.specs.Versions.{has_fresh}
 use Rattle.asl_code.proofs.FitsLaws.{image_fits}
 use Rattle.asl_lock_forest.specs.Holding.{Holding, no_holding}
 use Rattle.asl_lock_forest.specs.Held.{Held}
@@ -108,10 +109,10 @@ fresh_at_place [] t d lt = absurd (omega arith)
 fresh_at_place (x ∷ threads) zero d lt = refl
 fresh_at_place (x ∷ threads) (suc t) d lt = fresh_at_place threads t d (omega arith)
 
--- what is fresh is there, and there is some by images of version 2 alone
+-- what is fresh is there, and there is some only where the image's version has fresh objects
 pub fresh_is_there : (m : Configuration) (t o : ℕ) (b : Bool) → AreApart m.image m.state → b ≡ is_fresh (fresh_at m.state.threads t) o → IsTrue b → o < length m.state.objects
 fresh_is_there m t o b apart e is = (apart.there t o (sym e ∙ is)).1
 
-pub none_is_fresh : (m : Configuration) (t o : ℕ) (b : Bool) → AreApart m.image m.state → b ≡ is_fresh (fresh_at m.state.threads t) o → m.image.version ≡ 1 → b ≡ false
-none_is_fresh m t o true apart e one = let two = apart.version t o (sym e) in absurd (omega (arith, one, two))
-none_is_fresh m t o false apart e one = refl
+pub none_is_fresh : (m : Configuration) (t o : ℕ) (b : Bool) → AreApart m.image m.state → b ≡ is_fresh (fresh_at m.state.threads t) o → has_fresh m.image.version ≡ false → b ≡ false
+none_is_fresh m t o true apart e none = let some = apart.version t o (sym e) in cc
+none_is_fresh m t o false apart e none = refl

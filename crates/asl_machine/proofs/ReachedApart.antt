@@ -31,7 +31,7 @@ first_none image (suc n) u a e =
       ]
     ] refl e
 
-start_fresh : (image : Image) (n u o : ℕ) → IsFreshFor (start_of image n) u o → ⊥
+pub start_fresh : (image : Image) (n u o : ℕ) → IsFreshFor (start_of image n) u o → ⊥
 start_fresh image n u o f =
     elim (activity_at (first_threads image n) u) as (λ x. activity_at (first_threads image n) u ≡ x → IsTrue (is_fresh (option_map_or (λ (b : Activity). b.fresh) x []) o) → ⊥) [
       | None ↦ λ is g. no_fresh [] o refl g

@@ -7,6 +7,7 @@ use Rattle.asl_code.specs.declared.value.Value.{Value}
 use Rattle.asl_code.specs.declared.value.Value.TheVariants.{Addr}
 use Rattle.asl_code.specs.declared.value.Cell.{Cell}
 use Rattle.asl_code.specs.declared.value.Effect.TheVariants.{Write}
+use Rattle.asl_code.specs.Versions.{has_fresh}
 use Rattle.asl_lock_forest.specs.Holding.{Covers}
 use Rattle.asl_machine.specs.Cover.{is_fresh}
 use Rattle.asl_machine.specs.State.{Frame, Activity, Thread, State, cell_at, class_of, activity_of, activity_at}
@@ -39,11 +40,11 @@ MayHold s t cell =
     IsFreshFor s t cell.object
     ⊎ (((u : ℕ) → ¬ IsFreshFor s u cell.object) × ((class : ℕ) → class_of s.objects cell.object ≡ Some class → Covers s.holding t cell class Write))
 
--- what holds of fresh objects: there are some by images of version 2 alone; a thread outside all sections has none;
--- they are there and no globals; none is fresh for two threads; no frame of another thread has an address in one, and
+-- what holds of fresh objects: there are some only where the image's version has them; a thread outside all sections has
+-- none; they are there and no globals; none is fresh for two threads; no frame of another thread has an address in one, and
 -- no cell but those that may hold it
 pub record AreApart (image : Image) (s : State) : Type 0 where
-  pub version : (t object : ℕ) → IsFreshFor s t object → image.version ≡ 2
+  pub version : (t object : ℕ) → IsFreshFor s t object → IsTrue (has_fresh image.version)
   pub outside : (t : ℕ) (a : Activity) → activity_at s.threads t ≡ Some a → a.depth ≡ 0 → a.fresh ≡ []
   pub there : (t object : ℕ) → IsFreshFor s t object → (length image.globals ≤ object) × (object < length s.objects)
   pub apart : (t u object : ℕ) → t ≢ u → IsFreshFor s t object → ¬ IsFreshFor s u object

@@ -8,6 +8,7 @@ pub mod StepFunction
 pub mod Run
 pub mod Nodes
 pub mod Fresh
+pub mod Made
 pub mod WellFormed
 pub mod View
 pub mod World

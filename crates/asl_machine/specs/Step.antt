@@ -1,6 +1,6 @@
 -- One step of a thread, as the instruction table says it (docs/INSTRUCTIONS.md, "A step"): a line for each instruction
 -- and each reply that it can give, named here by the instruction. A reply that an instruction never gives has no line.
-use Rattle.std.specs.Prelude.{◌≡◌, ◌≢◌, ℕ, ℤ, pos, ◌+◌, ◌-◌, ◌<◌, ◌≤◌, ◌<ℤ◌, ◌≤ℤ◌, ◌⊎◌, ◌==◌, ◌&&◌, nat_lt, if◌then◌else◌, Bool, false, true, List, [], ◌∷◌, ◌++◌, length, Option, None, Some, slice_get, slice_set}
+use Rattle.std.specs.Prelude.{◌≡◌, ◌≢◌, ℕ, ℤ, pos, ◌+◌, ◌-◌, ◌<◌, ◌≤◌, ◌<ℤ◌, ◌≤ℤ◌, ◌⊎◌, ◌&&◌, nat_lt, if◌then◌else◌, Bool, false, true, List, [], ◌∷◌, ◌++◌, length, Option, None, Some, slice_get, slice_set}
 use Rattle.std.specs.Int.{w32, int_wrapping_add, int_wrapping_sub}
 use Rattle.std.specs.Ordering.{int_eq}
 use Rattle.asl_code.specs.declared.image.Function.{Function}
@@ -13,6 +13,7 @@ use Rattle.asl_code.specs.declared.value.Value.TheVariants.{Int, Null, Addr}
 use Rattle.asl_code.specs.declared.value.Cell.{Cell}
 use Rattle.asl_code.specs.declared.value.Effect.{Effect}
 use Rattle.asl_code.specs.declared.value.Effect.TheVariants.{Read, Write}
+use Rattle.asl_code.specs.Versions.{has_fresh}
 use Rattle.asl_lock_forest.specs.Holding.{Holding, Request, CanGrant, grant, release}
 use Rattle.asl_machine.specs.declared.fault.Fault.{Fault}
 use Rattle.asl_machine.specs.declared.fault.Fault.TheVariants as fault
@@ -66,10 +67,10 @@ returned a top below = record { depth = a.depth; top = top; below = below; fresh
 abbrev pub with_fresh : List ℕ → Activity → Activity
 with_fresh fresh a = record { depth = a.depth; top = a.top; below = a.below; fresh = fresh }
 
--- the objects that are fresh for a thread that has made one, in so many sections: by an image of version 2 it is one of
--- them, if it was made inside a section
+-- the objects that are fresh for a thread that has made one, in so many sections: it is one of them, if it was made
+-- inside a section, by an image whose version has fresh objects
 abbrev pub made_fresh : ℕ → ℕ → ℕ → List ℕ → List ℕ
-made_fresh version depth object fresh = if version == 2 && nat_lt 0 depth then fresh ++ object ∷ [] else fresh
+made_fresh version depth object fresh = if has_fresh version && nat_lt 0 depth then fresh ++ object ∷ [] else fresh
 
 -- what a thread is at that has made the object of this number, by an image of this version: the register has the address
 -- of its first cell

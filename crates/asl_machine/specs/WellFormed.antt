@@ -17,6 +17,7 @@ use Rattle.asl_machine.specs.State.{Object, Frame, Activity, Thread, Running, Do
 use Rattle.asl_machine.specs.Calls.{frame_count}
 use Rattle.asl_machine.specs.Access.{Points, AllPoint, AreOfClasses}
 use Rattle.asl_machine.specs.Nodes.{IsNode}
+use Rattle.asl_machine.specs.Request.{request_of, locks_of}
 
 -- a frame waits behind the `call` of its own function's body that made the frame above, which is of this function and
 -- whose value goes to this register; it has its function's registers, and every address in them is a cell's
@@ -78,16 +79,17 @@ pub record SatisfiesInvariant (image : Image) (s : State) : Type 0 where
   pub there : (t : ℕ) (node : Node) → held s.holding t node ≢ NL → IsNode image.classes s.objects node
 
 -- these instructions may want memory: a `new` and a `call` with room for an object or a frame more, and an `acq`
--- outside all sections
-abbrev pub WantsMemory : List Object → Activity → Instr → Type 0
-WantsMemory objects activity (New to cells class) = length objects < 65536
-WantsMemory objects activity (Call to first function) = frame_count activity < 256
-WantsMemory objects activity (Acquire list) = activity.depth ≡ 0
-WantsMemory objects activity i = ⊥
+-- outside all sections whose request names a node
+abbrev pub WantsMemory : Image → List Object → Activity → Instr → Type 0
+WantsMemory image objects activity (New to cells class) = length objects < 65536
+WantsMemory image objects activity (Call to first function) = frame_count activity < 256
+WantsMemory image objects activity (Acquire list) =
+    (activity.depth ≡ 0) × (0 < length (request_of objects activity.top.regs (locks_of image list)))
+WantsMemory image objects activity i = ⊥
 
 -- the thread runs and is at an instruction that may want memory
 abbrev pub ThreadWantsMemory : Image → List Object → Thread → Type 0
-ThreadWantsMemory image objects (Running activity) = IsSomeAnd (slice_get image.code activity.top.pc) (WantsMemory objects activity)
+ThreadWantsMemory image objects (Running activity) = IsSomeAnd (slice_get image.code activity.top.pc) (WantsMemory image objects activity)
 ThreadWantsMemory image objects (Done value) = ⊥
 ThreadWantsMemory image objects (Failed f) = ⊥
 

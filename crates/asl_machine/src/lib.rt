@@ -23,7 +23,7 @@ mod values;
 mod word;
 
 pub use fault::{Fault, MachineFault};
-pub use fresh_laws::fresh_objects_stay_apart;
+pub use fresh_laws::{fresh_objects_are_made_in_the_section, fresh_objects_stay_apart};
 pub use laws::{
     held_nodes_are_there, no_world_is_blocked, reached_holdings_are_lawful,
     reached_states_are_well_formed, requests_are_least, steps_have_one_line,

@@ -58,6 +58,7 @@ impl<'p> Machine<'p> {
     ghost use Rattle.asl_machine.specs.Nodes.{IsNode};
     ghost use Rattle.asl_machine.specs.Cover.{is_fresh};
     ghost use Rattle.asl_machine.specs.Fresh.{fresh_at};
+    ghost use Rattle.asl_code.specs.Versions.{has_fresh};
     ghost use Rattle.asl_machine.specs.WellFormed.{MayWantMemory};
 
     /// The machine in which n threads of the program start: 1 to as many as the program's version sets.
@@ -79,7 +80,7 @@ impl<'p> Machine<'p> {
 
     /// Steps thread t: one instruction, or nothing where the thread has ended. The step is one that the instruction table
     /// (`docs/INSTRUCTIONS.md`) allows, and the only one. Only a thread that is at a `new` or a `call` for which there is
-    /// room, or at an `acq` outside all sections, may want memory.
+    /// room, or at an `acq` outside all sections that asks for some node, may be refused memory.
     ///
     /// # Errors
     ///
@@ -255,12 +256,12 @@ impl<'p> Machine<'p> {
     }
 
     /// Whether the object is fresh for thread t: never where the thread has ended or the object is not there, and never by
-    /// an image of version 1.
+    /// an image of a version without fresh objects.
     pub fn fresh(&self, t: u32, object: u32) -> bool
         requires { t < length self.now.state.threads }
         ensures fresh { result ≡ is_fresh (fresh_at self.now.state.threads t) object }
         ensures there { IsTrue result → object < length self.now.state.objects }
-        ensures version { self.now.image.version ≡ 1 → result ≡ false }
+        ensures version { has_fresh self.now.image.version ≡ false → result ≡ false }
     {
         self.threads[t as usize].is_fresh(object)
     }

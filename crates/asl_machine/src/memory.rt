@@ -13,7 +13,7 @@ use crate::fault::Fault;
 use crate::frame::Activity;
 use crate::heap::Heap;
 use crate::word::Word;
-use asl_code::{Cell, Effect, Value};
+use asl_code::{Cell, Effect, Value, has_fresh};
 use asl_lock_forest::Forest;
 use std::alloc::{AllocError, Global};
 
@@ -94,7 +94,7 @@ pub fn make(
     if heap.len() == MAX_OBJECTS {
         return Ok(Fate::Fails(Fault::Full));
     }
-    let number = if version == 2 && activity.depth() > 0 {
+    let number = if has_fresh(version) && activity.depth() > 0 {
         make_fresh(alloc, heap, activity, cells, class)?
     } else {
         heap.make(alloc, cells, class)?

@@ -34,7 +34,7 @@ pub fn perform(
         ≡ left_by code.now (place t activity.old heap.old forest.old) instr) }
     ensures classes { forest.new.classes ≡ forest.old.classes }
     ensures threads { forest.new.threads ≡ forest.old.threads }
-    ensures memory { OnErr result (WantsMemory heap.old activity.old instr) }
+    ensures memory { OnErr result (WantsMemory code.now heap.old activity.old instr) }
     ensures err { OnErr result (activity.new ≡ activity.old) }
     ensures err_heap { OnErr result (heap.new ≡ heap.old) }
     ensures err_forest { OnErr result (forest.new ≡ forest.old) }

@@ -1,5 +1,5 @@
 //! What a section asks for at its entry.
-ghost use Rattle.std.specs.Prelude.{◌≡◌, IsTrue, false, All, IfOk, OnOk, position};
+ghost use Rattle.std.specs.Prelude.{◌≡◌, ◌<◌, IsTrue, false, All, IfOk, OnOk, OnErr, length, position};
 ghost use Rattle.asl_lock_expr.specs.Expression.{cell_denoted, base_cell};
 ghost use Rattle.asl_lock_forest.specs.Node.{same_node, IsThere};
 ghost use Rattle.asl_lock_forest.specs.Holding.{covering_mode, can_grant};
@@ -17,6 +17,10 @@ use std::alloc::AllocError;
 
 /// Makes the request of the locks in these registers and this heap: at each node the join of what the locks ask there. Ends
 /// where another thread is in the way of one of them: whether none is.
+///
+/// # Errors
+///
+/// A growth was refused, and some lock asks for something.
 pub fn request(
     asks: &mut Vec<(Node, Mode)>,
     locks: &[Lock],
@@ -29,6 +33,7 @@ pub fn request(
     requires classes { AreOfClasses forest.now.classes heap.now }
     ensures request { IfOk result (λ free. IsTrue free → asks.new.items ≡ request_of heap.now regs.now locks.now) }
     ensures free { IfOk result (λ free. free ≡ can_grant forest.now.holding t (request_of heap.now regs.now locks.now)) }
+    ensures asks { OnErr result (0 < length (request_of heap.now regs.now locks.now)) }
 {
     asks.clear();
     for lock in locks {
@@ -53,6 +58,7 @@ fn add_lock(
     ensures added { IfOk result (λ free. IsTrue free → request.new.items ≡ joined_all request.old.items (asks_of heap.now regs.now lock.now)) }
     ensures free { IfOk result (λ free. IsTrue free → AreFree forest.now.holding t (asks_of heap.now regs.now lock.now)) }
     ensures kept { IfOk result (λ free. free ≡ false → IsHeldUp forest.now.holding t (asks_of heap.now regs.now lock.now)) }
+    ensures asks { OnErr result (0 < length (asks_of heap.now regs.now lock.now)) }
 {
     let Some(node) = node_of(lock, regs, heap) else {
         return Ok(true);

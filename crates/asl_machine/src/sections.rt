@@ -46,6 +46,7 @@ pub fn acquire(
     ensures classes { forest.new.classes ≡ forest.old.classes }
     ensures threads { forest.new.threads ≡ forest.old.threads }
     ensures memory { OnErr result (activity.old.depth ≡ 0) }
+    ensures asks { OnErr result (0 < length (request_of heap.now activity.old.top.regs (locks_of code.now list))) }
     ensures err { OnErr result (activity.new ≡ activity.old) }
     ensures err_forest { OnErr result (forest.new ≡ forest.old) }
 {
@@ -114,6 +115,7 @@ fn enter(
         (can_grant forest.old.holding t request) t request forest.old.holding) }
     ensures classes { forest.new.classes ≡ forest.old.classes }
     ensures threads { forest.new.threads ≡ forest.old.threads }
+    ensures asks { OnErr result (0 < length (request_of heap.now activity.old.top.regs locks.now)) }
     ensures err { OnErr result (activity.new ≡ activity.old) }
     ensures err_forest { OnErr result (forest.new ≡ forest.old) }
 {

@@ -201,7 +201,7 @@ fn advance(
         (slice_get code.now.code activity.old.top.pc)) }
     ensures classes { forest.new.classes ≡ forest.old.classes }
     ensures threads { forest.new.threads ≡ forest.old.threads }
-    ensures memory { OnErr result (IsSomeAnd (slice_get code.now.code activity.old.top.pc) (WantsMemory heap.old activity.old)) }
+    ensures memory { OnErr result (IsSomeAnd (slice_get code.now.code activity.old.top.pc) (WantsMemory code.now heap.old activity.old)) }
     ensures err { OnErr result (activity.new ≡ activity.old) }
     ensures err_heap { OnErr result (heap.new ≡ heap.old) }
     ensures err_forest { OnErr result (forest.new ≡ forest.old) }

@@ -13,6 +13,7 @@ use Rattle.asl_code.specs.declared.lock.Lock.TheVariants as lock
 use Rattle.asl_code.specs.declared.instr.Instr.{Instr}
 use Rattle.asl_code.specs.declared.instr.Instr.TheVariants as instr
 use Rattle.asl_code.specs.Fits.{FitsInstr}
+use Rattle.asl_code.proofs.Versions.{fresh_by_newest}
 use Rattle.asl_mode_lanes.proofs.ModeLaws.{at_most_refl}
 use Rattle.asl_lock_forest.specs.Holding.{Holding, held}
 use Rattle.asl_lower.specs.Lowered.{Lowered}
@@ -106,7 +107,7 @@ module _ (l : Lowered) (c : Classed) (stores : ℕ → ℕ → Bool) (longest : 
       let b = having_made image.version a x size in
       let now = cover s.holding b.fresh in
       let kept : IsAtLeast k now t = record { holds = λ node. at_most_refl (held s.holding t node); fresh = λ o f. made_keeps image.version a.depth size a.fresh o f } in
-      let own = made_new image.version a.depth size a.fresh made.version inside in
+      let own = made_new image.version a.depth size a.fresh (fresh_by_newest _ made.version) inside in
       runs b more s.holding new
       (λ deep same. link_protects v now t s.objects more a.top.regs b.top.regs (instr.New x m site) own_stands tt
       (λ d effect known p. new_row v now t s.objects a.top.regs x m class lt own h.placed.points (globals_point l c image made s q.sound) q.sound.formed.objects.points d effect known p)

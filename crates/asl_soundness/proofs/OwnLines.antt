@@ -13,6 +13,7 @@ use Rattle.asl_code.specs.declared.lock.Lock.TheVariants as lock
 use Rattle.asl_code.specs.declared.instr.Instr.{Instr}
 use Rattle.asl_code.specs.declared.instr.Instr.TheVariants as instr
 use Rattle.asl_code.specs.Fits.{FitsInstr}
+use Rattle.asl_code.proofs.Versions.{fresh_by_newest}
 use Rattle.asl_mode_lanes.proofs.ModeLaws.{at_most_refl}
 use Rattle.asl_lock_forest.specs.Holding.{Holding, held, grant, release}
 use Rattle.asl_lower.specs.Lowered.{Lowered}
@@ -119,7 +120,7 @@ module _ (l : Lowered) (c : Classed) (stores : ℕ → ℕ → Bool) (longest : 
             let k = cover s.holding b.fresh in
             let kept : IsAtLeast (cover s.holding a.fresh) k t = record { holds = λ node. at_most_refl (held s.holding t node); fresh = λ o f. made_keeps_fresh image.version a.depth size a.fresh o f } in
             let has = thread_keeps l c stores longest K q.program.closed q.program.based t NoneShunned (cover s.holding a.fresh) k s.objects s.objects (more_keeps c t (cover s.holding a.fresh) k s.objects kept) image a q.here.placed (λ o f. absurd f) q.has in
-            let own = made_new image.version a.depth size a.fresh q.program.made.version (let z = inside.1 in omega (arith, z)) in
+            let own = made_new image.version a.depth size a.fresh (fresh_by_newest _ q.program.made.version) (let z = inside.1 in omega (arith, z)) in
             let made = goes_on l c stores longest K image s t a q k has (instr.New x n site) a.depth (advanced_with x (Addr size 0) a.top) more at (next_is a.top.pc) refl (stays_closed l c stores longest K image s t a q (instr.New x n site) (a.top.pc + 1) at (next_is a.top.pc) refl) tt
             (λ d effect known all. new_row (own_view l c stores longest K image s t a q) k t s.objects a.top.regs x n class lt own q.here.placed.points globals cells d effect known all)
             (waiting_keep l c stores longest K q.program.closed q.program.based t NoneShunned k k s.objects more (made_keeps c t k s.objects (new_object class n ∷ []) globals cells) image

@@ -1,10 +1,11 @@
-use Rattle.std.proofs.Common.{length, drop, refl, sym, ap, subst, ◌∙◌, ◌+◌}
+use Rattle.std.proofs.Common.{◌<◌, Ok, Err, OnErr, length, drop, refl, sym, ap, subst, ◌∙◌, ◌+◌}
 use Rattle.std.proofs.lemmas.List.{drop_all}
 use Rattle.std.proofs.lemmas.Option.{slice_get_read}
 use Rattle.asl_lock_forest.specs.Holding.{CanGrant}
 use Rattle.asl_lock_forest.proofs.Grantable.{CanGrant-tested}
 use Rattle.asl_machine.specs.Request.{all_asks, asks_of, joined_all, request_of}
 use Rattle.asl_machine.proofs.Asking.{all_left, free_all, held_up}
+use Rattle.asl_machine.proofs.Asks.{some_requested}
 use Rattle.asl_machine.proofs.request.request.Goals as goal
 
 pub returns-then-not-branch-clause-free : goal.returns-then-not-branch-clause-free
@@ -12,6 +13,13 @@ returns-then-not-branch-clause-free c =
     sym (held_up c.args.forest.now.holding c.args.t c.args.heap.now c.args.regs.now c.args.locks.now c.loop-lock.lock-index c.lock-item.result
     (slice_get_read c.args.locks.now (length c.args.locks.now) c.loop-lock.lock-index c.lock-item.result refl c.loop-lock-test.true c.lock-item.is)
     (c.in_ok-add_lock.ensures.kept c.if-not-branch.true))
+
+pub returns-in_err-add_lock-clause-asks : goal.returns-in_err-add_lock-clause-asks
+returns-in_err-add_lock-clause-asks c =
+    let some = some_requested c.args.heap.now c.args.regs.now c.args.locks.now c.loop-lock.lock-index c.lock-item.result
+    (slice_get_read c.args.locks.now (length c.args.locks.now) c.loop-lock.lock-index c.lock-item.result refl c.loop-lock-test.true c.lock-item.is)
+    c.in_err-add_lock.ensures.asks in
+    elim c.from_residual.result as (λ r. OnErr r (0 < length (request_of c.args.heap.now c.args.regs.now c.args.locks.now))) [ Ok free ↦ tt | Err refused ↦ some ]
 
 pub loop-lock-preserved : goal.loop-lock-preserved
 loop-lock-preserved c = record {

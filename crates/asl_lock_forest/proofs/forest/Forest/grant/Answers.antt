@@ -9,8 +9,11 @@ use Rattle.asl_lock_forest.proofs.ListLaws.{lists_granted, unnamed_list}
 use Rattle.asl_lock_forest.proofs.SoundLaws.{sound_reserved, sound_grant, nothing_named}
 use Rattle.asl_lock_forest.proofs.forest.Forest.grant.Goals as goal
 
-pub invariant_of-self : goal.invariant_of-self
-invariant_of-self c = sound_reserved c.self.invariant c.reserve.ensures.kept c.reserve.ensures.same
+pub returns-then-is_empty-clause-lawful : goal.returns-then-is_empty-clause-lawful
+returns-then-is_empty-clause-lawful c = c.self.invariant.forest
+
+pub invariant_of-self-in_err-reserve : goal.invariant_of-self-in_err-reserve
+invariant_of-self-in_err-reserve c = sound_reserved c.self.invariant c.reserve.ensures.kept c.reserve.ensures.same
 
 pub grant-requires-clause-kept : goal.grant-requires-clause-kept
 grant-requires-clause-kept c = (sound_reserved c.self.invariant c.reserve.ensures.kept c.reserve.ensures.same).kept
