@@ -5,7 +5,7 @@ use Rattle.std.proofs.lemmas.Bool.{eqb-true, eq-eqb, ltb-true, lt-ltb, leb-true,
 use Rattle.asl_code.specs.Versions.{IsVersion, version_for}
 use Rattle.asl_code.proofs.Versions.{version_of_few, version_of_many}
 use Rattle.asl_loader.specs.Bytes.{one}
-use Rattle.asl_loader.specs.Reading.{byte_at, number_at}
+use Rattle.asl_loader.specs.Parts.{byte_at, number_at}
 use Rattle.asl_loader.proofs.Reader.{Reads}
 use Rattle.asl_loader.proofs.Fields.{reads_as, reads_number, reads_tested, byte_number, four_number}
 use Rattle.asl_journal.specs.Journal.{IsCount, most_events}

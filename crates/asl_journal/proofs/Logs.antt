@@ -8,7 +8,8 @@ use Rattle.asl_code.proofs.Versions.{version_is_there}
 use Rattle.asl_machine.specs.declared.reply.Reply.TheVariants as reply
 use Rattle.asl_loader.specs.Bytes.{one, two}
 use Rattle.asl_loader.specs.declared.fault.Stop.{Stop}
-use Rattle.asl_loader.specs.Reading.{◌>>=◌, letters_at, version_at, items_at}
+use Rattle.asl_loader.specs.Parts.{◌>>=◌, letters_at, version_at}
+use Rattle.asl_loader.specs.Reading.{items_at}
 use Rattle.asl_loader.proofs.Reader.{Reads, reads_key, reads_nothing, done, ok_is}
 use Rattle.asl_loader.proofs.Fields.{letters_reads, version_reads}
 use Rattle.asl_loader.proofs.Items.{AreSoMany, items_reads}

@@ -15,7 +15,7 @@ use Rattle.asl_machine.specs.declared.fault.Fault.TheVariants as fault
 use Rattle.asl_machine.specs.declared.reply.Reply.{Reply}
 use Rattle.asl_machine.specs.declared.reply.Reply.TheVariants as reply
 use Rattle.asl_loader.specs.Bytes.{Field, one, two, effect_field}
-use Rattle.asl_loader.specs.Reading.{◌>>=◌, byte_at, number_at, below_at, effect_at}
+use Rattle.asl_loader.specs.Parts.{◌>>=◌, byte_at, number_at, below_at, effect_at}
 use Rattle.asl_loader.proofs.Reader.{Reads, reads_both, reads_key, reads_nothing}
 use Rattle.asl_loader.proofs.Fields.{byte_reads, two_reads, below_reads}
 use Rattle.asl_loader.proofs.Images.{effect_reads}

@@ -13,7 +13,7 @@ use Rattle.asl_code.specs.ReadingValue as code
 use Rattle.asl_code.proofs.Values.{AreBytes, value_found, short_begins, begins_short}
 use Rattle.asl_loader.specs.Bytes.{text_of}
 use Rattle.asl_loader.specs.declared.fault.Stop.TheVariants.{Short, Bad}
-use Rattle.asl_loader.specs.Reading.{byte_at, below_at}
+use Rattle.asl_loader.specs.Parts.{byte_at, below_at}
 use Rattle.asl_journal.specs.Bytes.{value_fields}
 use Rattle.asl_journal.specs.Reading.{value_of, value_at}
 use Rattle.asl_journal.proofs.Parts.{value_reads}

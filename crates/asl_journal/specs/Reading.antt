@@ -11,7 +11,8 @@ use Rattle.asl_machine.specs.declared.fault.Fault.TheVariants as fault
 use Rattle.asl_machine.specs.declared.reply.Reply.{Reply}
 use Rattle.asl_machine.specs.declared.reply.Reply.TheVariants as reply
 use Rattle.asl_loader.specs.declared.fault.Stop.{Stop}
-use Rattle.asl_loader.specs.Reading.{◌>>=◌, passed, byte_at, number_at, letters_at, version_at, below_at, effect_at, items_at, whole_from}
+use Rattle.asl_loader.specs.Parts.{◌>>=◌, passed, byte_at, number_at, letters_at, version_at, below_at, effect_at}
+use Rattle.asl_loader.specs.Reading.{items_at, whole_from}
 use Rattle.asl_journal.specs.declared.event.Event.{Event}
 use Rattle.asl_journal.specs.declared.fault.JournalFault.{JournalFault}
 use Rattle.asl_journal.specs.declared.fault.JournalFault.TheVariants.{Magic, Version, Truncated, BadField, Trailing}

@@ -1,7 +1,8 @@
 //! Reading a journal from front to back. Where memory is refused the reading goes on and keeps nothing, so that want of memory
 //! hides nothing that is wrong with the bytes.
 ghost use Rattle.std.specs.Option.{option_map};
-ghost use Rattle.asl_loader.specs.Reading.{Gives, Keeps, items_at};
+ghost use Rattle.asl_loader.specs.Parts.{Gives};
+ghost use Rattle.asl_loader.specs.Reading.{Keeps, items_at};
 ghost use Rattle.asl_journal.specs.Reading.{threads_at, count_at, value_at, unprotected_at, fault_at, reply_at, event_at, log_at};
 
 use crate::event::Event;

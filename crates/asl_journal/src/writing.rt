@@ -4,7 +4,8 @@ ghost use Rattle.asl_code.specs.Spelling.{IsValue};
 ghost use Rattle.asl_code.specs.declared.value.Value.{Value};
 ghost use Rattle.asl_machine.specs.declared.fault.Fault.{Fault};
 ghost use Rattle.asl_machine.specs.declared.reply.Reply.{Reply};
-ghost use Rattle.asl_loader.specs.Writing.{Writes, WritesEach};
+ghost use Rattle.asl_loader.specs.Parts.{Writes};
+ghost use Rattle.asl_loader.specs.Writing.{WritesEach};
 ghost use Rattle.asl_journal.specs.declared.event.Event.{Event};
 ghost use Rattle.asl_journal.specs.Bytes.{four, value_fields, fault_fields, reply_fields, event_fields, IsFault, IsReply, SpellsLog};
 

@@ -1,8 +1,8 @@
 -- Machinery of the proofs, not of the promise to users: reading an image from front to back, to the first field that is
 -- cut or bad, computed (docs/BYTES.md, "Images"). The lemmas of proofs/ lead from here to the relations of specs/Bytes and
--- specs/Faults, which the calls for images cite; those of src/parts, for crates with formats of their own, cite this file.
-use Rattle.std.specs.Prelude.{◌≡◌, ◌⊎◌, ℕ, zero, suc, ◌-◌, Bool, false, IsTrue, nat_lt, ◌==◌, if◌then◌else◌, List, [], ◌∷◌, length, take, drop, Option, Some, None, Result, Ok, Err}
-use Rattle.std.specs.Int.{Width, w16, w32, byte_len, from_be_bytes}
+-- specs/Faults, which the calls for images cite.
+use Rattle.std.specs.Prelude.{◌≡◌, ◌⊎◌, ℕ, zero, suc, ◌-◌, Bool, false, IsTrue, nat_lt, ◌==◌, if◌then◌else◌, List, [], ◌∷◌, length, take, drop, Option, Result, Ok, Err}
+use Rattle.std.specs.Int.{w16}
 use Rattle.asl_code.specs.declared.fault.VerifyFault.TheVariants.{Limit}
 use Rattle.asl_code.specs.declared.image.Function.{Function}
 use Rattle.asl_code.specs.declared.image.Image.{Image}
@@ -14,32 +14,15 @@ use Rattle.asl_code.specs.declared.lock.Lock.TheVariants as lock
 use Rattle.asl_code.specs.declared.path.Op.{Op}
 use Rattle.asl_code.specs.declared.path.Op.TheVariants.{Deref, Off}
 use Rattle.asl_code.specs.declared.value.Effect.{Effect}
-use Rattle.asl_code.specs.declared.value.Effect.TheVariants.{Read, Write}
 use Rattle.asl_code.specs.Reading.{instr_of}
-use Rattle.asl_code.specs.Versions.{is_version}
 use Rattle.asl_loader.specs.Faults.{are_short}
+use Rattle.asl_loader.specs.Parts.{◌>>=◌, IsKept, byte_at, number_at, below_at, letters_at, version_at, effect_at}
 use Rattle.asl_loader.specs.declared.fault.LoadFault.{LoadFault}
 use Rattle.asl_loader.specs.declared.fault.LoadFault.TheVariants.{Magic, Version, Truncated, BadField, Trailing, Verify, OutOfMemory}
 use Rattle.asl_loader.specs.declared.fault.Lost.{Lost}
 use Rattle.asl_loader.specs.declared.fault.Lost.TheVariants.{Long, Memory}
 use Rattle.asl_loader.specs.declared.fault.Stop.{Stop}
 use Rattle.asl_loader.specs.declared.fault.Stop.TheVariants.{Short, Bad}
-
--- A reader answers a value and the bytes after it, or what stopped it. One goes on where the other ended.
-infixl 10 ◌>>=◌
-abbrev pub ◌>>=◌ : {A B : Type 0} → Result A Stop → (A → Result B Stop) → Result B Stop
-(Ok x) >>= f = f x
-(Err e) >>= f = Err e
-
--- what a function returned, seen by view, is what reading gives
-abbrev pub Gives : {X Y : Type 0} → (X → Y) → Result X Stop → Result Y Stop → Type 0
-Gives view (Ok x) read = read ≡ Ok (view x)
-Gives view (Err stop) read = read ≡ Err stop
-
--- what was kept of a thing that was read is the thing: all of it, or nothing where memory was refused
-abbrev pub IsKept : {X : Type 0} → Option X → X → Type 0
-IsKept None x = Unit {0}
-IsKept (Some kept) x = kept ≡ x
 
 -- what a function returned is what reading gives, of which it kept what it found memory for
 abbrev pub Keeps : {X Y : Type 0} → (X → Option Y) → (X → List ℕ) → Result X Stop → Result (Y × List ℕ) Stop → Type 0
@@ -57,37 +40,6 @@ abbrev pub Holds : {X Y : Type 0} → (Y → Bool) → (X → Result Y Lost) →
 Holds {Y = Y} short kept rest (Ok x) read = (whole : Y) × IsHeld (short whole) (kept x) whole × (read ≡ Ok (whole, rest x))
 Holds short kept rest (Err stop) read = read ≡ Err stop
 
--- a byte
-unfoldable pub byte_at : List ℕ → Result (ℕ × List ℕ) Stop
-byte_at [] = Err Short
-byte_at (b ∷ rest) = Ok (b, rest)
-
--- a number of so many bytes
-abbrev pub number_at : Width → List ℕ → Result (ℕ × List ℕ) Stop
-number_at w bytes = if nat_lt (length bytes) (byte_len w) then Err Short else Ok (from_be_bytes w (take (byte_len w) bytes), drop (byte_len w) bytes)
-
--- what was read of the bytes, if it passes the test, or else a bad field at their front
-abbrev pub passed : {X : Type 0} → Bool → X → List ℕ → Result X Stop
-passed ok x bytes = if ok then Ok x else Err (Bad (length bytes))
-
--- a byte below a limit
-unfoldable pub below_at : ℕ → List ℕ → Result (ℕ × List ℕ) Stop
-below_at limit bytes = do
-  n ← byte_at bytes
-  passed (nat_lt n.0 limit) n bytes
-
--- these four letters, as a number
-unfoldable pub letters_at : ℕ → List ℕ → Result (ℕ × List ℕ) Stop
-letters_at letters bytes = do
-  n ← number_at w32 bytes
-  passed (n.0 == letters) n bytes
-
--- the version
-unfoldable pub version_at : List ℕ → Result (ℕ × List ℕ) Stop
-version_at bytes = do
-  n ← number_at w16 bytes
-  passed (is_version n.0) n bytes
-
 -- an instruction of eight bytes, or the place of their first bad field
 abbrev pub judged : {X : Type 0} → ℕ → List ℕ → Result X ℕ → Result (X × List ℕ) Stop
 judged len rest (Ok x) = Ok (x, rest)
@@ -104,17 +56,6 @@ function_at bytes = do
   regs ← byte_at params.1
   len ← number_at w16 regs.1
   Ok (record { params = params.0; regs = regs.0; len = len.0 }, len.1)
-
--- the effect of a byte
-abbrev pub effect_of : ℕ → Effect
-effect_of zero = Read
-effect_of (suc n) = Write
-
--- an effect
-unfoldable pub effect_at : List ℕ → Result (Effect × List ℕ) Stop
-effect_at bytes = do
-  n ← below_at 2 bytes
-  Ok (effect_of n.0, n.1)
 
 -- the operation of a kind
 abbrev pub op_of : ℕ → List ℕ → Result (Op × List ℕ) Stop

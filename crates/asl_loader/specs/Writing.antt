@@ -1,15 +1,10 @@
 -- Machinery of the proofs, not of the promise to users: what the writers of src/ add to the bytes before (docs/BYTES.md,
--- "Images"). The writers of src/parts, for crates with formats of their own, cite this file.
+-- "Images").
 use Rattle.std.specs.Prelude.{◌≡◌, ℕ, ◌<◌, ◌^◌, List, ◌++◌, length}
 use Rattle.std.specs.List.{flat_map, AllByRecursion}
 use Rattle.asl_code.specs.declared.image.Image.{Image}
 use Rattle.asl_code.specs.Versions.{IsVersion}
 use Rattle.asl_loader.specs.Bytes.{Field, text_of}
-
--- the new bytes are the old ones with those of the thing, which has such fields
-pub record Writes (X : Type 0) (Is : X → Type 0) (fields_of : X → List Field) (old new : List ℕ) (x : X) : Type 0 where
-  pub is : Is x
-  pub added : new ≡ old ++ text_of (fields_of x)
 
 -- the same of several things, one after the other
 pub record WritesEach (X : Type 0) (Is : X → Type 0) (fields_of : X → List Field) (old new : List ℕ) (xs : List X) : Type 0 where

@@ -7,8 +7,7 @@ ghost use Rattle.std.specs.Prelude.{◌≡◌, ◌<◌, ◌^◌, ℕ, List, [], 
 ghost use Rattle.std.specs.Int.{w16, w32};
 ghost use Rattle.asl_code.specs.declared.value.Effect.{Effect};
 ghost use Rattle.asl_loader.specs.Bytes.{one, two, effect_field};
-ghost use Rattle.asl_loader.specs.Reading.{Gives, IsKept, byte_at, number_at, below_at, letters_at, version_at, effect_at};
-ghost use Rattle.asl_loader.specs.Writing.{Writes};
+ghost use Rattle.asl_loader.specs.Parts.{Gives, IsKept, Writes, byte_at, number_at, below_at, letters_at, version_at, effect_at};
 
 use crate::fault::Stop;
 use asl_code::{Effect, Items, is_version};
@@ -26,7 +25,7 @@ pub fn bad(bytes: &[u8]) -> Stop
 /// # Errors
 ///
 /// `Stop::Short` where there is none.
-#[tactic(auto, unfolding(crate::specs::Reading::byte_at))]
+#[tactic(auto, unfolding(crate::specs::Parts::byte_at))]
 pub fn byte_at(bytes: &[u8]) -> Result<(u8, &[u8]), Stop>
     ensures { Gives (λ x. (x.0, x.1.now)) result (byte_at bytes.now) }
 {
@@ -72,7 +71,7 @@ pub fn four_at(bytes: &[u8]) -> Result<(u32, &[u8]), Stop>
 /// # Errors
 ///
 /// `Stop::Short` where the bytes end before it does; `Stop::Bad`, with how many bytes are left at its front, for other bytes.
-#[tactic(auto, unfolding(crate::specs::Reading::letters_at))]
+#[tactic(auto, unfolding(crate::specs::Parts::letters_at))]
 pub fn letters_at(letters: u32, bytes: &[u8]) -> Result<(u32, &[u8]), Stop>
     ensures { Gives (λ x. (x.0, x.1.now)) result (letters_at letters bytes.now) }
 {
@@ -89,7 +88,7 @@ pub fn letters_at(letters: u32, bytes: &[u8]) -> Result<(u32, &[u8]), Stop>
 /// # Errors
 ///
 /// `Stop::Short` where the bytes end before it does; `Stop::Bad`, with how many bytes are left at its front, for another.
-#[tactic(auto, unfolding(crate::specs::Reading::version_at))]
+#[tactic(auto, unfolding(crate::specs::Parts::version_at))]
 pub fn version_at(bytes: &[u8]) -> Result<(u16, &[u8]), Stop>
     ensures { Gives (λ x. (x.0, x.1.now)) result (version_at bytes.now) }
 {
@@ -106,7 +105,7 @@ pub fn version_at(bytes: &[u8]) -> Result<(u16, &[u8]), Stop>
 /// # Errors
 ///
 /// `Stop::Short` where there is none; `Stop::Bad`, with how many bytes are left at its front, for another.
-#[tactic(auto, unfolding(crate::specs::Reading::below_at))]
+#[tactic(auto, unfolding(crate::specs::Parts::below_at))]
 pub fn below_at(limit: u32, bytes: &[u8]) -> Result<(u8, &[u8]), Stop>
     ensures read { Gives (λ x. (x.0, x.1.now)) result (below_at limit bytes.now) }
     ensures below { IfOk result (λ x. x.0 < limit) }
@@ -124,7 +123,7 @@ pub fn below_at(limit: u32, bytes: &[u8]) -> Result<(u8, &[u8]), Stop>
 /// # Errors
 ///
 /// `Stop::Short` where there is none; `Stop::Bad`, with how many bytes are left at its front, for another byte.
-#[tactic(auto, unfolding(crate::specs::Reading::effect_at))]
+#[tactic(auto, unfolding(crate::specs::Parts::effect_at))]
 pub fn effect_at(bytes: &[u8]) -> Result<(Effect, &[u8]), Stop>
     ensures { Gives (λ x. (x.0, x.1.now)) result (effect_at bytes.now) }
 {

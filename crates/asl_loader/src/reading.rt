@@ -9,7 +9,8 @@ ghost use Rattle.asl_code.specs.declared.instr.Instr.{Instr};
 ghost use Rattle.asl_code.specs.declared.lock.Lock.{Lock};
 ghost use Rattle.asl_code.specs.declared.value.Effect.{Effect};
 ghost use Rattle.asl_loader.specs.Faults.{is_short, are_short};
-ghost use Rattle.asl_loader.specs.Reading.{Gives, Keeps, Holds, IsKept, IsHeld, byte_at, number_at, instr_at};
+ghost use Rattle.asl_loader.specs.Parts.{Gives, IsKept, byte_at, number_at};
+ghost use Rattle.asl_loader.specs.Reading.{Keeps, Holds, IsHeld, instr_at};
 ghost use Rattle.asl_loader.specs.Reading.{function_at, op_at, items_at, counted_at, path_at, expr_at, lock_of};
 ghost use Rattle.asl_loader.specs.Reading.{lock_at, list_at, image_at};
 

@@ -1,6 +1,7 @@
 use Rattle.std.proofs.Common.{Some}
 use Rattle.std.proofs.lemmas.Result.{err_from_is_err_and}
-use Rattle.asl_loader.specs.Reading.{IsKept, items_at}
+use Rattle.asl_loader.specs.Parts.{IsKept}
+use Rattle.asl_loader.specs.Reading.{items_at}
 use Rattle.asl_loader.proofs.Loop.{kept_first, kept_more, kept_all, kept_ends}
 use Rattle.asl_journal.specs.declared.event.Event.{Event}
 use Rattle.asl_journal.specs.Reading.{event_at}

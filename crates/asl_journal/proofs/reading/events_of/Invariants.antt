@@ -1,4 +1,5 @@
-use Rattle.asl_loader.specs.Reading.{IsKept, items_at}
+use Rattle.asl_loader.specs.Parts.{IsKept}
+use Rattle.asl_loader.specs.Reading.{items_at}
 use Rattle.asl_loader.proofs.Loop.{Kept}
 use Rattle.asl_journal.specs.declared.event.Event.{Event}
 use Rattle.asl_journal.specs.Reading.{event_at}

@@ -1,7 +1,8 @@
 use Rattle.std.proofs.Common.{ℕ, Some}
 use Rattle.std.proofs.lemmas.Result.{err_from_is_err_and}
 use Rattle.std.specs.Int.{w16}
-use Rattle.asl_loader.specs.Reading.{IsKept, items_at, number_at}
+use Rattle.asl_loader.specs.Parts.{IsKept, number_at}
+use Rattle.asl_loader.specs.Reading.{items_at}
 use Rattle.asl_loader.proofs.Loop.{kept_first, kept_more, kept_all, kept_ends}
 use Rattle.asl_loader.proofs.reading.classes_of.Goals as goal
 

@@ -1,6 +1,7 @@
 use Rattle.std.proofs.Common.{ℕ}
 use Rattle.std.specs.Int.{w16}
-use Rattle.asl_loader.specs.Reading.{IsKept, items_at, number_at}
+use Rattle.asl_loader.specs.Parts.{IsKept, number_at}
+use Rattle.asl_loader.specs.Reading.{items_at}
 use Rattle.asl_loader.proofs.Loop.{Kept}
 use Rattle.asl_loader.proofs.reading.classes_of.Given as goal
 

@@ -1,7 +1,8 @@
 use Rattle.std.proofs.Common.{Some}
 use Rattle.std.proofs.lemmas.Result.{err_from_is_err_and}
 use Rattle.asl_code.specs.declared.instr.Instr.{Instr}
-use Rattle.asl_loader.specs.Reading.{IsKept, items_at, instr_at}
+use Rattle.asl_loader.specs.Parts.{IsKept}
+use Rattle.asl_loader.specs.Reading.{items_at, instr_at}
 use Rattle.asl_loader.proofs.Loop.{kept_first, kept_more, kept_all, kept_ends}
 use Rattle.asl_loader.proofs.reading.code_of.Goals as goal
 

@@ -1,5 +1,6 @@
 use Rattle.asl_code.specs.declared.instr.Instr.{Instr}
-use Rattle.asl_loader.specs.Reading.{IsKept, items_at, instr_at}
+use Rattle.asl_loader.specs.Parts.{IsKept}
+use Rattle.asl_loader.specs.Reading.{items_at, instr_at}
 use Rattle.asl_loader.proofs.Loop.{Kept}
 use Rattle.asl_loader.proofs.reading.code_of.Given as goal
 
