@@ -11,12 +11,13 @@ use Rattle.asl_machine.specs.State.{State}
 use Rattle.asl_machine.specs.View.{Configuration}
 use Rattle.asl_machine.specs.Run.{state_after}
 use Rattle.asl_machine.specs.StepFunction.{step_of}
+use Rattle.asl_machine.specs.WellFormed.{MayWantMemory}
 use Rattle.asl_machine.proofs.Reached.{step_count}
 use Rattle.asl_journal.specs.declared.event.Event.{Event}
 use Rattle.asl_journal.specs.declared.fault.JournalFault.{JournalFault}
 use Rattle.asl_journal.specs.declared.fault.JournalFault.TheVariants as faults
 use Rattle.asl_journal.specs.Journal.{GoesBy, schedule_of}
-use Rattle.asl_journal.specs.Replay.{DiffersAt, IsFollowFault}
+use Rattle.asl_journal.specs.Replay.{DiffersAt, IsFollowFault, MayStopAt}
 use Rattle.asl_journal.proofs.Runs.{state_snoc, goes_snoc, goes_back, goes_head}
 
 -- the machine has made the steps of the first events, so many, and each replied as it says
@@ -66,6 +67,18 @@ one_differs from now events index d reply lt h said other =
       at = slice_get-get_or events index d lt;
       before = h.goes;
       differs = λ e. other (said ∙ ap (λ r. r.reply) here ∙ sym e);
+    }
+
+-- where the step of the next event may want memory
+pub may_stop : (from now : Configuration) (events : List Event) (index : ℕ) (d : Event) → index < length events → HasFollowed from now events index
+    → MayWantMemory now.image now.state (get_or events index d).thread → MayStopAt from.image from.state events index
+may_stop from now events index d lt h wants =
+    let event : Event = get_or events index d in
+    record {
+      event = event;
+      at = slice_get-get_or events index d lt;
+      before = h.goes;
+      wants = subst (λ (s : State). MayWantMemory from.image s event.thread) h.state (subst (λ (i : Image). MayWantMemory i now.state event.thread) h.image wants);
     }
 
 -- events of a run differ from it nowhere

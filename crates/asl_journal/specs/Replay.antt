@@ -5,6 +5,7 @@ use Rattle.asl_code.specs.declared.image.Image.{Image}
 use Rattle.asl_machine.specs.State.{State}
 use Rattle.asl_machine.specs.Run.{start_of, state_after}
 use Rattle.asl_machine.specs.StepFunction.{step_of}
+use Rattle.asl_machine.specs.WellFormed.{MayWantMemory}
 use Rattle.asl_journal.specs.declared.event.Event.{Event}
 use Rattle.asl_journal.specs.declared.fault.JournalFault.{JournalFault}
 use Rattle.asl_journal.specs.declared.fault.JournalFault.TheVariants.{BadCount, Differs, OutOfMemory}
@@ -17,6 +18,14 @@ pub record DiffersAt (image : Image) (s : State) (events : List Event) (index : 
   pub at : slice_get events index ≡ Some event
   pub before : GoesBy image s (take index events)
   pub differs : event.reply ≢ (step_of image (state_after image s (schedule_of (take index events))) event.thread).reply
+
+-- the events before some event are of the program's run from the state on, and its step may want memory: that it, or a later
+-- one, differs is then not known
+pub record MayStopAt (image : Image) (s : State) (events : List Event) (index : ℕ) : Type 0 where
+  pub event : Event
+  pub at : slice_get events index ≡ Some event
+  pub before : GoesBy image s (take index events)
+  pub wants : MayWantMemory image (state_after image s (schedule_of (take index events))) event.thread
 
 -- why events were not followed: the first that differs, or want of memory
 abbrev pub IsFollowFault : Image → State → List Event → JournalFault → Type 0

@@ -1,8 +1,8 @@
 //! Replay: the steps of a journal, made again.
-ghost use Rattle.std.specs.Prelude.{◌≡◌, ◌≢◌, ◌≤◌, length, IfOk, IfErr, MatchBool, OnOk};
+ghost use Rattle.std.specs.Prelude.{◌≡◌, ◌≢◌, ◌≤◌, ℕ, length, IfOk, IfErr, IsErrOf, MatchBool, OnOk};
 ghost use Rattle.asl_machine.specs.Run.{state_after};
 ghost use Rattle.asl_journal.specs.Journal.{AreThere, GoesBy, IsJournal, most_events, schedule_of, state_at};
-ghost use Rattle.asl_journal.specs.Replay.{IsFollowFault, IsReplayFault};
+ghost use Rattle.asl_journal.specs.Replay.{IsFollowFault, IsReplayFault, MayStopAt};
 
 use crate::event::Event;
 use crate::fault::JournalFault;
@@ -63,7 +63,8 @@ pub fn follow<'p>(
     run_on(alloc, machine, events)
 }
 
-/// The machine behind the events, each of which replies as it says.
+/// The machine after the events, each of which replies as it says. Memory hides no event that differs and whose step takes none:
+/// it runs out only at an event whose step may want it, and those before it do not differ.
 fn run_on<'p>(
     alloc: Global,
     mut machine: Machine<'p>,
@@ -77,6 +78,8 @@ fn run_on<'p>(
       state = state_after machine.entry.image machine.entry.state (schedule_of events.now);
     }) }
     ensures refused { IfErr result (λ fault. IsFollowFault machine.entry.image machine.entry.state events.now fault) }
+    ensures memory { IsErrOf result JournalFault.OutOfMemory
+        → (index : ℕ) × MayStopAt machine.entry.image machine.entry.state events.now index }
 {
     for (index, event) in events.iter().enumerate() {
         let reply = machine.step(alloc, u32::from(event.thread))?;

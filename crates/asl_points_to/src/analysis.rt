@@ -1,15 +1,16 @@
 //! The classes of a program.
 
-ghost use Rattle.std.specs.Prelude.{◌≡◌, ◌+◌, ◌≤◌, IfOk, IfErr};
+ghost use Rattle.std.specs.Prelude.{◌≡◌, ◌↔◌, ◌+◌, ◌<◌, ◌≤◌, length, IfOk, IfErr, IsErrOf, OnOk};
 ghost use Rattle.asl_lower.specs.Kept.{IsKept};
 ghost use Rattle.asl_points_to.specs.Classes.{AreClasses};
 ghost use Rattle.asl_points_to.specs.Refused.{IsRefused};
-ghost use Rattle.asl_points_to.specs.Found.{IsSettled};
+ghost use Rattle.asl_points_to.specs.Found.{IsSettled, IsNumbering};
+ghost use Rattle.asl_points_to.specs.Numbers.{AreNumbers};
 
 use crate::draft::Draft;
 use crate::fault::ClassesFault;
 use crate::flows::program_flows;
-use crate::numbers::number_classes;
+use crate::numbers::{Numbers, number_classes};
 use crate::settle::settle;
 use crate::table::Classes;
 use asl_code::limits::CLASSES;
@@ -37,6 +38,25 @@ fn settled(alloc: Global, lowering: &Lowering) -> Result<Draft, AllocError>
     Ok(draft)
 }
 
+/// The classes of a settled draft, with numbers for them. That they are too many is found without memory.
+fn numbered(
+    alloc: Global,
+    lowering: &Lowering,
+    draft: &Draft,
+    numbers: &Numbers,
+) -> Result<Classes, ClassesFault>
+    requires draft { IsSettled lowering.now draft.now }
+    requires numbers { AreNumbers draft.now.sets numbers.now.of.items numbers.now.firsts.items }
+    ensures classes { IfOk result (IsNumbering lowering.now draft.now numbers.now.of.items numbers.now.firsts.items) }
+    ensures few { OnOk result (length numbers.now.firsts.items ≤ 1024) }
+    ensures many { IsErrOf result ClassesFault.TooManyClasses ↔ (1024 < length numbers.now.firsts.items) }
+{
+    if numbers.firsts.len() > MAX_CLASSES {
+        return Err(ClassesFault::TooManyClasses);
+    }
+    Ok(Classes::numbered(alloc, lowering, draft, numbers)?)
+}
+
 /// The classes of a program: the least legal ones, numbered by their first members, globals before sites.
 ///
 /// # Errors
@@ -49,8 +69,5 @@ pub fn classes(alloc: Global, lowering: &Lowering) -> Result<Classes, ClassesFau
 {
     let mut draft = settled(alloc, lowering)?;
     let numbers = number_classes(alloc, &mut draft.sets, members(lowering))?;
-    if numbers.firsts.len() > MAX_CLASSES {
-        return Err(ClassesFault::TooManyClasses);
-    }
-    Ok(Classes::numbered(alloc, lowering, &draft, &numbers)?)
+    numbered(alloc, lowering, &draft, &numbers)
 }
