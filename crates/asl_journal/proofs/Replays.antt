@@ -69,7 +69,7 @@ one_differs from now events index d reply lt h said other =
       differs = λ e. other (said ∙ ap (λ r. r.reply) here ∙ sym e);
     }
 
--- where the step of the next event may need memory
+-- where the step of the next event may want memory
 pub may_stop : (from now : Configuration) (events : List Event) (index : ℕ) (d : Event) → index < length events → HasFollowed from now events index
     → MayWantMemory now.image now.state (get_or events index d).thread → MayStopAt from.image from.state events index
 may_stop from now events index d lt h wants =
@@ -90,7 +90,7 @@ no_difference image s events index goes d =
     let front : drop index events ≡ d.event ∷ drop (suc index) events = drop-cons events index d.event lt ∙ ap (λ (e : Event). e ∷ drop (suc index) events) (get_or_from_slice_get events index d.event d.event d.at) in
     d.differs (goes_head image (state_after image s (schedule_of (take index events))) d.event (drop (suc index) events) (subst (GoesBy image (state_after image s (schedule_of (take index events)))) front rest))
 
--- what stops a replay of a run is running out of memory
+-- what stops a replay of a run is want of memory
 pub only_memory : {T : Type 0} (image : Image) (s : State) (events : List Event) (r : Result T JournalFault) → GoesBy image s events → IfErr r (IsFollowFault image s events) → IfErr r (λ fault. fault ≡ faults.OutOfMemory)
 only_memory image s events (Ok t) goes is = tt
 only_memory image s events (Err faults.JournalFull) goes is = absurd is

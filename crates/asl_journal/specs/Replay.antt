@@ -19,7 +19,7 @@ pub record DiffersAt (image : Image) (s : State) (events : List Event) (index : 
   pub before : GoesBy image s (take index events)
   pub differs : event.reply ≢ (step_of image (state_after image s (schedule_of (take index events))) event.thread).reply
 
--- the events before some event are of the program's run from the state on, and its step may need memory: that it, or a later
+-- the events before some event are of the program's run from the state on, and its step may want memory: that it, or a later
 -- one, differs is then not known
 pub record MayStopAt (image : Image) (s : State) (events : List Event) (index : ℕ) : Type 0 where
   pub event : Event
@@ -27,7 +27,7 @@ pub record MayStopAt (image : Image) (s : State) (events : List Event) (index : 
   pub before : GoesBy image s (take index events)
   pub wants : MayWantMemory image (state_after image s (schedule_of (take index events))) event.thread
 
--- why events were not followed: the first that differs, or running out of memory
+-- why events were not followed: the first that differs, or want of memory
 abbrev pub IsFollowFault : Image → State → List Event → JournalFault → Type 0
 IsFollowFault image s events (Differs index) = DiffersAt image s events index
 IsFollowFault image s events OutOfMemory = Unit {0}

@@ -68,7 +68,7 @@ impl Forest {
     ///
     /// # Errors
     ///
-    /// An allocation failed.
+    /// A growth was refused.
     pub fn new(alloc: Global, classes: u32, threads: u32) -> Result<Self, AllocError>
         requires some_threads { 1 ≤ threads }
         requires few_threads { threads ≤ newest_threads }
@@ -90,7 +90,7 @@ impl Forest {
     ///
     /// # Errors
     ///
-    /// An allocation failed.
+    /// A growth was refused.
     pub fn try_copy(&self, alloc: Global) -> Result<Self, AllocError>
         ensures { IfOk result (λ forest. forest ≡ self.now) }
     {
@@ -106,7 +106,7 @@ impl Forest {
     ///
     /// # Errors
     ///
-    /// An allocation failed, something is asked, and no other thread is in the way. Then nothing is granted.
+    /// A growth was refused, something is asked, and no other thread is in the way. Then nothing is granted.
     pub fn try_acquire(&mut self, thread: u32, request: &[(Node, Mode)]) -> Result<bool, AllocError>
         requires thread_there { thread < self.old.threads }
         requires nothing_held { HoldsNothing self.old.holding thread }
@@ -147,7 +147,7 @@ impl Forest {
     ///
     /// # Errors
     ///
-    /// An allocation failed, and something is asked. Then nothing is granted.
+    /// A growth was refused, and something is asked. Then nothing is granted.
     pub fn grant(&mut self, thread: u32, request: &[(Node, Mode)]) -> Result<(), AllocError>
         requires thread_there { thread < self.old.threads }
         requires nothing_held { HoldsNothing self.old.holding thread }

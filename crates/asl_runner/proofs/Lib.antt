@@ -3,4 +3,5 @@ mod Workers
 mod Joins
 mod Sizes
 mod Ends
+mod NoneBehind
 mod Promises

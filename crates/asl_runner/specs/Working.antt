@@ -31,19 +31,10 @@ pub record HasStopped (word : Word) (count workers worker : ℕ) (seat : Turn) (
   pub last : AreEndsLast receipts
   pub why : (0 < seat.spent) ⊎ AllTold count workers worker receipts
 
--- a worker to which a growth was refused: its pass is left, so it has not found the limit, and some thread of it goes on
-pub record WasRefused (word : Word) (count workers worker : ℕ) (seat : Turn) (receipts : List Receipt) : Type 0 where
-  pub pass : HasPass word seat
-  pub unspent : seat.spent ≡ 0
-  pub thread : ℕ
-  pub mine : IsMine count workers worker thread
-  pub untold : ¬ IsToldEnded receipts thread
-
--- what a worker leaves: its seat with its pass, and what it knows when it stops, or when a growth was refused to it
+-- what a worker leaves: its seat with its pass, and, where nothing was refused to it, what it knows when it stops
 pub record HasLeft (word : Word) (count workers worker : ℕ) (seat : Turn) (receipts : List Receipt) (refused : Bool) : Type 0 where
   pub pass : HasPass word seat
   pub stopped : refused ≡ false → HasStopped word count workers worker seat receipts
-  pub wanted : refused ≡ true → WasRefused word count workers worker seat receipts
 
 -- workers that have been joined, the first ones, with nothing refused to any: as many receipts as tickets, no receipt of a
 -- thread behind one that says that it has ended, and each has all its threads told ended, or a pass is spent

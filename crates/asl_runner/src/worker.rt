@@ -131,19 +131,18 @@ fn note_end(going: &mut [bool; MAX_THREADS], receipt: &Receipt)
     }
 }
 
-/// What the step of the thread answered. Where the journal is full, or the thread had ended, it is a receipt that no journal
-/// has, and the thread goes on no more.
+/// What the step of the thread answered. A journal that is full gives a receipt that no journal has.
 fn stepped<R: Wait, S: Steps>(rt: &R, alloc: Global, steps: &S, thread: u8) -> Option<Receipt>
     requires { thread < S.count }
     ensures { MatchOption result (Unit {0}) (λ receipt. receipt.thread ≡ thread) }
 {
     match steps.step_one(rt, alloc, thread) {
         Ok(receipt) => Some(receipt),
-        Err(JournalFault::JournalFull | JournalFault::BadThread) => Some(Receipt {
+        Err(JournalFault::JournalFull) => Some(Receipt {
             index: NO_ENTRY,
             thread,
-            reply: Reply::Ended,
-            ended: true,
+            reply: Reply::Blocked,
+            ended: false,
         }),
         Err(_) => None,
     }

@@ -13,7 +13,6 @@ returns-clause-run g c =
     record {
       threads = c.into_parts-journal.ensures.threads ∙ sym c.requires.named.1;
       journal = rw (c.requires.image, c.requires.named.1) (c.into_parts-journal.ensures.journal);
-      running = c.into_parts-journal.ensures.running;
       machine = rw (c.requires.image, c.requires.named.1) (c.into_parts-journal.ensures.machine);
       dealers = length-map c.in_ok-gathered.gathered.receipts.items (λ mine. mine.items) ∙ length_is ∙ c.in_ok-gathered.ensures.receipts ∙ workers;
       receipts = joined.drawn ∙ c.finish-tickets.ensures.count;
