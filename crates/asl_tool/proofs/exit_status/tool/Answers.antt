@@ -29,4 +29,4 @@ returns-in-Ok-WrongUsage-clause-status g c =
 pub returns-in-Ok-Version-clause-status : goal.returns-in-Ok-Version-clause-status
 returns-in-Ok-Version-clause-status g c =
     let asks = subst (AsksFor (map string_bytes c.args.words.now)) c.in-Ok-Version.field-0-is c.in-Ok-Version.ensures in
-    record { invocation = Some Version; is_asked = asks; is_status = (refl, c.shown.ensures.status) }
+    record { invocation = Some Version; is_asked = asks; is_status = (refl, c.shown-in-Ok-Version.ensures.status) }

@@ -5,7 +5,7 @@ use Rattle.asl_tool.proofs.logging.traced.Goals as goal
 
 pub loop-number-init : goal.loop-number-init
 loop-number-init c =
-    subst (HasTraced c.args.program.now c.args.threads c.args.events.now c.in_ok-machine.machine 0) (sym c.new.ensures.bytes)
+    subst (HasTraced c.args.program.now c.args.threads c.args.events.now c.in_ok-machine.machine 0) (sym c.new-text.ensures.bytes)
     (none_traced c.args.program.now c.args.threads c.args.events.now c.in_ok-machine.machine c.in_ok-machine.ensures.image c.in_ok-machine.ensures.start)
 
 pub push_trace_line-requires : goal.push_trace_line-requires
