@@ -1,0 +1,9 @@
+mod Programs
+mod Runs
+mod Positions
+mod Surely
+mod Numbering
+mod Finest
+mod Storing
+mod Listing
+mod Existing

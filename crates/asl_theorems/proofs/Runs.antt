@@ -1,0 +1,120 @@
+-- A journal is a run by the table, and every schedule has one.
+use Rattle.std.proofs.Common.{◌≡◌, ℕ, ◌<◌, List, [], ◌∷◌, Some, None, length, slice_get, refl, ap, ap₂, sym, ◌∙◌, subst}
+use Rattle.std.specs.Prelude.{All}
+use Rattle.std.proofs.lemmas.Option.{slice_get_within}
+use Rattle.std.proofs.lemmas.List.Elements.{All-nil, All-cons, All-head, All-tail}
+use Rattle.asl_code.specs.declared.image.Image.{Image}
+use Rattle.asl_code.specs.Fits.{FitsImage}
+use Rattle.asl_machine.specs.declared.reply.Reply.{Reply}
+use Rattle.asl_machine.specs.State.{State}
+use Rattle.asl_machine.specs.Run.{IsThreadCount, IsReached, start_of, state_after, RunsBy}
+use Rattle.asl_machine.specs.Step.{StepOf, Step}
+use Rattle.asl_machine.specs.StepFunction.{step_of}
+use Rattle.asl_machine.proofs.Reached.{reached_sound, reached_count}
+use Rattle.asl_machine.proofs.Runs.{step_reached}
+use Rattle.asl_machine.proofs.Table.{step_is}
+use Rattle.asl_machine.proofs.Unique.{step_only}
+use Rattle.asl_journal.specs.declared.event.Event.{Event}
+use Rattle.asl_journal.specs.Journal.{AreThere, GoesBy, IsJournal, schedule_of, replies_in}
+use Rattle.asl_journal.proofs.Runs.{goes_head, goes_tail, goes_cons}
+use Rattle.asl_atomicity.specs.Serial.{TakenStep, IsRun}
+use Rattle.asl_theorems.specs.Journals.{events_of}
+
+-- ---- a journal's steps are a run
+
+-- events from a state on, each with the state before it
+abbrev pub steps_from : Image → State → List Event → List TakenStep
+steps_from image s [] = []
+steps_from image s (event ∷ events) =
+    record { before = s; thread = event.thread; reply = event.reply } ∷ steps_from image (step_of image s event.thread).state events
+
+pub events_run : (image : Image) (count : ℕ) (events : List Event) (s : State) → FitsImage image → IsReached image count s → AreThere count events → GoesBy image s events →
+    IsRun image s (steps_from image s events) (state_after image s (schedule_of events))
+events_run image count [] s fits reached there goes = refl
+events_run image count (e ∷ es) s fits reached there goes =
+    let here = All-head (λ (x : Event). x.thread < count) e es there in
+    let next = (step_of image s e.thread).state in (
+      refl,
+      next,
+      subst (λ (r : Reply). Step image s e.thread r next) (sym (goes_head image s e es goes))
+          (step_is image s e.thread (reached_sound image count s fits reached) (subst (λ (n : ℕ). e.thread < n) (sym (reached_count image count s reached)) here)),
+      events_run image count es next fits (step_reached image count s e.thread reached here) (All-tail (λ (x : Event). x.thread < count) e es there) (goes_tail image s e es goes),
+    )
+
+pub same_events : (image : Image) (events : List Event) (s : State) → events ≡ events_of (steps_from image s events)
+same_events image [] s = refl
+same_events image (e ∷ es) s = ap (λ (xs : List Event). e ∷ xs) (same_events image es (step_of image s e.thread).state)
+
+-- ---- a run is a journal's
+
+-- a step of the table is of a thread that is there
+step_there : (image : Image) (s : State) (t : ℕ) (r : Reply) (new : State) → Step image s t r new → t < length s.threads
+step_there image s t r new h =
+    elim (slice_get s.threads t) as (λ o. slice_get s.threads t ≡ o → StepOf image s t o r new → t < length s.threads) [
+      | None ↦ λ e k. absurd k
+      | Some thread ↦ λ e k. slice_get_within s.threads t thread e
+    ] refl h
+
+-- events that go by the table are of threads that are there, and go by the computed step
+pub record GoBy (image : Image) (count : ℕ) (s : State) (events : List Event) (end : State) : Type 0 where
+  pub there : AreThere count events
+  pub goes : GoesBy image s events
+  pub leads : end ≡ state_after image s (schedule_of events)
+
+pub table_go : (image : Image) (count : ℕ) (events : List Event) (s : State) (end : State) → FitsImage image → IsReached image count s → RunsBy image s (schedule_of events) (replies_in events) end →
+    GoBy image count s events end
+table_go image count [] s end fits reached e = record { there = All-nil (λ (x : Event). x.thread < count); goes = refl; leads = e }
+table_go image count (event ∷ events) s end fits reached e =
+    let only = step_only image s event.thread (reached_sound image count s fits reached) event.reply e.0 e.1 in
+    let here = subst (λ (n : ℕ). event.thread < n) (reached_count image count s reached) (step_there image s event.thread event.reply e.0 e.1) in
+    let next = (step_of image s event.thread).state in
+    let rest = table_go image count events next end fits (step_reached image count s event.thread reached here) (subst (λ (u : State). RunsBy image u (schedule_of events) (replies_in events) end) only.1 e.2) in
+    record {
+      there = All-cons (λ (x : Event). x.thread < count) event events here rest.there;
+      goes = goes_cons image s event events only.0 rest.goes;
+      leads = rest.leads;
+    }
+
+-- the events of steps that go by the table go by it
+pub steps_table : (image : Image) (steps : List TakenStep) (s : State) (end : State) → IsRun image s steps end → RunsBy image s (schedule_of (events_of steps)) (replies_in (events_of steps)) end
+steps_table image [] s end e = e
+steps_table image (step ∷ steps) s end e = (e.1, e.2, steps_table image steps e.1 end e.3)
+
+-- ---- every schedule has one journal
+
+abbrev pub events_on : Image → State → List ℕ → List Event
+events_on image s [] = []
+events_on image s (t ∷ ts) = record { thread = t; reply = (step_of image s t).reply } ∷ events_on image (step_of image s t).state ts
+
+goes_on : (image : Image) (schedule : List ℕ) (s : State) → GoesBy image s (events_on image s schedule)
+goes_on image [] s = refl
+goes_on image (t ∷ ts) s =
+    goes_cons image s (record { thread = t; reply = (step_of image s t).reply }) (events_on image (step_of image s t).state ts) refl (goes_on image ts (step_of image s t).state)
+
+pub same_schedule : (image : Image) (schedule : List ℕ) (s : State) → schedule_of (events_on image s schedule) ≡ schedule
+same_schedule image [] s = refl
+same_schedule image (t ∷ ts) s = ap (λ (us : List ℕ). t ∷ us) (same_schedule image ts (step_of image s t).state)
+
+there_on : (image : Image) (count : ℕ) (schedule : List ℕ) (s : State) → All (λ t. t < count) schedule → AreThere count (events_on image s schedule)
+there_on image count [] s there = All-nil (λ (x : Event). x.thread < count)
+there_on image count (t ∷ ts) s there =
+    All-cons (λ (x : Event). x.thread < count) (record { thread = t; reply = (step_of image s t).reply }) (events_on image (step_of image s t).state ts)
+    (All-head (λ u. u < count) t ts there) (there_on image count ts (step_of image s t).state (All-tail (λ u. u < count) t ts there))
+
+pub some_journal : (image : Image) (count : ℕ) (schedule : List ℕ) → IsThreadCount image count → All (λ t. t < count) schedule → IsJournal image count (events_on image (start_of image count) schedule)
+some_journal image count schedule counted there = record {
+  counted = counted;
+  there = there_on image count schedule (start_of image count) there;
+  replies = goes_on image schedule (start_of image count);
+}
+
+-- the replies of a journal are those of its schedule
+only_events : (image : Image) (events : List Event) (s : State) → GoesBy image s events → events ≡ events_on image s (schedule_of events)
+only_events image [] s goes = refl
+only_events image (e ∷ es) s goes =
+    ap₂ {C = List Event} (λ x xs. x ∷ xs) (ap (λ (r : Reply). record { thread = e.thread; reply = r }) (goes_head image s e es goes))
+    (only_events image es (step_of image s e.thread).state (goes_tail image s e es goes))
+
+pub one_journal : (image : Image) (count : ℕ) (events others : List Event) → IsJournal image count events → IsJournal image count others → schedule_of events ≡ schedule_of others → events ≡ others
+one_journal image count events others p q same =
+    only_events image events (start_of image count) p.replies ∙ ap (events_on image (start_of image count)) same ∙ sym (only_events image others (start_of image count) q.replies)

@@ -1,0 +1,157 @@
+//! The theorems: what holds of the programs that `asl compile` writes, and of the journals of their runs. Each is a law, the
+//! contract of a function that does nothing. Read them in order: first what the whole is for, then as the README tells it.
+#![tactic(auto)]
+
+ghost use Rattle.std.specs.Prelude.{◌≡◌, ◌≢◌, ◌<◌, ◌≤◌, ◌↔◌, ℕ, suc, Bool, List, [], All, Some, length, take, slice_get};
+ghost use Rattle.asl_code.specs.declared.image.Image.{Image};
+ghost use Rattle.asl_code.specs.declared.lock.Lock.{Lock};
+ghost use Rattle.asl_code.specs.Verified.{IsVerified};
+ghost use Rattle.asl_syntax.specs.Tree.{Item};
+ghost use Rattle.asl_syntax.specs.Parsed.{Parses};
+ghost use Rattle.asl_syntax.specs.Printed.{printed};
+ghost use Rattle.asl_lower.specs.declared.section.Section.{Section};
+ghost use Rattle.asl_lower.specs.Lowered.{Lowered, IsLowering};
+ghost use Rattle.asl_lower.specs.Kept.{IsKept};
+ghost use Rattle.asl_lower.specs.Regions.{Inside};
+ghost use Rattle.asl_points_to.specs.Classes.{Classed, AreClasses};
+ghost use Rattle.asl_lock_expr.specs.ClassOf.{TellsStores};
+ghost use Rattle.asl_backward_flow.specs.Needed.{Needed};
+ghost use Rattle.asl_machine.specs.declared.reply.Reply.TheVariants.{Blocked};
+ghost use Rattle.asl_machine.specs.State.{State};
+ghost use Rattle.asl_machine.specs.Run.{IsThreadCount, start_of};
+ghost use Rattle.asl_machine.specs.Fresh.{AreApart};
+ghost use Rattle.asl_machine.specs.World.{SomeoneGoesOn};
+ghost use Rattle.asl_emitter.specs.Inferred.{IsInferred, IsInferredFor};
+ghost use Rattle.asl_emitter.specs.Refused.{IsAccepted, IsRefused};
+ghost use Rattle.asl_emitter.specs.declared.fault.InferFault.{InferFault};
+ghost use Rattle.asl_emitter.specs.declared.fault.InferFault.TheVariants.{OutOfMemory};
+ghost use Rattle.asl_assembler.specs.Text.{Spells};
+ghost use Rattle.asl_assembler.specs.Canonical.{canonical_text};
+ghost use Rattle.asl_loader.specs.Bytes.{SpellsImage};
+ghost use Rattle.asl_journal.specs.declared.event.Event.{Event};
+ghost use Rattle.asl_journal.specs.Bytes.{SpellsLog};
+ghost use Rattle.asl_journal.specs.Journal.{Log, IsJournal, schedule_of, replies_in, state_at};
+ghost use Rattle.asl_soundness.specs.Safe.{IsSafe};
+ghost use Rattle.asl_atomicity.specs.Serial.{TakenStep, IsRun, HasSerial, MakesNoneInside};
+ghost use Rattle.asl_atomicity.specs.Renamed.{HasSerialUpTo, FindsRoomInside};
+ghost use Rattle.asl_theorems.specs.Compiled.{Compiles};
+ghost use Rattle.asl_theorems.specs.Journals.{LeadsTo, events_of};
+
+use asl_assembler::laws::texts_spell_one_image;
+use asl_journal::laws::journal_and_bytes_are_one;
+use asl_loader::laws::image_and_bytes_are_one;
+use asl_syntax::laws::{a_printed_tree_is_read_back, a_text_has_one_tree};
+
+/// The headline. No reply in any journal of a compiled program is a fault for a missing lock, for a section that was not
+/// entered, or for one that was left open: with any number of threads, in any order of their steps.
+pub fn no_compiled_program_faults_for_a_missing_lock()
+    ensures { (source : List ℕ) (longest : ℕ) (image : Image) (count : ℕ) (events : List Event) (end : State)
+        → Compiles source longest image → LeadsTo image count events end → All IsSafe (replies_in events) }
+{}
+
+/// 1. Files and texts. Reading undoes writing: what is spelled belongs to one value, and an image and a journal have one spelling.
+/// A source is printed as one that is read as the same tree, if it keeps the limit of bytes.
+pub fn reading_undoes_writing()
+    ensures images { (image other : Image) (bytes others : List ℕ) → SpellsImage image bytes
+        → (SpellsImage other bytes → other ≡ image) × (SpellsImage image others → others ≡ bytes) }
+    ensures texts { (image other : Image) (text : List ℕ) → Spells text image → Spells text other → other ≡ image }
+    ensures journals { (log other : Log) (bytes others : List ℕ) → SpellsLog log bytes
+        → (SpellsLog other bytes → other ≡ log) × (SpellsLog log others → others ≡ bytes) }
+    ensures sources { (tree : List Item) (source : List ℕ) → Parses source tree → length (printed tree) ≤ 1048576
+        → Parses (printed tree) tree }
+    ensures trees { (tree other : List Item) (source : List ℕ) → Parses source tree → Parses source other → other ≡ tree }
+{
+    image_and_bytes_are_one();
+    texts_spell_one_image();
+    journal_and_bytes_are_one();
+    a_printed_tree_is_read_back();
+    a_text_has_one_tree();
+}
+
+/// 2. The machine. Journals, of which the commands speak, are runs by the instruction table, and each such run, of as many
+/// threads as the program's version allows, is a journal's: so no computed step need be believed.
+pub fn journals_are_runs_by_the_table()
+    ensures table { (image : Image) (count : ℕ) (events : List Event) (end : State) → IsVerified image
+        → LeadsTo image count events end ↔ (IsJournal image count events × (end ≡ state_at image count events)) }
+    ensures some { (image : Image) (count : ℕ) (events : List Event) → IsVerified image → IsJournal image count events
+        → (steps : List TakenStep) × IsRun image (start_of image count) steps (state_at image count events) × (events ≡ events_of steps) }
+    ensures only { (image : Image) (count : ℕ) (steps : List TakenStep) (end : State) → IsVerified image → IsThreadCount image count
+        → IsRun image (start_of image count) steps end
+        → IsJournal image count (events_of steps) × (end ≡ state_at image count (events_of steps)) }
+{}
+
+/// It is not said of nothing. Each order of the steps of as many threads as the program's version allows has a journal, and no
+/// two. Compiled programs are verified.
+pub fn every_schedule_has_one_journal()
+    ensures some { (image : Image) (count : ℕ) (schedule : List ℕ) → IsThreadCount image count → All (λ t. t < count) schedule
+        → (events : List Event) × IsJournal image count events × (schedule_of events ≡ schedule) }
+    ensures one { (image : Image) (count : ℕ) (events others : List Event) → IsJournal image count events
+        → IsJournal image count others → schedule_of events ≡ schedule_of others → events ≡ others }
+    ensures verified { (source : List ℕ) (longest : ℕ) (image : Image) → Compiles source longest image → IsVerified image }
+{}
+
+/// In no journal of a verified program do threads block one another all together: where an event is blocked, some running
+/// thread that holds a lock has a step that is not. And at each position no two threads share what is fresh for one.
+pub fn no_journal_is_stuck()
+    ensures blocked { (image : Image) (log : Log) (k : ℕ) (event : Event) → IsVerified image → IsJournal image log.threads log.events
+        → slice_get log.events k ≡ Some event → event.reply ≡ Blocked → SomeoneGoesOn image (state_at image log.threads (take k log.events)) }
+    ensures apart { (image : Image) (log : Log) (k : ℕ) → IsVerified image → IsJournal image log.threads log.events
+        → AreApart image (state_at image log.threads (take k log.events)) }
+{}
+
+/// 3. The lists. A compiled program is its source's: whatever lowering, finest classes and written classes there are of the
+/// source's tree, the program is the image that is inferred of these. Its tables and its code are the lowering's, with classes in
+/// place of sites; each section's list is the fitted one of what it needs, and none is empty that needs a lock.
+pub fn a_compiled_program_is_its_sources()
+    ensures inferred { (source : List ℕ) (longest : ℕ) (image : Image) (tree : List Item) (l : Lowered) (c : Classed) (stores : ℕ → ℕ → Bool)
+        → Compiles source longest image → Parses source tree → IsLowering tree l → AreClasses l c → TellsStores l c stores
+        → IsInferred l c stores longest image }
+    ensures some { (source : List ℕ) (longest : ℕ) (image : Image) (tree : List Item) (l : Lowered) (c : Classed) (stores : ℕ → ℕ → Bool)
+        (n : ℕ) (section : Section) (list : List Lock) (lock : Lock)
+        → Compiles source longest image → Parses source tree → IsLowering tree l → AreClasses l c → TellsStores l c stores
+        → slice_get l.sections n ≡ Some section → slice_get image.lists n ≡ Some list
+        → Needed l c stores longest (Inside n) (suc section.acquire) lock → list ≢ [] }
+    ensures kept { (source : List ℕ) (longest : ℕ) (tree : List Item) (l : Lowered)
+        → Parses source tree → IsAccepted tree longest → IsLowering tree l → IsKept l }
+{
+    a_text_has_one_tree();
+}
+
+/// A source has one compiled program at the most for each longest path.
+pub fn a_source_has_one_program()
+    ensures { (source : List ℕ) (longest : ℕ) (image other : Image)
+        → Compiles source longest image → Compiles source longest other → image ≡ other }
+{
+    a_text_has_one_tree();
+}
+
+/// Every program has exactly one outcome of compiling, memory aside. An accepted program has an image, for it cannot be that there
+/// is none; it has no fault but that memory ran out, and one image. A program that is not accepted has a fault, for it cannot be
+/// that it has none. The finest classes of a program's lowering cannot be missing.
+pub fn every_program_has_one_outcome()
+    ensures image { (tree : List Item) (longest : ℕ) → IsAccepted tree longest → ¬ (¬ ((image : Image) × IsInferredFor tree longest image)) }
+    ensures one { (tree : List Item) (longest : ℕ) (image other : Image) → IsInferredFor tree longest image → IsInferredFor tree longest other → image ≡ other }
+    ensures both { (tree : List Item) (longest : ℕ) (fault : InferFault) → IsAccepted tree longest → IsRefused tree longest fault → fault ≡ OutOfMemory }
+    ensures neither { (source : List ℕ) (tree : List Item) (longest : ℕ) → Parses source tree → ¬ (IsAccepted tree longest)
+        → ¬ ((fault : InferFault) → fault ≢ OutOfMemory → ¬ (IsRefused tree longest fault)) }
+    ensures classes { (source : List ℕ) (tree : List Item) (l : Lowered) → Parses source tree → IsLowering tree l → ¬ (¬ ((c : Classed) × AreClasses l c)) }
+{}
+
+/// 5. The debugger. The state that it shows at a position of a journal, the one after the first events, is the one to which the
+/// instruction table leads the program's threads by these events.
+pub fn positions_go_by_the_table()
+    ensures { (image : Image) (log : Log) (k : ℕ) (state : State) → IsVerified image → IsJournal image log.threads log.events
+        → LeadsTo image log.threads (take k log.events) state ↔ (state ≡ state_at image log.threads (take k log.events)) }
+{}
+
+/// 8. Atomicity. Each run of a compiled program, and so each of its journals, has a serial one: the same state in the end, the
+/// same replies for each thread, the same order outside sections, and sections one at a time. It is the very same state where no
+/// step inside a section is a `new`; where none finds that there is no room for an object, the same up to the numbers of objects.
+pub fn compiled_programs_are_atomic()
+    ensures serial { (source : List ℕ) (longest : ℕ) (image : Image) (count : ℕ) (steps : List TakenStep) (end : State)
+        → Compiles source longest image → IsRun image (start_of image count) steps end
+        → All (MakesNoneInside image) steps → HasSerial image count steps end }
+    ensures up_to_numbers { (source : List ℕ) (longest : ℕ) (image : Image) (count : ℕ) (steps : List TakenStep) (end : State)
+        → Compiles source longest image → IsRun image (start_of image count) steps end
+        → All FindsRoomInside steps → HasSerialUpTo image count steps end }
+{}
