@@ -13,7 +13,7 @@ use crate::locked::{Locked, Named};
 use crate::report::Report;
 use crate::starting::start;
 use asl_code::Program;
-use asl_journal::{MAX_EVENTS, Journaled};
+use asl_journal::{Journaled, MAX_EVENTS};
 use asl_turns::Turns;
 use std::alloc::Global;
 use std::marker::Brand;

@@ -8,7 +8,7 @@ ghost use Rattle.asl_runner.specs.Turning.{AfterTurn, IsAt, IsReadyAt};
 use crate::gate::Gate;
 use crate::locked::Steps;
 use asl_code::NEWEST_LIMITS;
-use asl_journal::{MAX_EVENTS, JournalFault, Receipt};
+use asl_journal::{JournalFault, MAX_EVENTS, Receipt};
 use asl_machine::Reply;
 use asl_turns::{TurnSeat, Turns};
 use std::alloc::Global;
