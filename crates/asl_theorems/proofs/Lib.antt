@@ -2,6 +2,7 @@ mod Programs
 mod Runs
 mod Positions
 mod Surely
+mod Writing
 mod Numbering
 mod Finest
 mod Storing

@@ -27,10 +27,10 @@ ghost use Rattle.asl_emitter.specs.declared.fault.InferFault.{InferFault};
 ghost use Rattle.asl_emitter.specs.declared.fault.InferFault.TheVariants.{OutOfMemory};
 ghost use Rattle.asl_assembler.specs.Text.{Spells};
 ghost use Rattle.asl_assembler.specs.Canonical.{canonical_text};
-ghost use Rattle.asl_loader.specs.Bytes.{SpellsImage};
+ghost use Rattle.asl_loader.specs.Bytes.{SpellsImage, text_of};
 ghost use Rattle.asl_journal.specs.declared.event.Event.{Event};
-ghost use Rattle.asl_journal.specs.Bytes.{SpellsLog};
-ghost use Rattle.asl_journal.specs.Journal.{Log, IsJournal, schedule_of, replies_in, state_at};
+ghost use Rattle.asl_journal.specs.Bytes.{SpellsLog, log_fields};
+ghost use Rattle.asl_journal.specs.Journal.{Log, IsJournal, most_events, schedule_of, replies_in, state_at};
 ghost use Rattle.asl_soundness.specs.Safe.{IsSafe};
 ghost use Rattle.asl_atomicity.specs.Serial.{TakenStep, IsRun, HasSerial, MakesNoneInside};
 ghost use Rattle.asl_atomicity.specs.Renamed.{HasSerialUpTo, FindsRoomInside};
@@ -88,6 +88,12 @@ pub fn every_schedule_has_one_journal()
     ensures one { (image : Image) (count : ℕ) (events others : List Event) → IsJournal image count events
         → IsJournal image count others → schedule_of events ≡ schedule_of others → events ≡ others }
     ensures verified { (source : List ℕ) (longest : ℕ) (image : Image) → Compiles source longest image → IsVerified image }
+{}
+
+/// Each journal of a program that bytes spell, if it is not too long for any, has bytes. So it can be kept as a run file.
+pub fn every_journal_has_bytes()
+    ensures { (image : Image) (bytes : List ℕ) (log : Log) → SpellsImage image bytes → IsVerified image
+        → IsJournal image log.threads log.events → length log.events ≤ most_events → SpellsLog log (text_of (log_fields log)) }
 {}
 
 /// In no journal of a verified program do threads block one another all together: where an event is blocked, some running
