@@ -1,13 +1,6 @@
 -- How a process ends (docs/CLI.md, "Refusals").
 use Rattle.std.specs.Prelude.{◌≡◌, ◌⊎◌, ℕ, List, Option}
 use Rattle.asl_tool.specs.Tool.{EndsWith}
-use Rattle.asl.specs.declared.process.WordsFault.{WordsFault}
-use Rattle.asl.specs.declared.process.WordsFault.TheVariants.{NotText, OutOfMemory}
-
--- the status where there are no words: words that are no text are wrong usage
-abbrev pub words_status : WordsFault → ℕ
-words_status NotText = 2
-words_status OutOfMemory = 1
 
 -- the process ends as the tool does with some words, or its words are no text; then the streams that it reads and writes are
 -- the very values that they were (of the system it is not said which words it hands over)

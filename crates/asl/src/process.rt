@@ -1,7 +1,7 @@
 //! What a process does: its words in, its streams used, its exit status out.
 ghost use Rattle.std.specs.Prelude.{◌≡◌};
 ghost use Rattle.std.specs.Process.{exit_status};
-ghost use Rattle.asl.specs.Process.{EndsProcess, words_status};
+ghost use Rattle.asl.specs.Process.{EndsProcess};
 
 use asl_tool::tool;
 use std::alloc::{AllocError, Global};
@@ -41,29 +41,47 @@ pub fn run_process<H: Env + Threads + Wait + Sync, R: Read, W: Write, E: Write>(
         (R.remaining input.old) (W.contents output.old) (W.contents output.new) (exit_status result) }
     ensures quiet { exit_status result ≡ 0 → errors.new ≡ errors.old }
 {
-    let status = match process_words(rt, alloc) {
-        Ok(words) => tool(rt, alloc, words.as_slice(), input, output, errors),
-        Err(fault) => tell_fault(fault, errors),
-    };
+    let words = process_words(rt, alloc);
+    let status = words_status(rt, alloc, words, input, output, errors);
     ExitCode::from(status)
 }
 
-/// Says why there are no words, and answers the status.
-fn tell_fault<E: Write>(fault: WordsFault, errors: &mut E) -> u8
-    ensures { result ≡ words_status fault }
+/// Does what the words ask for, or says why there are none, and answers the status.
+fn words_status<H: Env + Threads + Wait + Sync, R: Read, W: Write, E: Write>(
+    rt: &H,
+    alloc: Global,
+    words: Result<Vec<String>, WordsFault>,
+    input: &mut R,
+    output: &mut W,
+    errors: &mut E,
+) -> u8
+    ensures ends { EndsProcess (input.new ≡ input.old) (output.new ≡ output.old)
+        (R.remaining input.old) (W.contents output.old) (W.contents output.new) result }
+    ensures quiet { result ≡ 0 → errors.new ≡ errors.old }
 {
-    match fault {
-        WordsFault::NotText => {
-            let _ = errors.write_all(
-                b"error: a word of the command line is no text\n\nFor more information, try '--help'.\n",
-            );
-            2
-        }
-        WordsFault::OutOfMemory => {
-            let _ = errors.write_all(b"asl: OutOfMemory\n");
-            1
-        }
+    match words {
+        Ok(words) => tool(rt, alloc, words.as_slice(), input, output, errors),
+        Err(WordsFault::NotText) => say_not_text(errors),
+        Err(WordsFault::OutOfMemory) => say_no_memory(errors),
     }
+}
+
+/// Says that a word is not a text, which is wrong usage, and answers the status.
+fn say_not_text<E: Write>(errors: &mut E) -> u8
+    ensures { result ≡ 2 }
+{
+    let _ = errors.write_all(
+        b"error: a word of the command line is no text\n\nFor more information, try '--help'.\n",
+    );
+    2
+}
+
+/// Says that memory ran out for the words, and answers the status.
+fn say_no_memory<E: Write>(errors: &mut E) -> u8
+    ensures { result ≡ 1 }
+{
+    let _ = errors.write_all(b"asl: OutOfMemory\n");
+    1
 }
 
 /// The process's words, without the program's own name.
