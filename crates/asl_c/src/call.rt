@@ -1,5 +1,5 @@
 //! The commands of the program for C: words and input in, output, errors and status out.
-ghost use Rattle.std.specs.Prelude.{◌≡◌, ◌==◌, ◌×◌, ¬, [], Some, map, IfOk, IfErr, MatchOption, string_bytes};
+ghost use Rattle.std.specs.Prelude.{◌≡◌, ◌==◌, ¬, [], Some, map, IfOk, IfErr, MatchOption, string_bytes};
 ghost use Rattle.std.specs.List.{slice_split};
 ghost use Rattle.asl_tool.specs.Tool.{AsksForWork, EndsAlone};
 ghost use Rattle.asl_c.specs.Called.{words_of, Holds, SaysWhyNot, IsAnswered};
