@@ -1,4 +1,0 @@
-mod Weaker
-mod AsBox
-mod Laws
-mod Sends
