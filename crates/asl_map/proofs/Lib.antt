@@ -1,0 +1,10 @@
+pub mod Told
+pub mod Tokens
+pub mod Left
+pub mod Calls
+pub mod Sites
+pub mod Walking
+pub mod Standing
+pub mod Placing
+pub mod Mapping
+pub mod Covering

@@ -1,0 +1,271 @@
+-- Where in a text a statement ends: the walk finds the tokens behind those that the grammar gives it.
+use Rattle.std.proofs.Common.{◌≡◌, ℕ, suc, ◌+◌, Bool, true, false, cond, List, [], ◌∷◌, ◌++◌, length, drop, refl, sym, ap, ◌∙◌, subst, arith, length-append, drop-drop}
+use Rattle.asl_grammar.specs.declared.token.Mark.TheVariants as mark
+use Rattle.asl_grammar.specs.declared.control.Operator.TheVariants.{Add, Subtract, IsLess, IsEqual}
+use Rattle.asl_grammar.specs.Token.{Token, Fixed, Name, Spot}
+use Rattle.asl_grammar.specs.Grammar.{bare}
+use Rattle.asl_grammar.specs.Written as w
+use Rattle.asl_grammar.specs.Spelling.{later_names_on, names_on, line_on, stmt_on, block_on, else_on}
+use Rattle.asl_syntax.specs.Spelled.{line_meaning, stmt_meaning, block_meaning, else_meaning}
+use Rattle.asl_map.specs.Pieces.{first_place}
+use Rattle.asl_map.specs.Taken.{is_end, end_place, past_end, is_else_token, is_else}
+use Rattle.asl_map.specs.Walked.{past_no_else, stmt_rest, block_rest, else_rest}
+
+-- ---- tokens up to the first semicolon or opening brace
+
+-- none of these is one
+abbrev pub no_end : List Token → Type 0
+no_end [] = Unit {0}
+no_end (t ∷ ts) = (is_end t ≡ false) × no_end ts
+
+pub record Ends (front ts : List Token) (ss : List Spot) : Type 0 where
+  pub past : past_end ss ≡ drop (suc (length front)) ss
+  pub place : end_place ss ≡ first_place (drop (length front) ss) + 1
+  pub left : bare (past_end ss) ≡ ts
+
+pub ends : (front : List Token) (t : Token) (ts : List Token) (ss : List Spot) → no_end front → is_end t ≡ true → bare ss ≡ front ++ t ∷ ts → Ends front ts ss
+ends [] t ts [] none is e = absurd cc
+ends (u ∷ front) t ts [] none is e = absurd cc
+ends [] t ts (s ∷ ss) none is e =
+    let first : s.token ≡ t = cc in
+    let rest : bare ss ≡ ts = cc in
+    let here : is_end s.token ≡ true = ap is_end first ∙ is in
+    record {
+      past = ap (λ (b : Bool). cond b ss (past_end ss)) here;
+      place = ap (λ (b : Bool). cond b (s.at + 1) (end_place ss)) here;
+      left = ap (λ (b : Bool). bare (cond b ss (past_end ss))) here ∙ rest;
+    }
+ends (u ∷ front) t ts (s ∷ ss) none is e =
+    let first : s.token ≡ u = cc in
+    let rest : bare ss ≡ front ++ t ∷ ts = cc in
+    let here : is_end s.token ≡ false = ap is_end first ∙ none.0 in
+    let later = ends front t ts ss none.1 is rest in
+    record {
+      past = ap (λ (b : Bool). cond b ss (past_end ss)) here ∙ later.past;
+      place = ap (λ (b : Bool). cond b (s.at + 1) (end_place ss)) here ∙ later.place;
+      left = ap (λ (b : Bool). bare (cond b ss (past_end ss))) here ∙ later.left;
+    }
+
+-- ---- lines
+
+later_on : (xs : List (List ℕ)) (rest : List Token) → later_names_on xs (Fixed mark.CloseParen ∷ rest) ≡ later_names_on xs (Fixed mark.CloseParen ∷ []) ++ rest
+later_on [] rest = refl
+later_on (x ∷ xs) rest = ap (λ (ts : List Token). Fixed mark.Comma ∷ Name x ∷ ts) (later_on xs rest)
+
+pub names_on_append : (xs : List (List ℕ)) (rest : List Token) → names_on xs (Fixed mark.CloseParen ∷ rest) ≡ names_on xs (Fixed mark.CloseParen ∷ []) ++ rest
+names_on_append [] rest = refl
+names_on_append (x ∷ xs) rest = ap (λ (ts : List Token). Name x ∷ ts) (later_on xs rest)
+
+later_none : (xs : List (List ℕ)) → no_end (later_names_on xs (Fixed mark.CloseParen ∷ []))
+later_none [] = (refl, tt)
+later_none (x ∷ xs) = (refl, (refl, later_none xs))
+
+pub names_none : (xs : List (List ℕ)) → no_end (names_on xs (Fixed mark.CloseParen ∷ []))
+names_none [] = (refl, tt)
+names_none (x ∷ xs) = (refl, later_none xs)
+
+line_on_append : (l : w.Line) (rest : List Token) → line_on l rest ≡ line_on l [] ++ rest
+line_on_append (w.Assigns x (w.Literal true n)) rest = refl
+line_on_append (w.Assigns x (w.Literal false n)) rest = refl
+line_on_append (w.Assigns x w.NullValue) rest = refl
+line_on_append (w.Assigns x (w.Copied y)) rest = refl
+line_on_append (w.Assigns x (w.Binary y o z)) rest = refl
+line_on_append (w.Assigns x (w.GlobalAddress y)) rest = refl
+line_on_append (w.Assigns x (w.FieldAddress y n)) rest = refl
+line_on_append (w.Assigns x (w.Loaded y)) rest = refl
+line_on_append (w.Assigns x (w.Created n)) rest = refl
+line_on_append (w.Calls x f args) rest =
+    ap (λ (ts : List Token). Name x ∷ Fixed mark.Becomes ∷ Name f ∷ Fixed mark.OpenParen ∷ ts) (names_on_append args rest)
+line_on_append (w.Stores x y) rest = refl
+line_on_append (w.Shows x) rest = refl
+
+line_none : (l : w.Line) → no_end (line_on l [])
+line_none (w.Assigns x (w.Literal true n)) = (refl, (refl, (refl, (refl, tt))))
+line_none (w.Assigns x (w.Literal false n)) = (refl, (refl, (refl, tt)))
+line_none (w.Assigns x w.NullValue) = (refl, (refl, (refl, tt)))
+line_none (w.Assigns x (w.Copied y)) = (refl, (refl, (refl, tt)))
+line_none (w.Assigns x (w.Binary y Add z)) = (refl, (refl, (refl, (refl, (refl, tt)))))
+line_none (w.Assigns x (w.Binary y Subtract z)) = (refl, (refl, (refl, (refl, (refl, tt)))))
+line_none (w.Assigns x (w.Binary y IsLess z)) = (refl, (refl, (refl, (refl, (refl, tt)))))
+line_none (w.Assigns x (w.Binary y IsEqual z)) = (refl, (refl, (refl, (refl, (refl, tt)))))
+line_none (w.Assigns x (w.GlobalAddress y)) = (refl, (refl, (refl, (refl, tt))))
+line_none (w.Assigns x (w.FieldAddress y n)) = (refl, (refl, (refl, (refl, (refl, (refl, (refl, tt)))))))
+line_none (w.Assigns x (w.Loaded y)) = (refl, (refl, (refl, (refl, tt))))
+line_none (w.Assigns x (w.Created n)) = (refl, (refl, (refl, (refl, tt))))
+line_none (w.Calls x f args) = (refl, (refl, (refl, (refl, names_none args))))
+line_none (w.Stores x y) = (refl, (refl, (refl, (refl, tt))))
+line_none (w.Shows x) = (refl, (refl, tt))
+
+pub line_ends : (l : w.Line) (ts : List Token) (ss : List Spot) → bare ss ≡ stmt_on (w.Simple l) ts → Ends (line_on l []) ts ss
+line_ends l ts ss e =
+    ends (line_on l []) (Fixed mark.Semicolon) ts ss (line_none l) refl (e ∙ line_on_append l (Fixed mark.Semicolon ∷ ts))
+
+pub line_rest : (l : w.Line) (ss : List Spot) → stmt_rest (line_meaning l) ss ≡ past_end ss
+line_rest (w.Assigns x r) ss = refl
+line_rest (w.Calls x f args) ss = refl
+line_rest (w.Stores x y) ss = refl
+line_rest (w.Shows x) ss = refl
+
+-- ---- how many tokens
+
+line_count : (l : w.Line) (rest : List Token) → length (line_on l rest) ≡ length (line_on l []) + length rest
+line_count l rest = ap length (line_on_append l rest) ∙ length-append (line_on l []) rest
+
+mutual
+  pub stmt_count : (s : w.Stmt) (ts : List Token) → length (stmt_on s ts) ≡ length (stmt_on s []) + length ts
+  stmt_count (w.Simple l) ts =
+      omega (arith, line_count l (Fixed mark.Semicolon ∷ ts), line_count l (Fixed mark.Semicolon ∷ []))
+  stmt_count (w.IfStmt x a e) ts =
+      omega (arith, block_count a (Fixed mark.CloseBrace ∷ else_on e ts), block_count a (Fixed mark.CloseBrace ∷ else_on e []), else_count e ts)
+  stmt_count (w.WhileStmt x a) ts =
+      omega (arith, block_count a (Fixed mark.CloseBrace ∷ ts), block_count a (Fixed mark.CloseBrace ∷ []))
+  stmt_count (w.AtomicStmt a) ts =
+      omega (arith, block_count a (Fixed mark.CloseBrace ∷ ts), block_count a (Fixed mark.CloseBrace ∷ []))
+
+  pub block_count : (b : w.Block) (ts : List Token) → length (block_on b ts) ≡ length (block_on b []) + length ts
+  block_count w.End ts = omega arith
+  block_count (w.More s b) ts =
+      omega (arith, stmt_count s (block_on b ts), stmt_count s (block_on b []), block_count b ts)
+
+  pub else_count : (e : w.Else) (ts : List Token) → length (else_on e ts) ≡ length (else_on e []) + length ts
+  else_count w.NoElse ts = omega arith
+  else_count (w.Otherwise b) ts =
+      omega (arith, block_count b (Fixed mark.CloseBrace ∷ ts), block_count b (Fixed mark.CloseBrace ∷ []))
+
+-- ---- what begins with `else`
+
+abbrev pub starts_else : List Token → Bool
+starts_else [] = false
+starts_else (t ∷ ts) = is_else_token t
+
+is_else_bare : (ss : List Spot) → is_else ss ≡ starts_else (bare ss)
+is_else_bare [] = refl
+is_else_bare (s ∷ ss) = refl
+
+line_no_else : (l : w.Line) (ts : List Token) → starts_else (line_on l ts) ≡ false
+line_no_else (w.Assigns x r) ts = refl
+line_no_else (w.Calls x f args) ts = refl
+line_no_else (w.Stores x y) ts = refl
+line_no_else (w.Shows x) ts = refl
+
+stmt_no_else : (s : w.Stmt) (ts : List Token) → starts_else (stmt_on s ts) ≡ false
+stmt_no_else (w.Simple l) ts = line_no_else l (Fixed mark.Semicolon ∷ ts)
+stmt_no_else (w.IfStmt x a e) ts = refl
+stmt_no_else (w.WhileStmt x a) ts = refl
+stmt_no_else (w.AtomicStmt a) ts = refl
+
+pub block_no_else : (b : w.Block) (ts : List Token) → starts_else ts ≡ false → starts_else (block_on b ts) ≡ false
+block_no_else w.End ts none = none
+block_no_else (w.More s b) ts none = stmt_no_else s (block_on b ts)
+
+-- ---- what is left
+
+-- what is left is what stands behind so many tokens, and begins with these
+pub record Left (n : ℕ) (ts : List Token) (ss rest : List Spot) : Type 0 where
+  pub behind : rest ≡ drop n ss
+  pub tokens : bare rest ≡ ts
+
+pub left_more : (m n k : ℕ) (us ts : List Token) (ss mid rest : List Spot) → m + n ≡ k → Left m us ss mid → Left n ts mid rest → Left k ts ss rest
+left_more m n k us ts ss mid rest sum a b =
+    record {
+      behind = b.behind ∙ ap (drop n) a.behind ∙ drop-drop n m ss ∙ ap (λ (i : ℕ). drop i ss) sum;
+      tokens = b.tokens;
+    }
+
+pub drop_one : (t : Token) (ts : List Token) (ss : List Spot) → bare ss ≡ t ∷ ts → Left 1 ts ss (drop 1 ss)
+drop_one t ts [] e = absurd cc
+drop_one t ts (s ∷ ss) e =
+    let rest : bare ss ≡ ts = cc in
+    record { behind = refl; tokens = rest }
+
+pub left_end : (front : List Token) (ts : List Token) (ss : List Spot) → Ends front ts ss → Left (suc (length front)) ts ss (past_end ss)
+left_end front ts ss e = record { behind = e.past; tokens = e.left }
+
+left_is : (n : ℕ) (ts : List Token) (ss rest other : List Spot) → other ≡ rest → Left n ts ss rest → Left n ts ss other
+left_is n ts ss rest other e l = let P : List Spot → Type 0 = λ r. Left n ts ss r in subst P (sym e) l
+
+-- before a block
+pub if_ends : (x : List ℕ) (ts : List Token) (ss : List Spot) → bare ss ≡ Fixed mark.If ∷ Name x ∷ Fixed mark.OpenBrace ∷ ts → Ends (Fixed mark.If ∷ Name x ∷ []) ts ss
+if_ends x ts ss e =
+    ends (Fixed mark.If ∷ Name x ∷ []) (Fixed mark.OpenBrace) ts ss (refl, (refl, tt)) refl e
+
+pub while_ends : (x : List ℕ) (ts : List Token) (ss : List Spot) → bare ss ≡ Fixed mark.While ∷ Name x ∷ Fixed mark.OpenBrace ∷ ts → Ends (Fixed mark.While ∷ Name x ∷ []) ts ss
+while_ends x ts ss e =
+    ends (Fixed mark.While ∷ Name x ∷ []) (Fixed mark.OpenBrace) ts ss (refl, (refl, tt)) refl e
+
+pub atomic_ends : (ts : List Token) (ss : List Spot) → bare ss ≡ Fixed mark.Atomic ∷ Fixed mark.OpenBrace ∷ ts → Ends (Fixed mark.Atomic ∷ []) ts ss
+atomic_ends ts ss e =
+    ends (Fixed mark.Atomic ∷ []) (Fixed mark.OpenBrace) ts ss (refl, tt) refl e
+
+pub else_ends : (ts : List Token) (ss : List Spot) → bare ss ≡ Fixed mark.Else ∷ Fixed mark.OpenBrace ∷ ts → Ends (Fixed mark.Else ∷ []) ts ss
+else_ends ts ss e =
+    ends (Fixed mark.Else ∷ []) (Fixed mark.OpenBrace) ts ss (refl, tt) refl e
+
+no_else_left : (ts : List Token) (ss : List Spot) → starts_else ts ≡ false → bare ss ≡ ts → past_no_else ss ≡ ss
+no_else_left ts ss none e =
+    ap (λ (b : Bool). cond b (drop 1 (past_end ss)) ss) (is_else_bare ss ∙ ap starts_else e ∙ none)
+
+an_else_left : (ts : List Token) (ss : List Spot) → bare ss ≡ Fixed mark.Else ∷ ts → past_no_else ss ≡ drop 1 (past_end ss)
+an_else_left ts ss e =
+    ap (λ (b : Bool). cond b (drop 1 (past_end ss)) ss) (is_else_bare ss ∙ ap starts_else e)
+
+mutual
+  pub stmt_left : (s : w.Stmt) (ts : List Token) (ss : List Spot) → starts_else ts ≡ false → bare ss ≡ stmt_on s ts → Left (length (stmt_on s [])) ts ss (stmt_rest (stmt_meaning s) ss)
+  stmt_left (w.Simple l) ts ss none e =
+      let n : length (line_on l (Fixed mark.Semicolon ∷ [])) ≡ suc (length (line_on l [])) = omega (arith, line_count l (Fixed mark.Semicolon ∷ [])) in
+      let P : ℕ → Type 0 = λ k. Left k ts ss (stmt_rest (line_meaning l) ss) in
+      subst P (sym n) (left_is (suc (length (line_on l []))) ts ss (past_end ss) (stmt_rest (line_meaning l) ss) (line_rest l ss) (left_end (line_on l []) ts ss (line_ends l ts ss e)))
+  stmt_left (w.IfStmt x a y) ts ss none e =
+      let us = block_on a (Fixed mark.CloseBrace ∷ else_on y ts) in
+      let first = left_end (Fixed mark.If ∷ Name x ∷ []) us ss (if_ends x us ss e) in
+      let body = block_left a (Fixed mark.CloseBrace ∷ else_on y ts) (past_end ss) refl first.tokens in
+      let other = else_left y ts (block_rest (block_meaning a) (past_end ss)) none body.tokens in
+      left_more 3 (length (block_on a []) + suc (length (else_on y []))) (length (stmt_on (w.IfStmt x a y) [])) us ts ss (past_end ss) _ (omega (arith, block_count a (Fixed mark.CloseBrace ∷ else_on y []))) first
+      (left_more (length (block_on a [])) (suc (length (else_on y []))) (length (block_on a []) + suc (length (else_on y []))) (Fixed mark.CloseBrace ∷ else_on y ts) ts (past_end ss) _ _ refl body other)
+  stmt_left (w.WhileStmt x a) ts ss none e =
+      let us = block_on a (Fixed mark.CloseBrace ∷ ts) in
+      let first = left_end (Fixed mark.While ∷ Name x ∷ []) us ss (while_ends x us ss e) in
+      let body = block_left a (Fixed mark.CloseBrace ∷ ts) (past_end ss) refl first.tokens in
+      let brace = drop_one (Fixed mark.CloseBrace) ts (block_rest (block_meaning a) (past_end ss)) body.tokens in
+      left_more 3 (length (block_on a []) + 1) (length (stmt_on (w.WhileStmt x a) [])) us ts ss (past_end ss) _ (omega (arith, block_count a (Fixed mark.CloseBrace ∷ []))) first
+      (left_more (length (block_on a [])) 1 (length (block_on a []) + 1) (Fixed mark.CloseBrace ∷ ts) ts (past_end ss) _ _ refl body brace)
+  stmt_left (w.AtomicStmt a) ts ss none e =
+      let us = block_on a (Fixed mark.CloseBrace ∷ ts) in
+      let first = left_end (Fixed mark.Atomic ∷ []) us ss (atomic_ends us ss e) in
+      let body = block_left a (Fixed mark.CloseBrace ∷ ts) (past_end ss) refl first.tokens in
+      let brace = drop_one (Fixed mark.CloseBrace) ts (block_rest (block_meaning a) (past_end ss)) body.tokens in
+      left_more 2 (length (block_on a []) + 1) (length (stmt_on (w.AtomicStmt a) [])) us ts ss (past_end ss) _ (omega (arith, block_count a (Fixed mark.CloseBrace ∷ []))) first
+      (left_more (length (block_on a [])) 1 (length (block_on a []) + 1) (Fixed mark.CloseBrace ∷ ts) ts (past_end ss) _ _ refl body brace)
+
+  pub block_left : (b : w.Block) (ts : List Token) (ss : List Spot) → starts_else ts ≡ false → bare ss ≡ block_on b ts → Left (length (block_on b [])) ts ss (block_rest (block_meaning b) ss)
+  block_left w.End ts ss none e = record { behind = refl; tokens = e }
+  block_left (w.More s b) ts ss none e =
+      let us = block_on b ts in
+      let first = stmt_left s us ss (block_no_else b ts none) e in
+      let others = block_left b ts (stmt_rest (stmt_meaning s) ss) none first.tokens in
+      left_more (length (stmt_on s [])) (length (block_on b [])) (length (block_on (w.More s b) [])) us ts ss (stmt_rest (stmt_meaning s) ss) _ (omega (arith, stmt_count s (block_on b []))) first others
+
+  -- behind the first block of an `if`, its brace first
+  pub else_left : (y : w.Else) (ts : List Token) (ss : List Spot) → starts_else ts ≡ false → bare ss ≡ Fixed mark.CloseBrace ∷ else_on y ts → Left (suc (length (else_on y []))) ts ss (else_rest (else_meaning y) ss)
+  else_left w.NoElse ts ss none e =
+      let brace = drop_one (Fixed mark.CloseBrace) ts ss e in
+      left_is 1 ts ss (drop 1 ss) _ (no_else_left ts (drop 1 ss) none brace.tokens) brace
+  else_left (w.Otherwise w.End) ts ss none e =
+      let us = Fixed mark.Else ∷ Fixed mark.OpenBrace ∷ Fixed mark.CloseBrace ∷ ts in
+      let brace = drop_one (Fixed mark.CloseBrace) us ss e in
+      let first = left_end (Fixed mark.Else ∷ []) (Fixed mark.CloseBrace ∷ ts) (drop 1 ss) (else_ends (Fixed mark.CloseBrace ∷ ts) (drop 1 ss) brace.tokens) in
+      let last = drop_one (Fixed mark.CloseBrace) ts (past_end (drop 1 ss)) first.tokens in
+      left_is 4 ts ss (drop 1 (past_end (drop 1 ss))) _ (an_else_left _ (drop 1 ss) brace.tokens)
+      (left_more 1 3 4 us ts ss (drop 1 ss) _ refl brace (left_more 2 1 3 (Fixed mark.CloseBrace ∷ ts) ts (drop 1 ss) (past_end (drop 1 ss)) _ refl first last))
+  else_left (w.Otherwise (w.More s b)) ts ss none e =
+      let block = w.More s b in
+      let us = Fixed mark.Else ∷ Fixed mark.OpenBrace ∷ block_on block (Fixed mark.CloseBrace ∷ ts) in
+      let brace = drop_one (Fixed mark.CloseBrace) us ss e in
+      let first = left_end (Fixed mark.Else ∷ []) (block_on block (Fixed mark.CloseBrace ∷ ts)) (drop 1 ss) (else_ends _ (drop 1 ss) brace.tokens) in
+      let head = stmt_left s (block_on b (Fixed mark.CloseBrace ∷ ts)) (past_end (drop 1 ss)) (block_no_else b (Fixed mark.CloseBrace ∷ ts) refl) first.tokens in
+      let others = block_left b (Fixed mark.CloseBrace ∷ ts) (stmt_rest (stmt_meaning s) (past_end (drop 1 ss))) refl head.tokens in
+      let body = left_more (length (stmt_on s [])) (length (block_on b [])) (length (block_on block [])) (block_on b (Fixed mark.CloseBrace ∷ ts)) (Fixed mark.CloseBrace ∷ ts) (past_end (drop 1 ss)) (stmt_rest (stmt_meaning s) (past_end (drop 1 ss))) (block_rest (block_meaning block) (past_end (drop 1 ss))) (omega (arith, stmt_count s (block_on b []))) head others in
+      let last = drop_one (Fixed mark.CloseBrace) ts (block_rest (block_meaning block) (past_end (drop 1 ss))) body.tokens in
+      left_more 1 (2 + (length (block_on block []) + 1)) (suc (length (else_on (w.Otherwise block) []))) us ts ss (drop 1 ss) _ (omega (arith, block_count block (Fixed mark.CloseBrace ∷ []))) brace
+      (left_more 2 (length (block_on block []) + 1) (2 + (length (block_on block []) + 1)) (block_on block (Fixed mark.CloseBrace ∷ ts)) ts (drop 1 ss) (past_end (drop 1 ss)) _ refl first
+      (left_more (length (block_on block [])) 1 (length (block_on block []) + 1) (Fixed mark.CloseBrace ∷ ts) ts (past_end (drop 1 ss)) _ _ refl body last))
