@@ -1,5 +1,5 @@
 -- Lists of what the places of a list say, one after the other.
-use Rattle.std.proofs.Common.{◌≡◌, ◌↔◌, ◌⊎◌, ⊎_elim, ℕ, zero, suc, ◌+◌, ◌<◌, ◌≤◌, List, [], ◌∷◌, ◌++◌, Bool, true, false, Some, Result, Ok, Err, OnOk, length, map, take, drop, slice_get, inl, inr, refl, ap, sym, subst, ◌∙◌, arith}
+use Rattle.std.proofs.Common.{◌≡◌, ◌↔◌, ◌⊎◌, ⊎_elim, ℕ, zero, suc, ◌+◌, ◌<◌, ◌≤◌, List, [], ◌∷◌, ◌++◌, Bool, true, false, Some, Result, Ok, Err, OnOk, IsTrue, length, map, take, drop, slice_get, inl, inr, refl, ap, sym, subst, ◌∙◌, arith}
 use Rattle.std.specs.List.{Contains}
 use Rattle.std.proofs.lemmas.Option.{slice_get_within, slice_get-get_or, get_or_from_slice_get}
 use Rattle.asl_code.specs.declared.lock.Lock.{Lock}
@@ -170,6 +170,27 @@ pub part_locks_ok : {E : Type 0} (d : code_part.Part) (q k : ℕ) (set : List Bo
     → OnOk result ((m : Lock) → IsOne new m ↔ (IsOne now m ⊎ IsNamed d.locks.keys set m)) → OnOk result ((m : Lock) → IsOne new m ↔ (IsOne now m ⊎ IsOfPart (part d) q m))
 part_locks_ok d q k set now new at is (Ok u) step = part_locks d q k set now new at is step
 part_locks_ok d q k set now new at is (Err e) step = tt
+
+-- whether the set of a pc, which may be empty, has a number
+module _ (d : code_part.Part) (q n : ℕ) where
+  pub need_in : (b : Bool) (k : ℕ) (set : List Bool) → q ≡ d.first + k → list_at d.needs.items k ≡ set → (IsTrue b ↔ IsIn set n) → IsTrue b ↔ IsAt (needs_from d.first d.needs.items) (q, n)
+  need_in b k set at is tells = (
+    λ h. at_needs d.needs.items d.first k n q at (subst (λ s. IsIn s n) (sym is) (tells.0 h)),
+    λ h.
+        let of = needs_at d.needs.items d.first q n h.0 h.1 in
+        let place = of.1 in
+        let same : of.0 ≡ k = omega (arith, place, at) in
+        tells.1 (subst (λ s. IsIn s n) is (subst (λ j. IsIn (list_at d.needs.items j) n) same of.2)),
+  )
+
+  pub need_nowhere : ((k : ℕ) → q ≡ d.first + k → list_at d.needs.items k ≡ []) → IsTrue false ↔ IsAt (needs_from d.first d.needs.items) (q, n)
+  need_nowhere none = (λ h. absurd (differ h), λ h. let of = needs_at d.needs.items d.first q n h.0 h.1 in absurd (nothing n (subst (λ s. IsIn s n) (none of.0 of.1) of.2)))
+    where
+      nothing : (i : ℕ) → IsIn [] i → ⊥
+      nothing i e = cc
+
+      differ : IsTrue false → ⊥
+      differ e = cc
 
 -- no set is at the pc
 pub part_none : (d : code_part.Part) (q : ℕ) (now : List Lock) → ((k : ℕ) → q ≡ d.first + k → list_at d.needs.items k ≡ []) → (m : Lock) → IsOne now m ↔ (IsOne now m ⊎ IsOfPart (part d) q m)

@@ -1,5 +1,5 @@
 //! A region with the locks that it needs, and the points at which it needs them.
-ghost use Rattle.std.specs.Prelude.{◌≡◌, ◌<◌, ◌≤◌, ◌↔◌, ◌⊎◌, ℕ, Some, [], length, replicate, slice_get, IfOk, OnOk, OnErr};
+ghost use Rattle.std.specs.Prelude.{◌≡◌, ◌<◌, ◌≤◌, ◌↔◌, ◌⊎◌, ℕ, Some, [], length, replicate, slice_get, IsTrue, IfOk, OnOk, OnErr};
 ghost use Rattle.asl_code.specs.declared.lock.Lock.{Lock};
 ghost use Rattle.asl_lane_sets.specs.NumberSet.{IsIn};
 ghost use Rattle.asl_lock_expr.specs.Links.{IsOne};
@@ -79,6 +79,13 @@ pub fn make_room(set: &mut Bits, len: usize) -> Result<(), AllocError>
     Ok(())
 }
 
+/// Whether the set has the number; it has none from its length on.
+fn has_number(set: &Bits, number: usize) -> bool
+    ensures { IsTrue result ↔ IsIn set.now number }
+{
+    number < set.len() && set.has(number)
+}
+
 /// So many sets without numbers.
 fn empty_sets(alloc: Global, count: usize) -> Result<Vec<Bits>, AllocError>
     ensures { IfOk result (λ sets. sets.items ≡ replicate count []) }
@@ -102,6 +109,20 @@ impl Part {
             locks: IndexSet::new(alloc),
             needs: empty_sets(alloc, usize::from(count))?,
         })
+    }
+
+    /// Whether the lock of a number is needed at the pc.
+    pub fn needs(&self, pc: u32, number: usize) -> bool
+        ensures { IsTrue result ↔ ((k : ℕ) × (slice_get (part self.now).needs k ≡ Some (pc, number))) }
+    {
+        let first = u32::from(self.first);
+        if pc < first {
+            return false;
+        }
+        match self.needs.get((pc - first) as usize) {
+            Some(set) => has_number(set, number),
+            None => false,
+        }
     }
 
     /// Adds the locks that are needed at the pc.

@@ -1,9 +1,9 @@
 //! What each region needs at each of its points, region by region.
-ghost use Rattle.std.specs.Prelude.{◌≡◌, ◌↔◌, ℕ, map, IfOk};
+ghost use Rattle.std.specs.Prelude.{◌≡◌, ◌↔◌, ℕ, map, slice_get, IsTrue, IfOk, IfSome};
 ghost use Rattle.asl_code.specs.declared.lock.Lock.{Lock};
 ghost use Rattle.asl_lock_expr.specs.Links.{IsOne};
 ghost use Rattle.asl_lock_expr.specs.Order.{AreInOrder};
-ghost use Rattle.asl_backward_flow.specs.Needed.{IsTold, region_of};
+ghost use Rattle.asl_backward_flow.specs.Needed.{Part as PartValue, IsTold, region_of};
 ghost use Rattle.asl_backward_flow.specs.Parts.{part, AreAtTheirNumbers};
 
 use crate::part::Part;
@@ -51,6 +51,50 @@ impl Flow {
     {
         told(alloc, self.parts.as_slice(), region, pc)
     }
+
+    /// The place at which the flow has a region; of a flow that `needed` answered none where there is no such region.
+    pub fn place(&self, region: Region) -> Option<usize>
+        ensures { IfSome result (λ k. (p : PartValue) × (slice_get self.now k ≡ Some p) × (p.region ≡ region_of region)) }
+    {
+        place_of(self.parts.as_slice(), region)
+    }
+
+    /// The locks that the region at a place needs at any of its points; the number of a lock is its place among them.
+    pub fn locks(&self, place: usize) -> &[Lock]
+        ensures { (p : PartValue) → slice_get self.now place ≡ Some p → result.now ≡ p.locks }
+    {
+        match self.parts.get(place) {
+            Some(part) => part.locks.as_slice(),
+            None => &[],
+        }
+    }
+
+    /// The number of a lock among those of the region at a place, if it is one of them.
+    pub fn number(&self, place: usize, lock: &Lock) -> Option<usize> {
+        self.parts.get(place)?.locks.get_index_of(lock)
+    }
+
+    /// Whether the region at a place needs the lock of a number at the pc.
+    pub fn needs(&self, place: usize, pc: u32, number: usize) -> bool
+        ensures { (p : PartValue) → slice_get self.now place ≡ Some p → IsTrue result ↔ ((k : ℕ) × (slice_get p.needs k ≡ Some (pc, number))) }
+    {
+        match self.parts.get(place) {
+            Some(part) => part.needs(pc, number),
+            None => false,
+        }
+    }
+}
+
+/// The place of a part of a region.
+fn place_of(parts: &[Part], region: Region) -> Option<usize>
+    ensures { IfSome result (λ k. (p : PartValue) × (slice_get (map part parts.now) k ≡ Some p) × (p.region ≡ region_of region)) }
+{
+    for (place, part) in parts.iter().enumerate() {
+        if part.region == region {
+            return Some(place);
+        }
+    }
+    None
 }
 
 /// Parts among which those of a region are: for a section the one that stands at its number.

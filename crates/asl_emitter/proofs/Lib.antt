@@ -12,3 +12,4 @@ pub mod Sounding
 pub mod Alike
 pub mod Outcomes
 pub mod Guarding
+mod Above

@@ -4,3 +4,4 @@ pub mod Refused
 -- Machinery of the proofs, not of the promise:
 pub mod Faults
 pub mod Parts
+pub mod Above

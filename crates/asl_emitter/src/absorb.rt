@@ -1,12 +1,16 @@
 //! Which lock does in place of another.
-ghost use Rattle.std.specs.Prelude.{◌≡◌, ◌↔◌, IsTrue};
+ghost use Rattle.std.specs.Prelude.{◌≡◌, ◌↔◌, ◌++◌, IsTrue, IfOk, OnOk};
+ghost use Rattle.asl_code.specs.declared.lock.Lock.{Lock as AnyLock};
+ghost use Rattle.asl_lock_expr.specs.Order.{AreInOrder};
 ghost use Rattle.asl_lock_expr.specs.Links.{IsOne};
 ghost use Rattle.asl_soundness.specs.Over.{covers_effect};
-ghost use Rattle.asl_emitter.specs.Lists.{DoesFor, Absorbs, IsFree};
+ghost use Rattle.asl_emitter.specs.Lists.{DoesFor, IsFree};
+ghost use Rattle.asl_emitter.specs.Above.{above, classes_above};
 
 use asl_code::{Effect, Expr, Lock};
-use asl_lock_expr::class_of;
+use asl_lock_expr::{class_of, is_one};
 use asl_points_to::Classes;
+use std::alloc::{AllocError, Global};
 
 /// Whether the first effect is at least as strong as the second.
 pub fn covers(effect: Effect, other: Effect) -> bool
@@ -23,13 +27,6 @@ fn are_same_expr(expr: &Expr, other: &Expr) -> bool
     ensures { IsTrue result ↔ (expr.now ≡ other.now) }
 {
     expr == other
-}
-
-/// Whether both are the same lock.
-fn are_same(lock: &Lock, other: &Lock) -> bool
-    ensures { IsTrue result ↔ (lock.now ≡ other.now) }
-{
-    lock == other
 }
 
 /// Whether the first lock does in place of the second.
@@ -50,21 +47,83 @@ pub fn does_for(classes: &Classes, function: u16, lock: &Lock, other: &Lock) -> 
     }
 }
 
-/// Whether the first lock absorbs the second.
-fn absorbs(classes: &Classes, function: u16, lock: &Lock, other: &Lock) -> bool
-    ensures { IsTrue result ↔ Absorbs classes.now function lock.now other.now }
+/// Whether none of the locks, which are in order, absorbs this one. Only a lock on its class, and one on the same expression or
+/// class with a stronger effect, can.
+///
+/// # Errors
+///
+/// Allocation failed.
+pub fn is_free(
+    alloc: Global,
+    classes: &Classes,
+    function: u16,
+    given: &[Lock],
+    lock: &Lock,
+) -> Result<bool, AllocError>
+    requires { AreInOrder given.now }
+    ensures { IfOk result (λ free. IsTrue free ↔ IsFree classes.now function (IsOne given.now) lock.now) }
 {
-    !are_same(lock, other) && does_for(classes, function, lock, other)
+    let stronger = absorbers(alloc, classes, function, lock)?;
+    Ok(has_none(given, stronger.as_slice()))
 }
 
-/// Whether none of the locks absorbs this one.
-pub fn is_free(classes: &Classes, function: u16, given: &[Lock], lock: &Lock) -> bool
-    ensures { IsTrue result ↔ IsFree classes.now function (IsOne given.now) lock.now }
+/// Whether none of these locks is one of a list in order.
+fn has_none(given: &[Lock], these: &[Lock]) -> bool
+    requires { AreInOrder given.now }
+    ensures { IsTrue result ↔ ((a : AnyLock) → IsOne these.now a → ¬ IsOne given.now a) }
 {
-    for other in given {
-        if absorbs(classes, function, other, lock) {
+    for lock in these {
+        if is_one(given, lock) {
             return false;
         }
     }
     true
+}
+
+/// The locks that absorb this one.
+fn absorbers(
+    alloc: Global,
+    classes: &Classes,
+    function: u16,
+    lock: &Lock,
+) -> Result<Vec<Lock>, AllocError>
+    ensures { IfOk result (λ v. v.items ≡ above classes.now function lock.now) }
+{
+    let mut above = Vec::new(alloc);
+    match lock {
+        Lock::Root(_) => Ok(above),
+        Lock::Class(class, effect) => {
+            if *effect == Effect::Read {
+                above.push(Lock::Class(*class, Effect::Write))?;
+            }
+            Ok(above)
+        }
+        Lock::Expr(expr, effect) => {
+            add_classes(class_of(classes, function, expr), *effect, &mut above)?;
+            if *effect == Effect::Read {
+                above.push(stronger(expr)?)?;
+            }
+            Ok(above)
+        }
+    }
+}
+
+/// Adds the locks on the class of an expression that absorb a lock on it with this effect.
+fn add_classes(class: Option<u16>, effect: Effect, above: &mut Vec<Lock>) -> Result<(), AllocError>
+    ensures { OnOk result (above.new.items ≡ above.old.items ++ classes_above class effect) }
+{
+    if let Some(class) = class {
+        above.push(Lock::Class(class, Effect::Write))?;
+        if effect == Effect::Read {
+            above.push(Lock::Class(class, Effect::Read))?;
+        }
+    }
+    Ok(())
+}
+
+/// The lock on the same expression that may write.
+fn stronger(expr: &Expr) -> Result<Lock, AllocError>
+    ensures { IfOk result (λ lock. lock ≡ Lock.Expr expr.now Effect.Write) }
+{
+    Ok(Lock::Expr(expr.clone()?, Effect::Write))
 }

@@ -12,7 +12,7 @@ mod reduced;
 pub use absorb::{covers, does_for};
 pub use fault::InferFault;
 pub use fitted::{MAX_LOCKS, fit};
-pub use image::classed;
+pub use image::{classed, lists};
 pub use inferred::infer;
 pub use laws::{
     absorbing_is_a_strict_order, fitted_lists_stand_over_their_sets, inferred_images_are_one,

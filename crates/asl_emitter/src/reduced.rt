@@ -1,5 +1,7 @@
 //! What is left of a set of locks once each that another absorbs is taken out.
-ghost use Rattle.std.specs.Prelude.{◌≡◌, IfOk};
+ghost use Rattle.std.specs.Prelude.{◌≡◌, ◌↔◌, IfOk};
+ghost use Rattle.asl_code.specs.declared.lock.Lock.{Lock as AnyLock};
+ghost use Rattle.asl_lock_expr.specs.Order.{AreInOrder};
 ghost use Rattle.asl_lock_expr.specs.Links.{IsOne};
 ghost use Rattle.asl_emitter.specs.Lists.{IsReduced};
 
@@ -22,13 +24,40 @@ pub fn reduce(
 ) -> Result<Vec<Lock>, AllocError>
     ensures { IfOk result (λ v. IsReduced classes.now function (IsOne given.now) v.items) }
 {
+    let all = in_order(alloc, given)?;
+    keep_free(alloc, classes, function, all.as_slice())
+}
+
+/// The locks of a list in order that no other of them absorbs.
+fn keep_free(
+    alloc: Global,
+    classes: &Classes,
+    function: u16,
+    given: &[Lock],
+) -> Result<Vec<Lock>, AllocError>
+    requires { AreInOrder given.now }
+    ensures { IfOk result (λ v. IsReduced classes.now function (IsOne given.now) v.items) }
+{
     let mut reduced = Vec::new(alloc);
     for lock in given {
-        if is_free(classes, function, given, lock) {
+        let free = is_free(alloc, classes, function, given, lock)?;
+        if free {
             add_in_order(&mut reduced, copied(lock)?)?;
         }
     }
     Ok(reduced)
+}
+
+/// The locks, each once, in order.
+fn in_order(alloc: Global, given: &[Lock]) -> Result<Vec<Lock>, AllocError>
+    ensures order { IfOk result (λ v. AreInOrder v.items) }
+    ensures locks { IfOk result (λ v. (a : AnyLock) → IsOne v.items a ↔ IsOne given.now a) }
+{
+    let mut all = Vec::new(alloc);
+    for lock in given {
+        add_in_order(&mut all, copied(lock)?)?;
+    }
+    Ok(all)
 }
 
 /// The same lock.

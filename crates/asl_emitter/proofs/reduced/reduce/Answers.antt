@@ -1,25 +1,15 @@
-use Rattle.std.proofs.Common.{◌≡◌, true, false, sym}
-use Rattle.asl_emitter.proofs.Reducing.{kept_more, kept_same}
+use Rattle.std.proofs.Common.{List, ◌↔◌, sym, subst}
+use Rattle.std.proofs.lemmas.Result.{IfOk-weaker}
+use Rattle.asl_code.specs.declared.lock.Lock.{Lock}
+use Rattle.asl_lock_expr.specs.Links.{IsOne}
+use Rattle.asl_lock_expr.specs.Order.{AreInOrder}
+use Rattle.asl_emitter.proofs.Above.{reduced_same}
 use Rattle.asl_emitter.proofs.reduced.reduce.Goals as goal
-use Rattle.asl_emitter.proofs.reduced.reduce.Goals.{then-is_free+in_ok-copied+in_ok-add_in_order, else-is_free}
 
-pub loop-lock-preserved : goal.loop-lock-preserved
-loop-lock-preserved c =
-    let before = c.loop-lock.invariant in
-    let next = kept_more c.args.classes.now c.args.function c.args.given.now c.loop-lock.reduced.items c.if-is_free.reduced.items c.loop-lock.lock-index c.lock-item.result c.lock-item.result c.loop-lock-test.true (sym c.lock-item.is) in
-    elim c.if-is_free.branch [
-      | then-is_free+in_ok-copied+in_ok-add_in_order w ↦
-          let placed = w.in_ok-add_in_order.ensures in
-          let now = w.reduced-is in
-          record {
-            order = rw now placed.order;
-            kept = next (c.is_free.ensures.0 w.if-is_free.true) (rw (now, ← w.in_ok-copied.ensures) placed.locks) before.kept;
-          }
-      | else-is_free w ↦
-          let now = w.reduced-is in
-          record {
-            order = rw now before.order;
-            kept = rw now (kept_same c.args.classes.now c.args.function c.args.given.now c.loop-lock.reduced.items c.loop-lock.lock-index c.lock-item.result c.lock-item.result c.loop-lock-test.true (sym c.lock-item.is)
-                (λ free. (let t : c.is_free.result ≡ true = c.is_free.ensures.1 free in let n : c.is_free.result ≡ false = w.if-is_free.false in cc)) before.kept);
-          }
-    ]
+pub keep_free-requires : goal.keep_free-requires
+keep_free-requires c = subst AreInOrder (sym c.as_slice.ensures.value) c.in_ok-all.ensures.order
+
+pub returns : goal.returns
+returns c = IfOk-weaker c.keep_free.result _ _ (λ v r.
+    reduced_same c.args.classes.now c.args.function c.as_slice.result.now c.args.given.now v.items
+    (subst (λ (l : List Lock). (a : Lock) → IsOne l a ↔ IsOne c.args.given.now a) (sym c.as_slice.ensures.value) c.in_ok-all.ensures.locks) r) c.keep_free.ensures
