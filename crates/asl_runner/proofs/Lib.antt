@@ -1,7 +1,7 @@
 mod Dealing
 mod Workers
+mod Unended
 mod Joins
 mod Sizes
 mod Ends
-mod NoneBehind
 mod Promises

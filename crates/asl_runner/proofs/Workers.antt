@@ -9,7 +9,7 @@ use Rattle.asl_journal.specs.declared.event.Receipt.{Receipt}
 use Rattle.asl_runner.specs.Ending.{IsMine, IsToldEnded}
 use Rattle.asl_runner.specs.History.{AreEndsLast}
 use Rattle.asl_runner.proofs.Joins.{at_or_last}
-use Rattle.asl_runner.specs.Working.{HasStopped, IsWorking}
+use Rattle.asl_runner.specs.Working.{HasLeft, HasStopped, IsWorking, WasRefused}
 
 -- a receipt more keeps what was told
 told_still : (rs : List Receipt) (r : Receipt) (t : ℕ) → IsToldEnded rs t → IsToldEnded (rs ++ r ∷ []) t
@@ -120,3 +120,41 @@ steps_as word count workers worker seat new ticket rs all r going still h is mor
       | true ↦ λ e. rw (more, ends_so e) (ends word count workers worker seat new ticket rs r going h is goes e)
       | false ↦ λ e. rw (more, goes_so e) (goes_on word count workers worker seat new ticket rs r going h is goes e)
     ] refl
+
+-- a worker that has a thread that goes on, and to which a growth is refused: before it draws a ticket, and after that
+pub refused_first : (word : Word) (count workers worker t : ℕ) (seat : Turn) (rs : List Receipt) (going : List Bool) → IsWorking word count workers worker seat rs going
+    → IsMine count workers worker t → slice_get going t ≡ Some true → WasRefused word count workers worker seat rs
+unfolding WasRefused
+refused_first word count workers worker t seat rs going h mine goes =
+    record {
+      pass = record { of = h.of; passes = omega (arith, h.left, h.spent) };
+      unspent = h.spent;
+      thread = t;
+      mine = mine;
+      untold = h.untold t goes;
+    }
+
+pub refused_then : (word : Word) (count workers worker t : ℕ) (seat new : Turn) (ticket : ℕ) (rs : List Receipt) (going : List Bool) → IsWorking word count workers worker seat rs going
+    → new ≡ one_more seat ticket → IsMine count workers worker t → slice_get going t ≡ Some true → WasRefused word count workers worker new rs
+unfolding WasRefused
+refused_then word count workers worker t seat new ticket rs going h is mine goes =
+    let left = ap (λ (t : Turn). t.left) is ∙ h.left in
+    let spent = ap (λ (t : Turn). t.spent) is ∙ h.spent in
+    record {
+      pass = record { of = ap (λ (t : Turn). t.of) is ∙ h.of; passes = omega (arith, left, spent) };
+      unspent = spent;
+      thread = t;
+      mine = mine;
+      untold = h.untold t goes;
+    }
+
+-- what a worker leaves to which a growth was refused
+pub left_refused : (word : Word) (count workers worker : ℕ) (seat : Turn) (rs : List Receipt) (refused : Bool) → refused ≡ true → WasRefused word count workers worker seat rs
+    → HasLeft word count workers worker seat rs refused
+unfolding WasRefused
+left_refused word count workers worker seat rs refused is h =
+    record {
+      pass = h.pass;
+      stopped = λ n. (let no : true ≡ false = sym is ∙ n in absurd cc);
+      wanted = λ e. h;
+    }

@@ -3,7 +3,7 @@ use Rattle.std.specs.Prelude.{◌≡◌, ◌<◌, ◌≤◌, ◌⊎◌, ◌%◌,
 use Rattle.asl_code.specs.declared.image.Image.{Image}
 use Rattle.asl_journal.specs.declared.event.Receipt.{Receipt}
 use Rattle.asl_journal.specs.Journal.{IsJournal, state_at}
-use Rattle.asl_runner.specs.History.{AreAllEndsLast}
+use Rattle.asl_runner.specs.History.{AreAllEndsLast, AreRunning}
 use Rattle.asl_runner.specs.declared.report.Report.{Report}
 
 -- the receipts of all workers
@@ -31,11 +31,12 @@ AreAllTold count workers all = (worker : ℕ) (mine : List Receipt) → slice_ge
 abbrev pub receipts_in : List (List Receipt) → ℕ
 receipts_in all = sum_by (λ (mine : List Receipt). length mine) all
 
--- a journal of the program with the machine behind it, as many receipts as tickets, no receipt of a thread behind one that
--- says that it has ended, and either the limit is reached or each worker was told that its threads have ended
+-- a journal of the program with the machine after it, and no step in it of a thread that had ended before; as many receipts
+-- as tickets, no receipt of a thread after one that says that it has ended, and either the limit is reached or each worker was told that its threads have ended
 pub record IsRun (image : Image) (count workers limit : ℕ) (report : Report) : Type 0 where
   pub threads : report.journal.threads ≡ count
   pub journal : IsJournal image count report.journal.events
+  pub running : AreRunning report.journal.events
   pub machine : report.machine ≡ record { image = image; state = state_at image count report.journal.events }
   pub dealers : length (all_receipts report) ≡ workers
   pub receipts : receipts_in (all_receipts report) ≡ report.tickets

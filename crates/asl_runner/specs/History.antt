@@ -81,18 +81,15 @@ HaveEnded s count = (t : ℕ) → t < count → has_ended s t ≡ true
 abbrev pub WasRunning : Reply → Type 0
 WasRunning r = r ≢ reply.Ended
 
--- no receipt is of a step of a thread that had ended before
-abbrev pub AreRunning : List Receipt → Type 0
-AreRunning receipts = All (λ receipt. WasRunning receipt.reply) receipts
+-- no event is of a step of a thread that had ended before
+abbrev pub AreRunning : List Event → Type 0
+AreRunning events = All (λ event. WasRunning event.reply) events
 
--- the worker's receipts are the entries of its threads, say only of threads that have ended that they have, and none is of a
--- step of a thread that had ended before
+-- the worker's receipts are the entries of its threads, and say only of threads that have ended that they have
 pub record IsRight (workers worker : ℕ) (s : State) (events : List Event) (receipts : List Receipt) : Type 0 where
   pub dealt : IsDealt workers worker events receipts
   pub said : AreTrue s receipts
-  pub running : AreRunning receipts
 
--- the worker's receipts are not the entries of its threads, or one says that a thread has ended that has not, or is of a step
--- of a thread that had ended before
+-- the worker's receipts are not the entries of its threads, or one says that a thread has ended that has not
 abbrev pub IsWrong : ℕ → ℕ → State → List Event → List Receipt → Type 0
 IsWrong workers worker s events receipts = ¬ IsRight workers worker s events receipts

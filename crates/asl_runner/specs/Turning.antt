@@ -6,7 +6,7 @@ use Rattle.asl_runner.specs.declared.worker.Post.{Post}
 use Rattle.asl_runner.specs.declared.worker.Working.{Working}
 use Rattle.asl_runner.specs.declared.worker.Next.{Next}
 use Rattle.asl_runner.specs.declared.worker.Next.TheVariants.{GoOn, Stop, Refused}
-use Rattle.asl_runner.specs.Working.{IsWorking, HasPass, HasStopped}
+use Rattle.asl_runner.specs.Working.{IsWorking, HasStopped, WasRefused}
 
 -- a worker of a run
 pub record IsAt (post : Post) : Type 0 where
@@ -22,4 +22,4 @@ pub record IsReadyAt (word : Word) (post : Post) (at : Working) : Type 0 where
 abbrev pub AfterTurn : Word → Post → Working → Next → Type 0
 AfterTurn word post at GoOn = IsWorking word post.count post.workers post.worker at.seat at.receipts.items at.going
 AfterTurn word post at Stop = HasStopped word post.count post.workers post.worker at.seat at.receipts.items
-AfterTurn word post at Refused = HasPass word at.seat
+AfterTurn word post at Refused = WasRefused word post.count post.workers post.worker at.seat at.receipts.items

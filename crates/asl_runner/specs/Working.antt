@@ -31,10 +31,23 @@ pub record HasStopped (word : Word) (count workers worker : ℕ) (seat : Turn) (
   pub last : AreEndsLast receipts
   pub why : (0 < seat.spent) ⊎ AllTold count workers worker receipts
 
--- what a worker leaves: its seat with its pass, and, where nothing was refused to it, what it knows when it stops
+-- a worker that has its pass left, so that it has not found the limit, and a thread of which it was not told that it has ended
+pub record HasWork (word : Word) (count workers worker : ℕ) (seat : Turn) (receipts : List Receipt) : Type 0 where
+  pub pass : HasPass word seat
+  pub unspent : seat.spent ≡ 0
+  pub thread : ℕ
+  pub mine : IsMine count workers worker thread
+  pub untold : ¬ IsToldEnded receipts thread
+
+-- a worker to which a growth was refused has work left
+unfoldable pub WasRefused : Word → ℕ → ℕ → ℕ → Turn → List Receipt → Type 0
+WasRefused word count workers worker seat receipts = HasWork word count workers worker seat receipts
+
+-- what a worker leaves: its seat with its pass, and what it knows when it stops, or when a growth was refused to it
 pub record HasLeft (word : Word) (count workers worker : ℕ) (seat : Turn) (receipts : List Receipt) (refused : Bool) : Type 0 where
   pub pass : HasPass word seat
   pub stopped : refused ≡ false → HasStopped word count workers worker seat receipts
+  pub wanted : refused ≡ true → WasRefused word count workers worker seat receipts
 
 -- workers that have been joined, the first ones, with nothing refused to any: as many receipts as tickets, no receipt of a
 -- thread behind one that says that it has ended, and each has all its threads told ended, or a pass is spent

@@ -1,11 +1,11 @@
 //! Compares receipts with the journal and the machine.
 ghost use Rattle.std.specs.Prelude.{◌≡◌, ◌≢◌, ◌<◌, ℕ, slice_get, Some, MatchBool, MatchOption};
 ghost use Rattle.asl_journal.specs.Recorded.{has_ended};
-ghost use Rattle.asl_runner.specs.History.{AreRunning, AreTrue, IsDealt, IsRight, IsWrong, entry, entry_of};
+ghost use Rattle.asl_runner.specs.History.{AreTrue, IsDealt, IsRight, IsWrong, entry, entry_of};
 
 use crate::report::Report;
 use asl_journal::{Event, Receipt};
-use asl_machine::{Machine, Reply};
+use asl_machine::Machine;
 
 /// The first worker with wrong receipts.
 pub fn first_wrong(report: &Report, workers: u8) -> Option<u8>
@@ -26,8 +26,7 @@ pub fn first_wrong(report: &Report, workers: u8) -> Option<u8>
     None
 }
 
-/// Whether the worker's receipts are the journal's entries of its threads, true of the machine, and none of a step of a thread
-/// that had ended.
+/// Whether the worker's receipts are the journal's entries of its threads, and true of the machine.
 fn is_right(report: &Report, workers: u8, worker: u8, receipts: &[Receipt]) -> bool
     requires { 0 < workers }
     ensures { MatchBool result
@@ -36,7 +35,6 @@ fn is_right(report: &Report, workers: u8, worker: u8, receipts: &[Receipt]) -> b
 {
     is_dealt(workers, worker, report.journal.events(), receipts)
         && are_true(&report.machine, receipts)
-        && are_running(receipts)
 }
 
 /// Whether the receipts are the entries of the worker's threads, in the journal's order.
@@ -78,18 +76,6 @@ fn are_true(machine: &Machine, receipts: &[Receipt]) -> bool
 {
     for receipt in receipts {
         if receipt.ended && !is_at_end(machine, receipt.thread) {
-            return false;
-        }
-    }
-    true
-}
-
-/// Whether no receipt is of a step of a thread that had ended before.
-fn are_running(receipts: &[Receipt]) -> bool
-    ensures { MatchBool result (AreRunning receipts.now) (¬ AreRunning receipts.now) }
-{
-    for receipt in receipts {
-        if receipt.reply == Reply::Ended {
             return false;
         }
     }

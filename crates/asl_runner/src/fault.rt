@@ -9,7 +9,7 @@ pub enum RunFault {
     #[error("BadCount")]
     BadCount,
     /// The receipts of this worker are not the journal's entries of its threads, or one says that a thread has ended that has
-    /// not, or is of a step of a thread that had ended before.
+    /// not.
     #[error("Receipt({0})")]
     Receipt(u8),
     /// A worker's thread was not started.

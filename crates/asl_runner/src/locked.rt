@@ -1,8 +1,9 @@
 //! The machine and its journal under the lock.
-ghost use Rattle.std.specs.Prelude.{◌≡◌, ◌≢◌, ◌↔◌, ◌⊎◌, ◌<◌, ◌++◌, ◌∷◌, [], length, IfOk, IfErr, IsErrOf, OnErr, Err};
+ghost use Rattle.std.specs.Prelude.{◌≡◌, ◌↔◌, ◌⊎◌, ◌<◌, ◌++◌, ◌∷◌, [], true, false, length, IfOk, IfErr, IsErrOf, OnErr};
 ghost use Rattle.asl_machine.specs.WellFormed.{MayWantMemory};
 ghost use Rattle.asl_journal.specs.Journal.{IsJournal, most_events, state_at};
 ghost use Rattle.asl_journal.specs.Recorded.{IsUnchanged, event_of, has_ended, last_state};
+ghost use Rattle.asl_runner.specs.History.{AreRunning};
 
 use asl_journal::{Journal, JournalFault, Journaled, Receipt};
 use asl_machine::Machine;
@@ -29,12 +30,14 @@ impl Named for Brand {
     ghost count = { 0 };
 }
 
-/// A machine and the journal of its run, of which it is known which run it is.
+/// A machine and the journal of its run, of which it is known which run it is. No step of it is of a thread that had ended
+/// before.
 #[derive(Drop)]
 pub struct Locked<'p, J: Named> {
     journaled: Journaled<'p>,
     of: PhantomData<J>,
     ghost named: { (journaled.image ≡ J.image) × (journaled.count ≡ J.count) },
+    ghost running: { AreRunning journaled.events },
 }
 
 impl<'p, J: Named> Locked<'p, J> {
@@ -42,6 +45,7 @@ impl<'p, J: Named> Locked<'p, J> {
     pub fn new(journaled: Journaled<'p>) -> Locked<'p, J>
         requires image { journaled.image ≡ J.image }
         requires count { journaled.count ≡ J.count }
+        requires empty { journaled.events ≡ [] }
     {
         Locked {
             journaled,
@@ -49,27 +53,39 @@ impl<'p, J: Named> Locked<'p, J> {
         }
     }
 
-    /// Steps the thread, and writes the step down.
+    /// Steps the thread, which has not ended, and writes the step down.
+    ///
+    /// # Errors
+    ///
+    /// `BadThread` where the thread has ended; else `JournalFull` after 16,777,216 events; else `OutOfMemory` where a growth
+    /// was refused. Then no event is written, and the machine is where it was.
     pub fn step(&mut self, alloc: Global, t: u8) -> Result<Receipt, JournalFault>
         requires { t < J.count }
         ensures thread { IfOk result (λ receipt. receipt.thread ≡ t) }
         ensures event { IfOk result (λ receipt. self.new.journaled.events ≡ self.old.journaled.events ++ event_of receipt ∷ []) }
         ensures index { IfOk result (λ receipt. receipt.index ≡ length self.old.journaled.events) }
         ensures ended { IfOk result (λ receipt. receipt.ended ≡ has_ended (last_state self.new.journaled) t) }
-        ensures full { IsErrOf result JournalFault.JournalFull ↔ (length self.old.journaled.events ≡ most_events) }
-        ensures bad { result ≢ Err JournalFault.BadThread }
+        ensures gone { IsErrOf result JournalFault.BadThread ↔ (has_ended (last_state self.old.journaled) t ≡ true) }
+        ensures full { IsErrOf result JournalFault.JournalFull
+            ↔ ((has_ended (last_state self.old.journaled) t ≡ false) × (length self.old.journaled.events ≡ most_events)) }
         ensures memory { IsErrOf result JournalFault.OutOfMemory
             → (self.old.journaled.spare ≡ 0) ⊎ MayWantMemory J.image (last_state self.old.journaled) t }
-        ensures other { IfErr result (λ fault. (fault ≡ JournalFault.JournalFull) ⊎ (fault ≡ JournalFault.OutOfMemory)) }
+        ensures other { IfErr result (λ fault. (fault ≡ JournalFault.JournalFull) ⊎ (fault ≡ JournalFault.BadThread)
+            ⊎ (fault ≡ JournalFault.OutOfMemory)) }
         ensures err { OnErr result (IsUnchanged self.old.journaled self.new.journaled) }
     {
-        self.journaled.step(alloc, u32::from(t))
+        let t = u32::from(t);
+        if self.journaled.machine().pc(t).is_none() {
+            return Err(JournalFault::BadThread);
+        }
+        self.journaled.step(alloc, t)
     }
 
     /// The journal and the machine: the journal is one of this run.
     pub fn into_parts(self) -> (Journal, Machine<'p>)
         ensures threads { result.0.threads ≡ J.count }
         ensures journal { IsJournal J.image J.count result.0.events }
+        ensures running { AreRunning result.0.events }
         ensures machine { result.1 ≡ record { image = J.image; state = state_at J.image J.count result.0.events } }
     {
         let Locked { journaled, of: _ } = self;
@@ -79,7 +95,7 @@ impl<'p, J: Named> Locked<'p, J> {
 
 /// What workers step under the lock.
 pub trait Steps: Sync {
-    ghost use Rattle.std.specs.Prelude.{◌≡◌, ◌≢◌, ◌<◌, ℕ, IfOk, Err};
+    ghost use Rattle.std.specs.Prelude.{◌≡◌, ◌<◌, ℕ, IfOk};
 
     /// How many threads there are.
     ghost count: { ℕ };
@@ -87,8 +103,7 @@ pub trait Steps: Sync {
     /// Takes the lock, steps the thread, and frees the lock.
     fn step_one<R: Wait>(&self, rt: &R, alloc: Global, t: u8) -> Result<Receipt, JournalFault>
         requires { t < count }
-        ensures thread { IfOk result (λ receipt. receipt.thread ≡ t) }
-        ensures bad { result ≢ Err JournalFault.BadThread };
+        ensures { IfOk result (λ receipt. receipt.thread ≡ t) };
 }
 
 impl<'p, J: Named + Send + Sync> Steps for Mutex<Locked<'p, J>> {

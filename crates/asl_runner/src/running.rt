@@ -1,7 +1,7 @@
 //! The run: a machine of the program under a lock, and workers that step it.
-ghost use Rattle.std.specs.Prelude.{◌≡◌, ◌<◌, ◌≤◌, ◌⊎◌, All, map, length, IfOk, IfErr, OnOk};
+ghost use Rattle.std.specs.Prelude.{◌≡◌, ◌<◌, ◌≤◌, ◌⊎◌, [], map, length, IfOk, IfErr, OnOk};
 ghost use Rattle.asl_journal.specs.Journal.{state_at};
-ghost use Rattle.asl_runner.specs.History.{AreAllEndsLast, AreAllTrue, HaveEnded, IsAsked, IsHistory, WasRunning};
+ghost use Rattle.asl_runner.specs.History.{AreAllEndsLast, AreAllTrue, AreRunning, HaveEnded, IsAsked, IsHistory};
 ghost use Rattle.asl_runner.specs.Refused.{IsRefusal};
 ghost use Rattle.asl_runner.specs.Ending.{AreAllTold, IsRun};
 
@@ -29,15 +29,14 @@ const MAX_STEPS: u64 = MAX_EVENTS as u64;
 /// Runs n threads of the program by 1 to 8 workers, each a thread of the system. Worker j steps the threads t with
 /// t mod workers = j, as long as they have not ended, one ticket for each step, until all have ended or `limit` tickets are
 /// drawn. The journal is one that a single thread could have made, and no step of it is of a thread that had ended before. Each
-/// thread of which a receipt says that it has ended has ended; no thread is stepped behind such a receipt. Where tickets are
+/// thread of which a receipt says that it has ended has ended; no thread is stepped after such a receipt. Where tickets are
 /// left, each thread has such a receipt. `docs/WORKERS.md` says more.
 ///
 /// # Errors
 ///
 /// `BadCount` where n is not 1 to as many as the program's version sets, workers not 1 to 8, or limit above 16,777,216. `Spawn`
 /// and `OutOfMemory` where a start or a growth was refused; no worker runs any more then. `Receipt(worker)`, with the report,
-/// where that worker's receipts are not the journal's entries of its threads, or one says that a thread has ended that has not,
-/// or is of a step of a thread that had ended before.
+/// where that worker's receipts are not the journal's entries of its threads, or one says that a thread has ended that has not.
 pub fn run<'p, R: Threads + Wait + Sync, G: Gate>(
     rt: &R,
     alloc: Global,
@@ -53,7 +52,7 @@ pub fn run<'p, R: Threads + Wait + Sync, G: Gate>(
     ensures told { IfOk result (λ report. AreAllTrue (state_at program.now n report.journal.events) (map (λ mine. mine.items) report.receipts.items)) }
     ensures last { IfOk result (λ report. AreAllEndsLast (map (λ mine. mine.items) report.receipts.items)) }
     ensures ends { IfOk result (λ report. AreAllTold n workers (map (λ mine. mine.items) report.receipts.items) ⊎ (report.tickets ≡ limit)) }
-    ensures running { IfOk result (λ report. All (λ event. WasRunning event.reply) report.journal.events) }
+    ensures running { IfOk result (λ report. AreRunning report.journal.events) }
     ensures machine { IfOk result (λ report. report.machine ≡ record { image = program.now; state = state_at program.now n report.journal.events }) }
     ensures tickets { IfOk result (λ report. length report.journal.events ≡ report.tickets) }
     ensures limit { IfOk result (λ report. report.tickets ≤ limit) }
@@ -90,6 +89,7 @@ fn run_as<'p, J: Named + Send + Sync, R: Threads + Wait + Sync, G: Gate>(
 ) -> Result<Report<'p>, RunFault>
     requires image { journaled.image ≡ J.image }
     requires named { (journaled.count ≡ J.count) × (count ≡ J.count) }
+    requires empty { journaled.events ≡ [] }
     requires asked { IsAsked journaled.image count workers limit }
     ensures run { IfOk result (λ report. IsRun journaled.entry.image count workers limit report) }
     ensures other { IfErr result (λ fault. (fault ≡ RunFault.Spawn) ⊎ (fault ≡ RunFault.OutOfMemory)) }

@@ -1,5 +1,5 @@
 //! Starts a thread of the system for each worker, and waits for all of them.
-ghost use Rattle.std.specs.Prelude.{◌≡◌, ◌<◌, ◌≤◌, ◌⊎◌, [], IfOk, IfErr, vec_len};
+ghost use Rattle.std.specs.Prelude.{◌≡◌, ◌<◌, ◌≤◌, ◌⊎◌, [], IfOk, IfErr, vec_len, vec_capacity};
 ghost use Rattle.asl_code.specs.Versions.{newest_threads};
 ghost use Rattle.asl_runner.specs.Working.{HasLeft};
 ghost use Rattle.asl_runner.specs.Starting.{ArePromised, AreSeats, HaveWorked};
@@ -51,7 +51,8 @@ pub fn start<R: Threads + Wait + Sync, S: Steps, G: Gate>(
             ensures works { IfOk result (λ works. (vec_len works ≡ vec_len seats) × HaveWorked turns.entry.now count (vec_len seats) works.items) }
             ensures other { IfErr result (λ fault. (fault ≡ RunFault.Spawn) ⊎ (fault ≡ RunFault.OutOfMemory)) }
         {
-            let handles = start_workers(scope, rt, alloc, count, steps, turns, gate, seats)?;
+            let room = Vec::with_capacity(alloc, seats.len())?;
+            let handles = start_workers(scope, rt, alloc, count, steps, turns, gate, seats, room)?;
             match thread::join_promised(rt, handles) {
                 Ok(works) => Ok(works),
                 Err(_) => Err(RunFault::OutOfMemory),
@@ -60,7 +61,7 @@ pub fn start<R: Threads + Wait + Sync, S: Steps, G: Gate>(
     )
 }
 
-/// Starts the threads of the workers, one for each seat.
+/// Starts the threads of the workers, one for each seat, and adds their handles, for which there is room.
 fn start_workers<'s, E, R: Wait + Sync, S: Steps, G: Gate>(
     scope: &Scope<'s, E>,
     rt: &'s R,
@@ -70,16 +71,18 @@ fn start_workers<'s, E, R: Wait + Sync, S: Steps, G: Gate>(
     turns: &'s Turns,
     gate: &'s G,
     seats: Vec<TurnSeat>,
+    mut handles: Vec<PromisedHandle<Work, WorkOf<'s>>>,
 ) -> Result<Vec<PromisedHandle<Work, WorkOf<'s>>>, RunFault>
+    requires none { vec_len handles ≡ 0 }
+    requires room { vec_len seats ≤ vec_capacity handles }
     requires count { S.count ≡ count }
     requires threads { count ≤ newest_threads }
     requires few { vec_len seats ≤ 8 }
     requires seats { AreSeats turns.now seats.items }
-    ensures handles { IfOk result (λ handles. (vec_len handles ≡ vec_len seats) × ArePromised turns.now count (vec_len seats) handles.items) }
-    ensures other { IfErr result (λ fault. (fault ≡ RunFault.Spawn) ⊎ (fault ≡ RunFault.OutOfMemory)) }
+    ensures handles { IfOk result (λ all. (vec_len all ≡ vec_len seats) × ArePromised turns.now count (vec_len seats) all.items) }
+    ensures other { IfErr result (λ fault. fault ≡ RunFault.Spawn) }
 {
     let workers = seats.len() as u32;
-    let mut handles = Vec::with_capacity(alloc, seats.len())?;
     let mut worker: u8 = 0;
     for seat in seats {
         let post = Post {

@@ -86,6 +86,7 @@ fn next_thread(post: Post, going: &[bool; MAX_THREADS], from: u32) -> Option<u8>
 }
 
 /// One call: a ticket, and with it a step of one of the worker's threads.
+#[tactic(auto, unfolding(crate::specs::Working::WasRefused))]
 fn turn<R: Wait, S: Steps, G: Gate>(
     rt: &R,
     alloc: Global,
@@ -131,18 +132,19 @@ fn note_end(going: &mut [bool; MAX_THREADS], receipt: &Receipt)
     }
 }
 
-/// What the step of the thread answered. A journal that is full gives a receipt that no journal has.
+/// What the step of the thread answered. Where the journal is full, or the thread had ended, it is a receipt that no journal
+/// has, and the thread goes on no more.
 fn stepped<R: Wait, S: Steps>(rt: &R, alloc: Global, steps: &S, thread: u8) -> Option<Receipt>
     requires { thread < S.count }
     ensures { MatchOption result (Unit {0}) (λ receipt. receipt.thread ≡ thread) }
 {
     match steps.step_one(rt, alloc, thread) {
         Ok(receipt) => Some(receipt),
-        Err(JournalFault::JournalFull) => Some(Receipt {
+        Err(JournalFault::JournalFull | JournalFault::BadThread) => Some(Receipt {
             index: NO_ENTRY,
             thread,
-            reply: Reply::Blocked,
-            ended: false,
+            reply: Reply::Ended,
+            ended: true,
         }),
         Err(_) => None,
     }

@@ -1,4 +1,4 @@
-use Rattle.std.proofs.Common.{rules, ◌≡◌, ◌+◌, length, vec_len, arith, ap, ◌∙◌}
+use Rattle.std.proofs.Common.{rules, ◌≡◌, ◌+◌, Some, length, slice_get, vec_len, arith, ap, ◌∙◌}
 use Rattle.std.specs.Vec.Iter.{into_iter_items}
 use Rattle.asl_turns.specs.Turn.{Turn}
 use Rattle.asl_runner.proofs.Joins.{first_from, first_worked, refused_more, rest_from, rest_worked, work_joined}
@@ -30,3 +30,25 @@ loop-work-preserved c =
       rest_from done (vec_len c.push_reserved.new.self) c.args.works.items c.in-Some.work rest all steps.0 more inv.8,
       refused_more c.args.works.items done c.in-Some.work c.loop-work.refused (first_from done c.args.works.items c.in-Some.work rest all steps.0 inv.8) inv.9,
     )
+
+pub loop-work-init : goal.loop-work-init
+loop-work-init c = (
+  tt,
+  tt,
+  search rules,
+  search rules,
+  search rules,
+  search rules,
+  λ k w at.
+      let number : vec_len c.in_ok-receipts.receipts + k ≡ k = omega (arith, c.in_ok-receipts.ensures.len) in
+      rw number (c.requires.worked k w (search rules)),
+  search rules,
+  search rules,
+  search rules,
+)
+
+pub join-requires-clause-other : goal.join-requires-clause-other
+join-requires-clause-other c =
+    let inv = c.loop-work.invariant in
+    let steps = c.in-Some.ensures.steps in
+    (first_worked c.args.turns.now c.args.count (vec_len c.args.works) (vec_len c.loop-work.receipts) c.in-Some.work (into_iter_items c.next.new.self) (into_iter_items c.loop-work.work-iterator) steps.0 inv.6).pass.of

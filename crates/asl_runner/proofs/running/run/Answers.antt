@@ -2,7 +2,6 @@ use Rattle.std.proofs.Common.{rules, inl, inr, sym, ap, ◌∙◌}
 use Rattle.asl_machine.specs.View.{Configuration}
 use Rattle.asl_runner.specs.Ending.{all_receipts}
 use Rattle.asl_runner.proofs.Ends.{have_ended, are_right, wrong_at}
-use Rattle.asl_runner.proofs.NoneBehind.{all_running}
 use Rattle.asl_runner.proofs.Sizes.{as_many}
 use Rattle.asl_runner.proofs.running.run.Goals as goal
 
@@ -28,11 +27,7 @@ pub returns-in-None-clause-ends : goal.returns-in-None-clause-ends
 returns-in-None-clause-ends g c = c.in-Ok-run_as.ensures.run.end
 
 pub returns-in-None-clause-running : goal.returns-in-None-clause-running
-returns-in-None-clause-running g c =
-    let ran = c.in-Ok-run_as.ensures.run in
-    let report = c.in-Ok-run_as.report in
-    let right = are_right c.args.workers report ran.dealers c.in-None.ensures in
-    all_running c.args.workers report.journal.events (all_receipts report) (search (c.if-workers-eq0.false, rules)) ran.dealers (λ worker mine at. (right worker mine at).dealt) (λ worker mine at. (right worker mine at).running)
+returns-in-None-clause-running g c = c.in-Ok-run_as.ensures.run.running
 
 pub returns-in-None-clause-tickets : goal.returns-in-None-clause-tickets
 returns-in-None-clause-tickets g c =

@@ -13,6 +13,7 @@ returns-clause-run g c =
     record {
       threads = c.into_parts-journal.ensures.threads ∙ sym c.requires.named.1;
       journal = rw (c.requires.image, c.requires.named.1) (c.into_parts-journal.ensures.journal);
+      running = c.into_parts-journal.ensures.running;
       machine = rw (c.requires.image, c.requires.named.1) (c.into_parts-journal.ensures.machine);
       dealers = length-map c.in_ok-gathered.gathered.receipts.items (λ mine. mine.items) ∙ length_is ∙ c.in_ok-gathered.ensures.receipts ∙ workers;
       receipts = joined.drawn ∙ c.finish-tickets.ensures.count;
@@ -20,3 +21,6 @@ returns-clause-run g c =
       short = rw (← limit) c.finish-tickets.ensures.limit;
       end = end_of c.args.count c.args.workers c.finish-tickets.result c.args.limit c.gather.new.seat all (rw (← workers) joined) (rw (← limit) c.finish-tickets.ensures.spent);
     }
+
+pub gather-requires-clause-worked : goal.gather-requires-clause-worked
+gather-requires-clause-worked g c = rw c.in_ok-works.ensures.works.0 c.in_ok-works.ensures.works.1
