@@ -1,8 +1,9 @@
-/* The lock forest of asl for C: who holds which mode at which node (docs/LOCKS.md).
+/* asl for C: the commands of the program as one call (libasl_call.a), and the lock forest (libasl_c.a): who holds which mode at
+ * which node (docs/LOCKS.md).
  *
- * What C owes: pointers with the lengths that go with them, one call at a time on one handle (a mutex will do; a handle may go
- * from one thread to another), and malloc, realloc and free of one allocator. What is proved of these functions stands in
- * docs/PROOFS.md, "For C".
+ * What C owes: pointers with the lengths that go with them (with length 0 any pointer will do, NULL too), buffers that do not
+ * overlap, one call at a time on one handle (a mutex will do; a handle may go from one thread to another), and malloc, realloc and
+ * free of one allocator. What is proved of these functions stands in docs/PROOFS.md, "For C".
  *
  * docs/EMBEDDING.md shows them at work; examples/c/bank.c is a program. */
 #ifndef ASL_H
@@ -15,6 +16,31 @@
 #ifdef __cplusplus
 extern "C" {
 #endif
+
+/* What a command leaves: its status, and how many bytes there are of output and of what it says on standard error, whether or not
+ * there was room for them. */
+typedef struct asl_answer {
+  uint32_t status;
+  size_t output_length;
+  size_t errors_length;
+} asl_answer;
+
+enum {
+  ASL_DONE = 0,
+  ASL_REFUSED = 1,     /* errors has a line that says why: docs/CLI.md, "Refusals" */
+  ASL_WRONG_USAGE = 2, /* the words are none of the program's */
+  /* From here on nothing was done, both lengths are 0, and the buffers are as they were. */
+  ASL_NOT_UTF8 = 253,         /* the words are not UTF-8 */
+  ASL_NO_ROOM_FOR_WORDS = 254, /* memory ran out before the words were read */
+  ASL_RUN_WAITS = 255          /* the words ask for `run`, which starts threads */
+};
+
+/* Does what the program does for these words, which stand in `words` with a line feed between two; `words_length` 0 is no words.
+ * `input` is what the program would read. `output` and `errors` get as much of its output and of its standard error as they have
+ * room for, from their front on; their other bytes stay. Where `answer` tells more than there was room for, call again with more.
+ * Calls may overlap in time. */
+void asl_call(const uint8_t *words, size_t words_length, const uint8_t *input, size_t input_length, uint8_t *output,
+              size_t output_room, uint8_t *errors, size_t errors_room, asl_answer *answer);
 
 /* Begin with {0}. Do not copy a handle, and do not write its fields. */
 typedef struct asl_forest {
@@ -36,16 +62,17 @@ typedef struct asl_ask {
   uint16_t object;
 } asl_ask;
 
-/* Where several apply, the first of those that a function names is returned. Unless it is ASL_OK, nothing has changed. */
+/* Of 3 to 11 the least that applies is returned. 1 and 2 are returned only where none of these applies, and 2 only where nobody is
+ * in the way. Unless it is ASL_OK, nothing has changed. */
 enum {
   ASL_OK = 0,
   ASL_IN_THE_WAY = 1, /* another thread holds a mode that clashes with what is asked */
-  ASL_NO_MEMORY = 2,
+  ASL_NO_MEMORY = 2,  /* malloc or realloc gave nothing */
   ASL_BAD_HANDLE = 3, /* no forest in the handle; for asl_forest_new: there is one already */
   ASL_BAD_THREAD = 4, /* no such thread */
-  ASL_BAD_CLASS = 5,  /* no such class */
-  ASL_BAD_MODE = 6,   /* no such mode, or NL in a request */
-  ASL_BAD_KIND = 7,   /* no such kind of node */
+  ASL_BAD_KIND = 5,   /* no such kind of node */
+  ASL_BAD_CLASS = 6,  /* no such class */
+  ASL_BAD_MODE = 7,   /* no such mode, or NL in a request */
   ASL_NODE_TWICE = 8, /* a node is named twice */
   ASL_NO_PARENT = 9,  /* the parent of a node is not asked as its mode wants it: IS or stronger for IS and S, IX or stronger
                          for IX, SIX and X */
@@ -53,22 +80,24 @@ enum {
   ASL_BAD_COUNT = 11  /* threads: 1 to 128 */
 };
 
-/* Makes a forest for so many classes and 1 to 128 threads, numbered from 0; nobody holds anything. */
+/* Makes a forest for so many classes and 1 to 128 threads, numbered from 0; nobody holds anything. Returns 0, 2, 3 or 11. */
 uint32_t asl_forest_new(uint32_t classes, uint32_t threads, asl_forest *forest);
 
-/* Frees the forest; the handle has none then. */
+/* Frees the forest; the handle has none then. Returns 0 or 3. */
 uint32_t asl_forest_free(asl_forest *forest);
 
-/* Grants all that is asked, or nothing: all where each mode is compatible with what every other thread holds at that node. */
+/* Grants all that is asked, or nothing: all where each mode is compatible with what every other thread holds at that node.
+ * Returns 0 to 10. */
 uint32_t asl_forest_try_acquire(asl_forest *forest, uint32_t thread, const asl_ask *asks, size_t count);
 
-/* Takes away all that the thread holds. */
+/* Takes away all that the thread holds. Returns 0, 3 or 4. */
 uint32_t asl_forest_release(asl_forest *forest, uint32_t thread);
 
-/* Writes the mode in which the thread holds the node of `at`, whose mode is not read. */
+/* Writes the mode in which the thread holds the node of `at`, whose mode is not read. Returns 0, 3, 4, 5 or 6. */
 uint32_t asl_forest_mode(asl_forest *forest, uint32_t thread, const asl_ask *at, uint8_t *mode);
 
-/* Writes whether the thread may read, or where `writes` is true write, the cell of `at`, whose kind and mode are not read. */
+/* Writes whether the thread may read, or where `writes` is true write, the cell of `at`, whose kind and mode are not
+ * read. Returns 0, 3, 4 or 6. */
 uint32_t asl_forest_covers(asl_forest *forest, uint32_t thread, const asl_ask *at, bool writes, bool *covers);
 
 #ifdef __cplusplus

@@ -1,5 +1,7 @@
-/* Each status of each function of the C library, once at least */
+/* Each status of each function of the C library, once at least; which comes first where several apply; and memory refused at each
+ * request in turn. Link it with --wrap=malloc and --wrap=realloc. */
 #include "asl.h"
+#include "refuse.h"
 #include <stdio.h>
 #include <stdlib.h>
 
@@ -29,12 +31,27 @@ static void refusals_of_requests(asl_forest *forest) {
   must(asl_forest_try_acquire(forest, 0, weak, 2), ASL_NO_PARENT, "X below IS");
 }
 
+/* each request has the faults of the one before but the first */
+static void first_faults(asl_forest *forest) {
+  asl_ask all[] = {node(7, 2, 9, 0, 0), node(ASL_CLASS, ASL_X, 9, 0, 0), node(ASL_CLASS, ASL_X, 9, 0, 0)};
+  must(asl_forest_try_acquire(forest, 128, all, 3), ASL_BAD_THREAD, "the thread first");
+  must(asl_forest_try_acquire(forest, 0, all, 3), ASL_BAD_KIND, "then the kind");
+  all[0].kind = ASL_CLASS;
+  must(asl_forest_try_acquire(forest, 0, all, 3), ASL_BAD_CLASS, "then the class");
+  all[0].klass = all[1].klass = all[2].klass = 1;
+  must(asl_forest_try_acquire(forest, 0, all, 3), ASL_BAD_MODE, "then the mode");
+  all[0].mode = ASL_X;
+  must(asl_forest_try_acquire(forest, 0, all, 3), ASL_NODE_TWICE, "then the node that is named twice");
+  must(asl_forest_try_acquire(forest, 0, all, 1), ASL_NO_PARENT, "then the parent");
+}
+
 static void grants(asl_forest *forest) {
   asl_ask root = node(ASL_ROOT, ASL_X, 0, 0, 0);
   asl_ask leaf[] = {node(ASL_ROOT, ASL_IX, 0, 0, 0), node(ASL_CLASS, ASL_IX, 1, 0, 0), node(ASL_LEAF, ASL_X, 1, 500, 3)};
   must(asl_forest_try_acquire(forest, 0, NULL, 0), ASL_OK, "the empty request");
   must(asl_forest_try_acquire(forest, 0, leaf, 3), ASL_OK, "a leaf");
   must(asl_forest_try_acquire(forest, 0, &root, 1), ASL_HOLDS, "a second request");
+  must(asl_forest_try_acquire(forest, 0, &leaf[2], 1), ASL_NO_PARENT, "the parent before what is held");
   must(asl_forest_try_acquire(forest, 1, &root, 1), ASL_IN_THE_WAY, "the root beside a leaf");
   uint8_t mode;
   must(asl_forest_mode(forest, 0, &root, &mode), ASL_OK, "the root's mode");
@@ -75,6 +92,7 @@ static void forest(void) {
   must(asl_forest_new(2, 128, &forest), ASL_OK, "128 threads");
   must(asl_forest_new(2, 128, &forest), ASL_BAD_HANDLE, "a second forest");
   refusals_of_requests(&forest);
+  first_faults(&forest);
   grants(&forest);
   readers(&forest);
   must(asl_forest_release(&forest, 200), ASL_BAD_THREAD, "release of thread 200");
@@ -84,6 +102,39 @@ static void forest(void) {
   must(asl_forest_free(&forest), ASL_BAD_HANDLE, "free twice");
 }
 
+/* memory is refused at each request in turn: nothing changes, and no other status is hidden */
+static void memory(void) {
+  asl_forest forest = {0};
+  uint32_t status = ASL_NO_MEMORY;
+  for (long grants = 0; status != ASL_OK; grants++) {
+    granted = grants;
+    status = asl_forest_new(2, 3, &forest);
+    granted = -1;
+    if (status != ASL_OK) must(status, ASL_NO_MEMORY, "a new forest without memory"), must(forest.live, false, "no forest then");
+  }
+  asl_ask leaf[] = {node(ASL_ROOT, ASL_IX, 0, 0, 0), node(ASL_CLASS, ASL_IX, 1, 0, 0), node(ASL_LEAF, ASL_X, 1, 500, 3)};
+  uint8_t mode = 99;
+  granted = 0;
+  must(asl_forest_try_acquire(&forest, 0, &leaf[1], 1), ASL_NO_PARENT, "a bad request without memory");
+  must(asl_forest_try_acquire(&forest, 0, NULL, 0), ASL_OK, "the empty request without memory");
+  must(asl_forest_release(&forest, 0), ASL_OK, "a release without memory");
+  status = ASL_NO_MEMORY;
+  for (long grants = 0; status != ASL_OK; grants++) {
+    granted = grants;
+    status = asl_forest_try_acquire(&forest, 0, leaf, 3);
+    granted = -1;
+    if (status == ASL_OK) break;
+    must(status, ASL_NO_MEMORY, "a request without memory");
+    must(asl_forest_mode(&forest, 0, leaf, &mode), ASL_OK, "the mode then");
+    must(mode, ASL_NL, "nothing is held then");
+  }
+  asl_ask root = node(ASL_ROOT, ASL_X, 0, 0, 0);
+  granted = 0;
+  must(asl_forest_try_acquire(&forest, 1, &root, 1), ASL_IN_THE_WAY, "in the way without memory");
+  must(asl_forest_free(&forest), ASL_OK, "free without memory");
+}
+
 int main(void) {
   forest();
+  memory();
 }

@@ -1,4 +1,5 @@
 pub mod Asks
+pub mod Status
+-- Machinery: what a request must be for the forest, and what a handle owns.
 pub mod Fits
--- Machinery: what a handle owns.
 pub mod Owned
