@@ -1,26 +1,41 @@
 //! Why a program is not checked.
 
+use crate::spelled::Spelled;
 use asl_code::Lock;
 use asl_emitter::InferFault;
 use std::alloc::AllocError;
+use std::fmt;
+use std::fmt::Write;
+use thiserror::Error;
 
-/// Why a program is not checked: the first that applies, in this order.
-#[derive(Drop)]
+/// Why a program is not checked: the first that applies, in this order. A lock is shown as an assembly text has it.
+#[derive(Drop, Error)]
 pub enum CheckFault {
     /// No lists are inferred for the tree.
+    #[error(transparent)]
     Infer(InferFault),
     /// The program is not the tree's: the first instruction that is another's, or the number of instructions where the code is
     /// the same, and the version or a table is not.
+    #[error("OtherCode({0})")]
     OtherCode(usize),
     /// The section of this number needs the lock, and no lock of its list stands over it: the first such section, and of the locks
     /// that it needs, but for those that another of them absorbs, the first in the order of locks.
+    #[error("Uncovered({0}, {lock})", lock = Spelled(.1))]
     Uncovered(u16, Lock),
     /// An expression of the list of the section of this number reads the cell of the lock when it is evaluated, and no lock of the
     /// list stands over it: the first such section, and its first such lock in the order in which they are read. Each list is
     /// enough for what its section needs.
+    #[error("Unguarded({0}, {lock})", lock = Spelled(.1))]
     Unguarded(u16, Lock),
     /// The memory ran out.
+    #[error("OutOfMemory")]
     OutOfMemory,
+}
+
+impl fmt::Debug for CheckFault {
+    fn fmt<W: fmt::Write>(&self, f: &mut fmt::Formatter<W>) -> fmt::Result {
+        write!(f, "{self}")
+    }
 }
 
 impl From<InferFault> for CheckFault {

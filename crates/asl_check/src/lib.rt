@@ -8,6 +8,7 @@ mod covered;
 mod fault;
 pub mod laws;
 mod over;
+mod spelled;
 
 pub use checked::check;
 pub use fault::CheckFault;
