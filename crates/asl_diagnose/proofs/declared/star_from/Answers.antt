@@ -1,0 +1,19 @@
+use Rattle.asl_grammar.specs.declared.token.Mark.TheVariants as mark
+use Rattle.asl_grammar.specs.Token.{Fixed}
+use Rattle.asl_grammar.specs.Lex.{tokens_of}
+use Rattle.asl_grammar.specs.Reader.{spots_left}
+use Rattle.asl_grammar.specs.View.{spot_of}
+use Rattle.asl_diagnose.proofs.Tokens.{none_passed, one_passed}
+use Rattle.asl_diagnose.proofs.Scanned.{token_there}
+use Rattle.asl_diagnose.proofs.declared.star_from.Goals as goal
+
+pub reading-init : goal.reading-init
+reading-init c = none_passed (tokens_of c.args.text.now) (spots_left c.new-tokens.result) c.new-tokens.ensures.tokens
+
+pub reading-preserved : goal.reading-preserved
+reading-preserved c =
+    one_passed (tokens_of c.args.text.now) (spots_left c.reading.tokens) (spots_left c.next.new.self) (spot_of c.in-Token.spot) c.reading.invariant c.in-Token.ensures.found.0
+
+pub returns-then-is_star : goal.returns-then-is_star
+returns-then-is_star c =
+    token_there (Fixed mark.Star) (tokens_of c.args.text.now) (spots_left c.reading.tokens) (spots_left c.next.new.self) (spot_of c.in-Token.spot) c.reading.invariant c.in-Token.ensures.found.0 (c.is_star.ensures c.if-is_star.true)

@@ -1,0 +1,5 @@
+use Rattle.asl_diagnose.specs.Rows.{rows_left}
+use Rattle.asl_diagnose.proofs.listing.limit_row.Given as goal
+
+abbrev pub decreases-rows : goal.decreases-rows
+decreases-rows l = rows_left l.rows

@@ -1,0 +1,10 @@
+pub mod Told
+pub mod Diagnosed
+pub mod Names
+pub mod Position
+pub mod Expected
+pub mod Places
+-- Machinery of the proofs, not of the promise:
+pub mod Rows
+pub mod SeenView
+pub mod WalkView

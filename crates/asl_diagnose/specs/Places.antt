@@ -1,0 +1,79 @@
+-- Places of names and words among the tokens of a text.
+use Rattle.std.specs.Prelude.{◌≡◌, ◌≢◌, ℕ, List, [], ◌∷◌, ◌++◌, suc, Bool, true, false, bytes_eq, if◌then◌else◌}
+use Rattle.std.specs.List.{All, Contains}
+use Rattle.asl_grammar.specs.declared.token.Mark.TheVariants as mark
+use Rattle.asl_grammar.specs.Token.{Token, Fixed, Name, Spot}
+use Rattle.asl_diagnose.specs.declared.declared.Word.{Word}
+use Rattle.asl_diagnose.specs.declared.declared.Word.TheVariants as word
+use Rattle.asl_diagnose.specs.declared.declared.Declares.{Declares}
+use Rattle.asl_diagnose.specs.declared.declared.Declares.TheVariants.{Global, Function, Parameter, Nothing}
+
+-- the token is the name
+abbrev pub is_named : List ℕ → Token → Bool
+is_named x (Name y) = bytes_eq y x
+is_named x t = false
+
+-- the name as a token at a place
+abbrev pub named : List ℕ → ℕ → Spot
+named x at = record { token = Name x; at = at }
+
+-- a token that is the name stands there
+abbrev pub IsNameAt : List Spot → List ℕ → ℕ → Type 0
+IsNameAt ss x at = Contains ss (named x at)
+
+-- the token is the word
+abbrev pub is_word : Word → Token → Bool
+is_word word.Fn (Fixed mark.Fn) = true
+is_word word.Atomic (Fixed mark.Atomic) = true
+is_word w t = false
+
+-- how many of the word there are
+abbrev pub words_in : Word → List Spot → ℕ
+words_in w [] = 0
+words_in w (s ∷ ss) = if is_word w s.token then suc (words_in w ss) else words_in w ss
+
+-- the word stands there, and so many of it before
+pub record IsWordAt (ss : List Spot) (w : Word) (number at : ℕ) : Type 0 where
+  pub before : List Spot
+  pub here : Spot
+  pub behind : List Spot
+  pub split : ss ≡ before ++ here ∷ behind
+  pub word : is_word w here.token ≡ true
+  pub place : here.at ≡ at
+  pub counted : words_in w before ≡ number
+
+-- what the next name declares: behind `global` a global, behind `fn` a function, and from a function's name to the parenthesis that
+-- closes a parameter
+abbrev pub declares_behind : Declares → Token → Declares
+declares_behind next (Fixed mark.Global) = Global
+declares_behind next (Fixed mark.Fn) = Function
+declares_behind next (Fixed mark.CloseParen) = Nothing
+declares_behind Function (Name x) = Parameter
+declares_behind Parameter (Name x) = Parameter
+declares_behind next (Name x) = Nothing
+declares_behind next t = next
+
+-- the same behind tokens
+abbrev pub declares_from : Declares → List Spot → Declares
+declares_from next [] = next
+declares_from next (s ∷ ss) = declares_from (declares_behind next s.token) ss
+
+-- what a name behind these tokens declares
+abbrev pub declares : List Spot → Declares
+declares before = declares_from Nothing before
+
+-- a parameter's function goes on over these tokens: no `fn` stands among them; others have no such bound
+abbrev pub SameFunction : Declares → List Spot → Type 0
+SameFunction Parameter ss = All (λ (s : Spot). is_word word.Fn s.token ≡ false) ss
+SameFunction what ss = Unit {0}
+
+-- the name is declared at two places, first at the first of them, in one name space: as globals, as functions, or as parameters of
+-- one function
+pub record AreDeclaredAt (ss : List Spot) (x : List ℕ) (first second : ℕ) : Type 0 where
+  pub before : List Spot
+  pub between : List Spot
+  pub behind : List Spot
+  pub split : ss ≡ before ++ named x first ∷ (between ++ named x second ∷ behind)
+  pub real : declares before ≢ Nothing
+  pub same : declares (before ++ named x first ∷ between) ≡ declares before
+  pub function : SameFunction (declares before) between

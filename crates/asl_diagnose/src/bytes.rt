@@ -1,0 +1,40 @@
+//! Bytes of a text, written so that a terminal shows each as one character.
+
+use std::alloc::AllocError;
+
+/// The character that is shown for a byte: itself, where it is printable ASCII or a tab.
+fn shown(byte: u8) -> char {
+    if byte == b'\t' || b' ' <= byte && byte <= b'~' {
+        char::from(byte)
+    } else {
+        '?'
+    }
+}
+
+/// Adds bytes.
+pub fn push_bytes(out: &mut String, bytes: &[u8]) -> Result<(), AllocError> {
+    for byte in bytes {
+        out.push(shown(*byte))?;
+    }
+    Ok(())
+}
+
+/// Adds bytes between backticks, at most forty of them.
+pub fn push_quoted(out: &mut String, bytes: &[u8]) -> Result<(), AllocError> {
+    let shown = &bytes[..bytes.len().min(40)];
+    out.push_str("`")?;
+    push_bytes(out, shown)?;
+    out.push_str(if shown.len() < bytes.len() {
+        "..`"
+    } else {
+        "`"
+    })
+}
+
+/// Adds a blank for each byte, and a tab for each tab, so that what follows stands below what follows the bytes.
+pub fn push_blanks(out: &mut String, bytes: &[u8]) -> Result<(), AllocError> {
+    for byte in bytes {
+        out.push(if *byte == b'\t' { '\t' } else { ' ' })?;
+    }
+    Ok(())
+}

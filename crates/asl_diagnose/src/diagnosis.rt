@@ -1,0 +1,36 @@
+//! What is told of a text that is refused.
+
+use crate::kind::TokenKind;
+use asl_assembler::AsmFault;
+use asl_emitter::InferFault;
+use asl_syntax::SyntaxFault;
+
+/// Why a text is refused.
+#[derive(Drop)]
+pub enum Refusal {
+    /// The source is no program.
+    Syntax(SyntaxFault),
+    /// No lists are inferred for the source.
+    Infer(InferFault),
+    /// The assembly text is no program.
+    Asm(AsmFault),
+}
+
+/// What is told of a text that is refused.
+#[derive(Drop)]
+pub struct Diagnosis {
+    /// Why it is refused.
+    pub refusal: Refusal,
+    /// The place, in bytes from 0.
+    pub at: usize,
+    /// The line of the place, from 1.
+    pub line: usize,
+    /// The place in its line, in bytes from 1.
+    pub column: usize,
+    /// For `Grammar` the kinds of token with which a program goes on there, else none.
+    pub expected: Vec<TokenKind>,
+    /// For `Grammar` whether a program may end there.
+    pub may_end: bool,
+    /// For `Twice` the place of the first of the two declarations.
+    pub first: Option<usize>,
+}

@@ -1,0 +1,128 @@
+//! The lines of an assembly text, and the words of a line.
+
+ghost use Rattle.std.specs.Prelude.{◌≡◌};
+ghost use Rattle.std.specs.List.{prefix_len};
+ghost use Rattle.asl_assembler.specs.Words.{is_separator};
+ghost use Rattle.asl_assembler.specs.Reading.{is_line_byte, is_word_byte};
+
+/// A line of a text: its number from 1, the place of its first byte, and its bytes.
+#[derive(Clone, Copy)]
+pub struct Row<'t> {
+    pub number: usize,
+    pub at: usize,
+    pub line: &'t [u8],
+}
+
+/// The lines that are left.
+#[derive(Clone, Copy)]
+pub struct Rows<'t> {
+    rest: &'t [u8],
+    at: usize,
+    number: usize,
+}
+
+/// How many bytes stand before the first line feed.
+fn line_len(text: &[u8]) -> usize
+    ensures { result ≡ prefix_len is_line_byte text.now }
+{
+    text.iter().take_while(|byte| **byte != b'\n').count()
+}
+
+impl<'t> Rows<'t> {
+    ghost use Rattle.std.specs.Prelude.{◌<◌, IsSome};
+    ghost use Rattle.asl_diagnose.specs.Rows.{rows_left};
+
+    /// The lines of a text.
+    pub fn new(text: &'t [u8]) -> Rows<'t> {
+        Rows {
+            rest: text,
+            at: 0,
+            number: 0,
+        }
+    }
+
+    /// The next line.
+    pub fn next(&mut self) -> Option<Row<'t>>
+        ensures { IsSome result → rows_left self.new < rows_left self.old }
+    {
+        if self.rest.is_empty() {
+            return None;
+        }
+        let (line, rest) = self.rest.split_at(line_len(self.rest));
+        self.number = self.number.saturating_add(1);
+        let row = Row {
+            number: self.number,
+            at: self.at,
+            line,
+        };
+        self.at = self.at.saturating_add(line.len()).saturating_add(1);
+        self.rest = match rest {
+            [] => rest,
+            [_, behind @ ..] => behind,
+        };
+        Some(row)
+    }
+}
+
+/// Whether a byte stands between words.
+fn is_gap(byte: u8) -> bool
+    ensures { result ≡ is_separator byte }
+{
+    byte == b' ' || byte == b'\t' || byte == b',' || byte == b'\r'
+}
+
+/// How many bytes between words a line begins with.
+pub fn gap_len(line: &[u8]) -> usize
+    ensures { result ≡ prefix_len is_separator line.now }
+{
+    line.iter().take_while(|byte| is_gap(**byte)).count()
+}
+
+/// How many bytes of a word a line begins with.
+fn word_len(line: &[u8]) -> usize
+    ensures { result ≡ prefix_len is_word_byte line.now }
+{
+    line.iter().take_while(|byte| !is_gap(**byte)).count()
+}
+
+/// The first word of a line, which is empty where the line has none, and the line behind it.
+pub fn first_word(line: &[u8]) -> (&[u8], &[u8]) {
+    let (_, words) = line.split_at(gap_len(line));
+    words.split_at(word_len(words))
+}
+
+/// The word of this number in a line, from 0; empty where there is none.
+pub fn word(line: &[u8], number: usize) -> &[u8] {
+    let mut rest = line;
+    for _ in 0..number {
+        let (_, behind) = first_word(rest);
+        rest = behind;
+    }
+    let (found, _) = first_word(rest);
+    found
+}
+
+/// The value of the digits of a word, of which the first bytes are none: of `r12` with 1 it is 12.
+pub fn number_in(word: &[u8], marks: usize) -> usize {
+    let mut value: usize = 0;
+    for (i, byte) in word.iter().enumerate() {
+        if i >= marks {
+            value = value
+                .saturating_mul(10)
+                .saturating_add(usize::from(byte.saturating_sub(b'0')));
+        }
+    }
+    value
+}
+
+/// Where the line of this number begins, from 1, behind the blanks at its front; the end of the text where there is no such
+/// line.
+pub fn place_of_line(text: &[u8], number: usize) -> usize {
+    let mut rows = Rows::new(text);
+    'rows: while let Some(row) = rows.next() {
+        if row.number == number {
+            return row.at.saturating_add(gap_len(row.line));
+        }
+    }
+    text.len()
+}

@@ -1,0 +1,209 @@
+//! The sentence of a refusal of a source.
+
+use crate::bytes::push_quoted;
+use crate::code::{code_len, statement_of};
+use crate::declared::{Declares, Word, declares_at, head_of, name_from, numbered, star_from};
+use crate::kind::mark_text;
+use crate::limit::limit_text;
+use crate::used::{Role, function_around, registers, role_at};
+use asl_backward_flow::Region;
+use asl_emitter::InferFault;
+use asl_grammar::lexer::{Found, Tokens};
+use asl_grammar::token::{Mark, Spot, Token};
+use asl_syntax::SyntaxFault;
+use std::alloc::{AllocError, Global};
+
+/// The first token that begins at a place or behind it.
+pub fn next_token(text: &[u8], at: usize) -> Option<Spot<'_>> {
+    let mut tokens = Tokens::new(text);
+    'reading: while let Found::Token(spot) = tokens.next() {
+        if spot.at >= at {
+            return Some(spot);
+        }
+    }
+    None
+}
+
+/// How many arguments the call whose function is named at a place has.
+fn arguments_at(text: &[u8], at: usize) -> usize {
+    let mut tokens = Tokens::new(text);
+    let mut count: usize = 0;
+    'reading: while let Found::Token(spot) = tokens.next() {
+        if spot.at > at {
+            match spot.token {
+                Token::Name(_) => count = count.saturating_add(1),
+                Token::Fixed(Mark::CloseParen) => return count,
+                _ => {}
+            }
+        }
+    }
+    count
+}
+
+/// Adds a token between backticks.
+fn push_token(out: &mut String, token: Token<'_>) -> Result<(), AllocError> {
+    match token {
+        Token::Fixed(mark) => {
+            let word = mark_text(mark);
+            write!(out, "`{word}`")
+        }
+        Token::Name(bytes) | Token::Number(bytes) => push_quoted(out, bytes),
+    }
+}
+
+/// Adds the sentence of a text that is no program.
+pub fn push_syntax_sentence(
+    out: &mut String,
+    text: &[u8],
+    fault: &SyntaxFault,
+) -> Result<(), AllocError> {
+    match fault {
+        SyntaxFault::NotAscii(at) => push_byte_sentence(out, text, *at),
+        SyntaxFault::Token(at) => {
+            out.push_str("no token begins with ")?;
+            match text.get(*at) {
+                Some(byte) => push_quoted(out, &[*byte]),
+                None => Ok(()),
+            }
+        }
+        SyntaxFault::Grammar(at) => match next_token(text, *at) {
+            None => out.push_str("the text ends here, and no program does"),
+            Some(spot) => {
+                push_token(out, spot.token)?;
+                out.push_str(" does not continue a program here")
+            }
+        },
+        SyntaxFault::Limit(at) => out.push_str(limit_text(text, *at)),
+        SyntaxFault::Arity(at) => push_arity_sentence(out, text, *at),
+        SyntaxFault::NoMain => out.push_str("there is no function `main` with one parameter"),
+        SyntaxFault::Twice(_) | SyntaxFault::Unknown(_) => Ok(()),
+        SyntaxFault::OutOfMemory => out.push_str("memory ran out"),
+    }
+}
+
+fn push_byte_sentence(out: &mut String, text: &[u8], at: usize) -> Result<(), AllocError> {
+    match text.get(at) {
+        Some(byte) => {
+            let byte = *byte;
+            write!(out, "a byte of value {byte} is not ASCII")
+        }
+        None => Ok(()),
+    }
+}
+
+fn push_arity_sentence(out: &mut String, text: &[u8], at: usize) -> Result<(), AllocError> {
+    let name = name_from(text, at);
+    let arguments = arguments_at(text, at);
+    push_quoted(out, name)?;
+    write!(out, " is called with {arguments} ")?;
+    out.push_str(plural(arguments, "argument", "arguments"))?;
+    if let Some(head) = head_of(text, name) {
+        let parameters = head.parameters;
+        write!(out, ", and has {parameters} ")?;
+        out.push_str(plural(parameters, "parameter", "parameters"))?;
+    }
+    Ok(())
+}
+
+/// The word for one, or for another number.
+pub fn plural(count: usize, one: &'static str, more: &'static str) -> &'static str {
+    if count == 1 { one } else { more }
+}
+
+/// Adds the sentence of a name that is declared a second time at a place.
+pub fn push_twice_sentence(
+    out: &mut String,
+    text: &[u8],
+    at: usize,
+    name: &[u8],
+) -> Result<(), AllocError> {
+    out.push_str(match declares_at(text, at) {
+        Declares::Global => "the global ",
+        Declares::Function => "the function ",
+        _ => "the parameter ",
+    })?;
+    push_quoted(out, name)?;
+    out.push_str(" is declared a second time")
+}
+
+/// Adds the sentence of a name that is used at a place and nowhere declared.
+pub fn push_unknown_sentence(
+    out: &mut String,
+    text: &[u8],
+    at: usize,
+    name: &[u8],
+) -> Result<(), AllocError> {
+    match role_at(text, at) {
+        Role::GlobalUse => {
+            out.push_str("there is no global ")?;
+            push_quoted(out, name)
+        }
+        Role::Call => {
+            out.push_str("there is no function ")?;
+            push_quoted(out, name)
+        }
+        _ => {
+            push_quoted(out, name)?;
+            out.push_str(" is not set anywhere in ")?;
+            push_quoted(out, function_around(text, at))
+        }
+    }
+}
+
+/// The name of the function of a number.
+pub fn function_name(text: &[u8], number: usize) -> &[u8] {
+    match numbered(text, Word::Fn, number) {
+        Some(at) => name_from(text, at),
+        None => &text[..0],
+    }
+}
+
+/// Adds the sentence of a program for which no lists are inferred.
+pub fn push_infer_sentence(
+    alloc: Global,
+    out: &mut String,
+    text: &[u8],
+    fault: InferFault,
+) -> Result<(), AllocError> {
+    match fault {
+        InferFault::Registers(function) => {
+            let (locals, arguments) = registers(alloc, text, usize::from(function))?;
+            let count = locals.saturating_add(arguments);
+            push_quoted(out, function_name(text, usize::from(function)))?;
+            write!(
+                out,
+                " needs {count} registers, and a function has at most 64"
+            )
+        }
+        InferFault::CodeSize => {
+            let count = code_len(alloc, text)?;
+            write!(
+                out,
+                "the program has {count} instructions, at most 65535 are allowed"
+            )
+        }
+        InferFault::AccessOutsideSection(_, pc) => {
+            out.push_str(access_text(alloc, text, usize::from(pc))?)
+        }
+        InferFault::TooManyClasses => {
+            out.push_str("the program has more than 1024 classes of objects")
+        }
+        InferFault::TooManyLocks(Region::Section(_)) => {
+            out.push_str("the section needs more than 4096 different locks")
+        }
+        InferFault::TooManyLocks(Region::Body(_)) => {
+            out.push_str("the function needs more than 4096 different locks")
+        }
+        InferFault::OutOfMemory => out.push_str("memory ran out"),
+    }
+}
+
+/// Whether the instruction at a pc reads or writes.
+fn access_text(alloc: Global, text: &[u8], pc: usize) -> Result<&'static str, AllocError> {
+    let at = statement_of(alloc, text, pc)?.unwrap_or(0);
+    Ok(if star_from(text, at) == Some(at) {
+        "a cell is written here, and no section is open"
+    } else {
+        "a cell is read here, and no section is open"
+    })
+}

@@ -1,0 +1,292 @@
+//! What helps against a refusal of a source, a line each.
+
+use crate::bytes::{push_bytes, push_quoted};
+use crate::code::call_outside;
+use crate::declared::{head_of, name_from};
+use crate::diagnosis::Diagnosis;
+use crate::expected::stop;
+use crate::grammar_hints::{Stop, grammar_hint};
+use crate::kind::{TokenKind, kind_text};
+use crate::near::nearest_name;
+use crate::place::{column, line};
+use crate::sentence::{function_name, next_token, plural};
+use crate::used::{Role, function_around, is_global, is_local_at, registers, role_at};
+use asl_emitter::InferFault;
+use asl_grammar::recognizer::settled;
+use asl_syntax::SyntaxFault;
+use std::alloc::{AllocError, Global};
+
+/// Adds a line, unless it is empty.
+fn push_hint(out: &mut String, hint: &str) -> Result<(), AllocError> {
+    if hint.is_empty() {
+        return Ok(());
+    }
+    out.push_str(hint)?;
+    out.push_str("\n")
+}
+
+/// Adds the line and the column of a place.
+fn push_place(out: &mut String, text: &[u8], at: usize) -> Result<(), AllocError> {
+    let line = line(text, at);
+    let column = column(text, at);
+    write!(out, "{line}:{column}")
+}
+
+/// Adds what helps where a text is no program.
+pub fn push_syntax_hints(
+    alloc: Global,
+    out: &mut String,
+    text: &[u8],
+    fault: &SyntaxFault,
+    told: &Diagnosis,
+) -> Result<(), AllocError> {
+    match fault {
+        SyntaxFault::NotAscii(_) => push_hint(out, "names, numbers and symbols are ASCII alone"),
+        SyntaxFault::Token(at) => push_hint(out, token_hint(text, *at)),
+        SyntaxFault::Grammar(at) => {
+            push_expected(out, told)?;
+            push_grammar_hint(alloc, out, text, *at)
+        }
+        SyntaxFault::Twice(name) => push_twice_hints(out, text, told, name.as_slice()),
+        SyntaxFault::Unknown(name) => {
+            push_unknown_hints(alloc, out, text, told.at, name.as_slice())
+        }
+        SyntaxFault::Arity(at) => push_head(out, text, name_from(text, *at)),
+        SyntaxFault::NoMain => push_main_hints(out, text),
+        SyntaxFault::Limit(_) | SyntaxFault::OutOfMemory => Ok(()),
+    }
+}
+
+/// What to write in place of what begins no token.
+fn token_hint(text: &[u8], at: usize) -> &'static str {
+    let rest = if at < text.len() {
+        &text[at..]
+    } else {
+        &text[..0]
+    };
+    if text[..at.min(text.len())].ends_with(b"-") && rest.starts_with(b">") {
+        return "a function has no result type: what it returns is said by `return x;`";
+    }
+    match rest {
+        [b'/', b'/' | b'*', ..] | [b'#', ..] => "there are no comments",
+        [b'"' | b'\'', ..] =>
+            "there are no strings and no characters: a value is a number, `null` or an address",
+        [b'>', ..] => "there is no `>`: `a > b` is `b < a`",
+        [b'!', ..] => "there is no `!`: compute `c = x == y;`, and use `else`",
+        [b'|', ..] => "there is no `||`: use one `if` after the other",
+        [b'/' | b'%' | b'^' | b'~', ..] =>
+            "there is no such operator: there are `+`, `-`, `<` and `==`",
+        [b'.', ..] => "a cell is read by its address: `a = &x[1]; y = *a;`",
+        [b':', ..] => "there are no types and no labels",
+        [b'?', ..] => "there is no `?`: use `if x { .. } else { .. }`",
+        _ => "",
+    }
+}
+
+/// Adds the kinds of token with which a program goes on.
+fn push_expected(out: &mut String, told: &Diagnosis) -> Result<(), AllocError> {
+    let kinds = told.expected.as_slice();
+    if kinds.is_empty() {
+        return Ok(());
+    }
+    out.push_str(if kinds.len() > 1 {
+        "expected one of:"
+    } else {
+        "expected"
+    })?;
+    for kind in kinds {
+        push_kind(out, *kind)?;
+    }
+    out.push_str(if told.may_end { ", or the end\n" } else { "\n" })
+}
+
+/// Adds a kind of token to a list.
+fn push_kind(out: &mut String, kind: TokenKind) -> Result<(), AllocError> {
+    let word = kind_text(kind);
+    write!(out, " {word}")
+}
+
+/// Adds what to write instead.
+fn push_grammar_hint(
+    alloc: Global,
+    out: &mut String,
+    text: &[u8],
+    at: usize,
+) -> Result<(), AllocError> {
+    let walk = stop(alloc, text)?;
+    let stop = match next_token(text, at) {
+        Some(spot) => Stop {
+            control: settled(walk.control, spot.token),
+            kind: walk.innermost(),
+            token: Some(spot.token),
+        },
+        None => Stop {
+            control: walk.control,
+            kind: walk.innermost(),
+            token: None,
+        },
+    };
+    push_hint(out, grammar_hint(stop))
+}
+
+/// Adds where a name is declared first.
+fn push_twice_hints(
+    out: &mut String,
+    text: &[u8],
+    told: &Diagnosis,
+    name: &[u8],
+) -> Result<(), AllocError> {
+    let Some(first) = told.first else {
+        return Ok(());
+    };
+    push_quoted(out, name)?;
+    out.push_str(" is declared first at ")?;
+    push_place(out, text, first)?;
+    out.push_str("\n")
+}
+
+/// Adds which name may be meant, and what the name is in another name space.
+fn push_unknown_hints(
+    alloc: Global,
+    out: &mut String,
+    text: &[u8],
+    at: usize,
+    name: &[u8],
+) -> Result<(), AllocError> {
+    let role = role_at(text, at);
+    if let Some(near) = nearest_name(alloc, text, at, name, role)? {
+        push_quoted(out, near)?;
+        return out.push_str(" is spelled nearly so\n");
+    }
+    push_hint(out, other_hint(text, at, name, role))
+}
+
+/// What helps where the name is not in the name space that is asked.
+fn other_hint(text: &[u8], at: usize, name: &[u8], role: Role) -> &'static str {
+    match role {
+        Role::GlobalUse => {
+            if is_local_at(text, at, name) {
+                "only globals have addresses: a local has none"
+            } else {
+                "a global is declared by `global g;`"
+            }
+        }
+        Role::Call => call_hint(name),
+        _ => local_hint(text, name),
+    }
+}
+
+/// What helps where a function is not there.
+fn call_hint(name: &[u8]) -> &'static str {
+    match name {
+        b"print" | b"printf" | b"println" => "a value is shown by `out x;`",
+        b"malloc" | b"alloc" | b"calloc" => "an object is made by `x = new 2;`",
+        b"lock" | b"acquire" | b"unlock" | b"release" => {
+            "locks are inferred: mark the statements that belong together by `atomic { .. }`"
+        }
+        _ => "a function is written `fn f(x) { .. return x; }`, before its call or behind it",
+    }
+}
+
+/// What helps where a local is not set.
+fn local_hint(text: &[u8], name: &[u8]) -> &'static str {
+    match name {
+        b"true" => "`one = 1;` is true: all but the integer 0 and null is",
+        b"false" => "`zero = 0;` is false: the integer 0 and null are",
+        b"nil" | b"NULL" | b"none" | b"None" => "it is `null`",
+        _ => {
+            if is_global(text, name) {
+                "a global is reached by its address, in a section: `p = &g; x = *p;`"
+            } else {
+                "a local is set before it is used: `x = 0;`"
+            }
+        }
+    }
+}
+
+/// Adds the head of a function.
+fn push_head(out: &mut String, text: &[u8], name: &[u8]) -> Result<(), AllocError> {
+    let Some(head) = head_of(text, name) else {
+        return Ok(());
+    };
+    out.push_str("fn ")?;
+    for byte in head_bytes(text, head.at) {
+        if *byte != b'\n' && *byte != b'\r' {
+            push_bytes(out, &[*byte])?;
+        }
+    }
+    out.push_str(" stands at ")?;
+    push_place(out, text, head.at)?;
+    out.push_str("\n")
+}
+
+/// From a function's name to the parenthesis behind its parameters.
+fn head_bytes(text: &[u8], at: usize) -> &[u8] {
+    let rest = &text[at.min(text.len())..];
+    let len = rest.iter().take_while(|byte| **byte != b')').count();
+    &rest[..len.saturating_add(1).min(rest.len())]
+}
+
+/// Adds how a program begins.
+fn push_main_hints(out: &mut String, text: &[u8]) -> Result<(), AllocError> {
+    if let Some(head) = head_of(text, b"main") {
+        let parameters = head.parameters;
+        write!(out, "`main` has {parameters} ")?;
+        out.push_str(plural(parameters, "parameter", "parameters"))?;
+        out.push_str("\n")?;
+    }
+    push_hint(
+        out,
+        "each thread runs `fn main(t) { .. return t; }`, where t is the number of the thread",
+    )
+}
+
+/// Adds what helps where no lists are inferred for a program.
+pub fn push_infer_hints(
+    alloc: Global,
+    out: &mut String,
+    text: &[u8],
+    fault: InferFault,
+) -> Result<(), AllocError> {
+    match fault {
+        InferFault::Registers(function) => {
+            let (locals, arguments) = registers(alloc, text, usize::from(function))?;
+            write!(
+                out,
+                "{locals} for its parameters and the names that it sets, {arguments} for the arguments of its longest call\n"
+            )
+        }
+        InferFault::AccessOutsideSection(function, _) => {
+            push_access_hints(alloc, out, text, usize::from(function))
+        }
+        InferFault::TooManyLocks(_) => {
+            push_hint(out, "shorter paths are fewer: try a smaller K, as --k 0")
+        }
+        InferFault::CodeSize | InferFault::TooManyClasses | InferFault::OutOfMemory => Ok(()),
+    }
+}
+
+/// Adds why the function of an access runs outside sections.
+fn push_access_hints(
+    alloc: Global,
+    out: &mut String,
+    text: &[u8],
+    function: usize,
+) -> Result<(), AllocError> {
+    let name = function_name(text, function);
+    if name == b"main".as_slice() {
+        return push_hint(
+            out,
+            "mark the statements that belong together by `atomic { .. }`",
+        );
+    }
+    if let Some(at) = call_outside(alloc, text, name)? {
+        push_quoted(out, name)?;
+        out.push_str(" is called outside sections at ")?;
+        push_place(out, text, at)?;
+        out.push_str(" in ")?;
+        push_quoted(out, function_around(text, at))?;
+        out.push_str("\n")?;
+    }
+    push_hint(out, "put the access, or that call, into `atomic { .. }`")
+}
