@@ -1,0 +1,6 @@
+mod Ends
+mod Under
+mod Confirming
+mod Analysing
+mod Needing
+mod Explaining

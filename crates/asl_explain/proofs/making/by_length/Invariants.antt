@@ -1,0 +1,10 @@
+use Rattle.std.proofs.Common.{◌≡◌, ℕ, Some, length, slice_get}
+use Rattle.asl_explain.specs.declared.value.Lists.{Lists}
+use Rattle.asl_explain.specs.Analysed.{AreFittedAt}
+use Rattle.asl_explain.proofs.making.by_length.Given as goal
+
+abbrev pub invariant-loop-longest : goal.invariant-loop-longest
+invariant-loop-longest l = record {
+  count : length l.by_length.items ≡ l.longest;
+  each : (n : ℕ) (x : Lists) → slice_get l.by_length.items n ≡ Some x → AreFittedAt l.analysis.lowering l.analysis.classes n x;
+}

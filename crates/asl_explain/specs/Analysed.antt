@@ -1,0 +1,67 @@
+-- Machinery of the proofs, not of the promise: what is known of an analysis (src/analysis.rt).
+use Rattle.std.specs.Prelude.{◌≡◌, ◌≤◌, ℕ, List, length, map, Some, slice_get}
+use Rattle.asl_code.specs.declared.lock.Lock.{Lock}
+use Rattle.asl_lower.specs.declared.section.Section.{Section}
+use Rattle.asl_syntax.specs.Tree.{Item}
+use Rattle.asl_syntax.specs.Parsed.{Parses}
+use Rattle.asl_lower.specs.Lowered.{Lowered, IsLowering}
+use Rattle.asl_points_to.specs.Classes.{Classed, AreClasses}
+use Rattle.asl_emitter.specs.Refused.{IsAccepted}
+use Rattle.asl_lock_expr.specs.Stores.{stores}
+use Rattle.asl_lock_expr.specs.ClassOf.{TellsStores}
+use Rattle.asl_backward_flow.specs.Needed.{TellsNeeded, region_of}
+use Rattle.asl_explain.specs.declared.analysis.Analysis.{Analysis}
+use Rattle.asl_backward_flow.specs.Needed.{Part}
+use Rattle.asl_backward_flow.specs.Flows.{IsFlow, IsOverfull}
+use Rattle.asl_emitter.specs.Parts.{AreFitted}
+use Rattle.asl_explain.specs.declared.value.Listed.{Listed}
+use Rattle.asl_explain.specs.declared.value.Lists.{Lists}
+use Rattle.asl_explain.specs.declared.value.Lists.TheVariants.{Inferred, TooManyLocks}
+use Rattle.asl_explain.specs.declared.value.Explanation.{Explanation}
+use Rattle.asl_explain.specs.Chains.{Read}
+use Rattle.asl_explain.specs.Explained.{IsListed}
+
+-- what the needs of an analysis are read against
+abbrev pub read : Analysis → Read
+read a = record { lowered = a.lowering; classes = a.classes; stores = stores a.writes; longest = a.longest }
+
+-- its flow tells what is needed, and its sets tell where functions store to
+pub record IsAnalysed (a : Analysis) : Type 0 where
+  pub short : a.longest ≤ 8
+  pub written : TellsStores a.lowering a.classes (stores a.writes)
+  pub tells : TellsNeeded a.lowering a.classes (stores a.writes) a.longest a.flow
+
+-- the locks of a section's list, in their order, with what each stands over
+pub record AreListed (x : Read) (section : ℕ) (is : Section) (list : List Lock) (ls : List Listed) : Type 0 where
+  pub locks : map (λ (d : Listed). d.lock) ls ≡ list
+  pub each : (n : ℕ) (d : Listed) → slice_get ls n ≡ Some d → IsListed x section is d
+
+-- so of the first sections, so many of them
+pub record AreSections (x : Read) (lists : List (List Lock)) (so_many : ℕ) (sections : List (List Listed)) : Type 0 where
+  pub count : length sections ≡ so_many
+  pub each : (n : ℕ) (is : Section) (list : List Lock) (ls : List Listed) → slice_get x.lowered.sections n ≡ Some is → slice_get lists n ≡ Some list →
+      slice_get sections n ≡ Some ls → AreListed x n is list ls
+
+-- the lists are fitted to a flow with paths of at most so many operations, or a region needs too many locks
+abbrev pub AreFittedAt : Lowered → Classed → ℕ → Lists → Type 0
+AreFittedAt l c longest (Inferred lists) = (parts : List Part) × IsFlow l c longest parts × AreFitted l c parts (length l.sections) lists
+AreFittedAt l c longest (TooManyLocks region) = IsOverfull l c longest (region_of region)
+
+-- the explanation that is made of an analysis
+pub record IsMade (a : Analysis) (e : Explanation) : Type 0 where
+  pub lists : List (List Lock)
+  pub fitted : AreFitted a.lowering a.classes a.flow (length a.lowering.sections) lists
+  pub sections : AreSections (read a) lists (length a.lowering.sections) e.sections
+  pub count : length e.by_length ≡ 9
+  pub each : (longest : ℕ) (l : Lists) → slice_get e.by_length longest ≡ Some l → AreFittedAt a.lowering a.classes longest l
+
+-- it is the analysis of the source's tree
+pub record IsOfSource (source : List ℕ) (longest : ℕ) (a : Analysis) : Type 0 where
+  pub tree : List Item
+  pub parsed : Parses source tree
+  pub lowers : IsLowering tree a.lowering
+  pub classes : AreClasses a.lowering a.classes
+  pub few : a.classes.count ≤ 1024
+  pub analysed : IsAnalysed a
+  pub same : a.longest ≡ longest
+  pub accepted : IsAccepted tree longest

@@ -1,0 +1,101 @@
+-- How what a load or a store needs comes back to the start of a section, step by step (docs/ANALYSIS.md, "Needed locks").
+use Rattle.std.specs.Prelude.{◌≡◌, ℕ, suc, Bool, List, length, Some, slice_get}
+use Rattle.asl_code.specs.declared.image.Function as entry
+use Rattle.asl_code.specs.declared.instr.Instr.{Instr}
+use Rattle.asl_code.specs.declared.instr.Instr.TheVariants as instr
+use Rattle.asl_code.specs.declared.lock.Lock.{Lock}
+use Rattle.asl_lower.specs.Lowered.{Lowered}
+use Rattle.asl_lower.specs.Region.{GoesOn, start_of}
+use Rattle.asl_lower.specs.Regions.{Region, Body, Inside, IsIn}
+use Rattle.asl_points_to.specs.Classes.{Classed}
+use Rattle.asl_lock_expr.specs.Links.{view, IsOne, link, settle, accesses, renamed, dereferenced}
+use Rattle.asl_backward_flow.specs.Needed.{Needed, region_of}
+use Rattle.asl_explain.specs.declared.value.Step.{Step}
+use Rattle.asl_explain.specs.declared.value.Why.{Why}
+use Rattle.asl_explain.specs.declared.value.Why.TheVariants.{Accessed, Linked, Entered, Dereferenced}
+
+-- what needs are read against: the program, its classes, whether a function may store to a class, and how long a path may be
+pub record Read : Type 0 where
+  pub lowered : Lowered
+  pub classes : Classed
+  pub stores : ℕ → ℕ → Bool
+  pub longest : ℕ
+
+-- the region needs the lock at the pc
+abbrev pub Needs : Read → Region → ℕ → Lock → Type 0
+Needs x r pc lock = Needed x.lowered x.classes x.stores x.longest r pc lock
+
+-- the instruction at the pc of the region, of function `f`
+pub record StandsAt (x : Read) (r : Region) (pc f : ℕ) (i : Instr) : Type 0 where
+  pub inside : IsIn x.lowered r f pc
+  pub stands : slice_get x.lowered.code pc ≡ Some i
+
+-- the step's instruction is a load or a store, which needs the step's lock itself
+pub record IsAccess (x : Read) (s : Step) : Type 0 where
+  pub function : ℕ
+  pub instruction : Instr
+  pub at : StandsAt x (region_of s.region) s.pc function instruction
+  pub accesses : IsOne (accesses (view x.classes x.stores x.longest function) instruction) s.lock
+
+-- the lock of the step before is needed after the step's instruction, and becomes the step's lock before it
+pub record IsLink (x : Read) (before s : Step) : Type 0 where
+  pub same : s.region ≡ before.region
+  pub function : ℕ
+  pub instruction : Instr
+  pub at : StandsAt x (region_of s.region) s.pc function instruction
+  pub next : ℕ
+  pub goes_on : GoesOn instruction s.pc next
+  pub needed : Needs x (region_of s.region) next before.lock
+  pub links : IsOne (link (view x.classes x.stores x.longest function) instruction before.lock) s.lock
+
+-- the step's instruction is a call; the lock of the step before is needed at the callee's entry, and becomes the step's lock at
+-- the call: registers are renamed, and what has too long a path becomes its class
+pub record IsEntry (x : Read) (before s : Step) : Type 0 where
+  pub function : ℕ
+  pub to : ℕ
+  pub first : ℕ
+  pub callee : ℕ
+  pub at : StandsAt x (region_of s.region) s.pc function (instr.Call to first callee)
+  pub called : entry.Function
+  pub in_table : slice_get x.lowered.functions callee ≡ Some called
+  pub body : region_of before.region ≡ Body callee
+  pub needed : Needs x (Body callee) (start_of x.lowered.functions callee) before.lock
+  pub lock : Lock
+  pub renames : IsOne (renamed first called.params before.lock) lock
+  pub settles : IsOne (settle (view x.classes x.stores x.longest function) lock) s.lock
+
+-- the lock of the step before is needed at the same pc, and evaluating it reads the cell of the step's lock
+pub record IsFront (x : Read) (before s : Step) : Type 0 where
+  pub same : s.region ≡ before.region
+  pub needed : Needs x (region_of s.region) s.pc before.lock
+  pub reads : IsOne (dereferenced before.lock) s.lock
+
+-- the step's lock is needed for the reason that the step names, because that of the step before is
+abbrev pub FollowsBy : Why → Read → Step → Step → Type 0
+FollowsBy Accessed x before s = ⊥
+FollowsBy Linked x before s = IsLink x before s
+FollowsBy Entered x before s = IsEntry x before s
+FollowsBy Dereferenced x before s = IsFront x before s
+
+abbrev pub Follows : Read → Step → Step → Type 0
+Follows x before s = FollowsBy s.why x before s
+
+-- the region of each step needs its lock at its pc; the first is a load or a store that needs its lock itself; each other
+-- follows from the one before it
+pub record AreSteps (x : Read) (steps : List Step) : Type 0 where
+  pub begins : (s : Step) → slice_get steps 0 ≡ Some s → IsAccess x s
+  pub follows : (n : ℕ) (before s : Step) → slice_get steps n ≡ Some before → slice_get steps (suc n) ≡ Some s → Follows x before s
+
+-- the last step is one of the section, and has the lock
+pub record EndsAt (section : ℕ) (lock : Lock) (steps : List Step) : Type 0 where
+  pub number : ℕ
+  pub last : suc number ≡ length steps
+  pub step : Step
+  pub at : slice_get steps number ≡ Some step
+  pub region : region_of step.region ≡ Inside section
+  pub holds : step.lock ≡ lock
+
+-- the steps are a chain from an access to a lock that the section needs at its start
+pub record IsChain (x : Read) (section : ℕ) (lock : Lock) (steps : List Step) : Type 0 where
+  pub path : AreSteps x steps
+  pub ends : EndsAt section lock steps

@@ -1,0 +1,91 @@
+-- What an explanation says of a source (docs/ANALYSIS.md, "Explanations").
+use Rattle.std.specs.Prelude.{◌≡◌, ◌↔◌, ℕ, suc, List, length, map, Some, slice_get}
+use Rattle.asl_code.specs.declared.image.Image.{Image}
+use Rattle.asl_code.specs.declared.lock.Lock.{Lock}
+use Rattle.asl_syntax.specs.Tree.{Item}
+use Rattle.asl_syntax.specs.Parsed.{Parses}
+use Rattle.asl_syntax.specs.Fault as syntax
+use Rattle.asl_lower.specs.declared.section.Section.{Section}
+use Rattle.asl_lower.specs.Regions.{Inside}
+use Rattle.asl_soundness.specs.Over.{StandsOver}
+use Rattle.asl_emitter.specs.declared.fault.InferFault.{InferFault}
+use Rattle.asl_emitter.specs.declared.fault.InferFault.TheVariants as infer
+use Rattle.asl_emitter.specs.Inferred.{Analysis, IsInferredFor}
+use Rattle.asl_emitter.specs.Refused.{IsAccepted, IsRefused as IsNotInferred}
+use Rattle.asl_explain.specs.declared.fault.ExplainFault.{ExplainFault}
+use Rattle.asl_explain.specs.declared.fault.ExplainFault.TheVariants.{Source, Infer}
+use Rattle.asl_explain.specs.declared.value.Chain.{Chain}
+use Rattle.asl_explain.specs.declared.value.Need.{Need}
+use Rattle.asl_explain.specs.declared.value.Listed.{Listed}
+use Rattle.asl_explain.specs.declared.value.Lists.{Lists}
+use Rattle.asl_explain.specs.declared.value.Lists.TheVariants.{Inferred, TooManyLocks}
+use Rattle.asl_explain.specs.declared.value.Explanation.{Explanation}
+use Rattle.asl_explain.specs.Chains.{Read, Needs, IsChain}
+
+-- each of the chains comes from an access to the lock at the section's start
+abbrev pub AreChains : Read → ℕ → Lock → List Chain → Type 0
+AreChains x section lock chains = (n : ℕ) (c : Chain) → slice_get chains n ≡ Some c → IsChain x section lock c.steps
+
+-- each of the locks is needed at the section's start, and its chains come to it
+abbrev pub AreNeeds : Read → ℕ → Section → List Need → Type 0
+AreNeeds x section is needs = (n : ℕ) (d : Need) → slice_get needs n ≡ Some d → Needs x (Inside section) (suc is.acquire) d.lock × AreChains x section d.lock d.chains
+
+-- the lock is one of these
+abbrev pub IsOneOf : List Need → Lock → Type 0
+IsOneOf needs lock = (n : ℕ) × (d : Need) × (slice_get needs n ≡ Some d) × (d.lock ≡ lock)
+
+-- under the lock stand the needs that it stands over, and no others
+pub record IsListed (x : Read) (section : ℕ) (is : Section) (d : Listed) : Type 0 where
+  pub needs : AreNeeds x section is d.needs
+  pub under : (lock : Lock) → IsOneOf d.needs lock ↔ (Needs x (Inside section) (suc is.acquire) lock × StandsOver x.classes is.function d.lock lock)
+
+-- the lists of the image, and under each lock what it stands over
+pub record AreExplained (x : Read) (image : Image) (sections : List (List Listed)) : Type 0 where
+  pub lists : map (λ (ls : List Listed). map (λ (d : Listed). d.lock) ls) sections ≡ image.lists
+  pub each : (section : ℕ) (is : Section) (ls : List Listed) (n : ℕ) (d : Listed) → slice_get x.lowered.sections section ≡ Some is → slice_get sections section ≡ Some ls →
+      slice_get ls n ≡ Some d → IsListed x section is d
+
+-- what the lists are with paths of at most so many operations: those of the inferred image, or a region needs too many locks
+abbrev pub AreListsAt : List Item → ℕ → Lists → Type 0
+AreListsAt tree longest (Inferred lists) = (image : Image) × IsInferredFor tree longest image × (image.lists ≡ lists)
+AreListsAt tree longest (TooManyLocks region) = IsNotInferred tree longest (infer.TooManyLocks region)
+
+-- so for each length from 0 to 8
+pub record AreByLength (tree : List Item) (lists : List Lists) : Type 0 where
+  pub count : length lists ≡ 9
+  pub each : (longest : ℕ) (l : Lists) → slice_get lists longest ≡ Some l → AreListsAt tree longest l
+
+-- the explanation of a tree
+pub record IsExplained (tree : List Item) (longest : ℕ) (e : Explanation) : Type 0 where
+  pub analysis : Analysis tree
+  pub image : Image
+  pub inferred : IsInferredFor tree longest image
+  pub sections :
+      AreExplained
+      (record { lowered = analysis.program.lowering; classes = analysis.program.classes; stores = analysis.stores; longest = longest })
+      image e.sections
+  pub by_length : AreByLength tree e.by_length
+
+-- the source spells a tree, for which lists are inferred, and this is its explanation
+pub record IsExplanation (source : List ℕ) (longest : ℕ) (e : Explanation) : Type 0 where
+  pub tree : List Item
+  pub parsed : Parses source tree
+  pub accepted : IsAccepted tree longest
+  pub explained : IsExplained tree longest e
+
+-- the source is a program's, for which lists are inferred
+pub record IsAcceptedSource (source : List ℕ) (longest : ℕ) : Type 0 where
+  pub tree : List Item
+  pub parsed : Parses source tree
+  pub accepted : IsAccepted tree longest
+
+-- the source is a program's, for which no lists are inferred
+pub record HasNoLists (source : List ℕ) (longest : ℕ) (cause : InferFault) : Type 0 where
+  pub tree : List Item
+  pub parsed : Parses source tree
+  pub refused : IsNotInferred tree longest cause
+
+-- what each refusal says of the source
+abbrev pub IsRefused : List ℕ → ℕ → ExplainFault → Type 0
+IsRefused source longest (Source cause) = syntax.IsFault source cause
+IsRefused source longest (Infer cause) = HasNoLists source longest cause

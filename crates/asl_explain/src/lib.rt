@@ -1,0 +1,21 @@
+//! Why the lists of a program are as they are: each lock with the statements that need it, and how it came to the section's start.
+#![tactic(auto)]
+
+mod analysis;
+mod confirm;
+mod events;
+mod fault;
+mod links;
+mod making;
+mod notes;
+mod places;
+mod search;
+mod source;
+mod table;
+mod text;
+mod value;
+mod words;
+
+pub use fault::ExplainFault;
+pub use source::{explain, explained};
+pub use value::{Chain, Explanation, Listed, Lists, Need, Step, Why};

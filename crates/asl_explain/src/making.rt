@@ -1,0 +1,234 @@
+//! Why the lists of a program are as they are.
+ghost use Rattle.std.specs.Prelude.{◌≡◌, ◌≤◌, ◌↔◌, ℕ, suc, Some, IfOk, IsTrue, length, slice_get};
+ghost use Rattle.asl_code.specs.declared.lock.Lock.{Lock as AnyLock};
+ghost use Rattle.asl_lower.specs.Regions.{Inside};
+ghost use Rattle.asl_lock_expr.specs.Links.{IsOne};
+ghost use Rattle.asl_soundness.specs.Over.{StandsOver};
+ghost use Rattle.asl_explain.specs.declared.value.Lists.{Lists as AnyLists};
+ghost use Rattle.asl_explain.specs.Chains.{Needs};
+ghost use Rattle.asl_explain.specs.Explained.{AreChains, AreNeeds, IsListed, IsOneOf};
+ghost use Rattle.asl_explain.specs.Analysed.{read, IsAnalysed, AreListed, AreSections, AreFittedAt, IsMade};
+
+use crate::analysis::Analysis;
+use crate::confirm::is_chain;
+use crate::links::copied;
+use crate::search::Searcher;
+use crate::value::{Chain, Explanation, Listed, Lists, Need};
+use asl_backward_flow::{FlowFault, Region, needed};
+use asl_code::{Items, Lock};
+use asl_emitter::{covers, does_for, lists};
+use asl_lower::{Lowering, Section};
+use asl_points_to::Classes;
+use std::alloc::{AllocError, Global};
+
+/// Those of the chains that come to a lock at the section's start: all, as far as a search is right.
+fn confirmed(
+    alloc: Global,
+    analysis: &Analysis,
+    section: u16,
+    lock: &Lock,
+    found: Vec<Chain>,
+) -> Result<Items<Chain>, AllocError>
+    requires { IsAnalysed analysis.now }
+    ensures { IfOk result (AreChains (read analysis.now) section lock.now) }
+{
+    let mut chains = Vec::new(alloc);
+    for chain in found {
+        if is_chain(alloc, analysis, section, lock, chain.steps.as_slice())? {
+            chains.push(chain)?;
+        }
+    }
+    Ok(Items::from_vec(chains))
+}
+
+/// Whether the first lock stands over the second in a function.
+fn stands_over(classes: &Classes, function: u16, lock: &Lock, other: &Lock) -> bool
+    ensures { IsTrue result ↔ StandsOver classes.now function lock.now other.now }
+{
+    match lock {
+        Lock::Root(effect) => covers(*effect, other.effect()),
+        _ => does_for(classes, function, lock, other),
+    }
+}
+
+/// Those of the locks that a lock stands over, in their order.
+fn under(
+    alloc: Global,
+    classes: &Classes,
+    function: u16,
+    lock: &Lock,
+    all: &[Lock],
+) -> Result<Vec<Lock>, AllocError>
+    ensures { IfOk result (λ v. (n : AnyLock) → IsOne v.items n ↔ (IsOne all.now n × StandsOver classes.now function lock.now n)) }
+{
+    let mut under = Vec::new(alloc);
+    for other in all {
+        if stands_over(classes, function, lock, other) {
+            under.push(copied(other)?)?;
+        }
+    }
+    Ok(under)
+}
+
+/// A lock with the chains that come to it at the section's start.
+fn find_need(
+    alloc: Global,
+    analysis: &Analysis,
+    searcher: &mut Searcher,
+    number: u16,
+    section: Section,
+    lock: &Lock,
+) -> Result<Need, AllocError>
+    requires { IsAnalysed analysis.now }
+    ensures lock { IfOk result (λ d. d.lock ≡ lock.now) }
+    ensures chains { IfOk result (λ d. AreChains (read analysis.now) number lock.now d.chains) }
+{
+    let found = searcher.chains(analysis, number, section, lock)?;
+    Ok(Need {
+        lock: copied(lock)?,
+        chains: confirmed(alloc, analysis, number, lock, found)?,
+    })
+}
+
+/// The locks, each with the chains that come to it at the section's start.
+fn needs_of(
+    alloc: Global,
+    analysis: &Analysis,
+    searcher: &mut Searcher,
+    number: u16,
+    section: Section,
+    locks: &[Lock],
+) -> Result<Items<Need>, AllocError>
+    requires analysed { IsAnalysed analysis.now }
+    requires needed { (n : AnyLock) → IsOne locks.now n → Needs (read analysis.now) (Inside number) (suc section.acquire) n }
+    ensures needs { IfOk result (AreNeeds (read analysis.now) number section) }
+    ensures locks { IfOk result (λ needs. (n : AnyLock) → IsOneOf needs n ↔ IsOne locks.now n) }
+{
+    let mut needs = Vec::new(alloc);
+    for lock in locks {
+        needs.push(find_need(alloc, analysis, searcher, number, section, lock)?)?;
+    }
+    Ok(Items::from_vec(needs))
+}
+
+/// A lock of the list of a section, which needs all these at its start.
+fn list_lock(
+    alloc: Global,
+    analysis: &Analysis,
+    searcher: &mut Searcher,
+    number: u16,
+    section: Section,
+    all: &[Lock],
+    lock: &Lock,
+) -> Result<Listed, AllocError>
+    requires analysed { IsAnalysed analysis.now }
+    requires all { (n : AnyLock) → IsOne all.now n ↔ Needs (read analysis.now) (Inside number) (suc section.acquire) n }
+    ensures lock { IfOk result (λ d. d.lock ≡ lock.now) }
+    ensures listed { IfOk result (IsListed (read analysis.now) number section) }
+{
+    let under = under(alloc, &analysis.classes, section.function, lock, all)?;
+    Ok(Listed {
+        lock: copied(lock)?,
+        needs: needs_of(alloc, analysis, searcher, number, section, &under)?,
+    })
+}
+
+/// The locks of the list of a section, which needs all these at its start.
+fn all_listed(
+    alloc: Global,
+    analysis: &Analysis,
+    searcher: &mut Searcher,
+    number: u16,
+    section: Section,
+    all: &[Lock],
+    list: &[Lock],
+) -> Result<Items<Listed>, AllocError>
+    requires analysed { IsAnalysed analysis.now }
+    requires all { (n : AnyLock) → IsOne all.now n ↔ Needs (read analysis.now) (Inside number) (suc section.acquire) n }
+    ensures { IfOk result (AreListed (read analysis.now) number section list.now) }
+{
+    let mut listed_locks = Vec::new(alloc);
+    for lock in list {
+        listed_locks.push(list_lock(alloc, analysis, searcher, number, section, all, lock)?)?;
+    }
+    Ok(Items::from_vec(listed_locks))
+}
+
+/// The locks of the list of a section.
+fn explained_section(
+    alloc: Global,
+    analysis: &Analysis,
+    searcher: &mut Searcher,
+    number: u16,
+    section: Section,
+    list: &[Lock],
+) -> Result<Items<Listed>, AllocError>
+    requires { IsAnalysed analysis.now }
+    ensures { IfOk result (AreListed (read analysis.now) number section list.now) }
+{
+    let start = u32::from(section.acquire) + 1;
+    let all = analysis.flow.at(alloc, Region::Section(number), start)?;
+    all_listed(alloc, analysis, searcher, number, section, &all, list)
+}
+
+/// For each section the locks of its list.
+fn explained_sections(
+    alloc: Global,
+    analysis: &Analysis,
+    lists: &[Items<Lock>],
+) -> Result<Items<Items<Listed>>, AllocError>
+    requires analysed { IsAnalysed analysis.now }
+    requires count { length lists.now ≡ length analysis.now.lowering.sections }
+    ensures { IfOk result (AreSections (read analysis.now) lists.now (length analysis.now.lowering.sections)) }
+{
+    let mut searcher = Searcher::new(alloc, analysis)?;
+    let mut sections = Vec::new(alloc);
+    for (number, section) in analysis.lowering.sections().iter().enumerate() {
+        let list = lists[number].as_slice();
+        let number = number as u16;
+        sections.push(explained_section(alloc, analysis, &mut searcher, number, *section, list)?)?;
+    }
+    Ok(Items::from_vec(sections))
+}
+
+/// The lists with paths of at most so many operations.
+fn lists_at(
+    alloc: Global,
+    lowering: &Lowering,
+    classes: &Classes,
+    longest: u32,
+) -> Result<Lists, AllocError>
+    requires short { longest ≤ 8 }
+    ensures { IfOk result (AreFittedAt lowering.now classes.now longest) }
+{
+    match needed(alloc, lowering, classes, longest) {
+        Ok(flow) => Ok(Lists::Inferred(lists(alloc, lowering, classes, &flow)?)),
+        Err(FlowFault::TooManyLocks(region)) => Ok(Lists::TooManyLocks(region)),
+        Err(FlowFault::OutOfMemory) => Err(AllocError),
+    }
+}
+
+/// The lists with paths of at most 0 to 8 operations.
+fn by_length(alloc: Global, analysis: &Analysis) -> Result<Items<Lists>, AllocError>
+    ensures count { IfOk result (λ lists. length lists ≡ 9) }
+    ensures each { IfOk result (λ lists. (longest : ℕ) (l : AnyLists) → slice_get lists longest ≡ Some l
+        → AreFittedAt analysis.now.lowering analysis.now.classes longest l) }
+{
+    let mut by_length = Vec::new(alloc);
+    for longest in 0..9 {
+        by_length.push(lists_at(alloc, &analysis.lowering, &analysis.classes, longest)?)?;
+    }
+    Ok(Items::from_vec(by_length))
+}
+
+/// Why the lists of a program are as they are.
+pub fn explanation_of(alloc: Global, analysis: &Analysis) -> Result<Explanation, AllocError>
+    requires { IsAnalysed analysis.now }
+    ensures { IfOk result (IsMade analysis.now) }
+{
+    let own = lists(alloc, &analysis.lowering, &analysis.classes, &analysis.flow)?;
+    Ok(Explanation {
+        sections: explained_sections(alloc, analysis, own.as_slice())?,
+        by_length: by_length(alloc, analysis)?,
+    })
+}

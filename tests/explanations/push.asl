@@ -1,0 +1,12 @@
+global head;
+fn main(t) {
+  n = new 2;
+  p = &head;
+  atomic {
+    y = *p;
+    g = &n[1];
+    *g = y;
+    *p = n;
+  }
+  return t;
+}
