@@ -300,4 +300,6 @@ if is_stale; then
   if is_stale; then build; fi
   exec 9>&-
 fi
+# past a limit on the size of files (ulimit -f) a write is to fail, and not to end the program by a signal
+trap '' XFSZ
 exec "$binary" "$@"

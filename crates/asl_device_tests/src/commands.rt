@@ -16,6 +16,11 @@ const SOURCE: &[u8] =
 const COUNTER: &[u8] =
     b"version 2\nclasses 1\nglobal 0\nentry 0\nfn 1 5\nglob r1, g0\nacq 0\nload r2, r1\nint r3, 1\nadd r4, r2, r3\nstore r1, r4\nrel\nret r0\nlist\nexpr r1 write\n";
 
+/// The counter's source, and its program.
+const PAIR: &[u8] =
+    b"global g; fn main(t) { p = &g; atomic { x = *p; one = 1; y = x + one; *p = y; } return t; }\0\
+    version 2\nclasses 1\nglobal 0\nentry 0\nfn 1 5\nglob r1, g0\nacq 0\nload r2, r1\nint r3, 1\nadd r4, r2, r3\nstore r1, r4\nrel\nret r0\nlist\nexpr r1 write\n";
+
 /// The image of the counter.
 const IMAGE: &[u8] = b"ASLM\x00\x02\x00\x01\x00\x01\x00\x00\x00\x01\x01\x05\x00\x08\x00\x00\x00\x08\
     \x08\x01\x00\x00\x00\x00\x00\x00\x12\x00\x00\x00\x00\x00\x00\x00\
@@ -34,7 +39,7 @@ const FILE: &[u8] =
     \x00\x01\x00\x01\x02\x01\x01\x00\
     ASLJ\x00\x01\x02\x00\x00\x00\x04\x00\x00\x00\x00\x01\x00\x01\x02";
 
-pub static COMMANDS: [Command; 8] = [
+pub static COMMANDS: [Command; 9] = [
     Command {
         line: "asm",
         input: COUNTER,
@@ -64,6 +69,11 @@ pub static COMMANDS: [Command; 8] = [
         line: "step --threads 2 --record 0 0 1 1",
         input: IMAGE,
         output: FILE,
+    },
+    Command {
+        line: "check",
+        input: PAIR,
+        output: b"checked 1 sections\n",
     },
     Command {
         line: "replay",

@@ -132,12 +132,9 @@ step_one texts bytes n schedule record_it input o p all x y =
 step_is : (n : ℕ) (schedule : List ℕ) (record_it : Bool) (input : List ℕ) (o : Result (List ℕ) CommandFault) → MatchResult o (λ output. IsStepped input n schedule record_it output) (λ f. IsRefusedStep input n schedule f × (IsWantOfMemory f → ⊥)) → IsStepOutcome n schedule record_it input o
 step_is n schedule record_it input (Ok output) x = (Ok x.image, x.program, (Ok x.log, ap Ok x.output_is, (x.legal, x.recorded)))
 step_is n schedule record_it input (Err (fault.Program cause)) x = (Err cause, (x.0, x.1), refl)
-step_is n schedule record_it input (Err (fault.File cause)) x = absurd x.0
 step_is n schedule record_it input (Err (fault.Journal cause)) x = (Ok x.0.image, x.0.program, (Err cause, refl, (x.0.refused, no_memory_run cause x.1)))
-step_is n schedule record_it input (Err (fault.Source cause)) x = absurd x.0
-step_is n schedule record_it input (Err (fault.Infer cause)) x = absurd x.0
-step_is n schedule record_it input (Err (fault.Run cause)) x = absurd x.0
 step_is n schedule record_it input (Err fault.OutOfMemory) x = absurd (x.1 tt)
+step_is n schedule record_it input (Err f) x = absurd x.0
 
 -- ---- `replay` and `log`
 
@@ -196,13 +193,10 @@ no_memory_file f tells e = tells (subst (λ (g : FileFault). IsWantOfMemory (fau
 
 replay_is : (text_of : TextOf) (input : List ℕ) (o : Result (List ℕ) CommandFault) → MatchResult o (λ output. IsTold text_of input output) (λ f. IsRefusedReplay input f × (IsWantOfMemory f → ⊥)) → HasReplayForm text_of input o
 replay_is text_of input (Ok output) x = (Ok (x.image, x.log), x.run, (Ok x.log, ap Ok x.output_is, (x.journal, refl)))
-replay_is text_of input (Err (fault.Program cause)) x = absurd x.0
 replay_is text_of input (Err (fault.File cause)) x = (Err cause, (x.0, no_memory_file cause x.1), refl)
 replay_is text_of input (Err (fault.Journal cause)) x = (Ok (x.0.image, x.0.log), x.0.run, (Err cause, refl, (x.0.refused, no_memory_run cause x.1)))
-replay_is text_of input (Err (fault.Source cause)) x = absurd x.0
-replay_is text_of input (Err (fault.Infer cause)) x = absurd x.0
-replay_is text_of input (Err (fault.Run cause)) x = absurd x.0
 replay_is text_of input (Err fault.OutOfMemory) x = absurd (x.1 tt)
+replay_is text_of input (Err f) x = absurd x.0
 
 replays_one : (text_of : TextOf) (input : List ℕ) (o p : Result (List ℕ) CommandFault) → All (λ b. b < 256) input → HasReplayForm text_of input o → HasReplayForm text_of input p → o ≡ p
 replays_one text_of input o p all x y =
@@ -243,13 +237,10 @@ debug_form_one words (Err f) o p x y = x ∙ sym y
 
 debug_is : (words : List DebugWord) (input : List ℕ) (o : Result (List ℕ) CommandFault) → MatchResult o (λ output. IsDebugged input words output) (λ f. IsRefusedReplay input f × (IsWantOfMemory f → ⊥)) → HasDebugForm words input o
 debug_is words input (Ok output) x = (Ok (x.image, x.log), x.run, (Ok output, refl, (x.journal, x.talk)))
-debug_is words input (Err (fault.Program cause)) x = absurd x.0
 debug_is words input (Err (fault.File cause)) x = (Err cause, (x.0, no_memory_file cause x.1), refl)
 debug_is words input (Err (fault.Journal cause)) x = (Ok (x.0.image, x.0.log), x.0.run, (Err cause, refl, (x.0.refused, no_memory_run cause x.1)))
-debug_is words input (Err (fault.Source cause)) x = absurd x.0
-debug_is words input (Err (fault.Infer cause)) x = absurd x.0
-debug_is words input (Err (fault.Run cause)) x = absurd x.0
 debug_is words input (Err fault.OutOfMemory) x = absurd (x.1 tt)
+debug_is words input (Err f) x = absurd x.0
 
 debugs_one : (words : List DebugWord) (input : List ℕ) (o p : Result (List ℕ) CommandFault) → All (λ b. b < 256) input → HasDebugForm words input o → HasDebugForm words input p → o ≡ p
 debugs_one words input o p all x y =
@@ -272,13 +263,8 @@ text_form_one (Err f) o p x y = x ∙ sym y
 text_is : (input : List ℕ) (o : Result (List ℕ) CommandFault) → MatchResult o (λ output. IsAssembled input output) (λ f. IsRefusedText input f × (IsWantOfMemory f → ⊥)) → IsTextOutcome input o
 text_is input (Ok output) x = (Ok x.image, x.program, (output, refl, x.spelled))
 text_is input (Err (fault.Program (program.Text cause))) x = (Err cause, (x.0, no_memory_text cause x.1), refl)
-text_is input (Err (fault.Program (program.Image cause))) x = absurd x.0
-text_is input (Err (fault.File cause)) x = absurd x.0
-text_is input (Err (fault.Journal cause)) x = absurd x.0
-text_is input (Err (fault.Source cause)) x = absurd x.0
-text_is input (Err (fault.Infer cause)) x = absurd x.0
-text_is input (Err (fault.Run cause)) x = absurd x.0
 text_is input (Err fault.OutOfMemory) x = absurd (x.1 tt)
+text_is input (Err f) x = absurd x.0
 
 text_one : TextsAreOne → (input : List ℕ) (o p : Result (List ℕ) CommandFault) → IsTextOutcome input o → IsTextOutcome input p → o ≡ p
 text_one texts input o p x y =
@@ -301,13 +287,8 @@ image_form_one (Err f) o p x y = x ∙ sym y
 image_is : (input : List ℕ) (o : Result (List ℕ) CommandFault) → MatchResult o (λ output. IsDisassembled input output) (λ f. IsRefusedImage input f × (IsWantOfMemory f → ⊥)) → IsImageOutcome input o
 image_is input (Ok output) x = (Ok x.image, x.program, ap Ok x.canonical)
 image_is input (Err (fault.Program (program.Image cause))) x = (Err cause, (x.0, no_memory_image cause x.1), refl)
-image_is input (Err (fault.Program (program.Text cause))) x = absurd x.0
-image_is input (Err (fault.File cause)) x = absurd x.0
-image_is input (Err (fault.Journal cause)) x = absurd x.0
-image_is input (Err (fault.Source cause)) x = absurd x.0
-image_is input (Err (fault.Infer cause)) x = absurd x.0
-image_is input (Err (fault.Run cause)) x = absurd x.0
 image_is input (Err fault.OutOfMemory) x = absurd (x.1 tt)
+image_is input (Err f) x = absurd x.0
 
 image_one : BytesAreOne → (input : List ℕ) (o p : Result (List ℕ) CommandFault) → All (λ b. b < 256) input → IsImageOutcome input o → IsImageOutcome input p → o ≡ p
 image_one bytes input o p all x y =
@@ -333,6 +314,10 @@ one_outcome texts bytes command.Assemble input o p settled all x y =
 one_outcome texts bytes command.Disassemble input o p settled all x y =
     image_one bytes input o p all (image_is input o (cases command.Disassemble input o x)) (image_is input p (cases command.Disassemble input p y))
 one_outcome texts bytes (command.Compile longest as_text) input o p settled all x y = absurd settled
+one_outcome texts bytes (command.Check longest) input o p settled all x y = absurd settled
+one_outcome texts bytes command.Map input o p settled all x y = absurd settled
+one_outcome texts bytes (command.Explain longest all) input o p settled all_ x y = absurd settled
+one_outcome texts bytes (command.Diagnose assembly longest) input o p settled all x y = absurd settled
 one_outcome texts bytes command.Replay input o p settled all x y =
     replays_one same_of input o p all (replay_is same_of input o (cases command.Replay input o x)) (replay_is same_of input p (cases command.Replay input p y))
 one_outcome texts bytes (command.Log trace) input o p settled all x y =
@@ -461,6 +446,10 @@ some_outcome texts bytes (command.Debug words) input settled all =
     let o = some_debug words.items input q.0 q.1 in
     (o.0, uncased (command.Debug words) input o.0 o.1)
 some_outcome texts bytes (command.Compile longest as_text) input settled all = absurd settled
+some_outcome texts bytes (command.Check longest) input settled all = absurd settled
+some_outcome texts bytes command.Map input settled all = absurd settled
+some_outcome texts bytes (command.Explain longest all) input settled all_ = absurd settled
+some_outcome texts bytes (command.Diagnose assembly longest) input settled all = absurd settled
 
 -- ---- `log` after `step --record`
 

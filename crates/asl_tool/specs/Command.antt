@@ -13,6 +13,13 @@ use Rattle.asl_words.specs.declared.command.Command.TheVariants as command
 use Rattle.asl_tool.specs.declared.command.CommandFault.{CommandFault}
 use Rattle.asl_tool.specs.declared.command.CommandFault.TheVariants as fault
 use Rattle.asl_tool.specs.Program.{IsNoProgram}
+use Rattle.asl_diagnose.specs.Told.{IsTold}
+use Rattle.asl_explain.specs.Explained.{IsAcceptedSource}
+use Rattle.asl_explain.specs.Explained as explain
+use Rattle.asl_explain.specs.declared.fault.ExplainFault.TheVariants as why
+use Rattle.asl_map.specs.Mapped.{IsMapText}
+use Rattle.asl_map.specs.Mapped as map
+use Rattle.asl_tool.specs.Check.{IsChecked, IsRefusedCheck}
 use Rattle.asl_tool.specs.Compile.{IsCompiled, IsRefusedSource}
 use Rattle.asl_tool.specs.Debug.{IsDebugged}
 use Rattle.asl_tool.specs.Log.{IsLogged}
@@ -38,6 +45,11 @@ IsOutput (command.Step threads schedule record_it) input output = IsStepped inpu
 IsOutput command.Assemble input image = IsAssembled input image
 IsOutput command.Disassemble input text = IsDisassembled input text
 IsOutput (command.Compile longest as_text) input output = IsCompiled input longest as_text output
+IsOutput (command.Check longest) input text = IsChecked input longest text
+IsOutput command.Map input text = IsMapText input text
+-- (the words of an explanation are only tested)
+IsOutput (command.Explain longest all) input text = IsAcceptedSource input longest
+IsOutput (command.Diagnose assembly longest) input text = IsTold input assembly longest text
 IsOutput command.Replay input text = IsReplayed input text
 IsOutput (command.Log trace) input text = IsLogged input trace text
 IsOutput (command.Debug words) input text = IsDebugged input words.items text
@@ -67,6 +79,22 @@ IsRefusedImage input (fault.Program (program.Image cause)) = bytes.IsFault input
 IsRefusedImage input fault.OutOfMemory = (image : Image) × IsProgramImage input image
 IsRefusedImage input f = ⊥
 
+-- what each refusal of `map` says of the source
+abbrev pub IsRefusedMap : List ℕ → CommandFault → Type 0
+IsRefusedMap input (fault.Map cause) = map.IsRefused input cause
+IsRefusedMap input f = ⊥
+
+-- what each refusal of `explain` says of the source
+abbrev pub IsRefusedExplain : List ℕ → ℕ → CommandFault → Type 0
+IsRefusedExplain input longest (fault.Source cause) = explain.IsRefused input longest (why.Source cause)
+IsRefusedExplain input longest (fault.Infer cause) = explain.IsRefused input longest (why.Infer cause)
+IsRefusedExplain input longest f = ⊥
+
+-- `diagnose` refuses no input: memory may run out, and that is all
+abbrev pub IsRefusedDiagnose : CommandFault → Type 0
+IsRefusedDiagnose fault.OutOfMemory = Unit {0}
+IsRefusedDiagnose f = ⊥
+
 -- what each refusal of a run file's command says of the file: it is none, or its journal is none of its program; want of
 -- memory is one of the two
 abbrev pub IsRefusedReplay : List ℕ → CommandFault → Type 0
@@ -80,6 +108,10 @@ IsRefused (command.Step threads schedule record_it) input f = IsRefusedStep inpu
 IsRefused command.Assemble input f = IsRefusedText input f
 IsRefused command.Disassemble input f = IsRefusedImage input f
 IsRefused (command.Compile longest as_text) input f = IsRefusedSource input longest f
+IsRefused (command.Check longest) input f = IsRefusedCheck input longest f
+IsRefused command.Map input f = IsRefusedMap input f
+IsRefused (command.Explain longest all) input f = IsRefusedExplain input longest f
+IsRefused (command.Diagnose assembly longest) input f = IsRefusedDiagnose f
 IsRefused command.Replay input f = IsRefusedReplay input f
 IsRefused (command.Log trace) input f = IsRefusedReplay input f
 IsRefused (command.Debug words) input f = IsRefusedReplay input f

@@ -4,6 +4,10 @@ use Rattle.asl_assembler.specs.declared.assembly.AsmFault.TheVariants as asm
 use Rattle.asl_loader.specs.declared.fault.LoadFault.TheVariants as load
 use Rattle.asl_syntax.specs.declared.fault.SyntaxFault.TheVariants as syntax
 use Rattle.asl_emitter.specs.declared.fault.InferFault.TheVariants as infer
+use Rattle.asl_lower.specs.declared.fault.LowerFault.TheVariants as lower
+use Rattle.asl_points_to.specs.declared.fault.ClassesFault.TheVariants as classes
+use Rattle.asl_map.specs.declared.fault.MapFault.TheVariants as map
+use Rattle.asl_check.specs.declared.fault.CheckFault.TheVariants as check
 use Rattle.asl_journal.specs.declared.fault.JournalFault.TheVariants as journal
 use Rattle.asl_runner.specs.declared.fault.RunFault.TheVariants as run
 use Rattle.asl_tool.specs.declared.program.ProgramFault.TheVariants as program
@@ -20,6 +24,12 @@ IsWantOfMemory (fault.Program (program.Text asm.OutOfMemory)) = Unit {0}
 IsWantOfMemory (fault.Program (program.Image load.OutOfMemory)) = Unit {0}
 IsWantOfMemory (fault.Source syntax.OutOfMemory) = Unit {0}
 IsWantOfMemory (fault.Infer infer.OutOfMemory) = Unit {0}
+IsWantOfMemory (fault.Check (check.Infer infer.OutOfMemory)) = Unit {0}
+IsWantOfMemory (fault.Check check.OutOfMemory) = Unit {0}
+IsWantOfMemory (fault.Map (map.Source syntax.OutOfMemory)) = Unit {0}
+IsWantOfMemory (fault.Map (map.Lower lower.OutOfMemory)) = Unit {0}
+IsWantOfMemory (fault.Map (map.Classes classes.OutOfMemory)) = Unit {0}
+IsWantOfMemory (fault.Map map.OutOfMemory) = Unit {0}
 IsWantOfMemory (fault.File file.OutOfMemory) = Unit {0}
 IsWantOfMemory (fault.Journal journal.OutOfMemory) = Unit {0}
 IsWantOfMemory (fault.Run run.OutOfMemory) = Unit {0}
@@ -31,8 +41,12 @@ abbrev pub IsOutcome : Command → List ℕ → Result (List ℕ) CommandFault �
 IsOutcome command input (Ok output) = IsOutput command input output
 IsOutcome command input (Err f) = IsRefused command input f × (IsWantOfMemory f → ⊥)
 
--- the input alone settles the command's outcome: not that of `compile`, which names any one of the regions that need too many
--- locks
+-- the input alone settles the command's outcome: not that of `compile` and of `check`, which name any one of the regions that need
+-- too many locks; of `map`, `explain` and `diagnose` it is not said
 abbrev pub IsSettled : Command → Type 0
 IsSettled (command.Compile longest as_text) = ⊥
+IsSettled (command.Check longest) = ⊥
+IsSettled command.Map = ⊥
+IsSettled (command.Explain longest all) = ⊥
+IsSettled (command.Diagnose assembly longest) = ⊥
 IsSettled c = Unit {0}

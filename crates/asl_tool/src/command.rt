@@ -1,12 +1,17 @@
 //! The commands: from the bytes of an input to those of the output.
 ghost use Rattle.std.specs.Prelude.{◌≡◌, true, IfOk, IfErr};
+ghost use Rattle.asl_diagnose.specs.Told.{IsTold};
+ghost use Rattle.asl_explain.specs.Explained.{IsAcceptedSource};
+ghost use Rattle.asl_map.specs.Mapped.{IsMapText};
+ghost use Rattle.asl_tool.specs.Check.{IsChecked, IsRefusedCheck};
 ghost use Rattle.asl_tool.specs.Debug.{IsDebugged};
 ghost use Rattle.asl_tool.specs.RunFile.{SpellsRun};
 ghost use Rattle.asl_tool.specs.Log.{IsLogged};
 ghost use Rattle.asl_tool.specs.Replay.{IsReplayed};
 ghost use Rattle.asl_tool.specs.Step.{IsRecorded, IsStepped, written};
-ghost use Rattle.asl_tool.specs.Command.{IsAssembled, IsDisassembled, IsOutput, IsRunFile, IsRefused, IsRefusedStep, IsRefusedText, IsRefusedImage, IsRefusedReplay};
+ghost use Rattle.asl_tool.specs.Command.{IsAssembled, IsDisassembled, IsOutput, IsRunFile, IsRefused, IsRefusedDiagnose, IsRefusedExplain, IsRefusedMap, IsRefusedStep, IsRefusedText, IsRefusedImage, IsRefusedReplay};
 
+use crate::checking::checked_text;
 use crate::compiling::compiled;
 use crate::debugging::debugged_text;
 use crate::logging::logged_text;
@@ -15,13 +20,17 @@ use crate::replaying::replayed_text;
 use crate::run_file::{FileFault, get_run, put_run};
 use crate::step::{lines_of, record_run};
 use asl_assembler::{assemble, disassemble};
+use asl_check::CheckFault;
 use asl_code::Program;
+use asl_diagnose::diagnosed;
 use asl_emitter::InferFault;
+use asl_explain::{ExplainFault, explained};
 use asl_journal::{Journal, JournalFault};
 use asl_loader::{load, store};
+use asl_map::{MapFault, mapped};
 use asl_runner::RunFault;
 use asl_syntax::SyntaxFault;
-use asl_words::{Command, DebugWord};
+use asl_words::{Command, DebugWord, Longest};
 use std::alloc::{AllocError, Global};
 use thiserror::Error;
 
@@ -37,6 +46,15 @@ pub enum CommandFault {
     /// No program is inferred for the source.
     #[error(transparent)]
     Infer(InferFault),
+    /// The input has no byte 0 behind which a program stands.
+    #[error("NoProgram")]
+    NoProgram,
+    /// The program is not the source's, or its lists are not enough.
+    #[error(transparent)]
+    Check(CheckFault),
+    /// The input has no map.
+    #[error(transparent)]
+    Map(MapFault),
     /// The input is no run file.
     #[error(transparent)]
     File(FileFault),
@@ -71,6 +89,12 @@ pub fn output_of(alloc: Global, command: &Command, input: &[u8]) -> Result<Vec<u
         Command::Assemble => assembled(alloc, input),
         Command::Disassemble => disassembled(alloc, input),
         Command::Compile { longest, text } => compiled(alloc, longest, *text, input),
+        Command::Check { longest } => checked(alloc, longest, input),
+        Command::Map => mapped_source(alloc, input),
+        Command::Explain { longest, all } => explained_source(alloc, longest, *all, input),
+        Command::Diagnose { assembly, longest } => diagnosed_input(
+            alloc, *assembly, longest, input,
+        ),
         Command::Replay => replayed(alloc, input),
         Command::Log { trace } => logged(alloc, *trace, input),
         Command::Debug { words } => debugged(alloc, words.as_slice(), input),
@@ -147,6 +171,61 @@ fn disassembled(alloc: Global, image: &[u8]) -> Result<Vec<u8>, CommandFault>
     };
     match disassemble(alloc, &program) {
         Ok(text) => Ok(text),
+        Err(_) => Err(CommandFault::OutOfMemory),
+    }
+}
+
+/// Whether the lists of the input's program are enough for its source.
+fn checked(alloc: Global, longest: &Longest, input: &[u8]) -> Result<Vec<u8>, CommandFault>
+    ensures ok { IfOk result (λ text. IsChecked input.now longest.now text.items) }
+    ensures err { IfErr result (λ fault. IsRefusedCheck input.now longest.now fault) }
+{
+    match checked_text(alloc, longest, input) {
+        Ok(text) => Ok(text.into_bytes()),
+        Err(fault) => Err(fault),
+    }
+}
+
+/// The map of the source.
+fn mapped_source(alloc: Global, source: &[u8]) -> Result<Vec<u8>, CommandFault>
+    ensures ok { IfOk result (λ text. IsMapText source.now text.items) }
+    ensures err { IfErr result (λ fault. IsRefusedMap source.now fault) }
+{
+    match mapped(alloc, source) {
+        Ok(text) => Ok(text.into_bytes()),
+        Err(fault) => Err(CommandFault::Map(fault)),
+    }
+}
+
+/// The lists of the source, and why their locks are there.
+fn explained_source(
+    alloc: Global,
+    longest: &Longest,
+    all: bool,
+    source: &[u8],
+) -> Result<Vec<u8>, CommandFault>
+    ensures ok { IfOk result (λ _. IsAcceptedSource source.now longest.now) }
+    ensures err { IfErr result (λ fault. IsRefusedExplain source.now longest.now fault) }
+{
+    match explained(alloc, source, longest.operations(), all) {
+        Ok(text) => Ok(text.into_bytes()),
+        Err(ExplainFault::Source(fault)) => Err(CommandFault::Source(fault)),
+        Err(ExplainFault::Infer(fault)) => Err(CommandFault::Infer(fault)),
+    }
+}
+
+/// Why the input is refused, as a person reads it, or nothing where it is not.
+fn diagnosed_input(
+    alloc: Global,
+    assembly: bool,
+    longest: &Longest,
+    input: &[u8],
+) -> Result<Vec<u8>, CommandFault>
+    ensures ok { IfOk result (λ text. IsTold input.now assembly longest.now text.items) }
+    ensures err { IfErr result IsRefusedDiagnose }
+{
+    match diagnosed(alloc, input, assembly, longest.operations()) {
+        Ok(text) => Ok(text.into_bytes()),
         Err(_) => Err(CommandFault::OutOfMemory),
     }
 }

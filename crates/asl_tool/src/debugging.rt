@@ -6,6 +6,7 @@ ghost use Rattle.asl_journal.specs.Journal.{IsJournal};
 ghost use Rattle.asl_journal.specs.Replay.{IsReplayFault};
 ghost use Rattle.asl_tool.specs.Debug.{Follows, IsAnswer, IsNoMove, IsTalk, answer_text, arrived, opened};
 
+use crate::spacing::spacing_of;
 use asl_code::Program;
 use asl_debugger::{DebugFault, Debugger};
 use asl_journal::{Journal, JournalFault};
@@ -26,9 +27,6 @@ pub enum Answer {
     NoSuchStep,
 }
 
-/// How many events lie between two checkpoints.
-const SPACING: u32 = 1024;
-
 /// What a debugger over the journal answers to the words.
 pub fn debugged_text(
     alloc: Global,
@@ -40,7 +38,8 @@ pub fn debugged_text(
     ensures text { IfOk result (λ text. IsTalk (opened program.now journal) words.now (string_bytes text)) }
     ensures err { IfErr result (λ fault. IsReplayFault program.now journal fault) }
 {
-    match Debugger::open(alloc, program, journal, SPACING) {
+    let spacing = spacing_of(alloc, program, &journal);
+    match Debugger::open(alloc, program, journal, spacing) {
         Ok(mut debugger) => match talk(alloc, &mut debugger, words) {
             Ok(text) => Ok(text),
             Err(_) => Err(JournalFault::OutOfMemory),

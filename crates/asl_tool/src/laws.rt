@@ -11,7 +11,7 @@ use asl_assembler::laws::texts_have_one_outcome;
 use asl_loader::laws::bytes_have_one_outcome;
 
 /// A command has exactly one outcome for the bytes of an input: one output, or one refusal. Want of memory is none. `compile`
-/// is left out: where several regions need too many locks, it names any of them.
+/// and `check` are left out: where several regions need too many locks, they name any of them. Of `map`, `explain` and `diagnose` it is not said.
 pub fn commands_have_one_outcome()
     ensures some { (command : Command) (input : List ℕ) → IsSettled command → All (λ b. b < 256) input
         → (outcome : Result (List ℕ) CommandFault) × IsOutcome command input outcome }

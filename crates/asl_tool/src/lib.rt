@@ -1,6 +1,7 @@
 //! The program `asl` without its process: words, a reader and writers in, a status out.
 #![tactic(auto)]
 
+mod checking;
 mod command;
 mod compiling;
 mod debugging;
@@ -11,6 +12,7 @@ mod program;
 mod replaying;
 mod run;
 mod run_file;
+mod spacing;
 mod step;
 mod streams;
 

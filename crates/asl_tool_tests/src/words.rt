@@ -13,6 +13,10 @@ enum Wanted {
     Replay,
     Log(bool),
     Compile(u32, bool),
+    Check(u32),
+    Map,
+    Explain(u32, bool),
+    Diagnose(bool, u32),
     Debug(&'static [DebugWord]),
     Assemble,
     Disassemble,
@@ -38,6 +42,15 @@ fn is_command(got: &Command, wanted: &Wanted) -> bool {
         Command::Log { trace } => matches!(wanted, Wanted::Log(is_trace) if trace == is_trace),
         Command::Compile { longest, text } => {
             matches!(wanted, Wanted::Compile(k, is_text) if longest.operations() == *k && text == is_text)
+        }
+        Command::Check { longest } =>
+            matches!(wanted, Wanted::Check(k) if longest.operations() == *k),
+        Command::Map => matches!(wanted, Wanted::Map),
+        Command::Explain { longest, all } => {
+            matches!(wanted, Wanted::Explain(k, flag) if longest.operations() == *k && all == flag)
+        }
+        Command::Diagnose { assembly, longest } => {
+            matches!(wanted, Wanted::Diagnose(is_assembly, k) if assembly == is_assembly && longest.operations() == *k)
         }
         Command::Debug { words } =>
             matches!(wanted, Wanted::Debug(all) if words.as_slice() == *all),
@@ -116,9 +129,10 @@ fn steps(rt: HostRuntime) {
     check(&rt, &STEPPING);
 }
 
-static TRANSLATIONS: [Row; 5] = [
+static TRANSLATIONS: [Row; 6] = [
     ("asm", Wanted::Assemble),
     ("dis", Wanted::Disassemble),
+    ("map", Wanted::Map),
     ("replay", Wanted::Replay),
     ("log", Wanted::Log(false)),
     ("log --trace", Wanted::Log(true)),
@@ -275,6 +289,31 @@ static COMPILATIONS: [Row; 14] = [
 #[test]
 fn compiling(rt: HostRuntime) {
     check(&rt, &COMPILATIONS);
+}
+
+static CHECKS: [Row; 17] = [
+    ("check", Wanted::Check(3)),
+    ("check --k 0", Wanted::Check(0)),
+    ("check --k=8", Wanted::Check(8)),
+    ("check --help", Wanted::Help),
+    ("check --k 9", Wanted::WrongUsage),
+    ("check --k", Wanted::WrongUsage),
+    ("check --text", Wanted::WrongUsage),
+    ("check 3", Wanted::WrongUsage),
+    ("map --k 3", Wanted::WrongUsage),
+    ("explain", Wanted::Explain(3, false)),
+    ("explain --all --k 1", Wanted::Explain(1, true)),
+    ("explain --k 9", Wanted::WrongUsage),
+    ("explain --asm", Wanted::WrongUsage),
+    ("diagnose", Wanted::Diagnose(false, 3)),
+    ("diagnose --asm --k 0", Wanted::Diagnose(true, 0)),
+    ("diagnose --k 9", Wanted::WrongUsage),
+    ("diagnose --all", Wanted::WrongUsage),
+];
+
+#[test]
+fn checking(rt: HostRuntime) {
+    check(&rt, &CHECKS);
 }
 
 /// Each word of the debugger.

@@ -30,6 +30,22 @@ words_rule name = record (new_rule name) {
 abbrev pub compile_app : App
 compile_app = with_rule (with_rule (new_app (codes "compile")) (value_rule (codes "k"))) (flag_rule (codes "text"))
 
+-- `check [--k K]`
+abbrev pub check_app : App
+check_app = with_rule (new_app (codes "check")) (value_rule (codes "k"))
+
+-- `map`
+abbrev pub map_app : App
+map_app = new_app (codes "map")
+
+-- `explain [--k K] [--all]`
+abbrev pub explain_app : App
+explain_app = with_rule (with_rule (new_app (codes "explain")) (value_rule (codes "k"))) (flag_rule (codes "all"))
+
+-- `diagnose [--k K] [--asm]`
+abbrev pub diagnose_app : App
+diagnose_app = with_rule (with_rule (new_app (codes "diagnose")) (value_rule (codes "k"))) (flag_rule (codes "asm"))
+
 -- `asm`
 abbrev pub asm_app : App
 asm_app = new_app (codes "asm")
@@ -72,6 +88,7 @@ bare_app = record {
 -- the program
 abbrev pub asl_app : App
 asl_app =
-    with_subcommand (with_subcommand (with_subcommand (with_subcommand (with_subcommand (with_subcommand (with_subcommand (with_subcommand bare_app
-    compile_app.top) asm_app.top) dis_app.top) step_app.top) run_app.top) replay_app.top) log_app.top)
+    with_subcommand (with_subcommand (with_subcommand (with_subcommand (with_subcommand (with_subcommand (with_subcommand (with_subcommand (with_subcommand
+    (with_subcommand (with_subcommand (with_subcommand bare_app
+    compile_app.top) check_app.top) map_app.top) explain_app.top) diagnose_app.top) asm_app.top) dis_app.top) step_app.top) run_app.top) replay_app.top) log_app.top)
     debug_app.top

@@ -67,6 +67,12 @@ IsCommand name rows command.Assemble = name ≡ codes "asm"
 IsCommand name rows command.Disassemble = name ≡ codes "dis"
 IsCommand name rows (command.Compile longest text) =
     (name ≡ codes "compile") × IsLengthAt rows longest × IsFlagAt (codes "text") rows text
+IsCommand name rows (command.Check longest) = (name ≡ codes "check") × IsLengthAt rows longest
+IsCommand name rows command.Map = name ≡ codes "map"
+IsCommand name rows (command.Explain longest all) =
+    (name ≡ codes "explain") × IsLengthAt rows longest × IsFlagAt (codes "all") rows all
+IsCommand name rows (command.Diagnose assembly longest) =
+    (name ≡ codes "diagnose") × IsFlagAt (codes "asm") rows assembly × IsLengthAt rows longest
 IsCommand name rows command.Replay = name ≡ codes "replay"
 IsCommand name rows (command.Log trace) = (name ≡ codes "log") × IsFlagAt (codes "trace") rows trace
 IsCommand name rows (command.Debug words) = (name ≡ codes "debug") × AreDebugWords (words_at (codes "words") rows) words.items
@@ -100,13 +106,13 @@ AskNothing rows = (words : List DebugWord) → AreDebugWords (words_at (codes "w
 -- the name is none of the program's commands
 abbrev pub IsUnknown : Text → Type 0
 IsUnknown name = All (λ known. name ≢ known)
-    (codes "step" ∷ codes "asm" ∷ codes "dis" ∷ codes "compile" ∷ codes "replay" ∷ codes "log" ∷ codes "debug" ∷ codes "run" ∷ [])
+    (codes "step" ∷ codes "asm" ∷ codes "dis" ∷ codes "compile" ∷ codes "check" ∷ codes "map" ∷ codes "explain" ∷ codes "diagnose" ∷ codes "replay" ∷ codes "log" ∷ codes "debug" ∷ codes "run" ∷ [])
 
 -- the command has this name, and one of its values is none
 abbrev pub IsMisused : Text → List Row → Type 0
 IsMisused name rows =
     ((name ≡ codes "step") × (IsNoNumberAt (codes "threads") rows ⊎ AreNoNumbersAt (codes "schedule") rows))
-    ⊎ (((name ≡ codes "compile") × IsNoLengthAt rows)
+    ⊎ ((((name ≡ codes "compile") ⊎ ((name ≡ codes "check") ⊎ ((name ≡ codes "explain") ⊎ (name ≡ codes "diagnose")))) × IsNoLengthAt rows)
     ⊎ (((name ≡ codes "run") × (IsNoNumberAt (codes "threads") rows ⊎ (IsNoNumberAt (codes "workers") rows ⊎ IsNoNumberAt (codes "limit") rows)))
     ⊎ (((name ≡ codes "debug") × AskNothing rows) ⊎ IsUnknown name)))
 

@@ -2,7 +2,7 @@
 ghost use Rattle.std.specs.Prelude.{◌≡◌, false, IfOk};
 ghost use Rattle.clap.specs.Words.{app_of, new_app, rule_of, with_rule, with_subcommand};
 ghost use Rattle.clap.specs.declared.builder.command.Command.TheViews.{out-Command};
-ghost use Rattle.asl_words.specs.Arguments.{asl_app, asm_app, bare_app, compile_app, debug_app, dis_app, flag_rule, log_app, needed_rule, replay_app, run_app, step_app, value_rule, words_rule};
+ghost use Rattle.asl_words.specs.Arguments.{asl_app, asm_app, bare_app, check_app, compile_app, debug_app, diagnose_app, dis_app, explain_app, flag_rule, log_app, map_app, needed_rule, replay_app, run_app, step_app, value_rule, words_rule};
 ghost use Rattle.asl_words.specs.Building.{IsBuilt};
 
 use crate::help;
@@ -15,6 +15,10 @@ pub fn program<'a>(alloc: Global) -> Result<Command<'a>, AllocError>
 {
     let command = bare_program(alloc)?;
     let command = with_command(command, compile_command(alloc)?)?;
+    let command = with_command(command, check_command(alloc)?)?;
+    let command = with_command(command, map_command(alloc)?)?;
+    let command = with_command(command, explain_command(alloc)?)?;
+    let command = with_command(command, diagnose_command(alloc)?)?;
     let command = with_command(command, asm_command(alloc)?)?;
     let command = with_command(command, dis_command(alloc)?)?;
     let command = with_command(command, step_command(alloc)?)?;
@@ -44,6 +48,35 @@ fn compile_command<'a>(alloc: Global) -> Result<Command<'a>, AllocError>
     let command = named(alloc, "compile", "asl compile", help::COMPILE)?;
     let command = with_argument(command, value(alloc, "k", "K", help::LONGEST))?;
     with_argument(command, flag(alloc, "text", help::TEXT))
+}
+
+fn check_command<'a>(alloc: Global) -> Result<Command<'a>, AllocError>
+    ensures { IfOk result (λ command. IsBuilt command check_app) }
+{
+    let command = named(alloc, "check", "asl check", help::CHECK)?;
+    with_argument(command, value(alloc, "k", "K", help::NEEDED))
+}
+
+fn map_command<'a>(alloc: Global) -> Result<Command<'a>, AllocError>
+    ensures { IfOk result (λ command. IsBuilt command map_app) }
+{
+    named(alloc, "map", "asl map", help::MAP)
+}
+
+fn explain_command<'a>(alloc: Global) -> Result<Command<'a>, AllocError>
+    ensures { IfOk result (λ command. IsBuilt command explain_app) }
+{
+    let command = named(alloc, "explain", "asl explain", help::EXPLAIN)?;
+    let command = with_argument(command, value(alloc, "k", "K", help::LONGEST))?;
+    with_argument(command, flag(alloc, "all", help::ALL))
+}
+
+fn diagnose_command<'a>(alloc: Global) -> Result<Command<'a>, AllocError>
+    ensures { IfOk result (λ command. IsBuilt command diagnose_app) }
+{
+    let command = named(alloc, "diagnose", "asl diagnose", help::DIAGNOSE)?;
+    let command = with_argument(command, value(alloc, "k", "K", help::LONGEST))?;
+    with_argument(command, flag(alloc, "asm", help::ASSEMBLY))
 }
 
 fn asm_command<'a>(alloc: Global) -> Result<Command<'a>, AllocError>

@@ -25,6 +25,27 @@ pub enum Command {
         /// Whether the canonical text is written, in place of the image.
         text: bool,
     },
+    /// `check`: whether the lists of a program are enough for its source. The input is the source, one byte 0, and the program.
+    Check {
+        /// How many operations a path of a needed lock has at most.
+        longest: Longest,
+    },
+    /// `map`: what the numbers in the code of the input, a source, stand for, and where it comes from in the text.
+    Map,
+    /// `explain`: the lists of the input, a source, and for each lock why it is there.
+    Explain {
+        /// How many operations a lock's path has at most.
+        longest: Longest,
+        /// Whether all chains of links are told.
+        all: bool,
+    },
+    /// `diagnose`: why the input, a source or an assembly text, is refused, as a person reads it; nothing where it is not.
+    Diagnose {
+        /// Whether the input is an assembly text.
+        assembly: bool,
+        /// How many operations a path of a needed lock has at most.
+        longest: Longest,
+    },
     /// `replay`: whether the input, a run file, is a run of its program.
     Replay,
     /// `log`: the lines of the replies of the input, a run file, if it is a run of its program.

@@ -62,6 +62,10 @@ fn read_command(
         "asm" => Ok(Invocation::Alone(Command::Assemble)),
         "dis" => Ok(Invocation::Alone(Command::Disassemble)),
         "compile" => read_compile(alloc, values),
+        "check" => read_check(alloc, values),
+        "map" => Ok(Invocation::Alone(Command::Map)),
+        "explain" => read_explain(alloc, values),
+        "diagnose" => read_diagnose(alloc, values),
         "replay" => Ok(Invocation::Alone(Command::Replay)),
         "log" => Ok(read_log(values)),
         "debug" => read_debug(alloc, values),
@@ -120,6 +124,39 @@ fn read_compile(alloc: Global, values: &ArgMatches<'_>) -> Result<Invocation, Al
         Ok(longest) => {
             let text = flag_at(values, "text");
             Ok(Invocation::Alone(Command::Compile { longest, text }))
+        }
+        Err(word) => invalid(alloc, word, "--k <K>", A_PATH_LIMIT),
+    }
+}
+
+fn read_check(alloc: Global, values: &ArgMatches<'_>) -> Result<Invocation, AllocError>
+    ensures { IfOk result (IsReading (codes "check") (rows_of (found_of values.now))) }
+{
+    match longest_at(values) {
+        Ok(longest) => Ok(Invocation::Alone(Command::Check { longest })),
+        Err(word) => invalid(alloc, word, "--k <K>", A_PATH_LIMIT),
+    }
+}
+
+fn read_explain(alloc: Global, values: &ArgMatches<'_>) -> Result<Invocation, AllocError>
+    ensures { IfOk result (IsReading (codes "explain") (rows_of (found_of values.now))) }
+{
+    match longest_at(values) {
+        Ok(longest) => {
+            let all = flag_at(values, "all");
+            Ok(Invocation::Alone(Command::Explain { longest, all }))
+        }
+        Err(word) => invalid(alloc, word, "--k <K>", A_PATH_LIMIT),
+    }
+}
+
+fn read_diagnose(alloc: Global, values: &ArgMatches<'_>) -> Result<Invocation, AllocError>
+    ensures { IfOk result (IsReading (codes "diagnose") (rows_of (found_of values.now))) }
+{
+    match longest_at(values) {
+        Ok(longest) => {
+            let assembly = flag_at(values, "asm");
+            Ok(Invocation::Alone(Command::Diagnose { assembly, longest }))
         }
         Err(word) => invalid(alloc, word, "--k <K>", A_PATH_LIMIT),
     }

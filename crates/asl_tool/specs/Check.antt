@@ -1,0 +1,93 @@
+-- What the command `check` answers (docs/ANALYSIS.md, "Lists of your own").
+use Rattle.std.specs.Prelude.{◌≡◌, ◌≢◌, ℕ, List, ◌∷◌, ◌++◌, All, length, codes}
+use Rattle.std.specs.Fmt.{decimal}
+use Rattle.asl_code.specs.declared.image.Image.{Image}
+use Rattle.asl_syntax.specs.Tree.{Item}
+use Rattle.asl_syntax.specs.Parsed.{Parses}
+use Rattle.asl_syntax.specs.Fault as syntax
+use Rattle.asl_soundness.specs.Safe.{NeverFaultsForLocks}
+use Rattle.asl_atomicity.specs.Serial.{HasSerialRuns}
+use Rattle.asl_atomicity.specs.Renamed.{HasSerialRunsUpTo}
+use Rattle.asl_check.specs.Refused as lists
+use Rattle.asl_syntax.specs.declared.fault.SyntaxFault.{SyntaxFault}
+use Rattle.asl_check.specs.declared.fault.CheckFault.{CheckFault}
+use Rattle.asl_tool.specs.declared.program.ProgramFault.{ProgramFault}
+use Rattle.asl_tool.specs.declared.command.CommandFault.{CommandFault}
+use Rattle.asl_tool.specs.declared.command.CommandFault.TheVariants as fault
+use Rattle.asl_tool.specs.Program.{IsProgram, IsNoProgram}
+
+-- ---- the two sides of an input
+
+-- the bytes have no 0
+abbrev pub HasNoSides : List ℕ → Type 0
+HasNoSides input = All (λ b. b ≢ 0) input
+
+-- the input is a source side without a byte 0, that byte, and a program's side
+pub record HasSides (input source program : List ℕ) : Type 0 where
+  pub whole : input ≡ source ++ 0 ∷ program
+  pub first : HasNoSides source
+
+-- ---- what is checked
+
+-- the first side is a source, the second a program with so many lists. The program is the source's but for its lists, and these are
+-- enough for what its sections need, with paths of at most so many operations; no run of it faults for want of a lock, and its
+-- sections are atomic
+pub record AreEnough (source program : List ℕ) (longest sections : ℕ) : Type 0 where
+  pub tree : List Item
+  pub image : Image
+  pub parsed : Parses source tree
+  pub read : IsProgram program image
+  pub checked : lists.IsChecked tree longest image
+  pub safe : NeverFaultsForLocks image
+  pub atomic : (count : ℕ) → HasSerialRuns image count
+  pub atomic_up_to_numbers : (count : ℕ) → HasSerialRunsUpTo image count
+  pub count : sections ≡ length image.lists
+
+-- the line of so many sections
+abbrev pub checked_line : ℕ → List ℕ
+checked_line sections = codes "checked " ++ decimal sections ++ codes " sections\n"
+
+-- the lists of the input's program are enough for its source, and the output says how many there are
+pub record IsChecked (input : List ℕ) (longest : ℕ) (output : List ℕ) : Type 0 where
+  pub source : List ℕ
+  pub program : List ℕ
+  pub sections : ℕ
+  pub sides : HasSides input source program
+  pub enough : AreEnough source program longest sections
+  pub output_is : output ≡ checked_line sections
+
+-- ---- why an input is refused
+
+-- the source is one, and the program is none
+pub record HasNoProgram (source program : List ℕ) (cause : ProgramFault) : Type 0 where
+  pub tree : List Item
+  pub parsed : Parses source tree
+  pub refused : IsNoProgram program cause
+
+-- both sides are what they should be, and the check refuses the two
+pub record HasOtherLists (source program : List ℕ) (longest : ℕ) (cause : CheckFault) : Type 0 where
+  pub tree : List Item
+  pub image : Image
+  pub parsed : Parses source tree
+  pub read : IsProgram program image
+  pub refused : lists.IsRefused tree longest image cause
+
+-- what each refusal says of the two sides; want of memory for the line comes only where the lists are enough
+abbrev pub IsRefusedPair : List ℕ → List ℕ → ℕ → CommandFault → Type 0
+IsRefusedPair source program longest (fault.Source cause) = syntax.IsFault source cause
+IsRefusedPair source program longest (fault.Program cause) = HasNoProgram source program cause
+IsRefusedPair source program longest (fault.Check cause) = HasOtherLists source program longest cause
+IsRefusedPair source program longest fault.OutOfMemory = (sections : ℕ) × AreEnough source program longest sections
+IsRefusedPair source program longest f = ⊥
+
+-- the input has two sides, and they are refused
+pub record HasRefusedPair (input : List ℕ) (longest : ℕ) (f : CommandFault) : Type 0 where
+  pub source : List ℕ
+  pub program : List ℕ
+  pub sides : HasSides input source program
+  pub refused : IsRefusedPair source program longest f
+
+-- what each refusal of `check` says of the input
+abbrev pub IsRefusedCheck : List ℕ → ℕ → CommandFault → Type 0
+IsRefusedCheck input longest fault.NoProgram = HasNoSides input
+IsRefusedCheck input longest f = HasRefusedPair input longest f
