@@ -1,0 +1,36 @@
+-- What a call of a command leaves: the status, in each buffer a text as far as there is room, and the whole lengths
+-- (docs/EMBEDDING.md, "The commands from C").
+use Rattle.std.specs.Prelude.{◌≡◌, ◌<◌, ◌⊎◌, ℕ, List, [], Some, length, IsUtf8}
+use Rattle.asl_tool.specs.Tool.{EndsAlone, AsksForWork}
+use Rattle.asl_call.specs.declared.call.Answer.{Answer}
+use Rattle.asl_call.specs.Words.{words_of}
+use Rattle.asl_call.specs.Buffer.{Holds}
+
+-- the call did what the words ask for, over the input, from a writer that had nothing: the buffers hold what was written and what
+-- was said on standard error, and the answer has their lengths
+pub record IsDone (words input output errors output_now errors_now : List ℕ) (answer : Answer) : Type 0 where
+  pub written : List ℕ
+  pub said : List ℕ
+  pub ends : EndsAlone (words_of words) (Unit {0}) (written ≡ []) (Some input) (Some []) (Some written) answer.status
+  pub quiet : answer.status ≡ 0 → said ≡ []
+  pub holds_output : Holds written output output_now
+  pub holds_errors : Holds said errors errors_now
+  pub output_length : answer.output_length ≡ length written
+  pub errors_length : answer.errors_length ≡ length said
+
+-- why nothing was done: the words are not UTF-8; memory ran out for them; or they ask for `run`
+abbrev pub SaysWhyNot : List ℕ → ℕ → Type 0
+SaysWhyNot words status = ((status ≡ 253) × ¬ (IsUtf8 words)) ⊎ (((status ≡ 254) × IsUtf8 words × 0 < length words) ⊎ ((status ≡ 255) × AsksForWork (words_of words)))
+
+-- the call did nothing, and the status says why
+pub record IsRefused (words output errors output_now errors_now : List ℕ) (answer : Answer) : Type 0 where
+  pub why : SaysWhyNot words answer.status
+  pub output_kept : output_now ≡ output
+  pub errors_kept : errors_now ≡ errors
+  pub no_output : answer.output_length ≡ 0
+  pub no_errors : answer.errors_length ≡ 0
+
+-- what the call leaves
+abbrev pub IsAnswered : List ℕ → List ℕ → List ℕ → List ℕ → List ℕ → List ℕ → Answer → Type 0
+IsAnswered words input output errors output_now errors_now answer =
+    IsDone words input output errors output_now errors_now answer ⊎ IsRefused words output errors output_now errors_now answer

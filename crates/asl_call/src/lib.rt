@@ -1,0 +1,8 @@
+//! For C: each command of the program as one call over memory. `include/asl.h` declares it.
+#![tactic(auto)]
+
+mod buffer;
+mod call;
+mod words;
+
+pub use call::Answer;

@@ -1,0 +1,30 @@
+// Everything by keyboard. In the editor only Escape is a key of the workbench.
+
+export const KEYS = [
+  ['0 to 9', 'step that thread'], ['← →', 'one event back, forward'], ['Shift ← →', 'ten events'], ['Home End', 'start, end'],
+  ['r', 'round robin'], ['R', 'random steps, by the seed'], ['n', 'until somebody is blocked, or all have ended'],
+  ['u  U', 'undo a branch, redo'], ['c', 'clear the run'], ['Space', 'play, pause'],
+  ['b  B', 'next, previous blocked'], ['h', 'from a blocked try to the event that took the lock'],
+  ['o  O', 'next, previous output'], ['f  F', 'next, previous fault'], ['[  ]', 'previous, next event of the same thread'],
+  ['e  Esc', 'into the editor, out of it'], ['k  K', 'larger, smaller k'], ['t  T', 'more, fewer threads'],
+    ['x', 'why these locks'], ['m', 'instructions, hidden or shown'],
+  ['l', 'all lanes, or those with events in view'], ['+  −', 'zoom of the timeline'],
+    ['L', 'lecture: large, without the small print'],
+  ['d', 'light, dark'], ['A  a', 'larger, smaller text'], ['s', 'share'], ['j', 'lessons'], ['?', 'this table'],
+];
+
+const typing = target => target && (/^(TEXTAREA|SELECT)$/.test(target.tagName) || (target.tagName === 'INPUT' && target.type !== 'range'));
+
+export function listenToKeys(actions) {
+  document.addEventListener('keydown', event => {
+    if (event.ctrlKey || event.metaKey || event.altKey || document.querySelector('dialog[open]')) return;
+    const at = document.activeElement;
+    if (typing(at)) { if (event.key === 'Escape') at.blur(); return; }
+    if (at && at.tagName === 'BUTTON' && (event.key === ' ' || event.key === 'Enter')) return;
+    const key = event.key.length === 1 || !event.shiftKey ? event.key : 'Shift' + event.key;
+    const action = /^[0-9]$/.test(key) ? () => actions.step(Number(key)) : actions[key];
+    if (!action) return;
+    event.preventDefault();
+    action();
+  });
+}

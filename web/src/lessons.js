@@ -1,0 +1,52 @@
+// Six lessons of some ten minutes: what to open, what to do, and how each step is known to be done. A test asks the bench, whose
+// events and states are the toolchain's.
+
+const depth = (bench, thread) => bench.state.threads[thread].depth || 0;
+const wasBlocked = (bench, thread) => Boolean(bench.last) && bench.last.reply === 'blocked' && bench.last.thread === thread;
+const printed = bench => bench.run.events.slice(0, bench.position).filter(event => event.reply === 'out').map(event => event.value);
+const isIn = (bench, thread, name) => depth(bench, thread) > 0 && bench.names.functionAt(bench.state.threads[thread].pc) === name;
+// Who was in the way of event k, if it was blocked.
+const inTheWay = (bench, k) => {
+  const { reply, thread } = bench.run.events[k];
+  return reply === 'blocked' ? bench.run.request(k, thread).clashes.map(clash => clash.thread) : [];
+};
+const hasFresh = bench => bench.state.threads.some(thread => thread.fresh.length);
+const ended = bench => bench.state.threads.every(thread => thread.status === 'done');
+const stores = bench => bench.program.code.some(line => /^(load|store) /.test(line));
+
+export const LESSONS = [
+  { title: 'A lock, and who waits', example: 'counter.asl', k: 3, threads: 2, about: 'Two threads add 1 to the same cell.', steps: [
+    { text: 'Step thread 0 (key 0) until it is inside its section.', done: bench => depth(bench, 0) > 0 },
+    { text: 'Make thread 1 wait (key 1).', done: bench => wasBlocked(bench, 1), hint: 'Step thread 1 to its atomic, and once more.' },
+    { text: 'The sentence says who is in the way, and at which node. Let thread 0 finish its section.',
+      done: bench => depth(bench, 0) === 0 && bench.position > 4 },
+    { text: 'Let thread 1 enter.', done: bench => depth(bench, 1) > 0 },
+    { text: 'Go back to the step that was blocked (key B).', done: bench => wasBlocked(bench, 1) } ] },
+  { title: 'A lost update', example: 'lost.asl', k: 3, threads: 2, about: 'The read and the write are two sections.', steps: [
+    { text: 'Let thread 0 leave its first section.', done: bench => bench.run.events.some(e => e.thread === 0 && e.after < e.depth) },
+    { text: 'Find a schedule in which both threads print 1.', done: bench => String(printed(bench)) === 'int 1,int 1',
+      hint: 'Thread 1 must read before thread 0 writes.' },
+    { text: 'Open counter.asl: can both read the same number there?', done: bench => bench.title === 'counter.asl' } ] },
+  { title: 'How fine locks are', example: 'bank.asl', k: 0, threads: 2,
+    about: 'Thread 0 moves money from Ann to Bob, thread 1 from Cid to Dan.', steps: [
+      { text: 'At k 0, bring one thread into transfer and make the other wait at it.',
+        done: bench => bench.k === 0 && [0, 1].some(t => isIn(bench, t, 'transfer') && wasBlocked(bench, 1 - t)) },
+      { text: 'Find the least k at which both are inside transfer at once (keys k and K).',
+        done: bench => bench.k === 1 && isIn(bench, 0, 'transfer') && isIn(bench, 1, 'transfer'),
+        hint: 'The table of lists shows what changes from one k to the next.' } ] },
+  { title: 'No circle of waiting', example: 'queue.asl', k: 3, threads: 3, about: 'Threads that put and take.', steps: [
+    { text: 'Step until somebody is blocked (key n).', done: bench => Boolean(bench.last) && bench.last.reply === 'blocked' },
+    { text: 'Step who is in the way: that step is not blocked.',
+      done: bench => bench.position > 1 && bench.last.reply !== 'blocked'
+        && inTheWay(bench, bench.position - 2).includes(bench.last.thread) },
+    { text: 'Run all threads to their end (key r).', done: ended } ] },
+  { title: 'What needs no lock', example: 'walk.asl', k: 3, threads: 2, about: 'A section makes an object of its own.', steps: [
+    { text: 'Step until an object is fresh: the heap says so.', done: hasFresh },
+    { text: 'Step until it is not fresh any more. What ended it?',
+      done: bench => !hasFresh(bench) && bench.state.objects.length > bench.program.globals.length } ] },
+  { title: 'A list of your own', example: 'unprotected.asm', k: 3, threads: 2, about: 'An access without a lock is a fault.', steps: [
+    { text: 'Step thread 0 to the fault.', done: bench => Boolean(bench.last) && bench.last.reply === 'fault' },
+    { text: 'Write a section and a list in the editor, so that both threads end without a fault, the access included.',
+      done: bench => bench.kind === 'asm' && ended(bench) && stores(bench) && bench.program.lists.length > 0,
+      hint: 'acq 0 before the load, rel after it; at the end of the text: list, and expr with the register and read.' } ] },
+];

@@ -1,0 +1,261 @@
+// Puts the workbench together: loads the toolchain, draws what changed, listens.
+
+import { byId, el, textSize } from './dom.js';
+import { openToolchain, toolStatistics } from './toolchain.js';
+import { Bench, MOST_THREADS } from './bench.js';
+import { tellView } from './view.js';
+import { differenceAt } from './difference.js';
+import { sentence, nextSentence } from './sentence.js';
+import { sectionAt } from './stretches.js';
+import { listAt } from './program.js';
+import { roundRobin, untilBlocked, atRandom } from './schedules.js';
+import { drawText, drawPlaces, paintText, breakLine, enterEditor } from './panels/editor.js';
+import { drawTimeline, printTimeline, drawStrip, drawStripCursor, zoomBy, lanesShown } from './panels/timeline.js';
+import { drawLocks } from './panels/locks.js';
+import { drawThreads } from './panels/threads.js';
+import { drawHeap } from './panels/heap.js';
+import { drawEvents } from './panels/events.js';
+import { drawSections } from './panels/sections.js';
+import { drawLesson, openLesson, closeLesson, lessonNumber, lessonList } from './panels/lesson.js';
+import { whyText } from './why.js';
+import { toFragment, fromFragment, commandLines } from './share.js';
+import { readFile, download, copyText } from './files.js';
+import { listenToKeys } from './keys.js';
+import { isDark, setDark, changeTextSize, toggleLecture, toggleInstructions, openDialog, openKeys, note } from './page.js';
+
+const data = id => JSON.parse(byId(id).textContent);
+const examples = data('examples');
+const bench = new Bench(changed);
+const due = { frame: 0, what: new Set(), address: 0, player: 0, own: '' };
+
+// ---- drawing: once a frame, only what changed
+
+function changed(what) {
+  due.what.add(what);
+  if (!due.frame) due.frame = requestAnimationFrame(draw);
+}
+
+function draw() {
+  due.frame = 0;
+  const { what } = due;
+  due.what = new Set();
+  if (what.has('text') || what.has('size')) { drawText(bench, openWhy); drawSections(bench, openWhy, chooseK); drawSettings(); }
+  document.body.classList.toggle('no-run', !bench.run);
+  document.body.classList.toggle('refused', Boolean(bench.refusal));
+  drawPlaces(bench);
+  drawLesson(bench);
+  if (bench.run) drawRun(what.size > 1 || !what.has('position'));
+  else byId('say').replaceChildren(el('p', { class: 'is-fault' },
+    bench.refusal ? 'The text does not compile yet: ' + bench.refusal.words : ''));
+  clearTimeout(due.address);
+  due.address = setTimeout(writeAddress, 250);
+}
+
+function drawRun(whole) {
+  const change = differenceAt(bench.run, bench.position);
+  byId('say').replaceChildren(el('p', {}, sentence(bench)), el('p', { class: 'soft' }, nextSentence(bench)));
+  byId('position').textContent = `after ${bench.position} of ${bench.run.length} events`;
+  const slide = byId('slide');
+  slide.max = bench.run.length;
+  slide.value = bench.position;
+  drawTimeline(bench);
+  if (whole) drawStrip(bench);
+  drawStripCursor(bench);
+  drawLocks(bench);
+  drawThreads(bench, change);
+  drawHeap(bench, change);
+  drawEvents(bench);
+  drawButtons();
+}
+
+function openLessons() {
+  openDialog('Lessons', lessonList(number => { byId('dialog').close(); openLesson(bench, number, examples); }));
+}
+
+function drawSettings() {
+  byId('k').value = bench.k;
+  byId('k').disabled = bench.kind !== 'asl';
+  byId('threads-wanted').value = bench.threads;
+  byId('example').value = '';
+  byId('title').textContent = bench.title;
+  byId('changed').hidden = !(examples[bench.title] && examples[bench.title].text !== bench.text);
+  document.title = bench.title + ' · asl workbench';
+}
+
+function drawButtons() {
+  const { position, run } = bench, over = run.view(position).threads.every(thread => thread.status !== 'runs');
+  const off = { first: !position, back: !position, forward: position === run.length, last: position === run.length,
+    undo: !bench.past.length, redo: !bench.future.length,
+    clear: !run.length, robin: over, random: over, until: over, play: !run.length };
+  for (const [id, is] of Object.entries(off)) byId(id).disabled = is;
+}
+
+async function writeAddress() {
+  const fragment = lessonNumber() < 0 ? await toFragment(bench, examples) : `#lesson=${lessonNumber() + 1}`;
+  if (fragment === due.own) return;
+  due.own = fragment;
+  try { history.replaceState(null, '', fragment); } catch { /* an address that may not be set */ }
+}
+
+// ---- what the buttons and keys do
+
+const blockedSteps = () => events().filter(event => event.reply === 'blocked').length;
+
+// Another k makes the same schedule again: what that changes is told.
+function chooseK(k) {
+  if (bench.kind !== 'asl' || k < 0 || k > 8 || k === bench.k) return;
+  const before = blockedSteps(), old = bench.k;
+  bench.setK(k);
+  if (!events().length || bench.refusal) return;
+  note(`The same ${events().length} steps: with k ${k} ${blockedSteps()} of them are blocked, with k ${old} ${before}.`);
+}
+
+const most = () => Math.max(1, Math.min(10000, Number(byId('most').value) || 200));
+const told = steps => { if (!steps) note('Nothing to step: all threads have ended.'); };
+const robin = () => bench.run && told(roundRobin(bench, most()));
+const until = () => bench.run && told(untilBlocked(bench, most()));
+const random = () => bench.run && told(atRandom(bench, most(), Number(byId('seed').value) || 1));
+const events = () => (bench.run ? bench.run.events : []);
+
+function seek(fits, way) {
+  const list = events();
+  for (let k = bench.position + (way > 0 ? 0 : -2); k >= 0 && k < list.length; k += way) if (fits(list[k])) return bench.go(k + 1);
+}
+const replies = (reply, way) => () => seek(event => event.reply === reply, way);
+const sameThread = way => () => { const t = (bench.last || bench.next || {}).thread; seek(event => event.thread === t, way); };
+
+function toHolder() {
+  const { last } = bench;
+  if (!last || last.reply !== 'blocked') return;
+  const k = bench.position - 1, clash = bench.run.request(k, last.thread).clashes[0];
+  const section = clash && sectionAt(bench.stretches, clash.thread, k);
+  if (section) bench.go(section.from + 1);
+}
+
+function play() {
+  if (due.player) { clearInterval(due.player); due.player = 0; } else {
+    if (bench.position === events().length) bench.go(0);
+    due.player = setInterval(() => (bench.position < events().length ? bench.go(bench.position + 1) : play()), 800);
+  }
+  byId('play').textContent = due.player ? 'Pause' : 'Play';
+}
+
+function openWhy(section) {
+  openDialog('Why these locks', el('pre', { class: 'why' }, whyText(bench, section)));
+}
+
+// The section that the shown event is of; else the first.
+function whyHere() {
+  if (!bench.program || !bench.program.lists.length) return;
+  const { last } = bench;
+  const section = last && sectionAt(bench.stretches, last.thread, bench.position);
+  openWhy(section ? listAt(bench.program, section.pc) : last && last.pc >= 0 && listAt(bench.program,
+    last.pc) >= 0 ? listAt(bench.program, last.pc) : 0);
+}
+
+async function openShare() {
+  if (!bench.run) return note('There is no run to share yet.');
+  await writeAddress();
+  const base = bench.title.replace(/\.\w+$/, '');
+  const copy = (label, text) => el('div', { class: 'share' }, el('b', {}, label), el('pre', { tabindex: 0 }, text),
+    el('button', { onclick: async () => note((await copyText(text)) ? 'Copied.' : 'Could not copy.') }, 'Copy'));
+  const file = (name, bytes) => el('button', { onclick: () => download(name, bytes) }, 'Save ' + name);
+  openDialog('Share', copy('Link', location.href), copy('The same by command line', commandLines(bench)),
+    el('p', { class: 'files' }, bench.run.length ? file(base + '.run', bench.run.file) : null, file(base + '.img', bench.image),
+      file(`${base}.${bench.kind}`, bench.text)));
+}
+
+function loadFile(name, bytes) {
+  const sources = [...(bench.kind === 'asl' ? [{ text: bench.builtText || bench.text, title: bench.title }] : []),
+    ...Object.entries(examples).filter(([, e]) => e.kind === 'asl').map(([title, e]) => ({ text: e.text, title }))];
+  const read = readFile(name, bytes, sources);
+  if (read.refusal) return note(`${name} is refused: ${read.refusal}`);
+  bench.load({ schedule: [], ...read });
+}
+const loadFiles = async list => { for (const file of list) loadFile(file.name, new Uint8Array(await file.arrayBuffer())); };
+const loadExample = name => bench.load({ ...examples[name], title: name });
+
+// ---- listening
+
+function listenToButtons() {
+  const actions = { first: () => bench.go(0), back: () => bench.go(bench.position - 1), forward: () => bench.go(bench.position + 1),
+    last: () => bench.go(events().length),
+    robin, random, until, undo: () => bench.undo(), redo: () => bench.redo(), clear: () => bench.clear(), play, share: openShare,
+    lessons: openLessons, 'lesson-close': () => closeLesson(bench),
+      help: openKeys, lecture: () => { toggleLecture(); changed('size'); },
+    theme: () => { setDark(!isDark()); changed('size'); }, larger: () => resize(2), smaller: () => resize(-2),
+      'show-instructions': () => toggleInstructions(), 'dialog-close': () => byId('dialog').close(),
+      open: () => byId('file').click() };
+  for (const [id, action] of Object.entries(actions)) byId(id).addEventListener('click', action);
+  byId('slide').addEventListener('input', event => bench.go(Number(event.target.value)));
+  byId('example').addEventListener('change',
+    event => { if (event.target.value) loadExample(event.target.value); event.target.blur(); });
+  byId('k').addEventListener('change', event => { chooseK(Number(event.target.value)); event.target.blur(); });
+  byId('threads-wanted').addEventListener('change', event => bench.setThreads(Number(event.target.value)));
+  byId('file').addEventListener('change', event => loadFiles(event.target.files));
+  byId('strip').addEventListener('click',
+    event => { const box = byId('strip').getBoundingClientRect();
+    bench.go(Math.round(((event.clientX - box.left) / box.width) * events().length)); });
+}
+
+const resize = by => { changeTextSize(by); changed('size'); };
+
+function listenToKeyboard() {
+  listenToKeys({ step: t => bench.step(t), ArrowLeft: () => bench.go(bench.position - 1),
+    ArrowRight: () => bench.go(bench.position + 1),
+    ShiftArrowLeft: () => bench.go(bench.position - 10), ShiftArrowRight: () => bench.go(bench.position + 10),
+      Home: () => bench.go(0), End: () => bench.go(events().length),
+    r: robin, R: random, n: until, u: () => bench.undo(), U: () => bench.redo(), c: () => bench.clear(), ' ': play,
+    b: replies('blocked', 1), B: replies('blocked', -1), o: replies('out', 1), O: replies('out', -1), f: replies('fault', 1),
+      F: replies('fault', -1), h: toHolder, '[': sameThread(-1), ']': sameThread(1),
+    e: enterEditor, k: () => chooseK(bench.k + 1), K: () => chooseK(bench.k - 1),
+    t: () => bench.setThreads(bench.threads + 1), T: () => bench.setThreads(bench.threads - 1), x: whyHere,
+      m: () => toggleInstructions(), s: openShare, j: openLessons, '?': openKeys,
+    l: () => { lanesShown.all = !lanesShown.all; changed('size'); }, '+': () => { zoomBy(1.25); changed('size'); },
+      '=': () => { zoomBy(1.25); changed('size'); }, '-': () => { zoomBy(0.8); changed('size'); },
+    L: () => { toggleLecture(); changed('size'); }, d: () => { setDark(!isDark()); changed('size'); }, A: () => resize(2),
+      a: () => resize(-2) });
+}
+
+function listenToPage() {
+  let typed = 0, sized = 0;
+  byId('text').addEventListener('input',
+    event => { const text = event.target.value; paintText(text, bench.kind, null); clearTimeout(typed);
+    typed = setTimeout(() => bench.edit(text), 120); });
+  byId('text').addEventListener('keydown',
+    event => { if (event.key === 'Enter' && !event.ctrlKey && !event.metaKey && !event.isComposing) breakLine(event); });
+  addEventListener('resize', () => { clearTimeout(sized); sized = setTimeout(() => changed('size'), 80); });
+  addEventListener('beforeprint', () => { if (bench.run) printTimeline(bench); });
+  addEventListener('dragover', event => { event.preventDefault(); document.body.classList.add('dropping'); });
+  addEventListener('dragleave', event => { if (!event.relatedTarget) document.body.classList.remove('dropping'); });
+  addEventListener('drop', event => { event.preventDefault(); document.body.classList.remove('dropping');
+    loadFiles(event.dataTransfer.files); });
+  addEventListener('hashchange', async () => { if (location.hash !== due.own) await loadFragment(); });
+}
+
+async function loadFragment() {
+  const lesson = /^#lesson=(\d+)$/.exec(location.hash);
+  if (lesson) return openLesson(bench, Number(lesson[1]) - 1, examples);
+  const said = location.hash.length > 1 ? await fromFragment(location.hash, examples, MOST_THREADS) : null;
+  if (said) bench.load(said);
+  return Boolean(said);
+}
+
+async function start() {
+  setDark(matchMedia('(prefers-color-scheme: dark)').matches);
+  byId('example').append(...Object.entries(examples).map(([name, { about }]) => el('option', { value: name },
+    `${name} – ${about}`)));
+  toggleInstructions(innerWidth < 720);
+  await openToolchain(byId('wasm').textContent.trim());
+  listenToButtons();
+  listenToKeyboard();
+  listenToPage();
+  if (!(await loadFragment())) loadExample('counter.asl');
+  requestAnimationFrame(() => setTimeout(() => { window.workbench = { bench, tellView, loadFile, toolStatistics, textSize,
+    ready: performance.now() }; }));
+}
+
+start().catch(error => {
+  byId('say').replaceChildren(el('p', { class: 'is-fault' }, 'The workbench cannot start here: ' + error.message),
+    el('p', {}, 'It needs a browser with 64-bit WebAssembly memory: Chrome or Edge from 133, Firefox from 134.'));
+});

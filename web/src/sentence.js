@@ -1,0 +1,116 @@
+// What the last event did, in one sentence; and which comes next.
+
+import { el, chip } from './dom.js';
+import { differenceAt } from './difference.js';
+import { sectionAt } from './stretches.js';
+import { functionAt } from './program.js';
+
+const strong = words => el('b', {}, words);
+const code = words => el('code', {}, words);
+
+export function sentence(bench) {
+  if (!bench.position) return start(bench);
+  const event = bench.last, k = bench.position - 1;
+  const told = [strong(`Event ${k}: `), chip(event.thread), ' '];
+  if (event.reply === 'ended') return [...told, 'had ended before; nothing happens.'];
+  if (event.reply === 'blocked') return [...told, ...blocked(bench, k, event)];
+  told.push(code(bench.names.statement(event.pc)), ` (${bench.names.where(event.pc)}) `);
+  if (event.reply === 'fault') return [...told, ...fault(bench, event, k)];
+  return [...told, ...ran(bench, event), '.'];
+}
+
+function start(bench) {
+  const threads = bench.threads === 1 ? 'One thread stands' : `${bench.threads} threads stand`;
+  const last = Math.min(bench.threads, 10) - 1;
+  const keys = last ? [el('kbd', {}, '0'), ' to ', el('kbd', {}, String(last))] : [el('kbd', {}, '0')];
+  return [strong('Start. '), threads, ' at the entry of ', code(bench.names.function(bench.program.entry)),
+    '. Press ', keys, ' or click a lane’s head to step a thread.'];
+}
+
+// T1 blocked at atomic (line 6): it asks X at leaf 0.0 (count) ..
+function blocked(bench, k, event) {
+  const told = [el('span', { class: 'is-blocked' }, '⊠ blocked'), ' at ', code(bench.names.statement(event.pc)),
+    ` (${bench.names.where(event.pc)})`];
+  const { clashes } = bench.run.request(k, event.thread);
+  if (!clashes.length) return [...told, '.'];
+  const { thread, node, asks, holds } = clashes[0];
+  told.push(': it asks ', strong(asks), ' at ', strong(bench.names.node(node)));
+  told.push('; ', chip(thread), ' holds ', strong(holds), ' there');
+  const since = sectionAt(bench.stretches, thread, k);
+  if (since) told.push(' ', el('button',
+    { class: 'link', title: 'To the event that took it (h)', onclick: () => bench.go(since.from + 1) },
+    'since event ' + since.from));
+  const more = new Set(clashes.map(c => c.thread)).size - 1;
+  if (more) told.push(` (and ${more} more in the way)`);
+  return [...told, '. Nothing changed; it must try again.'];
+}
+
+const FAULTS = {
+  Type: 'an operand is of the wrong kind: a number where an address is needed, or the other way round',
+  Null: 'the address is null', Bounds: 'that is outside the object', Full: 'there are 65,536 objects already',
+  Stack: 'the thread has 256 frames already', Open: 'the thread ends inside a section',
+  Deep: '255 sections are open already', NoSection: 'no section is open',
+};
+
+function fault(bench, event, k) {
+  const told = [el('span', { class: 'is-fault' }, '▲ fault ' + event.fault), ': '];
+  const lock = /^Unprotected (\S+) (\w+)/.exec(event.fault);
+  if (lock) {
+    const held = [...bench.run.view(k).threads[event.thread].held].map(([node, mode]) => `${mode} at ${bench.names.node(node)}`);
+    told.push(`it ${lock[2] === 'read' ? 'reads' : 'writes'} ${bench.names.cell(lock[1])} and has no lock for that; `,
+      held.length ? `it held ${held.join(', ')}` : 'it held nothing');
+  } else told.push(FAULTS[event.fault] || '', operands(bench, event, k));
+  return [...told, '. The thread fails', lock ? ' and keeps nothing.' : '.'];
+}
+
+// The values that the instruction had before it: `; x is 1, q is → last`.
+function operands(bench, event, k) {
+  const line = bench.program.code[event.pc], all = [...line.matchAll(/r(\d+)/g)].map(m => Number(m[1]));
+  const read = /^(store|out|jz|ret) /.test(line) ? all : all.slice(1);
+  const { registers } = bench.run.view(k).threads[event.thread];
+  const told = read.map(r => `${bench.names.registerAt(event.pc, r)} is ${bench.names.value(registers[r])}`);
+  return told.length ? '; ' + told.join(', ') : '';
+}
+
+function ran(bench, event) {
+  const { names, state, run } = bench;
+  const change = differenceAt(run, bench.position);
+  const thread = state.threads[event.thread];
+  const said = [];
+  const say = (...parts) => said.push(said.length ? ['; ', ...parts] : parts);
+  if (event.reply === 'out') say(el('span', { class: 'is-out' }, '◆ prints ' + names.value(event.value)));
+  if (change.op === 'acq') say(...entering(bench, event, change));
+  if (change.op === 'rel') say(event.after ? 'leaves an inner section; the locks stay' : 'leaves the section, gives all its locks back');
+  if (change.op === 'call') say('calls ', code(names.functionAt(thread.pc)));
+  for (const o of change.objects) {
+    const fresh = thread.fresh.includes(o) ? ', fresh: it needs no lock before the section ends' : '';
+    say(`makes ${names.object(o)}, ${state.objects[o].length} cells, class ${run.classOf(bench.position, o)}${fresh}`);
+  }
+  for (const r of change.objects.length ? [] : change.registers)
+    say(code(names.registerAt(thread.pc, r)), ' is now ', strong(names.value(thread.registers[r])));
+  for (const cell of change.cells) say('cell ', code(names.cell(cell)), ' is now ', strong(valueOf(state, names, cell)));
+  if (thread.status === 'done') say('is done with ', strong(names.value(thread.value)));
+  if (!said.length) say('continues at ', names.where(thread.pc));
+  return said;
+}
+
+function valueOf(state, names, cell) {
+  const [o, f] = cell.split('.').map(Number);
+  return names.value(state.objects[o][f]);
+}
+
+function entering(bench, event, change) {
+  if (event.depth) return ['enters an inner section, which takes no locks'];
+  if (!change.granted.length) return ['enters the section; its list names no cell now, so it holds nothing'];
+  const order = ([node]) => (node.startsWith('leaf') ? 0 : node.startsWith('class') ? 1 : 2);
+  const granted = [...change.granted].sort((a, b) => order(a) - order(b));
+  return ['enters the section; granted ',
+    granted.map(([node, mode], i) => [i ? ', ' : '', strong(mode), ' at ', bench.names.node(node)])];
+}
+
+export function nextSentence(bench) {
+  const { next, names } = bench;
+  if (!next) return bench.position ? ['End of the recorded steps.'] : [];
+  return ['Next: ', chip(next.thread), ' ',
+    next.pc >= 0 ? [code(names.statement(next.pc)), ` (${names.where(next.pc)})`] : 'once more, though it has ended'];
+}

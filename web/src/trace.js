@@ -1,0 +1,17 @@
+// The lines of `asl log --trace` (docs/JOURNAL.md) as events: `INDEX THREAD PC DEPTH REPLY`.
+
+function replyOf(words) {
+  const [reply, ...rest] = words;
+  if (reply === 'out') return { reply, value: rest.join(' ') };
+  if (reply === 'fault') return { reply, fault: rest.join(' ') };
+  if (['ran', 'blocked', 'ended'].includes(reply) && !rest.length) return { reply };
+  throw new Error('a reply that is not known: ' + words.join(' '));
+}
+
+// A thread that had ended has no pc and no depth.
+function eventOf(line) {
+  const [, thread, pc, depth, ...reply] = line.split(' ');
+  return { thread: Number(thread), pc: pc === '-' ? -1 : Number(pc), depth: depth === '-' ? 0 : Number(depth), ...replyOf(reply) };
+}
+
+export const readTrace = text => (text ? text.trimEnd().split('\n').map(eventOf) : []);

@@ -1,0 +1,95 @@
+// Drives headless Chromium by its protocol, without packages.
+// node 20: --experimental-websocket; from node 22 no flag is needed.
+import { spawn } from 'node:child_process';
+import { mkdtempSync, rmSync, writeFileSync } from 'node:fs';
+import { tmpdir } from 'node:os';
+import { join } from 'node:path';
+
+const sleep = ms => new Promise(done => setTimeout(done, ms));
+const OPTIONS = ['--headless=new', '--no-sandbox', '--disable-gpu', '--hide-scrollbars', '--remote-debugging-port=0'];
+
+const portOf = child => new Promise((done, fail) => {
+  let said = '';
+  child.stderr.on('data', text => {
+    said += text;
+    const found = /127\.0\.0\.1:(\d+)\/devtools/.exec(said);
+    if (found) done(Number(found[1]));
+  });
+  child.on('exit', () => fail(new Error('Chromium ended: ' + said)));
+});
+
+async function pageOf(port) {
+  for (let i = 0; i < 60; i++) {
+    const pages = await (await fetch(`http://127.0.0.1:${port}/json`)).json();
+    const page = pages.find(it => it.type === 'page');
+    if (page) return page.webSocketDebuggerUrl;
+    await sleep(100);
+  }
+  throw new Error('Chromium has no page');
+}
+
+async function connect(url, heard) {
+  const socket = new WebSocket(url), waiting = new Map();
+  let last = 0;
+  await new Promise(done => { socket.onopen = done; });
+  socket.onmessage = message => {
+    const told = JSON.parse(message.data);
+    if (told.id) { waiting.get(told.id)(told); waiting.delete(told.id); } else heard(told);
+  };
+  const send = (method, params = {}) => new Promise(done => {
+    waiting.set(++last, done);
+    socket.send(JSON.stringify({ id: last, method, params }));
+  });
+  return { socket, send };
+}
+
+export async function openChromium(binary = process.env.CHROMIUM || 'chromium') {
+  const profile = mkdtempSync(join(tmpdir(), 'workbench-'));
+  const child = spawn(binary, [...OPTIONS, '--user-data-dir=' + profile, 'about:blank'], { stdio: ['ignore', 'ignore', 'pipe'] });
+  const errors = [], requests = [];
+  const { socket, send } = await connect(await pageOf(await portOf(child)), told => {
+    const { method, params } = told;
+    if (method === 'Runtime.exceptionThrown') errors.push(params.exceptionDetails.exception?.description || params.exceptionDetails.text);
+    if (method === 'Log.entryAdded' && params.entry.level === 'error') errors.push(params.entry.text);
+    if (method === 'Network.requestWillBeSent') requests.push(params.request.url);
+  });
+  for (const domain of ['Page', 'Runtime', 'Log', 'Network']) await send(domain + '.enable');
+  const run = async expression => {
+    const { result } = await send('Runtime.evaluate', { expression, awaitPromise: true, returnByValue: true });
+    if (result.exceptionDetails) throw new Error(result.exceptionDetails.exception?.description || result.exceptionDetails.text);
+    return result.result.value;
+  };
+  const frames = () => run('new Promise(done => requestAnimationFrame(() => requestAnimationFrame(() => setTimeout(done))))');
+  return {
+    errors, requests, send, run, sleep, frames,
+    size: (width, height, scale = 1) => send('Emulation.setDeviceMetricsOverride', { width, height, deviceScaleFactor: scale, mobile: false }),
+    media: (dark, media = '') => send('Emulation.setEmulatedMedia', { media, features: [{ name: 'prefers-color-scheme', value: dark ? 'dark' : 'light' }] }),
+    vision: type => send('Emulation.setEmulatedVisionDeficiency', { type }),
+    async open(url, ready) {
+      await send('Page.navigate', { url: 'about:blank' });
+      await send('Page.navigate', { url });
+      for (let i = 0; i < 200; i++) { if (await run(ready).catch(() => false)) return; await sleep(50); }
+      throw new Error('not ready: ' + url + ' ' + errors.join('; '));
+    },
+    insertText: text => send('Input.insertText', { text }),
+    async click(x, y) {
+      for (const type of ['mousePressed', 'mouseReleased'])
+        await send('Input.dispatchMouseEvent', { type, x, y, button: 'left', clickCount: 1 });
+    },
+    async key(key, shift = false) {
+      const text = key.length === 1 ? key : undefined, modifiers = shift ? 8 : 0;
+      await send('Input.dispatchKeyEvent', { type: 'keyDown', key, code: key, modifiers, text });
+      await send('Input.dispatchKeyEvent', { type: 'keyUp', key, code: key, modifiers });
+      await frames();
+    },
+    async picture(path, whole = false) {
+      const { result } = await send('Page.captureScreenshot', { format: 'png', captureBeyondViewport: whole });
+      writeFileSync(path, Buffer.from(result.data, 'base64'));
+    },
+    async pdf(path) {
+      const { result } = await send('Page.printToPDF', { printBackground: true });
+      writeFileSync(path, Buffer.from(result.data, 'base64'));
+    },
+    async close() { socket.close(); child.kill(); await sleep(300); rmSync(profile, { recursive: true, force: true, maxRetries: 5 }); },
+  };
+}

@@ -1,0 +1,94 @@
+// Drives Firefox without a window by WebDriver BiDi over a WebSocket, without a driver and without packages.
+// It offers what chromium.mjs offers, as far as BiDi has it.
+import { spawn } from 'node:child_process';
+import { mkdtempSync, rmSync, writeFileSync } from 'node:fs';
+import { tmpdir } from 'node:os';
+import { join } from 'node:path';
+
+const sleep = ms => new Promise(done => setTimeout(done, ms));
+const KEYS = { ArrowLeft: '\uE012', ArrowRight: '\uE014', Home: '\uE011', End: '\uE010', Escape: '\uE00C', Enter: '\uE007', ' ': ' ' };
+
+async function addressOf(child) {
+  return new Promise((done, fail) => {
+    let said = '';
+    child.stderr.on('data', text => {
+      said += text;
+      const found = /WebDriver BiDi listening on (ws:\S+)/.exec(said);
+      if (found) done(found[1]);
+    });
+    child.on('exit', () => fail(new Error('Firefox ended: ' + said)));
+  });
+}
+
+async function connect(url, heard) {
+  const socket = new WebSocket(url + '/session'), waiting = new Map();
+  let last = 0;
+  await new Promise(done => { socket.onopen = done; });
+  socket.onmessage = message => {
+    const told = JSON.parse(message.data);
+    if (waiting.has(told.id)) { waiting.get(told.id)(told); waiting.delete(told.id); } else heard(told);
+  };
+  const send = (method, params) => new Promise(done => {
+    waiting.set(++last, done);
+    socket.send(JSON.stringify({ id: last, method, params }));
+  });
+  return { socket, send };
+}
+
+// A value that the page gave, told by BiDi piece by piece.
+function plain(value) {
+  if (value.type === 'array') return value.value.map(plain);
+  if (value.type === 'object') return Object.fromEntries(value.value.map(([key, held]) => [key, plain(held)]));
+  return value.type === 'undefined' ? undefined : value.type === 'null' ? null : value.value;
+}
+
+export async function openFirefox(binary = process.env.FIREFOX || 'firefox-esr') {
+  const profile = mkdtempSync(join(tmpdir(), 'workbench-'));
+  const child = spawn(binary, ['--headless', '--no-remote', '--profile', profile, '--remote-debugging-port', '0'],
+    { stdio: ['ignore', 'ignore', 'pipe'], env: { ...process.env, HOME: profile } });
+  const errors = [], requests = [];
+  const { socket, send } = await connect(await addressOf(child), told => {
+    if (told.method === 'log.entryAdded' && told.params.level === 'error') errors.push(told.params.text);
+    if (told.method === 'network.beforeRequestSent') requests.push(told.params.request.url);
+  });
+  await send('session.new', { capabilities: {} });
+  await send('session.subscribe', { events: ['log.entryAdded', 'network.beforeRequestSent'] });
+  const { context } = (await send('browsingContext.getTree', {})).result.contexts[0];
+  const run = async expression => {
+    const { result, error, message } = await send('script.evaluate', { expression, target: { context }, awaitPromise: true });
+    if (error) throw new Error(message);
+    if (result.type === 'exception') throw new Error(result.exceptionDetails.text);
+    return plain(result.result);
+  };
+  const frames = () => run('new Promise(done => requestAnimationFrame(() => requestAnimationFrame(() => setTimeout(done))))');
+  const press = (type, actions) => send('input.performActions', { context, actions: [{ type, id: type, actions }] });
+  return {
+    errors, requests, run, sleep, frames,
+    size: (width, height) => send('browsingContext.setViewport', { context, viewport: { width, height } }),
+    media: async () => {},
+    async insertText(text) {
+      await press('key', [...text].flatMap(value => [{ type: 'keyDown', value }, { type: 'keyUp', value }]));
+    },
+    async click(x, y) {
+      await press('pointer', [{ type: 'pointerMove', x: Math.round(x), y: Math.round(y) }, { type: 'pointerDown', button: 0 },
+        { type: 'pointerUp', button: 0 }]);
+    },
+    async open(url, ready) {
+      await send('browsingContext.navigate', { context, url: 'about:blank', wait: 'complete' });
+      await send('browsingContext.navigate', { context, url, wait: 'complete' });
+      for (let i = 0; i < 200; i++) { if (await run(ready).catch(() => false)) return; await sleep(50); }
+      throw new Error('not ready: ' + url + ' ' + errors.join('; '));
+    },
+    async key(key, shift = false) {
+      const value = KEYS[key] || key, hold = shift ? [{ type: 'keyDown', value: '\uE008' }] : [];
+      const let_go = shift ? [{ type: 'keyUp', value: '\uE008' }] : [];
+      await press('key', [...hold, { type: 'keyDown', value }, { type: 'keyUp', value }, ...let_go]);
+      await frames();
+    },
+    async picture(path) {
+      const { result } = await send('browsingContext.captureScreenshot', { context });
+      writeFileSync(path, Buffer.from(result.data, 'base64'));
+    },
+    async close() { socket.close(); child.kill(); await sleep(500); rmSync(profile, { recursive: true, force: true, maxRetries: 5 }); },
+  };
+}

@@ -1,0 +1,310 @@
+// Tests of the workbench in a browser without a window, against the native program.
+//   node --experimental-websocket web/test/page.mjs [--firefox] [WORD]       WORD: of the names of the parts to do
+import { execFileSync } from 'node:child_process';
+import { readFileSync, readdirSync } from 'node:fs';
+import { openChromium } from './chromium.mjs';
+import { openFirefox } from './firefox.mjs';
+import { ASL, EXAMPLES, PAGE, READY } from './paths.mjs';
+
+const options = process.argv.slice(2).filter(word => word.startsWith('--'));
+const only = process.argv.slice(2).find(word => !word.startsWith('--'));
+const asl = (words, input) => execFileSync(ASL, words.map(String), { input, maxBuffer: 1 << 28 });
+const browser = await (options.includes('--firefox') ? openFirefox : openChromium)();
+const { run, key } = browser;
+let passed = 0, failed = 0;
+
+function check(is, words) { if (is) passed++; else if (++failed <= 12) console.log('FAILED', words); }
+async function part(name, work) {
+  if (only && !name.includes(only)) return;
+  const began = performance.now(), before = failed;
+  try { await work(); } catch (error) { failed++; console.log('FAILED', name, error); }
+  console.log(failed === before ? 'ok    ' : 'BAD   ', name, Math.round(performance.now() - began) + ' ms');
+}
+const open = (fragment = '') => browser.open(PAGE + fragment, READY);
+const count = k => `workbench.bench.${k}`;
+const settled = async () => { await browser.sleep(150); await browser.frames(); };
+const type = async text => {
+  await run(`(() => { const t = document.getElementById('text'); t.value = ${JSON.stringify(text)}; t.dispatchEvent(new Event('input')); })()`);
+  await browser.sleep(200); await browser.frames();
+};
+const at = () => run('[workbench.bench.position, workbench.bench.run.length]');
+
+// What the page shows, read from its elements, in the lines of `view`.
+const SHOWN = `(() => { const all = name => [...document.querySelectorAll('[data-' + name + ']')].map(e => e.dataset[name]);
+  const says = (e, text) => { const [kind, v] = e.dataset[text].split(' ').slice(-2); return kind === 'int' ? e.textContent.endsWith(v) : v === 'null' ? e.textContent.endsWith('null') : e.textContent.includes('→ '); };
+  const wrong = ['register', 'cell'].flatMap(name => [...document.querySelectorAll('[data-' + name + ']')].filter(e => !says(e, name)).map(e => 'text ' + e.textContent));
+  return [...wrong, ...all('thread'), ...all('register'), ...all('cell'), ...all('held')].sort().join('\\n'); })()`;
+const difference = (a, b) => { const x = a.split('\n'), y = b.split('\n'); return 'shown ' + x.filter(l => !y.includes(l)).slice(0, 3) + ' / native ' + y.filter(l => !x.includes(l)).slice(0, 3); };
+const viewLines = text => text.trim().split('\n').filter(l => !l.startsWith('at ') && !l.startsWith('fresh ')).sort().join('\n');
+
+await browser.size(1400, 1000);
+await browser.media(false);
+
+await part('loads without script errors and without network', async () => {
+  browser.requests.length = 0;
+  await open();
+  const fetched = await run("performance.getEntriesByType('resource').length");
+  check(fetched === 0, 'resources fetched: ' + fetched);
+  check(browser.requests.every(url => url.startsWith(PAGE) || url === 'about:blank'), 'requests ' + browser.requests);
+  check(browser.errors.length === 0, 'errors ' + browser.errors);
+  const blocked = await run("fetch('https://example.com/').then(() => 'got', () => 'refused')");
+  check(blocked === 'refused', 'the policy lets fetch through');
+  browser.errors.length = 0;
+});
+
+await part('compiles each example, to the bytes and lists of the native toolchain', async () => {
+  for (const name of readdirSync(EXAMPLES).filter(n => /\.as[lm]$/.test(n))) {
+    await open('#example=' + name + '&k=2&threads=2');
+    const image = await run('btoa(String.fromCharCode(...workbench.bench.image))');
+    const text = readFileSync(EXAMPLES + name);
+    const native = name.endsWith('.asl') ? asl(['compile', '--k', 2], text) : asl(['asm'], text);
+    check(Buffer.from(image, 'base64').equals(native), 'image of ' + name);
+    check(await run('workbench.bench.refusal === null'), 'refusal of ' + name);
+    const lines = await run("document.querySelectorAll('.instruction').length");
+    check(lines === await run('workbench.bench.program.code.length'), 'instructions shown of ' + name);
+  }
+});
+
+const STEPS = Number(process.env.STEPS || 200);
+await part('random steps on 3 examples: the page at each position is the native debugger\'s view', async () => {
+  for (const [name, threads, k] of [['hash.asl', 3, 3], ['bank.asl', 4, 1], ['move.asl', 2, 0]]) {
+    await open(`#example=${name}&k=${k}&threads=${threads}`);
+    await run("document.getElementById('seed').value = 7; document.getElementById('most').value = " + STEPS);
+    await key('R');
+    const [, length] = await at();
+    check(length > STEPS / 4 && length <= STEPS, `${name}: ${length} steps`);
+    const schedule = await run('workbench.bench.run.schedule');
+    const image = asl(['compile', '--k', k], readFileSync(EXAMPLES + name));
+    const file = asl(['step', '--threads', threads, '--record', ...schedule], image);
+    check(Buffer.from(await run('btoa(String.fromCharCode(...workbench.bench.run.file))'), 'base64').equals(file), name + ': run file');
+    for (let p = 0; p <= length; p++) {
+      const native = asl(['debug', 'goto', p, 'view'], file).toString();
+      const [told, shown] = await run(`(async () => { const { bench, tellView } = workbench; bench.go(${p}); await new Promise(d => requestAnimationFrame(() => setTimeout(d))); return [tellView(bench.state), ${SHOWN}]; })()`);
+      check('at ' + p + '\n' + told === native, `${name} at ${p}: state`);
+      check(shown === viewLines(native), `${name} at ${p}: page: ${difference(shown, viewLines(native))}`);
+    }
+  }
+});
+
+await part('128 threads, assembly texts, faults', async () => {
+  const cases = [['nested.asl', 128, 2, 400], ['sum.asm', 1, 3, 200], ['unguarded-pair.asm', 2, 3, 60], ['hit.asl', 4, 3, 120], ['nesting.asm', 64, 3, 300]];
+  for (const [name, threads, k, steps] of cases) {
+    await open(`#example=${name}&k=${k}&threads=${threads}`);
+    await run(`document.getElementById('seed').value = 3; document.getElementById('most').value = ${steps}`);
+    await key('R');
+    const [, length] = await at(), schedule = await run('workbench.bench.run.schedule'), text = readFileSync(EXAMPLES + name);
+    const image = name.endsWith('.asl') ? asl(['compile', '--k', k], text) : asl(['asm'], text);
+    const file = asl(['step', '--threads', threads, '--record', ...schedule], image);
+    for (const p of [0, length >> 1, length - 1, length]) {
+      const told = await run(`(async () => { workbench.bench.go(${p}); await new Promise(d => requestAnimationFrame(() => setTimeout(d))); return workbench.tellView(workbench.bench.state); })()`);
+      check('at ' + p + '\n' + told === asl(['debug', 'goto', p, 'view'], file).toString(), `${name} at ${p}`);
+    }
+  }
+  await open('#example=counter.asm&threads=2');
+  await run('workbench.bench.setThreads(999)'); await settled();
+  check(await run('workbench.bench.threads') === 128, 'at most 128 threads');
+});
+
+await part('requests are what is granted, clashes are what blocks', async () => {
+  let asked = 0;
+  for (const [name, threads, k] of [['hash.asl', 3, 3], ['bank.asl', 4, 0], ['queue.asl', 3, 2], ['move.asl', 2, 0], ['hit.asl', 4, 3], ['nested.asl', 3, 3], ['unguarded-pair.asm', 2, 3], ['tree.asl', 8, 3]]) {
+    await open(`#example=${name}&k=${k}&threads=${threads}`);
+    await run("document.getElementById('seed').value = 11; document.getElementById('most').value = 400");
+    await key('R');
+    const [seen, wrong] = await run(`(() => { const { run } = workbench.bench; let seen = 0; const wrong = [];
+      const lines = map => [...map].map(([node, mode]) => node + ' ' + (mode.mode || mode)).sort().join();
+      run.events.forEach((event, k) => { if (event.pc < 0 || event.depth || !run.program.code[event.pc].startsWith('acq ')) return;
+        seen++; const { nodes, clashes } = run.request(k, event.thread);
+        if (event.reply === 'ran' && (clashes.length || lines(nodes) !== lines(run.view(k + 1).threads[event.thread].held))) wrong.push(k);
+        if (event.reply === 'blocked' && !clashes.length) wrong.push(k); });
+      return [seen, wrong]; })()`);
+    asked += seen;
+    check(wrong.length === 0, `${name}: requests at ${wrong}`);
+  }
+  console.log('      ', asked, 'requests compared');
+});
+
+await part('back, forward, branch, undo, redo', async () => {
+  await open('#example=counter.asl&k=3&threads=2');
+  for (const digit of '0011') await key(digit);
+  check(String(await at()) === '4,4', 'four steps ' + await at());
+  await key('ArrowLeft'); await key('ArrowLeft');
+  check(String(await at()) === '2,4', 'back twice');
+  await key('1');
+  check(String(await at()) === '3,4', 'the recorded step is only shown');
+  await key('ArrowLeft');
+  await key('0');
+  check(String(await at()) === '3,3' && String(await run('workbench.bench.run.schedule')) === '0,0,0', 'a branch');
+  await key('u');
+  check(String(await at()) === '2,4' && String(await run('workbench.bench.run.schedule')) === '0,0,1,1', 'undo');
+  await key('U');
+  check(String(await run('workbench.bench.run.schedule')) === '0,0,0', 'redo');
+  await key('c');
+  check(String(await at()) === '0,0', 'clear');
+  await key('u');
+  check(String(await at()) === '3,3', 'undo of clear');
+});
+
+await part('the mouse: lane heads, events, buttons, a dropped file', async () => {
+  await open('#example=counter.asl&k=3&threads=2');
+  const click = async target => {
+    const [x, y] = await run(`(() => { const b = (${target}).getBoundingClientRect(); return [b.left + b.width / 2, b.top + b.height / 2]; })()`);
+    await browser.click(x, y);
+    await browser.frames();
+  };
+  for (const t of [0, 0, 1, 1]) await click(`document.querySelector('[data-step="${t}"]')`);
+  check(String(await at()) === '4,4' && await run("workbench.bench.last.reply") === 'blocked', 'heads step');
+  await click("document.querySelectorAll('.mark')[1]"); check((await at())[0] === 2, 'an event is clicked');
+  await click("document.querySelector('#forward')"); check((await at())[0] === 3, 'forward');
+  await click("document.querySelector('#robin')"); check((await at())[0] > 10, 'round robin');
+  await click("document.querySelectorAll('#sections button.k')[0]"); check(await run('workbench.bench.k') === 0, 'a column of the table of k');
+  await run(`(() => { const given = new DataTransfer(); given.items.add(new File([${JSON.stringify(readFileSync(EXAMPLES + 'nested.asl', 'utf8'))}], 'mine.asl'));
+    dispatchEvent(new DragEvent('drop', { dataTransfer: given, cancelable: true })); })()`);
+  await settled(); await settled();
+  check(await run('workbench.bench.title') === 'mine.asl', 'a dropped file');
+});
+
+await part('typing is painted at once and compiled soon', async () => {
+  await open('#example=counter.asl&k=3&threads=2&steps=0011&at=4');
+  await key('e');
+  await run("document.getElementById('text').setSelectionRange(0, 0)");
+  await browser.insertText('global more;');
+  check(await run("document.querySelector('#paint .row').textContent") === 'global more;global count;', 'painted');
+  await key('Escape'); await browser.sleep(400);
+  check(await run('workbench.bench.program.globals.length') === 2, 'compiled');
+});
+
+await part('keys', async () => {
+  await open('#example=queue.asl&k=3&threads=3');
+  await key('n');
+  check(await run("workbench.bench.last.reply === 'blocked'"), 'n: until blocked');
+  check(await run("/blocked.*it asks X at leaf/.test(document.getElementById('say').textContent)"), 'sentence of the blocked step');
+  check(await run("document.querySelectorAll('#locks .mode.clash').length > 0 && document.querySelectorAll('#locks .wish.no').length > 0"), 'the clash is framed');
+  const [blocked] = await at();
+  await key('h');
+  check((await at())[0] < blocked, 'h: to the holder');
+  await key('b'); check((await at())[0] === blocked, 'b');
+  await key('End'); await key('r');
+  check(await run("workbench.bench.state.threads.every(t => t.status === 'done')"), 'r: round robin to the end');
+  check(await run("workbench.bench.run.events.every(e => e.reply !== 'ended')"), 'no step of ended threads');
+  await key('Home'); check((await at())[0] === 0, 'Home');
+  await key('ArrowRight', true); check((await at())[0] === 10, 'Shift right');
+  await key('o'); check(await run("workbench.bench.last.reply === 'out'"), 'o');
+  await key('['); await key(']');
+  await key('K'); check(await run('workbench.bench.k') === 2, 'K');
+  await key('k'); check(await run('workbench.bench.k') === 3, 'k');
+  await key('t'); check(await run('workbench.bench.threads') === 4, 't');
+  await key('T'); check(await run('workbench.bench.threads') === 3, 'T');
+  await key('d'); check(await run("document.documentElement.dataset.dark") === '1', 'd'); await key('d');
+  await key('A'); check(await run('workbench.textSize()') === 17, 'A'); await key('a');
+  await key('L'); check(await run("document.body.classList.contains('lecture')"), 'L'); await key('L');
+  await key('m'); check(await run("document.body.classList.contains('no-instructions')"), 'm'); await key('m');
+  for (const open of ['x', 's', '?']) { await key(open); await settled(); check(await run("document.getElementById('dialog').open"), open); await run("document.getElementById('dialog').close()"); }
+  await key('e'); check(await run("document.activeElement.id") === 'text', 'e');
+  const steps = (await at())[1]; await key('0'); check((await at())[1] === steps, 'a digit in the editor is text');
+  await key('Escape'); check(await run("document.activeElement.id") !== 'text', 'Escape');
+});
+
+await part('refusals are shown at their place', async () => {
+  await open('#example=counter.asl&k=3&threads=2&steps=0011&at=4');
+  const source = readFileSync(EXAMPLES + 'counter.asl', 'utf8');
+  const cases = [[source.replace('y = x + one;', 'y = x + 1;'), 8, 13], [source.replace('x = *p;', 'x = *p'), 7, 5], [source.replace('*p = y', '*p = z'), 9, 10],
+    [source.replace('atomic {', 'atomic { // comment'), 5, 12], [source.replace('return t;\n}', ''), 12, 1], [source.replace('global count;', 'global count; global count;'), 1, 22]];
+  for (const [text, line, column] of cases) {
+    await type(text);
+    const said = await run("document.getElementById('complaint').textContent");
+    check(said.includes(`Line ${line}, column ${column}:`), `${line}:${column} ${said.slice(0, 60)}`);
+    check(await run("workbench.bench.run.length") === 4, 'the run stays');
+  }
+  await type(source.replace('x + one', 'one + x'));
+  check(await run("document.getElementById('complaint').hidden") && await run('workbench.bench.run.length') === 4, 'compiles again, and the schedule is kept');
+  await type('fn main(t) { p = &g; x = *p; return t; } global g;');
+  check(await run("document.getElementById('complaint').textContent.includes('no section is open')"), 'access outside a section');
+});
+
+await part('reasons are those of the native toolchain, of the section that is asked for', async () => {
+  for (const name of ['walk.asl', 'bank.asl']) {
+    await open(`#example=${name}&k=2&threads=2`);
+    const native = asl(['explain', '--k', 2], readFileSync(EXAMPLES + name)).toString();
+    const sections = await run("document.querySelectorAll('#sections .matrix').length");
+    check(sections > 0, name + ': sections');
+    for (let section = 0; section < sections; section++) {
+      await run(`document.querySelectorAll('#sections .matrix')[${section}].querySelector('.link').click()`);
+      const shown = await run("document.querySelector('#dialog-body .why').textContent");
+      check(shown.startsWith(`section ${section}, `) && native.includes(shown), `${name}: section ${section}: ${shown.slice(0, 40)}`);
+      await run("document.getElementById('dialog').close()");
+    }
+  }
+});
+
+await part('a share link restores everything', async () => {
+  await open('#example=bank.asl&k=1&threads=3');
+  await type((await run('workbench.bench.text')).replace('hundred = 100', 'hundred = 250'));
+  await key('R'); await run('workbench.bench.go(77)'); await browser.sleep(600);
+  const said = 'JSON.stringify([workbench.bench.text, workbench.bench.k, workbench.bench.threads, workbench.bench.run.schedule, workbench.bench.position, workbench.tellView(workbench.bench.state)])';
+  const before = await run(said), fragment = await run('location.hash');
+  await open(fragment);
+  check(await run(said) === before, 'restored');
+  console.log('       a link of', fragment.length, 'letters for', (await at())[1], 'steps of a changed source');
+  await open('#asl=%%%&k=99&threads=-4&steps=zz');
+  check(await run("workbench.bench.title") === 'counter.asl', 'a broken link opens the first example');
+});
+
+await part('files: a run file, an image, an assembly text', async () => {
+  await open();
+  const bytes = [...readFileSync(EXAMPLES + 'counter.run')];
+  await run(`workbench.loadFile('counter.run', new Uint8Array(${JSON.stringify(bytes)}))`); await settled();
+  check(String(await at()) === '4,4' && await run("workbench.bench.last.reply") === 'blocked', 'run file');
+  check(await run("workbench.bench.title") === 'counter.asl', 'with its source');
+  const image = [...asl(['compile', '--k', 0], 'global z; fn main(t) { p = &z; atomic { *p = t; } return t; }')];
+  await run(`workbench.loadFile('z.img', new Uint8Array(${JSON.stringify(image)}))`); await settled();
+  check(await run("workbench.bench.kind + workbench.bench.title") === 'asmz.asm', 'image as assembly');
+  const broken = [...bytes.slice(0, -1), 0];
+  await run(`workbench.loadFile('broken.run', new Uint8Array(${JSON.stringify(broken)}))`);
+  check(await run("document.getElementById('note').textContent.includes('Differs(3)')"), 'a journal that is none');
+});
+
+await part('a source with </script> and <img onerror> stays text', async () => {
+  await open();
+  const evil = 'fn main(t) { </script><img src=x onerror="window.bad=1"> return t; }';
+  await type(evil); await browser.sleep(500);
+  check(await run('window.bad === undefined && document.images.length === 0'), 'stays text');
+  const fragment = await run('location.hash');
+  await open(fragment); await settled();
+  check(await run('window.bad === undefined && document.images.length === 0') && await run('workbench.bench.text') === evil, 'from a link too');
+  await open('#asl=' + fragment.slice(5).split('&')[0] + '&title=' + encodeURIComponent('<img src=x onerror="window.bad=1"></title></script>')); await settled();
+  check(await run('window.bad === undefined && document.images.length === 0'), 'a title too');
+});
+
+await part('no sideways scrolling at 420 px', async () => {
+  for (const name of ['counter.asl', 'hash.asl', 'bank.asl']) {
+    await browser.size(420, 900); await open(`#example=${name}&threads=3`); await key('R'); await settled();
+    const [wide, seen] = await run('[document.documentElement.scrollWidth, innerWidth]');
+    check(wide <= seen, `${name}: ${wide} of ${seen}`);
+  }
+  await browser.size(1400, 1000);
+});
+
+// how long things take is only shown, and left out where fewer positions are looked at
+if (!process.env.STEPS) await part('times', async () => {
+  const median = list => [...list].sort((a, b) => a - b)[list.length >> 1], high = list => [...list].sort((a, b) => a - b)[Math.floor(list.length * 0.95)];
+  const ready = [];
+  for (let i = 0; i < 5; i++) { await open(); ready.push(await run('workbench.ready')); }
+  console.log(`       ready with WebAssembly: median ${median(ready).toFixed(0)} ms`);
+  for (const [name, threads, steps] of [['counter.asl', 2, 12], ['hash.asl', 3, 200], ['tree.asl', 8, 1000], ['tree.asl', 64, 2000]]) {
+    await open(`#example=${name}&k=3&threads=${threads}`);
+    const made = await run(`(async () => { const t = performance.now(); document.getElementById('most').value = ${steps}; document.getElementById('random').click(); await new Promise(d => requestAnimationFrame(() => setTimeout(d))); return performance.now() - t; })()`);
+    const [, length] = await at();
+    const press = (key, n) => run(`(async () => { const out = []; for (let i = 0; i < ${n}; i++) { const t = performance.now(); document.dispatchEvent(new KeyboardEvent('keydown', { key: '${key}' })); await new Promise(d => requestAnimationFrame(() => setTimeout(d))); out.push(performance.now() - t); } return out; })()`);
+    const back = await press('ArrowLeft', 25), again = await press('ArrowRight', 25);
+    await run(`workbench.bench.go(${length - 1})`); await browser.frames();
+    const step = []; for (let i = 0; i < 8; i++) step.push(...await press(String(i % Math.min(threads, 8)), 1));
+    const moves = [...back, ...again];
+    console.log(`       ${name}, ${threads} threads, ${length} events: made and drawn in ${made.toFixed(0)} ms; key to painted frame, move: median ${median(moves).toFixed(0)}, 95 % ${high(moves).toFixed(0)} ms; new step: median ${median(step).toFixed(0)}, most ${Math.max(...step).toFixed(0)} ms`);
+  }
+});
+
+check(browser.errors.length === 0, 'script errors: ' + browser.errors.slice(0, 3).join('; '));
+console.log(`${passed} checks passed, ${failed} failed`);
+await browser.close();
+process.exit(failed ? 1 : 0);
