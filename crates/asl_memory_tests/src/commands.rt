@@ -10,6 +10,7 @@ enum Bytes {
     Source,
     Text,
     Image,
+    Pair,
     Run,
     View,
     Lines(&'static [u8]),
@@ -21,6 +22,7 @@ impl Bytes {
             Bytes::Source => SOURCE,
             Bytes::Text => COUNTER,
             Bytes::Image => &FILE[4..98],
+            Bytes::Pair => PAIR,
             Bytes::Run => FILE.as_slice(),
             Bytes::View => VIEW,
             Bytes::Lines(lines) => lines,
@@ -31,13 +33,18 @@ impl Bytes {
 /// Words, what is read, the status, and what is written. Where the status is not 0, a text on the errors is wanted.
 type Case = (&'static str, Bytes, u8, Bytes);
 
+/// The counter's source, and its program.
+static PAIR: &[u8] =
+    b"global g; fn main(t) { p = &g; atomic { x = *p; one = 1; y = x + one; *p = y; } return t; }\0\
+    version 2\nclasses 1\nglobal 0\nentry 0\nfn 1 5\nglob r1, g0\nacq 0\nload r2, r1\nint r3, 1\nadd r4, r2, r3\nstore r1, r4\nrel\nret r0\nlist\nexpr r1 write\n";
+
 static VIEW: &[u8] =
     b"at 4\nat 3\nat 2\nthread 0 pc 2 depth 1\nreg 0 0 int 0\nreg 0 1 addr 0.0\nreg 0 2 int 0\n\
     reg 0 3 int 0\nreg 0 4 int 0\nthread 1 pc 0 depth 0\nreg 1 0 int 1\nreg 1 1 int 0\nreg 1 2 int 0\nreg 1 3 int 0\n\
     reg 1 4 int 0\ncell 0.0 int 0\nheld 0 root IX\nheld 0 class 0 IX\nheld 0 leaf 0.0 X\n";
 
 /// What each command does.
-static CASES: [Case; 11] = [
+static CASES: [Case; 13] = [
     ("asm", Bytes::Text, 0, Bytes::Image),
     ("dis", Bytes::Image, 0, Bytes::Text),
     ("compile", Bytes::Source, 0, Bytes::Image),
@@ -54,6 +61,13 @@ static CASES: [Case; 11] = [
         0,
         Bytes::Run,
     ),
+    (
+        "check",
+        Bytes::Pair,
+        0,
+        Bytes::Lines(b"checked 1 sections\n"),
+    ),
+    ("check", Bytes::Source, 1, Bytes::Lines(b"")),
     ("replay", Bytes::Run, 0, Bytes::Lines(b"same 4\n")),
     ("debug goto 4 back back view", Bytes::Run, 0, Bytes::View),
     ("compile", Bytes::Text, 1, Bytes::Lines(b"")),

@@ -60,6 +60,10 @@ fn verify(alloc: Global, parts: Parts<'_>, out: &mut String) -> Result<(), Alloc
     match Program::verify(image) {
         Ok(program) => {
             put_program(&program, out)?;
+            let code = program.code().len();
+            if program.into_image().code.len() != code {
+                out.push_str("another image comes back\n")?;
+            }
             Ok(())
         }
         Err((fault, image)) => {

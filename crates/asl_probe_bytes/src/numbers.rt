@@ -3,8 +3,8 @@
 use crate::text::{numbers, put_bad, put_line, put_number, put_word};
 use asl_assembler::AsmFault;
 use asl_code::{
-    Instr, NEWEST, NEWEST_LIMITS, Value, ValueFault, VerifyFault, get_instr, get_value, is_version,
-    limits_of, put_instr, put_value, version_for,
+    Instr, NEWEST, NEWEST_LIMITS, Value, ValueFault, VerifyFault, get_instr, get_value, has_fresh,
+    is_version, limits_of, put_instr, put_value, version_for,
 };
 use asl_loader::LoadFault;
 use std::alloc::{AllocError, Global};
@@ -163,7 +163,16 @@ fn answer_version(word: &str, out: &mut String) -> Result<(), AllocError> {
     };
     match limits_of(version) {
         Some(limits) if is_version(version) => {
-            write!(out, "threads {} locks {}\n", limits.threads, limits.locks)
+            let fresh = if has_fresh(version) {
+                "fresh"
+            } else {
+                "no fresh"
+            };
+            write!(
+                out,
+                "threads {} locks {} {fresh} objects\n",
+                limits.threads, limits.locks
+            )
         }
         None if !is_version(version) => put_line("none", out),
         _ => put_line("is_version says otherwise", out),

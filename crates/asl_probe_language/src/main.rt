@@ -1,5 +1,5 @@
-//! Answers scripts of calls on the public functions of `asl_points_to`, `asl_lock_expr` and `asl_backward_flow`: what the cases of
-//! `tests/cases` are run through.
+//! Answers scripts of calls on the public functions of `asl_points_to`, `asl_lock_expr`, `asl_backward_flow` and `asl_emitter`: what the
+//! cases of `tests/cases` are run through.
 //!
 //! A script begins with a line `== NAME`, which is answered as it is, and a line that names its kind. For `source` a text follows,
 //! and a line `--`. Then come the calls, one a line.
@@ -7,6 +7,8 @@
 
 mod adding;
 mod cells;
+mod infer;
+mod laws;
 mod source;
 mod text;
 
@@ -52,6 +54,8 @@ fn answer_all(alloc: Global, scripts: &str, out: &mut String) -> Result<(), Allo
 fn answer(alloc: Global, kind: &str, calls: &str, out: &mut String) -> Result<(), AllocError> {
     match kind {
         "cells" => cells::answer(alloc, calls, out),
+        "infer" => infer::answer(alloc, calls, out),
+        "laws" => laws::answer(out),
         "source" => {
             let (given, calls) = calls.split_once("\n--\n").unwrap_or((calls, ""));
             source::answer(alloc, given, calls, out)

@@ -1,5 +1,0 @@
-//! Tests of versions, over the public calls of `asl_code`.
-#![tactic(auto)]
-
-#[cfg(test)]
-mod versions;
