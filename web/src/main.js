@@ -1,6 +1,6 @@
 // Puts the workbench together: loads the toolchain, draws what changed, listens.
 
-import { byId, el, textSize } from './dom.js';
+import { byId, el, keepingFocus, textSize } from './dom.js';
 import { openToolchain, toolStatistics } from './toolchain.js';
 import { Bench, MOST_THREADS } from './bench.js';
 import { tellView } from './view.js';
@@ -32,7 +32,7 @@ const due = { frame: 0, what: new Set(), address: 0, player: 0, own: '' };
 
 function changed(what) {
   due.what.add(what);
-  if (!due.frame) due.frame = requestAnimationFrame(draw);
+  if (!due.frame) due.frame = requestAnimationFrame(() => keepingFocus(draw));
 }
 
 function draw() {
@@ -76,7 +76,8 @@ function drawSettings() {
   byId('k').value = bench.k;
   byId('k').disabled = bench.kind !== 'asl';
   byId('threads-wanted').value = bench.threads;
-  byId('example').value = '';
+  const chosen = document.activeElement === byId('example') && examples[bench.title];
+  byId('example').value = chosen ? bench.title : '';
   byId('title').textContent = bench.title;
   byId('changed').hidden = !(examples[bench.title] && examples[bench.title].text !== bench.text);
   document.title = bench.title + ' · asl workbench';
@@ -188,9 +189,9 @@ function listenToButtons() {
       open: () => byId('file').click() };
   for (const [id, action] of Object.entries(actions)) byId(id).addEventListener('click', action);
   byId('slide').addEventListener('input', event => bench.go(Number(event.target.value)));
-  byId('example').addEventListener('change',
-    event => { if (event.target.value) loadExample(event.target.value); event.target.blur(); });
-  byId('k').addEventListener('change', event => { chooseK(Number(event.target.value)); event.target.blur(); });
+  byId('example').addEventListener('change', event => { if (event.target.value) loadExample(event.target.value); leave(event); });
+  byId('example').addEventListener('blur', event => { event.target.value = ''; });
+  byId('k').addEventListener('change', event => { chooseK(Number(event.target.value)); leave(event); });
   byId('threads-wanted').addEventListener('change', event => bench.setThreads(Number(event.target.value)));
   byId('file').addEventListener('change', event => loadFiles(event.target.files));
   byId('strip').addEventListener('click',
@@ -198,6 +199,8 @@ function listenToButtons() {
     bench.go(Math.round(((event.clientX - box.left) / box.width) * events().length)); });
 }
 
+// After a choice by the mouse the keys are the workbench's again; by keyboard one goes on choosing, and leaves by Escape.
+const leave = ({ target }) => { if (!target.matches(':focus-visible')) target.blur(); };
 const resize = by => { changeTextSize(by); changed('size'); };
 
 function listenToKeyboard() {

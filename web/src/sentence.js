@@ -38,7 +38,7 @@ function blocked(bench, k, event) {
   told.push('; ', chip(thread), ' holds ', strong(holds), ' there');
   const since = sectionAt(bench.stretches, thread, k);
   if (since) told.push(' ', el('button',
-    { class: 'link', title: 'To the event that took it (h)', onclick: () => bench.go(since.from + 1) },
+    { class: 'link', 'data-keep': 'since', title: 'To the event that took it (h)', onclick: () => bench.go(since.from + 1) },
     'since event ' + since.from));
   const more = new Set(clashes.map(c => c.thread)).size - 1;
   if (more) told.push(` (and ${more} more in the way)`);
