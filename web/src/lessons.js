@@ -31,7 +31,8 @@ export const LESSONS = [
   { title: 'How fine locks are', example: 'bank.asl', k: 0, threads: 2,
     about: 'Thread 0 moves money from Ann to Bob, thread 1 from Cid to Dan.', steps: [
       { text: 'At k 0, bring one thread into transfer and make the other wait at its atomic (line 22).',
-        done: bench => bench.k === 0 && [0, 1].some(t => isIn(bench, t, 'transfer') && wasBlocked(bench, 1 - t) && lastIn(bench, 'transfer')),
+        done: bench => bench.k === 0
+          && [0, 1].some(t => isIn(bench, t, 'transfer') && wasBlocked(bench, 1 - t) && lastIn(bench, 'transfer')),
         hint: 'First let both come as far as line 22: until then each opens accounts, and that waits, too.' },
       { text: 'Find the least k at which both are inside transfer at once (keys k and K).',
         done: bench => bench.k === 1 && isIn(bench, 0, 'transfer') && isIn(bench, 1, 'transfer'),

@@ -16,6 +16,8 @@ import { drawThreads } from './panels/threads.js';
 import { drawHeap } from './panels/heap.js';
 import { drawEvents } from './panels/events.js';
 import { drawSections } from './panels/sections.js';
+import { drawComparison, elsewhere } from './panels/comparison.js';
+import { Comparison } from './comparison.js';
 import { drawLesson, openLesson, closeLesson, lessonNumber, lessonList } from './panels/lesson.js';
 import { whyText } from './why.js';
 import { toFragment, fromFragment, commandLines } from './share.js';
@@ -26,11 +28,13 @@ import { isDark, setDark, changeTextSize, toggleLecture, toggleInstructions, ope
 const data = id => JSON.parse(byId(id).textContent);
 const examples = data('examples');
 const bench = new Bench(changed);
+const comparison = new Comparison(bench, changed);
 const due = { frame: 0, what: new Set(), address: 0, player: 0, own: '' };
 
 // ---- drawing: once a frame, only what changed
 
 function changed(what) {
+  if (what === 'text' || what === 'run') comparison.begin();
   due.what.add(what);
   if (!due.frame) due.frame = requestAnimationFrame(() => keepingFocus(draw));
 }
@@ -44,6 +48,7 @@ function draw() {
   document.body.classList.toggle('refused', Boolean(bench.refusal));
   drawPlaces(bench);
   drawLesson(bench);
+  drawComparison(bench, comparison, chooseK);
   if (bench.run) drawRun(what.size > 1 || !what.has('position'));
   else byId('say').replaceChildren(el('p', { class: 'is-fault' },
     bench.refusal ? 'The text does not compile yet: ' + bench.refusal.words : ''));
@@ -53,7 +58,8 @@ function draw() {
 
 function drawRun(whole) {
   const change = differenceAt(bench.run, bench.position);
-  byId('say').replaceChildren(el('p', {}, sentence(bench)), el('p', { class: 'soft' }, nextSentence(bench)));
+  byId('say').replaceChildren(el('p', {}, sentence(bench, openWhy)),
+    el('p', { class: 'soft' }, elsewhere(bench, comparison), nextSentence(bench)));
   byId('position').textContent = `after ${bench.position} of ${bench.run.length} events`;
   const slide = byId('slide');
   slide.max = bench.run.length;

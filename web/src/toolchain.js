@@ -30,14 +30,22 @@ export const assemble = source => ask(['asm'], source);
 export const disassemble = image => text(ask(['dis'], image));
 export const record = (image, threads, schedule) => ask(['step', '--threads', threads, '--record', ...schedule], image);
 
+// The lines of the steps themselves: `INDEX THREAD REPLY`.
+export const stepLines = (image, threads, schedule) => text(ask(['step', '--threads', threads, ...schedule], image));
 export const trace = runFile => text(ask(['log', '--trace'], runFile));
 
 // What the debugger prints at positions from..to of a recorded run, as texts.
-const LOOK = ['view', 'asks', 'stack', 'objects'];
+const LOOK = ['view', 'asks', 'objects'];
 export function viewsOf(runFile, from, to) {
   const words = ['goto', from, ...LOOK];
   for (let k = from; k < to; k++) words.push('forward', ...LOOK);
   const answer = text(ask(['debug', ...words], runFile));
   if (answer.refusal) throw new Error('debug: ' + answer.refusal);
   return answer.text.split(/^at \d+\n/m).slice(1);
+}
+// All frames at one position; they take the debugger longer than all the rest, so they are asked of what is shown.
+export function framesOf(runFile, k) {
+  const answer = text(ask(['debug', 'goto', k, 'stack'], runFile));
+  if (answer.refusal) throw new Error('debug: ' + answer.refusal);
+  return answer.text.replace(/^at \d+\n/, '');
 }

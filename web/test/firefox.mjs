@@ -6,7 +6,7 @@ import { tmpdir } from 'node:os';
 import { join } from 'node:path';
 
 const sleep = ms => new Promise(done => setTimeout(done, ms));
-const KEYS = { Tab: '\uE004', Enter: '\uE007', '\n': '\uE007', Escape: '\uE00C', End: '\uE010', Home: '\uE011', ArrowLeft: '\uE012',
+const KEYS = { Tab: '\uE004', Enter: '\uE006', '\n': '\uE006', Escape: '\uE00C', End: '\uE010', Home: '\uE011', ArrowLeft: '\uE012',
   ArrowUp: '\uE013', ArrowRight: '\uE014', ArrowDown: '\uE015', Delete: '\uE017' };
 
 async function addressOf(child) {
@@ -54,7 +54,8 @@ export async function openFirefox(binary = process.env.FIREFOX || 'firefox-esr')
   });
   const { capabilities } = (await send('session.new', { capabilities: {} })).result;
   await send('session.subscribe', { events: ['log.entryAdded', 'network.beforeRequestSent'] });
-  const { context } = (await send('browsingContext.getTree', {})).result.contexts[0];
+  // The first window never has the focus, without which no key presses a button; one that is made has it.
+  const { context } = (await send('browsingContext.create', { type: 'window' })).result;
   const run = async expression => {
     const { result, error, message } = await send('script.evaluate', { expression, target: { context }, awaitPromise: true });
     if (error) throw new Error(message);

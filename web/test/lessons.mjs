@@ -87,10 +87,11 @@ await part('each control is reached by Tab, and pressing one keeps the focus the
   }
   const missed = wanted.filter(i => !seen.has(i));
   check(missed.length === 0, 'not reached: ' + await run(`${JSON.stringify(missed)}.map(i => document.querySelector('[data-tried="' + i + '"]').outerHTML.slice(0, 80)).join()`));
+  await open('#example=counter.asl&k=3&threads=2'); // behind the last control the keys may be the browser's
   check(await tabTo('[data-step="1"]') >= 0, 'a lane is reached');
   for (const name of ['Enter', ' ', 'Enter']) await key(name);
   check(await run("document.activeElement.dataset.step === '1'") && await run("workbench.bench.run.length") === 3, 'a lane keeps the focus, and steps');
   check(await tabTo('#sections button.k') >= 0, 'a k is reached');
   await key('Enter'); await settled();
-  check(await run("document.activeElement.matches('button.k') && workbench.bench.k === 0"), 'a k keeps the focus');
+  check(await run("document.activeElement.matches('button.k') && workbench.bench.k === 0"), 'a k keeps the focus, and is chosen');
 });
