@@ -4,6 +4,7 @@ import { el, chip } from './dom.js';
 import { differenceAt } from './difference.js';
 import { sectionAt } from './stretches.js';
 import { listAt } from './program.js';
+import { BRIEFLY } from './modes.js';
 
 const strong = words => el('b', {}, words);
 const code = words => el('code', {}, words);
@@ -20,8 +21,8 @@ export function sentence(bench, openWhy) {
 }
 
 function start(bench) {
-  const threads = bench.threads === 1 ? 'One thread stands' : `${bench.threads} threads stand`;
-  const last = Math.min(bench.threads, 10) - 1;
+  const threads = bench.run.threads === 1 ? 'One thread stands' : `${bench.run.threads} threads stand`;
+  const last = Math.min(bench.run.threads, 10) - 1;
   const keys = last ? [el('kbd', {}, '0'), last > 1 ? ' to ' : ' or ', el('kbd', {}, String(last))] : [el('kbd', {}, '0')];
   return [strong('Start. '), threads, ' at the entry of ', code(bench.names.function(bench.program.entry)),
     '. Press ', keys, ' or click a lane’s head to step a thread.'];
@@ -34,8 +35,8 @@ function blocked(bench, k, event, openWhy) {
   const { clashes } = bench.run.request(k, event.thread);
   if (!clashes.length) return [...told, '.'];
   const { thread, node, asks, holds } = clashes[0];
-  told.push(': it asks ', strong(asks), ' at ', strong(bench.names.node(node)), ' ', whyLink(bench, event, openWhy));
-  told.push('; ', chip(thread), ' holds ', strong(holds), ' there');
+  told.push(': it asks ', strong(asks), ` (${BRIEFLY[asks]}) at `, strong(bench.names.node(node)), ' ', whyLink(bench, event, openWhy));
+  told.push('; ', chip(thread), ' holds ', strong(holds), ` (${BRIEFLY[holds]}) there`);
   const since = sectionAt(bench.stretches, thread, k);
   if (since) told.push(' ', el('button',
     { class: 'link', 'data-keep': 'since', title: 'To the event that took it (h)', onclick: () => bench.go(since.from + 1) },
@@ -114,7 +115,7 @@ function entering(bench, event, change) {
 
 export function nextSentence(bench) {
   const { next, names } = bench;
-  if (!next && !bench.position && bench.threads > 1) return ['To see a thread wait, press ', el('kbd', {}, 'n'),
+  if (!next && !bench.position && bench.run.threads > 1) return ['To see a thread wait, press ', el('kbd', {}, 'n'),
     ' or “Until blocked”: the threads step in turn until one must.'];
   if (!next) return bench.position ? ['The run ends here; step any thread to go on.'] : [];
   return ['Next: ', chip(next.thread), ' ',

@@ -6,7 +6,7 @@ const decoder = new TextDecoder();
 const tool = { call: null, calls: 0, milliseconds: 0 };
 
 export const openToolchain = async base64 => { tool.call = await loadTool(base64); };
-export const toolStatistics = () => ({ calls: tool.calls, milliseconds: tool.milliseconds });
+export const toolStatistics = () => ({ calls: tool.calls, milliseconds: tool.milliseconds, bytes: tool.call.memory() });
 
 function ask(words, input) {
   const began = performance.now();

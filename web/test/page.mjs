@@ -174,7 +174,7 @@ await part('keys', async () => {
   await open('#example=queue.asl&k=3&threads=3');
   await key('n');
   check(await run("workbench.bench.last.reply === 'blocked'"), 'n: until blocked');
-  check(await run("/blocked.*it asks X at leaf/.test(document.getElementById('say').textContent)"), 'sentence of the blocked step');
+  check(await run("/blocked.*it asks X \\(write\\) at leaf/.test(document.getElementById('say').textContent)"), 'sentence of the blocked step');
   check(await run("document.querySelectorAll('#locks .mode.clash').length > 0 && document.querySelectorAll('#locks .wish.no').length > 0"), 'the clash is framed');
   const [blocked] = await at();
   await key('h');
@@ -216,6 +216,30 @@ await part('refusals are shown at their place', async () => {
   check(await run("document.getElementById('complaint').hidden") && await run('workbench.bench.run.length') === 4, 'compiles again, and the schedule is kept');
   await type('fn main(t) { p = &g; x = *p; return t; } global g;');
   check(await run("document.getElementById('complaint').textContent.includes('no section is open')"), 'access outside a section');
+});
+
+await part('more threads while a text is refused', async () => {
+  await open('#example=counter.asl&k=3&threads=2&steps=0011&at=4');
+  await type('fn main(t) {');
+  for (const name of ['t', 't', '2', 'ArrowLeft', 'n']) await key(name);
+  check(await run('workbench.bench.threads') === 4 && await run('workbench.bench.run.threads') === 2, 'the run keeps its threads');
+  await type(readFileSync(EXAMPLES + 'counter.asl', 'utf8'));
+  check(await run('workbench.bench.run.threads') === 4, 'and has those that are wanted once it is made anew');
+});
+
+await part('blocked steps at each k are those that the native program has there', async () => {
+  await open('#example=bank.asl&k=0&threads=2');
+  await run("document.getElementById('seed').value = 5; document.getElementById('most').value = 160");
+  for (const name of ['R', 'b', 'B', 'B']) await key(name);
+  await browser.sleep(1500); await settled();
+  const schedule = await run('workbench.bench.run.schedule'), event = (await at())[0] - 1;
+  const shown = await run("[...document.querySelectorAll('#comparison tbody tr')].map(row => [...row.querySelectorAll('td')].map(td => td.textContent).slice(0, 9))");
+  for (let k = 0; k <= 8; k++) {
+    const lines = asl(['step', '--threads', 2, ...schedule], asl(['compile', '--k', k], readFileSync(EXAMPLES + 'bank.asl'))).toString().trim().split('\n');
+    check(Number(shown[0][k]) === lines.filter(line => line.endsWith(' blocked')).length, `k ${k}: ${shown[0][k]} blocked`);
+    check((shown[1][k] === '⊠') === lines[event].endsWith(' blocked'), `k ${k}: event ${event} ${shown[1][k]}`);
+  }
+  console.log('       blocked at k 0 to 8:', String(shown[0]), await textOf('#say .soft'));
 });
 
 await part('reasons are those of the native toolchain, of the section that is asked for', async () => {
