@@ -43,7 +43,7 @@ export class Run {
   }
   // The depth of an event's thread after it is that before the thread's next event; after its last one, that at the end.
   tellDepths() {
-    const next = this.view(this.length).threads.map(thread => thread.depth || 0);
+    const next = this.viewWithFrames(this.length).threads.map(thread => thread.depth || 0);
     for (let k = this.length - 1; k >= 0; k--) {
       const event = this.events[k];
       event.after = next[event.thread];
@@ -58,12 +58,12 @@ export class Run {
     this.tellDepths();
   }
   // Asks for position k, and for those round it that are not known, as many as may be had soon.
-  readViews(k) {
+  readViews(k, framed) {
     let from = k, to = k;
     while (k - from < this.stretch / 2 && from > 0 && !this.texts.has(from - 1)) from--;
     while (to - from < this.stretch && to < this.length && !this.texts.has(to + 1)) to++;
     const began = performance.now();
-    viewsOf(this.bytes, from, to).forEach((text, i) => {
+    viewsOf(this.bytes, from, to, framed).forEach((text, i) => {
       this.letters += text.length;
       this.texts.set(from + i, text);
     });
@@ -79,21 +79,21 @@ export class Run {
     this.letters -= this.texts.get(k).length;
     this.texts.delete(k);
   }
-  viewText(k) {
-    if (!this.texts.has(k)) this.readViews(k);
+  viewText(k, framed) {
+    if (!this.texts.has(k)) this.readViews(k, framed);
     return this.texts.get(k);
   }
-  view(k) {
+  view(k, framed = -1) {
     if (!this.states.has(k)) {
       if (this.states.size > KEPT_STATES) this.states.delete(this.states.keys().next().value);
-      this.states.set(k, readView(this.viewText(k)));
+      this.states.set(k, readView(this.viewText(k, framed)));
     }
     return this.states.get(k);
   }
   // The state with the frames of all threads; a program without calls has but one each, that of the view.
   viewWithFrames(k) {
-    const state = this.view(k);
-    if (this.calls && !state.framed) { readInto(state, framesOf(this.bytes, k)); state.framed = true; }
+    const state = this.view(k, this.calls ? k : -1);
+    if (this.calls && !state.threads.some(thread => thread.frames?.length)) readInto(state, framesOf(this.bytes, k));
     return state;
   }
   // The request of a thread at position k, and who is in the way; none where it stands at no `acq`.

@@ -34,16 +34,16 @@ export const record = (image, threads, schedule) => ask(['step', '--threads', th
 export const stepLines = (image, threads, schedule) => text(ask(['step', '--threads', threads, ...schedule], image));
 export const trace = runFile => text(ask(['log', '--trace'], runFile));
 
-// What the debugger prints at positions from..to of a recorded run, as texts.
-const LOOK = ['view', 'asks', 'objects'];
-export function viewsOf(runFile, from, to) {
-  const words = ['goto', from, ...LOOK];
-  for (let k = from; k < to; k++) words.push('forward', ...LOOK);
+// What the debugger prints at positions from..to of a recorded run, as texts, with all frames at position `framed` if it is there.
+// Frames take it longer than all the rest.
+export function viewsOf(runFile, from, to, framed) {
+  const look = k => ['view', 'asks', 'objects', ...(k === framed ? ['stack'] : [])];
+  const words = ['goto', from, ...look(from)];
+  for (let k = from + 1; k <= to; k++) words.push('forward', ...look(k));
   const answer = text(ask(['debug', ...words], runFile));
   if (answer.refusal) throw new Error('debug: ' + answer.refusal);
   return answer.text.split(/^at \d+\n/m).slice(1);
 }
-// All frames at one position; they take the debugger longer than all the rest, so they are asked of what is shown.
 export function framesOf(runFile, k) {
   const answer = text(ask(['debug', 'goto', k, 'stack'], runFile));
   if (answer.refusal) throw new Error('debug: ' + answer.refusal);

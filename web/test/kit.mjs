@@ -1,6 +1,8 @@
 // What the tests of the page share: the browser, the native program, checks that are counted, and how the page is opened.
 //   --firefox   tries the page in Firefox; a WORD is of the names of the parts to do
 import { execFileSync } from 'node:child_process';
+import { readFileSync } from 'node:fs';
+import { loadAsl } from '../asl.mjs';
 import { openChromium } from './chromium.mjs';
 import { openFirefox } from './firefox.mjs';
 import { ASL, PAGE, READY } from './paths.mjs';
@@ -10,7 +12,10 @@ const only = process.argv.slice(2).find(word => !word.startsWith('--'));
 const began = performance.now();
 let passed = 0, failed = 0;
 
-export const asl = (words, input) => execFileSync(ASL, words.map(String), { input, maxBuffer: 1 << 28 });
+const native = (words, input) => execFileSync(ASL, words.map(String), { input, maxBuffer: 1 << 28 });
+// Where no program is built, ASL may be a module, with --experimental-wasm-memory64; then the page is tried against its own toolchain.
+const byModule = call => (words, input) => Buffer.from(call(words.map(String), input).output);
+export const asl = ASL.endsWith('.wasm') ? byModule(await loadAsl(readFileSync(ASL))) : native;
 export const browser = await (options.includes('--firefox') ? openFirefox : openChromium)();
 export const { run } = browser;
 export const key = (name, shift) => browser.key(name, shift);
