@@ -1,5 +1,5 @@
 // Tests of the workbench in a browser without a window, against the native program.
-//   node --experimental-websocket web/test/page.mjs [--firefox] [WORD]       WORD: of the names of the parts to do
+//   node --experimental-websocket web/test/page.mjs [--firefox] [WORD..]     WORDs are of the names of the parts to do
 import { mkdtempSync, readFileSync, readdirSync, writeFileSync } from 'node:fs';
 import { tmpdir } from 'node:os';
 import { join } from 'node:path';
