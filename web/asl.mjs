@@ -33,7 +33,7 @@ function callerOf(wasm) {
     return result;
   };
   let room = 1 << 16; // for the output; it grows to the largest that was seen
-  return (words, input) => {
+  const call = (words, input) => {
     const list = encoder.encode(words.join('\n'));
     const bytes = typeof input === 'string' ? encoder.encode(input) : input;
     let answer = once(list, bytes, room);
@@ -41,4 +41,5 @@ function callerOf(wasm) {
     if (!answer.output) answer = once(list, bytes, room);
     return answer;
   };
+  return Object.assign(call, { memory: () => wasm.memory.buffer.byteLength });
 }

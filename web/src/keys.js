@@ -19,7 +19,10 @@ export function listenToKeys(actions) {
   document.addEventListener('keydown', event => {
     if (event.ctrlKey || event.metaKey || event.altKey || document.querySelector('dialog[open]')) return;
     const at = document.activeElement;
-    if (typing(at)) { if (event.key === 'Escape') at.blur(); return; }
+    if (typing(at)) {
+      if (event.key === 'Escape' || (event.key === 'Enter' && at.tagName === 'INPUT')) at.blur();
+      return;
+    }
     if (at && at.tagName === 'BUTTON' && (event.key === ' ' || event.key === 'Enter')) return;
     const key = event.key.length === 1 || !event.shiftKey ? event.key : 'Shift' + event.key;
     const action = /^[0-9]$/.test(key) ? () => actions.step(Number(key)) : actions[key];

@@ -5,6 +5,7 @@ const depth = (bench, thread) => bench.state.threads[thread].depth || 0;
 const wasBlocked = (bench, thread) => Boolean(bench.last) && bench.last.reply === 'blocked' && bench.last.thread === thread;
 const printed = bench => bench.run.events.slice(0, bench.position).filter(event => event.reply === 'out').map(event => event.value);
 const isIn = (bench, thread, name) => depth(bench, thread) > 0 && bench.names.functionAt(bench.state.threads[thread].pc) === name;
+const lastIn = (bench, name) => bench.names.functionAt(bench.last.pc) === name;
 // Who was in the way of event k, if it was blocked.
 const inTheWay = (bench, k) => {
   const { reply, thread } = bench.run.events[k];
@@ -29,8 +30,10 @@ export const LESSONS = [
     { text: 'Open counter.asl: can both read the same number there?', done: bench => bench.title === 'counter.asl' } ] },
   { title: 'How fine locks are', example: 'bank.asl', k: 0, threads: 2,
     about: 'Thread 0 moves money from Ann to Bob, thread 1 from Cid to Dan.', steps: [
-      { text: 'At k 0, bring one thread into transfer and make the other wait at it.',
-        done: bench => bench.k === 0 && [0, 1].some(t => isIn(bench, t, 'transfer') && wasBlocked(bench, 1 - t)) },
+      { text: 'At k 0, bring one thread into transfer and make the other wait at its atomic (line 22).',
+        done: bench => bench.k === 0
+          && [0, 1].some(t => isIn(bench, t, 'transfer') && wasBlocked(bench, 1 - t) && lastIn(bench, 'transfer')),
+        hint: 'First let both come as far as line 22: until then each opens accounts, and that waits, too.' },
       { text: 'Find the least k at which both are inside transfer at once (keys k and K).',
         done: bench => bench.k === 1 && isIn(bench, 0, 'transfer') && isIn(bench, 1, 'transfer'),
         hint: 'The table of lists shows what changes from one k to the next.' } ] },
@@ -40,8 +43,8 @@ export const LESSONS = [
       done: bench => bench.position > 1 && bench.last.reply !== 'blocked'
         && inTheWay(bench, bench.position - 2).includes(bench.last.thread) },
     { text: 'Run all threads to their end (key r).', done: ended } ] },
-  { title: 'What needs no lock', example: 'walk.asl', k: 3, threads: 2, about: 'A section makes an object of its own.', steps: [
-    { text: 'Step until an object is fresh: the heap says so.', done: hasFresh },
+  { title: 'What needs no lock', example: 'hash.asl', k: 3, threads: 2, about: 'Who comes first makes the table, in its section.', steps: [
+    { text: 'Step thread 0 until an object is fresh: the heap says so.', done: hasFresh, hint: 'Line 9 makes it.' },
     { text: 'Step until it is not fresh any more. What ended it?',
       done: bench => !hasFresh(bench) && bench.state.objects.length > bench.program.globals.length } ] },
   { title: 'A list of your own', example: 'unprotected.asm', k: 3, threads: 2, about: 'An access without a lock is a fault.', steps: [

@@ -1,6 +1,6 @@
 // Puts the workbench together: loads the toolchain, draws what changed, listens.
 
-import { byId, el, textSize } from './dom.js';
+import { byId, el, keepingFocus, textSize } from './dom.js';
 import { openToolchain, toolStatistics } from './toolchain.js';
 import { Bench, MOST_THREADS } from './bench.js';
 import { tellView } from './view.js';
@@ -16,6 +16,8 @@ import { drawThreads } from './panels/threads.js';
 import { drawHeap } from './panels/heap.js';
 import { drawEvents } from './panels/events.js';
 import { drawSections } from './panels/sections.js';
+import { drawComparison, elsewhere } from './panels/comparison.js';
+import { Comparison } from './comparison.js';
 import { drawLesson, openLesson, closeLesson, lessonNumber, lessonList } from './panels/lesson.js';
 import { whyText } from './why.js';
 import { toFragment, fromFragment, commandLines } from './share.js';
@@ -26,13 +28,15 @@ import { isDark, setDark, changeTextSize, toggleLecture, toggleInstructions, ope
 const data = id => JSON.parse(byId(id).textContent);
 const examples = data('examples');
 const bench = new Bench(changed);
+const comparison = new Comparison(bench, changed);
 const due = { frame: 0, what: new Set(), address: 0, player: 0, own: '' };
 
 // ---- drawing: once a frame, only what changed
 
 function changed(what) {
+  if (what === 'text' || what === 'run') comparison.begin();
   due.what.add(what);
-  if (!due.frame) due.frame = requestAnimationFrame(draw);
+  if (!due.frame) due.frame = requestAnimationFrame(() => keepingFocus(draw));
 }
 
 function draw() {
@@ -44,6 +48,7 @@ function draw() {
   document.body.classList.toggle('refused', Boolean(bench.refusal));
   drawPlaces(bench);
   drawLesson(bench);
+  drawComparison(bench, comparison, chooseK);
   if (bench.run) drawRun(what.size > 1 || !what.has('position'));
   else byId('say').replaceChildren(el('p', { class: 'is-fault' },
     bench.refusal ? 'The text does not compile yet: ' + bench.refusal.words : ''));
@@ -53,7 +58,8 @@ function draw() {
 
 function drawRun(whole) {
   const change = differenceAt(bench.run, bench.position);
-  byId('say').replaceChildren(el('p', {}, sentence(bench)), el('p', { class: 'soft' }, nextSentence(bench)));
+  byId('say').replaceChildren(el('p', {}, sentence(bench, openWhy)),
+    el('p', { class: 'soft' }, elsewhere(bench, comparison), nextSentence(bench)));
   byId('position').textContent = `after ${bench.position} of ${bench.run.length} events`;
   const slide = byId('slide');
   slide.max = bench.run.length;
@@ -76,7 +82,8 @@ function drawSettings() {
   byId('k').value = bench.k;
   byId('k').disabled = bench.kind !== 'asl';
   byId('threads-wanted').value = bench.threads;
-  byId('example').value = '';
+  const chosen = document.activeElement === byId('example') && examples[bench.title];
+  byId('example').value = chosen ? bench.title : '';
   byId('title').textContent = bench.title;
   byId('changed').hidden = !(examples[bench.title] && examples[bench.title].text !== bench.text);
   document.title = bench.title + ' · asl workbench';
@@ -188,9 +195,9 @@ function listenToButtons() {
       open: () => byId('file').click() };
   for (const [id, action] of Object.entries(actions)) byId(id).addEventListener('click', action);
   byId('slide').addEventListener('input', event => bench.go(Number(event.target.value)));
-  byId('example').addEventListener('change',
-    event => { if (event.target.value) loadExample(event.target.value); event.target.blur(); });
-  byId('k').addEventListener('change', event => { chooseK(Number(event.target.value)); event.target.blur(); });
+  byId('example').addEventListener('change', event => { if (event.target.value) loadExample(event.target.value); leave(event); });
+  byId('example').addEventListener('blur', event => { event.target.value = ''; });
+  byId('k').addEventListener('change', event => { chooseK(Number(event.target.value)); leave(event); });
   byId('threads-wanted').addEventListener('change', event => bench.setThreads(Number(event.target.value)));
   byId('file').addEventListener('change', event => loadFiles(event.target.files));
   byId('strip').addEventListener('click',
@@ -198,6 +205,8 @@ function listenToButtons() {
     bench.go(Math.round(((event.clientX - box.left) / box.width) * events().length)); });
 }
 
+// After a choice by the mouse the keys are the workbench's again; by keyboard one goes on choosing, and leaves by Escape.
+const leave = ({ target }) => { if (!target.matches(':focus-visible')) target.blur(); };
 const resize = by => { changeTextSize(by); changed('size'); };
 
 function listenToKeyboard() {

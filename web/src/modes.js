@@ -1,5 +1,7 @@
 // What a thread that holds a mode does (docs/LOCKS.md, "Modes"), in words.
 
+// The same in a word or three, for a sentence.
+export const BRIEFLY = { IS: 'read below', IX: 'write below', S: 'read', SIX: 'read all, write below', X: 'write' };
 export const MEANING = {
   IS: 'will read below', IX: 'will read and write below', S: 'reads all that is below',
   SIX: 'reads all that is below, and will write some of it', X: 'writes all that is below',

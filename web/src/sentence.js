@@ -3,47 +3,52 @@
 import { el, chip } from './dom.js';
 import { differenceAt } from './difference.js';
 import { sectionAt } from './stretches.js';
-import { functionAt } from './program.js';
+import { listAt } from './program.js';
+import { BRIEFLY } from './modes.js';
 
 const strong = words => el('b', {}, words);
 const code = words => el('code', {}, words);
 
-export function sentence(bench) {
+export function sentence(bench, openWhy) {
   if (!bench.position) return start(bench);
   const event = bench.last, k = bench.position - 1;
   const told = [strong(`Event ${k}: `), chip(event.thread), ' '];
   if (event.reply === 'ended') return [...told, 'had ended before; nothing happens.'];
-  if (event.reply === 'blocked') return [...told, ...blocked(bench, k, event)];
-  told.push(code(bench.names.statement(event.pc)), ` (${bench.names.where(event.pc)}) `);
+  if (event.reply === 'blocked') return [...told, ...blocked(bench, k, event, openWhy)];
+  told.push(code(bench.names.statement(event.pc)), ` (${bench.names.where(event.pc)}): `);
   if (event.reply === 'fault') return [...told, ...fault(bench, event, k)];
   return [...told, ...ran(bench, event), '.'];
 }
 
 function start(bench) {
-  const threads = bench.threads === 1 ? 'One thread stands' : `${bench.threads} threads stand`;
-  const last = Math.min(bench.threads, 10) - 1;
-  const keys = last ? [el('kbd', {}, '0'), ' to ', el('kbd', {}, String(last))] : [el('kbd', {}, '0')];
+  const threads = bench.run.threads === 1 ? 'One thread stands' : `${bench.run.threads} threads stand`;
+  const last = Math.min(bench.run.threads, 10) - 1;
+  const keys = last ? [el('kbd', {}, '0'), last > 1 ? ' to ' : ' or ', el('kbd', {}, String(last))] : [el('kbd', {}, '0')];
   return [strong('Start. '), threads, ' at the entry of ', code(bench.names.function(bench.program.entry)),
     '. Press ', keys, ' or click a lane’s head to step a thread.'];
 }
 
 // T1 blocked at atomic (line 6): it asks X at leaf 0.0 (count) ..
-function blocked(bench, k, event) {
+function blocked(bench, k, event, openWhy) {
   const told = [el('span', { class: 'is-blocked' }, '⊠ blocked'), ' at ', code(bench.names.statement(event.pc)),
     ` (${bench.names.where(event.pc)})`];
   const { clashes } = bench.run.request(k, event.thread);
   if (!clashes.length) return [...told, '.'];
   const { thread, node, asks, holds } = clashes[0];
-  told.push(': it asks ', strong(asks), ' at ', strong(bench.names.node(node)));
-  told.push('; ', chip(thread), ' holds ', strong(holds), ' there');
+  told.push(': it asks ', strong(asks), ` (${BRIEFLY[asks]}) at `, strong(bench.names.node(node)), ' ', whyLink(bench, event, openWhy));
+  told.push('; ', chip(thread), ' holds ', strong(holds), ` (${BRIEFLY[holds]}) there`);
   const since = sectionAt(bench.stretches, thread, k);
   if (since) told.push(' ', el('button',
-    { class: 'link', title: 'To the event that took it (h)', onclick: () => bench.go(since.from + 1) },
+    { class: 'link', 'data-keep': 'since', title: 'To the event that took it (h)', onclick: () => bench.go(since.from + 1) },
     'since event ' + since.from));
   const more = new Set(clashes.map(c => c.thread)).size - 1;
   if (more) told.push(` (and ${more} more in the way)`);
   return [...told, '. Nothing changed; it must try again.'];
 }
+
+// Why the list of the section asks that, which is known of a source.
+const whyLink = (bench, event, openWhy) => (bench.kind !== 'asl' ? '' : el('button', { class: 'link', 'data-keep': 'why-it-asks',
+  title: 'Why this section needs that lock (x)', onclick: () => openWhy(listAt(bench.program, event.pc)) }, 'why'));
 
 const FAULTS = {
   Type: 'an operand is of the wrong kind: a number where an address is needed, or the other way round',
@@ -110,7 +115,9 @@ function entering(bench, event, change) {
 
 export function nextSentence(bench) {
   const { next, names } = bench;
-  if (!next) return bench.position ? ['End of the recorded steps.'] : [];
+  if (!next && !bench.position && bench.run.threads > 1) return ['To see a thread wait, press ', el('kbd', {}, 'n'),
+    ' or “Until blocked”: the threads step in turn until one must.'];
+  if (!next) return bench.position ? ['The run ends here; step any thread to go on.'] : [];
   return ['Next: ', chip(next.thread), ' ',
     next.pc >= 0 ? [code(names.statement(next.pc)), ` (${names.where(next.pc)})`] : 'once more, though it has ended'];
 }

@@ -6,7 +6,7 @@ const decoder = new TextDecoder();
 const tool = { call: null, calls: 0, milliseconds: 0 };
 
 export const openToolchain = async base64 => { tool.call = await loadTool(base64); };
-export const toolStatistics = () => ({ calls: tool.calls, milliseconds: tool.milliseconds });
+export const toolStatistics = () => ({ calls: tool.calls, milliseconds: tool.milliseconds, bytes: tool.call.memory() });
 
 function ask(words, input) {
   const began = performance.now();
@@ -30,14 +30,22 @@ export const assemble = source => ask(['asm'], source);
 export const disassemble = image => text(ask(['dis'], image));
 export const record = (image, threads, schedule) => ask(['step', '--threads', threads, '--record', ...schedule], image);
 
+// The lines of the steps themselves: `INDEX THREAD REPLY`.
+export const stepLines = (image, threads, schedule) => text(ask(['step', '--threads', threads, ...schedule], image));
 export const trace = runFile => text(ask(['log', '--trace'], runFile));
 
-// What the debugger prints at positions from..to of a recorded run, as texts.
-const LOOK = ['view', 'asks', 'stack', 'objects'];
-export function viewsOf(runFile, from, to) {
-  const words = ['goto', from, ...LOOK];
-  for (let k = from; k < to; k++) words.push('forward', ...LOOK);
+// What the debugger prints at positions from..to of a recorded run, as texts, with all frames at position `framed` if it is there.
+// Frames take it longer than all the rest.
+export function viewsOf(runFile, from, to, framed) {
+  const look = k => ['view', 'asks', 'objects', ...(k === framed ? ['stack'] : [])];
+  const words = ['goto', from, ...look(from)];
+  for (let k = from + 1; k <= to; k++) words.push('forward', ...look(k));
   const answer = text(ask(['debug', ...words], runFile));
   if (answer.refusal) throw new Error('debug: ' + answer.refusal);
   return answer.text.split(/^at \d+\n/m).slice(1);
+}
+export function framesOf(runFile, k) {
+  const answer = text(ask(['debug', 'goto', k, 'stack'], runFile));
+  if (answer.refusal) throw new Error('debug: ' + answer.refusal);
+  return answer.text.replace(/^at \d+\n/, '');
 }

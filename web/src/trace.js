@@ -14,4 +14,5 @@ function eventOf(line) {
   return { thread: Number(thread), pc: pc === '-' ? -1 : Number(pc), depth: depth === '-' ? 0 : Number(depth), ...replyOf(reply) };
 }
 
-export const readTrace = text => (text ? text.trimEnd().split('\n').map(eventOf) : []);
+// The events from number `from` on.
+export const readTrace = (text, from = 0) => (text ? text.trimEnd().split('\n').slice(from).map(eventOf) : []);

@@ -39,13 +39,18 @@ const LINES = {
 const RANK = { leaf: 0, class: 1, root: 2 };
 const rank = ({ node }) => RANK[node.split(' ')[0]];
 
-export function readView(text) {
-  const state = { threads: [], objects: [], classes: [], requests: new Map() };
-  for (const line of text.trimEnd().split('\n')) {
+export function readInto(state, text) {
+  for (const line of text.split('\n')) {
+    if (!line) continue;
     const words = line.split(' ');
     if (!Object.hasOwn(LINES, words[0])) throw new Error('the debugger prints a line that is not known: ' + line);
     LINES[words[0]](state, words);
   }
+}
+
+export function readView(text) {
+  const state = { threads: [], objects: [], classes: [], requests: new Map() };
+  readInto(state, text);
   for (const { clashes } of state.requests.values()) clashes.sort((a, b) => rank(a) - rank(b));
   return state;
 }

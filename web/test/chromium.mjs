@@ -8,6 +8,14 @@ import { join } from 'node:path';
 const sleep = ms => new Promise(done => setTimeout(done, ms));
 const OPTIONS = ['--headless=new', '--no-sandbox', '--disable-gpu', '--hide-scrollbars', '--remote-debugging-port=0'];
 
+// The numbers and the texts of keys that are no letters.
+const NAMED = { Tab: [9], Enter: [13, '\r'], Escape: [27], ' ': [32, ' '], End: [35], Home: [36], ArrowLeft: [37], ArrowUp: [38],
+  ArrowRight: [39], ArrowDown: [40], Delete: [46] };
+const keyOf = key => {
+  const [windowsVirtualKeyCode, text] = NAMED[key] || [key.toUpperCase().charCodeAt(0), key];
+  return { key, windowsVirtualKeyCode, text };
+};
+
 const portOf = child => new Promise((done, fail) => {
   let said = '';
   child.stderr.on('data', text => {
@@ -53,6 +61,7 @@ export async function openChromium(binary = process.env.CHROMIUM || 'chromium') 
     if (method === 'Log.entryAdded' && params.entry.level === 'error') errors.push(params.entry.text);
     if (method === 'Network.requestWillBeSent') requests.push(params.request.url);
   });
+  const version = (await send('Browser.getVersion')).result.product.split('/')[1];
   for (const domain of ['Page', 'Runtime', 'Log', 'Network']) await send(domain + '.enable');
   const run = async expression => {
     const { result } = await send('Runtime.evaluate', { expression, awaitPromise: true, returnByValue: true });
@@ -61,7 +70,7 @@ export async function openChromium(binary = process.env.CHROMIUM || 'chromium') 
   };
   const frames = () => run('new Promise(done => requestAnimationFrame(() => requestAnimationFrame(() => setTimeout(done))))');
   return {
-    errors, requests, send, run, sleep, frames,
+    name: 'Chromium ' + version, errors, requests, send, run, sleep, frames,
     size: (width, height, scale = 1) => send('Emulation.setDeviceMetricsOverride', { width, height, deviceScaleFactor: scale, mobile: false }),
     media: (dark, media = '') => send('Emulation.setEmulatedMedia', { media, features: [{ name: 'prefers-color-scheme', value: dark ? 'dark' : 'light' }] }),
     vision: type => send('Emulation.setEmulatedVisionDeficiency', { type }),
@@ -76,12 +85,14 @@ export async function openChromium(binary = process.env.CHROMIUM || 'chromium') 
       for (const type of ['mousePressed', 'mouseReleased'])
         await send('Input.dispatchMouseEvent', { type, x, y, button: 'left', clickCount: 1 });
     },
-    async key(key, shift = false) {
-      const text = key.length === 1 ? key : undefined, modifiers = shift ? 8 : 0;
-      await send('Input.dispatchKeyEvent', { type: 'keyDown', key, code: key, modifiers, text });
-      await send('Input.dispatchKeyEvent', { type: 'keyUp', key, code: key, modifiers });
-      await frames();
+    // A key goes down and up; `strike` does not wait for the page to be painted.
+    async strike(key, shift = false) {
+      const named = keyOf(key === '\n' ? 'Enter' : key), modifiers = shift ? 8 : 0;
+      await send('Input.dispatchKeyEvent', { type: named.text ? 'keyDown' : 'rawKeyDown', ...named, modifiers });
+      await send('Input.dispatchKeyEvent', { type: 'keyUp', ...named, text: undefined, modifiers });
     },
+    async key(key, shift = false) { await this.strike(key, shift); await frames(); },
+    async typed(text) { for (const letter of text) await this.strike(letter); await frames(); },
     async picture(path, whole = false) {
       const { result } = await send('Page.captureScreenshot', { format: 'png', captureBeyondViewport: whole });
       writeFileSync(path, Buffer.from(result.data, 'base64'));

@@ -6,7 +6,8 @@ import { tmpdir } from 'node:os';
 import { join } from 'node:path';
 
 const sleep = ms => new Promise(done => setTimeout(done, ms));
-const KEYS = { ArrowLeft: '\uE012', ArrowRight: '\uE014', Home: '\uE011', End: '\uE010', Escape: '\uE00C', Enter: '\uE007', ' ': ' ' };
+const KEYS = { Tab: '\uE004', Enter: '\uE006', '\n': '\uE006', Escape: '\uE00C', End: '\uE010', Home: '\uE011', ArrowLeft: '\uE012',
+  ArrowUp: '\uE013', ArrowRight: '\uE014', ArrowDown: '\uE015', Delete: '\uE017' };
 
 async function addressOf(child) {
   return new Promise((done, fail) => {
@@ -51,9 +52,10 @@ export async function openFirefox(binary = process.env.FIREFOX || 'firefox-esr')
     if (told.method === 'log.entryAdded' && told.params.level === 'error') errors.push(told.params.text);
     if (told.method === 'network.beforeRequestSent') requests.push(told.params.request.url);
   });
-  await send('session.new', { capabilities: {} });
+  const { capabilities } = (await send('session.new', { capabilities: {} })).result;
   await send('session.subscribe', { events: ['log.entryAdded', 'network.beforeRequestSent'] });
-  const { context } = (await send('browsingContext.getTree', {})).result.contexts[0];
+  // The first window never has the focus, without which no key presses a button; one that is made has it.
+  const { context } = (await send('browsingContext.create', { type: 'window' })).result;
   const run = async expression => {
     const { result, error, message } = await send('script.evaluate', { expression, target: { context }, awaitPromise: true });
     if (error) throw new Error(message);
@@ -63,7 +65,7 @@ export async function openFirefox(binary = process.env.FIREFOX || 'firefox-esr')
   const frames = () => run('new Promise(done => requestAnimationFrame(() => requestAnimationFrame(() => setTimeout(done))))');
   const press = (type, actions) => send('input.performActions', { context, actions: [{ type, id: type, actions }] });
   return {
-    errors, requests, run, sleep, frames,
+    name: 'Firefox ' + capabilities.browserVersion, errors, requests, run, sleep, frames,
     size: (width, height) => send('browsingContext.setViewport', { context, viewport: { width, height } }),
     media: async () => {},
     async insertText(text) {
@@ -79,10 +81,13 @@ export async function openFirefox(binary = process.env.FIREFOX || 'firefox-esr')
       for (let i = 0; i < 200; i++) { if (await run(ready).catch(() => false)) return; await sleep(50); }
       throw new Error('not ready: ' + url + ' ' + errors.join('; '));
     },
-    async key(key, shift = false) {
-      const value = KEYS[key] || key, hold = shift ? [{ type: 'keyDown', value: '\uE008' }] : [];
-      const let_go = shift ? [{ type: 'keyUp', value: '\uE008' }] : [];
-      await press('key', [...hold, { type: 'keyDown', value }, { type: 'keyUp', value }, ...let_go]);
+    async strike(key, shift = false) {
+      const value = KEYS[key] || key, hold = type => (shift ? [{ type, value: '\uE008' }] : []);
+      await press('key', [...hold('keyDown'), { type: 'keyDown', value }, { type: 'keyUp', value }, ...hold('keyUp')]);
+    },
+    async key(key, shift = false) { await this.strike(key, shift); await frames(); },
+    async typed(text) {
+      await press('key', [...text].map(letter => KEYS[letter] || letter).flatMap(value => [{ type: 'keyDown', value }, { type: 'keyUp', value }]));
       await frames();
     },
     async picture(path) {

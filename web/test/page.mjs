@@ -1,33 +1,16 @@
 // Tests of the workbench in a browser without a window, against the native program.
-//   node --experimental-websocket web/test/page.mjs [--firefox] [WORD]       WORD: of the names of the parts to do
-import { execFileSync } from 'node:child_process';
-import { readFileSync, readdirSync } from 'node:fs';
-import { openChromium } from './chromium.mjs';
-import { openFirefox } from './firefox.mjs';
-import { ASL, EXAMPLES, PAGE, READY } from './paths.mjs';
+//   node --experimental-websocket web/test/page.mjs [--firefox] [WORD..]     WORDs are of the names of the parts to do
+import { mkdtempSync, readFileSync, readdirSync, writeFileSync } from 'node:fs';
+import { tmpdir } from 'node:os';
+import { join } from 'node:path';
+import { fileURLToPath } from 'node:url';
+import { asl, at, browser, check, finish, hasMemory64, key, open, part, run, settled, textOf } from './kit.mjs';
+import { EXAMPLES, PAGE } from './paths.mjs';
 
-const options = process.argv.slice(2).filter(word => word.startsWith('--'));
-const only = process.argv.slice(2).find(word => !word.startsWith('--'));
-const asl = (words, input) => execFileSync(ASL, words.map(String), { input, maxBuffer: 1 << 28 });
-const browser = await (options.includes('--firefox') ? openFirefox : openChromium)();
-const { run, key } = browser;
-let passed = 0, failed = 0;
-
-function check(is, words) { if (is) passed++; else if (++failed <= 12) console.log('FAILED', words); }
-async function part(name, work) {
-  if (only && !name.includes(only)) return;
-  const began = performance.now(), before = failed;
-  try { await work(); } catch (error) { failed++; console.log('FAILED', name, error); }
-  console.log(failed === before ? 'ok    ' : 'BAD   ', name, Math.round(performance.now() - began) + ' ms');
-}
-const open = (fragment = '') => browser.open(PAGE + fragment, READY);
-const count = k => `workbench.bench.${k}`;
-const settled = async () => { await browser.sleep(150); await browser.frames(); };
 const type = async text => {
   await run(`(() => { const t = document.getElementById('text'); t.value = ${JSON.stringify(text)}; t.dispatchEvent(new Event('input')); })()`);
   await browser.sleep(200); await browser.frames();
 };
-const at = () => run('[workbench.bench.position, workbench.bench.run.length]');
 
 // What the page shows, read from its elements, in the lines of `view`.
 const SHOWN = `(() => { const all = name => [...document.querySelectorAll('[data-' + name + ']')].map(e => e.dataset[name]);
@@ -40,6 +23,16 @@ const viewLines = text => text.trim().split('\n').filter(l => !l.startsWith('at 
 await browser.size(1400, 1000);
 await browser.media(false);
 
+await part('a browser that cannot run the module is told so', async () => {
+  const page = join(mkdtempSync(join(tmpdir(), 'workbench-')), 'broken.html');
+  const whole = readFileSync(fileURLToPath(PAGE), 'utf8');
+  writeFileSync(page, whole.replace(/(id="wasm">)[^<]*/, '$1' + 'AGFzbQ=='));
+  await browser.open(await hasMemory64() ? 'file://' + page : PAGE, "document.querySelector('#say .is-fault') !== null");
+  check(/cannot start here.*It needs .*Chrome or Edge from 133, Firefox from 134/.test(await textOf('#say')), await textOf('#say'));
+  browser.errors.length = 0;
+});
+if (!await hasMemory64()) { console.log(browser.name, 'has no 64-bit memories: nothing else is tried'); await finish(); }
+
 await part('loads without script errors and without network', async () => {
   browser.requests.length = 0;
   await open();
@@ -49,6 +42,9 @@ await part('loads without script errors and without network', async () => {
   check(browser.errors.length === 0, 'errors ' + browser.errors);
   const blocked = await run("fetch('https://example.com/').then(() => 'got', () => 'refused')");
   check(blocked === 'refused', 'the policy lets fetch through');
+  await settled();
+  const others = browser.errors.filter(text => !/example\.com/.test(text));
+  check(others.length === 0, 'errors ' + others);
   browser.errors.length = 0;
 });
 
@@ -178,7 +174,7 @@ await part('keys', async () => {
   await open('#example=queue.asl&k=3&threads=3');
   await key('n');
   check(await run("workbench.bench.last.reply === 'blocked'"), 'n: until blocked');
-  check(await run("/blocked.*it asks X at leaf/.test(document.getElementById('say').textContent)"), 'sentence of the blocked step');
+  check(await run("/blocked.*it asks X \\(write\\) at leaf/.test(document.getElementById('say').textContent)"), 'sentence of the blocked step');
   check(await run("document.querySelectorAll('#locks .mode.clash').length > 0 && document.querySelectorAll('#locks .wish.no').length > 0"), 'the clash is framed');
   const [blocked] = await at();
   await key('h');
@@ -220,6 +216,30 @@ await part('refusals are shown at their place', async () => {
   check(await run("document.getElementById('complaint').hidden") && await run('workbench.bench.run.length') === 4, 'compiles again, and the schedule is kept');
   await type('fn main(t) { p = &g; x = *p; return t; } global g;');
   check(await run("document.getElementById('complaint').textContent.includes('no section is open')"), 'access outside a section');
+});
+
+await part('more threads while a text is refused', async () => {
+  await open('#example=counter.asl&k=3&threads=2&steps=0011&at=4');
+  await type('fn main(t) {');
+  for (const name of ['t', 't', '2', 'ArrowLeft', 'n']) await key(name);
+  check(await run('workbench.bench.threads') === 4 && await run('workbench.bench.run.threads') === 2, 'the run keeps its threads');
+  await type(readFileSync(EXAMPLES + 'counter.asl', 'utf8'));
+  check(await run('workbench.bench.run.threads') === 4, 'and has those that are wanted once it is made anew');
+});
+
+await part('blocked steps at each k are those that the native program has there', async () => {
+  await open('#example=bank.asl&k=0&threads=2');
+  await run("document.getElementById('seed').value = 5; document.getElementById('most').value = 160");
+  for (const name of ['R', 'b', 'B', 'B']) await key(name);
+  await browser.sleep(1500); await settled();
+  const schedule = await run('workbench.bench.run.schedule'), event = (await at())[0] - 1;
+  const shown = await run("[...document.querySelectorAll('#comparison tbody tr')].map(row => [...row.querySelectorAll('td')].map(td => td.textContent).slice(0, 9))");
+  for (let k = 0; k <= 8; k++) {
+    const lines = asl(['step', '--threads', 2, ...schedule], asl(['compile', '--k', k], readFileSync(EXAMPLES + 'bank.asl'))).toString().trim().split('\n');
+    check(Number(shown[0][k]) === lines.filter(line => line.endsWith(' blocked')).length, `k ${k}: ${shown[0][k]} blocked`);
+    check((shown[1][k] === '⊠') === lines[event].endsWith(' blocked'), `k ${k}: event ${event} ${shown[1][k]}`);
+  }
+  console.log('       blocked at k 0 to 8:', String(shown[0]), await textOf('#say .soft'));
 });
 
 await part('reasons are those of the native toolchain, of the section that is asked for', async () => {
@@ -285,26 +305,5 @@ await part('no sideways scrolling at 420 px', async () => {
   await browser.size(1400, 1000);
 });
 
-// how long things take is only shown, and left out where fewer positions are looked at
-if (!process.env.STEPS) await part('times', async () => {
-  const median = list => [...list].sort((a, b) => a - b)[list.length >> 1], high = list => [...list].sort((a, b) => a - b)[Math.floor(list.length * 0.95)];
-  const ready = [];
-  for (let i = 0; i < 5; i++) { await open(); ready.push(await run('workbench.ready')); }
-  console.log(`       ready with WebAssembly: median ${median(ready).toFixed(0)} ms`);
-  for (const [name, threads, steps] of [['counter.asl', 2, 12], ['hash.asl', 3, 200], ['tree.asl', 8, 1000], ['tree.asl', 64, 2000]]) {
-    await open(`#example=${name}&k=3&threads=${threads}`);
-    const made = await run(`(async () => { const t = performance.now(); document.getElementById('most').value = ${steps}; document.getElementById('random').click(); await new Promise(d => requestAnimationFrame(() => setTimeout(d))); return performance.now() - t; })()`);
-    const [, length] = await at();
-    const press = (key, n) => run(`(async () => { const out = []; for (let i = 0; i < ${n}; i++) { const t = performance.now(); document.dispatchEvent(new KeyboardEvent('keydown', { key: '${key}' })); await new Promise(d => requestAnimationFrame(() => setTimeout(d))); out.push(performance.now() - t); } return out; })()`);
-    const back = await press('ArrowLeft', 25), again = await press('ArrowRight', 25);
-    await run(`workbench.bench.go(${length - 1})`); await browser.frames();
-    const step = []; for (let i = 0; i < 8; i++) step.push(...await press(String(i % Math.min(threads, 8)), 1));
-    const moves = [...back, ...again];
-    console.log(`       ${name}, ${threads} threads, ${length} events: made and drawn in ${made.toFixed(0)} ms; key to painted frame, move: median ${median(moves).toFixed(0)}, 95 % ${high(moves).toFixed(0)} ms; new step: median ${median(step).toFixed(0)}, most ${Math.max(...step).toFixed(0)} ms`);
-  }
-});
-
-check(browser.errors.length === 0, 'script errors: ' + browser.errors.slice(0, 3).join('; '));
-console.log(`${passed} checks passed, ${failed} failed`);
-await browser.close();
-process.exit(failed ? 1 : 0);
+await import('./lessons.mjs');
+await finish();

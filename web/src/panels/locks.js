@@ -25,14 +25,14 @@ export function drawLocks(bench) {
 // Threads that wait at the position, with what they ask for now.
 function waitingRequests(bench) {
   const waits = new Map();
-  for (let t = 0; t < bench.threads; t++) if (waitAt(bench.stretches, t, bench.position)) waits.set(t,
+  for (let t = 0; t < bench.run.threads; t++) if (waitAt(bench.stretches, t, bench.position)) waits.set(t,
     bench.run.request(bench.position, t));
   return waits;
 }
 
 function columns(bench, waits) {
   const all = bench.state.threads.map((_, t) => t);
-  if (bench.threads <= 8) return all;
+  if (bench.run.threads <= 8) return all;
   const acted = bench.last ? bench.last.thread : -1;
   const inTheWay = waits.has(acted) ? waits.get(acted).clashes.map(c => c.thread) : [];
   const rank = t => (t === acted ? 0 : inTheWay.includes(t) ? 1 : bench.state.threads[t].held.size ? 2 : 3);

@@ -4,7 +4,7 @@ import { byId, el, chip, threadColour, count } from '../dom.js';
 import { waitAt } from '../stretches.js';
 
 export function drawThreads(bench, change) {
-  const { threads } = bench.state;
+  const { threads } = bench.run.viewWithFrames(bench.position);
   const rest = [], boxes = [];
   threads.forEach((thread, t) => {
     const near = (bench.last && bench.last.thread === t) || (bench.next && bench.next.thread === t);

@@ -1,0 +1,44 @@
+// What the tests of the page share: the browser, the native program, checks that are counted, and how the page is opened.
+//   --firefox   tries the page in Firefox; WORDs are of the names of the parts to do
+import { execFileSync } from 'node:child_process';
+import { readFileSync } from 'node:fs';
+import { loadAsl } from '../asl.mjs';
+import { openChromium } from './chromium.mjs';
+import { openFirefox } from './firefox.mjs';
+import { ASL, PAGE, READY } from './paths.mjs';
+
+const options = process.argv.slice(2).filter(word => word.startsWith('--'));
+const only = process.argv.slice(2).filter(word => !word.startsWith('--'));
+const began = performance.now();
+let passed = 0, failed = 0;
+
+const native = (words, input) => execFileSync(ASL, words.map(String), { input, maxBuffer: 1 << 28 });
+// Where no program is built, ASL may be a module, with --experimental-wasm-memory64; then the page is tried against its own toolchain.
+const byModule = call => (words, input) => Buffer.from(call(words.map(String), input).output);
+export const asl = ASL.endsWith('.wasm') ? byModule(await loadAsl(readFileSync(ASL))) : native;
+export const browser = await (options.includes('--firefox') ? openFirefox : openChromium)();
+export const { run } = browser;
+export const key = (name, shift) => browser.key(name, shift);
+
+export function check(is, words) { if (is) passed++; else if (++failed <= 12) console.log('FAILED', words); }
+export async function part(name, work) {
+  if (only.length && !only.some(word => name.includes(word))) return;
+  const start = performance.now(), before = failed;
+  try { await work(); } catch (error) { failed++; console.log('FAILED', name, error); }
+  console.log(failed === before ? 'ok    ' : 'BAD   ', name, Math.round(performance.now() - start) + ' ms');
+}
+
+export const open = (fragment = '') => browser.open(PAGE + fragment, READY);
+export const settled = async () => { await browser.sleep(150); await browser.frames(); };
+export const at = () => run('[workbench.bench.position, workbench.bench.run.length]');
+export const textOf = selector => run(`document.querySelector(${JSON.stringify(selector)})?.textContent || ''`);
+// A module with a memory of 64-bit addresses and nothing else.
+export const hasMemory64 = () => run('WebAssembly.validate(new Uint8Array([0, 97, 115, 109, 1, 0, 0, 0, 5, 3, 1, 4, 1]))');
+
+export async function finish() {
+  check(browser.errors.length === 0, 'script errors: ' + browser.errors.slice(0, 3).join('; '));
+  const seconds = Math.round((performance.now() - began) / 1000);
+  console.log(`${browser.name}: ${passed} checks passed, ${failed} failed, in ${seconds} s`);
+  await browser.close();
+  process.exit(failed ? 1 : 0);
+}
