@@ -3,4 +3,6 @@ mod Under
 mod Confirming
 mod Analysing
 mod Needing
+mod Ending
 mod Explaining
+mod Pieces
