@@ -1,5 +1,5 @@
 // What the tests of the page share: the browser, the native program, checks that are counted, and how the page is opened.
-//   --firefox   tries the page in Firefox; a WORD is of the names of the parts to do
+//   --firefox   tries the page in Firefox; WORDs are of the names of the parts to do
 import { execFileSync } from 'node:child_process';
 import { readFileSync } from 'node:fs';
 import { loadAsl } from '../asl.mjs';
@@ -8,7 +8,7 @@ import { openFirefox } from './firefox.mjs';
 import { ASL, PAGE, READY } from './paths.mjs';
 
 const options = process.argv.slice(2).filter(word => word.startsWith('--'));
-const only = process.argv.slice(2).find(word => !word.startsWith('--'));
+const only = process.argv.slice(2).filter(word => !word.startsWith('--'));
 const began = performance.now();
 let passed = 0, failed = 0;
 
@@ -22,7 +22,7 @@ export const key = (name, shift) => browser.key(name, shift);
 
 export function check(is, words) { if (is) passed++; else if (++failed <= 12) console.log('FAILED', words); }
 export async function part(name, work) {
-  if (only && !name.includes(only)) return;
+  if (only.length && !only.some(word => name.includes(word))) return;
   const start = performance.now(), before = failed;
   try { await work(); } catch (error) { failed++; console.log('FAILED', name, error); }
   console.log(failed === before ? 'ok    ' : 'BAD   ', name, Math.round(performance.now() - start) + ' ms');
