@@ -43,12 +43,12 @@ function draw() {
   due.frame = 0;
   const { what } = due;
   due.what = new Set();
+  if (what.size === 1 && what.has('comparison')) return drawSentences();
   if (what.has('text') || what.has('size')) { drawText(bench, openWhy); drawSections(bench, openWhy, chooseK); drawSettings(); }
   document.body.classList.toggle('no-run', !bench.run);
   document.body.classList.toggle('refused', Boolean(bench.refusal));
   drawPlaces(bench);
   drawLesson(bench);
-  drawComparison(bench, comparison, chooseK);
   if (bench.run) drawRun(what.size > 1 || !what.has('position'));
   else byId('say').replaceChildren(el('p', { class: 'is-fault' },
     bench.refusal ? 'The text does not compile yet: ' + bench.refusal.words : ''));
@@ -56,10 +56,15 @@ function draw() {
   due.address = setTimeout(writeAddress, 250);
 }
 
+function drawSentences() {
+  drawComparison(bench, comparison, chooseK);
+  if (bench.run) byId('say').replaceChildren(el('p', {}, sentence(bench, openWhy)),
+    el('p', { class: 'soft' }, elsewhere(bench, comparison), nextSentence(bench)));
+}
+
 function drawRun(whole) {
   const change = differenceAt(bench.run, bench.position);
-  byId('say').replaceChildren(el('p', {}, sentence(bench, openWhy)),
-    el('p', { class: 'soft' }, elsewhere(bench, comparison), nextSentence(bench)));
+  drawSentences();
   byId('position').textContent = `after ${bench.position} of ${bench.run.length} events`;
   const slide = byId('slide');
   slide.max = bench.run.length;

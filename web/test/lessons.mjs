@@ -75,7 +75,18 @@ await part('the six lessons, each to its end, by keys alone', async () => {
   }
 });
 
-await part('each control is reached by Tab, and pressing one keeps the focus there', async () => {
+await part('each control that is pressed keeps the focus', async () => {
+  await open('#example=counter.asl&k=3&threads=2');
+  check(await tabTo('[data-step="1"]') >= 0, 'a lane is reached');
+  for (const name of ['Enter', ' ', 'Enter']) await key(name);
+  check(await run("document.activeElement.dataset.step === '1'") && await run("workbench.bench.run.length") === 3, 'a lane keeps the focus, and steps');
+  check(await tabTo('#sections button.k') >= 0, 'a k is reached');
+  await key('Enter'); await settled();
+  check(await run("document.activeElement.matches('button.k') && workbench.bench.k === 0"), 'a k keeps the focus, and is chosen');
+});
+
+// The last part: behind the last control the keys may be the browser's own.
+await part('each control is reached by Tab', async () => {
   await open('#example=counter.asl&k=3&threads=2');
   const wanted = await run(`[...document.querySelectorAll('button,select,input,textarea,summary')].filter(e => !e.disabled && e.checkVisibility())
     .map((e, i) => { e.dataset.tried = i; return i; })`);
@@ -87,11 +98,4 @@ await part('each control is reached by Tab, and pressing one keeps the focus the
   }
   const missed = wanted.filter(i => !seen.has(i));
   check(missed.length === 0, 'not reached: ' + await run(`${JSON.stringify(missed)}.map(i => document.querySelector('[data-tried="' + i + '"]').outerHTML.slice(0, 80)).join()`));
-  await open('#example=counter.asl&k=3&threads=2'); // behind the last control the keys may be the browser's
-  check(await tabTo('[data-step="1"]') >= 0, 'a lane is reached');
-  for (const name of ['Enter', ' ', 'Enter']) await key(name);
-  check(await run("document.activeElement.dataset.step === '1'") && await run("workbench.bench.run.length") === 3, 'a lane keeps the focus, and steps');
-  check(await tabTo('#sections button.k') >= 0, 'a k is reached');
-  await key('Enter'); await settled();
-  check(await run("document.activeElement.matches('button.k') && workbench.bench.k === 0"), 'a k keeps the focus, and is chosen');
 });

@@ -260,7 +260,8 @@ await part('reasons are those of the native toolchain, of the section that is as
 await part('a share link restores everything', async () => {
   await open('#example=bank.asl&k=1&threads=3');
   await type((await run('workbench.bench.text')).replace('hundred = 100', 'hundred = 250'));
-  await key('R'); await run('workbench.bench.go(77)'); await browser.sleep(600);
+  await key('R'); await run('workbench.bench.go(77)');
+  for (let i = 0; i < 20 && !(await run('location.hash')).endsWith('at=77'); i++) await browser.sleep(250);
   const said = 'JSON.stringify([workbench.bench.text, workbench.bench.k, workbench.bench.threads, workbench.bench.run.schedule, workbench.bench.position, workbench.tellView(workbench.bench.state)])';
   const before = await run(said), fragment = await run('location.hash');
   await open(fragment);
