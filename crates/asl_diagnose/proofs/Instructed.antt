@@ -26,7 +26,7 @@ use Rattle.asl_diagnose.specs.Rows.{row_of}
 
 -- ---- there are no more lines than line feeds, and one
 
-feeds : List ℕ → ℕ
+abbrev feeds : List ℕ → ℕ
 feeds [] = 0
 feeds (b ∷ bs) = cond (is_feed b) (1 + feeds bs) (feeds bs)
 
@@ -38,12 +38,10 @@ few_if false (l ∷ ls) b n h = omega arith
 few : (text : List ℕ) → length (lines_of text) ≤ suc (feeds text)
 few [] = omega arith
 few (b ∷ bs) =
-  unfolding feeds
   few_if (b == 10) (lines_of bs) b (feeds bs) (few bs)
 
 feeds_counted : (text : List ℕ) → suc (feeds text) ≡ line_behind text
 feeds_counted text =
-  unfolding feeds
   ap suc (is_count_by feeds is_feed refl (λ b bs. refl) text)
 
 pub lines_few : (text : List ℕ) → length (lines_of text) ≤ line_behind text
@@ -169,21 +167,18 @@ row_there lines pc number h =
 
 -- ---- a text has as many lines that are instructions as its image has instructions
 
-begun : List (List (List ℕ)) → ℕ
+abbrev begun : List (List (List ℕ)) → ℕ
 begun [] = 0
 begun (words ∷ more) = if begins_instruction words then suc (begun more) else begun more
 
 begun_unless : (words : List (List ℕ)) (more : List (List (List ℕ))) → begun (unless_blank words more) ≡ (if begins_instruction words then suc (begun more) else begun more)
 begun_unless [] more =
-  unfolding begun
   refl
 begun_unless (w ∷ ws) more =
-  unfolding begun
   refl
 
 worded_begun : (ls : List (List ℕ)) → instructions_in ls ≡ begun (worded ls)
 worded_begun [] =
-  unfolding begun
   refl
 worded_begun (l ∷ ls) =
     ap (λ (n : ℕ). if is_instruction l then suc n else n) (worded_begun ls) ∙ sym (begun_unless (words_of l) (worded ls))
@@ -232,7 +227,7 @@ line_begins (line.Instruction i) words h = instr_begins i words h.spelled
 line_begins line.List words h = begins_with keyword.List _ words h.spelled
 line_begins (line.Lock l) words h = lock_begins l words h.spelled
 
-told : List Line → ℕ
+abbrev told : List Line → ℕ
 told [] = 0
 told (l ∷ ls) = (if is_instr l then 1 else 0) + told ls
 
@@ -244,65 +239,50 @@ one_if false false m n e f = omega arith
 
 lines_begun : (ls : List Line) (words : List (List (List ℕ))) → AreLines ls words → begun words ≡ told ls
 lines_begun [] [] h =
-  unfolding begun told
   refl
 lines_begun [] (w ∷ words) h = absurd h
 lines_begun (l ∷ ls) [] h = absurd h
 lines_begun (l ∷ ls) (w ∷ words) h =
-  unfolding begun told
   one_if (begins_instruction w) (is_instr l) (begun words) (told ls) (line_begins l w h.0) (lines_begun ls words h.1)
 
 told_both : (ks ls : List Line) → told (ks ++ ls) ≡ told ks + told ls
 told_both [] ls =
-  unfolding told
   omega arith
 told_both (k ∷ ks) ls =
-  unfolding told
   omega (arith, told_both ks ls)
 
 told_code : (is : List Instr) → told (map line.Instruction is) ≡ length is
 told_code [] =
-  unfolding told
   refl
 told_code (i ∷ is) =
-  unfolding told
   omega (arith, told_code is)
 
 told_globals : (cs : List ℕ) → told (map line.Global cs) ≡ 0
 told_globals [] =
-  unfolding told
   refl
 told_globals (c ∷ cs) =
-  unfolding told
   omega (arith, told_globals cs)
 
 told_locks : (ls : List Lock) → told (map line.Lock ls) ≡ 0
 told_locks [] =
-  unfolding told
   refl
 told_locks (l ∷ ls) =
-  unfolding told
   omega (arith, told_locks ls)
 
 told_functions : (fs : List Body) → told (flat_map function_lines fs) ≡ length (flat_map (λ (f : Body). f.code) fs)
 told_functions [] =
-  unfolding told
   refl
 told_functions (f ∷ fs) =
-  unfolding told
   omega (arith, told_both (map line.Instruction f.code) (flat_map function_lines fs), told_code f.code, told_functions fs, length-append f.code (flat_map (λ (g : Body). g.code) fs))
 
 told_lists : (ls : List (List Lock)) → told (flat_map list_lines ls) ≡ 0
 told_lists [] =
-  unfolding told
   refl
 told_lists (l ∷ ls) =
-  unfolding told
   omega (arith, told_both (map line.Lock l) (flat_map list_lines ls), told_locks l, told_lists ls)
 
 told_listing : (l : Listing) → told (lines_in l) ≡ length (image_of l).code
 told_listing l =
-  unfolding told
   let tail : List Line = flat_map function_lines l.functions ++ flat_map list_lines l.lists in
   omega (arith, told_both (map line.Global l.globals) (line.Entry l.start ∷ tail), told_globals l.globals, told_both (flat_map function_lines l.functions) (flat_map list_lines l.lists), told_functions l.functions, told_lists l.lists)
 

@@ -14,3 +14,4 @@ pub mod Marked
 pub mod Instructed
 pub mod Sizes
 pub mod Refused
+pub mod Rowed

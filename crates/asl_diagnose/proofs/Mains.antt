@@ -31,6 +31,8 @@ found x next (s ∷ ss) at e =
     elim (cases_Bool (is_function x next s.token)) [
       | inl f ↦
           let k = function_next x next s.token f in
+          let g : Some s.at ≡ Some at =
+              sym (ap (λ (b : Bool). if b then Some s.at else first_function x (declares_behind next s.token) ss) f) ∙ e in
           let same : s.at ≡ at = cc in
           let is : s ≡ named x s.at = named_spot x s.token s.at k.1 in
           record {
@@ -41,7 +43,7 @@ found x next (s ∷ ss) at e =
           }
       | inr f ↦
           let g : first_function x (declares_behind next s.token) ss ≡ Some at =
-              sym (ap (λ (b : Bool). if b then Some s.at else first_function x (declares_behind next s.token) ss) f) ∙ e in
+          sym (ap (λ (b : Bool). if b then Some s.at else first_function x (declares_behind next s.token) ss) f) ∙ e in
           let h = found x (declares_behind next s.token) ss at g in
           record {
             before = s ∷ h.before;
@@ -55,9 +57,9 @@ none_found : (x : List ℕ) (next : Declares) (before behind : List Spot) (at : 
 none_found x next [] behind at e f =
     let same : bytes_eq x x ≡ true = (bytes_eq-Decides x x).1 refl in
     let g : first_function x Function (named x at ∷ behind) ≡ None =
-        sym (ap (λ (d : Declares). first_function x d (named x at ∷ behind)) f) ∙ e in
+    sym (ap (λ (d : Declares). first_function x d (named x at ∷ behind)) f) ∙ e in
     let h : Some at ≡ None =
-        sym (ap (λ (b : Bool). if b then Some at else first_function x Parameter behind) same) ∙ g in
+    sym (ap (λ (b : Bool). if b then Some at else first_function x Parameter behind) same) ∙ g in
     absurd cc
 none_found x next (s ∷ before) behind at e f =
     let k = goes_on (is_function x next s.token) s.at (first_function x (declares_behind next s.token) (before ++ named x at ∷ behind)) e in

@@ -56,15 +56,18 @@ no_word_sought w all left e =
 
 -- the word stands there
 pub word_there : (w : Word) (all left more : List Spot) (s : Spot) → IsPassed all left → left ≡ s ∷ more → is_word w s.token ≡ true → IsSomeWordAt all w s.at
-word_there w all left more s h e f = (words_in w h.before, record {
-  before = h.before;
-  here = s;
-  behind = more;
-  split = h.split ∙ ap (λ (ss : List Spot). h.before ++ ss) e;
-  word = f;
-  place = refl;
-  counted = refl;
-})
+word_there w all left more s h e f = (
+  words_in w h.before,
+  record {
+    before = h.before;
+    here = s;
+    behind = more;
+    split = h.split ∙ ap (λ (ss : List Spot). h.before ++ ss) e;
+    word = f;
+    place = refl;
+    counted = refl;
+  },
+)
 
 pub one_word_sought : (w : Word) (all left more : List Spot) (s : Spot) (last : Option ℕ) → IsWordSought w all left last → left ≡ s ∷ more → is_word w s.token ≡ true → IsWordSought w all more (Some s.at)
 one_word_sought w all left more s last h e f = record {

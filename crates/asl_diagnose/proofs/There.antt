@@ -104,12 +104,12 @@ crowded_there number n (f ∷ fs) e =
     elim (cases_Bool (nat_lt 64 (registers_of f))) [
       | inl h ↦
           let same : Some number ≡ Some n =
-              sym (ap (λ (b : Bool). if b then Some number else first_crowded (suc number) fs) h) ∙ e in
+          sym (ap (λ (b : Bool). if b then Some number else first_crowded (suc number) fs) h) ∙ e in
           let is : number ≡ n = cc in
           omega arith
       | inr h ↦
           let rest : first_crowded (suc number) fs ≡ Some n =
-              sym (ap (λ (b : Bool). if b then Some number else first_crowded (suc number) fs) h) ∙ e in
+          sym (ap (λ (b : Bool). if b then Some number else first_crowded (suc number) fs) h) ∙ e in
           omega (arith, crowded_there (suc number) n fs rest)
     ]
 

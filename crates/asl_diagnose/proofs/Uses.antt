@@ -45,7 +45,7 @@ use_there tree ss x h k =
     let f = among_here k.first_function.before k.first_function.behind (functions_of tree) k.function k.first_function.split in
     let m = among_here k.first_mention.before k.first_mention.behind (function_mentions k.function) k.mention k.first_mention.split in
     let named : Among (map mention_name (mentions tree)) (mention_name k.mention) =
-        among_mapped mention_name (mentions tree) k.mention (mentioned_by tree k.function k.mention f m) in
+    among_mapped mention_name (mentions tree) k.mention (mentioned_by tree k.function k.mention f m) in
     let P : List ℕ → Type 0 = λ y. Among (map mention_name (mentions tree)) y in
     let Q : List (List ℕ) → Type 0 = λ ys. Among ys x in
     name_there x ss (subst Q (sym (mentioned tree (bare ss) h)) (subst P k.named named))

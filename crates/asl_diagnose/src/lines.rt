@@ -28,6 +28,16 @@ fn line_len(text: &[u8]) -> usize
     text.iter().take_while(|byte| **byte != b'\n').count()
 }
 
+/// What stands behind the first byte.
+fn behind_first(bytes: &[u8]) -> &[u8]
+    ensures { result.now ≡ drop 1 bytes.now }
+{
+    match bytes {
+        [] => bytes,
+        [_, behind @ ..] => behind,
+    }
+}
+
 impl<'t> Rows<'t> {
     ghost use Rattle.asl_assembler.specs.Words.{lines_of};
     ghost use Rattle.asl_diagnose.specs.Rows.{lines_left, rows_left, IsNextRow};
@@ -56,10 +66,7 @@ impl<'t> Rows<'t> {
             number: self.number,
             line,
         };
-        self.rest = match rest {
-            [] => rest,
-            [_, behind @ ..] => behind,
-        };
+        self.rest = behind_first(rest);
         Some(row)
     }
 }

@@ -292,7 +292,10 @@ fn push_bringers(out: &mut String, text: &[u8], told: &Diagnosis) -> Result<(), 
         push_quoted(out, line_bytes(text, found.from, found.to))?;
         out.push_str(" brings most of them: without it ")?;
     } else {
-        write!(out, "lines {first} to {last} bring most of them: without them ")?;
+        write!(
+            out,
+            "lines {first} to {last} bring most of them: without them "
+        )?;
     }
     let word = plural(left, "lock is", "locks are");
     write!(out, "{left} {word} needed\n")
