@@ -1,5 +1,5 @@
 -- The first word of a line, and the first line of a text.
-use Rattle.std.proofs.Common.{◌≡◌, ℕ, ◌+◌, ◌<◌, ◌≤◌, List, [], ◌∷◌, length, take, drop, refl, sym, ap, ◌∙◌, subst, arith}
+use Rattle.std.proofs.Common.{◌≡◌, ℕ, ◌+◌, ◌<◌, ◌≤◌, List, [], ◌∷◌, length, take, drop, refl, sym, ap, ◌∙◌, arith, length-drop}
 use Rattle.std.specs.List.{prefix_len}
 use Rattle.asl_assembler.specs.Words.{is_separator, words_of, lines_of}
 use Rattle.asl_assembler.specs.Reading.{is_word_byte, is_line_byte}
@@ -21,3 +21,7 @@ row_is text line rest behind some l r b =
     first_line text some
     ∙ ap (λ (x : List ℕ). x ∷ lines_of (drop 1 (drop (prefix_len is_line_byte text) text))) (sym l)
     ∙ ap (λ (x : List ℕ). line ∷ lines_of x) (ap (drop 1) (sym r) ∙ sym b)
+
+pub row_less : (text rest behind : List ℕ) (n : ℕ) → 0 < length text → rest ≡ drop n text → behind ≡ drop 1 rest → length behind < length text
+row_less text rest behind n some r b =
+    omega (arith, ap (λ (x : List ℕ). length x) r, ap (λ (x : List ℕ). length x) b, length-drop n text, length-drop 1 rest)

@@ -23,7 +23,7 @@ named_token x (Fixed m) e = cc
 named_token x (Name y) e = ap Name ((bytes_eq-Decides y x).0 e)
 named_token x (Number n) e = cc
 
-named_spot : (x : List ℕ) (t : Token) (at : ℕ) → is_named x t ≡ true → record { token = t; at = at } ≡ named x at
+pub named_spot : (x : List ℕ) (t : Token) (at : ℕ) → is_named x t ≡ true → record { token = t; at = at } ≡ named x at
 named_spot x t at e = ap (λ (u : Token). record { token = u; at = at }) (named_token x t e)
 
 -- the name was declared as this, at a place

@@ -1,7 +1,10 @@
 -- The function at which the code of a program passes the limit.
 use Rattle.std.proofs.Common.{◌≡◌, ℕ, zero, suc, ◌+◌, ◌<◌, ◌≤◌, List, [], ◌∷◌, ◌++◌, length, take, drop, map, refl, sym, ap, ◌∙◌, subst, arith, drop-cons, get_or}
+use Rattle.asl_syntax.specs.declared.name.Name as name
 use Rattle.asl_syntax.specs.declared.tree.Item as code
-use Rattle.asl_syntax.specs.View.{item_of}
+use Rattle.asl_syntax.specs.declared.tree.Item.TheVariants as variant
+use Rattle.asl_syntax.specs.declared.tree.Function as function
+use Rattle.asl_syntax.specs.View.{item_of, function_of}
 use Rattle.asl_syntax.specs.Tree.{Function, Item, functions_of}
 use Rattle.asl_lower.specs.Place.{origin, past_functions}
 use Rattle.asl_lower.specs.Size.{block_size, functions_size}
@@ -65,8 +68,32 @@ never_overfull tree rest number left h e many =
     omega (arith, functions_sized fs origin, all_taken number fs (h.rest_is ∙ e), h.fits, many)
 
 -- the items that are left
-pub items_next : (items : List code.Item) (i : ℕ) (x : code.Item) → i < length items → x ≡ get_or items i x → map item_of (drop i items) ≡ item_of x ∷ map item_of (drop (i + 1) items)
+items_next : (items : List code.Item) (i : ℕ) (x : code.Item) → i < length items → x ≡ get_or items i x → map item_of (drop i items) ≡ item_of x ∷ map item_of (drop (i + 1) items)
 items_next items i x there e =
     let P : ℕ → Type 0 = λ n. map item_of (drop i items) ≡ item_of x ∷ map item_of (drop n items) in
     let step : drop i items ≡ get_or items i x ∷ drop (suc i) items = drop-cons items i x there in
-    subst P (omega arith) (ap (map item_of) (step ∙ ap (λ (y : code.Item). y ∷ drop (suc i) items) (sym e)))
+    let same : suc i ≡ i + 1 = omega arith in
+    subst P same (ap (map item_of) (step ∙ ap (λ (y : code.Item). y ∷ drop (suc i) items) (sym e)))
+
+pub function_next : (items : List code.Item) (i : ℕ) (x : code.Item) (f : function.Function) → i < length items → x ≡ get_or items i x → x ≡ variant.Function f → functions_of (map item_of (drop i items)) ≡ function_of f ∷ functions_of (map item_of (drop (i + 1) items))
+function_next items i x f there e is =
+    ap functions_of (items_next items i x there e) ∙ ap (λ (y : code.Item). functions_of (item_of y ∷ map item_of (drop (i + 1) items))) is
+
+pub global_next : (items : List code.Item) (i : ℕ) (x : code.Item) (g : name.Name) → i < length items → x ≡ get_or items i x → x ≡ variant.Global g → functions_of (map item_of (drop i items)) ≡ functions_of (map item_of (drop (i + 1) items))
+global_next items i x g there e is =
+    ap functions_of (items_next items i x there e) ∙ ap (λ (y : code.Item). functions_of (item_of y ∷ map item_of (drop (i + 1) items))) is
+
+pub same_past : (fs rest more : List Function) (number next left new : ℕ) → IsPast fs rest number left → rest ≡ more → next ≡ number → new ≡ left → IsPast fs more next new
+same_past fs rest more number next left new h e n s = record {
+  rest_is = ap (λ (m : ℕ). drop m fs) n ∙ h.rest_is ∙ e;
+  fits = omega (arith, ap (λ (m : ℕ). functions_size (take m fs)) n, h.fits, s);
+}
+
+drop_all : (i : ℕ) (items : List code.Item) → length items ≤ i → drop i items ≡ []
+drop_all zero [] h = refl
+drop_all zero (x ∷ items) h = absurd (omega arith)
+drop_all (suc i) [] h = refl
+drop_all (suc i) (x ∷ items) h = drop_all i items (omega arith)
+
+pub none_left : (items : List code.Item) (i : ℕ) → length items ≤ i → functions_of (map item_of (drop i items)) ≡ []
+none_left items i h = ap (λ (xs : List code.Item). functions_of (map item_of xs)) (drop_all i items h)

@@ -22,12 +22,15 @@ pub fn overfull_function(ast: &Ast) -> usize
     let mut number: usize = 0;
     let items = ast.items();
     for item in items {
-        if let Item::Function(function) = item {
-            match left_behind_function(left, function) {
-                Some(rest) => left = rest,
+        match item {
+            Item::Global(_) => {}
+            Item::Function(function) => match left_behind_function(left, function) {
+                Some(rest) => {
+                    left = rest;
+                    number += 1;
+                }
                 None => return number,
-            }
-            number += 1;
+            },
         }
     }
     unreachable!()

@@ -8,7 +8,7 @@ ghost use Rattle.asl_syntax.specs.Fault.{IsFault};
 ghost use Rattle.asl_emitter.specs.Refused.{IsRefused};
 ghost use Rattle.asl_diagnose.specs.SeenView.{has_name, is_twice, seen_nothing};
 ghost use Rattle.asl_diagnose.specs.Places.{words_in, IsNameAt, IsWordAt, IsSomeWordAt};
-ghost use Rattle.asl_diagnose.specs.Diagnosed.{IsSourceDiagnosed, IsSourceDiagnosis, IsSyntaxPlace, IsMainPlace, IsExpectedFor, IsInferPlace, IsPosition};
+ghost use Rattle.asl_diagnose.specs.Diagnosed.{IsSourceDiagnosed, IsSourceDiagnosis, IsSyntaxPlace, IsMainPlace, IsExpectedFor, IsInferPlace, IsRegionPlace, IsPosition};
 
 use crate::code::statement_of;
 use crate::declared::{Word, function_place, name_near, numbered, twice_places, word_near};
@@ -232,13 +232,20 @@ fn infer_place(
         }
         InferFault::CodeSize => Ok(word_place(source, Word::Fn, overfull_function(ast))),
         InferFault::AccessOutsideSection(_, pc) => { access_place(alloc, source, usize::from(pc)) }
-        InferFault::TooManyLocks(Region::Section(section)) => {
-            Ok(word_place(source, Word::Atomic, usize::from(section)))
-        }
-        InferFault::TooManyLocks(Region::Body(function)) => {
-            Ok(word_place(source, Word::Fn, usize::from(function)))
-        }
+        InferFault::TooManyLocks(region) => Ok(region_place(source, region)),
         InferFault::TooManyClasses | InferFault::OutOfMemory => Ok(source.len()),
+    }
+}
+
+/// The word that a region begins with.
+fn region_place(source: &[u8], region: Region) -> usize
+    requires section { (n : ℕ) → region ≡ Region.Section n → n < words_in Word.Atomic (tokens_of source.now) }
+    requires body { (n : ℕ) → region ≡ Region.Body n → n < words_in Word.Fn (tokens_of source.now) }
+    ensures { IsRegionPlace source.now region result }
+{
+    match region {
+        Region::Section(section) => word_place(source, Word::Atomic, usize::from(section)),
+        Region::Body(function) => word_place(source, Word::Fn, usize::from(function)),
     }
 }
 

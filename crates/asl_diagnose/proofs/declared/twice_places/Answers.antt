@@ -13,8 +13,8 @@ pub reading-preserved : goal.reading-preserved
 reading-preserved c =
     one_read c.args.name.now (tokens_of c.args.text.now) (spots_left c.reading.tokens) (spots_left c.next.new.self) (spot_of c.in-Token.spot) c.reading.seen c.pass.new.self c.reading.invariant c.in-Token.ensures.found.0 c.pass.ensures (sym c.in-None.ensures)
 
-pub returns-in-Some : goal.returns-in-Some
-returns-in-Some c =
+pub returns-in-Some-clause-some : goal.returns-in-Some-clause-some
+returns-in-Some-clause-some c =
     declared_again c.args.name.now (tokens_of c.args.text.now) (spots_left c.reading.tokens) (spots_left c.next.new.self) (spot_of c.in-Token.spot) c.reading.seen c.in-Some.first c.reading.invariant c.in-Token.ensures.found.0 (sym c.in-Some.ensures)
 
 pub returns-clause-none : goal.returns-clause-none
