@@ -5,3 +5,13 @@ pub mod Tokens
 pub mod Words
 pub mod Scanned
 pub mod Telling
+pub mod Sought
+pub mod Mains
+pub mod There
+pub mod Stars
+pub mod Uses
+pub mod Marked
+pub mod Instructed
+pub mod Sizes
+pub mod Refused
+pub mod Rowed

@@ -1,6 +1,7 @@
 -- Where a name was declared among the tokens so far.
-use Rattle.std.proofs.Common.{◌≡◌, ◌≢◌, ℕ, List, [], ◌∷◌, ◌++◌, Bool, true, false, Option, Some, None, bytes_eq, refl, sym, ap, ◌∙◌, subst, append_assoc}
-use Rattle.std.specs.Option.{IfSome}
+use Rattle.std.proofs.Common.{◌≡◌, ◌≢◌, ℕ, List, [], ◌∷◌, ◌++◌, Bool, true, false, ◌||◌, if◌then◌else◌, inl, inr, Option, Some, None, bytes_eq, refl, sym, ap, ◌∙◌, subst, append_assoc}
+use Rattle.std.specs.Option.{IfSome, is_some}
+use Rattle.std.proofs.lemmas.Bool.{cases_Bool}
 use Rattle.std.specs.List.{Contains}
 use Rattle.std.proofs.lemmas.Slice.Eq.{bytes_eq-Decides}
 use Rattle.std.proofs.lemmas.List.Elements.{All-nil, All-push}
@@ -10,7 +11,7 @@ use Rattle.asl_diagnose.specs.declared.declared.Declares.{Declares}
 use Rattle.asl_diagnose.specs.declared.declared.Declares.TheVariants.{Global, Function, Parameter, Nothing}
 use Rattle.asl_diagnose.specs.declared.declared.Seen.{Seen}
 use Rattle.asl_diagnose.specs.Places.{named, is_named, is_word, declares_behind, declares_from, declares, SameFunction, IsNameAt, AreDeclaredAt}
-use Rattle.asl_diagnose.specs.SeenView.{seen_nothing, cell, noted_as, noted_if, entered_if, passed}
+use Rattle.asl_diagnose.specs.SeenView.{seen_nothing, cell, noted_as, noted_if, entered_if, passed, again, is_twice}
 use Rattle.asl_diagnose.proofs.Tokens.{IsPassed, split_on, is_there}
 
 declares_more : (next : Declares) (ss : List Spot) (s : Spot) → declares_from next (ss ++ s ∷ []) ≡ declares_behind (declares_from next ss) s.token
@@ -22,7 +23,7 @@ named_token x (Fixed m) e = cc
 named_token x (Name y) e = ap Name ((bytes_eq-Decides y x).0 e)
 named_token x (Number n) e = cc
 
-named_spot : (x : List ℕ) (t : Token) (at : ℕ) → is_named x t ≡ true → record { token = t; at = at } ≡ named x at
+pub named_spot : (x : List ℕ) (t : Token) (at : ℕ) → is_named x t ≡ true → record { token = t; at = at } ≡ named x at
 named_spot x t at e = ap (λ (u : Token). record { token = u; at = at }) (named_token x t e)
 
 -- the name was declared as this, at a place
@@ -48,7 +49,7 @@ pub record IsScanned (x : List ℕ) (all left : List Spot) (s : Seen) : Type 0 w
   pub next : s.next ≡ declares before
   pub cells : Cells x before s
 
-pub none_scanned : (x : List ℕ) (all left : List Spot) (s : Seen) → left ≡ all → s ≡ seen_nothing → IsScanned x all left s
+none_scanned : (x : List ℕ) (all left : List Spot) (s : Seen) → left ≡ all → s ≡ seen_nothing → IsScanned x all left s
 none_scanned x all left s e f =
     let P : Seen → Type 0 = λ u. IsScanned x all left u in
     subst P (sym f) (record { before = []; split = sym e; next = refl; cells = record { global = tt; function = tt; parameter = tt } })
@@ -123,7 +124,7 @@ cells_passed x before s (Number n) at e h =
     let k = cells_more x before s (record { token = Number n; at = at }) refl h in
     record { global = k.global; function = k.function; parameter = k.parameter }
 
-pub one_scanned : (x : List ℕ) (all left more : List Spot) (t : Spot) (s new : Seen) → IsScanned x all left s → left ≡ t ∷ more → new ≡ passed x s t → IsScanned x all more new
+one_scanned : (x : List ℕ) (all left more : List Spot) (t : Spot) (s new : Seen) → IsScanned x all left s → left ≡ t ∷ more → new ≡ passed x s t → IsScanned x all more new
 one_scanned x all left more t s new h e f =
     let P : Seen → Type 0 = λ u. IsScanned x all more u in
     subst P (sym f) (record {
@@ -175,6 +176,41 @@ token_there u all left more t h e n =
     let P : Token → Type 0 = λ v. Contains all (record { token = v; at = t.at }) in
     subst P n (is_there all left more t h e)
 
-pub declared_twice : (x : List ℕ) (all left more : List Spot) (t : Spot) (s : Seen) (f : ℕ) → IsScanned x all left s → left ≡ t ∷ more → is_named x t.token ≡ true → cell s s.next ≡ Some f → AreDeclaredAt all x f t.at
+declared_twice : (x : List ℕ) (all left more : List Spot) (t : Spot) (s : Seen) (f : ℕ) → IsScanned x all left s → left ≡ t ∷ more → is_named x t.token ≡ true → cell s s.next ≡ Some f → AreDeclaredAt all x f t.at
 declared_twice x all left more t s f h e n c =
     twice_by x all left more t s s.next f h e (named_spot x t.token t.at n) (sym h.next) c
+
+-- where a token declares the name again, it is the name, and it was declared before
+again_some : (x : List ℕ) (s : Seen) (t : Token) (f : ℕ) → again x s t ≡ Some f → (is_named x t ≡ true) × (cell s s.next ≡ Some f)
+again_some x s t f e =
+    elim (cases_Bool (is_named x t)) [
+      | inl n ↦ (n, sym (ap (λ (b : Bool). if b then cell s s.next else None) n) ∙ e)
+      | inr n ↦ let o : Option ℕ = None in let h : o ≡ Some f = sym (ap (λ (b : Bool). if b then cell s s.next else None) n) ∙ e in absurd cc
+    ]
+
+-- so many tokens were passed, and none of them declared it again
+pub record IsRead (x : List ℕ) (all left : List Spot) (s : Seen) : Type 0 where
+  pub scanned : IsScanned x all left s
+  pub kept : is_twice x s left ≡ is_twice x seen_nothing all
+
+pub none_read : (x : List ℕ) (all left : List Spot) (s : Seen) → left ≡ all → s ≡ seen_nothing → IsRead x all left s
+none_read x all left s e f = record {
+  scanned = none_scanned x all left s e f;
+  kept = ap (λ (u : Seen). is_twice x u left) f ∙ ap (is_twice x seen_nothing) e;
+}
+
+pub one_read : (x : List ℕ) (all left more : List Spot) (t : Spot) (s new : Seen) → IsRead x all left s → left ≡ t ∷ more → new ≡ passed x s t → again x s t.token ≡ None → IsRead x all more new
+one_read x all left more t s new h e f n = record {
+  scanned = one_scanned x all left more t s new h.scanned e f;
+  kept = ap (λ (u : Seen). is_twice x u more) f
+      ∙ sym (ap (λ (o : Option ℕ). is_some o || is_twice x (passed x s t) more) n)
+      ∙ sym (ap (is_twice x s) e) ∙ h.kept;
+}
+
+pub declared_again : (x : List ℕ) (all left more : List Spot) (t : Spot) (s : Seen) (f : ℕ) → IsRead x all left s → left ≡ t ∷ more → again x s t.token ≡ Some f → AreDeclaredAt all x f t.at
+declared_again x all left more t s f h e a =
+    let k = again_some x s t.token f a in
+    declared_twice x all left more t s f h.scanned e k.0 k.1
+
+pub all_read : (x : List ℕ) (all left : List Spot) (s : Seen) → IsRead x all left s → left ≡ [] → is_twice x seen_nothing all ≡ false
+all_read x all left s h e = sym h.kept ∙ ap (is_twice x s) e

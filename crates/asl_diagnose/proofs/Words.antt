@@ -1,5 +1,6 @@
 -- Counting a word among tokens.
-use Rattle.std.proofs.Common.{◌≡◌, ℕ, suc, ◌+◌, ◌-◌, List, [], ◌∷◌, ◌++◌, Bool, true, false, refl, sym, ap, ◌∙◌, arith, if◌then◌else◌}
+use Rattle.std.proofs.Common.{◌≡◌, ℕ, suc, ◌+◌, ◌-◌, ◌≤◌, List, [], ◌∷◌, ◌++◌, Bool, true, false, refl, sym, ap, ◌∙◌, arith, if◌then◌else◌}
+use Rattle.std.proofs.lemmas.List.{append-nil}
 use Rattle.asl_grammar.specs.Token.{Spot}
 use Rattle.asl_diagnose.specs.declared.declared.Word.{Word}
 use Rattle.asl_diagnose.specs.Places.{is_word, words_in, IsWordAt}
@@ -53,3 +54,9 @@ found_word w all left rest s number more h e f z = record {
   place = refl;
   counted = (let c = h.counted in omega arith);
 }
+
+-- all tokens were passed
+pub all_counted : (w : Word) (all left : List Spot) (number more : ℕ) → IsCounting w all left number more → left ≡ [] → words_in w all ≤ number
+all_counted w all left number more h e =
+    let s : all ≡ h.before = h.split ∙ ap (λ (ss : List Spot). h.before ++ ss) e ∙ append-nil h.before in
+    omega (arith, ap (words_in w) s, h.counted)

@@ -1,8 +1,5 @@
 -- What is told of a text that is refused: why, where it is, its line and column, and with what a program goes on there.
-use Rattle.std.specs.Prelude.{◌≡◌, ◌≢◌, ℕ, ◌⊎◌, List, Bool, codes, length, take, Option, MatchOption}
-use Rattle.std.specs.List.{Contains}
-use Rattle.asl_grammar.specs.declared.token.Mark.TheVariants as mark
-use Rattle.asl_grammar.specs.Token.{Fixed}
+use Rattle.std.specs.Prelude.{◌≡◌, ◌≢◌, ℕ, ◌+◌, ◌⊎◌, List, Bool, codes, length, take, Option, MatchOption}
 use Rattle.asl_grammar.specs.Lex.{tokens_of}
 use Rattle.asl_syntax.specs.declared.fault.SyntaxFault.{SyntaxFault}
 use Rattle.asl_syntax.specs.declared.fault.SyntaxFault.TheVariants as syntax
@@ -17,6 +14,7 @@ use Rattle.asl_backward_flow.specs.declared.region.Region.TheVariants as region
 use Rattle.asl_assembler.specs.declared.assembly.AsmFault.{AsmFault}
 use Rattle.asl_assembler.specs.declared.assembly.AsmFault.TheVariants as asm
 use Rattle.asl_assembler.specs.Faults.{IsProgramText, IsFault as IsAsmFault}
+use Rattle.asl_assembler.specs.Words.{lines_of}
 use Rattle.asl_code.specs.declared.image.Image.{Image}
 use Rattle.asl_diagnose.specs.declared.diagnosis.Refusal.{Refusal}
 use Rattle.asl_diagnose.specs.declared.diagnosis.Refusal.TheVariants as refusal
@@ -24,9 +22,10 @@ use Rattle.asl_diagnose.specs.declared.diagnosis.Diagnosis.{Diagnosis}
 use Rattle.asl_diagnose.specs.declared.kind.TokenKind.{TokenKind}
 use Rattle.asl_diagnose.specs.declared.declared.Word.{Word}
 use Rattle.asl_diagnose.specs.declared.declared.Word.TheVariants as word
-use Rattle.asl_diagnose.specs.Position.{line_behind, IsColumn}
+use Rattle.asl_diagnose.specs.Position.{line_behind, IsColumn, IsLineFront}
+use Rattle.asl_diagnose.specs.Instructions.{IsInstructionLine, pc_of}
 use Rattle.asl_diagnose.specs.Expected.{IsStop}
-use Rattle.asl_diagnose.specs.Places.{IsNameAt, IsWordAt, AreDeclaredAt}
+use Rattle.asl_diagnose.specs.Places.{IsNameAt, IsWordAt, IsSomeWordAt, IsFunctionAt, AreDeclaredAt, IsOverfull}
 
 -- the source is accepted: a program is inferred for it
 pub record IsAcceptedSource (source : List ℕ) (k : ℕ) : Type 0 where
@@ -47,17 +46,28 @@ IsSourceRefusal source k (refusal.Syntax fault) = IsSyntaxFault source fault × 
 IsSourceRefusal source k (refusal.Infer fault) = IsNotInferred source k fault
 IsSourceRefusal source k (refusal.Asm fault) = ⊥
 
+-- a place is told, and it is such a one
+abbrev pub IsSomeAnd : Option ℕ → (ℕ → Type 0) → Type 0
+IsSomeAnd first such = MatchOption first ⊥ such
+
+-- where a missing `main` is told: at a function `main`, which then has another number of parameters, and where there is none, at the
+-- text's end
+abbrev pub IsMainPlace : List ℕ → ℕ → Type 0
+IsMainPlace text at =
+    IsFunctionAt (tokens_of text) (codes "main") at
+    ⊎ (((other : ℕ) → ¬ IsFunctionAt (tokens_of text) (codes "main") other) × (at ≡ length text))
+
 -- where a fault of a text that is no program is: at its own place; a name that is declared a second time at that declaration; an
--- unknown name at a token that is the name; a missing `main` at a name `main`; and where none of these is found, at the text's end
+-- unknown name at a token that is the name
 abbrev pub IsSyntaxPlace : List ℕ → SyntaxFault → Option ℕ → ℕ → Type 0
 IsSyntaxPlace text (syntax.NotAscii place) first at = at ≡ place
 IsSyntaxPlace text (syntax.Token place) first at = at ≡ place
 IsSyntaxPlace text (syntax.Grammar place) first at = at ≡ place
 IsSyntaxPlace text (syntax.Limit place) first at = at ≡ place
-IsSyntaxPlace text (syntax.Twice x) first at = MatchOption first (at ≡ length text) (λ one. AreDeclaredAt (tokens_of text) x one at)
-IsSyntaxPlace text (syntax.Unknown x) first at = IsNameAt (tokens_of text) x at ⊎ (at ≡ length text)
+IsSyntaxPlace text (syntax.Twice x) first at = IsSomeAnd first (λ one. AreDeclaredAt (tokens_of text) x one at)
+IsSyntaxPlace text (syntax.Unknown x) first at = IsNameAt (tokens_of text) x at
 IsSyntaxPlace text (syntax.Arity place) first at = at ≡ place
-IsSyntaxPlace text syntax.NoMain first at = IsNameAt (tokens_of text) (codes "main") at ⊎ (at ≡ length text)
+IsSyntaxPlace text syntax.NoMain first at = IsMainPlace text at
 IsSyntaxPlace text syntax.OutOfMemory first at = Unit {0}
 
 -- with what a program goes on there, where the fault is that none goes on as the text does
@@ -65,25 +75,24 @@ abbrev pub IsExpectedFor : List ℕ → SyntaxFault → List TokenKind → Bool 
 IsExpectedFor text (syntax.Grammar place) kinds may_end = IsStop (tokens_of text) (length text) place kinds may_end
 IsExpectedFor text _ kinds may_end = Unit {0}
 
--- the place of the word with so many of it before, or the text's end
-abbrev pub IsWordOrEnd : List ℕ → Word → ℕ → ℕ → Type 0
-IsWordOrEnd text w number at = IsWordAt (tokens_of text) w number at ⊎ (at ≡ length text)
-
--- the place of a `*`, or the text's end
-abbrev pub IsStarOrEnd : List ℕ → ℕ → Type 0
-IsStarOrEnd text at = Contains (tokens_of text) (record { token = Fixed mark.Star; at = at }) ⊎ (at ≡ length text)
-
 -- where a region is: at its function's `fn`, or at its `atomic`
 abbrev pub IsRegionPlace : List ℕ → Region → ℕ → Type 0
-IsRegionPlace text (region.Body function) at = IsWordOrEnd text word.Fn function at
-IsRegionPlace text (region.Section section) at = IsWordOrEnd text word.Atomic section at
+IsRegionPlace text (region.Body function) at = IsWordAt (tokens_of text) word.Fn function at
+IsRegionPlace text (region.Section section) at = IsWordAt (tokens_of text) word.Atomic section at
 
--- where a fault of a program is: a function at its `fn`, an access at a `*`; too much code at some place of the text, and too many
--- classes at its end
+-- the `fn` of the function at which the code of the text's program passes 65,535 instructions
+pub record IsOverfullPlace (text : List ℕ) (at : ℕ) : Type 0 where
+  pub tree : List Item
+  pub parses : Parses text tree
+  pub number : ℕ
+  pub overfull : IsOverfull tree number
+  pub place : IsWordAt (tokens_of text) word.Fn number at
+
+-- where a fault of a program is: a function at its `fn`, an access at a `*`, too many classes at the text's end
 abbrev pub IsInferPlace : List ℕ → InferFault → ℕ → Type 0
-IsInferPlace text (infer.Registers function) at = IsWordOrEnd text word.Fn function at
-IsInferPlace text infer.CodeSize at = Unit {0}
-IsInferPlace text (infer.AccessOutsideSection function pc) at = IsStarOrEnd text at
+IsInferPlace text (infer.Registers function) at = IsWordAt (tokens_of text) word.Fn function at
+IsInferPlace text infer.CodeSize at = IsOverfullPlace text at
+IsInferPlace text (infer.AccessOutsideSection function pc) at = IsSomeWordAt (tokens_of text) word.Star at
 IsInferPlace text infer.TooManyClasses at = at ≡ length text
 IsInferPlace text (infer.TooManyLocks r) at = IsRegionPlace text r at
 IsInferPlace text infer.OutOfMemory at = Unit {0}
@@ -110,17 +119,17 @@ pub record IsSourceDiagnosis (source : List ℕ) (k : ℕ) (d : Diagnosis) : Typ
 abbrev pub IsSourceDiagnosed : List ℕ → ℕ → Option Diagnosis → Type 0
 IsSourceDiagnosed source k told = MatchOption told (IsAcceptedSource source k) (IsSourceDiagnosis source k)
 
--- where a fault of an assembly text is: a wrong line at a place of that line, or at the text's end
-abbrev pub IsAssemblyPlace : List ℕ → AsmFault → ℕ → Type 0
-IsAssemblyPlace text (asm.Line number) at = (line_behind (take at text) ≡ number) ⊎ (at ≡ length text)
-IsAssemblyPlace text (asm.Verify cause) at = Unit {0}
-IsAssemblyPlace text asm.OutOfMemory at = Unit {0}
+-- where a wrong line of an assembly text is: its first byte that is no blank, and where the text ends too early, its end
+abbrev pub IsLinePlace : List ℕ → ℕ → ℕ → Type 0
+IsLinePlace text number at =
+    IsLineFront text number at ⊎ ((number ≡ length (lines_of text) + 1) × (at ≡ length text))
 
--- the line that is told: that of a wrong line, and else that of the place
-abbrev pub IsAssemblyLine : List ℕ → AsmFault → ℕ → ℕ → Type 0
-IsAssemblyLine text (asm.Line number) at line = line ≡ number
-IsAssemblyLine text (asm.Verify cause) at line = line ≡ line_behind (take at text)
-IsAssemblyLine text asm.OutOfMemory at line = line ≡ line_behind (take at text)
+-- the line that is told, and the place in it: those of a wrong line; those of the instruction that breaks a rule; and for a rule of
+-- the whole image those of some place
+abbrev pub IsAssemblyPlace : List ℕ → AsmFault → ℕ → ℕ → Type 0
+IsAssemblyPlace text (asm.Line number) at line = (line ≡ number) × IsLinePlace text number at
+IsAssemblyPlace text (asm.Verify cause) at line = MatchOption (pc_of cause) (line ≡ line_behind (take at text)) (λ pc. IsInstructionLine (lines_of text) pc line × IsLineFront text line at)
+IsAssemblyPlace text asm.OutOfMemory at line = Unit {0}
 
 -- what is told of an assembly text that is refused
 pub record IsAssemblyDiagnosis (text : List ℕ) (d : Diagnosis) : Type 0 where
@@ -128,8 +137,7 @@ pub record IsAssemblyDiagnosis (text : List ℕ) (d : Diagnosis) : Type 0 where
   pub refusal : d.refusal ≡ refusal.Asm fault
   pub holds : IsAsmFault text fault
   pub real : fault ≢ asm.OutOfMemory
-  pub place : IsAssemblyPlace text fault d.at
-  pub line : IsAssemblyLine text fault d.at d.line
+  pub place : IsAssemblyPlace text fault d.at d.line
   pub column : IsColumn (take d.at text) d.column
 
 -- what is answered for an assembly text: nothing where it is a program

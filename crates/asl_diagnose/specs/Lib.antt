@@ -4,6 +4,7 @@ pub mod Names
 pub mod Position
 pub mod Expected
 pub mod Places
+pub mod Instructions
 -- Machinery of the proofs, not of the promise:
 pub mod Rows
 pub mod SeenView

@@ -1,8 +1,10 @@
 -- Places of names and words among the tokens of a text.
-use Rattle.std.specs.Prelude.{◌≡◌, ◌≢◌, ℕ, List, [], ◌∷◌, ◌++◌, suc, Bool, true, false, bytes_eq, if◌then◌else◌}
+use Rattle.std.specs.Prelude.{◌≡◌, ◌≢◌, ◌<◌, ◌≤◌, ℕ, List, [], ◌∷◌, ◌++◌, suc, Bool, true, false, bytes_eq, if◌then◌else◌, length, take}
 use Rattle.std.specs.List.{All, Contains}
 use Rattle.asl_grammar.specs.declared.token.Mark.TheVariants as mark
 use Rattle.asl_grammar.specs.Token.{Token, Fixed, Name, Spot}
+use Rattle.asl_syntax.specs.Tree.{Item, functions_of}
+use Rattle.asl_lower.specs.Place.{origin, past_functions}
 use Rattle.asl_diagnose.specs.declared.declared.Word.{Word}
 use Rattle.asl_diagnose.specs.declared.declared.Word.TheVariants as word
 use Rattle.asl_diagnose.specs.declared.declared.Declares.{Declares}
@@ -25,6 +27,7 @@ IsNameAt ss x at = Contains ss (named x at)
 abbrev pub is_word : Word → Token → Bool
 is_word word.Fn (Fixed mark.Fn) = true
 is_word word.Atomic (Fixed mark.Atomic) = true
+is_word word.Star (Fixed mark.Star) = true
 is_word w t = false
 
 -- how many of the word there are
@@ -41,6 +44,10 @@ pub record IsWordAt (ss : List Spot) (w : Word) (number at : ℕ) : Type 0 where
   pub word : is_word w here.token ≡ true
   pub place : here.at ≡ at
   pub counted : words_in w before ≡ number
+
+-- the word stands there
+abbrev pub IsSomeWordAt : List Spot → Word → ℕ → Type 0
+IsSomeWordAt ss w at = (number : ℕ) × IsWordAt ss w number at
 
 -- what the next name declares: behind `global` a global, behind `fn` a function, and from a function's name to the parenthesis that
 -- closes a parameter
@@ -62,6 +69,13 @@ declares_from next (s ∷ ss) = declares_from (declares_behind next s.token) ss
 abbrev pub declares : List Spot → Declares
 declares before = declares_from Nothing before
 
+-- a function of the name is declared there
+pub record IsFunctionAt (ss : List Spot) (x : List ℕ) (at : ℕ) : Type 0 where
+  pub before : List Spot
+  pub behind : List Spot
+  pub split : ss ≡ before ++ named x at ∷ behind
+  pub function : declares before ≡ Function
+
 -- a parameter's function goes on over these tokens: no `fn` stands among them; others have no such bound
 abbrev pub SameFunction : Declares → List Spot → Type 0
 SameFunction Parameter ss = All (λ (s : Spot). is_word word.Fn s.token ≡ false) ss
@@ -77,3 +91,9 @@ pub record AreDeclaredAt (ss : List Spot) (x : List ℕ) (first second : ℕ) : 
   pub real : declares before ≢ Nothing
   pub same : declares (before ++ named x first ∷ between) ≡ declares before
   pub function : SameFunction (declares before) between
+
+-- the code of the functions before the one of this number has at most 65,535 instructions, and with that function it has more
+pub record IsOverfull (tree : List Item) (number : ℕ) : Type 0 where
+  pub there : number < length (functions_of tree)
+  pub fits : (past_functions (take number (functions_of tree)) origin).pc ≤ 65535
+  pub passes : 65535 < (past_functions (take (suc number) (functions_of tree)) origin).pc

@@ -1,5 +1,7 @@
 -- Lines and columns of a text, in bytes.
-use Rattle.std.specs.Prelude.{◌≡◌, ◌≢◌, ℕ, suc, ◌+◌, ◌-◌, ◌<◌, ◌≤◌, ◌⊎◌, ◌==◌, Bool, List, length, slice_index, count_by}
+use Rattle.std.specs.Prelude.{◌≡◌, ◌≢◌, ℕ, suc, ◌+◌, ◌-◌, ◌<◌, ◌≤◌, ◌⊎◌, ◌==◌, Bool, List, length, take, drop, slice_index, count_by}
+use Rattle.std.specs.List.{prefix_len}
+use Rattle.asl_assembler.specs.Words.{is_separator}
 
 -- a line feed
 abbrev pub is_feed : ℕ → Bool
@@ -20,3 +22,15 @@ pub record IsColumn (before : List ℕ) (column : ℕ) : Type 0 where
   pub start : ℕ
   pub line : IsLineStart before start
   pub counted : start + column ≡ suc (length before)
+
+-- the line of this number begins there: at the front of the text or behind a line feed
+pub record BeginsLine (text : List ℕ) (number start : ℕ) : Type 0 where
+  pub within : start ≤ length text
+  pub begins : (start ≡ 0) ⊎ (slice_index text (start - 1) ≡ 10)
+  pub line : line_behind (take start text) ≡ number
+
+-- the first byte of the line of this number that is no blank
+pub record IsLineFront (text : List ℕ) (number at : ℕ) : Type 0 where
+  pub start : ℕ
+  pub line : BeginsLine text number start
+  pub blanks : at ≡ start + prefix_len is_separator (drop start text)

@@ -1,6 +1,6 @@
 -- Machinery of the proofs, not of the promise: what src/declared.rt remembers of a name.
-use Rattle.std.specs.Prelude.{ℕ, List, Bool, Option, Some, None, if◌then◌else◌}
-use Rattle.asl_grammar.specs.Token.{Spot}
+use Rattle.std.specs.Prelude.{ℕ, List, [], ◌∷◌, Bool, true, false, ◌||◌, Option, Some, None, is_some, if◌then◌else◌}
+use Rattle.asl_grammar.specs.Token.{Token, Spot}
 use Rattle.asl_diagnose.specs.declared.declared.Seen.{Seen}
 use Rattle.asl_diagnose.specs.declared.declared.Word.TheVariants as word
 use Rattle.asl_diagnose.specs.declared.declared.Declares.{Declares}
@@ -41,3 +41,28 @@ abbrev pub passed : List ℕ → Seen → Spot → Seen
 passed x s spot =
     let t = entered_if (is_word word.Fn spot.token) (noted_if (is_named x spot.token) s spot.at) in
     record t { next = declares_behind s.next spot.token }
+
+-- some token is the name
+abbrev pub has_name : List ℕ → List Spot → Bool
+has_name x [] = false
+has_name x (s ∷ ss) = is_named x s.token || has_name x ss
+
+-- the next name is a function's, and the token is the name
+abbrev pub is_function : List ℕ → Declares → Token → Bool
+is_function x Function t = is_named x t
+is_function x next t = false
+
+-- the place of the first function of the name
+abbrev pub first_function : List ℕ → Declares → List Spot → Option ℕ
+first_function x next [] = None
+first_function x next (s ∷ ss) =
+    if is_function x next s.token then Some s.at else first_function x (declares_behind next s.token) ss
+
+-- where the name was declared before, if the token declares it again
+abbrev pub again : List ℕ → Seen → Token → Option ℕ
+again x s t = if is_named x t then cell s s.next else None
+
+-- some token does
+abbrev pub is_twice : List ℕ → Seen → List Spot → Bool
+is_twice x s [] = false
+is_twice x s (t ∷ ss) = is_some (again x s t.token) || is_twice x (passed x s t) ss

@@ -1,14 +1,17 @@
 //! What is told of an assembly text that is refused.
 
-ghost use Rattle.std.specs.Prelude.{◌≡◌, ◌≢◌, ◌⊎◌, false, take, length, IfOk};
+ghost use Rattle.std.specs.Prelude.{◌≡◌, ◌≢◌, ◌+◌, ◌<◌, ◌≤◌, false, length, IfOk};
 ghost use Rattle.asl_assembler.specs.declared.assembly.AsmFault.TheVariants as asm;
 ghost use Rattle.asl_assembler.specs.Faults.{IsFault};
-ghost use Rattle.asl_diagnose.specs.Position.{line_behind};
-ghost use Rattle.asl_diagnose.specs.Diagnosed.{IsAssemblyDiagnosed, IsAssemblyDiagnosis, IsAssemblyPlace, IsAssemblyLine};
+ghost use Rattle.asl_assembler.specs.Text.{IsBadLine};
+ghost use Rattle.asl_assembler.specs.Words.{lines_of};
+ghost use Rattle.asl_diagnose.specs.Position.{IsLineFront};
+ghost use Rattle.asl_diagnose.specs.Instructions.{instructions_in, IsInstructionLine};
+ghost use Rattle.asl_diagnose.specs.Diagnosed.{IsAssemblyDiagnosed, IsAssemblyDiagnosis, IsAssemblyPlace, IsLinePlace};
 
 use crate::diagnosis::{Diagnosis, Refusal};
-use crate::lines::place_of_line;
-use crate::listing::fault_row;
+use crate::lines::{front, line_begin};
+use crate::listing::{fault_row, instruction_row};
 use crate::place::{column, line};
 use asl_assembler::{AsmFault, assemble};
 use asl_code::VerifyFault;
@@ -49,8 +52,7 @@ fn told(alloc: Global, text: &[u8], fault: AsmFault) -> Diagnosis
     requires real { fault ≢ asm.OutOfMemory }
     ensures { IsAssemblyDiagnosis text.now result }
 {
-    let at = fault_place(text, fault);
-    let line = fault_line(text, fault, at);
+    let (at, line) = fault_place(text, fault);
     let column = column(text, at);
     Diagnosis {
         refusal: Refusal::Asm(fault),
@@ -60,46 +62,85 @@ fn told(alloc: Global, text: &[u8], fault: AsmFault) -> Diagnosis
         expected: Vec::new(alloc),
         may_end: false,
         first: None,
+        bringers: None,
     }
 }
 
-/// The place of a fault: the first word of its line, or the end of the text.
-fn fault_place(text: &[u8], fault: AsmFault) -> usize
-    ensures { IsAssemblyPlace text.now fault result }
+/// The place of a fault, and its line.
+fn fault_place(text: &[u8], fault: AsmFault) -> (usize, usize)
+    requires { IsFault text.now fault }
+    ensures { IsAssemblyPlace text.now fault result.0 result.1 }
 {
     match fault {
-        AsmFault::Line(number) => place_in_line(text, number),
+        AsmFault::Line(number) => (wrong_place(text, number), number),
         AsmFault::Verify(cause) => verify_place(text, cause),
-        AsmFault::OutOfMemory => text.len(),
+        AsmFault::OutOfMemory => (text.len(), line(text, text.len())),
     }
 }
 
-/// The first word of the line of this number, or the end of the text.
-fn place_in_line(text: &[u8], number: usize) -> usize
-    ensures { (line_behind (take result text.now) ≡ number) ⊎ (result ≡ length text.now) }
+/// The first word of a wrong line, or the end of a text that ends too early.
+fn wrong_place(text: &[u8], number: usize) -> usize
+    requires { IsBadLine (lines_of text.now) number }
+    ensures { IsLinePlace text.now number result }
 {
-    let at = place_of_line(text, number);
-    if line(text, at) == number {
-        at
-    } else {
-        text.len()
-    }
-}
-
-/// The place of a rule that the image breaks: the first word of the line.
-fn verify_place(text: &[u8], cause: VerifyFault) -> usize {
-    match fault_row(text, cause) {
-        Some(number) => place_of_line(text, number),
+    match line_begin(text, number) {
+        Some(start) => front(text, start),
         None => text.len(),
     }
 }
 
-/// The line of a fault, from 1.
-fn fault_line(text: &[u8], fault: AsmFault, at: usize) -> usize
-    ensures { IsAssemblyLine text.now fault at result }
+/// The place of a rule that the image breaks, and its line.
+fn verify_place(text: &[u8], cause: VerifyFault) -> (usize, usize)
+    requires { IsFault text.now (AsmFault.Verify cause) }
+    ensures { IsAssemblyPlace text.now (AsmFault.Verify cause) result.0 result.1 }
 {
-    match fault {
-        AsmFault::Line(number) => number,
-        AsmFault::Verify(_) | AsmFault::OutOfMemory => line(text, at),
+    match cause {
+        VerifyFault::Target(pc)
+        | VerifyFault::Register(pc)
+        | VerifyFault::Operand(pc)
+        | VerifyFault::ListBase(pc) => instruction_place(text, pc as usize),
+        VerifyFault::Limit
+        | VerifyFault::Table
+        | VerifyFault::NoEntry
+        | VerifyFault::FunctionRange
+        | VerifyFault::FallsOut => {
+            let at = rule_place(text, cause);
+            (at, line(text, at))
+        }
+    }
+}
+
+/// The first word of an instruction, and its line.
+fn instruction_place(text: &[u8], pc: usize) -> (usize, usize)
+    requires { pc < instructions_in (lines_of text.now) }
+    ensures number { IsInstructionLine (lines_of text.now) pc result.1 }
+    ensures place { IsLineFront text.now result.1 result.0 }
+{
+    match instruction_row(text, pc) {
+        Some(number) => (row_front(text, number), number),
+        None => unreachable!(),
+    }
+}
+
+/// The first word of a line.
+fn row_front(text: &[u8], number: usize) -> usize
+    requires some { 0 < number }
+    requires there { number ≤ length (lines_of text.now) }
+    ensures { IsLineFront text.now number result }
+{
+    match line_begin(text, number) {
+        Some(start) => front(text, start),
+        None => unreachable!(),
+    }
+}
+
+/// The first word of a line by which a rule of the whole image is broken, or the end of the text.
+fn rule_place(text: &[u8], cause: VerifyFault) -> usize {
+    match fault_row(text, cause) {
+        Some(number) => match line_begin(text, number) {
+            Some(start) => front(text, start),
+            None => text.len(),
+        },
+        None => text.len(),
     }
 }

@@ -1,12 +1,11 @@
 //! Where names are declared, by the tokens of a text.
 
-ghost use Rattle.std.specs.Prelude.{◌≡◌, IfSome, IsTrue};
-ghost use Rattle.std.specs.List.{Contains};
-ghost use Rattle.asl_grammar.specs.declared.token.Mark.TheVariants as mark;
-ghost use Rattle.asl_grammar.specs.Token.{Fixed};
+ghost use Rattle.std.specs.Prelude.{◌≡◌, ◌≤◌, false, IfSome, IfNone};
 ghost use Rattle.asl_grammar.specs.Lex.{tokens_of};
 ghost use Rattle.asl_grammar.specs.View.{token_of};
-ghost use Rattle.asl_diagnose.specs.Places.{declares_behind, is_named, is_word, IsNameAt, IsWordAt, AreDeclaredAt};
+ghost use Rattle.asl_diagnose.specs.Places.{declares_behind, is_named, is_word, words_in, IsNameAt, IsWordAt, IsSomeWordAt, AreDeclaredAt};
+ghost use Rattle.asl_diagnose.specs.SeenView.{has_name, is_twice, seen_nothing, is_function, first_function};
+ghost use Rattle.asl_diagnose.specs.declared.declared.Declares.TheVariants.{Nothing};
 
 use asl_grammar::lexer::{Found, Tokens};
 use asl_grammar::token::{Mark, Spot, Token};
@@ -47,7 +46,7 @@ struct Seen {
 
 impl Seen {
     ghost use Rattle.asl_grammar.specs.View.{spot_of};
-    ghost use Rattle.asl_diagnose.specs.SeenView.{seen_nothing, cell, noted, passed};
+    ghost use Rattle.asl_diagnose.specs.SeenView.{seen_nothing, cell, again, noted, passed};
 
     /// Nowhere.
     fn new() -> Seen
@@ -70,6 +69,17 @@ impl Seen {
             Declares::Function => self.function,
             Declares::Parameter => self.parameter,
             Declares::Nothing => None,
+        }
+    }
+
+    /// Where the name was declared before, if a token declares it again.
+    fn again(&self, token: Token<'_>, name: &[u8]) -> Option<usize>
+        ensures { result ≡ again name.now self.now (token_of token.entry) }
+    {
+        if is_named(token, name) {
+            self.earlier()
+        } else {
+            None
         }
     }
 
@@ -111,17 +121,16 @@ pub fn is_named(token: Token<'_>, name: &[u8]) -> bool
 
 /// The places of the first two declarations of a name in one name space.
 pub fn twice_places(text: &[u8], name: &[u8]) -> Option<(usize, usize)>
-    ensures { IfSome result (λ places. AreDeclaredAt (tokens_of text.now) name.now places.0 places.1) }
+    ensures some { IfSome result (λ places. AreDeclaredAt (tokens_of text.now) name.now places.0 places.1) }
+    ensures none { IfNone result (is_twice name.now seen_nothing (tokens_of text.now) ≡ false) }
 {
     let mut tokens = Tokens::new(text);
     let mut seen = Seen::new();
     'reading: while let Found::Token(spot) = tokens.next() {
-        if is_named(spot.token, name) {
-            if let Some(first) = seen.earlier() {
-                return Some((first, spot.at));
-            }
+        match seen.again(spot.token, name) {
+            Some(first) => return Some((first, spot.at)),
+            None => seen.pass(spot, name),
         }
-        seen.pass(spot, name);
     }
     None
 }
@@ -139,14 +148,24 @@ pub fn declares_at(text: &[u8], at: usize) -> Declares {
     Declares::Nothing
 }
 
+/// Whether the next name is a function's, and a token is this name.
+fn is_function(next: Declares, token: Token<'_>, name: &[u8]) -> bool
+    ensures { result ≡ is_function name.now next (token_of token.entry) }
+{
+    match next {
+        Declares::Function => is_named(token, name),
+        _ => false,
+    }
+}
+
 /// The place of the name of the first function of this name.
 pub fn function_place(text: &[u8], name: &[u8]) -> Option<usize>
-    ensures { IfSome result (IsNameAt (tokens_of text.now) name.now) }
+    ensures { result ≡ first_function name.now Nothing (tokens_of text.now) }
 {
     let mut tokens = Tokens::new(text);
     let mut next = Declares::Nothing;
     'reading: while let Found::Token(spot) = tokens.next() {
-        if is_named(spot.token, name) && matches!(next, Declares::Function) {
+        if is_function(next, spot.token, name) {
             return Some(spot.at);
         }
         next = declares_behind(next, spot.token);
@@ -189,11 +208,12 @@ pub fn head_of(text: &[u8], name: &[u8]) -> Option<Head> {
     head
 }
 
-/// A word of which a program has a counted number.
+/// A word or symbol that is counted.
 #[derive(Clone, Copy)]
 pub enum Word {
     Fn,
     Atomic,
+    Star,
 }
 
 /// Whether a token is the word.
@@ -203,13 +223,15 @@ fn is_word(word: Word, token: Token<'_>) -> bool
     match token {
         Token::Fixed(Mark::Fn) => matches!(word, Word::Fn),
         Token::Fixed(Mark::Atomic) => matches!(word, Word::Atomic),
+        Token::Fixed(Mark::Star) => matches!(word, Word::Star),
         _ => false,
     }
 }
 
 /// The place of a word with so many of it before.
 pub fn numbered(text: &[u8], word: Word, number: usize) -> Option<usize>
-    ensures { IfSome result (IsWordAt (tokens_of text.now) word number) }
+    ensures some { IfSome result (IsWordAt (tokens_of text.now) word number) }
+    ensures none { IfNone result (words_in word (tokens_of text.now) ≤ number) }
 {
     let mut tokens = Tokens::new(text);
     let mut left = number;
@@ -224,37 +246,40 @@ pub fn numbered(text: &[u8], word: Word, number: usize) -> Option<usize>
     None
 }
 
-/// The place of a name, the first from a place on.
-pub fn named_from(text: &[u8], name: &[u8], from: usize) -> Option<usize>
-    ensures { IfSome result (IsNameAt (tokens_of text.now) name.now) }
+/// The place of a name: the first from a place on, or else the last before it.
+pub fn name_near(text: &[u8], name: &[u8], from: usize) -> Option<usize>
+    ensures some { IfSome result (IsNameAt (tokens_of text.now) name.now) }
+    ensures none { IfNone result (has_name name.now (tokens_of text.now) ≡ false) }
 {
     let mut tokens = Tokens::new(text);
+    let mut last = None;
     'reading: while let Found::Token(spot) = tokens.next() {
-        if spot.at >= from && is_named(spot.token, name) {
-            return Some(spot.at);
+        if is_named(spot.token, name) {
+            if spot.at >= from {
+                return Some(spot.at);
+            }
+            last = Some(spot.at);
         }
     }
-    None
+    last
 }
 
-/// The place of the first `*` from a place on.
-pub fn star_from(text: &[u8], from: usize) -> Option<usize>
-    ensures { IfSome result (λ at. Contains (tokens_of text.now) (record { token = Fixed mark.Star; at = at })) }
+/// The place of a word: the first from a place on, or else the last before it.
+pub fn word_near(text: &[u8], word: Word, from: usize) -> Option<usize>
+    ensures some { IfSome result (IsSomeWordAt (tokens_of text.now) word) }
+    ensures none { IfNone result (words_in word (tokens_of text.now) ≡ 0) }
 {
     let mut tokens = Tokens::new(text);
+    let mut last = None;
     'reading: while let Found::Token(spot) = tokens.next() {
-        if spot.at >= from && is_star(spot.token) {
-            return Some(spot.at);
+        if is_word(word, spot.token) {
+            if spot.at >= from {
+                return Some(spot.at);
+            }
+            last = Some(spot.at);
         }
     }
-    None
-}
-
-/// Whether a token is `*`.
-fn is_star(token: Token<'_>) -> bool
-    ensures { IsTrue result → token_of token.entry ≡ Fixed mark.Star }
-{
-    matches!(token, Token::Fixed(Mark::Star))
+    last
 }
 
 /// Whether a token is this word or symbol.

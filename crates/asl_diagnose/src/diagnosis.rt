@@ -1,6 +1,7 @@
 //! What is told of a text that is refused.
 
 use crate::kind::TokenKind;
+use crate::most::Bringers;
 use asl_assembler::AsmFault;
 use asl_emitter::InferFault;
 use asl_syntax::SyntaxFault;
@@ -33,4 +34,6 @@ pub struct Diagnosis {
     pub may_end: bool,
     /// For `Twice` the place of the first of the two declarations.
     pub first: Option<usize>,
+    /// For `TooManyLocks` statements that bring most of the locks, if there are few such ones.
+    pub bringers: Option<Bringers>,
 }

@@ -1,15 +1,16 @@
 //! The lines of an assembly text, and the words of a line.
 
-ghost use Rattle.std.specs.Prelude.{◌≡◌};
+ghost use Rattle.std.specs.Prelude.{◌≡◌, ◌+◌, ◌<◌, ◌≤◌, drop, length, IfSome, IfNone};
 ghost use Rattle.std.specs.List.{prefix_len};
-ghost use Rattle.asl_assembler.specs.Words.{is_separator};
+ghost use Rattle.asl_assembler.specs.Words.{is_separator, words_of};
+ghost use Rattle.asl_diagnose.specs.Position.{line_behind, BeginsLine};
+ghost use Rattle.asl_diagnose.specs.Rows.{first_of};
 ghost use Rattle.asl_assembler.specs.Reading.{is_line_byte, is_word_byte};
 
-/// A line of a text: its number from 1, the place of its first byte, and its bytes.
+/// A line of a text: its number from 1, and its bytes.
 #[derive(Clone, Copy)]
 pub struct Row<'t> {
     pub number: usize,
-    pub at: usize,
     pub line: &'t [u8],
 }
 
@@ -17,7 +18,6 @@ pub struct Row<'t> {
 #[derive(Clone, Copy)]
 pub struct Rows<'t> {
     rest: &'t [u8],
-    at: usize,
     number: usize,
 }
 
@@ -28,22 +28,34 @@ fn line_len(text: &[u8]) -> usize
     text.iter().take_while(|byte| **byte != b'\n').count()
 }
 
+/// What stands behind the first byte.
+fn behind_first(bytes: &[u8]) -> &[u8]
+    ensures { result.now ≡ drop 1 bytes.now }
+{
+    match bytes {
+        [] => bytes,
+        [_, behind @ ..] => behind,
+    }
+}
+
 impl<'t> Rows<'t> {
-    ghost use Rattle.std.specs.Prelude.{◌<◌, IsSome};
-    ghost use Rattle.asl_diagnose.specs.Rows.{rows_left};
+    ghost use Rattle.asl_assembler.specs.Words.{lines_of};
+    ghost use Rattle.asl_diagnose.specs.Rows.{lines_left, rows_left, IsNextRow};
 
     /// The lines of a text.
-    pub fn new(text: &'t [u8]) -> Rows<'t> {
+    pub fn new(text: &'t [u8]) -> Rows<'t>
+        ensures lines { lines_left result ≡ lines_of text.now }
+        ensures bytes { rows_left result ≡ length text.now }
+    {
         Rows {
             rest: text,
-            at: 0,
             number: 0,
         }
     }
 
     /// The next line.
     pub fn next(&mut self) -> Option<Row<'t>>
-        ensures { IsSome result → rows_left self.new < rows_left self.old }
+        ensures { IsNextRow self.old result self.new }
     {
         if self.rest.is_empty() {
             return None;
@@ -52,14 +64,9 @@ impl<'t> Rows<'t> {
         self.number = self.number.saturating_add(1);
         let row = Row {
             number: self.number,
-            at: self.at,
             line,
         };
-        self.at = self.at.saturating_add(line.len()).saturating_add(1);
-        self.rest = match rest {
-            [] => rest,
-            [_, behind @ ..] => behind,
-        };
+        self.rest = behind_first(rest);
         Some(row)
     }
 }
@@ -86,7 +93,9 @@ fn word_len(line: &[u8]) -> usize
 }
 
 /// The first word of a line, which is empty where the line has none, and the line behind it.
-pub fn first_word(line: &[u8]) -> (&[u8], &[u8]) {
+pub fn first_word(line: &[u8]) -> (&[u8], &[u8])
+    ensures { result.0.now ≡ first_of (words_of line.now) }
+{
     let (_, words) = line.split_at(gap_len(line));
     words.split_at(word_len(words))
 }
@@ -115,14 +124,30 @@ pub fn number_in(word: &[u8], marks: usize) -> usize {
     value
 }
 
-/// Where the line of this number begins, from 1, behind the blanks at its front; the end of the text where there is no such
-/// line.
-pub fn place_of_line(text: &[u8], number: usize) -> usize {
-    let mut rows = Rows::new(text);
-    'rows: while let Some(row) = rows.next() {
-        if row.number == number {
-            return row.at.saturating_add(gap_len(row.line));
+/// Where the line of this number begins, if there are so many line feeds before.
+pub fn line_begin(text: &[u8], number: usize) -> Option<usize>
+    ensures some { IfSome result (BeginsLine text.now number) }
+    ensures none { IfNone result (0 < number → line_behind text.now < number) }
+{
+    if number == 1 {
+        return Some(0);
+    }
+    let mut line: usize = 1;
+    for (i, byte) in text.iter().enumerate() {
+        if *byte == b'\n' {
+            line += 1;
+            if line == number {
+                return Some(i + 1);
+            }
         }
     }
-    text.len()
+    None
+}
+
+/// The first byte from the begin of a line on that is no blank.
+pub fn front(text: &[u8], start: usize) -> usize
+    requires { start ≤ length text.now }
+    ensures { result ≡ start + prefix_len is_separator (drop start text.now) }
+{
+    start + gap_len(&text[start..])
 }

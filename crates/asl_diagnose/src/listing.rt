@@ -1,5 +1,10 @@
 //! Which line of an assembly text a rule is broken by.
 
+ghost use Rattle.std.specs.Prelude.{◌≡◌};
+ghost use Rattle.asl_assembler.specs.Words.{lines_of};
+ghost use Rattle.asl_diagnose.specs.Rows.{row_of};
+ghost use Rattle.asl_diagnose.specs.Instructions.{setters, others, is_one, is_instruction, is_instruction_word};
+
 use crate::forms::{Turn, turn_behind};
 use crate::lines::{Row, Rows, first_word, number_in, word};
 use asl_code::VerifyFault;
@@ -85,7 +90,7 @@ pub fn whole(text: &[u8]) -> Listing {
     listing
 }
 
-/// The number of the line by which a rule is broken.
+/// The number of the line by which a rule of the whole image is broken; none for a rule of instructions.
 pub fn fault_row(text: &[u8], cause: VerifyFault) -> Option<usize> {
     match cause {
         VerifyFault::Limit => limit_row(text),
@@ -93,10 +98,7 @@ pub fn fault_row(text: &[u8], cause: VerifyFault) -> Option<usize> {
         VerifyFault::NoEntry => named_row(text, b"entry"),
         VerifyFault::FunctionRange => range_row(text),
         VerifyFault::FallsOut => falling_row(text),
-        VerifyFault::Target(pc)
-        | VerifyFault::Register(pc)
-        | VerifyFault::Operand(pc)
-        | VerifyFault::ListBase(pc) => instruction_row(text, pc as usize),
+        _ => None,
     }
 }
 
@@ -112,17 +114,51 @@ fn named_row(text: &[u8], name: &[u8]) -> Option<usize> {
     None
 }
 
-/// The line of the instruction of this number.
-fn instruction_row(text: &[u8], pc: usize) -> Option<usize> {
+/// The number of the line of the instruction of this number.
+pub fn instruction_row(text: &[u8], pc: usize) -> Option<usize>
+    ensures { result ≡ row_of pc 1 (lines_of text.now) }
+{
     let mut rows = Rows::new(text);
-    let mut listing = Listing::new();
+    let mut left = pc;
+    let mut number: usize = 1;
     'rows: while let Some(row) = rows.next() {
-        listing.pass(row.line);
-        if listing.code > pc {
-            return Some(row.number);
+        if is_instruction(row.line) {
+            if left == 0 {
+                return Some(number);
+            }
+            left -= 1;
         }
+        number += 1;
     }
     None
+}
+
+/// Whether a line is an instruction.
+fn is_instruction(line: &[u8]) -> bool
+    ensures { result ≡ is_instruction line.now }
+{
+    let (word, _) = first_word(line);
+    is_setter(word) || is_other(word)
+}
+
+/// Whether a word begins an instruction that sets a register from others.
+fn is_setter(word: &[u8]) -> bool
+    ensures { result ≡ is_one word.now setters }
+{
+    matches!(
+        word,
+        b"int" | b"null" | b"mov" | b"add" | b"sub" | b"lt" | b"eq" | b"glob" | b"field"
+    )
+}
+
+/// Whether a word begins another instruction.
+fn is_other(word: &[u8]) -> bool
+    ensures { result ≡ is_one word.now others }
+{
+    matches!(
+        word,
+        b"load" | b"store" | b"new" | b"jmp" | b"jz" | b"call" | b"ret" | b"out" | b"acq" | b"rel"
+    )
 }
 
 /// What was read up to the function of the instruction of this number, that function's line among it.

@@ -2,7 +2,7 @@
 
 use crate::bytes::push_quoted;
 use crate::code::{code_len, statement_of};
-use crate::declared::{Declares, Word, declares_at, head_of, name_from, numbered, star_from};
+use crate::declared::{Declares, Word, declares_at, head_of, name_from, numbered, word_near};
 use crate::kind::mark_text;
 use crate::limit::limit_text;
 use crate::used::{Role, function_around, registers, role_at};
@@ -188,20 +188,31 @@ pub fn push_infer_sentence(
         InferFault::TooManyClasses => {
             out.push_str("the program has more than 1024 classes of objects")
         }
-        InferFault::TooManyLocks(Region::Section(_)) => {
-            out.push_str("the section needs more than 4096 different locks")
-        }
-        InferFault::TooManyLocks(Region::Body(_)) => {
-            out.push_str("the function needs more than 4096 different locks")
-        }
+        InferFault::TooManyLocks(region) => push_locks_sentence(out, text, region),
         InferFault::OutOfMemory => out.push_str("memory ran out"),
     }
+}
+
+/// Adds the sentence of a region that needs too many locks.
+fn push_locks_sentence(out: &mut String, text: &[u8], region: Region) -> Result<(), AllocError> {
+    match region {
+        Region::Section(section) => {
+            let at = numbered(text, Word::Atomic, usize::from(section)).unwrap_or(0);
+            out.push_str("this section in ")?;
+            push_quoted(out, function_around(text, at))?;
+        }
+        Region::Body(function) => {
+            out.push_str("the function ")?;
+            push_quoted(out, function_name(text, usize::from(function)))?;
+        }
+    }
+    out.push_str(" needs more than 4096 different locks")
 }
 
 /// Whether the instruction at a pc reads or writes.
 fn access_text(alloc: Global, text: &[u8], pc: usize) -> Result<&'static str, AllocError> {
     let at = statement_of(alloc, text, pc)?.unwrap_or(0);
-    Ok(if star_from(text, at) == Some(at) {
+    Ok(if word_near(text, Word::Star, at) == Some(at) {
         "a cell is written here, and no section is open"
     } else {
         "a cell is read here, and no section is open"

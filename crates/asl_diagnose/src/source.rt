@@ -1,18 +1,22 @@
 //! What is told of a source that is refused.
 
-ghost use Rattle.std.specs.Prelude.{◌≡◌, ◌≢◌, ◌≤◌, ◌⊎◌, ℕ, false, length, codes, IfOk};
+ghost use Rattle.std.specs.Prelude.{◌≡◌, ◌≢◌, ◌≤◌, ◌<◌, ℕ, true, false, codes, IfOk};
 ghost use Rattle.asl_grammar.specs.Lex.{tokens_of};
 ghost use Rattle.asl_syntax.specs.AstView.{tree_of};
 ghost use Rattle.asl_syntax.specs.Parsed.{Parses};
 ghost use Rattle.asl_syntax.specs.Fault.{IsFault};
-ghost use Rattle.asl_diagnose.specs.Places.{IsNameAt};
-ghost use Rattle.asl_diagnose.specs.Diagnosed.{IsSourceDiagnosed, IsSourceDiagnosis, IsSyntaxPlace, IsExpectedFor, IsInferPlace, IsStarOrEnd, IsWordOrEnd, IsPosition};
+ghost use Rattle.asl_emitter.specs.Refused.{IsRefused};
+ghost use Rattle.asl_diagnose.specs.SeenView.{has_name, is_twice, seen_nothing};
+ghost use Rattle.asl_diagnose.specs.Places.{words_in, IsNameAt, IsWordAt, IsSomeWordAt};
+ghost use Rattle.asl_diagnose.specs.Diagnosed.{IsSourceDiagnosed, IsSourceDiagnosis, IsSyntaxPlace, IsMainPlace, IsExpectedFor, IsInferPlace, IsRegionPlace, IsPosition};
 
 use crate::code::statement_of;
-use crate::declared::{Word, function_place, named_from, numbered, star_from, twice_places};
+use crate::declared::{Word, function_place, name_near, numbered, twice_places, word_near};
 use crate::diagnosis::{Diagnosis, Refusal};
 use crate::expected::{Expected, expected_behind};
+use crate::most::{Bringers, find_bringers};
 use crate::place::{column, line};
+use crate::size::overfull_function;
 use crate::used::unknown_place;
 use asl_backward_flow::Region;
 use asl_emitter::{InferFault, infer};
@@ -54,7 +58,7 @@ fn diagnose_tree(
             let _ = program;
             Ok(None)
         }
-        Err(fault) => Ok(Some(told_infer(alloc, source, fault)?)),
+        Err(fault) => Ok(Some(told_infer(alloc, source, ast, fault, k)?)),
     }
 }
 
@@ -85,6 +89,7 @@ fn told_syntax(alloc: Global, source: &[u8], fault: SyntaxFault) -> Result<Diagn
         expected: expected.kinds,
         may_end: expected.may_end,
         first,
+        bringers: None,
     })
 }
 
@@ -104,6 +109,7 @@ fn expected_for(alloc: Global, source: &[u8], fault: &SyntaxFault) -> Result<Exp
 
 /// The place of a fault, and of a second declaration the place of the first.
 fn syntax_place(source: &[u8], fault: &SyntaxFault) -> (usize, Option<usize>)
+    requires { IsFault source.now fault.now }
     ensures { IsSyntaxPlace source.now fault.now result.1 result.0 }
 {
     match fault {
@@ -121,28 +127,30 @@ fn syntax_place(source: &[u8], fault: &SyntaxFault) -> (usize, Option<usize>)
 
 /// The place of the second declaration of a name, and that of the first.
 fn twice_place(source: &[u8], name: &Name) -> (usize, Option<usize>)
+    requires { is_twice name.now seen_nothing (tokens_of source.now) ≡ true }
     ensures { IsSyntaxPlace source.now (SyntaxFault.Twice name.now) result.1 result.0 }
 {
     match twice_places(source, name.as_slice()) {
         Some((first, second)) => (second, Some(first)),
-        None => (source.len(), None),
+        None => unreachable!(),
     }
 }
 
-/// The place of a use of a name that is nowhere declared, or the end of the text.
+/// The place of a use of a name that is nowhere declared.
 fn use_place(source: &[u8], name: &Name) -> usize
-    ensures { IsNameAt (tokens_of source.now) name.now result ⊎ (result ≡ length source.now) }
+    requires { has_name name.now (tokens_of source.now) ≡ true }
+    ensures { IsNameAt (tokens_of source.now) name.now result }
 {
     let from = unknown_place(source, name.as_slice()).unwrap_or(0);
-    match named_from(source, name.as_slice(), from) {
+    match name_near(source, name.as_slice(), from) {
         Some(at) => at,
-        None => source.len(),
+        None => unreachable!(),
     }
 }
 
-/// The name of a function `main`, or the end of the text.
+/// The name of the first function `main`, or the end of a text that has none.
 fn main_place(source: &[u8]) -> usize
-    ensures { IsNameAt (tokens_of source.now) (codes "main") result ⊎ (result ≡ length source.now) }
+    ensures { IsMainPlace source.now result }
 {
     match function_place(source, b"main") {
         Some(at) => at,
@@ -151,7 +159,16 @@ fn main_place(source: &[u8]) -> usize
 }
 
 /// What is told of a program for which no lists are inferred.
-fn told_infer(alloc: Global, source: &[u8], fault: InferFault) -> Result<Diagnosis, AllocError>
+fn told_infer(
+    alloc: Global,
+    source: &[u8],
+    ast: &Ast,
+    fault: InferFault,
+    k: u32,
+) -> Result<Diagnosis, AllocError>
+    requires small { k ≤ 8 }
+    requires parses { Parses source.now (tree_of ast.now) }
+    requires refused { IsRefused (tree_of ast.now) k fault }
     ensures real { IfOk result (λ _. fault ≢ InferFault.OutOfMemory) }
     ensures refusal { IfOk result (λ told. told.refusal ≡ Refusal.Infer fault) }
     ensures place { IfOk result (λ told. IsInferPlace source.now fault told.at) }
@@ -160,7 +177,8 @@ fn told_infer(alloc: Global, source: &[u8], fault: InferFault) -> Result<Diagnos
     if is_memory_of(fault) {
         return Err(AllocError);
     }
-    let at = infer_place(alloc, source, fault)?;
+    let at = infer_place(alloc, source, ast, fault)?;
+    let bringers = bringers_for(alloc, source, fault, k)?;
     let line = line(source, at);
     let column = column(source, at);
     Ok(Diagnosis {
@@ -171,7 +189,23 @@ fn told_infer(alloc: Global, source: &[u8], fault: InferFault) -> Result<Diagnos
         expected: Vec::new(alloc),
         may_end: false,
         first: None,
+        bringers,
     })
+}
+
+/// The statements that bring most of the locks, where a region needs too many.
+fn bringers_for(
+    alloc: Global,
+    source: &[u8],
+    fault: InferFault,
+    k: u32,
+) -> Result<Option<Bringers>, AllocError>
+    requires { k ≤ 8 }
+{
+    match fault {
+        InferFault::TooManyLocks(region) => find_bringers(alloc, source, region, k),
+        _ => Ok(None),
+    }
 }
 
 /// Whether memory was all that was wanting.
@@ -182,55 +216,58 @@ fn is_memory_of(fault: InferFault) -> bool
 }
 
 /// The place of a fault of a program.
-fn infer_place(alloc: Global, source: &[u8], fault: InferFault) -> Result<usize, AllocError>
+fn infer_place(
+    alloc: Global,
+    source: &[u8],
+    ast: &Ast,
+    fault: InferFault,
+) -> Result<usize, AllocError>
+    requires parses { Parses source.now (tree_of ast.now) }
+    requires refused { (k : ℕ) × IsRefused (tree_of ast.now) k fault }
     ensures { IfOk result (IsInferPlace source.now fault) }
 {
     match fault {
         InferFault::Registers(function) => {
             Ok(word_place(source, Word::Fn, usize::from(function)))
         }
-        InferFault::CodeSize => size_place(alloc, source),
+        InferFault::CodeSize => Ok(word_place(source, Word::Fn, overfull_function(ast))),
         InferFault::AccessOutsideSection(_, pc) => { access_place(alloc, source, usize::from(pc)) }
-        InferFault::TooManyLocks(Region::Section(section)) => {
-            Ok(word_place(source, Word::Atomic, usize::from(section)))
-        }
-        InferFault::TooManyLocks(Region::Body(function)) => {
-            Ok(word_place(source, Word::Fn, usize::from(function)))
-        }
+        InferFault::TooManyLocks(region) => Ok(region_place(source, region)),
         InferFault::TooManyClasses | InferFault::OutOfMemory => Ok(source.len()),
     }
 }
 
-/// The place of a word with so many of it before, or the end of the text.
-fn word_place(source: &[u8], word: Word, number: usize) -> usize
-    ensures { IsWordOrEnd source.now word number result }
+/// The word that a region begins with.
+fn region_place(source: &[u8], region: Region) -> usize
+    requires section { (n : ℕ) → region ≡ Region.Section n → n < words_in Word.Atomic (tokens_of source.now) }
+    requires body { (n : ℕ) → region ≡ Region.Body n → n < words_in Word.Fn (tokens_of source.now) }
+    ensures { IsRegionPlace source.now region result }
 {
-    match numbered(source, word, number) {
-        Some(at) => at,
-        None => source.len(),
+    match region {
+        Region::Section(section) => word_place(source, Word::Atomic, usize::from(section)),
+        Region::Body(function) => word_place(source, Word::Fn, usize::from(function)),
     }
 }
 
-/// The statement of the first instruction that is too many.
-fn size_place(alloc: Global, source: &[u8]) -> Result<usize, AllocError> {
-    let statement = statement_of(alloc, source, 65_535)?;
-    Ok(statement.unwrap_or(source.len()))
+/// The place of a word with so many of it before.
+fn word_place(source: &[u8], word: Word, number: usize) -> usize
+    requires { number < words_in word (tokens_of source.now) }
+    ensures { IsWordAt (tokens_of source.now) word number result }
+{
+    match numbered(source, word, number) {
+        Some(at) => at,
+        None => unreachable!(),
+    }
 }
 
-/// The `*` of the access at a pc, or the end of the text.
+/// A `*`, mostly that of the access at a pc.
 fn access_place(alloc: Global, source: &[u8], pc: usize) -> Result<usize, AllocError>
-    ensures { IfOk result (IsStarOrEnd source.now) }
+    requires { 0 < words_in Word.Star (tokens_of source.now) }
+    ensures { IfOk result (IsSomeWordAt (tokens_of source.now) Word.Star) }
 {
     let statement = statement_of(alloc, source, pc)?;
-    Ok(star_place(source, statement.unwrap_or(0)))
-}
-
-/// The first `*` from a place on, or the end of the text.
-fn star_place(source: &[u8], from: usize) -> usize
-    ensures { IsStarOrEnd source.now result }
-{
-    match star_from(source, from) {
-        Some(at) => at,
-        None => source.len(),
+    match word_near(source, Word::Star, statement.unwrap_or(0)) {
+        Some(at) => Ok(at),
+        None => unreachable!(),
     }
 }

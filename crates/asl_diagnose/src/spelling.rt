@@ -85,7 +85,7 @@ fn push_hints(
 ) -> Result<(), AllocError> {
     match &told.refusal {
         Refusal::Syntax(fault) => push_syntax_hints(alloc, out, text, fault, told),
-        Refusal::Infer(fault) => push_infer_hints(alloc, out, text, *fault),
+        Refusal::Infer(fault) => push_infer_hints(alloc, out, text, *fault, told),
         Refusal::Asm(fault) => assembly_hints::push_hints(alloc, out, text, *fault),
     }
 }

@@ -1,0 +1,75 @@
+-- The words at which refusals are told are there.
+use Rattle.std.proofs.Common.{◌≡◌, ℕ, ◌+◌, ◌<◌, ◌≤◌, Bool, List, length, Some, slice_get, true, refl, sym, ap, ◌∙◌, subst, arith}
+use Rattle.std.proofs.lemmas.Option.{slice_get_within, slice_get-get_or}
+use Rattle.asl_code.specs.declared.instr.Instr.{Instr}
+use Rattle.asl_code.specs.declared.lock.Lock.{Lock}
+use Rattle.asl_code.specs.declared.lock.Lock.TheVariants as lock
+use Rattle.asl_code.specs.declared.value.Effect.TheVariants as effect
+use Rattle.asl_grammar.specs.Lex.{tokens_of}
+use Rattle.asl_syntax.specs.declared.fault.SyntaxFault.TheVariants as syntax
+use Rattle.asl_syntax.specs.Tree.{Item, functions_of}
+use Rattle.asl_syntax.specs.Parsed.{Parses}
+use Rattle.asl_syntax.specs.Fault.{IsFault}
+use Rattle.asl_syntax.proofs.FirstUnknown.{unknown_first}
+use Rattle.asl_lower.specs.Place.{origin, past_functions}
+use Rattle.asl_lower.specs.Lowered.{Lowered, IsLowering}
+use Rattle.asl_lower.specs.Regions.{Region, Body, Inside, IsIn}
+use Rattle.asl_lower.proofs.Laid.{code_is}
+use Rattle.asl_backward_flow.specs.Needed.{NeedsMany, region_of}
+use Rattle.asl_backward_flow.specs.declared.region.Region.TheVariants as variant
+use Rattle.asl_backward_flow.proofs.Leasts.{needed_inside}
+use Rattle.asl_points_to.specs.Classes.{Classed}
+use Rattle.asl_emitter.specs.Refused.{IsRefused}
+use Rattle.asl_emitter.specs.declared.fault.InferFault.TheVariants as infer
+use Rattle.asl_diagnose.specs.declared.declared.Word.TheVariants as word
+use Rattle.asl_diagnose.specs.Places.{words_in, IsOverfull}
+use Rattle.asl_diagnose.specs.SeenView.{has_name, is_twice, seen_nothing}
+use Rattle.asl_diagnose.proofs.There.{functions_there, sections_there, crowded_there}
+use Rattle.asl_diagnose.proofs.Stars.{star_there}
+use Rattle.asl_diagnose.proofs.Uses.{use_there}
+use Rattle.asl_diagnose.proofs.Marked.{repeated_there}
+
+-- a name that is declared twice, and one that is nowhere declared
+pub twice_there : (text x : List ℕ) → IsFault text (syntax.Twice x) → is_twice x seen_nothing (tokens_of text) ≡ true
+twice_there text x h = repeated_there h.tree (tokens_of text) x h.spelled.spelled h.name
+
+pub unknown_there : (text x : List ℕ) → IsFault text (syntax.Unknown x) → has_name x (tokens_of text) ≡ true
+unknown_there text x h =
+    use_there h.tree (tokens_of text) x h.spelled.spelled (unknown_first h.tree x h.name)
+
+-- a function with too many registers
+pub registers_there : (text : List ℕ) (tree : List Item) (k number : ℕ) → Parses text tree → IsRefused tree k (infer.Registers number) → number < words_in word.Fn (tokens_of text)
+registers_there text tree k number p h =
+    omega (arith, crowded_there 0 number (functions_of tree) h, functions_there tree (tokens_of text) p.spelled.spelled)
+
+-- an access
+pub access_there : (text : List ℕ) (tree : List Item) (k function pc : ℕ) → Parses text tree → IsRefused tree k (infer.AccessOutsideSection function pc) → 0 < words_in word.Star (tokens_of text)
+access_there text tree k function pc p h =
+    let a = h.1.2.access in
+    let P : List Instr → Type 0 = λ code. slice_get code pc ≡ Some a.instruction in
+    star_there tree (tokens_of text) pc a.instruction p.spelled.spelled (subst P (code_is tree h.1.0 h.1.1) a.stands) a.access
+
+-- a region that needs many locks has a place
+region_inside : (l : Lowered) (c : Classed) (stores : ℕ → ℕ → Bool) (longest : ℕ) (r : Region) → NeedsMany l c stores longest r → (f : ℕ) × (pc : ℕ) × IsIn l r f pc
+region_inside l c stores longest r h =
+    let first : Lock = lock.Root effect.Read in
+    let one = h.needed 0 _ (slice_get-get_or h.locks 0 first (omega (arith, h.many))) in
+    let k = needed_inside l c stores longest r one.0 _ one.1 in
+    (k.0, one.0, k.1)
+
+pub section_there : (text : List ℕ) (tree : List Item) (k number : ℕ) → Parses text tree → IsRefused tree k (infer.TooManyLocks (variant.Section number)) → number < words_in word.Atomic (tokens_of text)
+section_there text tree k number p h =
+    let a = h.analysis in
+    let i = region_inside a.program.lowering a.program.classes a.stores k (Inside number) h.many in
+    omega (arith, slice_get_within a.program.lowering.sections number i.2.is i.2.in_table, a.program.lowers.sections, sections_there tree (tokens_of text) p.spelled.spelled)
+
+pub body_there : (text : List ℕ) (tree : List Item) (k number : ℕ) → Parses text tree → IsRefused tree k (infer.TooManyLocks (variant.Body number)) → number < words_in word.Fn (tokens_of text)
+body_there text tree k number p h =
+    let a = h.analysis in
+    let i = region_inside a.program.lowering a.program.classes a.stores k (Body number) h.many in
+    omega (arith, slice_get_within a.program.lowering.functions number i.2.2.function i.2.2.in_table, a.program.lowers.functions, functions_there tree (tokens_of text) p.spelled.spelled)
+
+-- the function at which the code passes the limit
+pub overfull_there : (text : List ℕ) (tree : List Item) (number : ℕ) → Parses text tree → IsOverfull tree number → number < words_in word.Fn (tokens_of text)
+overfull_there text tree number p h =
+    omega (arith, h.there, functions_there tree (tokens_of text) p.spelled.spelled)

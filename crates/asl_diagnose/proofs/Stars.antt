@@ -1,0 +1,107 @@
+-- Each access of a program's code has its `*` in the text.
+use Rattle.std.proofs.Common.{◌≡◌, ℕ, zero, suc, ◌+◌, ◌<◌, ◌≤◌, Bool, true, false, IsTrue, if◌then◌else◌, List, [], ◌∷◌, ◌++◌, Option, Some, None, length, map, slice_get, refl, sym, ap, ◌∙◌, arith}
+use Rattle.asl_code.specs.declared.instr.Instr.{Instr}
+use Rattle.asl_code.specs.declared.instr.Instr.TheVariants as instr
+use Rattle.asl_grammar.specs.declared.token.Mark.TheVariants as mark
+use Rattle.asl_grammar.specs.declared.control.Operator.TheVariants.{Add, Subtract, IsLess, IsEqual}
+use Rattle.asl_grammar.specs.Token.{Token, Fixed, Name, Spot}
+use Rattle.asl_grammar.specs.Grammar.{bare}
+use Rattle.asl_grammar.specs.Written as w
+use Rattle.asl_grammar.specs.Spelling.{names_on, line_on, stmt_on, block_on, else_on, function_on, program_on}
+use Rattle.asl_syntax.specs.Tree.{Item, functions_of}
+use Rattle.asl_syntax.specs.Spelled.{line_meaning, stmt_meaning, block_meaning, else_meaning, function_meaning, item_meaning, Spells}
+use Rattle.asl_lower.specs.Names.{Scope, register, function_number, scope_of}
+use Rattle.asl_lower.specs.Lowered.{first_argument}
+use Rattle.asl_lower.specs.Place.{Place, next, entered, origin, past_stmt, past_block, past_function}
+use Rattle.asl_lower.specs.Region.{is_access}
+use Rattle.asl_lower.specs.Layout.{moves, stmt_code, block_code, else_code, function_code, functions_code}
+use Rattle.asl_diagnose.specs.declared.declared.Word.TheVariants as word
+use Rattle.asl_diagnose.specs.Places.{words_in}
+use Rattle.asl_diagnose.proofs.There.{count, counted, names_count}
+
+abbrev weight : Bool → ℕ
+weight b = if b then 1 else 0
+
+-- how many accesses there are
+abbrev accesses : List Instr → ℕ
+accesses [] = 0
+accesses (i ∷ is) = weight (is_access i) + accesses is
+
+both : (xs ys : List Instr) → accesses (xs ++ ys) ≡ accesses xs + accesses ys
+both [] ys = omega arith
+both (x ∷ xs) ys = omega (arith, both xs ys)
+
+no_moves : (sc : Scope) (args : List (List ℕ)) (to : ℕ) → accesses (moves sc args to) ≡ 0
+no_moves sc [] to = refl
+no_moves sc (a ∷ rest) to = omega (arith, no_moves sc rest (suc to))
+
+line_stars : (sc : Scope) (l : w.Line) (rest : List Token) (p : Place) → accesses (stmt_code sc (line_meaning l) p) + count word.Star rest ≤ count word.Star (line_on l rest)
+line_stars sc (w.Assigns x (w.Literal true n)) rest p = omega arith
+line_stars sc (w.Assigns x (w.Literal false n)) rest p = omega arith
+line_stars sc (w.Assigns x w.NullValue) rest p = omega arith
+line_stars sc (w.Assigns x (w.Copied y)) rest p = omega arith
+line_stars sc (w.Assigns x (w.Binary y Add z)) rest p = omega arith
+line_stars sc (w.Assigns x (w.Binary y Subtract z)) rest p = omega arith
+line_stars sc (w.Assigns x (w.Binary y IsLess z)) rest p = omega arith
+line_stars sc (w.Assigns x (w.Binary y IsEqual z)) rest p = omega arith
+line_stars sc (w.Assigns x (w.GlobalAddress y)) rest p = omega arith
+line_stars sc (w.Assigns x (w.FieldAddress y n)) rest p = omega arith
+line_stars sc (w.Assigns x (w.Loaded y)) rest p = omega arith
+line_stars sc (w.Assigns x (w.Created n)) rest p = omega arith
+line_stars sc (w.Calls x f args) rest p =
+    let last : List Instr = instr.Call (register sc x) (first_argument sc args) (function_number sc f) ∷ [] in
+    omega (arith, both (moves sc args (length sc.locals)) last, no_moves sc args (length sc.locals), names_count word.Star args (Fixed mark.CloseParen ∷ rest))
+line_stars sc (w.Stores x y) rest p = omega arith
+line_stars sc (w.Shows x) rest p = omega arith
+
+mutual
+  stmt_stars : (sc : Scope) (s : w.Stmt) (rest : List Token) (p : Place) → accesses (stmt_code sc (stmt_meaning s) p) + count word.Star rest ≤ count word.Star (stmt_on s rest)
+  stmt_stars sc (w.Simple l) rest p = omega (arith, line_stars sc l (Fixed mark.Semicolon ∷ rest) p)
+  stmt_stars sc (w.IfStmt x a e) rest p =
+      let mid : Place = past_block (block_meaning a) (next p) in
+      omega (arith, both (block_code sc (block_meaning a) (next p)) (else_code sc (else_meaning e) mid), block_stars sc a (Fixed mark.CloseBrace ∷ else_on e rest) (next p), else_stars sc e rest mid)
+  stmt_stars sc (w.WhileStmt x a) rest p =
+      omega (arith, both (block_code sc (block_meaning a) (next p)) (instr.Jump p.pc ∷ []), block_stars sc a (Fixed mark.CloseBrace ∷ rest) (next p))
+  stmt_stars sc (w.AtomicStmt a) rest p =
+      omega (arith, both (block_code sc (block_meaning a) (entered p)) (instr.Release ∷ []), block_stars sc a (Fixed mark.CloseBrace ∷ rest) (entered p))
+
+  block_stars : (sc : Scope) (b : w.Block) (rest : List Token) (p : Place) → accesses (block_code sc (block_meaning b) p) + count word.Star rest ≤ count word.Star (block_on b rest)
+  block_stars sc w.End rest p = omega arith
+  block_stars sc (w.More s b) rest p =
+      let q : Place = past_stmt (stmt_meaning s) p in
+      omega (arith, both (stmt_code sc (stmt_meaning s) p) (block_code sc (block_meaning b) q), stmt_stars sc s (block_on b rest) p, block_stars sc b rest q)
+
+  else_stars : (sc : Scope) (e : w.Else) (rest : List Token) (p : Place) → accesses (else_code sc (else_meaning e) p) + count word.Star rest ≤ count word.Star (else_on e rest)
+  else_stars sc w.NoElse rest p = omega arith
+  else_stars sc (w.Otherwise w.End) rest p = omega arith
+  else_stars sc (w.Otherwise (w.More s b)) rest p =
+      let q : Place = past_stmt (stmt_meaning s) (next p) in
+      omega (arith, both (stmt_code sc (stmt_meaning s) (next p)) (block_code sc (block_meaning b) q), stmt_stars sc s (block_on b (Fixed mark.CloseBrace ∷ rest)) (next p), block_stars sc b (Fixed mark.CloseBrace ∷ rest) q)
+
+function_stars : (tree : List Item) (number : ℕ) (f : w.Function) (rest : List Token) (p : Place) → accesses (function_code tree number (function_meaning f) p) + count word.Star rest ≤ count word.Star (function_on f rest)
+function_stars tree number f rest p =
+    let sc : Scope = scope_of tree number (function_meaning f) in
+    let behind : List Token = Fixed mark.Return ∷ Name f.returned ∷ Fixed mark.Semicolon ∷ Fixed mark.CloseBrace ∷ rest in
+    let head : List Token = Fixed mark.CloseParen ∷ Fixed mark.OpenBrace ∷ block_on f.body behind in
+    omega (arith, both (block_code sc (block_meaning f.body) p) (instr.Return (register sc f.returned) ∷ []), names_count word.Star f.parameters head, block_stars sc f.body behind p)
+
+items_stars : (tree : List Item) (number : ℕ) (is : List w.Item) (p : Place) → accesses (functions_code tree number (functions_of (map item_meaning is)) p) ≤ count word.Star (program_on is [])
+items_stars tree number [] p = omega arith
+items_stars tree number (w.GlobalItem x ∷ is) p = omega (arith, items_stars tree number is p)
+items_stars tree number (w.FunctionItem f ∷ is) p =
+    let q : Place = past_function (function_meaning f) p in
+    omega (arith, both (function_code tree number (function_meaning f) p) (functions_code tree (suc number) (functions_of (map item_meaning is)) q), function_stars tree number f (program_on is []) p, items_stars tree (suc number) is q)
+
+-- an instruction that is an access is one of them
+some_access : (code : List Instr) (pc : ℕ) (i : Instr) → slice_get code pc ≡ Some i → IsTrue (is_access i) → 0 < accesses code
+some_access [] pc i e a = absurd cc
+some_access (x ∷ code) zero i e a =
+    let same : x ≡ i = cc in
+    let here : is_access x ≡ true = ap is_access same ∙ a in
+    omega (arith, ap weight here)
+some_access (x ∷ code) (suc pc) i e a = omega (arith, some_access code pc i e a)
+
+-- the text of a program whose code has an access has a `*`
+pub star_there : (tree : List Item) (ss : List Spot) (pc : ℕ) (i : Instr) → Spells tree (bare ss) → slice_get (functions_code tree 0 (functions_of tree) origin) pc ≡ Some i → IsTrue (is_access i) → 0 < words_in word.Star ss
+star_there tree ss pc i h e a =
+    omega (arith, some_access (functions_code tree 0 (functions_of tree) origin) pc i e a, items_stars tree 0 h.written origin, ap (count word.Star) h.spelled, ap (λ (t : List Item). accesses (functions_code tree 0 (functions_of t) origin)) h.meaning, counted word.Star ss)

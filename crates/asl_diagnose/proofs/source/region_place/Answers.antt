@@ -1,0 +1,7 @@
+use Rattle.asl_diagnose.proofs.source.region_place.Goals as goal
+
+pub word_place-requires : goal.word_place-requires
+word_place-requires c = c.requires.section c.in-Section.section c.in-Section.is
+
+pub word_place-requires-in-Body : goal.word_place-requires-in-Body
+word_place-requires-in-Body c = c.requires.body c.in-Body.function c.in-Body.is

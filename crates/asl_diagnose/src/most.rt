@@ -1,0 +1,178 @@
+//! Which statements of a region bring most of its locks.
+
+ghost use Rattle.std.specs.Prelude.{◌≤◌};
+
+use crate::region_lines::{Line, region_lines};
+use asl_backward_flow::{Flow, Region, needed};
+use asl_emitter::InferFault;
+use asl_lower::lower;
+use asl_points_to::classes;
+use asl_syntax::{Ast, SyntaxFault, parse};
+use std::alloc::{AllocError, Global};
+
+/// The most locks that are left of a region where most of them are gone: half of those that a region may need.
+const FEW: usize = 2048;
+
+/// Into how many parts statements are divided.
+const PARTS: usize = 16;
+
+/// How often they are divided: a program has fewer statements than so many parts of parts.
+const DIVISIONS: usize = 5;
+
+/// Statements that bring most of the locks of a region, since without them it needs few: the same text with `0` for the values of
+/// these assignments and with blanks for these stores is a program, and the region needs as many different locks in it as are left.
+#[derive(Clone, Copy)]
+pub struct Bringers {
+    /// The place of the first of them.
+    pub from: usize,
+    /// The place behind the last of them.
+    pub to: usize,
+    /// How many there are.
+    pub count: usize,
+    /// How many locks are left.
+    pub left: usize,
+}
+
+/// What the regions of a program need.
+fn flow_of(alloc: Global, ast: &Ast, k: u32) -> Result<Flow, InferFault>
+    requires { k ≤ 8 }
+{
+    let lowering = lower(alloc, ast)?;
+    let classes = classes(alloc, &lowering)?;
+    Ok(needed(alloc, &lowering, &classes, k)?)
+}
+
+/// How many different locks a region of a text needs; nothing where the text is no program, or where a region of it needs too many.
+fn count_locks(
+    alloc: Global,
+    text: &[u8],
+    region: Region,
+    k: u32,
+) -> Result<Option<usize>, AllocError>
+    requires { k ≤ 8 }
+{
+    let ast = match parse(alloc, text) {
+        Ok(ast) => ast,
+        Err(SyntaxFault::OutOfMemory) => return Err(AllocError),
+        Err(_) => return Ok(None),
+    };
+    match flow_of(alloc, &ast, k) {
+        Ok(flow) => Ok(Some(match flow.place(region) {
+            Some(place) => flow.locks(place).len(),
+            None => 0,
+        })),
+        Err(InferFault::OutOfMemory) => Err(AllocError),
+        Err(_) => Ok(None),
+    }
+}
+
+/// A text with `0` for the values of these assignments, and blanks for these stores.
+fn without(alloc: Global, text: &[u8], lines: &[Line]) -> Result<Vec<u8>, AllocError> {
+    let mut rest = text.to_vec(alloc)?;
+    for line in lines {
+        for at in line.value..line.to {
+            if let Some(byte) = rest.get_mut(at) {
+                *byte = left_at(line, at);
+            }
+        }
+    }
+    Ok(rest)
+}
+
+/// What is left at a place of such a line: `0;` of an assignment's value, nothing of a store.
+fn left_at(line: &Line, at: usize) -> u8 {
+    if line.is_store {
+        b' '
+    } else if at == line.value {
+        b'0'
+    } else if at.saturating_add(1) == line.to {
+        b';'
+    } else {
+        b' '
+    }
+}
+
+/// So many lines from a number on, as far as they are there.
+fn part_of(lines: &[Line], from: usize, count: usize) -> &[Line] {
+    let (_, part) = lines.split_at(from.min(lines.len()));
+    &part[..count.min(part.len())]
+}
+
+/// These statements, if they bring most of the locks of the region.
+fn brought(
+    alloc: Global,
+    text: &[u8],
+    region: Region,
+    k: u32,
+    lines: &[Line],
+) -> Result<Option<Bringers>, AllocError>
+    requires { k ≤ 8 }
+{
+    let (Some(first), Some(last)) = (lines.first(), lines.last()) else {
+        return Ok(None);
+    };
+    let rest = without(alloc, text, lines)?;
+    match count_locks(alloc, rest.as_slice(), region, k)? {
+        Some(left) if left <= FEW => Ok(Some(Bringers {
+            from: first.from,
+            to: last.to,
+            count: lines.len(),
+            left,
+        })),
+        _ => Ok(None),
+    }
+}
+
+/// Of the parts of these statements the one without which the fewest locks are left, if it brings most of them, and the number of
+/// its first statement.
+fn best_part(
+    alloc: Global,
+    text: &[u8],
+    region: Region,
+    k: u32,
+    lines: &[Line],
+) -> Result<Option<(Bringers, usize)>, AllocError>
+    requires { k ≤ 8 }
+{
+    let size = lines.len().saturating_add(PARTS - 1) / PARTS;
+    let mut best: Option<(Bringers, usize)> = None;
+    for part in 0..PARTS {
+        let from = size.saturating_mul(part);
+        if let Some(found) = brought(alloc, text, region, k, part_of(lines, from, size))? {
+            if best.map_or(true, |other| found.left < other.0.left) {
+                best = Some((found, from));
+            }
+        }
+    }
+    Ok(best)
+}
+
+/// Statements that bring most of the locks of a region, for paths of at most `k` operations. Its assignments and stores are divided
+/// into parts, and so is the part that brings the most, as long as one brings most of the locks, down to a single statement. There is
+/// nothing to tell where no part brings most of them, or where another region needs too many locks too.
+pub fn find_bringers(
+    alloc: Global,
+    text: &[u8],
+    region: Region,
+    k: u32,
+) -> Result<Option<Bringers>, AllocError>
+    requires { k ≤ 8 }
+{
+    let lines = region_lines(alloc, text, region)?;
+    let mut found = None;
+    let mut from: usize = 0;
+    let mut count = lines.len();
+    for _ in 0..DIVISIONS {
+        let part = part_of(lines.as_slice(), from, count);
+        let Some((best, first)) = best_part(alloc, text, region, k, part)? else {
+            return Ok(found);
+        };
+        found = Some(best);
+        from = from.saturating_add(first);
+        count = best.count;
+        if count <= 1 {
+            return Ok(found);
+        }
+    }
+    Ok(found)
+}
