@@ -1,5 +1,5 @@
 -- What is told of a text that is refused: why, where it is, its line and column, and with what a program goes on there.
-use Rattle.std.specs.Prelude.{◌≡◌, ◌≢◌, ℕ, ◌+◌, ◌⊎◌, List, Bool, codes, length, take, Option, MatchOption}
+use Rattle.std.specs.Prelude.{◌≡◌, ◌≢◌, ℕ, ◌+◌, ◌⊎◌, List, Bool, codes, length, take, Option, IsSomeAnd, MatchOption}
 use Rattle.asl_grammar.specs.Lex.{tokens_of}
 use Rattle.asl_syntax.specs.declared.fault.SyntaxFault.{SyntaxFault}
 use Rattle.asl_syntax.specs.declared.fault.SyntaxFault.TheVariants as syntax
@@ -45,10 +45,6 @@ abbrev pub IsSourceRefusal : List ℕ → ℕ → Refusal → Type 0
 IsSourceRefusal source k (refusal.Syntax fault) = IsSyntaxFault source fault × (fault ≢ syntax.OutOfMemory)
 IsSourceRefusal source k (refusal.Infer fault) = IsNotInferred source k fault
 IsSourceRefusal source k (refusal.Asm fault) = ⊥
-
--- a place is told, and it is such a one
-abbrev pub IsSomeAnd : Option ℕ → (ℕ → Type 0) → Type 0
-IsSomeAnd first such = MatchOption first ⊥ such
 
 -- where a missing `main` is told: at a function `main`, which then has another number of parameters, and where there is none, at the
 -- text's end
