@@ -38,11 +38,11 @@ few_if false (l ∷ ls) b n h = omega arith
 few : (text : List ℕ) → length (lines_of text) ≤ suc (feeds text)
 few [] = omega arith
 few (b ∷ bs) =
-  few_if (b == 10) (lines_of bs) b (feeds bs) (few bs)
+    few_if (b == 10) (lines_of bs) b (feeds bs) (few bs)
 
 feeds_counted : (text : List ℕ) → suc (feeds text) ≡ line_behind text
 feeds_counted text =
-  ap suc (is_count_by feeds is_feed refl (λ b bs. refl) text)
+    ap suc (is_count_by feeds is_feed refl (λ b bs. refl) text)
 
 pub lines_few : (text : List ℕ) → length (lines_of text) ≤ line_behind text
 lines_few text = omega (arith, few text, feeds_counted text)
@@ -173,13 +173,13 @@ begun (words ∷ more) = if begins_instruction words then suc (begun more) else 
 
 begun_unless : (words : List (List ℕ)) (more : List (List (List ℕ))) → begun (unless_blank words more) ≡ (if begins_instruction words then suc (begun more) else begun more)
 begun_unless [] more =
-  refl
+    refl
 begun_unless (w ∷ ws) more =
-  refl
+    refl
 
 worded_begun : (ls : List (List ℕ)) → instructions_in ls ≡ begun (worded ls)
 worded_begun [] =
-  refl
+    refl
 worded_begun (l ∷ ls) =
     ap (λ (n : ℕ). if is_instruction l then suc n else n) (worded_begun ls) ∙ sym (begun_unless (words_of l) (worded ls))
 
@@ -239,52 +239,52 @@ one_if false false m n e f = omega arith
 
 lines_begun : (ls : List Line) (words : List (List (List ℕ))) → AreLines ls words → begun words ≡ told ls
 lines_begun [] [] h =
-  refl
+    refl
 lines_begun [] (w ∷ words) h = absurd h
 lines_begun (l ∷ ls) [] h = absurd h
 lines_begun (l ∷ ls) (w ∷ words) h =
-  one_if (begins_instruction w) (is_instr l) (begun words) (told ls) (line_begins l w h.0) (lines_begun ls words h.1)
+    one_if (begins_instruction w) (is_instr l) (begun words) (told ls) (line_begins l w h.0) (lines_begun ls words h.1)
 
 told_both : (ks ls : List Line) → told (ks ++ ls) ≡ told ks + told ls
 told_both [] ls =
-  omega arith
+    omega arith
 told_both (k ∷ ks) ls =
-  omega (arith, told_both ks ls)
+    omega (arith, told_both ks ls)
 
 told_code : (is : List Instr) → told (map line.Instruction is) ≡ length is
 told_code [] =
-  refl
+    refl
 told_code (i ∷ is) =
-  omega (arith, told_code is)
+    omega (arith, told_code is)
 
 told_globals : (cs : List ℕ) → told (map line.Global cs) ≡ 0
 told_globals [] =
-  refl
+    refl
 told_globals (c ∷ cs) =
-  omega (arith, told_globals cs)
+    omega (arith, told_globals cs)
 
 told_locks : (ls : List Lock) → told (map line.Lock ls) ≡ 0
 told_locks [] =
-  refl
+    refl
 told_locks (l ∷ ls) =
-  omega (arith, told_locks ls)
+    omega (arith, told_locks ls)
 
 told_functions : (fs : List Body) → told (flat_map function_lines fs) ≡ length (flat_map (λ (f : Body). f.code) fs)
 told_functions [] =
-  refl
+    refl
 told_functions (f ∷ fs) =
-  omega (arith, told_both (map line.Instruction f.code) (flat_map function_lines fs), told_code f.code, told_functions fs, length-append f.code (flat_map (λ (g : Body). g.code) fs))
+    omega (arith, told_both (map line.Instruction f.code) (flat_map function_lines fs), told_code f.code, told_functions fs, length-append f.code (flat_map (λ (g : Body). g.code) fs))
 
 told_lists : (ls : List (List Lock)) → told (flat_map list_lines ls) ≡ 0
 told_lists [] =
-  refl
+    refl
 told_lists (l ∷ ls) =
-  omega (arith, told_both (map line.Lock l) (flat_map list_lines ls), told_locks l, told_lists ls)
+    omega (arith, told_both (map line.Lock l) (flat_map list_lines ls), told_locks l, told_lists ls)
 
 told_listing : (l : Listing) → told (lines_in l) ≡ length (image_of l).code
 told_listing l =
-  let tail : List Line = flat_map function_lines l.functions ++ flat_map list_lines l.lists in
-  omega (arith, told_both (map line.Global l.globals) (line.Entry l.start ∷ tail), told_globals l.globals, told_both (flat_map function_lines l.functions) (flat_map list_lines l.lists), told_functions l.functions, told_lists l.lists)
+    let tail : List Line = flat_map function_lines l.functions ++ flat_map list_lines l.lists in
+    omega (arith, told_both (map line.Global l.globals) (line.Entry l.start ∷ tail), told_globals l.globals, told_both (flat_map function_lines l.functions) (flat_map list_lines l.lists), told_functions l.functions, told_lists l.lists)
 
 pub instructions_spelled : (text : List ℕ) (image : Image) → Spells text image → instructions_in (lines_of text) ≡ length image.code
 instructions_spelled text image h =
