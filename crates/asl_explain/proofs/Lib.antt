@@ -3,6 +3,4 @@ mod Under
 mod Confirming
 mod Analysing
 mod Needing
-mod Ending
 mod Explaining
-mod Pieces

@@ -15,23 +15,21 @@ use Rattle.asl_backward_flow.specs.Needed.{Part}
 use Rattle.asl_backward_flow.specs.Flows.{IsFlow, IsOverfull}
 use Rattle.asl_emitter.specs.Parts.{AreFitted}
 use Rattle.asl_explain.specs.declared.value.Listed.{Listed}
-use Rattle.asl_explain.specs.declared.value.Ended.{Ended}
 use Rattle.asl_explain.specs.declared.value.Lists.{Lists}
 use Rattle.asl_explain.specs.declared.value.Lists.TheVariants.{Inferred, TooManyLocks}
 use Rattle.asl_explain.specs.declared.value.Explanation.{Explanation}
 use Rattle.asl_explain.specs.Chains.{Read}
-use Rattle.asl_explain.specs.Explained.{IsListed, IsEnded, AreEnded, AreAllEnded}
+use Rattle.asl_explain.specs.Explained.{IsListed}
 
 -- what the needs of an analysis are read against
 abbrev pub read : Analysis → Read
 read a = record { lowered = a.lowering; classes = a.classes; stores = stores a.writes; longest = a.longest }
 
--- its flow tells what is needed, and is that of its length; its sets tell where functions store to
+-- its flow tells what is needed, and its sets tell where functions store to
 pub record IsAnalysed (a : Analysis) : Type 0 where
   pub short : a.longest ≤ 8
   pub written : TellsStores a.lowering a.classes (stores a.writes)
   pub tells : TellsNeeded a.lowering a.classes (stores a.writes) a.longest a.flow
-  pub flow : IsFlow a.lowering a.classes a.longest a.flow
 
 -- the locks of a section's list, in their order, with what each stands over
 pub record AreListed (x : Read) (section : ℕ) (is : Section) (list : List Lock) (ls : List Listed) : Type 0 where
@@ -44,16 +42,6 @@ pub record AreSections (x : Read) (lists : List (List Lock)) (so_many : ℕ) (se
   pub each : (n : ℕ) (is : Section) (list : List Lock) (ls : List Listed) → slice_get x.lowered.sections n ≡ Some is → slice_get lists n ≡ Some list →
       slice_get sections n ≡ Some ls → AreListed x n is list ls
 
--- the locks that end in the first sections, so many of them
-pub record AreEndedBelow (x : Read) (so_many : ℕ) (sections : List (List Ended)) : Type 0 where
-  pub count : length sections ≡ so_many
-  pub each : (section : ℕ) (ended : List Ended) → slice_get sections section ≡ Some ended → AreEnded x section ended
-
--- the first of these locks, so many of them, each with the chain that ends there
-pub record AreEndedOf (x : Read) (section : ℕ) (locks : List Lock) (ended : List Ended) : Type 0 where
-  pub told : map (λ (e : Ended). e.lock) ended ≡ locks
-  pub each : (n : ℕ) (e : Ended) → slice_get ended n ≡ Some e → IsEnded x section e
-
 -- the lists are fitted to a flow with paths of at most so many operations, or a region needs too many locks
 abbrev pub AreFittedAt : Lowered → Classed → ℕ → Lists → Type 0
 AreFittedAt l c longest (Inferred lists) = (parts : List Part) × IsFlow l c longest parts × AreFitted l c parts (length l.sections) lists
@@ -64,7 +52,6 @@ pub record IsMade (a : Analysis) (e : Explanation) : Type 0 where
   pub lists : List (List Lock)
   pub fitted : AreFitted a.lowering a.classes a.flow (length a.lowering.sections) lists
   pub sections : AreSections (read a) lists (length a.lowering.sections) e.sections
-  pub ended : AreAllEnded (read a) e.ended
   pub count : length e.by_length ≡ 9
   pub each : (longest : ℕ) (l : Lists) → slice_get e.by_length longest ≡ Some l → AreFittedAt a.lowering a.classes longest l
 

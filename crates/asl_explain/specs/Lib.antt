@@ -1,6 +1,4 @@
 pub mod Chains
 pub mod Explained
-pub mod Told
 -- Machinery of the proofs, not of the promise:
 pub mod Analysed
-pub mod Telling

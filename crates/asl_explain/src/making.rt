@@ -1,5 +1,5 @@
 //! Why the lists of a program are as they are.
-ghost use Rattle.std.specs.Prelude.{◌≡◌, ◌≤◌, ◌<◌, ◌↔◌, ℕ, suc, Some, IfOk, IsTrue, length, slice_get};
+ghost use Rattle.std.specs.Prelude.{◌≡◌, ◌≤◌, ◌↔◌, ℕ, suc, Some, IfOk, IsTrue, length, slice_get};
 ghost use Rattle.asl_code.specs.declared.lock.Lock.{Lock as AnyLock};
 ghost use Rattle.asl_lower.specs.Regions.{Inside};
 ghost use Rattle.asl_lock_expr.specs.Links.{IsOne};
@@ -11,19 +11,17 @@ ghost use Rattle.asl_explain.specs.Analysed.{read, IsAnalysed, AreListed, AreSec
 
 use crate::analysis::Analysis;
 use crate::confirm::is_chain;
-use crate::ended::ended_of_sections;
 use crate::links::copied;
 use crate::search::Searcher;
 use crate::value::{Chain, Explanation, Listed, Lists, Need};
 use asl_backward_flow::{FlowFault, Region, needed};
 use asl_code::{Items, Lock};
 use asl_emitter::{covers, does_for, lists};
-use asl_lower::Section;
+use asl_lower::{Lowering, Section};
 use asl_points_to::Classes;
 use std::alloc::{AllocError, Global};
 
-/// Those of the chains that come to a lock at the section's start: all, as far as a search is right. No answer has none of them:
-/// where the search finds none, which no test has seen, it is as if memory were refused.
+/// Those of the chains that come to a lock at the section's start: all, as far as a search is right.
 fn confirmed(
     alloc: Global,
     analysis: &Analysis,
@@ -32,17 +30,13 @@ fn confirmed(
     found: Vec<Chain>,
 ) -> Result<Items<Chain>, AllocError>
     requires { IsAnalysed analysis.now }
-    ensures some { IfOk result (λ chains. 0 < length chains) }
-    ensures chains { IfOk result (AreChains (read analysis.now) section lock.now) }
+    ensures { IfOk result (AreChains (read analysis.now) section lock.now) }
 {
     let mut chains = Vec::new(alloc);
     for chain in found {
         if is_chain(alloc, analysis, section, lock, chain.steps.as_slice())? {
             chains.push(chain)?;
         }
-    }
-    if chains.is_empty() {
-        return Err(AllocError);
     }
     Ok(Items::from_vec(chains))
 }
@@ -87,7 +81,6 @@ fn find_need(
 ) -> Result<Need, AllocError>
     requires { IsAnalysed analysis.now }
     ensures lock { IfOk result (λ d. d.lock ≡ lock.now) }
-    ensures some { IfOk result (λ d. 0 < length d.chains) }
     ensures chains { IfOk result (λ d. AreChains (read analysis.now) number lock.now d.chains) }
 {
     let found = searcher.chains(analysis, number, section, lock)?;
@@ -182,32 +175,32 @@ fn explained_section(
 fn explained_sections(
     alloc: Global,
     analysis: &Analysis,
-    searcher: &mut Searcher,
     lists: &[Items<Lock>],
 ) -> Result<Items<Items<Listed>>, AllocError>
     requires analysed { IsAnalysed analysis.now }
     requires count { length lists.now ≡ length analysis.now.lowering.sections }
     ensures { IfOk result (AreSections (read analysis.now) lists.now (length analysis.now.lowering.sections)) }
 {
+    let mut searcher = Searcher::new(alloc, analysis)?;
     let mut sections = Vec::new(alloc);
     for (number, section) in analysis.lowering.sections().iter().enumerate() {
         let list = lists[number].as_slice();
         let number = number as u16;
-        sections.push(explained_section(alloc, analysis, searcher, number, *section, list)?)?;
+        sections.push(explained_section(alloc, analysis, &mut searcher, number, *section, list)?)?;
     }
     Ok(Items::from_vec(sections))
 }
 
-/// The lists with paths of at most so many operations; for as many as the analysis has, its own flow is at hand.
-fn lists_at(alloc: Global, analysis: &Analysis, longest: u32) -> Result<Lists, AllocError>
-    requires analysed { IsAnalysed analysis.now }
+/// The lists with paths of at most so many operations.
+fn lists_at(
+    alloc: Global,
+    lowering: &Lowering,
+    classes: &Classes,
+    longest: u32,
+) -> Result<Lists, AllocError>
     requires short { longest ≤ 8 }
-    ensures { IfOk result (AreFittedAt analysis.now.lowering analysis.now.classes longest) }
+    ensures { IfOk result (AreFittedAt lowering.now classes.now longest) }
 {
-    let (lowering, classes) = (&analysis.lowering, &analysis.classes);
-    if longest == analysis.longest {
-        return Ok(Lists::Inferred(lists(alloc, lowering, classes, &analysis.flow)?));
-    }
     match needed(alloc, lowering, classes, longest) {
         Ok(flow) => Ok(Lists::Inferred(lists(alloc, lowering, classes, &flow)?)),
         Err(FlowFault::TooManyLocks(region)) => Ok(Lists::TooManyLocks(region)),
@@ -217,14 +210,13 @@ fn lists_at(alloc: Global, analysis: &Analysis, longest: u32) -> Result<Lists, A
 
 /// The lists with paths of at most 0 to 8 operations.
 fn by_length(alloc: Global, analysis: &Analysis) -> Result<Items<Lists>, AllocError>
-    requires { IsAnalysed analysis.now }
     ensures count { IfOk result (λ lists. length lists ≡ 9) }
     ensures each { IfOk result (λ lists. (longest : ℕ) (l : AnyLists) → slice_get lists longest ≡ Some l
         → AreFittedAt analysis.now.lowering analysis.now.classes longest l) }
 {
     let mut by_length = Vec::new(alloc);
     for longest in 0..9 {
-        by_length.push(lists_at(alloc, analysis, longest)?)?;
+        by_length.push(lists_at(alloc, &analysis.lowering, &analysis.classes, longest)?)?;
     }
     Ok(Items::from_vec(by_length))
 }
@@ -235,10 +227,8 @@ pub fn explanation_of(alloc: Global, analysis: &Analysis) -> Result<Explanation,
     ensures { IfOk result (IsMade analysis.now) }
 {
     let own = lists(alloc, &analysis.lowering, &analysis.classes, &analysis.flow)?;
-    let mut searcher = Searcher::new(alloc, analysis)?;
     Ok(Explanation {
-        sections: explained_sections(alloc, analysis, &mut searcher, own.as_slice())?,
-        ended: ended_of_sections(alloc, analysis, &mut searcher)?,
+        sections: explained_sections(alloc, analysis, own.as_slice())?,
         by_length: by_length(alloc, analysis)?,
     })
 }

@@ -1,10 +1,10 @@
-//! The words of an explanation: sections, locks, and the lines of chains.
+//! The text of an explanation.
 
 use crate::analysis::Analysis;
 use crate::notes::note_of;
 use crate::places::Places;
-use crate::value::{Chain, Ended, Explanation, Listed, Lists, Need, Step, Why};
-use crate::words::lock_words;
+use crate::value::{Chain, Explanation, Listed, Lists, Need, Step, Why};
+use crate::words::{lock_spelled, lock_words};
 use asl_backward_flow::Region;
 use asl_code::{Base, Instr, Lock};
 use asl_emitter::{MAX_LOCKS, reduce};
@@ -25,6 +25,21 @@ pub struct Teller<'a> {
     pub all: bool,
 }
 
+/// The text of an explanation.
+pub fn text_of(teller: &Teller<'_>, explanation: &Explanation) -> Result<String, AllocError> {
+    let mut text = String::new(teller.alloc);
+    for (number, section) in teller.analysis.lowering.sections().iter().enumerate() {
+        if number > 0 {
+            text.push_str("\n")?;
+        }
+        if let Some(listed) = explanation.sections.as_slice().get(number) {
+            teller.push_section(&mut text, number, *section, listed.as_slice())?;
+        }
+        teller.push_lengths(&mut text, number, section.function, explanation)?;
+    }
+    Ok(text)
+}
+
 /// A number of a table, each of which has at most 65,536.
 fn narrow(number: usize) -> u16 {
     if number < 65536 { number as u16 } else { 0 }
@@ -38,11 +53,6 @@ fn plural(count: usize) -> &'static str {
 /// Adds blanks until the text since a place is so wide; one at least.
 fn pad(text: &mut String, from: usize, width: usize) -> Result<(), AllocError> {
     let len = text.len().saturating_sub(from);
-    pad_behind(text, len, width)
-}
-
-/// Adds blanks behind something so long, until both are so wide; one at least.
-fn pad_behind(text: &mut String, len: usize, width: usize) -> Result<(), AllocError> {
     for _ in len..width {
         text.push_str(" ")?;
     }
@@ -67,85 +77,34 @@ impl Teller<'_> {
         }
     }
 
-    /// The section of a number.
-    pub fn section(&self, number: usize) -> Section {
-        match self.analysis.lowering.sections().get(number) {
-            Some(section) => *section,
-            None => Section {
-                function: 0,
-                acquire: 0,
-                release: 0,
-            },
-        }
-    }
-
-    /// Where a section stands, and how long paths are.
-    pub fn place_of_section(&self, section: Section) -> Result<String, AllocError> {
+    /// Adds the first line of a section, and its locks.
+    fn push_section(
+        &self,
+        text: &mut String,
+        number: usize,
+        section: Section,
+        listed: &[Listed],
+    ) -> Result<(), AllocError> {
         let line = self.places.line(section.acquire);
         let name = self.places.function(section.function)?;
         let k = self.analysis.longest;
+        let count = listed.len();
+        let s = plural(count);
         let never = if self.places.is_reached(section.function) {
             ""
         } else {
             ", which main never reaches"
         };
-        format!(in self.alloc; "line {line}, in {name}{never}, k {k}")
-    }
-
-    /// The end of the first line of a section, and why expressions became classes.
-    pub fn rest_of_head(
-        &self,
-        number: usize,
-        section: Section,
-        listed: &[Listed],
-    ) -> Result<String, AllocError> {
-        let mut text = String::new(self.alloc);
-        text.push_str(plural(listed.len()))?;
-        text.push_str("\n")?;
-        self.push_coarse(&mut text, number, section, listed)?;
-        Ok(text)
-    }
-
-    /// What comes behind the locks of a section.
-    pub fn rest_of_section(
-        &self,
-        number: usize,
-        section: Section,
-        explanation: &Explanation,
-    ) -> Result<String, AllocError> {
-        let mut text = String::new(self.alloc);
-        if let Some(ended) = explanation.ended.as_slice().get(number) {
-            self.push_ended(&mut text, section.function, ended.as_slice())?;
+        write!(
+            text,
+            "section {number}, line {line}, in {name}{never}, k {k}: takes {count} lock{s}\n"
+        )?;
+        self.push_coarse(text, number, section, listed)?;
+        for lock in listed {
+            text.push_str("\n")?;
+            self.push_listed(text, section, lock)?;
         }
-        text.push_str("\n")?;
-        self.push_lengths(&mut text, number, section.function, explanation)?;
-        Ok(text)
-    }
-
-    /// Adds the locks that end at a `new` of a section of the function.
-    fn push_ended(
-        &self,
-        text: &mut String,
-        function: u16,
-        ended: &[Ended],
-    ) -> Result<(), AllocError> {
-        for end in ended {
-            let words = self.words(function, &end.lock)?;
-            let made = self.made_by(function, end.pc)?;
-            write!(text, "\n  no lock for {words}   ({made} is new)\n")?;
-            self.push_chain(text, &end.chain)?;
-            self.push_place(text, end.pc)?;
-            write_line(text, "ends", "the object is new here: no lock", "")?;
-        }
-        Ok(())
-    }
-
-    /// The name of the register that a `new` of a function sets.
-    fn made_by(&self, function: u16, pc: u16) -> Result<String, AllocError> {
-        match self.analysis.lowering.code().get(usize::from(pc)) {
-            Some(Instr::New { to, .. }) => self.places.register(function, *to),
-            _ => Ok(String::new(self.alloc)),
-        }
+        text.push_str("\n")
     }
 
     /// Adds why expressions became classes, if the list would be too long.
@@ -182,37 +141,30 @@ impl Teller<'_> {
         Ok(())
     }
 
-    /// What comes before the spelling of a lock: an expression in the words of the source.
-    pub fn before_spelling(&self, function: u16, lock: &Lock) -> Result<String, AllocError> {
-        let mut text = String::new(self.alloc);
-        text.push_str("\n  ")?;
-        if let Lock::Expr(_, _) = lock {
-            let from = text.len();
-            text.push_str(self.words(function, lock)?.as_str())?;
-            pad(&mut text, from, 22)?;
-        }
-        Ok(text)
-    }
-
-    /// What comes behind the spelling of a lock of a list: what a class has, and the chains.
-    pub fn behind_spelling(&self, function: u16, listed: &Listed) -> Result<String, AllocError> {
-        let mut text = String::new(self.alloc);
+    /// Adds a lock of a list.
+    fn push_listed(
+        &self,
+        text: &mut String,
+        section: Section,
+        listed: &Listed,
+    ) -> Result<(), AllocError> {
+        text.push_str("  ")?;
+        let from = text.len();
+        text.push_str(self.words(section.function, &listed.lock)?.as_str())?;
+        pad(text, from, 22)?;
         match &listed.lock {
-            Lock::Expr(_, _) => {}
-            lock => {
-                pad_behind(&mut text, self.words(function, lock)?.len(), 22)?;
-                match lock {
-                    Lock::Class(class, _) => self.push_members(&mut text, *class)?,
-                    _ => text.push_str("everything")?,
-                }
+            Lock::Root(_) => text.push_str("everything")?,
+            Lock::Class(class, _) => self.push_members(text, *class)?,
+            Lock::Expr(_, _) => {
+                text.push_str(lock_spelled(self.alloc, &listed.lock)?.as_str())?;
             }
         }
         text.push_str("\n")?;
-        self.push_chains(&mut text, function, listed)?;
+        self.push_chains(text, section.function, listed)?;
         if !self.all {
-            self.push_others(&mut text, function, listed)?;
+            self.push_others(text, section.function, listed)?;
         }
-        Ok(text)
+        Ok(())
     }
 
     /// Adds the members of a class.
@@ -414,18 +366,13 @@ impl Teller<'_> {
         verb: &str,
         note: &str,
     ) -> Result<(), AllocError> {
-        self.push_place(text, step.pc)?;
-        let words = self.words(self.function_of(step.region), &step.lock)?;
-        write_line(text, verb, words.as_str(), note)
-    }
-
-    /// Adds the line and the statement of an instruction, in columns.
-    fn push_place(&self, text: &mut String, pc: u16) -> Result<(), AllocError> {
-        let line = self.places.line(pc);
+        let line = self.places.line(step.pc);
         write!(text, "      line {line:<4} ")?;
         let from = text.len();
-        text.push_str(self.places.statement(pc)?.as_str())?;
-        pad(text, from, 22)
+        text.push_str(self.places.statement(step.pc)?.as_str())?;
+        pad(text, from, 22)?;
+        let words = self.words(self.function_of(step.region), &step.lock)?;
+        write_line(text, verb, words.as_str(), note)
     }
 
     /// Adds the lists with paths of each length, those that are the same in one line.

@@ -10,5 +10,5 @@ loop-chain-preserved-in-Continue-branch-2 c =
     chains_more (read c.args.analysis.now) c.args.section c.args.lock.now c.loop-chain.chains.items c.push.new.self.items c.in-Some.chain c.in_ok-push.ensures.items c.loop-chain.invariant
     (subst (IsChain (read c.args.analysis.now) c.args.section c.args.lock.now) c.as_slice.ensures (c.in_ok-is_chain.ensures c.if-branch.true))
 
-pub returns-clause-chains : goal.returns-clause-chains
-returns-clause-chains c = subst (AreChains (read c.args.analysis.now) c.args.section c.args.lock.now) (sym c.from_vec.ensures) c.loop-chain.invariant
+pub returns : goal.returns
+returns c = subst (AreChains (read c.args.analysis.now) c.args.section c.args.lock.now) (sym c.from_vec.ensures) c.loop-chain.invariant
