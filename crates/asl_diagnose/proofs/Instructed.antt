@@ -23,11 +23,11 @@ few_if false (l ∷ ls) b n h = omega arith
 few : (text : List ℕ) → length (lines_of text) ≤ suc (feeds text)
 few [] = omega arith
 few (b ∷ bs) =
-  few_if (b == 10) (lines_of bs) b (feeds bs) (few bs)
+    few_if (b == 10) (lines_of bs) b (feeds bs) (few bs)
 
 feeds_counted : (text : List ℕ) → suc (feeds text) ≡ line_behind text
 feeds_counted text =
-  ap suc (is_count_by feeds is_feed refl (λ b bs. refl) text)
+    ap suc (is_count_by feeds is_feed refl (λ b bs. refl) text)
 
 pub lines_few : (text : List ℕ) → length (lines_of text) ≤ line_behind text
 lines_few text = omega (arith, few text, feeds_counted text)

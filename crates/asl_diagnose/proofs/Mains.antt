@@ -32,7 +32,7 @@ found x next (s ∷ ss) at e =
       | inl f ↦
           let k = function_next x next s.token f in
           let g : Some s.at ≡ Some at =
-              sym (ap (λ (b : Bool). if b then Some s.at else first_function x (declares_behind next s.token) ss) f) ∙ e in
+          sym (ap (λ (b : Bool). if b then Some s.at else first_function x (declares_behind next s.token) ss) f) ∙ e in
           let same : s.at ≡ at = cc in
           let is : s ≡ named x s.at = named_spot x s.token s.at k.1 in
           record {
