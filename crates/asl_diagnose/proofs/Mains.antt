@@ -1,13 +1,13 @@
 -- Where the first function of a name is declared.
-use Rattle.std.proofs.Common.{◌≡◌, ℕ, List, [], ◌∷◌, ◌++◌, Bool, true, false, if◌then◌else◌, Option, Some, None, codes, inl, inr, bytes_eq, length, refl, sym, ap, ◌∙◌, subst}
+use Rattle.std.proofs.Common.{◌≡◌, ℕ, List, [], ◌∷◌, ◌++◌, Bool, true, if◌then◌else◌, Some, None, codes, inl, inr, bytes_eq, length, refl, sym, ap, ◌∙◌}
 use Rattle.std.proofs.lemmas.Bool.{cases_Bool}
 use Rattle.std.proofs.lemmas.Slice.Eq.{bytes_eq-Decides}
-use Rattle.asl_grammar.specs.Token.{Token, Name, Spot}
+use Rattle.asl_grammar.specs.Token.{Token, Spot}
 use Rattle.asl_grammar.specs.Lex.{tokens_of}
 use Rattle.asl_syntax.proofs.Few.{goes_on}
 use Rattle.asl_diagnose.specs.declared.declared.Declares.{Declares}
 use Rattle.asl_diagnose.specs.declared.declared.Declares.TheVariants.{Global, Function, Parameter, Nothing}
-use Rattle.asl_diagnose.specs.Places.{named, is_named, declares_behind, declares_from, IsFunctionAt}
+use Rattle.asl_diagnose.specs.Places.{named, is_named, declares_behind, declares_from}
 use Rattle.asl_diagnose.specs.SeenView.{is_function, first_function}
 use Rattle.asl_diagnose.specs.Diagnosed.{IsMainPlace}
 use Rattle.asl_diagnose.proofs.Scanned.{named_spot}

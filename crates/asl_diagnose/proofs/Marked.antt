@@ -1,20 +1,19 @@
 -- What the names of a text declare is what its tree mentions, one by one; so a name that the tree declares twice is declared twice by
 -- the tokens.
-use Rattle.std.proofs.Common.{◌≡◌, ◌⊎◌, ℕ, List, [], ◌∷◌, ◌++◌, Bool, true, false, ◌||◌, if◌then◌else◌, inl, inr, bytes_eq, Option, Some, None, map, refl, sym, ap, ◌∙◌, subst, append_assoc}
+use Rattle.std.proofs.Common.{◌≡◌, ◌⊎◌, ℕ, List, [], ◌∷◌, ◌++◌, Bool, true, false, ◌||◌, if◌then◌else◌, inl, inr, bytes_eq, Option, Some, None, map, refl, sym, ap, ◌∙◌, append_assoc}
 use Rattle.std.specs.Option.{is_some}
 use Rattle.std.proofs.lemmas.Bool.{false≢true, or_left, or_right, or_cases}
 use Rattle.std.proofs.lemmas.List.{map-append}
 use Rattle.std.proofs.lemmas.Slice.Eq.{bytes_eq-Decides}
 use Rattle.asl_grammar.specs.declared.token.Mark.{Mark}
 use Rattle.asl_grammar.specs.declared.token.Mark.TheVariants as mark
-use Rattle.asl_grammar.specs.declared.control.Operator.{Operator}
 use Rattle.asl_grammar.specs.declared.control.Operator.TheVariants.{Add, Subtract, IsLess, IsEqual}
 use Rattle.asl_grammar.specs.Token.{Token, Fixed, Name, Number, Spot}
 use Rattle.asl_grammar.specs.Grammar.{bare}
 use Rattle.asl_grammar.specs.Written as w
-use Rattle.asl_grammar.specs.Spelling.{later_names_on, names_on, line_on, stmt_on, block_on, else_on, function_on, item_on, program_on}
+use Rattle.asl_grammar.specs.Spelling.{later_names_on, names_on, line_on, stmt_on, block_on, else_on, function_on, program_on}
 use Rattle.asl_syntax.specs.Tree.{Item}
-use Rattle.asl_syntax.specs.Mentions.{Mention, DeclaresGlobal, DeclaresFunction, DeclaresParameter, AssignsLocal, UsesLocal, UsesGlobal, CallsFunction, statement_mentions, block_mentions, function_mentions, item_mentions, mentions}
+use Rattle.asl_syntax.specs.Mentions.{Mention, DeclaresGlobal, DeclaresFunction, DeclaresParameter, AssignsLocal, UsesLocal, UsesGlobal, CallsFunction, statement_mentions, block_mentions, function_mentions, mentions}
 use Rattle.asl_syntax.specs.Rules.{Names, no_name, with_name, first_twice, twice}
 use Rattle.asl_syntax.specs.Spelled.{line_meaning, stmt_meaning, block_meaning, else_meaning, function_meaning, item_meaning, Spells}
 use Rattle.asl_diagnose.specs.declared.declared.Seen.{Seen}

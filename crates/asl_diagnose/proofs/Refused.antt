@@ -1,5 +1,5 @@
 -- The words at which refusals are told are there.
-use Rattle.std.proofs.Common.{◌≡◌, ℕ, ◌+◌, ◌<◌, ◌≤◌, Bool, List, length, Some, slice_get, true, refl, sym, ap, ◌∙◌, subst, arith}
+use Rattle.std.proofs.Common.{◌≡◌, ℕ, ◌<◌, Bool, List, Some, slice_get, true, subst, arith}
 use Rattle.std.proofs.lemmas.Option.{slice_get_within, slice_get-get_or}
 use Rattle.asl_code.specs.declared.instr.Instr.{Instr}
 use Rattle.asl_code.specs.declared.lock.Lock.{Lock}
@@ -11,11 +11,10 @@ use Rattle.asl_syntax.specs.Tree.{Item, functions_of}
 use Rattle.asl_syntax.specs.Parsed.{Parses}
 use Rattle.asl_syntax.specs.Fault.{IsFault}
 use Rattle.asl_syntax.proofs.FirstUnknown.{unknown_first}
-use Rattle.asl_lower.specs.Place.{origin, past_functions}
-use Rattle.asl_lower.specs.Lowered.{Lowered, IsLowering}
+use Rattle.asl_lower.specs.Lowered.{Lowered}
 use Rattle.asl_lower.specs.Regions.{Region, Body, Inside, IsIn}
 use Rattle.asl_lower.proofs.Laid.{code_is}
-use Rattle.asl_backward_flow.specs.Needed.{NeedsMany, region_of}
+use Rattle.asl_backward_flow.specs.Needed.{NeedsMany}
 use Rattle.asl_backward_flow.specs.declared.region.Region.TheVariants as variant
 use Rattle.asl_backward_flow.proofs.Leasts.{needed_inside}
 use Rattle.asl_points_to.specs.Classes.{Classed}

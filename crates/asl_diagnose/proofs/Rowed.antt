@@ -1,5 +1,5 @@
 -- The first word of a line, and the first line of a text.
-use Rattle.std.proofs.Common.{◌≡◌, ℕ, ◌+◌, ◌<◌, ◌≤◌, List, [], ◌∷◌, length, take, drop, refl, sym, ap, ◌∙◌, arith, length-drop}
+use Rattle.std.proofs.Common.{◌≡◌, ℕ, ◌<◌, List, [], ◌∷◌, length, take, drop, sym, ap, ◌∙◌, arith, length-drop}
 use Rattle.std.specs.List.{prefix_len}
 use Rattle.asl_assembler.specs.Words.{is_separator, words_of, lines_of}
 use Rattle.asl_assembler.specs.Reading.{is_word_byte, is_line_byte}

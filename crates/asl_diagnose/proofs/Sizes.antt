@@ -1,5 +1,5 @@
 -- The function at which the code of a program passes the limit.
-use Rattle.std.proofs.Common.{◌≡◌, ℕ, zero, suc, ◌+◌, ◌<◌, ◌≤◌, List, [], ◌∷◌, ◌++◌, length, take, drop, map, refl, sym, ap, ◌∙◌, subst, arith, drop-cons, get_or}
+use Rattle.std.proofs.Common.{◌≡◌, ℕ, zero, suc, ◌+◌, ◌<◌, ◌≤◌, List, [], ◌∷◌, length, take, drop, map, refl, sym, ap, ◌∙◌, subst, arith, drop-cons, get_or}
 use Rattle.asl_syntax.specs.declared.name.Name as name
 use Rattle.asl_syntax.specs.declared.tree.Item as code
 use Rattle.asl_syntax.specs.declared.tree.Item.TheVariants as variant

@@ -1,5 +1,5 @@
 -- Each access of a program's code has its `*` in the text.
-use Rattle.std.proofs.Common.{◌≡◌, ℕ, zero, suc, ◌+◌, ◌<◌, ◌≤◌, Bool, true, false, IsTrue, if◌then◌else◌, List, [], ◌∷◌, ◌++◌, Option, Some, None, length, map, slice_get, refl, sym, ap, ◌∙◌, arith}
+use Rattle.std.proofs.Common.{◌≡◌, ℕ, zero, suc, ◌+◌, ◌<◌, ◌≤◌, Bool, true, false, IsTrue, if◌then◌else◌, List, [], ◌∷◌, ◌++◌, Some, length, map, slice_get, refl, ap, ◌∙◌, arith}
 use Rattle.asl_code.specs.declared.instr.Instr.{Instr}
 use Rattle.asl_code.specs.declared.instr.Instr.TheVariants as instr
 use Rattle.asl_grammar.specs.declared.token.Mark.TheVariants as mark
@@ -7,7 +7,7 @@ use Rattle.asl_grammar.specs.declared.control.Operator.TheVariants.{Add, Subtrac
 use Rattle.asl_grammar.specs.Token.{Token, Fixed, Name, Spot}
 use Rattle.asl_grammar.specs.Grammar.{bare}
 use Rattle.asl_grammar.specs.Written as w
-use Rattle.asl_grammar.specs.Spelling.{names_on, line_on, stmt_on, block_on, else_on, function_on, program_on}
+use Rattle.asl_grammar.specs.Spelling.{line_on, stmt_on, block_on, else_on, function_on, program_on}
 use Rattle.asl_syntax.specs.Tree.{Item, functions_of}
 use Rattle.asl_syntax.specs.Spelled.{line_meaning, stmt_meaning, block_meaning, else_meaning, function_meaning, item_meaning, Spells}
 use Rattle.asl_lower.specs.Names.{Scope, register, function_number, scope_of}

@@ -1,15 +1,12 @@
 -- What a refusal names is in the text: its `fn`, its `atomic`, a `*`.
-use Rattle.std.proofs.Common.{◌≡◌, inl, inr, ℕ, suc, ◌+◌, ◌<◌, ◌≤◌, Bool, true, false, IsTrue, if◌then◌else◌, List, [], ◌∷◌, ◌++◌, Option, Some, None, length, map, slice_get, nat_lt, refl, sym, ap, ◌∙◌, subst, arith}
-use Rattle.std.proofs.lemmas.Option.{slice_get_within}
+use Rattle.std.proofs.Common.{◌≡◌, inl, inr, ℕ, suc, ◌+◌, ◌<◌, ◌≤◌, Bool, true, false, if◌then◌else◌, List, [], ◌∷◌, Some, length, map, nat_lt, refl, sym, ap, ◌∙◌, arith}
 use Rattle.std.proofs.lemmas.Bool.{cases_Bool}
-use Rattle.asl_code.specs.declared.instr.Instr.{Instr}
 use Rattle.asl_grammar.specs.declared.token.Mark.TheVariants as mark
 use Rattle.asl_grammar.specs.Token.{Token, Fixed, Name, Spot}
-use Rattle.asl_grammar.specs.Lex.{tokens_of}
 use Rattle.asl_grammar.specs.Grammar.{bare}
 use Rattle.asl_grammar.specs.Written as w
 use Rattle.asl_grammar.specs.Spelling.{later_names_on, names_on, right_on, line_on, stmt_on, block_on, else_on, function_on, program_on}
-use Rattle.asl_syntax.specs.Tree.{Value, Statement, Block, Function, Item, functions_of}
+use Rattle.asl_syntax.specs.Tree.{Function, Item, functions_of}
 use Rattle.asl_syntax.specs.Spelled.{right_meaning, line_meaning, stmt_meaning, block_meaning, else_meaning, function_meaning, item_meaning, Spells}
 use Rattle.asl_lower.specs.Place.{Place, next, entered, origin, past_moves, past_value, past_stmt, past_block, past_else, past_function, past_functions}
 use Rattle.asl_lower.specs.Names.{registers_of}

@@ -1,5 +1,5 @@
 -- What is told of a text that is refused: why, where it is, its line and column, and with what a program goes on there.
-use Rattle.std.specs.Prelude.{◌≡◌, ◌≢◌, ℕ, ◌+◌, ◌⊎◌, List, Bool, codes, length, take, Option, IsSomeAnd, MatchOption}
+use Rattle.std.specs.Prelude.{◌≡◌, ◌≢◌, ℕ, ◌+◌, ◌≤◌, ◌⊎◌, List, Bool, codes, length, take, Option, IsSomeAnd, MatchOption}
 use Rattle.asl_grammar.specs.Lex.{tokens_of}
 use Rattle.asl_syntax.specs.declared.fault.SyntaxFault.{SyntaxFault}
 use Rattle.asl_syntax.specs.declared.fault.SyntaxFault.TheVariants as syntax
@@ -20,10 +20,9 @@ use Rattle.asl_diagnose.specs.declared.diagnosis.Refusal.{Refusal}
 use Rattle.asl_diagnose.specs.declared.diagnosis.Refusal.TheVariants as refusal
 use Rattle.asl_diagnose.specs.declared.diagnosis.Diagnosis.{Diagnosis}
 use Rattle.asl_diagnose.specs.declared.kind.TokenKind.{TokenKind}
-use Rattle.asl_diagnose.specs.declared.declared.Word.{Word}
 use Rattle.asl_diagnose.specs.declared.declared.Word.TheVariants as word
 use Rattle.asl_diagnose.specs.Position.{line_behind, IsColumn, IsLineFront}
-use Rattle.asl_diagnose.specs.Instructions.{IsInstructionLine, pc_of}
+use Rattle.asl_diagnose.specs.Instructions.{instructions_in, IsInstructionLine, pc_of}
 use Rattle.asl_diagnose.specs.Expected.{IsStop}
 use Rattle.asl_diagnose.specs.Places.{IsNameAt, IsWordAt, IsSomeWordAt, IsFunctionAt, AreDeclaredAt, IsOverfull}
 
@@ -120,11 +119,17 @@ abbrev pub IsLinePlace : List ℕ → ℕ → ℕ → Type 0
 IsLinePlace text number at =
     IsLineFront text number at ⊎ ((number ≡ length (lines_of text) + 1) × (at ≡ length text))
 
+-- where the instruction of a number is, with its line; or the text's end, where it has not so many
+abbrev pub IsInstructionPlace : List ℕ → ℕ → ℕ → ℕ → Type 0
+IsInstructionPlace text pc at line =
+    (IsInstructionLine (lines_of text) pc line × IsLineFront text line at)
+    ⊎ ((instructions_in (lines_of text) ≤ pc) × (at ≡ length text) × (line ≡ line_behind (take at text)))
+
 -- the line that is told, and the place in it: those of a wrong line; those of the instruction that breaks a rule; and for a rule of
 -- the whole image those of some place
 abbrev pub IsAssemblyPlace : List ℕ → AsmFault → ℕ → ℕ → Type 0
 IsAssemblyPlace text (asm.Line number) at line = (line ≡ number) × IsLinePlace text number at
-IsAssemblyPlace text (asm.Verify cause) at line = MatchOption (pc_of cause) (line ≡ line_behind (take at text)) (λ pc. IsInstructionLine (lines_of text) pc line × IsLineFront text line at)
+IsAssemblyPlace text (asm.Verify cause) at line = MatchOption (pc_of cause) (line ≡ line_behind (take at text)) (λ pc. IsInstructionPlace text pc at line)
 IsAssemblyPlace text asm.OutOfMemory at line = Unit {0}
 
 -- what is told of an assembly text that is refused

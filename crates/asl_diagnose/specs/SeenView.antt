@@ -1,5 +1,5 @@
 -- Machinery of the proofs, not of the promise: what src/declared.rt remembers of a name.
-use Rattle.std.specs.Prelude.{ℕ, List, [], ◌∷◌, Bool, true, false, ◌||◌, Option, Some, None, is_some, if◌then◌else◌}
+use Rattle.std.specs.Prelude.{ℕ, List, [], ◌∷◌, Bool, false, ◌||◌, Option, Some, None, is_some, if◌then◌else◌}
 use Rattle.asl_grammar.specs.Token.{Token, Spot}
 use Rattle.asl_diagnose.specs.declared.declared.Seen.{Seen}
 use Rattle.asl_diagnose.specs.declared.declared.Word.TheVariants as word

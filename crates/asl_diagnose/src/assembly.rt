@@ -6,8 +6,7 @@ ghost use Rattle.asl_assembler.specs.Faults.{IsFault};
 ghost use Rattle.asl_assembler.specs.Text.{IsBadLine};
 ghost use Rattle.asl_assembler.specs.Words.{lines_of};
 ghost use Rattle.asl_diagnose.specs.Position.{IsLineFront};
-ghost use Rattle.asl_diagnose.specs.Instructions.{instructions_in, IsInstructionLine};
-ghost use Rattle.asl_diagnose.specs.Diagnosed.{IsAssemblyDiagnosed, IsAssemblyDiagnosis, IsAssemblyPlace, IsLinePlace};
+ghost use Rattle.asl_diagnose.specs.Diagnosed.{IsAssemblyDiagnosed, IsAssemblyDiagnosis, IsAssemblyPlace, IsInstructionPlace, IsLinePlace};
 
 use crate::diagnosis::{Diagnosis, Refusal};
 use crate::lines::{front, line_begin};
@@ -91,7 +90,6 @@ fn wrong_place(text: &[u8], number: usize) -> usize
 
 /// The place of a rule that the image breaks, and its line.
 fn verify_place(text: &[u8], cause: VerifyFault) -> (usize, usize)
-    requires { IsFault text.now (AsmFault.Verify cause) }
     ensures { IsAssemblyPlace text.now (AsmFault.Verify cause) result.0 result.1 }
 {
     match cause {
@@ -110,15 +108,13 @@ fn verify_place(text: &[u8], cause: VerifyFault) -> (usize, usize)
     }
 }
 
-/// The first word of an instruction, and its line.
+/// The first word of an instruction, and its line; the end of a text that has no such instruction.
 fn instruction_place(text: &[u8], pc: usize) -> (usize, usize)
-    requires { pc < instructions_in (lines_of text.now) }
-    ensures number { IsInstructionLine (lines_of text.now) pc result.1 }
-    ensures place { IsLineFront text.now result.1 result.0 }
+    ensures { IsInstructionPlace text.now pc result.0 result.1 }
 {
     match instruction_row(text, pc) {
         Some(number) => (row_front(text, number), number),
-        None => unreachable!(),
+        None => (text.len(), line(text, text.len())),
     }
 }
 

@@ -149,5 +149,6 @@ pub fn front(text: &[u8], start: usize) -> usize
     requires { start ≤ length text.now }
     ensures { result ≡ start + prefix_len is_separator (drop start text.now) }
 {
-    start + gap_len(&text[start..])
+    let (_, rest) = text.split_at(start);
+    start + gap_len(rest)
 }

@@ -1,3 +1,4 @@
+use Rattle.std.proofs.Common.{inl, inr, refl}
 use Rattle.asl_assembler.specs.Words.{lines_of}
 use Rattle.asl_diagnose.proofs.Instructed.{instruction_found, instruction_missing, row_there}
 use Rattle.asl_diagnose.proofs.assembly.instruction_place.Goals as goal
@@ -9,10 +10,9 @@ row_front-requires c =
     record { some = k.0; there = k.1 }
 
 pub returns-in-Some : goal.returns-in-Some
-returns-in-Some c = record {
-  number = instruction_found (lines_of c.args.text.now) c.args.pc c.in-Some.number c.in-Some.ensures;
-  place = c.row_front.ensures;
-}
+returns-in-Some c =
+    inl (instruction_found (lines_of c.args.text.now) c.args.pc c.in-Some.number c.in-Some.ensures, c.row_front.ensures)
 
-pub unreachable-requires : goal.unreachable-requires
-unreachable-requires c = instruction_missing (lines_of c.args.text.now) c.args.pc c.in-None.ensures c.requires
+pub returns-in-None : goal.returns-in-None
+returns-in-None c =
+    inr (instruction_missing (lines_of c.args.text.now) c.args.pc c.in-None.ensures, refl, c.line.ensures)

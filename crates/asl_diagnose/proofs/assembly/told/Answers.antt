@@ -8,6 +8,5 @@ returns c = record {
   holds = c.requires.fault;
   real = c.requires.real;
   place = c.fault_place-at.ensures;
-  line = c.fault_line-line.ensures;
   column = c.column-column.ensures;
 }

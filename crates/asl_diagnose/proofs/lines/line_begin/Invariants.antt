@@ -1,4 +1,4 @@
-use Rattle.std.proofs.Common.{◌≡◌, ◌<◌, ◌≤◌, take}
+use Rattle.std.proofs.Common.{◌≡◌, ◌<◌, take}
 use Rattle.asl_diagnose.specs.Position.{line_behind}
 use Rattle.asl_diagnose.proofs.lines.line_begin.Given as goal
 

@@ -1,4 +1,4 @@
-use Rattle.std.proofs.Common.{◌∙◌, ap, subst}
+use Rattle.std.proofs.Common.{◌∙◌, ap, subst, arith}
 use Rattle.asl_syntax.specs.AstView.{tree_of}
 use Rattle.asl_emitter.specs.Refused.{IsRefused}
 use Rattle.asl_emitter.specs.declared.fault.InferFault.{InferFault}
@@ -9,7 +9,7 @@ use Rattle.asl_diagnose.proofs.source.infer_place.Goals as goal
 pub word_place-requires : goal.word_place-requires
 word_place-requires c =
     let P : InferFault → Type 0 = λ f. IsRefused (tree_of c.args.ast.now) c.requires.refused.0 f in
-    registers_there c.args.source.now (tree_of c.args.ast.now) c.requires.refused.0 c.in-Registers.function c.requires.parses (subst P c.in-Registers.is c.requires.refused.1)
+    omega (arith, c.from.ensures, registers_there c.args.source.now (tree_of c.args.ast.now) c.requires.refused.0 c.in-Registers.function c.requires.parses (subst P c.in-Registers.is c.requires.refused.1))
 
 pub overfull_function-requires : goal.overfull_function-requires
 overfull_function-requires c =
