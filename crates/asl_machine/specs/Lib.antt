@@ -14,6 +14,7 @@ pub mod View
 pub mod World
 pub mod Frames
 pub mod Asked
+pub mod Paused
 -- Machinery of the proofs, not of the promise:
 pub mod Ready
 pub mod Asking

@@ -46,6 +46,22 @@ impl<'p> Code<'p> {
         })
     }
 
+    /// Where the functions begin, without the program.
+    pub fn into_firsts(self) -> Vec<u16>
+        ensures { result.items ≡ firsts_from 0 self.entry.functions }
+    {
+        let Code { program: _, firsts } = self;
+        firsts
+    }
+
+    /// The program's again, with where its functions begin.
+    pub fn from_firsts(program: &'p Program, firsts: Vec<u16>) -> Code<'p>
+        requires { firsts.items ≡ firsts_from 0 program.now.functions }
+        ensures { result ≡ program.now }
+    {
+        Code { program, firsts }
+    }
+
     /// The program.
     pub fn program(&self) -> &'p Program
         ensures { result.now ≡ self.now }

@@ -30,7 +30,7 @@ pub use laws::{
     held_nodes_are_there, no_world_is_blocked, reached_holdings_are_lawful,
     reached_states_are_well_formed, requests_are_least, steps_have_one_line,
 };
-pub use machine::{FramePlace, Machine};
+pub use machine::{FramePlace, Machine, Paused};
 pub use reply::{Reply, Status};
 pub use run_laws::{runs_are_the_tables, runs_go_on, runs_reach};
 pub use step_laws::{

@@ -7,6 +7,7 @@ ghost use Rattle.asl_lock_forest.specs.declared.node.Node.{Node};
 ghost use Rattle.asl_machine.specs.Run.{start_of, first_threads, IsReached, IsThreadCount};
 ghost use Rattle.asl_machine.specs.State.{cell_at, size_of, class_of, activity_at, depth_at};
 
+mod pausing;
 mod readers;
 
 use crate::code::Code;
@@ -17,6 +18,7 @@ use crate::thread::Thread;
 use asl_code::{Cell, Program, Value};
 use asl_lock_forest::{Forest, Node};
 use asl_mode_lanes::Mode;
+pub use pausing::Paused;
 pub use readers::FramePlace;
 use std::alloc::{AllocError, Global};
 use std::marker::Model;
