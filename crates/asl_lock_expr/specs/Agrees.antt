@@ -1,4 +1,4 @@
--- A heap whose addresses are where the classes say (docs/PROOFS.md, "Expressions and links").
+-- A heap whose addresses are where the classes say (docs/PROOFS.md, "Classes, expressions and links").
 use Rattle.std.specs.Prelude.{◌≡◌, ℕ, Option, Some}
 use Rattle.asl_code.specs.declared.value.Value.{Value}
 use Rattle.asl_code.specs.declared.value.Value.TheVariants.{Int, Null, Addr}

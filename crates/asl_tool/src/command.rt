@@ -74,7 +74,7 @@ pub enum CommandFault {
 ///
 /// # Errors
 ///
-/// The command's refusal of the input (`docs/LIMITS.md`); `OutOfMemory` where a growth was refused.
+/// The command's refusal of the input (`docs/CLI.md`, "Refusals"); `OutOfMemory` where a growth was refused.
 pub fn output_of(alloc: Global, command: &Command, input: &[u8]) -> Result<Vec<u8>, CommandFault>
     ensures ok { IfOk result (λ bytes. IsOutput command.now input.now bytes.items) }
     ensures run_file { IfOk result (λ bytes. IsRunFile command.now input.now bytes.items) }
