@@ -1,4 +1,4 @@
--- What the command `run` answers: the output of any journal that workers may leave (docs/WORKERS.md, "The command run").
+-- What the command `run` answers: the output of any journal that workers may leave (docs/WORKERS.md, "The command `run`").
 use Rattle.std.specs.Prelude.{◌≡◌, ◌≤◌, ◌⊎◌, ℕ, All, List, Option, length}
 use Rattle.asl_code.specs.declared.image.Image.{Image}
 use Rattle.asl_journal.specs.Journal.{Log, IsJournal, state_at}
