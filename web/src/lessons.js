@@ -1,7 +1,7 @@
 // Six lessons of some ten minutes: what to open, what to do, and how each step is known to be done. A test asks the bench, whose
 // events and states are the toolchain's.
 
-const depth = (bench, thread) => bench.state.threads[thread].depth || 0;
+const depth = (bench, thread) => bench.state.threads[thread]?.depth || 0;
 const wasBlocked = (bench, thread) => Boolean(bench.last) && bench.last.reply === 'blocked' && bench.last.thread === thread;
 const printed = bench => bench.run.events.slice(0, bench.position).filter(event => event.reply === 'out').map(event => event.value);
 const isIn = (bench, thread, name) => depth(bench, thread) > 0 && bench.names.functionAt(bench.state.threads[thread].pc) === name;

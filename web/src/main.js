@@ -206,8 +206,8 @@ function listenToButtons() {
   byId('threads-wanted').addEventListener('change', event => bench.setThreads(Number(event.target.value)));
   byId('file').addEventListener('change', event => loadFiles(event.target.files));
   byId('strip').addEventListener('click',
-    event => { const box = byId('strip').getBoundingClientRect();
-    bench.go(Math.round(((event.clientX - box.left) / box.width) * events().length)); });
+    event => { const { left, width } = byId('strip').getBoundingClientRect();
+    if (width) bench.go(Math.round(((event.clientX - left) / width) * events().length)); });
 }
 
 // After a choice by the mouse the keys are the workbench's again; by keyboard one goes on choosing, and leaves by Escape.
