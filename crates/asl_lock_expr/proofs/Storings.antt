@@ -16,7 +16,7 @@ use Rattle.asl_lower.proofs.Layouts.{kept_layout}
 use Rattle.asl_points_to.specs.Classes.{Classed, to}
 use Rattle.asl_lock_expr.specs.ClassOf.{MayStore, Itself, ByCall, TellsStores}
 use Rattle.asl_lock_expr.specs.Stores.{stores}
-use Rattle.asl_lock_expr.specs.Storing.{IsMarked, unmarked, IsIn, row, stored_class, called, AreListed, Reaches, Listed, Calling, MarksAll}
+use Rattle.asl_lock_expr.specs.Storing.{IsMarked, unmarked, IsIn, row, stored_class, called, AreListed, ListsOneMore, Reaches, Listed, Calling, MarksAll}
 
 -- ---- one of a list of numbers
 
@@ -237,8 +237,25 @@ listed_same entry l pc f i rows owner stands none listed a n = (
   ],
 )
 
+-- the same of all programs in which the instruction stands in a body of the function
+pub one_more : (entry : ℕ → Instr → Option ℕ) (f at : ℕ) (i : Instr) (rows new : List (List ℕ)) → entry f i ≡ Some at → ((a n : ℕ) → IsIn (row new a) n ↔ (IsIn (row rows a) n ⊎ ((a ≡ at) × (n ≡ f)))) →
+    (length rows ≤ 65536 → length new ≤ 65536) → ListsOneMore entry f i rows new
+one_more entry f at i rows new enters added few = record {
+  listed = λ l pc owner stands listed. listed_more entry l pc f at i rows new (sym owner) stands enters added listed;
+  few = few;
+}
+
+pub none_more : (entry : ℕ → Instr → Option ℕ) (f : ℕ) (i : Instr) (rows : List (List ℕ)) → entry f i ≡ None → ListsOneMore entry f i rows rows
+none_more entry f i rows none = record {
+  listed = λ l pc owner stands listed. listed_same entry l pc f i rows (sym owner) stands none listed;
+  few = λ h. h;
+}
+
 pub listed_none : (entry : ℕ → Instr → Option ℕ) (l : Lowered) → AreListed entry l 0 []
 listed_none entry l a n = (λ h. absurd h, λ r. absurd (omega (arith, r.before)))
+
+pub rows_none : (entry : ℕ → Instr → Option ℕ) (l : Lowered) (rows : List (List ℕ)) → rows ≡ [] → AreListed entry l 0 rows
+rows_none entry l rows none = subst (AreListed entry l 0) (sym none) (listed_none entry l)
 
 -- ---- what the rows say of the program
 

@@ -1,6 +1,6 @@
 -- Machinery of the proofs, not of the promise: the stores and calls of a program as rows of numbers, and
 -- which functions they lead to (src/stores.rt). What contracts cite is `MayStore` of specs/ClassOf.
-use Rattle.std.specs.Prelude.{◌≡◌, ◌<◌, ◌+◌, ◌⊎◌, ◌↔◌, ℕ, suc, Bool, true, false, List, [], ◌∷◌, length, Option, None, Some, slice_get, unwrap_or}
+use Rattle.std.specs.Prelude.{◌≡◌, ◌<◌, ◌≤◌, ◌+◌, ◌⊎◌, ◌↔◌, ℕ, suc, Bool, true, false, List, [], ◌∷◌, length, Option, None, Some, slice_get, unwrap_or}
 use Rattle.asl_code.specs.declared.instr.Instr.{Instr}
 use Rattle.asl_code.specs.declared.instr.Instr.TheVariants as instr
 use Rattle.asl_lower.specs.Lowered.{Lowered}
@@ -37,6 +37,11 @@ pub record IsListed (entry : ℕ → Instr → Option ℕ) (l : Lowered) (n at f
 -- the rows list by their entries the functions of the first `n` instructions
 abbrev pub AreListed : (ℕ → Instr → Option ℕ) → Lowered → ℕ → List (List ℕ) → Type 0
 AreListed entry l n rows = (at function : ℕ) → IsIn (row rows at) function ↔ IsListed entry l n at function
+
+-- the new rows are the old ones, and have the function for the entry of the instruction, if it has one
+pub record ListsOneMore (entry : ℕ → Instr → Option ℕ) (function : ℕ) (i : Instr) (old new : List (List ℕ)) : Type 0 where
+  pub listed : (l : Lowered) (pc : ℕ) → owner_of l.functions pc ≡ function → slice_get l.code pc ≡ Some i → AreListed entry l pc old → AreListed entry l (pc + 1) new
+  pub few : length old ≤ 65536 → length new ≤ 65536
 
 -- the function has a mark
 abbrev pub IsMarked : List Bool → ℕ → Type 0

@@ -1,9 +1,10 @@
 //! The classes that each function may store to, found by its stores and its calls.
 ghost use Rattle.std.specs.Prelude.{◌≡◌, ◌<◌, ◌≤◌, ◌⊎◌, ◌↔◌, ℕ, true, false, slice_get, OnOk, IfOk, length, map, replicate, vec_len};
 ghost use Rattle.asl_lane_sets.specs.NumberSet.{members_of};
+ghost use Rattle.asl_lower.specs.Region.{owner_of};
 ghost use Rattle.asl_lock_expr.specs.ClassOf.{TellsStores};
 ghost use Rattle.asl_lock_expr.specs.Stores.{stores};
-ghost use Rattle.asl_lock_expr.specs.Storing.{IsMarked, IsIn, AreOver, row, stored_class, called, AreListed, Reaches, MarksAll};
+ghost use Rattle.asl_lock_expr.specs.Storing.{IsMarked, IsIn, AreOver, row, stored_class, called, AreListed, ListsOneMore, Reaches, MarksAll};
 
 use crate::written::Writes;
 use asl_code::{Instr, Items};
@@ -20,11 +21,10 @@ use std::alloc::{AllocError, Global};
 pub fn writes(alloc: Global, lowering: &Lowering, classes: &Classes) -> Result<Writes, AllocError>
     ensures { IfOk result (λ w. TellsStores lowering.now classes.now (stores w)) }
 {
-    let own = own_stores(alloc, lowering, classes)?;
-    let callers = callers(alloc, lowering)?;
+    let Rows { stores, callers } = rows_of(alloc, lowering, classes)?;
     let count = lowering.functions().len();
-    let mut sets = empty_sets(alloc, count, own.len())?;
-    for (class, stored) in own.iter().enumerate() {
+    let mut sets = empty_sets(alloc, count, stores.len())?;
+    for (class, stored) in stores.iter().enumerate() {
         let marks = storing(alloc, count, &callers, stored.as_slice())?;
         add_class(&mut sets, &marks, class);
     }
@@ -42,36 +42,78 @@ fn empty_sets(alloc: Global, count: usize, len: usize) -> Result<Vec<Bits>, Allo
     Ok(sets)
 }
 
-/// For each class the functions with a store of their own to it.
-fn own_stores(
-    alloc: Global,
-    lowering: &Lowering,
-    classes: &Classes,
-) -> Result<Vec<Items<u16>>, AllocError>
-    ensures listed { IfOk result (λ rows. AreListed (stored_class classes.now) lowering.now (length lowering.now.code) rows.items) }
-    ensures few { IfOk result (λ rows. length rows.items ≤ 65536) }
+/// The stores and the calls of a program.
+#[derive(Drop)]
+struct Rows {
+    /// For each class the functions with a store of their own to it.
+    stores: Vec<Items<u16>>,
+    /// For each function those that call it.
+    callers: Vec<Items<u16>>,
+}
+
+/// The stores and the calls of the program, function by function.
+fn rows_of(alloc: Global, lowering: &Lowering, classes: &Classes) -> Result<Rows, AllocError>
+    ensures stores { IfOk result (λ rows. AreListed (stored_class classes.now) lowering.now (length lowering.now.code) rows.stores.items) }
+    ensures calls { IfOk result (λ rows. AreListed (λ _. called) lowering.now (length lowering.now.code) rows.callers.items) }
+    ensures few { IfOk result (λ rows. length rows.stores.items ≤ 65536) }
 {
-    let mut rows = Vec::new(alloc);
-    for (pc, instr) in lowering.code().iter().enumerate() {
-        let function = lowering.owner(pc as u16);
-        if let Some(class) = stored_class(classes, function, *instr) {
-            add_at(alloc, &mut rows, class, function)?;
-        }
+    let mut rows = Rows {
+        stores: Vec::new(alloc),
+        callers: Vec::new(alloc),
+    };
+    let mut end = 0;
+    for (number, function) in lowering.functions().iter().enumerate() {
+        let start = end;
+        end += function.len as usize;
+        rows.add_body(alloc, lowering, classes, number as u16, start, end)?;
     }
     Ok(rows)
 }
 
-/// For each function those that call it.
-fn callers(alloc: Global, lowering: &Lowering) -> Result<Vec<Items<u16>>, AllocError>
-    ensures { IfOk result (λ rows. AreListed (λ _. called) lowering.now (length lowering.now.code) rows.items) }
-{
-    let mut rows = Vec::new(alloc);
-    for (pc, instr) in lowering.code().iter().enumerate() {
-        if let Some(callee) = called(*instr) {
-            add_at(alloc, &mut rows, callee, lowering.owner(pc as u16))?;
+impl Rows {
+    /// Adds the stores and the calls of the body of a function, which lies from `start` to before `end`.
+    fn add_body(
+        &mut self,
+        alloc: Global,
+        lowering: &Lowering,
+        classes: &Classes,
+        function: u16,
+        start: usize,
+        end: usize,
+    ) -> Result<(), AllocError>
+        requires order { start ≤ end }
+        requires there { end ≤ length lowering.now.code }
+        requires body { (pc : ℕ) → start ≤ pc → pc < end → owner_of lowering.now.functions pc ≡ function }
+        ensures stores { OnOk result (AreListed (stored_class classes.now) lowering.now start self.old.stores.items → AreListed (stored_class classes.now) lowering.now end self.new.stores.items) }
+        ensures calls { OnOk result (AreListed (λ _. called) lowering.now start self.old.callers.items → AreListed (λ _. called) lowering.now end self.new.callers.items) }
+        ensures few { OnOk result (length self.old.stores.items ≤ 65536 → length self.new.stores.items ≤ 65536) }
+        ensures few_calls { OnOk result (length self.old.callers.items ≤ 65536 → length self.new.callers.items ≤ 65536) }
+    {
+        for pc in start..end {
+            self.add(alloc, classes, function, lowering.code()[pc])?;
         }
+        Ok(())
     }
-    Ok(rows)
+
+    /// Adds what an instruction of the function stores to and calls.
+    fn add(
+        &mut self,
+        alloc: Global,
+        classes: &Classes,
+        function: u16,
+        instr: Instr,
+    ) -> Result<(), AllocError>
+        ensures stores { OnOk result (ListsOneMore (stored_class classes.now) function instr self.old.stores.items self.new.stores.items) }
+        ensures calls { OnOk result (ListsOneMore (λ _. called) function instr self.old.callers.items self.new.callers.items) }
+    {
+        if let Some(class) = stored_class(classes, function, instr) {
+            add_at(alloc, &mut self.stores, class, function)?;
+        }
+        if let Some(callee) = called(instr) {
+            add_at(alloc, &mut self.callers, callee, function)?;
+        }
+        Ok(())
+    }
 }
 
 /// The class to which the instruction of the function stores.

@@ -17,7 +17,7 @@ loop-class-init c =
     let same : len ≡ length own = omega (arith, c.len.ensures, ap length c.deref-stored-items.ensures.value) in
     record {
       lengths = ap (map length) c.in_ok-sets.ensures ∙ lengths_first n len ∙ ap (replicate n) same;
-      below = subst (λ ss. AreBelow n own c.in_ok-callers.callers.items (map members_of ss) 0) (sym c.in_ok-sets.ensures) (below_first n own c.in_ok-callers.callers.items n len);
+      below = subst (λ ss. AreBelow n own c.in_ok-stores.field-0.callers.items (map members_of ss) 0) (sym c.in_ok-sets.ensures) (below_first n own c.in_ok-stores.field-0.callers.items n len);
     }
 
 pub add_class-requires-clause-there : goal.add_class-requires-clause-there
@@ -36,21 +36,21 @@ loop-class-preserved c =
     let own = c.deref-stored-items.result.now in
     let class : ℕ = c.loop-class.class in
     let listed : c.as_slice.result.now ≡ row own class = c.as_slice.ensures ∙ sym (row_read own class c.stored-item.result c.loop-class-test.true c.stored-item.is) in
-    let marked : (f : ℕ) → IsMarked c.deref-in-loop-class.result.now f ↔ Reaches n c.in_ok-callers.callers.items c.as_slice.result.now f =
-    subst (λ (ms : List Bool). (f : ℕ) → IsMarked ms f ↔ Reaches n c.in_ok-callers.callers.items c.as_slice.result.now f) (sym c.deref-in-loop-class.ensures.value)
+    let marked : (f : ℕ) → IsMarked c.deref-in-loop-class.result.now f ↔ Reaches n c.in_ok-stores.field-0.callers.items c.as_slice.result.now f =
+    subst (λ (ms : List Bool). (f : ℕ) → IsMarked ms f ↔ Reaches n c.in_ok-stores.field-0.callers.items c.as_slice.result.now f) (sym c.deref-in-loop-class.ensures.value)
     (subst (λ (cs : List (List ℕ)). (f : ℕ) → IsMarked c.in_ok-marks.marks.items f ↔ Reaches n cs c.as_slice.result.now f) c.deref.ensures.value c.in_ok-marks.ensures.marks) in
     record {
       lengths = c.add_class.ensures.lengths ∙ c.loop-class.invariant.lengths;
-      below = below_one n own c.in_ok-callers.callers.items (map members_of c.loop-class.sets.items) (map members_of c.add_class.new.sets.items) c.deref-in-loop-class.result.now class c.as_slice.result.now listed marked c.add_class.ensures.classes c.loop-class.invariant.below;
+      below = below_one n own c.in_ok-stores.field-0.callers.items (map members_of c.loop-class.sets.items) (map members_of c.add_class.new.sets.items) c.deref-in-loop-class.result.now class c.as_slice.result.now listed marked c.add_class.ensures.classes c.loop-class.invariant.below;
     }
 
 pub returns : goal.returns
 returns c =
     let l = c.args.lowering.now in
-    let own = c.in_ok-own.own.items in
-    let callers = c.in_ok-callers.callers.items in
+    let own = c.in_ok-stores.field-0.stores.items in
+    let callers = c.in_ok-stores.field-0.callers.items in
     let lists = map members_of c.loop-class.sets.items in
-    let rows : AreRows l c.args.classes.now own callers = record { kept = c.functions-count.ensures.kept; stores = c.in_ok-own.ensures.listed; calls = c.in_ok-callers.ensures } in
+    let rows : AreRows l c.args.classes.now own callers = record { kept = c.functions-count.ensures.kept; stores = c.in_ok-stores.ensures.stores; calls = c.in_ok-stores.ensures.calls } in
     let below : AreBelow (length l.functions) own callers lists c.loop-class.class =
     subst (λ (fs : List entry.Function). AreBelow (length fs) own callers lists c.loop-class.class) c.functions-count.ensures.functions
     (subst (λ (rs : List (List ℕ)). AreBelow (length c.functions-count.result.now) rs callers lists c.loop-class.class) c.deref-stored-items.ensures.value c.loop-class.invariant.below) in
