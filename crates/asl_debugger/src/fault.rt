@@ -63,3 +63,46 @@ impl<T: Drop> From<AllocFailed<T>> for DebugFault {
         DebugFault::OutOfMemory
     }
 }
+
+/// Why a debugger records no step. The first that applies is answered.
+#[derive(Clone, Copy, Debug, PartialEq, Eq, Error)]
+pub enum StepFault {
+    /// Events follow the position.
+    #[error("NotAtEnd")]
+    NotAtEnd,
+    /// A journal has at most 16,777,216 events.
+    #[error("JournalFull")]
+    JournalFull,
+    /// There is no such thread.
+    #[error("BadThread")]
+    BadThread,
+    /// An allocation failed.
+    #[error("OutOfMemory")]
+    OutOfMemory,
+}
+
+impl From<AllocError> for StepFault {
+    ghost use Rattle.std.specs.Prelude.{◌≡◌};
+    ghost use Rattle.asl_debugger.specs.declared.fault.StepFault.TheVariants.{OutOfMemory};
+
+    ghost from_gives = { λ _ fault. fault ≡ OutOfMemory };
+
+    fn from(_: AllocError) -> Self {
+        StepFault::OutOfMemory
+    }
+}
+
+impl From<MachineFault> for StepFault {
+    ghost use Rattle.std.specs.Prelude.{◌≡◌};
+    ghost use Rattle.asl_debugger.specs.Fault.{step_fault};
+
+    ghost from_gives = { λ machine fault. fault ≡ step_fault machine };
+
+    fn from(fault: MachineFault) -> Self {
+        match fault {
+            MachineFault::BadThread => StepFault::BadThread,
+            // No machine is started here: `BadCount` never comes here.
+            MachineFault::BadCount | MachineFault::OutOfMemory => StepFault::OutOfMemory,
+        }
+    }
+}

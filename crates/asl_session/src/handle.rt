@@ -1,0 +1,66 @@
+//! A session that C keeps.
+ghost use Rattle.std.specs.Prelude.{◌≡◌, true, false, IfSome, IfNone, IsSome, is_some, if◌then◌else◌};
+
+use crate::parts::Parts;
+use crate::session::Session;
+use crate::slot::Slot;
+use std::alloc::Global;
+
+/// A session that C keeps, or none.
+#[repr(C)]
+#[derive(Drop)]
+pub struct Handle {
+    pub live: bool,
+    pub slot: Slot,
+    pub ghost agrees: { live ≡ slot.owned },
+    pub ghost whole: { live ≡ true → is_some slot.session ≡ true },
+}
+
+impl Handle {
+    /// No session.
+    pub fn none(alloc: Global) -> Handle
+        ensures { result.live ≡ false }
+    {
+        Handle {
+            live: false,
+            slot: Slot::none(alloc),
+        }
+    }
+
+    /// The session in the box.
+    pub fn of(session: Box<Option<Session>>) -> Handle
+        requires { is_some session.value ≡ true }
+        ensures live { result.live ≡ true }
+        ensures session { result.slot.session ≡ session.value }
+    {
+        Handle {
+            live: true,
+            slot: Slot::of_parts(Parts::of(session)),
+        }
+    }
+
+    /// The box of the session, if there is one.
+    pub fn into_box(self) -> Option<Box<Option<Session>>>
+        ensures some { IfSome result (λ b. b.value ≡ self.slot.session) }
+        ensures live { IfSome result (λ b. self.live ≡ true) }
+        ensures whole { IfSome result (λ b. is_some b.value ≡ true) }
+        ensures none { IfNone result (self.live ≡ false) }
+    {
+        if self.live {
+            Some(self.slot.into_parts().into_box())
+        } else {
+            None
+        }
+    }
+
+    /// Takes the box out, if there is one, and leaves none.
+    pub fn take(&mut self, alloc: Global) -> Option<Box<Option<Session>>>
+        ensures some { IfSome result (λ b. b.value ≡ self.old.slot.session) }
+        ensures live { IfSome result (λ b. self.old.live ≡ true) }
+        ensures whole { IfSome result (λ b. is_some b.value ≡ true) }
+        ensures none { IfNone result (self.old.live ≡ false) }
+        ensures left { self.new.live ≡ false }
+    {
+        std::mem::replace(self, Handle::none(alloc)).into_box()
+    }
+}
