@@ -1,0 +1,104 @@
+/* Sessions: steps a program by a schedule with memory refused at each request in turn, and prints for each position what
+ * `asl debug goto K view asks stack objects` prints, and then the lines of the events, as `asl log` does.
+ * usage: session PROGRAM THREADS T.. ; link it with --wrap=malloc and --wrap=realloc. */
+#include "asl.h"
+#include "refuse.h"
+#include <stdio.h>
+#include <stdlib.h>
+#include <string.h>
+
+enum { ROOM = 1 << 20, UNTOUCHED = 0xa5 };
+
+static uint8_t program[ROOM], text[ROOM];
+
+static void must(bool holds, const char *what) {
+  if (holds) return;
+  fprintf(stderr, "session: %s\n", what);
+  exit(1);
+}
+
+/* the call's status once all memory is granted that it asks for; each time before, one request later is refused */
+#define REFUSED_IN_TURN(status, call)                       \
+  do {                                                      \
+    long most = 0;                                          \
+    do {                                                    \
+      granted = most++;                                     \
+      (status) = (call);                                    \
+    } while ((status) == ASL_NO_MEMORY && most < 100000);   \
+    granted = -1;                                           \
+  } while (0)
+
+static void print_page(asl_session *session, uint32_t (*page)(asl_session *, uint8_t *, size_t, size_t *)) {
+  size_t length = 0, again = 0;
+  uint32_t status;
+  memset(text, UNTOUCHED, ROOM);
+  REFUSED_IN_TURN(status, page(session, text, ROOM, &length));
+  must(status == ASL_OK && length <= ROOM, "a page");
+  must(length == ROOM || text[length] == UNTOUCHED, "nothing past the text");
+  must(page(session, NULL, 0, &again) == ASL_OK && again == length, "the length without room");
+  fwrite(text, 1, length, stdout);
+}
+
+static void print_position(asl_session *session, uint32_t k) {
+  uint32_t status;
+  REFUSED_IN_TURN(status, asl_session_go(session, k));
+  must(status == ASL_OK, "go");
+  printf("at %u\n", (unsigned)k);
+  print_page(session, asl_session_view);
+  print_page(session, asl_session_asks);
+  print_page(session, asl_session_stack);
+  print_page(session, asl_session_objects);
+}
+
+static void step_all(asl_session *session, char **schedule, int from, int count) {
+  for (int i = from; i < count; i++) {
+    uint32_t status;
+    REFUSED_IN_TURN(status, asl_session_step(session, (uint32_t)atoi(schedule[i])));
+    must(status == ASL_OK, "step");
+  }
+}
+
+static void statuses(asl_session *session, uint32_t threads, uint32_t events) {
+  asl_session none = {0};
+  asl_place place = {9, 9};
+  size_t length = 7;
+  must(asl_session_step(&none, 0) == ASL_BAD_HANDLE && asl_session_go(&none, 0) == ASL_BAD_HANDLE, "no session");
+  must(asl_session_cut(&none, 0) == ASL_BAD_HANDLE && asl_session_close(&none) == ASL_BAD_HANDLE, "no session to cut or close");
+  must(asl_session_view(&none, text, ROOM, &length) == ASL_BAD_HANDLE && length == 7, "no page of no session");
+  must(asl_session_place(&none, &place) == ASL_BAD_HANDLE && place.position == 9, "no place of no session");
+  must(asl_session_open(program, 1, 1, session) == ASL_BAD_HANDLE, "a session already");
+  must(asl_session_open((const uint8_t *)"x", 1, 1, &none) == ASL_NO_PROGRAM, "no program");
+  must(asl_session_step(session, threads) == ASL_BAD_THREAD, "a thread past the last");
+  must(asl_session_go(session, events + 1) == ASL_NO_SUCH_STEP, "a position past the end");
+  must(asl_session_cut(session, events + 1) == ASL_NO_SUCH_STEP, "a cut past the end");
+  must(asl_session_place(session, &place) == ASL_OK && place.position == events && place.events == events, "the place");
+  if (events == 0) return;
+  must(asl_session_go(session, events - 1) == ASL_OK && asl_session_step(session, threads) == ASL_NOT_AT_END, "a step in the midst");
+  must(asl_session_go(session, events) == ASL_OK, "back at the end");
+}
+
+int main(int count, char **words) {
+  if (count < 3) return 2;
+  FILE *file = fopen(words[1], "rb");
+  if (!file) return 2;
+  size_t size = fread(program, 1, ROOM, file), length = 0;
+  fclose(file);
+  uint32_t threads = (uint32_t)atoi(words[2]), events = (uint32_t)(count - 3), status;
+  asl_session session = {0};
+  must(asl_session_open(program, size, 0, &session) == ASL_BAD_COUNT, "no threads");
+  REFUSED_IN_TURN(status, asl_session_open(program, size, threads, &session));
+  must(status == ASL_OK, "open");
+  step_all(&session, words, 3, count);
+  statuses(&session, threads, events);
+  for (uint32_t k = events; k-- > 0;) {
+    REFUSED_IN_TURN(status, asl_session_cut(&session, k));
+    must(status == ASL_OK, "cut");
+    step_all(&session, words, 3 + (int)k, count);
+  }
+  for (uint32_t k = 0; k <= events; k++) print_position(&session, k);
+  REFUSED_IN_TURN(status, asl_session_log(&session, 0, text, ROOM, &length));
+  must(status == ASL_OK && length <= ROOM, "log");
+  fwrite(text, 1, length, stdout);
+  must(asl_session_close(&session) == ASL_OK && asl_session_close(&session) == ASL_BAD_HANDLE, "close");
+  return 0;
+}
