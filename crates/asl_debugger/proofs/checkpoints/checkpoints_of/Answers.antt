@@ -13,23 +13,33 @@ loop-here-init c =
 pub machine_between-requires-clause-from : goal.machine_between-requires-clause-from
 machine_between-requires-clause-from c = rw c.loop-here.invariant.at refl
 
-pub returns-in_err-machine_between-clause-refused : goal.returns-in_err-machine_between-clause-refused
-returns-in_err-machine_between-clause-refused c =
+pub returns-in_err-machine-2-clause-refused : goal.returns-in_err-machine-2-clause-refused
+returns-in_err-machine-2-clause-refused c =
     let so_far = c.loop-here.invariant in
-    let h = rw so_far.at at c.in_err-machine_between.ensures.refused in
-    let p = err_from_is_err_and c.from_residual-in_err-machine_between.result c.from_residual-in_err-machine_between.ensures.1 in
+    let h = rw so_far.at at c.in_err-machine-2.ensures.refused in
+    let p = err_from_is_err_and c.from_residual-in_err-machine-2.result c.from_residual-in_err-machine-2.ensures.1 in
     rw (p.1, p.2) (h so_far.counted so_far.goes)
+
+pub returns-in_err-checkpoint-clause-refused : goal.returns-in_err-checkpoint-clause-refused
+returns-in_err-checkpoint-clause-refused c =
+    let p = err_from_is_err_and c.from_residual-in_err-checkpoint.result c.from_residual-in_err-checkpoint.ensures.1 in
+    rw (p.1, p.2, c.in_err-checkpoint.ensures.memory) c.loop-here.invariant.counted.1
+
+pub returns-in_err-push-2-clause-refused : goal.returns-in_err-push-2-clause-refused
+returns-in_err-push-2-clause-refused c =
+    let p = err_from_is_err_and c.from_residual-in_err-push-2.result c.from_residual-in_err-push-2.ensures.1 in
+    rw (p.1, p.2) c.loop-here.invariant.counted.1
 
 pub loop-here-preserved : goal.loop-here-preserved
 loop-here-preserved c =
     let items = c.loop-here.checkpoints.items in
     let so_far = c.loop-here.invariant in
-    let behind = rw so_far.at at c.in_ok-machine_between.ensures.machine in
-    let goes = rw so_far.at at c.in_ok-machine_between.ensures.goes in
+    let behind = rw so_far.at at c.in_ok-machine-2.ensures.machine in
+    let goes = rw so_far.at at c.in_ok-machine-2.ensures.goes in
     let checkpoint = c.in_ok-checkpoint.ensures in
     let pushed : c.push-in-loop-here.new.self.items ≡ items ++ c.in_ok-checkpoint.checkpoint ∷ [] = c.in_ok-push-2.ensures.items in
     let len = ap (λ es. length es) c.events-events.ensures.events in
-    rw pushed (so_far_next c.args.program.now c.args.journal.now c.args.spacing c.loop-here.here c.loop-here.machine c.in_ok-machine_between.machine items c.in_ok-checkpoint.checkpoint so_far behind
+    rw pushed (so_far_next c.args.program.now c.args.journal.now c.args.spacing c.loop-here.here c.loop-here.machine c.in_ok-machine-2.field-0 items c.in_ok-checkpoint.checkpoint so_far behind
     checkpoint.fits checkpoint.state (omega (arith, len)) (goes so_far.goes))
 
 pub machine_between-requires-2-clause-from : goal.machine_between-requires-2-clause-from

@@ -4,8 +4,8 @@ use Rattle.std.proofs.lemmas.Option.{slice_get_read}
 use Rattle.asl_debugger.proofs.Marks.{number_there, marked}
 use Rattle.asl_debugger.proofs.debugger.Debugger.machine_at.Goals as goal
 
-pub machine_of-requires-else-start-self : goal.machine_of-requires-else-start-self
-machine_of-requires-else-start-self c =
+pub machine_of-requires : goal.machine_of-requires
+machine_of-requires c =
     let d = c.self.inside in
     let number = c.args.k / d.spacing in
     let few = rw (← c.self.view_is) at c.requires in
@@ -25,8 +25,8 @@ machine_between-requires-else-start-self-clause-from c =
     let is = rw c.program.ensures at c.in_ok-machine-2.ensures.machine in
     rw (marked d.machine.image d.journal (number * d.spacing) c.index-nearest.result.now c.in_ok-machine-2.machine is (c.self.invariant.each number c.index-nearest.result.now at)) refl
 
-pub returns-else-start-self-clause-machine : goal.returns-else-start-self-clause-machine
-returns-else-start-self-clause-machine c =
+pub returns-in_ok-machine-2-clause-machine : goal.returns-in_ok-machine-2-clause-machine
+returns-in_ok-machine-2-clause-machine c =
     let d = c.self.inside in
     let number = c.args.k / d.spacing in
     let few = rw (← c.self.view_is) at c.requires in
@@ -37,8 +37,8 @@ returns-else-start-self-clause-machine c =
     let e = marked d.machine.image d.journal (number * d.spacing) c.index-nearest.result.now c.in_ok-machine-2.machine is (c.self.invariant.each number c.index-nearest.result.now at) in
     rw (← c.self.view_is) (rw e at c.machine_between-else-start-self.ensures.machine)
 
-pub returns-else-start-self-clause-memory : goal.returns-else-start-self-clause-memory
-returns-else-start-self-clause-memory c =
+pub returns-in_ok-machine-2-clause-memory : goal.returns-in_ok-machine-2-clause-memory
+returns-in_ok-machine-2-clause-memory c =
     let d = c.self.inside in
     let number = c.args.k / d.spacing in
     let few = rw (← c.self.view_is) at c.requires in
