@@ -1,8 +1,7 @@
 //! What C calls.
-ghost use Rattle.std.specs.Prelude.{◌≡◌, ◌≢◌, ◌↔◌, true, false, Some, length, if◌then◌else◌};
-ghost use Rattle.asl_debugger.specs.Session.{Session, machine_before};
+ghost use Rattle.std.specs.Prelude.{◌≡◌, ◌≢◌, ◌↔◌, true, false, length, if◌then◌else◌};
 ghost use Rattle.asl_session.specs.Opening.{IsOpened, WhyNot};
-ghost use Rattle.asl_session.specs.Pages.{page_text, log_text};
+ghost use Rattle.asl_session.specs.Pages.{text_of, log_text};
 ghost use Rattle.asl_session.specs.Status.{IsCut, IsGone, IsStepped, IsTold};
 
 use crate::handle::Handle;
@@ -63,8 +62,7 @@ pub extern "C" fn asl_session_close(alloc: Global, handle: &mut Handle) -> u32
 pub extern "C" fn asl_session_step(alloc: Global, handle: &mut Handle, thread: u32) -> u32
     ensures live { handle.new.live ≡ handle.old.live }
     ensures no_session { result ≡ 3 ↔ handle.old.live ≡ false }
-    ensures stepped { (s : Session) → handle.old.live ≡ true → handle.old.slot.session ≡ Some s
-        → IsStepped s thread result handle.new.slot.session }
+    ensures stepped { handle.old.live ≡ true → IsStepped handle.old.slot.session thread result handle.new.slot.session }
 {
     match handle.take(alloc) {
         Some(session) => {
@@ -84,8 +82,7 @@ pub extern "C" fn asl_session_step(alloc: Global, handle: &mut Handle, thread: u
 pub extern "C" fn asl_session_go(alloc: Global, handle: &mut Handle, k: u32) -> u32
     ensures live { handle.new.live ≡ handle.old.live }
     ensures no_session { result ≡ 3 ↔ handle.old.live ≡ false }
-    ensures gone { (s : Session) → handle.old.live ≡ true → handle.old.slot.session ≡ Some s
-        → IsGone s k result handle.new.slot.session }
+    ensures gone { handle.old.live ≡ true → IsGone handle.old.slot.session k result handle.new.slot.session }
 {
     match handle.take(alloc) {
         Some(session) => {
@@ -105,8 +102,7 @@ pub extern "C" fn asl_session_go(alloc: Global, handle: &mut Handle, k: u32) -> 
 pub extern "C" fn asl_session_cut(alloc: Global, handle: &mut Handle, k: u32) -> u32
     ensures live { handle.new.live ≡ handle.old.live }
     ensures no_session { result ≡ 3 ↔ handle.old.live ≡ false }
-    ensures cut { (s : Session) → handle.old.live ≡ true → handle.old.slot.session ≡ Some s
-        → IsCut s k result handle.new.slot.session }
+    ensures cut { handle.old.live ≡ true → IsCut handle.old.slot.session k result handle.new.slot.session }
 {
     match handle.take(alloc) {
         Some(session) => {
@@ -127,8 +123,8 @@ pub extern "C" fn asl_session_place(alloc: Global, handle: &mut Handle, place: &
     ensures live { handle.new.live ≡ handle.old.live }
     ensures told { result ≡ (if handle.old.live then 0 else 3) }
     ensures same { handle.old.live ≡ true → handle.new.slot.session ≡ handle.old.slot.session }
-    ensures position { (s : Session) → handle.old.live ≡ true → handle.old.slot.session ≡ Some s → place.new.position ≡ s.position }
-    ensures events { (s : Session) → handle.old.live ≡ true → handle.old.slot.session ≡ Some s → place.new.events ≡ length s.log.events }
+    ensures position { handle.old.live ≡ true → place.new.position ≡ handle.old.slot.session.position }
+    ensures events { handle.old.live ≡ true → place.new.events ≡ length handle.old.slot.session.log.events }
     ensures unwritten { handle.old.live ≡ false → place.new ≡ place.old }
 {
     match handle.take(alloc) {
@@ -154,7 +150,7 @@ pub extern "C" fn asl_session_view(
     ensures live { handle.new.live ≡ handle.old.live }
     ensures same { handle.old.live ≡ true → handle.new.slot.session ≡ handle.old.slot.session }
     ensures no_session { result ≡ 3 ↔ handle.old.live ≡ false }
-    ensures told { handle.old.live ≡ true → IsTold (λ s. page_text Page.View (machine_before s.image s.log s.position)) handle.old.slot.session text.old text.new length.old length.new result }
+    ensures told { handle.old.live ≡ true → IsTold (text_of Page.View handle.old.slot.session) text.old text.new length.new result }
     ensures unwritten { result ≢ 0 → (text.new ≡ text.old) × (length.new ≡ length.old) }
 {
     match handle.take(alloc) {
@@ -181,7 +177,7 @@ pub extern "C" fn asl_session_asks(
     ensures live { handle.new.live ≡ handle.old.live }
     ensures same { handle.old.live ≡ true → handle.new.slot.session ≡ handle.old.slot.session }
     ensures no_session { result ≡ 3 ↔ handle.old.live ≡ false }
-    ensures told { handle.old.live ≡ true → IsTold (λ s. page_text Page.Asks (machine_before s.image s.log s.position)) handle.old.slot.session text.old text.new length.old length.new result }
+    ensures told { handle.old.live ≡ true → IsTold (text_of Page.Asks handle.old.slot.session) text.old text.new length.new result }
     ensures unwritten { result ≢ 0 → (text.new ≡ text.old) × (length.new ≡ length.old) }
 {
     match handle.take(alloc) {
@@ -208,7 +204,7 @@ pub extern "C" fn asl_session_stack(
     ensures live { handle.new.live ≡ handle.old.live }
     ensures same { handle.old.live ≡ true → handle.new.slot.session ≡ handle.old.slot.session }
     ensures no_session { result ≡ 3 ↔ handle.old.live ≡ false }
-    ensures told { handle.old.live ≡ true → IsTold (λ s. page_text Page.Stack (machine_before s.image s.log s.position)) handle.old.slot.session text.old text.new length.old length.new result }
+    ensures told { handle.old.live ≡ true → IsTold (text_of Page.Stack handle.old.slot.session) text.old text.new length.new result }
     ensures unwritten { result ≢ 0 → (text.new ≡ text.old) × (length.new ≡ length.old) }
 {
     match handle.take(alloc) {
@@ -235,7 +231,7 @@ pub extern "C" fn asl_session_objects(
     ensures live { handle.new.live ≡ handle.old.live }
     ensures same { handle.old.live ≡ true → handle.new.slot.session ≡ handle.old.slot.session }
     ensures no_session { result ≡ 3 ↔ handle.old.live ≡ false }
-    ensures told { handle.old.live ≡ true → IsTold (λ s. page_text Page.Objects (machine_before s.image s.log s.position)) handle.old.slot.session text.old text.new length.old length.new result }
+    ensures told { handle.old.live ≡ true → IsTold (text_of Page.Objects handle.old.slot.session) text.old text.new length.new result }
     ensures unwritten { result ≢ 0 → (text.new ≡ text.old) × (length.new ≡ length.old) }
 {
     match handle.take(alloc) {
@@ -263,13 +259,12 @@ pub extern "C" fn asl_session_log(
     ensures live { handle.new.live ≡ handle.old.live }
     ensures same { handle.old.live ≡ true → handle.new.slot.session ≡ handle.old.slot.session }
     ensures no_session { result ≡ 3 ↔ handle.old.live ≡ false }
-    ensures told { handle.old.live ≡ true → IsTold (λ s. log_text first s.log.events) handle.old.slot.session text.old text.new length.old length.new result }
+    ensures told { handle.old.live ≡ true → IsTold (log_text first handle.old.slot.session.log.events) text.old text.new length.new result }
     ensures unwritten { result ≢ 0 → (text.new ≡ text.old) × (length.new ≡ length.old) }
 {
     match handle.take(alloc) {
         Some(session) => {
-            let mut session = session;
-            let told = kept::log(alloc, &session, first);
+            let told = session.log(alloc, first);
             *handle = Handle::of(session);
             put_text(told, text, length)
         }
