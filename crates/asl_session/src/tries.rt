@@ -58,9 +58,7 @@ fn agrees(alloc: Global, session: &mut Session) -> Option<bool> {
         if kept::cut(alloc, session, k) != 0 || kept::go(alloc, session, k + 1) != 13 {
             return Some(false);
         }
-        if !steps(alloc, session, &SCHEDULE[k as usize..])
-            || session.log(alloc, 0).ok()? != whole
-        {
+        if !steps(alloc, session, &SCHEDULE[k as usize..]) || session.log(alloc, 0).ok()? != whole {
             return Some(false);
         }
     }
