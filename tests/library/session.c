@@ -84,6 +84,27 @@ static void without_session(void) {
   must(asl_session_close(&none) == ASL_BAD_HANDLE, "nothing opened");
 }
 
+/* each call with NULL where something is to stand: nothing is written, and the session stays as it is */
+static void with_null(asl_session *session) {
+  static asl_session none;
+  asl_place place = {9, 9};
+  size_t length = 7;
+  must(asl_session_open(program, 1, 1, NULL) == ASL_BAD_HANDLE && asl_session_close(NULL) == ASL_BAD_HANDLE, "NULL to open or close");
+  must(asl_session_step(NULL, 0) == ASL_BAD_HANDLE && asl_session_go(NULL, 0) == ASL_BAD_HANDLE, "NULL to step or go through");
+  must(asl_session_cut(NULL, 0) == ASL_BAD_HANDLE && asl_session_place(NULL, &place) == ASL_BAD_HANDLE, "NULL to cut or to tell of");
+  must(asl_session_view(NULL, part, ROOM, &length) == ASL_BAD_HANDLE && asl_session_asks(NULL, part, ROOM, &length) == ASL_BAD_HANDLE, "NULL to view");
+  must(asl_session_stack(NULL, part, ROOM, &length) == ASL_BAD_HANDLE && asl_session_objects(NULL, part, ROOM, &length) == ASL_BAD_HANDLE, "NULL to show");
+  must(asl_session_log(NULL, 0, part, ROOM, &length) == ASL_BAD_HANDLE, "NULL to log");
+  must(asl_session_open(NULL, 1, 1, &none) == ASL_NULL_POINTER && asl_session_open(NULL, 1, 1, session) == ASL_BAD_HANDLE, "no program");
+  must(asl_session_place(session, NULL) == ASL_NULL_POINTER && asl_session_place(&none, NULL) == ASL_BAD_HANDLE, "no place");
+  must(asl_session_view(session, NULL, 1, &length) == ASL_NULL_POINTER && asl_session_view(session, part, ROOM, NULL) == ASL_NULL_POINTER, "no view");
+  must(asl_session_asks(session, NULL, 1, &length) == ASL_NULL_POINTER && asl_session_asks(session, part, ROOM, NULL) == ASL_NULL_POINTER, "no asks");
+  must(asl_session_stack(session, NULL, 1, &length) == ASL_NULL_POINTER && asl_session_stack(session, part, ROOM, NULL) == ASL_NULL_POINTER, "no stack");
+  must(asl_session_objects(session, NULL, 1, &length) == ASL_NULL_POINTER && asl_session_objects(session, part, ROOM, NULL) == ASL_NULL_POINTER, "no objects");
+  must(asl_session_log(session, 0, NULL, 1, &length) == ASL_NULL_POINTER && asl_session_log(session, 0, part, ROOM, NULL) == ASL_NULL_POINTER, "no log");
+  must(place.position == 9 && length == 7, "nothing written with NULL");
+}
+
 /* the refusals of a session at the end of its events, which stays as it is */
 static void refusals(asl_session *session, uint32_t threads, uint32_t events) {
   asl_place place = {9, 9};
@@ -116,6 +137,7 @@ int main(int count, char **words) {
   REFUSED_IN_TURN(status, asl_session_open(program, size, threads, &session));
   must(status == ASL_OK, "open");
   step_all(&session, words, 3, count);
+  with_null(&session);
   refusals(&session, threads, events);
   for (uint32_t k = events; k-- > 0;) {
     REFUSED_IN_TURN(status, asl_session_cut(&session, k));

@@ -1,4 +1,4 @@
-//! What C calls.
+//! What C calls, with pointers that are not null: `include/asl.h` tests that first.
 ghost use Rattle.std.specs.Prelude.{◌≡◌, ◌≢◌, ◌↔◌, true, false, length, if◌then◌else◌};
 ghost use Rattle.asl_session.specs.Opening.{IsOpened, WhyNot};
 ghost use Rattle.asl_session.specs.Pages.{text_of, log_text};
@@ -16,7 +16,7 @@ use std::alloc::Global;
 ///
 /// Status 0: opened. 2: no memory. 3: the handle has a session. 11: no thread, or more than the program may start. 12: no program.
 #[unsafe(no_mangle)]
-pub extern "C" fn asl_session_open(
+pub extern "C" fn asl_session_open_nonnull(
     alloc: Global,
     bytes: &[u8],
     threads: u32,
@@ -44,7 +44,7 @@ pub extern "C" fn asl_session_open(
 ///
 /// Status 0: closed. 3: the handle has no session.
 #[unsafe(no_mangle)]
-pub extern "C" fn asl_session_close(alloc: Global, handle: &mut Handle) -> u32
+pub extern "C" fn asl_session_close_nonnull(alloc: Global, handle: &mut Handle) -> u32
     ensures dead { handle.new.live ≡ false }
     ensures told { result ≡ (if handle.old.live then 0 else 3) }
 {
@@ -59,7 +59,7 @@ pub extern "C" fn asl_session_close(alloc: Global, handle: &mut Handle) -> u32
 /// Status 0: stepped. 2: no memory. 3: the handle has no session. 4: no such thread. 14: events follow the position. 15: the
 /// journal is full. Of 3, 14, 15 and 4 the first that applies.
 #[unsafe(no_mangle)]
-pub extern "C" fn asl_session_step(alloc: Global, handle: &mut Handle, thread: u32) -> u32
+pub extern "C" fn asl_session_step_nonnull(alloc: Global, handle: &mut Handle, thread: u32) -> u32
     ensures live { handle.new.live ≡ handle.old.live }
     ensures no_session { result ≡ 3 ↔ handle.old.live ≡ false }
     ensures stepped { handle.old.live ≡ true → IsStepped handle.old.slot.session thread result handle.new.slot.session }
@@ -79,7 +79,7 @@ pub extern "C" fn asl_session_step(alloc: Global, handle: &mut Handle, thread: u
 ///
 /// Status 0: there. 2: no memory. 3: the handle has no session. 13: no such position. Of 3 and 13 the first that applies.
 #[unsafe(no_mangle)]
-pub extern "C" fn asl_session_go(alloc: Global, handle: &mut Handle, k: u32) -> u32
+pub extern "C" fn asl_session_go_nonnull(alloc: Global, handle: &mut Handle, k: u32) -> u32
     ensures live { handle.new.live ≡ handle.old.live }
     ensures no_session { result ≡ 3 ↔ handle.old.live ≡ false }
     ensures gone { handle.old.live ≡ true → IsGone handle.old.slot.session k result handle.new.slot.session }
@@ -99,7 +99,7 @@ pub extern "C" fn asl_session_go(alloc: Global, handle: &mut Handle, k: u32) -> 
 ///
 /// Status 0: done. 2: no memory. 3: the handle has no session. 13: no such position. Of 3 and 13 the first that applies.
 #[unsafe(no_mangle)]
-pub extern "C" fn asl_session_cut(alloc: Global, handle: &mut Handle, k: u32) -> u32
+pub extern "C" fn asl_session_cut_nonnull(alloc: Global, handle: &mut Handle, k: u32) -> u32
     ensures live { handle.new.live ≡ handle.old.live }
     ensures no_session { result ≡ 3 ↔ handle.old.live ≡ false }
     ensures cut { handle.old.live ≡ true → IsCut handle.old.slot.session k result handle.new.slot.session }
@@ -119,7 +119,7 @@ pub extern "C" fn asl_session_cut(alloc: Global, handle: &mut Handle, k: u32) ->
 ///
 /// Status 0: told. 3: the handle has no session.
 #[unsafe(no_mangle)]
-pub extern "C" fn asl_session_place(alloc: Global, handle: &mut Handle, place: &mut Place) -> u32
+pub extern "C" fn asl_session_place_nonnull(alloc: Global, handle: &mut Handle, place: &mut Place) -> u32
     ensures live { handle.new.live ≡ handle.old.live }
     ensures told { result ≡ (if handle.old.live then 0 else 3) }
     ensures same { handle.old.live ≡ true → handle.new.slot.session ≡ handle.old.slot.session }
@@ -141,7 +141,7 @@ pub extern "C" fn asl_session_place(alloc: Global, handle: &mut Handle, place: &
 ///
 /// Status 0: told. 2: no memory. 3: the handle has no session. The first of 3 and 2 that applies.
 #[unsafe(no_mangle)]
-pub extern "C" fn asl_session_view(
+pub extern "C" fn asl_session_view_nonnull(
     alloc: Global,
     handle: &mut Handle,
     text: &mut [u8],
@@ -168,7 +168,7 @@ pub extern "C" fn asl_session_view(
 ///
 /// Status 0: told. 2: no memory. 3: the handle has no session. The first of 3 and 2 that applies.
 #[unsafe(no_mangle)]
-pub extern "C" fn asl_session_asks(
+pub extern "C" fn asl_session_asks_nonnull(
     alloc: Global,
     handle: &mut Handle,
     text: &mut [u8],
@@ -195,7 +195,7 @@ pub extern "C" fn asl_session_asks(
 ///
 /// Status 0: told. 2: no memory. 3: the handle has no session. The first of 3 and 2 that applies.
 #[unsafe(no_mangle)]
-pub extern "C" fn asl_session_stack(
+pub extern "C" fn asl_session_stack_nonnull(
     alloc: Global,
     handle: &mut Handle,
     text: &mut [u8],
@@ -222,7 +222,7 @@ pub extern "C" fn asl_session_stack(
 ///
 /// Status 0: told. 2: no memory. 3: the handle has no session. The first of 3 and 2 that applies.
 #[unsafe(no_mangle)]
-pub extern "C" fn asl_session_objects(
+pub extern "C" fn asl_session_objects_nonnull(
     alloc: Global,
     handle: &mut Handle,
     text: &mut [u8],
@@ -249,7 +249,7 @@ pub extern "C" fn asl_session_objects(
 ///
 /// Status 0: told. 2: no memory. 3: the handle has no session. The first of 3 and 2 that applies.
 #[unsafe(no_mangle)]
-pub extern "C" fn asl_session_log(
+pub extern "C" fn asl_session_log_nonnull(
     alloc: Global,
     handle: &mut Handle,
     first: u32,
