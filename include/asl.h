@@ -141,60 +141,71 @@ uint32_t asl_session_log_nonnull(asl_session *session, uint32_t first, uint8_t *
  * all others as assembly text. Returns 0, 3 (there is a session already, or no place for one), 16, 12, 11 or 2. */
 static inline uint32_t asl_session_open(const uint8_t *program, size_t length, uint32_t threads, asl_session *session) {
   if (!session) return ASL_BAD_HANDLE;
-  if (!program && length) return session->live ? ASL_BAD_HANDLE : ASL_NULL_POINTER;
+  if (!program && length && !session->live) return ASL_NULL_POINTER;
+  if (!program && length) return ASL_BAD_HANDLE;
   return asl_session_open_nonnull(program, length, threads, session);
 }
 
 /* Closes the session. Returns 0 or 3. */
 static inline uint32_t asl_session_close(asl_session *session) {
-  return session ? asl_session_close_nonnull(session) : ASL_BAD_HANDLE;
+  if (!session) return ASL_BAD_HANDLE;
+  return asl_session_close_nonnull(session);
 }
 
 /* Steps the thread in the state at the end of the journal, appends the event, and is behind it. A step that is blocked, or of a thread
  * that has ended, is an event too. Returns 0, 3, 14, 15, 4 or 2. */
 static inline uint32_t asl_session_step(asl_session *session, uint32_t thread) {
-  return session ? asl_session_step_nonnull(session, thread) : ASL_BAD_HANDLE;
+  if (!session) return ASL_BAD_HANDLE;
+  return asl_session_step_nonnull(session, thread);
 }
 
 /* Goes to position k, from 0 to as many as there are events. Returns 0, 3, 13 or 2. */
 static inline uint32_t asl_session_go(asl_session *session, uint32_t k) {
-  return session ? asl_session_go_nonnull(session, k) : ASL_BAD_HANDLE;
+  if (!session) return ASL_BAD_HANDLE;
+  return asl_session_go_nonnull(session, k);
 }
 
 /* Goes to position k, and forgets the events behind it. Returns 0, 3, 13 or 2. */
 static inline uint32_t asl_session_cut(asl_session *session, uint32_t k) {
-  return session ? asl_session_cut_nonnull(session, k) : ASL_BAD_HANDLE;
+  if (!session) return ASL_BAD_HANDLE;
+  return asl_session_cut_nonnull(session, k);
 }
 
 /* Tells where the session is. Returns 0, 3 or 16. */
 static inline uint32_t asl_session_place(asl_session *session, asl_place *place) {
   if (!session || !session->live) return ASL_BAD_HANDLE;
-  return place ? asl_session_place_nonnull(session, place) : ASL_NULL_POINTER;
+  if (!place) return ASL_NULL_POINTER;
+  return asl_session_place_nonnull(session, place);
 }
 
 /* What the words `view`, `asks`, `stack` and `objects` of `asl debug` print of the machine that is shown. `text` gets as much as it has
  * room for, from its front on; its other bytes stay. `length` is the whole length. Returns 0, 3, 16 or 2. */
 static inline uint32_t asl_session_view(asl_session *session, uint8_t *text, size_t room, size_t *length) {
   if (!session || !session->live) return ASL_BAD_HANDLE;
-  return length && (text || !room) ? asl_session_view_nonnull(session, text, room, length) : ASL_NULL_POINTER;
+  if (!length || (!text && room)) return ASL_NULL_POINTER;
+  return asl_session_view_nonnull(session, text, room, length);
 }
 static inline uint32_t asl_session_asks(asl_session *session, uint8_t *text, size_t room, size_t *length) {
   if (!session || !session->live) return ASL_BAD_HANDLE;
-  return length && (text || !room) ? asl_session_asks_nonnull(session, text, room, length) : ASL_NULL_POINTER;
+  if (!length || (!text && room)) return ASL_NULL_POINTER;
+  return asl_session_asks_nonnull(session, text, room, length);
 }
 static inline uint32_t asl_session_stack(asl_session *session, uint8_t *text, size_t room, size_t *length) {
   if (!session || !session->live) return ASL_BAD_HANDLE;
-  return length && (text || !room) ? asl_session_stack_nonnull(session, text, room, length) : ASL_NULL_POINTER;
+  if (!length || (!text && room)) return ASL_NULL_POINTER;
+  return asl_session_stack_nonnull(session, text, room, length);
 }
 static inline uint32_t asl_session_objects(asl_session *session, uint8_t *text, size_t room, size_t *length) {
   if (!session || !session->live) return ASL_BAD_HANDLE;
-  return length && (text || !room) ? asl_session_objects_nonnull(session, text, room, length) : ASL_NULL_POINTER;
+  if (!length || (!text && room)) return ASL_NULL_POINTER;
+  return asl_session_objects_nonnull(session, text, room, length);
 }
 
 /* The lines that `asl log` prints of the events from the first one given on. Text, room and length as above. Returns 0, 3, 16 or 2. */
 static inline uint32_t asl_session_log(asl_session *session, uint32_t first, uint8_t *text, size_t room, size_t *length) {
   if (!session || !session->live) return ASL_BAD_HANDLE;
-  return length && (text || !room) ? asl_session_log_nonnull(session, first, text, room, length) : ASL_NULL_POINTER;
+  if (!length || (!text && room)) return ASL_NULL_POINTER;
+  return asl_session_log_nonnull(session, first, text, room, length);
 }
 
 #ifdef __cplusplus
