@@ -119,7 +119,11 @@ pub extern "C" fn asl_session_cut_nonnull(alloc: Global, handle: &mut Handle, k:
 ///
 /// Status 0: told. 3: the handle has no session.
 #[unsafe(no_mangle)]
-pub extern "C" fn asl_session_place_nonnull(alloc: Global, handle: &mut Handle, place: &mut Place) -> u32
+pub extern "C" fn asl_session_place_nonnull(
+    alloc: Global,
+    handle: &mut Handle,
+    place: &mut Place,
+) -> u32
     ensures live { handle.new.live ≡ handle.old.live }
     ensures told { result ≡ (if handle.old.live then 0 else 3) }
     ensures same { handle.old.live ≡ true → handle.new.slot.session ≡ handle.old.slot.session }
@@ -145,20 +149,20 @@ pub extern "C" fn asl_session_view_nonnull(
     alloc: Global,
     handle: &mut Handle,
     text: &mut [u8],
-    length: &mut usize,
+    whole: &mut usize,
 ) -> u32
     ensures live { handle.new.live ≡ handle.old.live }
     ensures same { handle.old.live ≡ true → handle.new.slot.session ≡ handle.old.slot.session }
     ensures no_session { result ≡ 3 ↔ handle.old.live ≡ false }
-    ensures told { handle.old.live ≡ true → IsTold (text_of Page.View handle.old.slot.session) text.old text.new length.new result }
-    ensures unwritten { result ≢ 0 → (text.new ≡ text.old) × (length.new ≡ length.old) }
+    ensures told { handle.old.live ≡ true → IsTold (text_of Page.View handle.old.slot.session) text.old text.new whole.new result }
+    ensures unwritten { result ≢ 0 → (text.new ≡ text.old) × (whole.new ≡ whole.old) }
 {
     match handle.take(alloc) {
         Some(session) => {
             let mut session = session;
             let told = kept::tell(alloc, &mut session, Page::View);
             *handle = Handle::of(session);
-            put_text(told, text, length)
+            put_text(told, text, whole)
         }
         None => BAD_HANDLE,
     }
@@ -172,20 +176,20 @@ pub extern "C" fn asl_session_asks_nonnull(
     alloc: Global,
     handle: &mut Handle,
     text: &mut [u8],
-    length: &mut usize,
+    whole: &mut usize,
 ) -> u32
     ensures live { handle.new.live ≡ handle.old.live }
     ensures same { handle.old.live ≡ true → handle.new.slot.session ≡ handle.old.slot.session }
     ensures no_session { result ≡ 3 ↔ handle.old.live ≡ false }
-    ensures told { handle.old.live ≡ true → IsTold (text_of Page.Asks handle.old.slot.session) text.old text.new length.new result }
-    ensures unwritten { result ≢ 0 → (text.new ≡ text.old) × (length.new ≡ length.old) }
+    ensures told { handle.old.live ≡ true → IsTold (text_of Page.Asks handle.old.slot.session) text.old text.new whole.new result }
+    ensures unwritten { result ≢ 0 → (text.new ≡ text.old) × (whole.new ≡ whole.old) }
 {
     match handle.take(alloc) {
         Some(session) => {
             let mut session = session;
             let told = kept::tell(alloc, &mut session, Page::Asks);
             *handle = Handle::of(session);
-            put_text(told, text, length)
+            put_text(told, text, whole)
         }
         None => BAD_HANDLE,
     }
@@ -199,20 +203,20 @@ pub extern "C" fn asl_session_stack_nonnull(
     alloc: Global,
     handle: &mut Handle,
     text: &mut [u8],
-    length: &mut usize,
+    whole: &mut usize,
 ) -> u32
     ensures live { handle.new.live ≡ handle.old.live }
     ensures same { handle.old.live ≡ true → handle.new.slot.session ≡ handle.old.slot.session }
     ensures no_session { result ≡ 3 ↔ handle.old.live ≡ false }
-    ensures told { handle.old.live ≡ true → IsTold (text_of Page.Stack handle.old.slot.session) text.old text.new length.new result }
-    ensures unwritten { result ≢ 0 → (text.new ≡ text.old) × (length.new ≡ length.old) }
+    ensures told { handle.old.live ≡ true → IsTold (text_of Page.Stack handle.old.slot.session) text.old text.new whole.new result }
+    ensures unwritten { result ≢ 0 → (text.new ≡ text.old) × (whole.new ≡ whole.old) }
 {
     match handle.take(alloc) {
         Some(session) => {
             let mut session = session;
             let told = kept::tell(alloc, &mut session, Page::Stack);
             *handle = Handle::of(session);
-            put_text(told, text, length)
+            put_text(told, text, whole)
         }
         None => BAD_HANDLE,
     }
@@ -226,20 +230,20 @@ pub extern "C" fn asl_session_objects_nonnull(
     alloc: Global,
     handle: &mut Handle,
     text: &mut [u8],
-    length: &mut usize,
+    whole: &mut usize,
 ) -> u32
     ensures live { handle.new.live ≡ handle.old.live }
     ensures same { handle.old.live ≡ true → handle.new.slot.session ≡ handle.old.slot.session }
     ensures no_session { result ≡ 3 ↔ handle.old.live ≡ false }
-    ensures told { handle.old.live ≡ true → IsTold (text_of Page.Objects handle.old.slot.session) text.old text.new length.new result }
-    ensures unwritten { result ≢ 0 → (text.new ≡ text.old) × (length.new ≡ length.old) }
+    ensures told { handle.old.live ≡ true → IsTold (text_of Page.Objects handle.old.slot.session) text.old text.new whole.new result }
+    ensures unwritten { result ≢ 0 → (text.new ≡ text.old) × (whole.new ≡ whole.old) }
 {
     match handle.take(alloc) {
         Some(session) => {
             let mut session = session;
             let told = kept::tell(alloc, &mut session, Page::Objects);
             *handle = Handle::of(session);
-            put_text(told, text, length)
+            put_text(told, text, whole)
         }
         None => BAD_HANDLE,
     }
@@ -254,19 +258,19 @@ pub extern "C" fn asl_session_log_nonnull(
     handle: &mut Handle,
     first: u32,
     text: &mut [u8],
-    length: &mut usize,
+    whole: &mut usize,
 ) -> u32
     ensures live { handle.new.live ≡ handle.old.live }
     ensures same { handle.old.live ≡ true → handle.new.slot.session ≡ handle.old.slot.session }
     ensures no_session { result ≡ 3 ↔ handle.old.live ≡ false }
-    ensures told { handle.old.live ≡ true → IsTold (log_text first handle.old.slot.session.log.events) text.old text.new length.new result }
-    ensures unwritten { result ≢ 0 → (text.new ≡ text.old) × (length.new ≡ length.old) }
+    ensures told { handle.old.live ≡ true → IsTold (log_text first handle.old.slot.session.log.events) text.old text.new whole.new result }
+    ensures unwritten { result ≢ 0 → (text.new ≡ text.old) × (whole.new ≡ whole.old) }
 {
     match handle.take(alloc) {
         Some(session) => {
             let told = session.log(alloc, first);
             *handle = Handle::of(session);
-            put_text(told, text, length)
+            put_text(told, text, whole)
         }
         None => BAD_HANDLE,
     }

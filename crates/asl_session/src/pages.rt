@@ -1,5 +1,5 @@
 //! What is told of a session as text.
-ghost use Rattle.std.specs.Prelude.{◌≡◌, ◌+◌, ◌≤◌, ◌^◌, length, IfOk, string_bytes};
+ghost use Rattle.std.specs.Prelude.{◌≡◌, ◌+◌, ◌<◌, ◌^◌, length, IfOk, string_bytes};
 ghost use Rattle.asl_session.specs.Pages.{page_text, event_lines};
 
 use asl_journal::Event;
