@@ -11,6 +11,7 @@ use Rattle.asl_machine.specs.State.{State}
 use Rattle.asl_machine.specs.View.{Configuration}
 use Rattle.asl_machine.specs.Paused.{Rest, IsRestOf}
 use Rattle.asl_machine.specs.Run.{start_of, state_after}
+use Rattle.asl_machine.specs.Step.{Step}
 use Rattle.asl_machine.specs.StepFunction.{step_of}
 use Rattle.asl_journal.specs.declared.event.Event.{Event}
 use Rattle.asl_journal.specs.Journal.{Log, IsLog, IsJournal, AreThere, most_events, schedule_of, with_event}
@@ -68,6 +69,14 @@ module _ (image : Image) (log : Log) (spacing position : ℕ) (checkpoints : Lis
       ∙ state_snoc image (start_of image log.threads) log.events event
       ∙ ap (λ (s : State). (step_of image s t).state) (sym at_end)
       ∙ ap (λ (i : Image). (step_of i machine.state t).state) (sym of_image)
+
+  -- the step that the machine made leads from the state at the position to the one behind the event
+  pub step_behind : Step machine.image machine.state t reply new.state → Step image (state_before image log position) t reply (state_before new.image more (position + 1))
+  step_behind is =
+      let from : Step image (state_before image log position) t reply new.state = subst (λ (m : Configuration). Step m.image m.state t reply new.state) kept.shown is in
+      let to : new.state ≡ state_before image more (position + 1) = steps ∙ sym state_behind in
+      let there : Step image (state_before image log position) t reply (state_before image more (position + 1)) = subst (λ (s : State). Step image (state_before image log position) t reply s) to from in
+      subst (λ (i : Image). Step image (state_before image log position) t reply (state_before i more (position + 1))) (sym (same ∙ of_image)) there
 
   shown : new ≡ machine_before image more (position + 1)
   shown = is_at new image (state_before image more (position + 1)) (same ∙ of_image) (steps ∙ sym state_behind)

@@ -91,18 +91,3 @@ impl From<AllocError> for StepFault {
         StepFault::OutOfMemory
     }
 }
-
-impl From<MachineFault> for StepFault {
-    ghost use Rattle.std.specs.Prelude.{◌≡◌};
-    ghost use Rattle.asl_debugger.specs.Fault.{step_fault};
-
-    ghost from_gives = { λ machine fault. fault ≡ step_fault machine };
-
-    fn from(fault: MachineFault) -> Self {
-        match fault {
-            MachineFault::BadThread => StepFault::BadThread,
-            // No machine is started here: `BadCount` never comes here.
-            MachineFault::BadCount | MachineFault::OutOfMemory => StepFault::OutOfMemory,
-        }
-    }
-}

@@ -1,10 +1,9 @@
 -- Which session bytes open, and why they open none.
-use Rattle.std.specs.Prelude.{◌≡◌, ◌<◌, ◌⊎◌, ℕ, List, [], take, codes, Option, Some}
+use Rattle.std.specs.Prelude.{◌≡◌, ◌<◌, ◌⊎◌, ℕ, List, [], take, codes, Err}
 use Rattle.asl_code.specs.declared.image.Image.{Image}
 use Rattle.asl_code.specs.Versions.{most_threads}
 use Rattle.asl_assembler.specs.Faults.{IsProgramText}
-use Rattle.asl_assembler.specs.declared.fault.AsmFault.{AsmFault}
-use Rattle.asl_assembler.specs.declared.fault.AsmFault.TheVariants as text_fault
+use Rattle.asl_assembler.specs.declared.assembly.AsmFault.{AsmFault}
 use Rattle.asl_assembler.specs.Faults as text
 use Rattle.asl_loader.specs.Faults.{IsProgramImage}
 use Rattle.asl_loader.specs.declared.fault.LoadFault.{LoadFault}
@@ -22,16 +21,16 @@ pub record IsProgram (bytes : List ℕ) (program : Image) : Type 0 where
   pub as_text : (BeginsAsImage bytes → ⊥) → IsProgramText bytes program
 
 -- the session in which so many threads of the program of the bytes start
-pub record IsOpened (bytes : List ℕ) (threads : ℕ) (kept : Option Session) : Type 0 where
+pub record IsOpened (bytes : List ℕ) (threads : ℕ) (session : Session) : Type 0 where
   pub program : Image
   pub read : IsProgram bytes program
   pub counted : IsThreadCount program threads
-  pub at_start : kept ≡ Some (record { image = program; log = record { threads = threads; events = [] }; position = 0; breakpoints = [] })
+  pub at_start : session ≡ record { image = program; log = record { threads = threads; events = [] }; position = 0; breakpoints = [] }
 
--- some fault of an image, or of a text, other than want of memory, is that of the bytes
+-- the outcome of the bytes is a fault other than want of memory: as an image where they begin as one, else as a text
 abbrev pub IsNoProgram : List ℕ → Type 0
 IsNoProgram bytes =
-    (BeginsAsImage bytes × ((fault : LoadFault) × image.IsFault bytes fault)) ⊎ ((BeginsAsImage bytes → ⊥) × ((fault : AsmFault) × text.IsFault bytes fault))
+    (BeginsAsImage bytes × ((fault : LoadFault) × image.IsOutcome bytes (Err fault))) ⊎ ((BeginsAsImage bytes → ⊥) × ((fault : AsmFault) × text.IsOutcome bytes (Err fault)))
 
 -- 12: the bytes are no program; else 2: there was no memory
 abbrev pub WhyNotProgram : List ℕ → ℕ → Type 0

@@ -2,6 +2,7 @@
 use Rattle.std.specs.Prelude.{ℕ, suc, List, [], ◌∷◌, ◌++◌, drop, length, min}
 use Rattle.asl_machine.specs.View.{Configuration}
 use Rattle.asl_journal.specs.declared.event.Event.{Event}
+use Rattle.asl_debugger.specs.Session.{Session, machine_before}
 use Rattle.asl_show.specs.Replies.{step_line}
 use Rattle.asl_show.specs.View.{view_text}
 use Rattle.asl_show.specs.Asks.{asks_text}
@@ -16,6 +17,10 @@ page_text View m = view_text m
 page_text Asks m = asks_text m
 page_text Stack m = stack_text m.state
 page_text Objects m = objects_text m.state
+
+-- the page of the machine at the session's position
+abbrev pub text_of : Page → Session → List ℕ
+text_of page s = page_text page (machine_before s.image s.log s.position)
 
 -- the lines of events, numbered from the given number on, as the command `log` prints them
 abbrev pub event_lines : ℕ → List Event → List ℕ

@@ -1,8 +1,7 @@
-//! What C calls.
-ghost use Rattle.std.specs.Prelude.{◌≡◌, ◌≢◌, ◌↔◌, true, false, Some, length, if◌then◌else◌};
-ghost use Rattle.asl_debugger.specs.Session.{Session, machine_before};
+//! What C calls, with pointers that are not null: `include/asl.h` tests that first.
+ghost use Rattle.std.specs.Prelude.{◌≡◌, ◌≢◌, ◌↔◌, true, false, length, if◌then◌else◌};
 ghost use Rattle.asl_session.specs.Opening.{IsOpened, WhyNot};
-ghost use Rattle.asl_session.specs.Pages.{page_text, log_text};
+ghost use Rattle.asl_session.specs.Pages.{text_of, log_text};
 ghost use Rattle.asl_session.specs.Status.{IsCut, IsGone, IsStepped, IsTold};
 
 use crate::handle::Handle;
@@ -17,7 +16,7 @@ use std::alloc::Global;
 ///
 /// Status 0: opened. 2: no memory. 3: the handle has a session. 11: no thread, or more than the program may start. 12: no program.
 #[unsafe(no_mangle)]
-pub extern "C" fn asl_session_open(
+pub extern "C" fn asl_session_open_nonnull(
     alloc: Global,
     bytes: &[u8],
     threads: u32,
@@ -45,7 +44,7 @@ pub extern "C" fn asl_session_open(
 ///
 /// Status 0: closed. 3: the handle has no session.
 #[unsafe(no_mangle)]
-pub extern "C" fn asl_session_close(alloc: Global, handle: &mut Handle) -> u32
+pub extern "C" fn asl_session_close_nonnull(alloc: Global, handle: &mut Handle) -> u32
     ensures dead { handle.new.live ≡ false }
     ensures told { result ≡ (if handle.old.live then 0 else 3) }
 {
@@ -60,11 +59,10 @@ pub extern "C" fn asl_session_close(alloc: Global, handle: &mut Handle) -> u32
 /// Status 0: stepped. 2: no memory. 3: the handle has no session. 4: no such thread. 14: events follow the position. 15: the
 /// journal is full. Of 3, 14, 15 and 4 the first that applies.
 #[unsafe(no_mangle)]
-pub extern "C" fn asl_session_step(alloc: Global, handle: &mut Handle, thread: u32) -> u32
+pub extern "C" fn asl_session_step_nonnull(alloc: Global, handle: &mut Handle, thread: u32) -> u32
     ensures live { handle.new.live ≡ handle.old.live }
     ensures no_session { result ≡ 3 ↔ handle.old.live ≡ false }
-    ensures stepped { (s : Session) → handle.old.live ≡ true → handle.old.slot.session ≡ Some s
-        → IsStepped s thread result handle.new.slot.session }
+    ensures stepped { handle.old.live ≡ true → IsStepped handle.old.slot.session thread result handle.new.slot.session }
 {
     match handle.take(alloc) {
         Some(session) => {
@@ -81,11 +79,10 @@ pub extern "C" fn asl_session_step(alloc: Global, handle: &mut Handle, thread: u
 ///
 /// Status 0: there. 2: no memory. 3: the handle has no session. 13: no such position. Of 3 and 13 the first that applies.
 #[unsafe(no_mangle)]
-pub extern "C" fn asl_session_go(alloc: Global, handle: &mut Handle, k: u32) -> u32
+pub extern "C" fn asl_session_go_nonnull(alloc: Global, handle: &mut Handle, k: u32) -> u32
     ensures live { handle.new.live ≡ handle.old.live }
     ensures no_session { result ≡ 3 ↔ handle.old.live ≡ false }
-    ensures gone { (s : Session) → handle.old.live ≡ true → handle.old.slot.session ≡ Some s
-        → IsGone s k result handle.new.slot.session }
+    ensures gone { handle.old.live ≡ true → IsGone handle.old.slot.session k result handle.new.slot.session }
 {
     match handle.take(alloc) {
         Some(session) => {
@@ -102,11 +99,10 @@ pub extern "C" fn asl_session_go(alloc: Global, handle: &mut Handle, k: u32) -> 
 ///
 /// Status 0: done. 2: no memory. 3: the handle has no session. 13: no such position. Of 3 and 13 the first that applies.
 #[unsafe(no_mangle)]
-pub extern "C" fn asl_session_cut(alloc: Global, handle: &mut Handle, k: u32) -> u32
+pub extern "C" fn asl_session_cut_nonnull(alloc: Global, handle: &mut Handle, k: u32) -> u32
     ensures live { handle.new.live ≡ handle.old.live }
     ensures no_session { result ≡ 3 ↔ handle.old.live ≡ false }
-    ensures cut { (s : Session) → handle.old.live ≡ true → handle.old.slot.session ≡ Some s
-        → IsCut s k result handle.new.slot.session }
+    ensures cut { handle.old.live ≡ true → IsCut handle.old.slot.session k result handle.new.slot.session }
 {
     match handle.take(alloc) {
         Some(session) => {
@@ -123,12 +119,16 @@ pub extern "C" fn asl_session_cut(alloc: Global, handle: &mut Handle, k: u32) ->
 ///
 /// Status 0: told. 3: the handle has no session.
 #[unsafe(no_mangle)]
-pub extern "C" fn asl_session_place(alloc: Global, handle: &mut Handle, place: &mut Place) -> u32
+pub extern "C" fn asl_session_place_nonnull(
+    alloc: Global,
+    handle: &mut Handle,
+    place: &mut Place,
+) -> u32
     ensures live { handle.new.live ≡ handle.old.live }
     ensures told { result ≡ (if handle.old.live then 0 else 3) }
     ensures same { handle.old.live ≡ true → handle.new.slot.session ≡ handle.old.slot.session }
-    ensures position { (s : Session) → handle.old.live ≡ true → handle.old.slot.session ≡ Some s → place.new.position ≡ s.position }
-    ensures events { (s : Session) → handle.old.live ≡ true → handle.old.slot.session ≡ Some s → place.new.events ≡ length s.log.events }
+    ensures position { handle.old.live ≡ true → place.new.position ≡ handle.old.slot.session.position }
+    ensures events { handle.old.live ≡ true → place.new.events ≡ length handle.old.slot.session.log.events }
     ensures unwritten { handle.old.live ≡ false → place.new ≡ place.old }
 {
     match handle.take(alloc) {
@@ -145,24 +145,24 @@ pub extern "C" fn asl_session_place(alloc: Global, handle: &mut Handle, place: &
 ///
 /// Status 0: told. 2: no memory. 3: the handle has no session. The first of 3 and 2 that applies.
 #[unsafe(no_mangle)]
-pub extern "C" fn asl_session_view(
+pub extern "C" fn asl_session_view_nonnull(
     alloc: Global,
     handle: &mut Handle,
     text: &mut [u8],
-    length: &mut usize,
+    whole: &mut usize,
 ) -> u32
     ensures live { handle.new.live ≡ handle.old.live }
     ensures same { handle.old.live ≡ true → handle.new.slot.session ≡ handle.old.slot.session }
     ensures no_session { result ≡ 3 ↔ handle.old.live ≡ false }
-    ensures told { handle.old.live ≡ true → IsTold (λ s. page_text Page.View (machine_before s.image s.log s.position)) handle.old.slot.session text.old text.new length.old length.new result }
-    ensures unwritten { result ≢ 0 → (text.new ≡ text.old) × (length.new ≡ length.old) }
+    ensures told { handle.old.live ≡ true → IsTold (text_of Page.View handle.old.slot.session) text.old text.new whole.new result }
+    ensures unwritten { result ≢ 0 → (text.new ≡ text.old) × (whole.new ≡ whole.old) }
 {
     match handle.take(alloc) {
         Some(session) => {
             let mut session = session;
             let told = kept::tell(alloc, &mut session, Page::View);
             *handle = Handle::of(session);
-            put_text(told, text, length)
+            put_text(told, text, whole)
         }
         None => BAD_HANDLE,
     }
@@ -172,24 +172,24 @@ pub extern "C" fn asl_session_view(
 ///
 /// Status 0: told. 2: no memory. 3: the handle has no session. The first of 3 and 2 that applies.
 #[unsafe(no_mangle)]
-pub extern "C" fn asl_session_asks(
+pub extern "C" fn asl_session_asks_nonnull(
     alloc: Global,
     handle: &mut Handle,
     text: &mut [u8],
-    length: &mut usize,
+    whole: &mut usize,
 ) -> u32
     ensures live { handle.new.live ≡ handle.old.live }
     ensures same { handle.old.live ≡ true → handle.new.slot.session ≡ handle.old.slot.session }
     ensures no_session { result ≡ 3 ↔ handle.old.live ≡ false }
-    ensures told { handle.old.live ≡ true → IsTold (λ s. page_text Page.Asks (machine_before s.image s.log s.position)) handle.old.slot.session text.old text.new length.old length.new result }
-    ensures unwritten { result ≢ 0 → (text.new ≡ text.old) × (length.new ≡ length.old) }
+    ensures told { handle.old.live ≡ true → IsTold (text_of Page.Asks handle.old.slot.session) text.old text.new whole.new result }
+    ensures unwritten { result ≢ 0 → (text.new ≡ text.old) × (whole.new ≡ whole.old) }
 {
     match handle.take(alloc) {
         Some(session) => {
             let mut session = session;
             let told = kept::tell(alloc, &mut session, Page::Asks);
             *handle = Handle::of(session);
-            put_text(told, text, length)
+            put_text(told, text, whole)
         }
         None => BAD_HANDLE,
     }
@@ -199,24 +199,24 @@ pub extern "C" fn asl_session_asks(
 ///
 /// Status 0: told. 2: no memory. 3: the handle has no session. The first of 3 and 2 that applies.
 #[unsafe(no_mangle)]
-pub extern "C" fn asl_session_stack(
+pub extern "C" fn asl_session_stack_nonnull(
     alloc: Global,
     handle: &mut Handle,
     text: &mut [u8],
-    length: &mut usize,
+    whole: &mut usize,
 ) -> u32
     ensures live { handle.new.live ≡ handle.old.live }
     ensures same { handle.old.live ≡ true → handle.new.slot.session ≡ handle.old.slot.session }
     ensures no_session { result ≡ 3 ↔ handle.old.live ≡ false }
-    ensures told { handle.old.live ≡ true → IsTold (λ s. page_text Page.Stack (machine_before s.image s.log s.position)) handle.old.slot.session text.old text.new length.old length.new result }
-    ensures unwritten { result ≢ 0 → (text.new ≡ text.old) × (length.new ≡ length.old) }
+    ensures told { handle.old.live ≡ true → IsTold (text_of Page.Stack handle.old.slot.session) text.old text.new whole.new result }
+    ensures unwritten { result ≢ 0 → (text.new ≡ text.old) × (whole.new ≡ whole.old) }
 {
     match handle.take(alloc) {
         Some(session) => {
             let mut session = session;
             let told = kept::tell(alloc, &mut session, Page::Stack);
             *handle = Handle::of(session);
-            put_text(told, text, length)
+            put_text(told, text, whole)
         }
         None => BAD_HANDLE,
     }
@@ -226,24 +226,24 @@ pub extern "C" fn asl_session_stack(
 ///
 /// Status 0: told. 2: no memory. 3: the handle has no session. The first of 3 and 2 that applies.
 #[unsafe(no_mangle)]
-pub extern "C" fn asl_session_objects(
+pub extern "C" fn asl_session_objects_nonnull(
     alloc: Global,
     handle: &mut Handle,
     text: &mut [u8],
-    length: &mut usize,
+    whole: &mut usize,
 ) -> u32
     ensures live { handle.new.live ≡ handle.old.live }
     ensures same { handle.old.live ≡ true → handle.new.slot.session ≡ handle.old.slot.session }
     ensures no_session { result ≡ 3 ↔ handle.old.live ≡ false }
-    ensures told { handle.old.live ≡ true → IsTold (λ s. page_text Page.Objects (machine_before s.image s.log s.position)) handle.old.slot.session text.old text.new length.old length.new result }
-    ensures unwritten { result ≢ 0 → (text.new ≡ text.old) × (length.new ≡ length.old) }
+    ensures told { handle.old.live ≡ true → IsTold (text_of Page.Objects handle.old.slot.session) text.old text.new whole.new result }
+    ensures unwritten { result ≢ 0 → (text.new ≡ text.old) × (whole.new ≡ whole.old) }
 {
     match handle.take(alloc) {
         Some(session) => {
             let mut session = session;
             let told = kept::tell(alloc, &mut session, Page::Objects);
             *handle = Handle::of(session);
-            put_text(told, text, length)
+            put_text(told, text, whole)
         }
         None => BAD_HANDLE,
     }
@@ -253,25 +253,24 @@ pub extern "C" fn asl_session_objects(
 ///
 /// Status 0: told. 2: no memory. 3: the handle has no session. The first of 3 and 2 that applies.
 #[unsafe(no_mangle)]
-pub extern "C" fn asl_session_log(
+pub extern "C" fn asl_session_log_nonnull(
     alloc: Global,
     handle: &mut Handle,
     first: u32,
     text: &mut [u8],
-    length: &mut usize,
+    whole: &mut usize,
 ) -> u32
     ensures live { handle.new.live ≡ handle.old.live }
     ensures same { handle.old.live ≡ true → handle.new.slot.session ≡ handle.old.slot.session }
     ensures no_session { result ≡ 3 ↔ handle.old.live ≡ false }
-    ensures told { handle.old.live ≡ true → IsTold (λ s. log_text first s.log.events) handle.old.slot.session text.old text.new length.old length.new result }
-    ensures unwritten { result ≢ 0 → (text.new ≡ text.old) × (length.new ≡ length.old) }
+    ensures told { handle.old.live ≡ true → IsTold (log_text first handle.old.slot.session.log.events) text.old text.new whole.new result }
+    ensures unwritten { result ≢ 0 → (text.new ≡ text.old) × (whole.new ≡ whole.old) }
 {
     match handle.take(alloc) {
         Some(session) => {
-            let mut session = session;
-            let told = kept::log(alloc, &session, first);
+            let told = session.log(alloc, first);
             *handle = Handle::of(session);
-            put_text(told, text, length)
+            put_text(told, text, whole)
         }
         None => BAD_HANDLE,
     }

@@ -1,5 +1,5 @@
 //! A session that C keeps.
-ghost use Rattle.std.specs.Prelude.{◌≡◌, true, false, IfSome, IfNone, IsSome, is_some, if◌then◌else◌};
+ghost use Rattle.std.specs.Prelude.{◌≡◌, true, false, IfSome, IfNone};
 
 use crate::parts::Parts;
 use crate::session::Session;
@@ -13,7 +13,6 @@ pub struct Handle {
     pub live: bool,
     pub slot: Slot,
     pub ghost agrees: { live ≡ slot.owned },
-    pub ghost whole: { live ≡ true → is_some slot.session ≡ true },
 }
 
 impl Handle {
@@ -28,8 +27,7 @@ impl Handle {
     }
 
     /// The session in the box.
-    pub fn of(session: Box<Option<Session>>) -> Handle
-        requires { is_some session.value ≡ true }
+    pub fn of(session: Box<Session>) -> Handle
         ensures live { result.live ≡ true }
         ensures session { result.slot.session ≡ session.value }
     {
@@ -40,10 +38,9 @@ impl Handle {
     }
 
     /// The box of the session, if there is one.
-    pub fn into_box(self) -> Option<Box<Option<Session>>>
+    pub fn into_box(self) -> Option<Box<Session>>
         ensures some { IfSome result (λ b. b.value ≡ self.slot.session) }
         ensures live { IfSome result (λ b. self.live ≡ true) }
-        ensures whole { IfSome result (λ b. is_some b.value ≡ true) }
         ensures none { IfNone result (self.live ≡ false) }
     {
         if self.live {
@@ -54,10 +51,9 @@ impl Handle {
     }
 
     /// Takes the box out, if there is one, and leaves none.
-    pub fn take(&mut self, alloc: Global) -> Option<Box<Option<Session>>>
+    pub fn take(&mut self, alloc: Global) -> Option<Box<Session>>
         ensures some { IfSome result (λ b. b.value ≡ self.old.slot.session) }
         ensures live { IfSome result (λ b. self.old.live ≡ true) }
-        ensures whole { IfSome result (λ b. is_some b.value ≡ true) }
         ensures none { IfNone result (self.old.live ≡ false) }
         ensures left { self.new.live ≡ false }
     {

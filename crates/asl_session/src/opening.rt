@@ -1,5 +1,5 @@
 //! From the bytes of a program to a session on the heap.
-ghost use Rattle.std.specs.Prelude.{◌≡◌, ◌↔◌, [], Some, IsTrue, IfOk, IfErr};
+ghost use Rattle.std.specs.Prelude.{◌↔◌, IsTrue, IfOk, IfErr};
 ghost use Rattle.asl_session.specs.Opening.{BeginsAsImage, IsOpened, IsProgram, WhyNot, WhyNotProgram};
 
 use crate::session::Session;
@@ -11,7 +11,7 @@ use asl_loader::{LoadFault, load};
 use std::alloc::Global;
 
 /// The session of so many threads of the program, on the heap; or the status that says why there is none.
-pub fn open(alloc: Global, bytes: &[u8], threads: u32) -> Result<Box<Option<Session>>, u32>
+pub fn open(alloc: Global, bytes: &[u8], threads: u32) -> Result<Box<Session>, u32>
     ensures opened { IfOk result (λ b. IsOpened bytes.now threads b.value) }
     ensures refused { IfErr result (WhyNot bytes.now threads) }
 {
@@ -21,7 +21,7 @@ pub fn open(alloc: Global, bytes: &[u8], threads: u32) -> Result<Box<Option<Sess
         Err(DebugFault::BadCount) => return Err(BAD_COUNT),
         Err(_) => return Err(NO_MEMORY),
     };
-    match Box::new(alloc, Some(session)) {
+    match Box::new(alloc, session) {
         Ok(kept) => Ok(kept),
         Err(_) => Err(NO_MEMORY),
     }

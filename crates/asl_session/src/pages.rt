@@ -1,5 +1,5 @@
 //! What is told of a session as text.
-ghost use Rattle.std.specs.Prelude.{◌≡◌, ◌+◌, ◌≤◌, ◌^◌, length, IfOk, string_bytes};
+ghost use Rattle.std.specs.Prelude.{◌≡◌, ◌+◌, ◌<◌, ◌^◌, length, IfOk, string_bytes};
 ghost use Rattle.asl_session.specs.Pages.{page_text, event_lines};
 
 use asl_journal::Event;
@@ -36,10 +36,8 @@ pub fn lines_from(alloc: Global, first: usize, events: &[Event]) -> Result<Strin
     ensures { IfOk result (λ text. string_bytes text ≡ event_lines first events.now) }
 {
     let mut text = String::new(alloc);
-    let mut number = first;
-    for event in events {
-        push_line(&mut text, number, event.thread, event.reply)?;
-        number += 1;
+    for (index, event) in events.iter().enumerate() {
+        push_line(&mut text, first + index, event.thread, event.reply)?;
     }
     Ok(text)
 }

@@ -4,9 +4,9 @@ ghost use Rattle.asl_code.specs.Versions.{most_threads};
 ghost use Rattle.asl_machine.specs.Run.{IsThreadCount};
 ghost use Rattle.asl_machine.specs.Step.{Step};
 ghost use Rattle.asl_journal.specs.Journal.{most_events, with_event};
-ghost use Rattle.asl_debugger.specs.Session.{machine_before, moved, recorded, state_before};
+ghost use Rattle.asl_debugger.specs.Session.{moved, recorded, state_before};
 ghost use Rattle.asl_debugger.specs.Paused.{IsSessionRestOf};
-ghost use Rattle.asl_session.specs.Pages.{page_text, log_text};
+ghost use Rattle.asl_session.specs.Pages.{text_of, log_text};
 
 use crate::pages::{Page, lines_from, page_of};
 use asl_code::Program;
@@ -67,18 +67,19 @@ impl Session {
         Ok(Session { program, debugger })
     }
 
-    /// At the end of the journal: steps thread t, writes the step down, and is behind it.
-    pub fn step(self, alloc: Global, t: u32) -> (Session, Result<Reply, StepFault>)
-        ensures event { IfOk result.1 (λ reply. result.0 ≡ recorded self (with_event self.log (record { thread = t; reply = reply })) (self.position + 1)) }
-        ensures step { IfOk result.1 (λ reply. Step self.image (state_before self.image self.log self.position) t reply
+    /// At the end of the journal: steps the thread of the call, writes the step down, and is behind it.
+    pub fn step(self, call: (Global, u32)) -> (Session, Result<Reply, StepFault>)
+        ensures event { IfOk result.1 (λ reply. result.0 ≡ recorded self (with_event self.log (record { thread = call.1; reply = reply })) (self.position + 1)) }
+        ensures step { IfOk result.1 (λ reply. Step self.image (state_before self.image self.log self.position) call.1 reply
             (state_before result.0.image result.0.log result.0.position)) }
         ensures end { IsErrOf result.1 StepFault.NotAtEnd ↔ (self.position ≢ length self.log.events) }
         ensures full { IsErrOf result.1 StepFault.JournalFull
             ↔ ((self.position ≡ length self.log.events) × (length self.log.events ≡ most_events)) }
         ensures stranger { IsErrOf result.1 StepFault.BadThread
-            ↔ ((self.position ≡ length self.log.events) × (length self.log.events < most_events) × (self.log.threads ≤ t)) }
+            ↔ ((self.position ≡ length self.log.events) × (length self.log.events < most_events) × (self.log.threads ≤ call.1)) }
         ensures err { OnErr result.1 (result.0 ≡ self) }
     {
+        let (alloc, t) = call;
         let Session { program, debugger } = self;
         let mut debugger = Debugger::resume(&program, debugger);
         let reply = debugger.step(alloc, t);
@@ -86,13 +87,14 @@ impl Session {
         (Session { program, debugger }, reply)
     }
 
-    /// Goes to position k.
-    pub fn go(self, alloc: Global, k: u32) -> (Session, Result<(), DebugFault>)
-        ensures moves { OnOk result.1 (result.0 ≡ moved self k) }
-        ensures none { IsErrOf result.1 DebugFault.NoSuchStep ↔ (length self.log.events < k) }
+    /// Goes to the position of the call.
+    pub fn go(self, call: (Global, u32)) -> (Session, Result<(), DebugFault>)
+        ensures moves { OnOk result.1 (result.0 ≡ moved self call.1) }
+        ensures none { IsErrOf result.1 DebugFault.NoSuchStep ↔ (length self.log.events < call.1) }
         ensures other { IfErr result.1 (λ fault. (fault ≡ DebugFault.NoSuchStep) ⊎ (fault ≡ DebugFault.OutOfMemory)) }
         ensures err { OnErr result.1 (result.0 ≡ self) }
     {
+        let (alloc, k) = call;
         let Session { program, debugger } = self;
         let mut debugger = Debugger::resume(&program, debugger);
         let answer = debugger.goto(alloc, k);
@@ -100,19 +102,17 @@ impl Session {
         (Session { program, debugger }, answer)
     }
 
-    /// Goes to position k, and forgets the events behind it.
-    pub fn cut(self, alloc: Global, k: u32) -> (Session, Result<(), DebugFault>)
-        ensures cuts { OnOk result.1 (result.0 ≡ recorded self (record { threads = self.log.threads; events = take k self.log.events }) k) }
-        ensures none { IsErrOf result.1 DebugFault.NoSuchStep ↔ (length self.log.events < k) }
+    /// Goes to the position of the call, and forgets the events behind it.
+    pub fn cut(self, call: (Global, u32)) -> (Session, Result<(), DebugFault>)
+        ensures cuts { OnOk result.1 (result.0 ≡ recorded self (record { threads = self.log.threads; events = take call.1 self.log.events }) call.1) }
+        ensures none { IsErrOf result.1 DebugFault.NoSuchStep ↔ (length self.log.events < call.1) }
         ensures other { IfErr result.1 (λ fault. (fault ≡ DebugFault.NoSuchStep) ⊎ (fault ≡ DebugFault.OutOfMemory)) }
         ensures err { OnErr result.1 (result.0 ≡ self) }
     {
+        let (alloc, k) = call;
         let Session { program, debugger } = self;
         let mut debugger = Debugger::resume(&program, debugger);
-        let answer = debugger.goto(alloc, k);
-        if answer.is_ok() {
-            debugger.cut();
-        }
+        let answer = go_and_cut(alloc, &mut debugger, k);
         let debugger = debugger.pause();
         (Session { program, debugger }, answer)
     }
@@ -122,10 +122,11 @@ impl Session {
     /// # Errors
     ///
     /// An allocation failed.
-    pub fn tell(self, alloc: Global, page: Page) -> (Session, Result<String, AllocError>)
+    pub fn tell(self, call: (Global, Page)) -> (Session, Result<String, AllocError>)
         ensures same { result.0 ≡ self }
-        ensures text { IfOk result.1 (λ text. string_bytes text ≡ page_text page (machine_before self.image self.log self.position)) }
+        ensures text { IfOk result.1 (λ text. string_bytes text ≡ text_of call.1 self) }
     {
+        let (alloc, page) = call;
         let Session { program, debugger } = self;
         let debugger = Debugger::resume(&program, debugger);
         let text = page_of(alloc, debugger.view(), page);
@@ -184,4 +185,16 @@ fn first(alloc: Global, program: &Program, threads: u32) -> Result<PausedDebugge
         },
         Err(_) => Err(DebugFault::OutOfMemory),
     }
+}
+
+/// Goes to position k, and forgets the events behind it.
+fn go_and_cut(alloc: Global, debugger: &mut Debugger<'_>, k: u32) -> Result<(), DebugFault>
+    ensures cuts { OnOk result (debugger.new ≡ recorded debugger.old (record { threads = debugger.old.log.threads; events = take k debugger.old.log.events }) k) }
+    ensures none { IsErrOf result DebugFault.NoSuchStep ↔ (length debugger.old.log.events < k) }
+    ensures other { IfErr result (λ fault. (fault ≡ DebugFault.NoSuchStep) ⊎ (fault ≡ DebugFault.OutOfMemory)) }
+    ensures err { OnErr result (debugger.new ≡ debugger.old) }
+{
+    debugger.goto(alloc, k)?;
+    debugger.cut();
+    Ok(())
 }

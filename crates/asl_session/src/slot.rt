@@ -1,5 +1,5 @@
 //! A pointer that may own a session.
-ghost use Rattle.std.specs.Prelude.{◌≡◌, Bool, Option, true, false};
+ghost use Rattle.std.specs.Prelude.{◌≡◌, Bool, true, false};
 ghost use Rattle.std.specs.Coded.{coded_bool};
 ghost use Rattle.asl_session.specs.Owned.{Kept, coded_kept};
 
@@ -43,7 +43,7 @@ impl Slot {
     }
 
     /// The session of the box.
-    pub fn of_parts(parts: Parts<Option<Session>, Global>) -> Slot
+    pub fn of_parts(parts: Parts<Session, Global>) -> Slot
         ensures owned { result.owned ≡ true }
         ensures session { result.session ≡ parts.value }
     {
@@ -55,13 +55,13 @@ impl Slot {
     }
 
     /// The box of the session.
-    pub fn into_parts(self) -> Parts<Option<Session>, Global>
+    pub fn into_parts(self) -> Parts<Session, Global>
         requires { self.owned ≡ true }
         ensures { result.value ≡ self.session }
     {
         let Slot { at, alloc } = self;
         Parts {
-            ptr: at as *mut Option<Session>,
+            ptr: at as *mut Session,
             alloc,
         }
     }

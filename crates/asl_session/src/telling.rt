@@ -15,15 +15,15 @@ pub struct Place {
 }
 
 /// Puts the text into the buffer as far as there is room, and its whole length beside it.
-pub fn put_text(text: Result<String, AllocError>, buffer: &mut [u8], length: &mut usize) -> u32
+pub fn put_text(text: Result<String, AllocError>, buffer: &mut [u8], whole: &mut usize) -> u32
     ensures told { result ≡ (if is_ok text then 0 else 2) }
-    ensures text { IfOk text (λ text. Holds (string_bytes text) buffer.old buffer.new × (length.new ≡ length (string_bytes text))) }
-    ensures unwritten { OnErr text ((buffer.new ≡ buffer.old) × (length.new ≡ length.old)) }
+    ensures text { IfOk text (λ text. Holds (string_bytes text) buffer.old buffer.new × (whole.new ≡ length (string_bytes text))) }
+    ensures unwritten { OnErr text ((buffer.new ≡ buffer.old) × (whole.new ≡ whole.old)) }
 {
     match text {
         Ok(text) => {
             put(text.as_bytes(), buffer);
-            *length = text.len();
+            *whole = text.len();
             DONE
         }
         Err(_) => NO_MEMORY,

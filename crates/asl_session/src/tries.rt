@@ -17,9 +17,9 @@ static SCHEDULE: [u32; 18] = [0, 0, 1, 1, 0, 0, 0, 0, 1, 0, 1, 0, 1, 1, 1, 1, 1,
 static PAGES: [Page; 4] = [Page::View, Page::Asks, Page::Stack, Page::Objects];
 
 /// Steps the session by the threads: whether each step is made.
-fn steps(alloc: Global, kept: &mut Option<Session>, threads: &[u32]) -> bool {
+fn steps(alloc: Global, session: &mut Session, threads: &[u32]) -> bool {
     for thread in threads {
-        if kept::step(alloc, kept, *thread) != 0 {
+        if kept::step(alloc, session, *thread) != 0 {
             return false;
         }
     }
@@ -27,7 +27,7 @@ fn steps(alloc: Global, kept: &mut Option<Session>, threads: &[u32]) -> bool {
 }
 
 /// Whether the session tells what the debugger tells at each position, and step and cut are what they say.
-fn agrees(alloc: Global, kept: &mut Option<Session>) -> Option<bool> {
+fn agrees(alloc: Global, session: &mut Session) -> Option<bool> {
     let program = assemble(alloc, COUNTER).ok()?;
     let mut journaled = Journaled::start(alloc, &program, 2).ok()?;
     for thread in SCHEDULE.iter() {
@@ -35,42 +35,40 @@ fn agrees(alloc: Global, kept: &mut Option<Session>) -> Option<bool> {
     }
     let (journal, _machine) = journaled.into_parts();
     let mut debugger = Debugger::open(alloc, &program, journal, 5).ok()?;
-    if !steps(alloc, kept, &SCHEDULE) || kept::step(alloc, kept, 2) != 4 {
+    if !steps(alloc, session, &SCHEDULE) || kept::step(alloc, session, 2) != 4 {
         return Some(false);
     }
     for k in 0..=18 {
-        if kept::go(alloc, kept, k) != 0 {
+        if kept::go(alloc, session, k) != 0 {
             return Some(false);
         }
         debugger.goto(alloc, k).ok()?;
         for page in PAGES.iter() {
-            let told = kept::tell(alloc, kept, *page).ok()?;
+            let told = kept::tell(alloc, session, *page).ok()?;
             if told != page_of(alloc, debugger.view(), *page).ok()? {
                 return Some(false);
             }
         }
-        if k < 18 && kept::step(alloc, kept, 0) != 14 {
+        if k < 18 && kept::step(alloc, session, 0) != 14 {
             return Some(false);
         }
     }
-    let whole = kept::log(alloc, kept, 0).ok()?;
+    let whole = session.log(alloc, 0).ok()?;
     for k in 0..=18 {
-        if kept::cut(alloc, kept, k) != 0 || kept::go(alloc, kept, k + 1) != 13 {
+        if kept::cut(alloc, session, k) != 0 || kept::go(alloc, session, k + 1) != 13 {
             return Some(false);
         }
-        if !steps(alloc, kept, &SCHEDULE[k as usize..])
-            || kept::log(alloc, kept, 0).ok()? != whole
-        {
+        if !steps(alloc, session, &SCHEDULE[k as usize..]) || session.log(alloc, 0).ok()? != whole {
             return Some(false);
         }
     }
-    let place = kept::place(kept);
+    let place = kept::place(session);
     Some(place.position == 18 && place.events == 18)
 }
 
 fn is_same(alloc: Global) -> Option<bool> {
-    let mut kept = opening::open(alloc, COUNTER, 2).ok()?;
-    agrees(alloc, &mut kept)
+    let mut session = opening::open(alloc, COUNTER, 2).ok()?;
+    agrees(alloc, &mut session)
 }
 
 #[test]

@@ -80,16 +80,20 @@ impl<'p> Debugger<'p> {
     }
 }
 
-/// What is left of a copy of the machine behind a step of thread t.
+/// What is left of a copy of the machine behind a step of thread t. Only memory can fail.
 fn mark_ahead(alloc: Global, machine: &Machine<'_>, t: u32) -> Result<Paused, StepFault>
     requires { t < length machine.now.state.threads }
     ensures fits { IfOk result (IsRestOf machine.now.image) }
     ensures state { IfOk result (λ rest. rest.state ≡ (step_of machine.now.image machine.now.state t).state) }
     ensures memory { IfErr result (λ fault. fault ≡ StepFault.OutOfMemory) }
 {
-    let mut ahead = machine.try_copy(alloc)?;
-    ahead.step(alloc, t)?;
-    Ok(ahead.pause())
+    match machine.try_copy(alloc) {
+        Ok(mut ahead) => match ahead.step(alloc, t) {
+            Ok(_) => Ok(ahead.pause()),
+            Err(_) => Err(StepFault::OutOfMemory),
+        },
+        Err(_) => Err(StepFault::OutOfMemory),
+    }
 }
 
 /// Steps thread t of the machine, and writes the step into the journal. Only memory can fail.

@@ -1,4 +1,4 @@
--- A slot goes to another thread where a box of a forest does.
+-- A slot goes to another thread where a box of a session does.
 use mathlib.Core.Bool.{Bool, true, false}
 use base.Fraction.{full_share}
 use base.Shift.{Keyless}
@@ -13,10 +13,9 @@ use denote.Param.Send.{IsSend, AllSend, Quiet, part_keyless, owning_send, struct
 use Rattle.std.specs.declared.alloc.Global.{Global}
 use Rattle.std.proofs.Crossing as heap
 use Rattle.std.proofs.alloc.Global.TheSendSync as handle
-use Rattle.core.proofs.option.Option.TheSendSync.{the_send as option_send}
 use Rattle.asl_session.specs.contracts.session.Session as Session
-use Rattle.asl_session.proofs.session.Session.TheSendSync.{the_send as session_send}
-use Rattle.asl_session.specs.Owned.{Kept, kept_row, slot_owns}
+use Rattle.asl_session.proofs.session.Session.TheSendSync.{the_send as session}
+use Rattle.asl_session.specs.Owned.{Kept, slot_owns}
 use Rattle.asl_session.specs.contracts.slot.Slot.{the_row, the_type}
 
 quiet : {D X : Type 0} (to : D → X) (e : Exit X) → Quiet e → Quiet (hidden (under to e))
@@ -28,7 +27,7 @@ lies R s (block_ptr b o) x = part_keyless R s full_share x b o
 lies R s null_ptr x = tt
 
 owned : (b : Bool) (a : Global) (p : Ptr) (x : Kept) → Keyless (slot_owns b a p x)
-owned true a p x = (lies kept_row (option_send Session.the_row session_send) p x, (heap.frees).frees a (raw (lone (kept_row).mir)) p)
+owned true a p x = (lies Session.the_row session p x, (heap.frees).frees a (raw (lone (Session.the_row).mir)) p)
 owned false a p x = tt
 
 pub send : IsSend the_row

@@ -32,7 +32,7 @@ use denote.Triple.Walked.{says, Stays, stay_dropped, walk_of, ends_at, Goes-drop
 use Rattle.std.proofs.alloc.Calls.{α, handle_tells}
 use Rattle.std.proofs.ResultValues.{and_tt}
 use Rattle.std.specs.contracts.alloc.Global as Heap
-use Rattle.std.specs.Prelude.{None}
+use Rattle.asl_session.specs.Owned.{no_session}
 use Rattle.asl_session.proofs.AsBox.{E, FromHeap as From}
 use Rattle.asl_session.specs.contracts.slot.Slot as Held
 use Rattle.asl_session.specs.contracts.slot.Slot.none as F
@@ -52,7 +52,7 @@ module _ {M : Type 1} {𝓤 : Ura M} (𝓛 : Logic 𝓤) (at_mem : Memory → SP
       let Post = (walk_of 𝓛 F.ended stayed (F.clauses 𝓛 at_mem run)).post z in
       let a = z.0.3.0 in
       let To = type_at (F.signature).result tt in
-      let made : To.Denot = record { at = null_ptr; alloc = a; owned = false; session = None } in
+      let made : To.Denot = record { at = null_ptr; alloc = a; owned = false; session = no_session } in
       qed 𝓛 ((‵ ftrue ⊛ ‵ (fsep ((Heap.the_row).own_val a z.0.4.0) ftrue)) ∷ raw (emp 𝓤) ∷ []) ∵ split ! $ drop ! $ fsplit ! $
       handle_tells E.al ! a z.0.4.0 (λ hv ea fa. move ! (1 ∷ 2 ∷ []) $ drop ! $ drop ! $
       let n : Val = vint w64 0 in let w : Val = vstruct (vcons n (vcons hv vnil)) in
