@@ -39,7 +39,7 @@ loop-here-preserved c =
     let checkpoint = c.in_ok-checkpoint.ensures in
     let pushed : c.push-in-loop-here.new.self.items ≡ items ++ c.in_ok-checkpoint.checkpoint ∷ [] = c.in_ok-push-2.ensures.items in
     let len = ap (λ es. length es) c.events-events.ensures.events in
-    rw pushed (so_far_next c.args.program.now c.args.journal.now c.args.spacing c.loop-here.here c.loop-here.machine c.in_ok-machine-2.field-0 items c.in_ok-checkpoint.checkpoint so_far behind
+    rw pushed (so_far_next c.args.program.now c.args.journal.now c.args.spacing c.loop-here.here c.loop-here.machine c.in_ok-machine-2.machine items c.in_ok-checkpoint.checkpoint so_far behind
     checkpoint.fits checkpoint.state (omega (arith, len)) (goes so_far.goes))
 
 pub machine_between-requires-2-clause-from : goal.machine_between-requires-2-clause-from
