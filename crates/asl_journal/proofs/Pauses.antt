@@ -1,12 +1,11 @@
 -- What is left of a machine with its journal, and the two again.
-use Rattle.std.proofs.Common.{◌≡◌, ℕ, List, length, refl, ap, sym, subst, ◌∙◌}
+use Rattle.std.proofs.Common.{◌≡◌, List, length, sym, subst}
 use Rattle.asl_code.specs.declared.image.Image.{Image}
 use Rattle.asl_machine.specs.State.{State}
 use Rattle.asl_machine.specs.View.{Configuration}
-use Rattle.asl_machine.specs.Paused.{Rest, IsRestOf}
+use Rattle.asl_machine.specs.Paused.{Rest}
 use Rattle.asl_journal.specs.declared.event.Event.{Event}
 use Rattle.asl_journal.specs.Recorded.{Fits}
-use Rattle.asl_journal.specs.Paused.{RecordedRest, IsRecordedRestOf}
 
 -- the machine's part of what is left fits as the machine did
 pub left_fits : (machine : Configuration) (rest : Rest) (events : List Event) → Fits machine (length machine.state.threads) events → rest.state ≡ machine.state

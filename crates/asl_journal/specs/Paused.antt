@@ -1,5 +1,5 @@
 -- A machine whose steps are written down, kept without its program until it goes on over the same program.
-use Rattle.std.specs.Prelude.{ℕ, List, length}
+use Rattle.std.specs.Prelude.{ℕ, List}
 use Rattle.asl_code.specs.declared.image.Image.{Image}
 use Rattle.asl_machine.specs.Paused.{Rest, IsRestOf}
 use Rattle.asl_journal.specs.declared.event.Event.{Event}

@@ -1,5 +1,3 @@
-use Rattle.asl_debugger.specs.Kept.{IsKept}
-use Rattle.asl_debugger.specs.Session.{state_before}
 use Rattle.asl_debugger.proofs.Positions.{is_at}
 use Rattle.asl_debugger.proofs.debugger.Debugger.resume.Goals as goal
 
