@@ -1,4 +1,5 @@
 mod AsBox
 mod Lines
+mod Owners
 mod Sends
 mod Statuses
