@@ -3,3 +3,4 @@ mod Lines
 mod Owners
 mod Sends
 mod Statuses
+mod Tellings
