@@ -58,6 +58,14 @@ step_kept : (P : Type 0) (a : Result Reply StepFault) → OnErr a P → step_sta
 step_kept P (Ok reply) same some = absurd (some refl)
 step_kept P (Err fault) same some = same
 
+-- no step is told as a closed session
+pub step_other : (a : Result Reply StepFault) → step_status a ≢ 3
+step_other (Ok reply) = λ e. omega arith
+step_other (Err step.OutOfMemory) = λ e. omega arith
+step_other (Err step.BadThread) = λ e. omega arith
+step_other (Err step.NotAtEnd) = λ e. omega arith
+step_other (Err step.JournalFull) = λ e. omega arith
+
 pub stepped : (s new : Session) (t : ℕ) (a : Result Reply StepFault)
     → IfOk a (λ reply. new ≡ recorded s (with_event s.log (record { thread = t; reply = reply })) (s.position + 1))
     → IfOk a (λ reply. Step s.image (state_before s.image s.log s.position) t reply (state_before new.image new.log new.position))
@@ -85,15 +93,6 @@ none_told (Err (debug.Differs index)) = (λ e. absurd (omega arith), λ e. absur
 none_told (Err debug.OutOfMemory) = (λ e. absurd (omega arith), λ e. absurd cc)
 none_told (Err debug.BadCount) = (λ e. absurd (omega arith), λ e. absurd cc)
 
--- each fault but that there is no such position is told as want of memory
-pub other_told : (fault : DebugFault) → (fault ≡ debug.NoSuchStep → ⊥) → move_status (Err fault) ≡ 2
-other_told debug.AtEnd other = refl
-other_told debug.AtStart other = refl
-other_told debug.NoSuchStep other = absurd (other refl)
-other_told (debug.Differs index) other = refl
-other_told debug.OutOfMemory other = refl
-other_told debug.BadCount other = refl
-
 move_others : (a : Result (Unit {0}) DebugFault) → (move_status a ≡ 0) ⊎ (move_status a ≡ 2) ⊎ (move_status a ≡ 13)
 move_others (Ok done) = search arith
 move_others (Err debug.AtEnd) = search arith
@@ -115,6 +114,16 @@ move_made P (Err debug.BadCount) is zero = absurd (omega arith)
 move_kept : (P : Type 0) (a : Result (Unit {0}) DebugFault) → OnErr a P → move_status a ≢ 0 → P
 move_kept P (Ok done) same some = absurd (some refl)
 move_kept P (Err fault) same some = same
+
+-- no move is told as a closed session
+pub move_other : (a : Result (Unit {0}) DebugFault) → move_status a ≢ 3
+move_other (Ok done) = λ e. omega arith
+move_other (Err debug.AtEnd) = λ e. omega arith
+move_other (Err debug.AtStart) = λ e. omega arith
+move_other (Err debug.NoSuchStep) = λ e. omega arith
+move_other (Err (debug.Differs index)) = λ e. omega arith
+move_other (Err debug.OutOfMemory) = λ e. omega arith
+move_other (Err debug.BadCount) = λ e. omega arith
 
 pub moved_to : (s wanted new : Session) (k : ℕ) (a : Result (Unit {0}) DebugFault) → OnOk a (new ≡ wanted) → (IsErrOf a debug.NoSuchStep ↔ (length s.log.events < k)) → OnErr a (new ≡ s)
     → IsMovedTo s wanted k (move_status a) new

@@ -1,5 +1,5 @@
 //! Calls on a session in its place, which it leaves while it works.
-ghost use Rattle.std.specs.Prelude.{◌≡◌, length, IfOk, string_bytes};
+ghost use Rattle.std.specs.Prelude.{◌≡◌, ◌≢◌, length, IfOk, string_bytes};
 ghost use Rattle.asl_session.specs.Pages.{text_of};
 ghost use Rattle.asl_session.specs.Status.{IsCut, IsGone, IsStepped};
 
@@ -12,7 +12,8 @@ use std::alloc::{AllocError, Global};
 
 /// Steps the thread at the end of the journal.
 pub fn step(alloc: Global, session: &mut Session, t: u32) -> u32
-    ensures { IsStepped session.old t result session.new }
+    ensures stepped { IsStepped session.old t result session.new }
+    ensures other { result ≢ 3 }
 {
     let answer = replace_with(session, (alloc, t), Session::step);
     step_status(answer)
@@ -20,7 +21,8 @@ pub fn step(alloc: Global, session: &mut Session, t: u32) -> u32
 
 /// Goes to the position.
 pub fn go(alloc: Global, session: &mut Session, k: u32) -> u32
-    ensures { IsGone session.old k result session.new }
+    ensures gone { IsGone session.old k result session.new }
+    ensures other { result ≢ 3 }
 {
     let answer = replace_with(session, (alloc, k), Session::go);
     move_status(answer)
@@ -28,7 +30,8 @@ pub fn go(alloc: Global, session: &mut Session, k: u32) -> u32
 
 /// Goes to the position, and forgets the events behind it.
 pub fn cut(alloc: Global, session: &mut Session, k: u32) -> u32
-    ensures { IsCut session.old k result session.new }
+    ensures cut { IsCut session.old k result session.new }
+    ensures other { result ≢ 3 }
 {
     let answer = replace_with(session, (alloc, k), Session::cut);
     move_status(answer)

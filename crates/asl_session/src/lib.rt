@@ -12,8 +12,6 @@ mod session;
 mod slot;
 mod status;
 mod telling;
-#[cfg(test)]
-mod tries;
 
 pub use handle::Handle;
 pub use telling::Place;
