@@ -1,5 +1,5 @@
-/* asl for C: the commands of the program as one call (libasl_call.a), and the lock forest (libasl_c.a): who holds which mode at
- * which node (docs/LOCKS.md).
+/* asl for C: the commands of the program as one call (libasl_call.a); the lock forest (libasl_c.a): who holds which mode at which
+ * node (docs/LOCKS.md); and sessions (libasl_session.a): a run that is stepped, gone through to and fro, and cut (docs/JOURNAL.md).
  *
  * What C owes: pointers with the lengths that go with them (with length 0 any pointer will do, NULL too), buffers that do not
  * overlap, one call at a time on one handle (a mutex will do; a handle may go from one thread to another), and malloc, realloc and
@@ -99,6 +99,115 @@ uint32_t asl_forest_mode(asl_forest *forest, uint32_t thread, const asl_ask *at,
 /* Writes whether the thread may read, or where `writes` is true write, the cell of `at`, whose kind and mode are not
  * read. Returns 0, 3, 4 or 6. */
 uint32_t asl_forest_covers(asl_forest *forest, uint32_t thread, const asl_ask *at, bool writes, bool *covers);
+
+/* A session: a program, the journal of a run of it that grows, and a position in that journal (libasl_session.a). Begin with all bytes
+ * 0, which is closed. Do not copy a session, and do not write its fields. */
+typedef struct asl_session {
+  bool live;
+  void *at;
+} asl_session;
+
+/* Of the others than 0 and 2 the first that applies, in the order in which they stand at a function, is returned, and 2 only where none
+ * does; asl_session_open alone may run out of memory before it knows of 12 and 11. Unless it is ASL_OK, nothing has changed and nothing
+ * was written. */
+enum {
+  ASL_NO_PROGRAM = 12,   /* the bytes are no program: `asl verify` or `asl asm` says why */
+  ASL_NO_SUCH_STEP = 13, /* the journal has no such position */
+  ASL_NOT_AT_END = 14,   /* events follow the position: cut first */
+  ASL_JOURNAL_FULL = 15, /* the journal has 16,777,216 events */
+  ASL_NULL_POINTER = 16  /* NULL where something is to stand; NULL for a session is ASL_BAD_HANDLE */
+};
+
+/* Where a session is: how many events lead to the machine that is shown, and how many the journal has. */
+typedef struct asl_place {
+  uint32_t position;
+  uint32_t events;
+} asl_place;
+
+/* The functions of the library. They want pointers that are not NULL, but with length or room 0; the functions behind them, which have
+ * their names without `_nonnull`, test that first. */
+uint32_t asl_session_open_nonnull(const uint8_t *program, size_t length, uint32_t threads, asl_session *session);
+uint32_t asl_session_close_nonnull(asl_session *session);
+uint32_t asl_session_step_nonnull(asl_session *session, uint32_t thread);
+uint32_t asl_session_go_nonnull(asl_session *session, uint32_t k);
+uint32_t asl_session_cut_nonnull(asl_session *session, uint32_t k);
+uint32_t asl_session_place_nonnull(asl_session *session, asl_place *place);
+uint32_t asl_session_view_nonnull(asl_session *session, uint8_t *text, size_t room, size_t *length);
+uint32_t asl_session_asks_nonnull(asl_session *session, uint8_t *text, size_t room, size_t *length);
+uint32_t asl_session_stack_nonnull(asl_session *session, uint8_t *text, size_t room, size_t *length);
+uint32_t asl_session_objects_nonnull(asl_session *session, uint8_t *text, size_t room, size_t *length);
+uint32_t asl_session_log_nonnull(asl_session *session, uint32_t first, uint8_t *text, size_t room, size_t *length);
+
+/* Opens a session: so many threads of the program of these bytes, at their start. Bytes that begin with "ASLM" are read as an image,
+ * all others as assembly text. Returns 0, 3 (there is a session already, or no place for one), 16, 12, 11 or 2. */
+static inline uint32_t asl_session_open(const uint8_t *program, size_t length, uint32_t threads, asl_session *session) {
+  if (!session) return ASL_BAD_HANDLE;
+  if (!program && length && !session->live) return ASL_NULL_POINTER;
+  if (!program && length) return ASL_BAD_HANDLE;
+  return asl_session_open_nonnull(program, length, threads, session);
+}
+
+/* Closes the session. Returns 0 or 3. */
+static inline uint32_t asl_session_close(asl_session *session) {
+  if (!session) return ASL_BAD_HANDLE;
+  return asl_session_close_nonnull(session);
+}
+
+/* Steps the thread in the state at the end of the journal, appends the event, and is behind it. A step that is blocked, or of a thread
+ * that has ended, is an event too. Returns 0, 3, 14, 15, 4 or 2. */
+static inline uint32_t asl_session_step(asl_session *session, uint32_t thread) {
+  if (!session) return ASL_BAD_HANDLE;
+  return asl_session_step_nonnull(session, thread);
+}
+
+/* Goes to position k, from 0 to as many as there are events. Returns 0, 3, 13 or 2. */
+static inline uint32_t asl_session_go(asl_session *session, uint32_t k) {
+  if (!session) return ASL_BAD_HANDLE;
+  return asl_session_go_nonnull(session, k);
+}
+
+/* Goes to position k, and forgets the events behind it. Returns 0, 3, 13 or 2. */
+static inline uint32_t asl_session_cut(asl_session *session, uint32_t k) {
+  if (!session) return ASL_BAD_HANDLE;
+  return asl_session_cut_nonnull(session, k);
+}
+
+/* Tells where the session is. Returns 0, 3 or 16. */
+static inline uint32_t asl_session_place(asl_session *session, asl_place *place) {
+  if (!session || !session->live) return ASL_BAD_HANDLE;
+  if (!place) return ASL_NULL_POINTER;
+  return asl_session_place_nonnull(session, place);
+}
+
+/* What the words `view`, `asks`, `stack` and `objects` of `asl debug` print of the machine that is shown. `text` gets as much as it has
+ * room for, from its front on; its other bytes stay. `length` is the whole length. Returns 0, 3, 16 or 2. */
+static inline uint32_t asl_session_view(asl_session *session, uint8_t *text, size_t room, size_t *length) {
+  if (!session || !session->live) return ASL_BAD_HANDLE;
+  if (!length || (!text && room)) return ASL_NULL_POINTER;
+  return asl_session_view_nonnull(session, text, room, length);
+}
+static inline uint32_t asl_session_asks(asl_session *session, uint8_t *text, size_t room, size_t *length) {
+  if (!session || !session->live) return ASL_BAD_HANDLE;
+  if (!length || (!text && room)) return ASL_NULL_POINTER;
+  return asl_session_asks_nonnull(session, text, room, length);
+}
+static inline uint32_t asl_session_stack(asl_session *session, uint8_t *text, size_t room, size_t *length) {
+  if (!session || !session->live) return ASL_BAD_HANDLE;
+  if (!length || (!text && room)) return ASL_NULL_POINTER;
+  return asl_session_stack_nonnull(session, text, room, length);
+}
+static inline uint32_t asl_session_objects(asl_session *session, uint8_t *text, size_t room, size_t *length) {
+  if (!session || !session->live) return ASL_BAD_HANDLE;
+  if (!length || (!text && room)) return ASL_NULL_POINTER;
+  return asl_session_objects_nonnull(session, text, room, length);
+}
+
+/* The lines that `asl log` prints of the events from the first one given on. Text, room and length as above. Returns 0, 3, 16 or 2. */
+static inline uint32_t asl_session_log(asl_session *session, uint32_t first, uint8_t *text, size_t room, size_t *length) {
+  if (!session || !session->live) return ASL_BAD_HANDLE;
+  if (!length || (!text && room)) return ASL_NULL_POINTER;
+  return asl_session_log_nonnull(session, first, text, room, length);
+}
 
 #ifdef __cplusplus
 }

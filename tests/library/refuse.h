@@ -10,9 +10,15 @@ static bool is_granted(void) {
   return true;
 }
 
+#ifdef __cplusplus
+extern "C" {
+#endif
 void *__real_malloc(size_t size);
 void *__real_realloc(void *at, size_t size);
 void *__wrap_malloc(size_t size);
 void *__wrap_realloc(void *at, size_t size);
 void *__wrap_malloc(size_t size) { return is_granted() ? __real_malloc(size) : NULL; }
 void *__wrap_realloc(void *at, size_t size) { return is_granted() ? __real_realloc(at, size) : NULL; }
+#ifdef __cplusplus
+}
+#endif

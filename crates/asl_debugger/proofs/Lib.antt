@@ -2,3 +2,4 @@ pub mod Halts
 pub mod Marks
 pub mod Places
 pub mod Positions
+pub mod Recording

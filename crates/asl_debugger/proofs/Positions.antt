@@ -7,6 +7,7 @@ use Rattle.asl_code.specs.declared.image.Image.{Image}
 use Rattle.asl_machine.specs.WellFormed.{MayWantMemory}
 use Rattle.asl_machine.specs.State.{State}
 use Rattle.asl_machine.specs.View.{Configuration}
+use Rattle.asl_machine.specs.Paused.{Rest}
 use Rattle.asl_machine.specs.Run.{start_of, state_after}
 use Rattle.asl_machine.specs.StepFunction.{step_of}
 use Rattle.asl_machine.proofs.Reached.{reached_count}
@@ -118,7 +119,7 @@ module _ (machine : Configuration) (log : Log) (k : ℕ) (d : Event) (t : ℕ) (
   wants_at thread wants = rw (slice_get-get_or log.events k d lt, ← thread, ← at) wants
 
 -- a debugger that shows another position of its journal keeps what it keeps
-pub kept_at : (log : Log) (spacing : ℕ) (checkpoints : List Configuration) (old new : Configuration) (position k : ℕ) → IsKept old.image log spacing checkpoints old position → k ≤ length log.events →
+pub kept_at : (log : Log) (spacing : ℕ) (checkpoints : List Rest) (old new : Configuration) (position k : ℕ) → IsKept old.image log spacing checkpoints old position → k ≤ length log.events →
     new ≡ machine_before old.image log k → IsKept new.image log spacing checkpoints new k
 kept_at log spacing checkpoints old new position k kept within shown = subst (λ (m : Configuration). IsKept m.image log spacing checkpoints m k) (sym shown) (record {
   is_log = kept.is_log;
@@ -128,4 +129,5 @@ kept_at log spacing checkpoints old new position k kept within shown = subst (λ
   within = within;
   each = kept.each;
   enough = kept.enough;
+  none_past = kept.none_past;
 })

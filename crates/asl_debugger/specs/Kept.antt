@@ -1,17 +1,23 @@
 -- Machinery of the proofs, not of the promise: what a debugger keeps of its fields; contracts speak of sessions.
-use Rattle.std.specs.Prelude.{◌≡◌, ◌<◌, ◌≤◌, ◌*◌, ℕ, List, length, slice_get, Some}
+use Rattle.std.specs.Prelude.{◌≡◌, ◌<◌, ◌≤◌, ◌+◌, ◌*◌, ℕ, List, length, slice_get, Some}
 use Rattle.asl_code.specs.declared.image.Image.{Image}
 use Rattle.asl_machine.specs.View.{Configuration}
+use Rattle.asl_machine.specs.Paused.{Rest, IsRestOf}
 use Rattle.asl_journal.specs.Journal.{Log, IsLog, IsJournal}
-use Rattle.asl_debugger.specs.Session.{machine_before}
+use Rattle.asl_debugger.specs.Session.{machine_before, state_before}
 
--- each checkpoint is the machine at its position: the spacing times its number
-abbrev pub AreCheckpoints : Image → Log → ℕ → List Configuration → Type 0
+-- this is left of the machine at the position
+pub record IsMark (image : Image) (log : Log) (k : ℕ) (rest : Rest) : Type 0 where
+  pub fits : IsRestOf image rest
+  pub state : rest.state ≡ state_before image log k
+
+-- each checkpoint is left of the machine at its position: the spacing times its number
+abbrev pub AreCheckpoints : Image → Log → ℕ → List Rest → Type 0
 AreCheckpoints image log spacing checkpoints =
-    (index : ℕ) (machine : Configuration) → slice_get checkpoints index ≡ Some machine → machine ≡ machine_before image log (index * spacing)
+    (index : ℕ) (rest : Rest) → slice_get checkpoints index ≡ Some rest → IsMark image log (index * spacing) rest
 
--- the events are a journal of the program, whose machine is shown at this position, with checkpoints over all of it
-pub record IsKept (image : Image) (log : Log) (spacing : ℕ) (checkpoints : List Configuration) (machine : Configuration) (position : ℕ) : Type 0 where
+-- the events are a journal of the program, whose machine is shown at this position, with checkpoints over all of it, none past its end
+pub record IsKept (image : Image) (log : Log) (spacing : ℕ) (checkpoints : List Rest) (machine : Configuration) (position : ℕ) : Type 0 where
   pub is_log : IsLog log
   pub journal : IsJournal image log.threads log.events
   pub spaced : 0 < spacing
@@ -19,3 +25,4 @@ pub record IsKept (image : Image) (log : Log) (spacing : ℕ) (checkpoints : Lis
   pub within : position ≤ length log.events
   pub each : AreCheckpoints image log spacing checkpoints
   pub enough : length log.events < length checkpoints * spacing
+  pub none_past : length checkpoints * spacing ≤ length log.events + spacing

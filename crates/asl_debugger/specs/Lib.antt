@@ -1,5 +1,6 @@
 pub mod Breaks
 pub mod Opening
+pub mod Paused
 pub mod Session
 -- Machinery of the proofs, not of the promise:
 pub mod Fault

@@ -31,6 +31,10 @@ MayWantMemoryAt image log k = IsSomeAnd (slice_get log.events k) (λ event. MayW
 abbrev pub moved : Session → ℕ → Session
 moved s k = record { image = s.image; log = s.log; position = k; breakpoints = s.breakpoints }
 
+-- the same session with another journal, at this position
+abbrev pub recorded : Session → Log → ℕ → Session
+recorded s log k = record { image = s.image; log = log; position = k; breakpoints = s.breakpoints }
+
 -- the same session with other breakpoints
 abbrev pub with_breaks : Session → List ℕ → Session
 with_breaks s breakpoints = record { image = s.image; log = s.log; position = s.position; breakpoints = breakpoints }

@@ -1,5 +1,6 @@
 //! The machine at positions of a journal, and the checkpoints that a debugger keeps.
 ghost use Rattle.std.specs.Prelude.{◌≡◌, ◌<◌, ◌≤◌, ◌+◌, ◌*◌, length, take, IfErr, IfOk, OnErr, OnOk};
+ghost use Rattle.asl_machine.specs.Paused.{IsRestOf};
 ghost use Rattle.asl_machine.specs.Run.{IsThreadCount, start_of};
 ghost use Rattle.asl_journal.specs.Journal.{GoesBy, IsJournal, IsLog};
 ghost use Rattle.asl_debugger.specs.Kept.{AreCheckpoints};
@@ -8,32 +9,45 @@ ghost use Rattle.asl_debugger.specs.Session.{MayWantMemoryAt, machine_before, st
 
 use crate::fault::DebugFault;
 use asl_code::Program;
-use asl_journal::{Journal, JournalFault, follow};
-use asl_machine::Machine;
+use asl_journal::{Journal, JournalFault, run_on};
+use asl_machine::{Machine, Paused};
 use std::alloc::Global;
 
-/// The machine at position `end`, from the one at position `start`, which stays as it is.
+/// The machine of which the checkpoint is left; the checkpoint stays.
+pub fn machine_of<'p>(
+    alloc: Global,
+    program: &'p Program,
+    checkpoint: &Paused,
+) -> Result<Machine<'p>, DebugFault>
+    requires { IsRestOf program.now checkpoint.now }
+    ensures machine { IfOk result (λ machine. machine ≡ record { image = program.now; state = checkpoint.now.state }) }
+    ensures memory { IfErr result (λ fault. fault ≡ DebugFault.OutOfMemory) }
+{
+    Ok(Machine::resume(program, checkpoint.try_copy(alloc)?))
+}
+
+/// The machine at position `end`, from the one at position `start`.
 pub fn machine_between<'p>(
     alloc: Global,
-    from: &Machine<'p>,
+    from: Machine<'p>,
     journal: &Journal,
     start: usize,
     end: usize,
 ) -> Result<Machine<'p>, DebugFault>
-    requires from { from.now.state ≡ state_before from.now.image journal.now start }
+    requires from { from.state ≡ state_before from.image journal.now start }
     requires order { start ≤ end }
     requires within { end ≤ length journal.now.events }
-    ensures machine { IfOk result (λ machine. machine ≡ machine_before from.now.image journal.now end) }
-    ensures goes { GoesBy from.now.image (start_of from.now.image journal.now.threads) (take start journal.now.events)
-        → OnOk result (GoesBy from.now.image (start_of from.now.image journal.now.threads) (take end journal.now.events)) }
-    ensures refused { IsThreadCount from.now.image journal.now.threads
-        → GoesBy from.now.image (start_of from.now.image journal.now.threads) (take start journal.now.events)
-        → IfErr result (λ fault. IsOpenFault from.now.image journal.now fault) }
-    ensures only { IsJournal from.now.image journal.now.threads journal.now.events
+    ensures machine { IfOk result (λ machine. machine ≡ machine_before from.entry.image journal.now end) }
+    ensures goes { GoesBy from.entry.image (start_of from.entry.image journal.now.threads) (take start journal.now.events)
+        → OnOk result (GoesBy from.entry.image (start_of from.entry.image journal.now.threads) (take end journal.now.events)) }
+    ensures refused { IsThreadCount from.entry.image journal.now.threads
+        → GoesBy from.entry.image (start_of from.entry.image journal.now.threads) (take start journal.now.events)
+        → IfErr result (λ fault. IsOpenFault from.entry.image journal.now fault) }
+    ensures only { IsJournal from.entry.image journal.now.threads journal.now.events
         → IfErr result (λ fault. fault ≡ DebugFault.OutOfMemory) }
 {
     let events = journal.events();
-    match follow(alloc, from, &events[start..end]) {
+    match run_on(alloc, from, &events[start..end]) {
         Ok(machine) => Ok(machine),
         Err(JournalFault::Differs(index)) => Err(DebugFault::Differs(start as u32 + index)),
         Err(_) => Err(DebugFault::OutOfMemory),
@@ -59,35 +73,46 @@ pub fn make_event(
     Ok(())
 }
 
-/// The checkpoints of the journal, if it is one of the program: the machine at 0, the spacing, twice the spacing and so
-/// on.
+/// The checkpoints of the journal, if it is one of the program: what is left of the machine at 0, the spacing, twice the spacing
+/// and so on.
 pub fn checkpoints_of<'p>(
     alloc: Global,
     program: &'p Program,
     journal: &Journal,
     spacing: u32,
-) -> Result<Vec<Machine<'p>>, DebugFault>
+) -> Result<Vec<Paused>, DebugFault>
     requires { 0 < spacing }
     ensures log { IsLog journal.now }
     ensures journal { OnOk result (IsJournal program.now journal.now.threads journal.now.events) }
     ensures each { IfOk result (λ checkpoints. AreCheckpoints program.now journal.now spacing checkpoints.items) }
     ensures enough { IfOk result (λ checkpoints. length journal.now.events < length checkpoints.items * spacing) }
+    ensures none_past { IfOk result (λ checkpoints. length checkpoints.items * spacing ≤ length journal.now.events + spacing) }
     ensures refused { IfErr result (λ fault. IsOpenFault program.now journal.now fault) }
 {
     let events = journal.events();
+    let mut machine = first_machine(alloc, program, journal)?;
     let mut checkpoints = Vec::new(alloc);
-    checkpoints.push(first_machine(alloc, program, journal)?)?;
+    let first = mark(alloc, &machine)?;
+    checkpoints.push(first)?;
     let mut here = 0;
     while events.len() - here >= spacing as usize {
         let next = here + spacing as usize;
-        let last = &checkpoints[checkpoints.len() - 1];
-        let machine = machine_between(alloc, last, journal, here, next)?;
-        checkpoints.push(machine)?;
+        machine = machine_between(alloc, machine, journal, here, next)?;
+        let checkpoint = mark(alloc, &machine)?;
+        checkpoints.push(checkpoint)?;
         here = next;
     }
-    let last = &checkpoints[checkpoints.len() - 1];
-    let _end = machine_between(alloc, last, journal, here, events.len())?;
+    let _end = machine_between(alloc, machine, journal, here, events.len())?;
     Ok(checkpoints)
+}
+
+/// What is left of a copy of the machine.
+pub fn mark(alloc: Global, machine: &Machine<'_>) -> Result<Paused, DebugFault>
+    ensures fits { IfOk result (IsRestOf machine.now.image) }
+    ensures state { IfOk result (λ checkpoint. checkpoint.state ≡ machine.now.state) }
+    ensures memory { IfErr result (λ fault. fault ≡ DebugFault.OutOfMemory) }
+{
+    Ok(machine.try_copy(alloc)?.pause())
 }
 
 /// The machine at position 0, if the program may start with so many threads.

@@ -5,24 +5,27 @@ ghost use Rattle.asl_debugger.specs.Breaks.{has_break, HasBreak, HasNoBreak};
 ghost use Rattle.asl_debugger.specs.Kept.{IsKept};
 ghost use Rattle.asl_debugger.specs.Opening.{IsOpenFault};
 
+mod pausing;
+mod recording;
 mod search;
 
 use crate::breakpoints::{clear_break, put_break};
-use crate::checkpoints::{checkpoints_of, machine_between, make_event};
+use crate::checkpoints::{checkpoints_of, machine_between, machine_of, make_event};
 use crate::fault::DebugFault;
 use asl_code::Program;
 use asl_journal::Journal;
-use asl_machine::Machine;
+use asl_machine::{Machine, Paused};
+pub use pausing::PausedDebugger;
 use std::alloc::Global;
 use std::marker::Model;
 
-/// A journal of a program, a position in it with the machine there, and breakpoints. Checkpoints of the machine stand
-/// at 0, the spacing, twice the spacing and so on (`docs/JOURNAL.md`, "The debugger").
+/// A journal of a program, a position in it with the machine there, and breakpoints. Checkpoints of the machine, kept without the
+/// program, stand at 0, the spacing, twice the spacing and so on (`docs/JOURNAL.md`, "The debugger").
 #[derive(Drop)]
 pub struct Debugger<'p> {
     journal: Journal,
     spacing: u32,
-    checkpoints: Vec<Machine<'p>>,
+    checkpoints: Vec<Paused>,
     machine: Machine<'p>,
     position: u32,
     breakpoints: Vec<u32>,
@@ -236,6 +239,13 @@ impl<'p> Debugger<'p> {
         self.position
     }
 
+    /// The journal: the whole log, wherever the position is.
+    pub fn journal(&self) -> &Journal
+        ensures { result.now ≡ self.now.log }
+    {
+        &self.journal
+    }
+
     /// The machine at position k, from the greatest checkpoint that is not past it, or from the present one if that is
     /// nearer.
     fn machine_at(&self, alloc: Global, k: u32) -> Result<Machine<'p>, DebugFault>
@@ -247,10 +257,12 @@ impl<'p> Debugger<'p> {
         let start = number * self.spacing;
         if start <= self.position && self.position <= k {
             let here = self.position as usize;
-            machine_between(alloc, &self.machine, &self.journal, here, k as usize)
+            let machine = self.machine.try_copy(alloc)?;
+            machine_between(alloc, machine, &self.journal, here, k as usize)
         } else {
             let nearest = &self.checkpoints[number as usize];
-            machine_between(alloc, nearest, &self.journal, start as usize, k as usize)
+            let machine = machine_of(alloc, self.machine.program(), nearest)?;
+            machine_between(alloc, machine, &self.journal, start as usize, k as usize)
         }
     }
 }
@@ -261,12 +273,12 @@ fn prepared<'p>(
     program: &'p Program,
     journal: &Journal,
     spacing: u32,
-) -> Result<(Vec<Machine<'p>>, Machine<'p>), DebugFault>
+) -> Result<(Vec<Paused>, Machine<'p>), DebugFault>
     requires { 0 < spacing }
     ensures kept { IfOk result (λ parts. IsKept program.now journal.now spacing parts.0.items parts.1 0) }
     ensures refused { IfErr result (λ fault. IsOpenFault program.now journal.now fault) }
 {
     let checkpoints = checkpoints_of(alloc, program, journal, spacing)?;
-    let machine = checkpoints[0].try_copy(alloc)?;
+    let machine = machine_of(alloc, program, &checkpoints[0])?;
     Ok((checkpoints, machine))
 }

@@ -63,3 +63,31 @@ impl<T: Drop> From<AllocFailed<T>> for DebugFault {
         DebugFault::OutOfMemory
     }
 }
+
+/// Why a debugger records no step. The first that applies is answered.
+#[derive(Clone, Copy, Debug, PartialEq, Eq, Error)]
+pub enum StepFault {
+    /// Events follow the position.
+    #[error("NotAtEnd")]
+    NotAtEnd,
+    /// A journal has at most 16,777,216 events.
+    #[error("JournalFull")]
+    JournalFull,
+    /// There is no such thread.
+    #[error("BadThread")]
+    BadThread,
+    /// An allocation failed.
+    #[error("OutOfMemory")]
+    OutOfMemory,
+}
+
+impl From<AllocError> for StepFault {
+    ghost use Rattle.std.specs.Prelude.{◌≡◌};
+    ghost use Rattle.asl_debugger.specs.declared.fault.StepFault.TheVariants.{OutOfMemory};
+
+    ghost from_gives = { λ _ fault. fault ≡ OutOfMemory };
+
+    fn from(_: AllocError) -> Self {
+        StepFault::OutOfMemory
+    }
+}

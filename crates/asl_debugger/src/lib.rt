@@ -7,5 +7,5 @@ mod debugger;
 mod fault;
 mod stops;
 
-pub use debugger::Debugger;
-pub use fault::DebugFault;
+pub use debugger::{Debugger, PausedDebugger};
+pub use fault::{DebugFault, StepFault};

@@ -9,3 +9,4 @@ pub mod Replays
 pub mod Runs
 pub mod Values
 pub mod Written
+pub mod Pauses

@@ -1,6 +1,6 @@
 -- What a journal is: the events of a program's run over a schedule, each with the reply of its step (docs/JOURNAL.md,
 -- "What a journal is").
-use Rattle.std.specs.Prelude.{◌≡◌, ◌<◌, ◌≤◌, ◌⊎◌, ℕ, List, length, map, All, slice_get, Some}
+use Rattle.std.specs.Prelude.{◌≡◌, ◌<◌, ◌≤◌, ◌⊎◌, ◌++◌, ◌∷◌, [], ℕ, List, length, map, All, slice_get, Some}
 use Rattle.asl_code.specs.declared.image.Image.{Image}
 use Rattle.asl_code.specs.Versions.{newest_threads}
 use Rattle.asl_machine.specs.declared.reply.Reply.{Reply}
@@ -18,6 +18,10 @@ most_events = 16777216
 pub record Log : Type 0 where
   pub threads : ℕ
   pub events : List Event
+
+-- the same journal with one event more
+abbrev pub with_event : Log → Event → Log
+with_event log event = record { threads = log.threads; events = log.events ++ event ∷ [] }
 
 -- there are from 1 thread to as many as the newest version has, which is 128
 abbrev pub IsCount : ℕ → Type 0

@@ -2,6 +2,7 @@ pub mod Bytes
 pub mod Faults
 pub mod Journal
 pub mod Recorded
+pub mod Paused
 pub mod Replay
 -- Machinery of the proofs, not of the promise:
 pub mod Fault

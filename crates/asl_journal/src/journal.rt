@@ -2,6 +2,8 @@
 ghost use Rattle.std.specs.Prelude.{◌≡◌, ◌<◌, IsOk, IfOk, IfErr, MatchBool};
 ghost use Rattle.asl_journal.specs.Journal.{AreThere, HasStranger, IsLog, IsNoLog};
 
+mod growing;
+
 use crate::event::Event;
 use crate::fault::JournalFault;
 use crate::limits::{MAX_EVENTS, MAX_THREADS};

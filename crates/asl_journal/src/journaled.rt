@@ -5,12 +5,15 @@ ghost use Rattle.asl_machine.specs.Step.{Step};
 ghost use Rattle.asl_code.specs.Versions.{most_threads};
 ghost use Rattle.asl_journal.specs.Journal.{IsCount, IsJournal, most_events};
 
+mod pausing;
+
 use crate::event::{Event, Receipt};
 use crate::fault::JournalFault;
 use crate::journal::Journal;
 use crate::limits::MAX_EVENTS;
 use asl_code::Program;
 use asl_machine::Machine;
+pub use pausing::PausedJournaled;
 use std::alloc::Global;
 use std::marker::Model;
 

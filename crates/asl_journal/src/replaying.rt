@@ -65,7 +65,11 @@ pub fn follow<'p>(
 
 /// The machine after the events, each of which replies as it says. Memory hides no event that differs and whose step takes none:
 /// it runs out only at an event whose step may want it, and those before it do not differ.
-fn run_on<'p>(
+///
+/// # Errors
+///
+/// `Differs` with the first event that differs; `OutOfMemory` where an allocation failed.
+pub fn run_on<'p>(
     alloc: Global,
     mut machine: Machine<'p>,
     events: &[Event],

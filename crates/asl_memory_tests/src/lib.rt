@@ -11,6 +11,8 @@ mod moves;
 #[cfg(test)]
 mod readers;
 #[cfg(test)]
+mod records;
+#[cfg(test)]
 mod samples;
 #[cfg(test)]
 mod steps;

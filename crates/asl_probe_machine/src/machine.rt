@@ -1,4 +1,5 @@
-//! Machines of one assembly text. `new N` makes one of N threads, `copy` a copy of the last one used, and `use I` goes to the
+//! Machines of one assembly text. `new N` makes one of N threads, `copy` a copy of the last one used, which has let its program go and
+//! is taken up again, and `use I` goes to the
 //! I-th. On that: `step T..`, `see T`, `object I`, `objects`, `threads`, `globals`, `held T NODE`, `fresh T I`, `cell O.P`. What `pace`
 //! has counts the steps that are blocked.
 //! Where a growth is refused, everything told must be as before, and the same call is made again.
@@ -81,9 +82,15 @@ fn copy(
         copied => copied,
     };
     match copied {
-        Ok(machine) => Ok(machines.push(machine)?),
+        Ok(machine) => Ok(machines.push(rested(machine))?),
         Err(fault) => write!(out, "{fault}\n"),
     }
+}
+
+/// The machine, its program let go and taken up again.
+fn rested(machine: Machine<'_>) -> Machine<'_> {
+    let program = machine.program();
+    Machine::resume(program, machine.pause())
 }
 
 fn answer_call(

@@ -1,7 +1,7 @@
 //! The search for stops, on copies of machines.
 ghost use Rattle.std.specs.Prelude.{◌≡◌, ◌<◌, ◌≤◌, ◌*◌, length, IfErr, IfOk};
 
-use crate::checkpoints::make_event;
+use crate::checkpoints::{machine_of, make_event};
 use crate::debugger::Debugger;
 use crate::fault::DebugFault;
 use crate::stops::is_at_break;
@@ -50,7 +50,8 @@ impl<'p> Debugger<'p> {
             let number = (until - 1) / self.spacing;
             let start = number * self.spacing;
             let checkpoint = &self.checkpoints[number as usize];
-            match self.last_within(alloc, checkpoint, start, until)? {
+            let from = machine_of(alloc, self.machine.program(), checkpoint)?;
+            match self.last_within(alloc, from, start, until)? {
                 Some(stop) => return Ok(stop),
                 None => until = start,
             }
@@ -62,17 +63,17 @@ impl<'p> Debugger<'p> {
     fn last_within(
         &self,
         alloc: Global,
-        from: &Machine<'p>,
+        from: Machine<'p>,
         start: u32,
         until: u32,
     ) -> Result<Option<u32>, DebugFault>
-        requires from { from.now ≡ machine_before self.now.image self.now.log start }
+        requires from { from ≡ machine_before self.now.image self.now.log start }
         requires order { start ≤ until }
         requires within { until ≤ length self.now.log.events }
         ensures stop { IfOk result (λ found. IsFound self.now start until found) }
         ensures memory { IfErr result (λ fault. fault ≡ DebugFault.OutOfMemory) }
     {
-        let mut machine = from.try_copy(alloc)?;
+        let mut machine = from;
         let mut found = None;
         for k in start..until {
             let thread = self.journal.events()[k as usize].thread;

@@ -10,16 +10,16 @@ use Rattle.asl_debugger.specs.Session.{state_before}
 use Rattle.asl_debugger.proofs.Positions.{threads_of, state_between, goes_between, goes_from, differs_between, is_at}
 use Rattle.asl_debugger.proofs.checkpoints.machine_between.Goals as goal
 
-pub follow-requires-clause-there : goal.follow-requires-clause-there
-follow-requires-clause-there c =
+pub run_on-requires-clause-there : goal.run_on-requires-clause-there
+run_on-requires-clause-there c =
     let log = c.args.journal.now in
-    let count = threads_of c.args.from.now.image log c.args.start c.args.from.now.state c.requires.from c.events-events.ensures.log in
+    let count = threads_of c.args.from.image log c.args.start c.args.from.state c.requires.from c.events-events.ensures.log in
     rw (c.events-events.ensures.events, count)
     (All-take (λ (e : Event). e.thread < log.threads) (c.args.end - c.args.start) (drop c.args.start log.events) (All-drop (λ (e : Event). e.thread < log.threads) c.args.start log.events c.events-events.ensures.log.there))
 
 pub returns-in-Ok-clause-machine : goal.returns-in-Ok-clause-machine
 returns-in-Ok-clause-machine c =
-    let from = c.args.from.now in
+    let from = c.args.from in
     let log = c.args.journal.now in
     let told = c.in-Ok.ensures.machine in
     let slice = λ (es : List Event). take (c.args.end - c.args.start) (drop c.args.start es) in
@@ -31,15 +31,15 @@ returns-in-Ok-clause-machine c =
 
 pub returns-in-Ok-clause-goes : goal.returns-in-Ok-clause-goes
 returns-in-Ok-clause-goes c front =
-    goes_between c.args.from.now.image c.args.journal.now c.args.start c.args.end c.requires.order front (rw (c.events-events.ensures.events, c.requires.from) at c.in-Ok.ensures.goes)
+    goes_between c.args.from.image c.args.journal.now c.args.start c.args.end c.requires.order front (rw (c.events-events.ensures.events, c.requires.from) at c.in-Ok.ensures.goes)
 
 pub returns-in-Err-Differs-clause-refused : goal.returns-in-Err-Differs-clause-refused
 returns-in-Err-Differs-clause-refused c few front =
     let d = rw (c.in-Err-Differs.field-0-is, c.events-events.ensures.events, c.requires.from) at c.in-Err-Differs.ensures.refused in
-    (few.1, differs_between c.args.from.now.image c.args.journal.now c.args.start c.args.end c.requires.order c.in-Err-Differs.index front d)
+    (few.1, differs_between c.args.from.image c.args.journal.now c.args.start c.args.end c.requires.order c.in-Err-Differs.index front d)
 
 pub returns-in-Err-Differs-clause-only : goal.returns-in-Err-Differs-clause-only
 returns-in-Err-Differs-clause-only c j =
     let d = rw (c.in-Err-Differs.field-0-is, c.events-events.ensures.events, c.requires.from) at c.in-Err-Differs.ensures.refused in
-    absurd (no_difference c.args.from.now.image (state_before c.args.from.now.image c.args.journal.now c.args.start) (take (c.args.end - c.args.start) (drop c.args.start c.args.journal.now.events)) c.in-Err-Differs.index
-    (goes_from c.args.from.now.image c.args.journal.now c.args.start c.args.end c.requires.order j) d)
+    absurd (no_difference c.args.from.image (state_before c.args.from.image c.args.journal.now c.args.start) (take (c.args.end - c.args.start) (drop c.args.start c.args.journal.now.events)) c.in-Err-Differs.index
+    (goes_from c.args.from.image c.args.journal.now c.args.start c.args.end c.requires.order j) d)

@@ -1,0 +1,10 @@
+use Rattle.std.proofs.Common.{◌≤◌, ◌+◌, length, ap, arith}
+use Rattle.asl_debugger.proofs.Positions.{kept_at}
+use Rattle.asl_debugger.proofs.debugger.Debugger.forward.Goals as goal
+
+pub invariant_of-self-2 : goal.invariant_of-self-2
+invariant_of-self-2 c =
+    let inside = c.self.inside in
+    let len = ap (λ es. length es) c.events.ensures.events in
+    let within : inside.position + 1 ≤ length inside.journal.events = omega (arith, len, c.self.invariant.within) in
+    kept_at inside.journal inside.spacing inside.checkpoints.items inside.machine c.make_event.new.machine inside.position (inside.position + 1) c.self.invariant within c.in_ok-make_event.ensures.made

@@ -1,0 +1,68 @@
+use Rattle.std.proofs.Common.{◌≡◌, ◌<◌, ◌+◌, ◌*◌, ◌++◌, ◌∷◌, [], ℕ, List, length, ap, sym, ◌∙◌}
+use Rattle.asl_machine.specs.View.{Configuration}
+use Rattle.asl_machine.specs.Paused.{Rest}
+use Rattle.asl_journal.specs.Journal.{most_events}
+use Rattle.asl_debugger.proofs.Positions.{threads_of}
+use Rattle.asl_debugger.proofs.Recording.{kept_with, kept_behind, step_behind}
+use Rattle.asl_debugger.proofs.debugger.Debugger.record.Goals as goal
+
+pub mark_ahead-requires : goal.mark_ahead-requires
+mark_ahead-requires c =
+    let d = c.self.inside in
+    let there = rw (← c.self.view_is) at c.requires.thread in
+    rw (threads_of d.machine.image d.journal d.position d.machine.state (ap (λ (m : Configuration). m.state) c.self.invariant.shown) c.self.invariant.is_log) there
+
+pub write_step-requires-clause-threads : goal.write_step-requires-clause-threads
+write_step-requires-clause-threads c =
+    let d = c.self.inside in
+    threads_of d.machine.image d.journal d.position d.machine.state (ap (λ (m : Configuration). m.state) c.self.invariant.shown) c.self.invariant.is_log
+
+pub invariant_of-self-then-next-len : goal.invariant_of-self-then-next-len
+invariant_of-self-then-next-len c =
+    let d = c.self.inside in
+    let ahead = c.in_ok-ahead.ahead in
+    let told = c.in_ok-reply.ensures in
+    let end : d.position ≡ length d.journal.events = rw (← c.self.view_is) at c.requires.end in
+    let room : length d.journal.events < most_events = rw (← c.self.view_is) at c.requires.room in
+    let there : c.args.t < d.journal.threads = rw (← c.self.view_is) at c.requires.thread in
+    let items : c.push_reserved.new.self.items ≡ d.checkpoints.items ++ ahead ∷ [] = c.push_reserved.ensures.items ∙ ap (λ (rs : List Rest). rs ++ ahead ∷ []) c.in_ok-reserve.ensures.items in
+    let due : d.position + 1 ≡ length d.checkpoints.items * d.spacing = c.if-next-len.true ∙ ap (λ (n : ℕ). n * d.spacing) (c.len.ensures ∙ d.checkpoints.ok.0) in
+    rw (told.event, items) (kept_with d.machine.image d.journal d.spacing d.position d.checkpoints.items d.machine c.write_step.new.machine c.args.t c.in_ok-reply.reply c.self.invariant end room there
+    told.image told.reply told.state ahead due c.in_ok-ahead.ensures.fits c.in_ok-ahead.ensures.state)
+
+pub write_step-requires-else-next-len-clause-threads :
+    goal.write_step-requires-else-next-len-clause-threads
+write_step-requires-else-next-len-clause-threads c =
+    let d = c.self.inside in
+    threads_of d.machine.image d.journal d.position d.machine.state (ap (λ (m : Configuration). m.state) c.self.invariant.shown) c.self.invariant.is_log
+
+pub invariant_of-self-else-next-len : goal.invariant_of-self-else-next-len
+invariant_of-self-else-next-len c =
+    let d = c.self.inside in
+    let told = c.in_ok-reply-2.ensures in
+    let end : d.position ≡ length d.journal.events = rw (← c.self.view_is) at c.requires.end in
+    let room : length d.journal.events < most_events = rw (← c.self.view_is) at c.requires.room in
+    let there : c.args.t < d.journal.threads = rw (← c.self.view_is) at c.requires.thread in
+    let none_due = λ (e : d.position + 1 ≡ length d.checkpoints.items * d.spacing). c.if-next-len.false (e ∙ sym (ap (λ (n : ℕ). n * d.spacing) (c.len.ensures ∙ d.checkpoints.ok.0))) in
+    rw told.event (kept_behind d.machine.image d.journal d.spacing d.position d.checkpoints.items d.machine c.write_step-else-next-len.new.machine c.args.t c.in_ok-reply-2.reply c.self.invariant end room
+    there told.image told.reply told.state none_due)
+
+pub returns-in_ok-reply-clause-step : goal.returns-in_ok-reply-clause-step
+returns-in_ok-reply-clause-step c =
+    let d = c.self.inside in
+    let told = c.in_ok-reply.ensures in
+    let end : d.position ≡ length d.journal.events = rw (← c.self.view_is) at c.requires.end in
+    let room : length d.journal.events < most_events = rw (← c.self.view_is) at c.requires.room in
+    let there : c.args.t < d.journal.threads = rw (← c.self.view_is) at c.requires.thread in
+    rw (← c.self.view_is, told.event) (step_behind d.machine.image d.journal d.spacing d.position d.checkpoints.items d.machine c.write_step.new.machine c.args.t c.in_ok-reply.reply c.self.invariant end room
+    there told.image told.reply told.state told.step)
+
+pub returns-in_ok-reply-2-clause-step : goal.returns-in_ok-reply-2-clause-step
+returns-in_ok-reply-2-clause-step c =
+    let d = c.self.inside in
+    let told = c.in_ok-reply-2.ensures in
+    let end : d.position ≡ length d.journal.events = rw (← c.self.view_is) at c.requires.end in
+    let room : length d.journal.events < most_events = rw (← c.self.view_is) at c.requires.room in
+    let there : c.args.t < d.journal.threads = rw (← c.self.view_is) at c.requires.thread in
+    rw (← c.self.view_is, told.event) (step_behind d.machine.image d.journal d.spacing d.position d.checkpoints.items d.machine c.write_step-else-next-len.new.machine c.args.t c.in_ok-reply-2.reply
+    c.self.invariant end room there told.image told.reply told.state told.step)

@@ -1,0 +1,122 @@
+//! Debuggers whose journal goes on: a step behind its end, and a cut at the position.
+ghost use Rattle.std.specs.Prelude.{◌≡◌, ◌≢◌, ◌<◌, ◌≤◌, ◌+◌, ◌↔◌, ◌⊎◌, length, take, IfOk, IfErr, IsErrOf, OnErr};
+ghost use Rattle.asl_machine.specs.Paused.{IsRestOf};
+ghost use Rattle.asl_machine.specs.Step.{Step};
+ghost use Rattle.asl_machine.specs.StepFunction.{step_of};
+ghost use Rattle.asl_journal.specs.Journal.{most_events, with_event};
+
+use crate::debugger::Debugger;
+use crate::fault::StepFault;
+use asl_journal::{Journal, MAX_EVENTS};
+use asl_machine::{Machine, Paused, Reply};
+use std::alloc::Global;
+
+impl<'p> Debugger<'p> {
+    ghost use Rattle.asl_debugger.specs.Session.{recorded, state_before};
+
+    /// At the end of the journal: steps thread t, writes the step down, and is behind it.
+    ///
+    /// # Errors
+    ///
+    /// `NotAtEnd` where events follow; else `JournalFull` behind 16,777,216 events; else `BadThread` where there is no such thread;
+    /// else `OutOfMemory` where an allocation failed. Then nothing has changed.
+    pub fn step(&mut self, alloc: Global, t: u32) -> Result<Reply, StepFault>
+        ensures event { IfOk result (λ reply. self.new ≡ recorded self.old (with_event self.old.log (record { thread = t; reply = reply })) (self.old.position + 1)) }
+        ensures step { IfOk result (λ reply. Step self.old.image (state_before self.old.image self.old.log self.old.position) t reply
+            (state_before self.new.image self.new.log self.new.position)) }
+        ensures end { IsErrOf result StepFault.NotAtEnd ↔ (self.old.position ≢ length self.old.log.events) }
+        ensures full { IsErrOf result StepFault.JournalFull
+            ↔ ((self.old.position ≡ length self.old.log.events) × (length self.old.log.events ≡ most_events)) }
+        ensures stranger { IsErrOf result StepFault.BadThread
+            ↔ ((self.old.position ≡ length self.old.log.events) × (length self.old.log.events < most_events) × (self.old.log.threads ≤ t)) }
+        ensures err { OnErr result (self.new ≡ self.old) }
+    {
+        if self.position as usize != self.journal.events().len() {
+            return Err(StepFault::NotAtEnd);
+        }
+        if self.position as usize >= MAX_EVENTS {
+            return Err(StepFault::JournalFull);
+        }
+        if t >= self.journal.threads() {
+            return Err(StepFault::BadThread);
+        }
+        self.record(alloc, t)
+    }
+
+    /// Steps thread t at the end of the journal, writes the step down, and is behind it. Where a checkpoint is due there, it is made
+    /// ahead.
+    fn record(&mut self, alloc: Global, t: u32) -> Result<Reply, StepFault>
+        requires end { self.old.position ≡ length self.old.log.events }
+        requires room { length self.old.log.events < most_events }
+        requires thread { t < self.old.log.threads }
+        ensures event { IfOk result (λ reply. self.new ≡ recorded self.old (with_event self.old.log (record { thread = t; reply = reply })) (self.old.position + 1)) }
+        ensures step { IfOk result (λ reply. Step self.old.image (state_before self.old.image self.old.log self.old.position) t reply
+            (state_before self.new.image self.new.log self.new.position)) }
+        ensures memory { IfErr result (λ fault. fault ≡ StepFault.OutOfMemory) }
+        ensures err { OnErr result (self.new ≡ self.old) }
+    {
+        let next = self.position as usize + 1;
+        if next == self.checkpoints.len() * self.spacing as usize {
+            self.checkpoints.reserve(1)?;
+            let ahead = mark_ahead(alloc, &self.machine, t)?;
+            let reply = write_step(alloc, &mut self.journal, &mut self.machine, t)?;
+            self.checkpoints.push_reserved(ahead);
+            self.position += 1;
+            Ok(reply)
+        } else {
+            let reply = write_step(alloc, &mut self.journal, &mut self.machine, t)?;
+            self.position += 1;
+            Ok(reply)
+        }
+    }
+
+    /// Forgets all events after the position.
+    pub fn cut(&mut self)
+        ensures { self.new ≡ recorded self.old (record { threads = self.old.log.threads; events = take self.old.position self.old.log.events }) self.old.position }
+    {
+        let number = self.position / self.spacing;
+        self.checkpoints.truncate(number as usize + 1);
+        self.journal.cut(self.position);
+    }
+}
+
+/// What is left of a copy of the machine behind a step of thread t. Only memory can fail.
+fn mark_ahead(alloc: Global, machine: &Machine<'_>, t: u32) -> Result<Paused, StepFault>
+    requires { t < length machine.now.state.threads }
+    ensures fits { IfOk result (IsRestOf machine.now.image) }
+    ensures state { IfOk result (λ rest. rest.state ≡ (step_of machine.now.image machine.now.state t).state) }
+    ensures memory { IfErr result (λ fault. fault ≡ StepFault.OutOfMemory) }
+{
+    match machine.try_copy(alloc) {
+        Ok(mut ahead) => match ahead.step(alloc, t) {
+            Ok(_) => Ok(ahead.pause()),
+            Err(_) => Err(StepFault::OutOfMemory),
+        },
+        Err(_) => Err(StepFault::OutOfMemory),
+    }
+}
+
+/// Steps thread t of the machine, and writes the step into the journal. Only memory can fail.
+fn write_step(
+    alloc: Global,
+    journal: &mut Journal,
+    machine: &mut Machine<'_>,
+    t: u32,
+) -> Result<Reply, StepFault>
+    requires threads { length machine.old.state.threads ≡ journal.old.threads }
+    requires room { length journal.old.events < most_events }
+    requires thread { t < journal.old.threads }
+    ensures event { IfOk result (λ reply. journal.new ≡ with_event journal.old (record { thread = t; reply = reply })) }
+    ensures step { IfOk result (λ reply. Step machine.old.image machine.old.state t reply machine.new.state) }
+    ensures reply { IfOk result (λ reply. reply ≡ (step_of machine.old.image machine.old.state t).reply) }
+    ensures state { IfOk result (λ _. machine.new.state ≡ (step_of machine.old.image machine.old.state t).state) }
+    ensures image { machine.new.image ≡ machine.old.image }
+    ensures memory { IfErr result (λ fault. fault ≡ StepFault.OutOfMemory) }
+    ensures err { OnErr result (journal.new ≡ journal.old) }
+    ensures err_machine { OnErr result (machine.new ≡ machine.old) }
+{
+    match journal.step(alloc, machine, t) {
+        Ok(reply) => Ok(reply),
+        Err(_) => Err(StepFault::OutOfMemory),
+    }
+}

@@ -1,0 +1,6 @@
+mod AsBox
+mod Lines
+mod Owners
+mod Sends
+mod Statuses
+mod Tellings

@@ -1,0 +1,57 @@
+//! Calls on a session in its place, which it leaves while it works.
+ghost use Rattle.std.specs.Prelude.{◌≡◌, ◌≢◌, length, IfOk, string_bytes};
+ghost use Rattle.asl_session.specs.Pages.{text_of};
+ghost use Rattle.asl_session.specs.Status.{IsCut, IsGone, IsStepped};
+
+use crate::pages::Page;
+use crate::session::Session;
+use crate::status::{move_status, step_status};
+use crate::telling::Place;
+use core::mem::replace_with;
+use std::alloc::{AllocError, Global};
+
+/// Steps the thread at the end of the journal.
+pub fn step(alloc: Global, session: &mut Session, t: u32) -> u32
+    ensures stepped { IsStepped session.old t result session.new }
+    ensures other { result ≢ 3 }
+{
+    let answer = replace_with(session, (alloc, t), Session::step);
+    step_status(answer)
+}
+
+/// Goes to the position.
+pub fn go(alloc: Global, session: &mut Session, k: u32) -> u32
+    ensures gone { IsGone session.old k result session.new }
+    ensures other { result ≢ 3 }
+{
+    let answer = replace_with(session, (alloc, k), Session::go);
+    move_status(answer)
+}
+
+/// Goes to the position, and forgets the events behind it.
+pub fn cut(alloc: Global, session: &mut Session, k: u32) -> u32
+    ensures cut { IsCut session.old k result session.new }
+    ensures other { result ≢ 3 }
+{
+    let answer = replace_with(session, (alloc, k), Session::cut);
+    move_status(answer)
+}
+
+/// The page of the machine that is shown.
+pub fn tell(alloc: Global, session: &mut Session, page: Page) -> Result<String, AllocError>
+    ensures same { session.new ≡ session.old }
+    ensures text { IfOk result (λ text. string_bytes text ≡ text_of page session.old) }
+{
+    replace_with(session, (alloc, page), Session::tell)
+}
+
+/// Where the session is.
+pub fn place(session: &Session) -> Place
+    ensures position { result.position ≡ session.now.position }
+    ensures events { result.events ≡ length session.now.log.events }
+{
+    Place {
+        position: session.position(),
+        events: session.journal().events().len() as u32,
+    }
+}

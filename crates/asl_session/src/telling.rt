@@ -1,0 +1,32 @@
+//! What calls hand back to C: places and texts.
+ghost use Rattle.std.specs.Prelude.{◌≡◌, ◌≢◌, length, IfOk, OnErr, is_ok, if◌then◌else◌, string_bytes};
+ghost use Rattle.asl_session.specs.Buffer.{Holds};
+
+use crate::buffer::put;
+use crate::status::{DONE, NO_MEMORY};
+use std::alloc::AllocError;
+
+/// Where a session is: how many events lead to the machine that is shown, and how many the journal has.
+#[derive(Clone, Copy, Drop)]
+#[repr(C)]
+pub struct Place {
+    pub position: u32,
+    pub events: u32,
+}
+
+/// Puts the text into the buffer as far as there is room, and its whole length beside it.
+pub fn put_text(text: Result<String, AllocError>, buffer: &mut [u8], whole: &mut usize) -> u32
+    ensures told { result ≡ (if is_ok text then 0 else 2) }
+    ensures other { result ≢ 3 }
+    ensures text { IfOk text (λ text. Holds (string_bytes text) buffer.old buffer.new × (whole.new ≡ length (string_bytes text))) }
+    ensures unwritten { OnErr text ((buffer.new ≡ buffer.old) × (whole.new ≡ whole.old)) }
+{
+    match text {
+        Ok(text) => {
+            put(text.as_bytes(), buffer);
+            *whole = text.len();
+            DONE
+        }
+        Err(_) => NO_MEMORY,
+    }
+}
