@@ -3,7 +3,7 @@ use asl_lock_expr::{Writes, writes};
 use asl_lower::{LowerFault, Lowering, lower};
 use asl_points_to::{Classes, ClassesFault, classes};
 use asl_refusals::answered;
-use asl_syntax::{Ast, SyntaxFault, parse};
+use asl_syntax::{Ast, Name, SyntaxFault, parse};
 use std::alloc::{AllocError, Global};
 
 fn parsed(alloc: Global, source: &[u8]) -> Result<Ast, SyntaxFault> {
@@ -73,6 +73,33 @@ fn analysed(alloc: Global, source: &[u8]) -> Option<(Told, [bool; 4])> {
         writes.has(1, 1),
     ];
     Some((told(&classes), has))
+}
+
+/// A name twice, an unknown name, a call with too few arguments, and no `main`.
+static WRONG: [&[u8]; 4] = [
+    b"global g; fn main(t) { x = &g; return t; } global g;",
+    b"global g; fn main(t) { x = &g; y = z; return t; }",
+    b"fn f(a, b) { return a; } fn main(t) { x = f(t); return t; }",
+    b"global g; fn main(t, u) { x = &g; return t; }",
+];
+
+/// The fault of a source, judged once: refused memory hides none.
+fn fault(alloc: Global, number: usize) -> Option<SyntaxFault> {
+    if number < 4 {
+        parse(alloc, WRONG[number]).err()
+    } else {
+        None
+    }
+}
+
+#[test]
+fn refused_memory_hides_no_fault_of_names(rt: HostRuntime) {
+    let twice = SyntaxFault::Twice(Name::from_slice(b"g"));
+    assert!(rt; fault(rt.alloc(), 0) == Some(twice));
+    let unknown = SyntaxFault::Unknown(Name::from_slice(b"z"));
+    assert!(rt; fault(rt.alloc(), 1) == Some(unknown));
+    assert!(rt; fault(rt.alloc(), 2) == Some(SyntaxFault::Arity(42)));
+    assert!(rt; fault(rt.alloc(), 3) == Some(SyntaxFault::NoMain));
 }
 
 #[test]

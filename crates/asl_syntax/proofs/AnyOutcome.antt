@@ -9,8 +9,8 @@ use Rattle.asl_syntax.specs.Tree.{Item}
 use Rattle.asl_syntax.specs.Spelled.{item_meaning}
 use Rattle.asl_syntax.specs.Limit.{first_limit}
 use Rattle.asl_syntax.specs.Rules.{twice, unknown, wrong_call, has_main}
-use Rattle.asl_syntax.specs.Parsed.{first_wide, IsLexed, IsSpelled}
-use Rattle.asl_syntax.specs.Outcome.{HasTree, HasFault}
+use Rattle.asl_syntax.specs.Parsed.{first_wide, IsLexed, IsSpelled, HasTree}
+use Rattle.asl_syntax.specs.Outcome.{HasFault}
 
 abbrev HasOutcome : List ℕ → Type 0
 HasOutcome text = HasTree text ⊎ HasFault text

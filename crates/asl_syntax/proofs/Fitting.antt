@@ -53,7 +53,7 @@ ControlFits (Returned x) last = NameFits x
 ControlFits (BodyEnd x) last = NameFits x
 
 -- a name is short enough, and a number in the range that the last token asks for
-abbrev TokenFits : Option Token → Token → Type 0
+abbrev pub TokenFits : Option Token → Token → Type 0
 TokenFits last (Fixed m) = Unit {0}
 TokenFits last (Name x) = NameFits x
 TokenFits last (Number n) = number_over last n ≡ false
@@ -149,7 +149,7 @@ settled_fits : (c : Control) (t : Token) (last : Option Token) → ControlFits c
 settled_fits AfterThen t last f = settled_by_fits t last
 settled_fits _ t last f = f
 
-token_fits : (y : Tally) (t : Token) → is_over y t ≡ false → TokenFits y.last t
+pub token_fits : (y : Tally) (t : Token) → is_over y t ≡ false → TokenFits y.last t
 token_fits y (Fixed m) h = tt
 token_fits y (Name x) h = ltb-false 64 (length x) (or_parts _ _ h).0
 token_fits y (Number n) h = h

@@ -17,6 +17,7 @@ pub mod Named
 pub mod Within
 pub mod Printing
 pub mod Mentioned
+pub mod Heard
 pub mod ReadBack
 pub mod Outcomes
 pub mod Few
@@ -30,3 +31,7 @@ pub mod First
 pub mod FirstUnknown
 pub mod FirstWrongCall
 pub mod FirstTwice
+pub mod Scanned
+pub mod Agreed
+pub mod Short
+pub mod Placed

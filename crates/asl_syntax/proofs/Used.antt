@@ -1,5 +1,5 @@
 -- A program declares each name that it uses exactly where no name is found unknown.
-use Rattle.std.proofs.Common.{◌≡◌, ◌⊎◌, inl, inr, ℕ, List, [], ◌∷◌, ◌++◌, map, Bool, true, false, ◌||◌, Option, Some, None, if◌then◌else◌, bytes_eq, refl, sym, ap, subst, ◌∙◌, ◌↔◌}
+use Rattle.std.proofs.Common.{◌≡◌, ◌⊎◌, inl, inr, ℕ, List, [], ◌∷◌, ◌++◌, map, Bool, true, false, Option, Some, None, if◌then◌else◌, bytes_eq, refl, sym, ap, subst, ◌∙◌, ◌↔◌}
 use Rattle.std.specs.List.{AllByRecursion, Contains}
 use Rattle.std.proofs.lemmas.Bool.{false≢true, or_cases, or_left, or_right}
 use Rattle.std.proofs.lemmas.List.Elements.{All-from_recursion, recursion_from_All}
@@ -77,7 +77,7 @@ declared sp (n ∷ ms) m x (inr there) e = more_declared (declared_in sp n) (nam
 -- ---- what a function mentions
 
 -- a body declares neither globals, nor functions, nor parameters
-abbrev Inside : Mention → Type 0
+abbrev pub Inside : Mention → Type 0
 Inside (DeclaresGlobal x) = ⊥
 Inside (DeclaresFunction x) = ⊥
 Inside (DeclaresParameter x) = ⊥
@@ -98,7 +98,7 @@ value_inside (LoadValue x) = (tt, tt)
 value_inside (NewValue n) = tt
 value_inside (CallValue f args) = (tt, uses_inside args)
 
-both_inside : (ms ns : List Mention) → AllByRecursion Inside ms → AllByRecursion Inside ns → AllByRecursion Inside (ms ++ ns)
+pub both_inside : (ms ns : List Mention) → AllByRecursion Inside ms → AllByRecursion Inside ns → AllByRecursion Inside (ms ++ ns)
 both_inside [] ns h k = k
 both_inside (m ∷ ms) ns h k = (h.0, both_inside ms ns h.1 k)
 
@@ -112,7 +112,7 @@ mutual
   statement_inside (WhileStatement x a) = (tt, block_inside a)
   statement_inside (AtomicStatement a) = block_inside a
 
-  block_inside : (b : Block) → AllByRecursion Inside (block_mentions b)
+  pub block_inside : (b : Block) → AllByRecursion Inside (block_mentions b)
   block_inside NoMore = tt
   block_inside (Then s b) = both_inside (statement_mentions s) (block_mentions b) (statement_inside s) (block_inside b)
 
@@ -276,7 +276,7 @@ of_item (FunctionItem f ∷ is) m h =
       ]
     ]
 
-in_program : (is : List Item) (f : Function) (m : Mention) → Among (functions_of is) f → Among (function_mentions f) m → Among (mentions is) m
+pub in_program : (is : List Item) (f : Function) (m : Mention) → Among (functions_of is) f → Among (function_mentions f) m → Among (mentions is) m
 in_program [] f m a h = absurd a
 in_program (GlobalItem x ∷ is) f m a h = inr (in_program is f m a h)
 in_program (FunctionItem g ∷ is) f m (inl same) h =

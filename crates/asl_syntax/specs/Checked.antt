@@ -1,4 +1,4 @@
--- A text that no refusal of docs/SOURCE.md up to `Limit` applies to: only its names may still break a rule.
+-- Machinery of the proofs, not of the promise: a text that no refusal of docs/SOURCE.md up to `Limit` applies to: only its names may still break a rule.
 use Rattle.std.specs.Prelude.{◌≡◌, ℕ, List, None}
 use Rattle.asl_grammar.specs.Lex.{tokens_of}
 use Rattle.asl_grammar.specs.Grammar.{IsProgram, bare}

@@ -9,8 +9,7 @@ use Rattle.asl_syntax.specs.declared.fault.SyntaxFault.TheVariants as fault
 use Rattle.asl_syntax.specs.Tree.{Item}
 use Rattle.asl_syntax.specs.Limit.{first_limit}
 use Rattle.asl_syntax.specs.Rules.{twice, unknown, wrong_call, has_main}
-use Rattle.asl_syntax.specs.Parsed.{first_wide, IsLexed, IsSpelled}
-use Rattle.asl_syntax.specs.Checked.{IsWritten}
+use Rattle.asl_syntax.specs.Parsed.{first_wide, IsLexed, IsSpelled, HasTree}
 
 -- the first byte that is not ASCII
 abbrev pub IsWide : List ℕ → ℕ → Type 0
@@ -62,12 +61,11 @@ pub record IsWithoutMain (text : List ℕ) : Type 0 where
   pub arity : wrong_call tree (tokens_of text) ≡ None
   pub none : has_main tree ≡ false
 
--- running out of memory hides no byte, token, line or limit: the text is a program within the limits, of which names alone are
--- left to judge. Only after the beginning of a program that has more than 64 braces open does it take memory to tell
--- whether the text is one
+-- running out of memory hides no fault of a program: the text has none. Only after the beginning of a program that has more
+-- than 64 braces open does it take memory to tell whether the text is one
 pub record IsOutOfMemory (text : List ℕ) : Type 0 where
   pub lexed : IsLexed text
-  pub hidden : IsWritten text ⊎ IsDeep (tokens_of text)
+  pub hidden : HasTree text ⊎ IsDeep (tokens_of text)
 
 -- the fault that a text has
 abbrev pub IsFault : List ℕ → code.SyntaxFault → Type 0

@@ -30,6 +30,11 @@ pub record Parses (text : List ℕ) (tree : List Item) : Type 0 where
   pub arity : wrong_call tree (tokens_of text) ≡ None
   pub main : IsTrue (has_main tree)
 
+-- the text spells some tree and breaks no rule
+pub record HasTree (text : List ℕ) : Type 0 where
+  pub tree : List Item
+  pub parses : Parses text tree
+
 -- some text spells the tree and breaks no rule
 pub record IsParsed (tree : List Item) : Type 0 where
   pub text : List ℕ

@@ -3,7 +3,7 @@
 use Rattle.std.specs.Prelude.{ℕ, List, [], ◌∷◌, Bool, false, Option, Some, None, if◌then◌else◌, ◌==◌, ◌||◌, ◌&&◌, not, bytes_eq, codes, length}
 use Rattle.asl_grammar.specs.Token.{Token, Name, Spot}
 use Rattle.asl_syntax.specs.declared.names.Space.{Space}
-use Rattle.asl_syntax.specs.declared.names.Space.TheVariants.{Globals, Functions, Locals}
+use Rattle.asl_syntax.specs.declared.names.Space.TheVariants.{Globals, Functions, Locals, Parameters}
 use Rattle.asl_syntax.specs.Tree.{Item, GlobalItem, FunctionItem}
 use Rattle.asl_syntax.specs.Mentions.{Mention, DeclaresGlobal, DeclaresFunction, DeclaresParameter, AssignsLocal, UsesLocal, UsesGlobal, CallsFunction, function_mentions, mentions}
 
@@ -40,6 +40,7 @@ declared_in Globals (DeclaresGlobal x) = Some x
 declared_in Functions (DeclaresFunction x) = Some x
 declared_in Locals (DeclaresParameter x) = Some x
 declared_in Locals (AssignsLocal x) = Some x
+declared_in Parameters (DeclaresParameter x) = Some x
 declared_in _ _ = None
 
 -- the known names, and one more if it is declared

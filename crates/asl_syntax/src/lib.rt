@@ -12,7 +12,9 @@ mod names;
 mod numbered_names;
 mod parser;
 mod printer;
+mod scan;
 pub mod tree;
+mod words;
 
 pub use ast::Ast;
 pub use fault::SyntaxFault;

@@ -26,6 +26,8 @@ pub enum Space {
     Globals,
     Functions,
     Locals,
+    /// The parameters of one function, without its other locals.
+    Parameters,
 }
 
 /// The first name that is declared a second time: of globals, of functions, or of the parameters of one function.
@@ -71,6 +73,7 @@ fn declared_in(space: Space, mention: Mention<'_>) -> Option<&Name>
         (Space::Functions, Mention::Function(x)) => Some(x),
         (Space::Locals, Mention::Parameter(x)) => Some(x),
         (Space::Locals, Mention::Assigned(x)) => Some(x),
+        (Space::Parameters, Mention::Parameter(x)) => Some(x),
         _ => None,
     }
 }
@@ -187,7 +190,7 @@ fn is_wrong_call(counts: &NumberedNames<'_>, mention: Mention<'_>) -> bool
 }
 
 /// The place of the next name token.
-fn next_name(tokens: &mut Tokens<'_>) -> Option<usize>
+pub fn next_name(tokens: &mut Tokens<'_>) -> Option<usize>
     ensures { name_places (spots_left tokens.old) ≡ places_with result (name_places (spots_left tokens.new)) }
 {
     'reading: while let Found::Token(spot) = tokens.next() {

@@ -1,11 +1,11 @@
 //! From a text to its tree, or to its first fault.
 
-ghost use Rattle.std.specs.Prelude.{◌≡◌, [], IfOk, IfErr, OnOk, map};
+ghost use Rattle.std.specs.Prelude.{◌≡◌, [], IfOk, IfErr, OnOk, MatchOption, map};
 ghost use Rattle.asl_grammar.specs.Lex.{tokens_of};
 ghost use Rattle.asl_syntax.specs.View.{items_of, item_of};
 ghost use Rattle.asl_syntax.specs.AstView.{tree_of};
 ghost use Rattle.asl_syntax.specs.Limit.{limit_from};
-ghost use Rattle.asl_syntax.specs.Parsed.{IsLexed, IsSpelled, Parses};
+ghost use Rattle.asl_syntax.specs.Parsed.{IsLexed, IsSpelled, Parses, HasTree};
 ghost use Rattle.asl_syntax.specs.Fault.{IsFault};
 ghost use Rattle.asl_syntax.specs.Checked.{IsWritten};
 
@@ -14,11 +14,13 @@ use crate::build::build;
 use crate::fault::SyntaxFault;
 use crate::limit::{Extent, first_limit, first_wide, reach};
 use crate::mentions::mentions;
+use crate::name::Name;
 use crate::names::{first_twice, has_main, parameter_counts, unknown, wrong_call};
+use crate::scan;
 use crate::tree::Item;
 use asl_grammar::lexer::first_bad;
 use asl_grammar::recognizer::first_fault;
-use std::alloc::Global;
+use std::alloc::{AllocError, Global};
 
 /// Whether the text is blanks and tokens throughout; if so, the place of the first token that goes past a limit.
 fn check_tokens(text: &[u8]) -> Result<Option<usize>, SyntaxFault>
@@ -54,6 +56,53 @@ fn check_text(alloc: Global, text: &[u8]) -> Result<(), SyntaxFault>
     Ok(())
 }
 
+/// The first fault of a program's names, judged by maps.
+fn find_by_maps(
+    alloc: Global,
+    items: &[Item],
+    text: &[u8],
+) -> Result<Option<SyntaxFault>, AllocError>
+    requires { IsSpelled text.now (map item_of items.now) }
+    ensures { IfOk result (λ found. MatchOption found (Parses text.now (map item_of items.now)) (IsFault text.now)) }
+{
+    let mentions = mentions(alloc, items)?;
+    if let Some(name) = first_twice(alloc, &mentions)? {
+        return Ok(Some(SyntaxFault::Twice(name)));
+    }
+    if let Some(name) = unknown(alloc, items, &mentions)? {
+        return Ok(Some(SyntaxFault::Unknown(name)));
+    }
+    let counts = parameter_counts(alloc, items)?;
+    if let Some(at) = wrong_call(&counts, &mentions, text) {
+        return Ok(Some(SyntaxFault::Arity(at)));
+    }
+    if !has_main(items) {
+        return Ok(Some(SyntaxFault::NoMain));
+    }
+    Ok(None)
+}
+
+/// The same of a text, judged over its tokens with no memory: in the square of the time.
+#[tactic(auto, using(crate::proofs::Placed::twice_short, crate::proofs::Placed::twice_fault, crate::proofs::Placed::unknown_short, crate::proofs::Placed::unknown_fault, crate::proofs::Placed::arity_fault, crate::proofs::Placed::main_fault, crate::proofs::Placed::no_fault_found))]
+fn find_in_place(text: &[u8]) -> Option<SyntaxFault>
+    requires { IsWritten text.now }
+    ensures { MatchOption result (HasTree text.now) (IsFault text.now) }
+{
+    if let Some(name) = scan::first_twice(text) {
+        return Some(SyntaxFault::Twice(Name::from_slice(name)));
+    }
+    if let Some(name) = scan::unknown(text) {
+        return Some(SyntaxFault::Unknown(Name::from_slice(name)));
+    }
+    if let Some(at) = scan::wrong_call(text) {
+        return Some(SyntaxFault::Arity(at));
+    }
+    if !scan::has_main(text) {
+        return Some(SyntaxFault::NoMain);
+    }
+    None
+}
+
 /// The items of a program within the limits, which is read once. Any other text, and one for which memory ran out, is judged
 /// fault by fault; if there is no fault, memory was all that was wanting.
 fn make_items(alloc: Global, text: &[u8]) -> Result<Vec<Item>, SyntaxFault>
@@ -64,30 +113,22 @@ fn make_items(alloc: Global, text: &[u8]) -> Result<Vec<Item>, SyntaxFault>
         return Ok(items);
     }
     check_text(alloc, text)?;
-    Err(SyntaxFault::OutOfMemory)
+    match find_in_place(text) {
+        Some(fault) => Err(fault),
+        None => Err(SyntaxFault::OutOfMemory),
+    }
 }
 
-/// Whether the names of a program break no rule.
-fn check_names(alloc: Global, items: &[Item], text: &[u8]) -> Result<(), SyntaxFault>
+/// The first fault of a program's names. Where memory for maps is refused, they are judged without.
+#[tactic(auto, using(crate::proofs::Placed::written_by, crate::proofs::Placed::of_tree))]
+fn find_fault(alloc: Global, items: &[Item], text: &[u8]) -> Option<SyntaxFault>
     requires { IsSpelled text.now (map item_of items.now) }
-    ensures ok { OnOk result (Parses text.now (map item_of items.now)) }
-    ensures err { IfErr result (IsFault text.now) }
+    ensures { MatchOption result (Parses text.now (map item_of items.now)) (IsFault text.now) }
 {
-    let mentions = mentions(alloc, items)?;
-    if let Some(name) = first_twice(alloc, &mentions)? {
-        return Err(SyntaxFault::Twice(name));
+    match find_by_maps(alloc, items, text) {
+        Ok(found) => found,
+        Err(_) => find_in_place(text),
     }
-    if let Some(name) = unknown(alloc, items, &mentions)? {
-        return Err(SyntaxFault::Unknown(name));
-    }
-    let counts = parameter_counts(alloc, items)?;
-    if let Some(at) = wrong_call(&counts, &mentions, text) {
-        return Err(SyntaxFault::Arity(at));
-    }
-    if !has_main(items) {
-        return Err(SyntaxFault::NoMain);
-    }
-    Ok(())
 }
 
 /// The tree that a text spells, or the first fault of the text. Each kind of fault is judged over the whole text before
@@ -95,13 +136,15 @@ fn check_names(alloc: Global, items: &[Item], text: &[u8]) -> Result<(), SyntaxF
 ///
 /// # Errors
 ///
-/// The first fault; `OutOfMemory` where an allocation failed, and then only for a program within the limits or a text with
-/// more than 64 braces open at once.
+/// The first fault; `OutOfMemory` where an allocation failed that the tree needs, and then only for a text that has no fault,
+/// or one with more than 64 braces open at once.
 pub fn parse(alloc: Global, text: &[u8]) -> Result<Ast, SyntaxFault>
     ensures ok { IfOk result (λ a. Parses text.now (tree_of a)) }
     ensures err { IfErr result (IsFault text.now) }
 {
     let items = make_items(alloc, text)?;
-    check_names(alloc, &items, text)?;
-    Ok(Ast::new(items))
+    match find_fault(alloc, &items, text) {
+        Some(fault) => Err(fault),
+        None => Ok(Ast::new(items)),
+    }
 }
