@@ -18,6 +18,8 @@ use Rattle.asl_explain.specs.declared.value.Lists.TheVariants.{Inferred, TooMany
 use Rattle.asl_explain.specs.declared.value.Explanation.{Explanation}
 use Rattle.asl_explain.specs.Chains.{Read}
 use Rattle.asl_explain.specs.Explained.{AreExplained, AreListsAt, IsExplained, IsExplanation}
+use Rattle.asl_explain.specs.Told.{IsText}
+use Rattle.asl_explain.specs.Telling.{IsTextOf}
 use Rattle.asl_explain.specs.Analysed.{read, AreSections, AreFittedAt, IsMade, IsOfSource}
 
 -- the image of a lowering with these lists
@@ -105,6 +107,7 @@ module _ (source : List ℕ) (k : ℕ) (a : Analysis) (of : IsOfSource source k 
       inferred = with_lists a.lowering a.classes (stores a.writes) a.longest a.flow made.lists of.analysed.tells made.fitted;
     };
     sections = explained_lists (read a) made.lists e.sections made.fitted.count made.sections (image_with a.lowering a.classes made.lists) refl;
+    ended = made.ended;
     by_length = record { count = made.count; each = λ longest l at. lists_at longest l (made.each longest l at) };
   }
 
@@ -115,3 +118,6 @@ module _ (source : List ℕ) (k : ℕ) (a : Analysis) (of : IsOfSource source k 
     accepted = of.accepted;
     explained = subst (λ n. IsExplained of.tree n e) of.same (made_at e made);
   }
+
+  pub made_text : (text : List ℕ) → IsTextOf a text → IsText source k text
+  made_text text t = record { explanation = t.explanation; explains = made_explained t.explanation t.made; tells = t.tells }

@@ -3,4 +3,6 @@ mod Under
 mod Confirming
 mod Analysing
 mod Needing
+mod Dropping
 mod Explaining
+mod Pieces

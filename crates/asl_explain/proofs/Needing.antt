@@ -1,16 +1,19 @@
--- Needs of a section with one more.
+-- Needs of a section with one more, and the lists of the length that an analysis has.
 use Rattle.std.proofs.Common.{◌≡◌, ◌↔◌, ◌+◌, ◌<◌, ⊎_elim, ℕ, zero, suc, List, [], ◌∷◌, ◌++◌, length, map, take, get_or, Some, slice_get, inl, inr, sym, ap, ◌∙◌, subst, arith}
 use Rattle.asl_code.specs.declared.lock.Lock.{Lock}
 use Rattle.asl_lower.specs.declared.section.Section.{Section}
-use Rattle.asl_lower.specs.Regions.{Inside}
 use Rattle.asl_lock_expr.specs.Links.{IsOne}
 use Rattle.asl_emitter.proofs.Reducing.{one_of_more, more_of_one}
 use Rattle.asl_explain.specs.declared.value.Need.{Need}
 use Rattle.asl_explain.specs.declared.value.Chain.{Chain}
 use Rattle.asl_explain.specs.declared.value.Listed.{Listed}
-use Rattle.asl_explain.specs.Chains.{Read, Needs, IsChain}
-use Rattle.asl_explain.specs.Explained.{AreChains, AreNeeds, IsOneOf, IsListed}
-use Rattle.asl_explain.specs.Analysed.{AreListed, AreSections}
+use Rattle.asl_explain.specs.Chains.{Read, IsChain}
+use Rattle.asl_explain.specs.Explained.{AreChains, IsNeed, AreNeeds, IsOneOf, IsListed}
+use Rattle.asl_backward_flow.specs.Flows.{IsFlow}
+use Rattle.asl_emitter.specs.Parts.{AreFitted}
+use Rattle.asl_explain.specs.declared.analysis.Analysis.{Analysis}
+use Rattle.asl_explain.specs.declared.value.Lists.TheVariants.{Inferred}
+use Rattle.asl_explain.specs.Analysed.{IsAnalysed, AreListed, AreSections, AreFittedAt}
 use Rattle.asl_explain.proofs.Ends.{get_more, at_old, at_end, length_more, all_more, map_more}
 
 -- one chain more
@@ -19,10 +22,8 @@ chains_more x section lock old new c is all one =
     subst (AreChains x section lock) (sym is) (all_more (λ (d : Chain). IsChain x section lock d.steps) old c all one)
 
 -- one need more
-pub needs_more : (x : Read) (section : ℕ) (s : Section) (old new : List Need) (d : Need) → new ≡ old ++ d ∷ [] → AreNeeds x section s old → Needs x (Inside section) (suc s.acquire) d.lock → AreChains x section d.lock d.chains
-    → AreNeeds x section s new
-needs_more x section s old new d is all needed chains =
-    subst (AreNeeds x section s) (sym is) (all_more (λ (e : Need). Needs x (Inside section) (suc s.acquire) e.lock × AreChains x section e.lock e.chains) old d all (needed, chains))
+pub needs_more : (x : Read) (section : ℕ) (s : Section) (old new : List Need) (d : Need) → new ≡ old ++ d ∷ [] → AreNeeds x section s old → IsNeed x section s d → AreNeeds x section s new
+needs_more x section s old new d is all one = subst (AreNeeds x section s) (sym is) (all_more (IsNeed x section s) old d all one)
 
 pub ones_more : (old new : List Need) (d : Need) → new ≡ old ++ d ∷ [] → (locks : List Lock) (i : ℕ) (e : Lock) → i < length locks → d.lock ≡ get_or locks i e → ((n : Lock) → IsOneOf old n ↔ IsOne (take i locks) n)
     → (n : Lock) → IsOneOf new n ↔ IsOne (take (i + 1) locks) n
@@ -82,3 +83,8 @@ sections_more x lists n s list old new ls is stands at all one = record {
         (subst (λ (u : Section). AreListed x n u ms ds) here
         (subst (λ (xs : List Lock). AreListed x n s xs ds) there
         (subst (λ (xs : List Listed). AreListed x n s list xs) same one)))
+
+-- the lists that are fitted to the flow of an analysis are those of its length
+pub fitted_own : (a : Analysis) → IsAnalysed a → (longest : ℕ) (lists : List (List Lock)) → longest ≡ a.longest → AreFitted a.lowering a.classes a.flow (length a.lowering.sections) lists
+    → AreFittedAt a.lowering a.classes longest (Inferred lists)
+fitted_own a known longest lists same fitted = (a.flow, subst (λ n. IsFlow a.lowering a.classes n a.flow) (sym same) known.flow, fitted)

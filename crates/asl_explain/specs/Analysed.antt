@@ -1,5 +1,6 @@
 -- Machinery of the proofs, not of the promise: what is known of an analysis (src/analysis.rt).
-use Rattle.std.specs.Prelude.{◌≡◌, ◌≤◌, ℕ, List, length, map, Some, slice_get}
+use Rattle.std.specs.Prelude.{◌≡◌, ◌↔◌, ◌<◌, ◌≤◌, ◌⊎◌, ℕ, List, length, map, Some, IfSome, slice_get}
+use Rattle.asl_code.specs.declared.instr.Instr.TheVariants.{New}
 use Rattle.asl_code.specs.declared.lock.Lock.{Lock}
 use Rattle.asl_lower.specs.declared.section.Section.{Section}
 use Rattle.asl_syntax.specs.Tree.{Item}
@@ -7,6 +8,8 @@ use Rattle.asl_syntax.specs.Parsed.{Parses}
 use Rattle.asl_lower.specs.Lowered.{Lowered, IsLowering}
 use Rattle.asl_points_to.specs.Classes.{Classed, AreClasses}
 use Rattle.asl_emitter.specs.Refused.{IsAccepted}
+use Rattle.asl_lock_expr.specs.Links.{IsOne}
+use Rattle.asl_lock_expr.specs.Order.{AreInOrder}
 use Rattle.asl_lock_expr.specs.Stores.{stores}
 use Rattle.asl_lock_expr.specs.ClassOf.{TellsStores}
 use Rattle.asl_backward_flow.specs.Needed.{TellsNeeded, region_of}
@@ -15,21 +18,23 @@ use Rattle.asl_backward_flow.specs.Needed.{Part}
 use Rattle.asl_backward_flow.specs.Flows.{IsFlow, IsOverfull}
 use Rattle.asl_emitter.specs.Parts.{AreFitted}
 use Rattle.asl_explain.specs.declared.value.Listed.{Listed}
+use Rattle.asl_explain.specs.declared.value.Ended.{Ended}
 use Rattle.asl_explain.specs.declared.value.Lists.{Lists}
 use Rattle.asl_explain.specs.declared.value.Lists.TheVariants.{Inferred, TooManyLocks}
 use Rattle.asl_explain.specs.declared.value.Explanation.{Explanation}
 use Rattle.asl_explain.specs.Chains.{Read}
-use Rattle.asl_explain.specs.Explained.{IsListed}
+use Rattle.asl_explain.specs.Explained.{IsListed, IsEnding, AreEnded, AreAllEnded}
 
 -- what the needs of an analysis are read against
 abbrev pub read : Analysis → Read
 read a = record { lowered = a.lowering; classes = a.classes; stores = stores a.writes; longest = a.longest }
 
--- its flow tells what is needed, and its sets tell where functions store to
+-- its flow tells what is needed, and is that of its length; its sets tell where functions store to
 pub record IsAnalysed (a : Analysis) : Type 0 where
   pub short : a.longest ≤ 8
   pub written : TellsStores a.lowering a.classes (stores a.writes)
   pub tells : TellsNeeded a.lowering a.classes (stores a.writes) a.longest a.flow
+  pub flow : IsFlow a.lowering a.classes a.longest a.flow
 
 -- the locks of a section's list, in their order, with what each stands over
 pub record AreListed (x : Read) (section : ℕ) (is : Section) (list : List Lock) (ls : List Listed) : Type 0 where
@@ -42,6 +47,29 @@ pub record AreSections (x : Read) (lists : List (List Lock)) (so_many : ℕ) (se
   pub each : (n : ℕ) (is : Section) (list : List Lock) (ls : List Listed) → slice_get x.lowered.sections n ≡ Some is → slice_get lists n ≡ Some list →
       slice_get sections n ≡ Some ls → AreListed x n is list ls
 
+-- the locks that end in the first sections, so many of them
+pub record AreEndedBelow (x : Read) (so_many : ℕ) (sections : List (List Ended)) : Type 0 where
+  pub count : length sections ≡ so_many
+  pub each : (section : ℕ) (ended : List Ended) → slice_get sections section ≡ Some ended → AreEnded x section ended
+
+-- these locks; and where one is told to end, it ends there
+pub record AreEndedOf (x : Read) (section : ℕ) (locks : List Lock) (ended : List Ended) : Type 0 where
+  pub same : map (λ (e : Ended). e.lock) ended ≡ locks
+  pub told : (n : ℕ) (e : Ended) → slice_get ended n ≡ Some e → IfSome e.ending (IsEnding x section e.lock)
+
+-- a `new` inside the section sets the register at the pc
+pub record IsMadeAt (x : Read) (s : Section) (pc register : ℕ) : Type 0 where
+  pub behind : s.acquire < pc
+  pub ahead : pc < s.release
+  pub cells : ℕ
+  pub site : ℕ
+  pub stands : slice_get x.lowered.code pc ≡ Some (New register cells site)
+
+-- the new locks are the old ones and those of which it holds, in order
+pub record HasAdded (Holds : Lock → Type 0) (old new : List Lock) : Type 0 where
+  pub order : AreInOrder new
+  pub ones : (lock : Lock) → IsOne new lock ↔ (IsOne old lock ⊎ Holds lock)
+
 -- the lists are fitted to a flow with paths of at most so many operations, or a region needs too many locks
 abbrev pub AreFittedAt : Lowered → Classed → ℕ → Lists → Type 0
 AreFittedAt l c longest (Inferred lists) = (parts : List Part) × IsFlow l c longest parts × AreFitted l c parts (length l.sections) lists
@@ -52,6 +80,7 @@ pub record IsMade (a : Analysis) (e : Explanation) : Type 0 where
   pub lists : List (List Lock)
   pub fitted : AreFitted a.lowering a.classes a.flow (length a.lowering.sections) lists
   pub sections : AreSections (read a) lists (length a.lowering.sections) e.sections
+  pub ended : AreAllEnded (read a) e.ended
   pub count : length e.by_length ≡ 9
   pub each : (longest : ℕ) (l : Lists) → slice_get e.by_length longest ≡ Some l → AreFittedAt a.lowering a.classes longest l
 

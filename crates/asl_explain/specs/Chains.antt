@@ -1,9 +1,11 @@
 -- How what a load or a store needs comes back to the start of a section, step by step (docs/ANALYSIS.md, "Needed locks").
-use Rattle.std.specs.Prelude.{◌≡◌, ℕ, suc, Bool, List, length, Some, slice_get}
+use Rattle.std.specs.Prelude.{◌≡◌, ℕ, suc, Bool, List, [], length, Some, slice_get}
 use Rattle.asl_code.specs.declared.image.Function as entry
 use Rattle.asl_code.specs.declared.instr.Instr.{Instr}
 use Rattle.asl_code.specs.declared.instr.Instr.TheVariants as instr
+use Rattle.asl_code.specs.declared.lock.Base.TheVariants.{Reg}
 use Rattle.asl_code.specs.declared.lock.Lock.{Lock}
+use Rattle.asl_code.specs.declared.lock.Lock.TheVariants.{Root, Class, Expr}
 use Rattle.asl_lower.specs.Lowered.{Lowered}
 use Rattle.asl_lower.specs.Region.{GoesOn, start_of}
 use Rattle.asl_lower.specs.Regions.{Region, Body, Inside, IsIn}
@@ -95,7 +97,25 @@ pub record EndsAt (section : ℕ) (lock : Lock) (steps : List Step) : Type 0 whe
   pub region : region_of step.region ≡ Inside section
   pub holds : step.lock ≡ lock
 
--- the steps are a chain from an access to a lock that the section needs at its start
+-- the steps are a chain from an access to a lock of the section
 pub record IsChain (x : Read) (section : ℕ) (lock : Lock) (steps : List Step) : Type 0 where
   pub path : AreSteps x steps
   pub ends : EndsAt section lock steps
+
+-- the lock begins on the register
+abbrev pub IsOn : ℕ → Lock → Type 0
+IsOn register (Expr e effect) = e.base ≡ Reg register
+IsOn register (Class class effect) = ⊥
+IsOn register (Root effect) = ⊥
+
+-- the section needs the lock after the `new` at the pc, which sets the register on which the lock begins; the object is new there,
+-- so the lock becomes none before the `new`
+pub record IsDropped (x : Read) (section pc : ℕ) (lock : Lock) : Type 0 where
+  pub function : ℕ
+  pub to : ℕ
+  pub cells : ℕ
+  pub site : ℕ
+  pub at : StandsAt x (Inside section) pc function (instr.New to cells site)
+  pub needed : Needs x (Inside section) (suc pc) lock
+  pub begins : IsOn to lock
+  pub none : link (view x.classes x.stores x.longest function) (instr.New to cells site) lock ≡ []

@@ -1,5 +1,5 @@
 -- What an explanation says of a source (docs/ANALYSIS.md, "Explanations").
-use Rattle.std.specs.Prelude.{◌≡◌, ◌↔◌, ℕ, suc, List, length, map, Some, slice_get}
+use Rattle.std.specs.Prelude.{◌≡◌, ◌↔◌, ℕ, suc, List, length, map, Some, IfSome, slice_get}
 use Rattle.asl_code.specs.declared.image.Image.{Image}
 use Rattle.asl_code.specs.declared.lock.Lock.{Lock}
 use Rattle.asl_syntax.specs.Tree.{Item}
@@ -7,6 +7,7 @@ use Rattle.asl_syntax.specs.Parsed.{Parses}
 use Rattle.asl_syntax.specs.Fault as syntax
 use Rattle.asl_lower.specs.declared.section.Section.{Section}
 use Rattle.asl_lower.specs.Regions.{Inside}
+use Rattle.asl_lock_expr.specs.Order.{AreInOrder}
 use Rattle.asl_soundness.specs.Over.{StandsOver}
 use Rattle.asl_emitter.specs.declared.fault.InferFault.{InferFault}
 use Rattle.asl_emitter.specs.declared.fault.InferFault.TheVariants as infer
@@ -17,18 +18,24 @@ use Rattle.asl_explain.specs.declared.fault.ExplainFault.TheVariants.{Source, In
 use Rattle.asl_explain.specs.declared.value.Chain.{Chain}
 use Rattle.asl_explain.specs.declared.value.Need.{Need}
 use Rattle.asl_explain.specs.declared.value.Listed.{Listed}
+use Rattle.asl_explain.specs.declared.value.Ending.{Ending}
+use Rattle.asl_explain.specs.declared.value.Ended.{Ended}
 use Rattle.asl_explain.specs.declared.value.Lists.{Lists}
 use Rattle.asl_explain.specs.declared.value.Lists.TheVariants.{Inferred, TooManyLocks}
 use Rattle.asl_explain.specs.declared.value.Explanation.{Explanation}
-use Rattle.asl_explain.specs.Chains.{Read, Needs, IsChain}
+use Rattle.asl_explain.specs.Chains.{Read, Needs, IsChain, IsDropped}
 
 -- each of the chains comes from an access to the lock at the section's start
 abbrev pub AreChains : Read → ℕ → Lock → List Chain → Type 0
 AreChains x section lock chains = (n : ℕ) (c : Chain) → slice_get chains n ≡ Some c → IsChain x section lock c.steps
 
--- each of the locks is needed at the section's start, and its chains come to it
+-- the lock is needed at the section's start, and its chains come to it
+pub record IsNeed (x : Read) (section : ℕ) (is : Section) (d : Need) : Type 0 where
+  pub needed : Needs x (Inside section) (suc is.acquire) d.lock
+  pub chains : AreChains x section d.lock d.chains
+
 abbrev pub AreNeeds : Read → ℕ → Section → List Need → Type 0
-AreNeeds x section is needs = (n : ℕ) (d : Need) → slice_get needs n ≡ Some d → Needs x (Inside section) (suc is.acquire) d.lock × AreChains x section d.lock d.chains
+AreNeeds x section is needs = (n : ℕ) (d : Need) → slice_get needs n ≡ Some d → IsNeed x section is d
 
 -- the lock is one of these
 abbrev pub IsOneOf : List Need → Lock → Type 0
@@ -45,6 +52,27 @@ pub record AreExplained (x : Read) (image : Image) (sections : List (List Listed
   pub each : (section : ℕ) (is : Section) (ls : List Listed) (n : ℕ) (d : Listed) → slice_get x.lowered.sections section ≡ Some is → slice_get sections section ≡ Some ls →
       slice_get ls n ≡ Some d → IsListed x section is d
 
+-- a chain comes from an access to the lock after the `new`, at which it ends
+pub record IsEnding (x : Read) (section : ℕ) (lock : Lock) (e : Ending) : Type 0 where
+  pub chain : IsChain x section lock e.chain.steps
+  pub dropped : IsDropped x section e.pc lock
+
+-- the lock ends at a `new` of the section, and at the one that is told, if one is
+pub record IsEnded (x : Read) (section : ℕ) (e : Ended) : Type 0 where
+  pub dropped : (pc : ℕ) × IsDropped x section pc e.lock
+  pub told : IfSome e.ending (IsEnding x section e.lock)
+
+-- the locks that end at a `new` of the section: all of them, each once
+pub record AreEnded (x : Read) (section : ℕ) (ended : List Ended) : Type 0 where
+  pub each : (n : ℕ) (e : Ended) → slice_get ended n ≡ Some e → IsEnded x section e
+  pub all : (pc : ℕ) (lock : Lock) → IsDropped x section pc lock → (n : ℕ) × (e : Ended) × (slice_get ended n ≡ Some e) × (e.lock ≡ lock)
+  pub order : AreInOrder (map (λ (e : Ended). e.lock) ended)
+
+-- so for each section
+pub record AreAllEnded (x : Read) (sections : List (List Ended)) : Type 0 where
+  pub count : length sections ≡ length x.lowered.sections
+  pub each : (section : ℕ) (ended : List Ended) → slice_get sections section ≡ Some ended → AreEnded x section ended
+
 -- what the lists are with paths of at most so many operations: those of the inferred image, or a region needs too many locks
 abbrev pub AreListsAt : List Item → ℕ → Lists → Type 0
 AreListsAt tree longest (Inferred lists) = (image : Image) × IsInferredFor tree longest image × (image.lists ≡ lists)
@@ -55,15 +83,17 @@ pub record AreByLength (tree : List Item) (lists : List Lists) : Type 0 where
   pub count : length lists ≡ 9
   pub each : (longest : ℕ) (l : Lists) → slice_get lists longest ≡ Some l → AreListsAt tree longest l
 
+-- what the needs of an analysed tree are read against
+abbrev pub read_of : {tree : List Item} → Analysis tree → ℕ → Read
+read_of analysis longest = record { lowered = analysis.program.lowering; classes = analysis.program.classes; stores = analysis.stores; longest = longest }
+
 -- the explanation of a tree
 pub record IsExplained (tree : List Item) (longest : ℕ) (e : Explanation) : Type 0 where
   pub analysis : Analysis tree
   pub image : Image
   pub inferred : IsInferredFor tree longest image
-  pub sections :
-      AreExplained
-      (record { lowered = analysis.program.lowering; classes = analysis.program.classes; stores = analysis.stores; longest = longest })
-      image e.sections
+  pub sections : AreExplained (read_of analysis longest) image e.sections
+  pub ended : AreAllEnded (read_of analysis longest) e.ended
   pub by_length : AreByLength tree e.by_length
 
 -- the source spells a tree, for which lists are inferred, and this is its explanation

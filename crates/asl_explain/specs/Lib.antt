@@ -1,4 +1,6 @@
 pub mod Chains
 pub mod Explained
+pub mod Told
 -- Machinery of the proofs, not of the promise:
 pub mod Analysed
+pub mod Telling

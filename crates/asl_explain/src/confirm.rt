@@ -1,20 +1,23 @@
 //! Whether the steps that a search found are a chain. Each is looked at again here, so nothing of what is explained rests on how
 //! the search goes.
-ghost use Rattle.std.specs.Prelude.{◌≡◌, ◌≤◌, ◌<◌, ℕ, suc, Some, IfOk, IfSome, IsTrue, length, slice_get};
+ghost use Rattle.std.specs.Prelude.{◌≡◌, ◌≤◌, ◌<◌, ◌↔◌, ℕ, suc, Some, IfOk, IfSome, IsTrue, length, slice_get};
 ghost use Rattle.asl_code.specs.declared.image.Function.{Function};
 ghost use Rattle.asl_code.specs.declared.instr.Instr.{Instr};
+ghost use Rattle.asl_code.specs.declared.instr.Instr.TheVariants.{New};
 ghost use Rattle.asl_lower.specs.Region.{GoesOn, start_of};
 ghost use Rattle.asl_lower.specs.Regions.{Body, IsIn};
 ghost use Rattle.asl_backward_flow.specs.Needed.{region_of};
 ghost use Rattle.asl_explain.specs.declared.value.Step.{Step as StepValue};
-ghost use Rattle.asl_explain.specs.Chains.{Needs, StandsAt, IsAccess, IsLink, IsEntry, IsFront, Follows, AreSteps, EndsAt, IsChain};
-ghost use Rattle.asl_explain.specs.Analysed.{read, IsAnalysed};
+ghost use Rattle.asl_explain.specs.Chains.{Needs, StandsAt, IsAccess, IsLink, IsEntry, IsFront, Follows, AreSteps, EndsAt, IsChain, IsOn, IsDropped};
+ghost use Rattle.asl_explain.specs.Explained.{IsEnding};
+ghost use Rattle.asl_explain.specs.Analysed.{read, IsAnalysed, IsMadeAt};
 
 use crate::analysis::Analysis;
 use crate::links::{are_same, is_accessed, is_dereferenced, is_entered, is_link};
-use crate::value::{Step, Why};
+use crate::value::{Ending, Step, Why};
 use asl_backward_flow::Region;
-use asl_code::{Instr, Lock};
+use asl_code::{Base, Instr, Lock};
+use asl_lower::Section;
 use std::alloc::{AllocError, Global};
 
 /// Whether the region needs the lock at the pc.
@@ -255,4 +258,82 @@ pub fn is_chain(
         return Ok(false);
     }
     Ok(ends_at(section, lock, steps))
+}
+
+/// Whether the lock begins on the register.
+pub fn is_on(register: u8, lock: &Lock) -> bool
+    ensures { IsTrue result ↔ IsOn register lock.now }
+{
+    match lock {
+        Lock::Expr(expr, _) => match expr.base {
+            Base::Reg(own) => own == register,
+            Base::Global(_) => false,
+        },
+        _ => false,
+    }
+}
+
+/// The register that the `new` at a pc sets, if there is one.
+pub fn made_at(analysis: &Analysis, pc: u16) -> Option<u8>
+    ensures made { IfSome result (λ to. (cells : ℕ) × (site : ℕ) × (slice_get analysis.now.lowering.code pc ≡ Some (New to cells site))) }
+    ensures all { (to cells site : ℕ) → slice_get analysis.now.lowering.code pc ≡ Some (New to cells site) → result ≡ Some to }
+{
+    match instr_at(analysis, pc)? {
+        Instr::New { to, .. } => Some(to),
+        _ => None,
+    }
+}
+
+/// Whether the pc is between the first and the last instruction of a section.
+fn is_inside(section: Section, pc: u16) -> bool
+    ensures { IsTrue result ↔ ((section.acquire < pc) × (pc < section.release)) }
+{
+    section.acquire < pc && pc < section.release
+}
+
+/// The register that the `new` at a pc sets, if there is one inside the section.
+pub fn made_inside(analysis: &Analysis, section: Section, pc: u16) -> Option<u8>
+    ensures made { IfSome result (IsMadeAt (read analysis.now) section pc) }
+    ensures all { (to : ℕ) → IsMadeAt (read analysis.now) section pc to → result ≡ Some to }
+{
+    if is_inside(section, pc) {
+        made_at(analysis, pc)
+    } else {
+        None
+    }
+}
+
+/// Whether a `new` of the section of a number stands at the pc, after which the section needs the lock, and whose register the
+/// lock begins on.
+fn is_dropped(analysis: &Analysis, number: u16, section: Section, pc: u16, lock: &Lock) -> bool
+    requires analysed { IsAnalysed analysis.now }
+    requires there { slice_get analysis.now.lowering.sections number ≡ Some section }
+    ensures { IsTrue result → IsDropped (read analysis.now) number pc lock.now }
+{
+    let Some(to) = made_inside(analysis, section, pc) else {
+        return false;
+    };
+    if !is_on(to, lock) {
+        return false;
+    }
+    is_needed(analysis, Region::Section(number), u32::from(pc) + 1, lock)
+}
+
+/// Whether a chain comes to a lock after a `new` of the section of a number, where it ends.
+pub fn is_ending(
+    alloc: Global,
+    analysis: &Analysis,
+    number: u16,
+    section: Section,
+    lock: &Lock,
+    ending: &Ending,
+) -> Result<bool, AllocError>
+    requires analysed { IsAnalysed analysis.now }
+    requires there { slice_get analysis.now.lowering.sections number ≡ Some section }
+    ensures { IfOk result (λ b. IsTrue b → IsEnding (read analysis.now) number lock.now ending.now) }
+{
+    if !is_dropped(analysis, number, section, ending.pc, lock) {
+        return Ok(false);
+    }
+    is_chain(alloc, analysis, number, lock, ending.chain.steps.as_slice())
 }

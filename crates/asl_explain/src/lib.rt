@@ -3,6 +3,7 @@
 
 mod analysis;
 mod confirm;
+mod ended;
 mod events;
 mod fault;
 mod links;
@@ -12,10 +13,11 @@ mod places;
 mod search;
 mod source;
 mod table;
+mod telling;
 mod text;
 mod value;
 mod words;
 
 pub use fault::ExplainFault;
 pub use source::{explain, explained};
-pub use value::{Chain, Explanation, Listed, Lists, Need, Step, Why};
+pub use value::{Chain, Ended, Ending, Explanation, Listed, Lists, Need, Step, Why};

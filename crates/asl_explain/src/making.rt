@@ -11,13 +11,14 @@ ghost use Rattle.asl_explain.specs.Analysed.{read, IsAnalysed, AreListed, AreSec
 
 use crate::analysis::Analysis;
 use crate::confirm::is_chain;
+use crate::ended::ended_of_sections;
 use crate::links::copied;
 use crate::search::Searcher;
 use crate::value::{Chain, Explanation, Listed, Lists, Need};
 use asl_backward_flow::{FlowFault, Region, needed};
 use asl_code::{Items, Lock};
 use asl_emitter::{covers, does_for, lists};
-use asl_lower::{Lowering, Section};
+use asl_lower::Section;
 use asl_points_to::Classes;
 use std::alloc::{AllocError, Global};
 
@@ -175,32 +176,32 @@ fn explained_section(
 fn explained_sections(
     alloc: Global,
     analysis: &Analysis,
+    searcher: &mut Searcher,
     lists: &[Items<Lock>],
 ) -> Result<Items<Items<Listed>>, AllocError>
     requires analysed { IsAnalysed analysis.now }
     requires count { length lists.now ≡ length analysis.now.lowering.sections }
     ensures { IfOk result (AreSections (read analysis.now) lists.now (length analysis.now.lowering.sections)) }
 {
-    let mut searcher = Searcher::new(alloc, analysis)?;
     let mut sections = Vec::new(alloc);
     for (number, section) in analysis.lowering.sections().iter().enumerate() {
         let list = lists[number].as_slice();
         let number = number as u16;
-        sections.push(explained_section(alloc, analysis, &mut searcher, number, *section, list)?)?;
+        sections.push(explained_section(alloc, analysis, searcher, number, *section, list)?)?;
     }
     Ok(Items::from_vec(sections))
 }
 
-/// The lists with paths of at most so many operations.
-fn lists_at(
-    alloc: Global,
-    lowering: &Lowering,
-    classes: &Classes,
-    longest: u32,
-) -> Result<Lists, AllocError>
+/// The lists with paths of at most so many operations; for as many as the analysis has, its own flow is at hand.
+fn lists_at(alloc: Global, analysis: &Analysis, longest: u32) -> Result<Lists, AllocError>
+    requires analysed { IsAnalysed analysis.now }
     requires short { longest ≤ 8 }
-    ensures { IfOk result (AreFittedAt lowering.now classes.now longest) }
+    ensures { IfOk result (AreFittedAt analysis.now.lowering analysis.now.classes longest) }
 {
+    let (lowering, classes) = (&analysis.lowering, &analysis.classes);
+    if longest == analysis.longest {
+        return Ok(Lists::Inferred(lists(alloc, lowering, classes, &analysis.flow)?));
+    }
     match needed(alloc, lowering, classes, longest) {
         Ok(flow) => Ok(Lists::Inferred(lists(alloc, lowering, classes, &flow)?)),
         Err(FlowFault::TooManyLocks(region)) => Ok(Lists::TooManyLocks(region)),
@@ -210,13 +211,14 @@ fn lists_at(
 
 /// The lists with paths of at most 0 to 8 operations.
 fn by_length(alloc: Global, analysis: &Analysis) -> Result<Items<Lists>, AllocError>
+    requires { IsAnalysed analysis.now }
     ensures count { IfOk result (λ lists. length lists ≡ 9) }
     ensures each { IfOk result (λ lists. (longest : ℕ) (l : AnyLists) → slice_get lists longest ≡ Some l
         → AreFittedAt analysis.now.lowering analysis.now.classes longest l) }
 {
     let mut by_length = Vec::new(alloc);
     for longest in 0..9 {
-        by_length.push(lists_at(alloc, &analysis.lowering, &analysis.classes, longest)?)?;
+        by_length.push(lists_at(alloc, analysis, longest)?)?;
     }
     Ok(Items::from_vec(by_length))
 }
@@ -227,8 +229,10 @@ pub fn explanation_of(alloc: Global, analysis: &Analysis) -> Result<Explanation,
     ensures { IfOk result (IsMade analysis.now) }
 {
     let own = lists(alloc, &analysis.lowering, &analysis.classes, &analysis.flow)?;
+    let mut searcher = Searcher::new(alloc, analysis)?;
     Ok(Explanation {
-        sections: explained_sections(alloc, analysis, own.as_slice())?,
+        sections: explained_sections(alloc, analysis, &mut searcher, own.as_slice())?,
+        ended: ended_of_sections(alloc, analysis, &mut searcher)?,
         by_length: by_length(alloc, analysis)?,
     })
 }

@@ -3,10 +3,11 @@ ghost use Rattle.std.specs.Prelude.{◌≤◌};
 ghost use Rattle.asl_explain.specs.Analysed.{IsAnalysed};
 
 use crate::analysis::Analysis;
+use crate::confirm::{is_on, made_at};
 use crate::events::{Events, find_events};
 use crate::links::{based_back, entered_back, is_accessed, is_kept, is_link};
 use crate::table::{Table, make_table};
-use crate::value::{Chain, Step, Why};
+use crate::value::{Chain, Ending, Step, Why};
 use asl_backward_flow::Region;
 use asl_code::{Base, Instr, Items, Lock};
 use asl_lock_expr::View;
@@ -161,13 +162,116 @@ impl Searcher {
                 self.wait(analysis, &mut search, to, 0, 0, None)?;
             }
         }
+        self.go_on(analysis, &mut search, usize::MAX)?;
+        self.chains_of(analysis, &search)
+    }
+
+    /// The cheapest chain of a lock that the section of a number needs after one of its `new`, which sets the register on which the
+    /// lock begins, if there is such a chain: `news` has the pcs of the section's `new`.
+    pub fn ending(
+        &mut self,
+        analysis: &Analysis,
+        number: u16,
+        section: Section,
+        news: &[u16],
+        lock: &Lock,
+    ) -> Result<Option<Ending>, AllocError>
+        requires { IsAnalysed analysis.now }
+    {
+        let mut search = search_from(self.alloc);
+        let region = Region::Section(number);
+        if let Some(place) = narrow(analysis.flow.place(region)) {
+            self.prepare(analysis, place, region, section.function)?;
+            self.wait_after_all(analysis, &mut search, place, news, lock)?;
+        }
+        self.go_on(analysis, &mut search, 1)?;
+        self.ending_of(analysis, &search)
+    }
+
+    /// The `new` and the chain of the first statement that was found.
+    fn ending_of(
+        &self,
+        analysis: &Analysis,
+        search: &Search,
+    ) -> Result<Option<Ending>, AllocError> {
+        let Some(access) = search.accesses.first() else {
+            return Ok(None);
+        };
+        let mut steps = self.steps(analysis, search, *access)?;
+        let Some(end) = steps.pop() else {
+            return Ok(None);
+        };
+        Ok(Some(Ending {
+            pc: end.pc,
+            chain: Chain {
+                steps: Items::from_vec(steps),
+            },
+        }))
+    }
+
+    /// Puts a lock among those that wait after each of these `new` that sets the register on which the lock begins.
+    fn wait_after_all(
+        &self,
+        analysis: &Analysis,
+        search: &mut Search,
+        place: u16,
+        news: &[u16],
+        lock: &Lock,
+    ) -> Result<(), AllocError> {
+        for pc in news {
+            if let Some(to) = made_at(analysis, *pc) {
+                if is_on(to, lock) {
+                    self.wait_after(analysis, search, place, *pc, lock)?;
+                }
+            }
+        }
+        Ok(())
+    }
+
+    /// Puts a lock among those that wait if the region at a place needs it after the `new` at a pc, which is noted as its last change.
+    fn wait_after(
+        &self,
+        analysis: &Analysis,
+        search: &mut Search,
+        place: u16,
+        pc: u16,
+        lock: &Lock,
+    ) -> Result<(), AllocError> {
+        let Some(to) = needed_point(analysis, place, pc.saturating_add(1), lock) else {
+            return Ok(());
+        };
+        let last = search.changes.len();
+        search.changes.push(Change {
+            point: Point {
+                place,
+                pc,
+                number: to.number,
+            },
+            why: Why::Linked,
+            earlier: None,
+        })?;
+        self.wait(analysis, search, to, 0, 0, Some(last))
+    }
+
+    /// Looks at the points that wait until so many statements are found.
+    fn go_on(
+        &mut self,
+        analysis: &Analysis,
+        search: &mut Search,
+        most: usize,
+    ) -> Result<(), AllocError>
+        requires { IsAnalysed analysis.now }
+    {
         for _ in 0..u64::MAX {
+            if search.accesses.len() >= most {
+                break;
+            }
             let Some((waiting, last)) = search.waiting.pop_first() else {
                 break;
             };
-            self.look_at(analysis, &mut search, waiting, last)?;
+            self.look_at(analysis, search, waiting, last)?;
         }
-        self.chains_of(analysis, &search)
+        Ok(())
     }
 
     fn table_of(&self, place: u16) -> Option<&Table> {
@@ -484,18 +588,21 @@ impl Searcher {
     fn chains_of(&self, analysis: &Analysis, search: &Search) -> Result<Vec<Chain>, AllocError> {
         let mut chains = Vec::new(self.alloc);
         for access in &search.accesses {
-            chains.push(self.chain(analysis, search, *access)?)?;
+            let steps = self.steps(analysis, search, *access)?;
+            chains.push(Chain {
+                steps: Items::from_vec(steps),
+            })?;
         }
         Ok(chains)
     }
 
-    /// The chain of a statement.
-    fn chain(
+    /// The steps of the chain of a statement.
+    fn steps(
         &self,
         analysis: &Analysis,
         search: &Search,
         access: Access,
-    ) -> Result<Chain, AllocError> {
+    ) -> Result<Vec<Step>, AllocError> {
         let mut steps = Vec::new(self.alloc);
         self.add_step(analysis, access.point, Why::Accessed, &mut steps)?;
         let mut last = access.last;
@@ -509,9 +616,7 @@ impl Searcher {
             self.add_step(analysis, change.point, change.why, &mut steps)?;
             last = change.earlier;
         }
-        Ok(Chain {
-            steps: Items::from_vec(steps),
-        })
+        Ok(steps)
     }
 
     /// Adds a step with the lock of a point.

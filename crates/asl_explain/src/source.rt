@@ -1,13 +1,16 @@
 //! The explanation of a source.
-ghost use Rattle.std.specs.Prelude.{◌≤◌, IfOk, IfErr};
+ghost use Rattle.std.specs.Prelude.{◌≤◌, IfOk, IfErr, string_bytes};
 ghost use Rattle.asl_explain.specs.Explained.{IsExplanation, IsAcceptedSource, IsRefused};
+ghost use Rattle.asl_explain.specs.Told.{IsText};
 ghost use Rattle.asl_explain.specs.Analysed.{IsAnalysed, IsOfSource};
+ghost use Rattle.asl_explain.specs.Telling.{IsTextOf};
 
 use crate::analysis::{Analysis, analyse};
 use crate::fault::ExplainFault;
 use crate::making::explanation_of;
 use crate::places::places_of;
-use crate::text::{Teller, text_of};
+use crate::telling::text_of;
+use crate::text::Teller;
 use crate::value::Explanation;
 use asl_emitter::InferFault;
 use asl_map::map_of;
@@ -55,6 +58,7 @@ pub fn explain(alloc: Global, source: &[u8], k: u32) -> Result<Explanation, Expl
 /// As `explain`.
 pub fn explained(alloc: Global, source: &[u8], k: u32, all: bool) -> Result<String, ExplainFault>
     requires { k ≤ 8 }
+    ensures told { IfOk result (λ text. IsText source.now k (string_bytes text)) }
     ensures accepted { IfOk result (λ _. IsAcceptedSource source.now k) }
     ensures refused { IfErr result (IsRefused source.now k) }
 {
@@ -68,6 +72,7 @@ pub fn explained(alloc: Global, source: &[u8], k: u32, all: bool) -> Result<Stri
 /// The text of the explanation of an analysed source.
 fn told(alloc: Global, source: &[u8], analysis: &Analysis, all: bool) -> Result<String, AllocError>
     requires { IsAnalysed analysis.now }
+    ensures { IfOk result (λ text. IsTextOf analysis.now (string_bytes text)) }
 {
     let explanation = explanation_of(alloc, analysis)?;
     let Ok(map) = map_of(alloc, source) else {
@@ -80,5 +85,6 @@ fn told(alloc: Global, source: &[u8], analysis: &Analysis, all: bool) -> Result<
         places: &places,
         all,
     };
-    text_of(&teller, &explanation)
+    let text = text_of(&teller, &explanation)?;
+    Ok(text)
 }

@@ -1,10 +1,10 @@
-//! The text of an explanation.
+//! The words of an explanation: sections, locks, and the lines of chains.
 
 use crate::analysis::Analysis;
 use crate::notes::note_of;
 use crate::places::Places;
-use crate::value::{Chain, Explanation, Listed, Lists, Need, Step, Why};
-use crate::words::{lock_spelled, lock_words};
+use crate::value::{Chain, Ended, Ending, Explanation, Listed, Lists, Need, Step, Why};
+use crate::words::lock_words;
 use asl_backward_flow::Region;
 use asl_code::{Base, Instr, Lock};
 use asl_emitter::{MAX_LOCKS, reduce};
@@ -14,6 +14,9 @@ use std::fmt::Write;
 
 /// The most members of a class, or locks under another, that are named where not all are to be.
 const MAX_NAMED: usize = 8;
+
+/// What stands in place of the line and the statement of an instruction.
+const NO_PLACE: &str = "                                       ";
 
 /// What is written of: the analysis of a source with its names and places, and how much is told.
 #[derive(Clone, Copy)]
@@ -25,24 +28,14 @@ pub struct Teller<'a> {
     pub all: bool,
 }
 
-/// The text of an explanation.
-pub fn text_of(teller: &Teller<'_>, explanation: &Explanation) -> Result<String, AllocError> {
-    let mut text = String::new(teller.alloc);
-    for (number, section) in teller.analysis.lowering.sections().iter().enumerate() {
-        if number > 0 {
-            text.push_str("\n")?;
-        }
-        if let Some(listed) = explanation.sections.as_slice().get(number) {
-            teller.push_section(&mut text, number, *section, listed.as_slice())?;
-        }
-        teller.push_lengths(&mut text, number, section.function, explanation)?;
-    }
-    Ok(text)
-}
-
 /// A number of a table, each of which has at most 65,536.
 fn narrow(number: usize) -> u16 {
     if number < 65536 { number as u16 } else { 0 }
+}
+
+/// What parts a chain from those before it.
+fn behind_others(is_first: bool) -> &'static str {
+    if is_first { "" } else { "\n" }
 }
 
 /// The letter of a plural.
@@ -53,6 +46,11 @@ fn plural(count: usize) -> &'static str {
 /// Adds blanks until the text since a place is so wide; one at least.
 fn pad(text: &mut String, from: usize, width: usize) -> Result<(), AllocError> {
     let len = text.len().saturating_sub(from);
+    pad_behind(text, len, width)
+}
+
+/// Adds blanks behind something so long, until both are so wide; one at least.
+fn pad_behind(text: &mut String, len: usize, width: usize) -> Result<(), AllocError> {
     for _ in len..width {
         text.push_str(" ")?;
     }
@@ -77,34 +75,94 @@ impl Teller<'_> {
         }
     }
 
-    /// Adds the first line of a section, and its locks.
-    fn push_section(
-        &self,
-        text: &mut String,
-        number: usize,
-        section: Section,
-        listed: &[Listed],
-    ) -> Result<(), AllocError> {
+    /// The section of a number.
+    pub fn section(&self, number: usize) -> Section {
+        match self.analysis.lowering.sections().get(number) {
+            Some(section) => *section,
+            None => Section {
+                function: 0,
+                acquire: 0,
+                release: 0,
+            },
+        }
+    }
+
+    /// Where a section stands, and how long paths are.
+    pub fn place_of_section(&self, section: Section) -> Result<String, AllocError> {
         let line = self.places.line(section.acquire);
         let name = self.places.function(section.function)?;
         let k = self.analysis.longest;
-        let count = listed.len();
-        let s = plural(count);
         let never = if self.places.is_reached(section.function) {
             ""
         } else {
             ", which main never reaches"
         };
-        write!(
-            text,
-            "section {number}, line {line}, in {name}{never}, k {k}: takes {count} lock{s}\n"
-        )?;
-        self.push_coarse(text, number, section, listed)?;
-        for lock in listed {
-            text.push_str("\n")?;
-            self.push_listed(text, section, lock)?;
+        format!(in self.alloc; "line {line}, in {name}{never}, k {k}")
+    }
+
+    /// The end of the first line of a section, and why expressions became classes.
+    pub fn rest_of_head(
+        &self,
+        number: usize,
+        section: Section,
+        listed: &[Listed],
+    ) -> Result<String, AllocError> {
+        let mut text = String::new(self.alloc);
+        text.push_str(plural(listed.len()))?;
+        text.push_str("\n")?;
+        self.push_coarse(&mut text, number, section, listed)?;
+        Ok(text)
+    }
+
+    /// What comes behind the locks of a section.
+    pub fn rest_of_section(
+        &self,
+        number: usize,
+        section: Section,
+        explanation: &Explanation,
+    ) -> Result<String, AllocError> {
+        let mut text = String::new(self.alloc);
+        if let Some(ended) = explanation.ended.as_slice().get(number) {
+            self.push_ended(&mut text, section.function, ended.as_slice())?;
         }
-        text.push_str("\n")
+        text.push_str("\n")?;
+        self.push_lengths(&mut text, number, section.function, explanation)?;
+        Ok(text)
+    }
+
+    /// Adds the locks that end at a `new` of a section of the function.
+    fn push_ended(
+        &self,
+        text: &mut String,
+        function: u16,
+        ended: &[Ended],
+    ) -> Result<(), AllocError> {
+        for end in ended {
+            let words = self.words(function, &end.lock)?;
+            let made = self.made(function, &end.lock)?;
+            write!(text, "\n  no lock for {words}   ({made} is new)\n")?;
+            if let Some(ending) = &end.ending {
+                self.push_ending(text, ending)?;
+            }
+        }
+        Ok(())
+    }
+
+    /// Adds the chain of a lock that ends at a `new`.
+    fn push_ending(&self, text: &mut String, ending: &Ending) -> Result<(), AllocError> {
+        self.push_chain(text, &ending.chain)?;
+        self.push_place(text, ending.pc)?;
+        write_line(text, "ends", "the object is new here: no lock", "")
+    }
+
+    /// The name of the register on which a lock of a function begins.
+    fn made(&self, function: u16, lock: &Lock) -> Result<String, AllocError> {
+        if let Lock::Expr(expr, _) = lock {
+            if let Base::Reg(register) = expr.base {
+                return self.places.register(function, register);
+            }
+        }
+        Ok(String::new(self.alloc))
     }
 
     /// Adds why expressions became classes, if the list would be too long.
@@ -141,41 +199,62 @@ impl Teller<'_> {
         Ok(())
     }
 
-    /// Adds a lock of a list.
-    fn push_listed(
-        &self,
-        text: &mut String,
-        section: Section,
-        listed: &Listed,
-    ) -> Result<(), AllocError> {
-        text.push_str("  ")?;
-        let from = text.len();
-        text.push_str(self.words(section.function, &listed.lock)?.as_str())?;
-        pad(text, from, 22)?;
+    /// What comes before the spelling of a lock: an expression in the words of the source.
+    pub fn before_spelling(&self, function: u16, lock: &Lock) -> Result<String, AllocError> {
+        let mut text = String::new(self.alloc);
+        text.push_str("\n  ")?;
+        if let Lock::Expr(_, _) = lock {
+            let from = text.len();
+            text.push_str(self.words(function, lock)?.as_str())?;
+            pad(&mut text, from, 22)?;
+        }
+        Ok(text)
+    }
+
+    /// What comes behind the spelling of a lock of a list: what a class has, and the chains.
+    pub fn behind_spelling(&self, function: u16, listed: &Listed) -> Result<String, AllocError> {
+        let mut text = String::new(self.alloc);
         match &listed.lock {
-            Lock::Root(_) => text.push_str("everything")?,
-            Lock::Class(class, _) => self.push_members(text, *class)?,
-            Lock::Expr(_, _) => {
-                text.push_str(lock_spelled(self.alloc, &listed.lock)?.as_str())?;
+            Lock::Expr(_, _) => {}
+            lock => {
+                pad_behind(&mut text, self.words(function, lock)?.len(), 22)?;
+                match lock {
+                    Lock::Class(class, _) => self.push_members(&mut text, *class)?,
+                    _ => text.push_str("everything")?,
+                }
             }
         }
         text.push_str("\n")?;
-        self.push_chains(text, section.function, listed)?;
+        self.push_chains(&mut text, function, listed)?;
         if !self.all {
-            self.push_others(text, section.function, listed)?;
+            self.push_others(&mut text, function, listed)?;
         }
-        Ok(())
+        Ok(text)
     }
 
     /// Adds the members of a class.
     fn push_members(&self, text: &mut String, class: u16) -> Result<(), AllocError> {
         let mut members = Vec::new(self.alloc);
+        self.add_globals(class, &mut members)?;
+        self.add_sites(class, &mut members)?;
+        text.push_str("{ ")?;
+        self.push_named(text, &members)?;
+        text.push_str(" }")
+    }
+
+    /// Adds the globals of a class.
+    fn add_globals(&self, class: u16, members: &mut Vec<String>) -> Result<(), AllocError> {
         for (global, own) in self.analysis.classes.globals().iter().enumerate() {
             if *own == class {
                 let name = self.places.global(narrow(global))?;
                 members.push(format!(in self.alloc; "`{name}`")?)?;
             }
         }
+        Ok(())
+    }
+
+    /// Adds the statements that make objects of a class.
+    fn add_sites(&self, class: u16, members: &mut Vec<String>) -> Result<(), AllocError> {
         for (pc, instr) in self.analysis.lowering.code().iter().enumerate() {
             if let Instr::New { class: site, .. } = instr {
                 if self.places.class_of_site(*site) == Some(class) {
@@ -183,9 +262,7 @@ impl Teller<'_> {
                 }
             }
         }
-        text.push_str("{ ")?;
-        self.push_named(text, &members)?;
-        text.push_str(" }")
+        Ok(())
     }
 
     /// Where a statement stands, and its text.
@@ -227,26 +304,30 @@ impl Teller<'_> {
         for need in ordered(self.alloc, listed)? {
             for chain in need.chains.as_slice() {
                 if is_first || self.all {
-                    if !is_first {
-                        text.push_str("\n")?;
-                    }
+                    text.push_str(behind_others(is_first))?;
                     is_first = false;
                     self.push_chain(text, chain)?;
-                    if need.lock != listed.lock {
-                        text.push_str("      ")?;
-                        let from = text.len();
-                        pad(text, from, 32)?;
-                        let words = self.words(function, &listed.lock)?;
-                        write!(
-                            text,
-                            "{:<8} {}   (the list's lock contains it)\n",
-                            "so", words
-                        )?;
-                    }
+                    self.push_container(text, function, need, listed)?;
                 }
             }
         }
         Ok(())
+    }
+
+    /// Adds that the lock of a list contains one that is needed, if it is another.
+    fn push_container(
+        &self,
+        text: &mut String,
+        function: u16,
+        need: &Need,
+        listed: &Listed,
+    ) -> Result<(), AllocError> {
+        if need.lock == listed.lock {
+            return Ok(());
+        }
+        text.push_str(NO_PLACE)?;
+        let words = self.words(function, &listed.lock)?;
+        write_line(text, "so", words.as_str(), "(the list's lock contains it)")
     }
 
     /// Adds the statements whose chains are not told.
@@ -260,15 +341,8 @@ impl Teller<'_> {
         let mut told = 0usize;
         let mut left = 0usize;
         for need in ordered(self.alloc, listed)? {
-            let mut statements = Vec::new(self.alloc);
-            for chain in need.chains.as_slice() {
-                if !is_first {
-                    if let Some(step) = chain.steps.as_slice().first() {
-                        statements.push(step.pc)?;
-                    }
-                }
-                is_first = false;
-            }
+            let mut statements = statements_of(self.alloc, need, is_first)?;
+            is_first = is_first && need.chains.len() == 0;
             if statements.len() > 0 {
                 if told < 6 {
                     told += 1;
@@ -278,14 +352,7 @@ impl Teller<'_> {
                 }
             }
         }
-        if left > 0 {
-            let s = plural(left);
-            write!(
-                text,
-                "      contains {left} more lock{s} (--all shows them)\n"
-            )?;
-        }
-        Ok(())
+        push_left(text, left)
     }
 
     /// Adds the statements that need a lock.
@@ -341,9 +408,7 @@ impl Teller<'_> {
             }
         }
         if step.why == Why::Dereferenced {
-            text.push_str("      ")?;
-            let from = text.len();
-            pad(text, from, 32)?;
+            text.push_str(NO_PLACE)?;
             let words = self.words(self.function_of(step.region), &step.lock)?;
             return write_line(text, "reads", words.as_str(), note.as_str());
         }
@@ -366,13 +431,18 @@ impl Teller<'_> {
         verb: &str,
         note: &str,
     ) -> Result<(), AllocError> {
-        let line = self.places.line(step.pc);
-        write!(text, "      line {line:<4} ")?;
-        let from = text.len();
-        text.push_str(self.places.statement(step.pc)?.as_str())?;
-        pad(text, from, 22)?;
+        self.push_place(text, step.pc)?;
         let words = self.words(self.function_of(step.region), &step.lock)?;
         write_line(text, verb, words.as_str(), note)
+    }
+
+    /// Adds the line and the statement of an instruction, in columns.
+    fn push_place(&self, text: &mut String, pc: u16) -> Result<(), AllocError> {
+        let line = self.places.line(pc);
+        write!(text, "      line {line:<4} ")?;
+        let from = text.len();
+        text.push_str(self.places.statement(pc)?.as_str())?;
+        pad(text, from, 22)
     }
 
     /// Adds the lists with paths of each length, those that are the same in one line.
@@ -387,24 +457,24 @@ impl Teller<'_> {
         let mut first = 0;
         for length in 0..lists.len() {
             if length + 1 == lists.len() || !are_same(&lists[length], &lists[length + 1], number) {
-                text.push_str("  k ")?;
-                let from = text.len();
-                if first == length {
-                    write!(text, "{first}")?;
-                } else {
-                    write!(text, "{first} to {length}")?;
-                }
-                pad(text, from, 7)?;
+                push_range(text, first, length)?;
                 self.push_list(text, number, function, &lists[length])?;
-                let k = self.analysis.longest as usize;
-                if first <= k && k <= length {
-                    text.push_str("   (this list)")?;
-                }
-                text.push_str("\n")?;
+                self.push_own(text, first, length)?;
                 first = length + 1;
             }
         }
         Ok(())
+    }
+
+    /// Adds the end of a line of lists, and whether the analysis has one of their lengths.
+    fn push_own(&self, text: &mut String, first: usize, last: usize) -> Result<(), AllocError> {
+        let k = self.analysis.longest as usize;
+        let end = if first <= k && k <= last {
+            "   (this list)\n"
+        } else {
+            "\n"
+        };
+        text.push_str(end)
     }
 
     /// Adds the locks of a list.
@@ -434,6 +504,33 @@ impl Teller<'_> {
             Lists::TooManyLocks(region) => Ok(write!(text, "TooManyLocks({region})")?),
         }
     }
+}
+
+/// The statements of the chains of a need, perhaps without the first.
+fn statements_of(alloc: Global, need: &Need, without_first: bool) -> Result<Vec<u16>, AllocError> {
+    let mut statements = Vec::new(alloc);
+    let mut is_left = without_first;
+    for chain in need.chains.as_slice() {
+        if !is_left {
+            if let Some(step) = chain.steps.as_slice().first() {
+                statements.push(step.pc)?;
+            }
+        }
+        is_left = false;
+    }
+    Ok(statements)
+}
+
+/// Adds how many locks are not told.
+fn push_left(text: &mut String, left: usize) -> Result<(), AllocError> {
+    if left == 0 {
+        return Ok(());
+    }
+    let s = plural(left);
+    write!(
+        text,
+        "      contains {left} more lock{s} (--all shows them)\n"
+    )
 }
 
 /// What a lock of a list stands over, itself first.
@@ -470,6 +567,18 @@ fn write_line(text: &mut String, verb: &str, words: &str, note: &str) -> Result<
         write!(text, "   {note}")?;
     }
     text.push_str("\n")
+}
+
+/// Adds from which length of paths to which.
+fn push_range(text: &mut String, first: usize, last: usize) -> Result<(), AllocError> {
+    text.push_str("  k ")?;
+    let from = text.len();
+    if first == last {
+        write!(text, "{first}")?;
+    } else {
+        write!(text, "{first} to {last}")?;
+    }
+    pad(text, from, 7)
 }
 
 /// Whether both have the same list of a section.

@@ -55,6 +55,25 @@ pub struct Listed {
     pub needs: Items<Need>,
 }
 
+/// The `new` at which a need ends, with the way of the need from a load or a store back to it.
+#[derive(Drop)]
+pub struct Ending {
+    /// The pc of the `new`.
+    pub pc: u16,
+    /// The cheapest chain to the lock after the `new`.
+    pub chain: Chain,
+}
+
+/// A lock that a section needs after a `new` that sets the register on which the lock begins. It becomes none before the `new`,
+/// since the object is new there.
+#[derive(Drop)]
+pub struct Ended {
+    /// The lock.
+    pub lock: Lock,
+    /// Where a need of it ends, if a search found a chain.
+    pub ending: Option<Ending>,
+}
+
 /// The lists that are inferred with paths of a length, or why there are none.
 #[derive(Drop)]
 pub enum Lists {
@@ -69,6 +88,8 @@ pub enum Lists {
 pub struct Explanation {
     /// For each section the locks of its list.
     pub sections: Items<Items<Listed>>,
+    /// For each section the locks that end at a `new` of it, in the order of locks.
+    pub ended: Items<Items<Ended>>,
     /// The lists with paths of at most 0 to 8 operations.
     pub by_length: Items<Lists>,
 }

@@ -1,7 +1,11 @@
-//! Locks in the words of the source.
+//! Locks in the words of the source, and as an assembly text has them.
+ghost use Rattle.std.specs.Prelude.{◌≡◌, ◌++◌, OnOk, string_bytes};
+ghost use Rattle.std.specs.List.{flat_map};
+ghost use Rattle.asl_code.specs.declared.lock.Lock.TheVariants as lock;
+ghost use Rattle.asl_explain.specs.Told.{effect_word, base_word, op_word, spell};
 
 use crate::places::Places;
-use asl_code::{Base, Effect, Lock, Op};
+use asl_code::{Base, Effect, Expr, Lock, Op};
 use std::alloc::{AllocError, Global};
 
 /// A name of an address: `&a`, `p`, `*p`, `p[1]`.
@@ -105,7 +109,9 @@ fn taken(cell: Address) -> Address {
 }
 
 /// The word of an effect.
-pub fn effect_word(effect: Effect) -> &'static str {
+fn effect_word(effect: Effect) -> &'static str
+    ensures { result.now ≡ effect_word effect }
+{
     match effect {
         Effect::Read => "read",
         Effect::Write => "write",
@@ -119,33 +125,70 @@ pub fn lock_words(
     function: u16,
     lock: &Lock,
 ) -> Result<String, AllocError> {
-    let effect = effect_word(lock.effect());
-    match lock {
-        Lock::Root(_) => format!(in alloc; "root {effect}"),
-        Lock::Class(class, _) => format!(in alloc; "class {class} {effect}"),
-        Lock::Expr(expr, _) => {
-            let cell = cell(alloc, places, function, expr.base, expr.path.as_slice())?;
-            format!(in alloc; "{effect} {cell}")
-        }
+    if let Lock::Expr(expr, effect) = lock {
+        let effect = effect_word(*effect);
+        let cell = cell(alloc, places, function, expr.base, expr.path.as_slice())?;
+        return format!(in alloc; "{effect} {cell}");
+    }
+    let mut text = String::new(alloc);
+    push_spelled(&mut text, lock)?;
+    Ok(text)
+}
+
+/// Adds the base of an expression.
+fn push_base(text: &mut String, base: Base) -> Result<(), AllocError>
+    ensures { OnOk result (string_bytes text.new ≡ string_bytes text.old ++ base_word base) }
+{
+    match base {
+        Base::Reg(register) => write!(text, "r{register}"),
+        Base::Global(global) => write!(text, "g{global}"),
     }
 }
 
-/// A lock as an assembly text has it: `expr r1 .1 write`.
-pub fn lock_spelled(alloc: Global, lock: &Lock) -> Result<String, AllocError> {
-    let effect = effect_word(lock.effect());
-    let Lock::Expr(expr, _) = lock else {
-        return Ok(String::new(alloc));
-    };
-    let mut text = match expr.base {
-        Base::Reg(register) => format!(in alloc; "expr r{register}")?,
-        Base::Global(global) => format!(in alloc; "expr g{global}")?,
-    };
-    for op in expr.path.as_slice() {
-        match op {
-            Op::Deref => text.push_str(" *")?,
-            Op::Off(places) => write!(text, " .{places}")?,
+/// Adds an operation of a path.
+fn push_op(text: &mut String, op: Op) -> Result<(), AllocError>
+    ensures { OnOk result (string_bytes text.new ≡ string_bytes text.old ++ op_word op) }
+{
+    match op {
+        Op::Deref => text.push_str(" *"),
+        Op::Off(places) => write!(text, " .{places}"),
+    }
+}
+
+/// Adds the operations of a path.
+fn push_path(text: &mut String, path: &[Op]) -> Result<(), AllocError>
+    ensures { OnOk result (string_bytes text.new ≡ string_bytes text.old ++ flat_map op_word path.now) }
+{
+    for op in path {
+        push_op(text, *op)?;
+    }
+    Ok(())
+}
+
+/// Adds an expression as an assembly text has it.
+fn push_expr(text: &mut String, expr: &Expr, effect: Effect) -> Result<(), AllocError>
+    ensures { OnOk result (string_bytes text.new ≡ string_bytes text.old ++ spell (lock.Expr expr.now effect)) }
+{
+    text.push_str("expr ")?;
+    push_base(text, expr.base)?;
+    push_path(text, expr.path.as_slice())?;
+    let effect = effect_word(effect);
+    write!(text, " {effect}")
+}
+
+/// Adds a lock as an assembly text has it: `expr r1 .1 write`, `class 0 read`.
+pub fn push_spelled(text: &mut String, lock: &Lock) -> Result<(), AllocError>
+    ensures { OnOk result (string_bytes text.new ≡ string_bytes text.old ++ spell lock.now) }
+{
+    match lock {
+        Lock::Expr(expr, effect) => push_expr(text, expr, *effect),
+        Lock::Root(effect) => {
+            let effect = effect_word(*effect);
+            write!(text, "root {effect}")
+        }
+        Lock::Class(class, effect) => {
+            let effect = effect_word(*effect);
+            write!(text, "class {class} {effect}")
         }
     }
-    write!(text, " {effect}")?;
-    Ok(text)
 }

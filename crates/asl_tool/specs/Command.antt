@@ -14,7 +14,7 @@ use Rattle.asl_tool.specs.declared.command.CommandFault.{CommandFault}
 use Rattle.asl_tool.specs.declared.command.CommandFault.TheVariants as fault
 use Rattle.asl_tool.specs.Program.{IsNoProgram}
 use Rattle.asl_diagnose.specs.Told.{IsTold}
-use Rattle.asl_explain.specs.Explained.{IsAcceptedSource}
+use Rattle.asl_explain.specs.Told.{IsText}
 use Rattle.asl_explain.specs.Explained as explain
 use Rattle.asl_explain.specs.declared.fault.ExplainFault.TheVariants as why
 use Rattle.asl_map.specs.Mapped.{IsMapText}
@@ -47,8 +47,7 @@ IsOutput command.Disassemble input text = IsDisassembled input text
 IsOutput (command.Compile longest as_text) input output = IsCompiled input longest as_text output
 IsOutput (command.Check longest) input text = IsChecked input longest text
 IsOutput command.Map input text = IsMapText input text
--- (the words of an explanation are only tested)
-IsOutput (command.Explain longest all) input text = IsAcceptedSource input longest
+IsOutput (command.Explain longest all) input text = IsText input longest text
 IsOutput (command.Diagnose assembly longest) input text = IsTold input assembly longest text
 IsOutput command.Replay input text = IsReplayed input text
 IsOutput (command.Log trace) input text = IsLogged input trace text

@@ -1,7 +1,7 @@
 //! The commands: from the bytes of an input to those of the output.
 ghost use Rattle.std.specs.Prelude.{◌≡◌, true, IfOk, IfErr};
 ghost use Rattle.asl_diagnose.specs.Told.{IsTold};
-ghost use Rattle.asl_explain.specs.Explained.{IsAcceptedSource};
+ghost use Rattle.asl_explain.specs.Told.{IsText};
 ghost use Rattle.asl_map.specs.Mapped.{IsMapText};
 ghost use Rattle.asl_tool.specs.Check.{IsChecked, IsRefusedCheck};
 ghost use Rattle.asl_tool.specs.Debug.{IsDebugged};
@@ -204,7 +204,7 @@ fn explained_source(
     all: bool,
     source: &[u8],
 ) -> Result<Vec<u8>, CommandFault>
-    ensures ok { IfOk result (λ _. IsAcceptedSource source.now longest.now) }
+    ensures ok { IfOk result (λ text. IsText source.now longest.now text.items) }
     ensures err { IfErr result (λ fault. IsRefusedExplain source.now longest.now fault) }
 {
     match explained(alloc, source, longest.operations(), all) {

@@ -9,6 +9,7 @@ returns-clause-analysed c = record {
   short = c.requires;
   written = c.in_ok-writes.ensures;
   tells = tells_needed c.in_ok-lowering.lowering c.in_ok-classes.classes c.args.k c.in_ok-writes.writes c.in_ok-flow.flow c.in_ok-writes.ensures c.in_ok-flow.ensures.flow;
+  flow = c.in_ok-flow.ensures.flow;
 }
 
 pub returns-clause-accepted : goal.returns-clause-accepted

@@ -1,0 +1,195 @@
+//! The needs that end at a `new`, since the object is new there.
+ghost use Rattle.std.specs.Prelude.{◌≡◌, ℕ, [], Some, IfOk, IfSome, OnOk, slice_get};
+ghost use Rattle.asl_lock_expr.specs.Links.{IsOne};
+ghost use Rattle.asl_lock_expr.specs.Order.{AreInOrder};
+ghost use Rattle.asl_explain.specs.Chains.{IsOn, IsDropped};
+ghost use Rattle.asl_explain.specs.Explained.{IsEnding, AreEnded, AreAllEnded};
+ghost use Rattle.asl_explain.specs.Analysed.{read, IsAnalysed, HasAdded, AreEndedOf};
+
+use crate::analysis::Analysis;
+use crate::confirm::{is_ending, is_on, made_at, made_inside};
+use crate::links::copied;
+use crate::search::Searcher;
+use crate::value::{Ended, Ending};
+use asl_backward_flow::Region;
+use asl_code::{Items, Lock};
+use asl_lock_expr::add_in_order;
+use asl_lower::Section;
+use std::alloc::{AllocError, Global};
+
+/// Adds the lock if it begins on the register.
+fn add_if_on(register: u8, lock: &Lock, locks: &mut Vec<Lock>) -> Result<(), AllocError>
+    requires { AreInOrder locks.old.items }
+    ensures { OnOk result (HasAdded (λ m. (lock.now ≡ m) × IsOn register m) locks.old.items locks.new.items) }
+{
+    if !is_on(register, lock) {
+        return Ok(());
+    }
+    add_in_order(locks, copied(lock)?)?;
+    Ok(())
+}
+
+/// Adds those of the locks that begin on the register.
+fn add_on(register: u8, all: &[Lock], locks: &mut Vec<Lock>) -> Result<(), AllocError>
+    requires { AreInOrder locks.old.items }
+    ensures { OnOk result (HasAdded (λ m. IsOne all.now m × IsOn register m) locks.old.items locks.new.items) }
+{
+    for lock in all {
+        add_if_on(register, lock, locks)?;
+    }
+    Ok(())
+}
+
+/// Adds the locks that the section of a number needs after a `new` at the pc that sets the register on which they begin.
+fn add_ended(
+    alloc: Global,
+    analysis: &Analysis,
+    number: u16,
+    section: Section,
+    pc: u16,
+    locks: &mut Vec<Lock>,
+) -> Result<(), AllocError>
+    requires analysed { IsAnalysed analysis.now }
+    requires there { slice_get analysis.now.lowering.sections number ≡ Some section }
+    requires order { AreInOrder locks.old.items }
+    ensures { OnOk result (HasAdded (IsDropped (read analysis.now) number pc) locks.old.items locks.new.items) }
+{
+    let Some(to) = made_inside(analysis, section, pc) else {
+        return Ok(());
+    };
+    let all = analysis
+        .flow
+        .at(alloc, Region::Section(number), u32::from(pc) + 1)?;
+    add_on(to, &all, locks)?;
+    Ok(())
+}
+
+/// The locks that a section needs after a `new` of it that sets the register on which they begin, each once, in order.
+fn ended_locks(
+    alloc: Global,
+    analysis: &Analysis,
+    number: u16,
+    section: Section,
+) -> Result<Vec<Lock>, AllocError>
+    requires analysed { IsAnalysed analysis.now }
+    requires there { slice_get analysis.now.lowering.sections number ≡ Some section }
+    ensures { IfOk result (λ v. HasAdded (λ m. (pc : ℕ) × IsDropped (read analysis.now) number pc m) [] v.items) }
+{
+    let mut locks = Vec::new(alloc);
+    for pc in section.acquire..section.release {
+        add_ended(alloc, analysis, number, section, pc, &mut locks)?;
+    }
+    Ok(locks)
+}
+
+/// The pcs of the `new` of a section.
+fn news_of(alloc: Global, analysis: &Analysis, section: Section) -> Result<Vec<u16>, AllocError> {
+    let mut news = Vec::new(alloc);
+    for pc in section.acquire..section.release {
+        if made_at(analysis, pc).is_some() {
+            news.push(pc)?;
+        }
+    }
+    Ok(news)
+}
+
+/// The `new` and the chain that a search found, if the chain comes to the lock after the `new`, and the lock ends there.
+fn confirmed_ending(
+    alloc: Global,
+    analysis: &Analysis,
+    number: u16,
+    section: Section,
+    lock: &Lock,
+    found: Option<Ending>,
+) -> Result<Option<Ending>, AllocError>
+    requires analysed { IsAnalysed analysis.now }
+    requires there { slice_get analysis.now.lowering.sections number ≡ Some section }
+    ensures { IfOk result (λ ending. IfSome ending (IsEnding (read analysis.now) number lock.now)) }
+{
+    let Some(ending) = found else {
+        return Ok(None);
+    };
+    if is_ending(alloc, analysis, number, section, lock, &ending)? {
+        Ok(Some(ending))
+    } else {
+        Ok(None)
+    }
+}
+
+/// A lock that the section of a number needs after a `new`, with the cheapest chain that comes to it there, if a search finds one.
+fn find_ended(
+    alloc: Global,
+    analysis: &Analysis,
+    searcher: &mut Searcher,
+    number: u16,
+    section: Section,
+    news: &[u16],
+    lock: &Lock,
+) -> Result<Ended, AllocError>
+    requires analysed { IsAnalysed analysis.now }
+    requires there { slice_get analysis.now.lowering.sections number ≡ Some section }
+    ensures lock { IfOk result (λ e. e.lock ≡ lock.now) }
+    ensures told { IfOk result (λ e. IfSome e.ending (IsEnding (read analysis.now) number e.lock)) }
+{
+    let found = searcher.ending(analysis, number, section, news, lock)?;
+    let ending = confirmed_ending(alloc, analysis, number, section, lock, found)?;
+    Ok(Ended {
+        lock: copied(lock)?,
+        ending,
+    })
+}
+
+/// These locks, each with the cheapest chain that comes to it after a `new` of the section of a number, if a search finds one.
+fn all_ended(
+    alloc: Global,
+    analysis: &Analysis,
+    searcher: &mut Searcher,
+    number: u16,
+    section: Section,
+    locks: &[Lock],
+) -> Result<Items<Ended>, AllocError>
+    requires analysed { IsAnalysed analysis.now }
+    requires there { slice_get analysis.now.lowering.sections number ≡ Some section }
+    ensures { IfOk result (AreEndedOf (read analysis.now) number locks.now) }
+{
+    let news = news_of(alloc, analysis, section)?;
+    let mut ended = Vec::new(alloc);
+    for lock in locks {
+        ended.push(find_ended(alloc, analysis, searcher, number, section, &news, lock)?)?;
+    }
+    Ok(Items::from_vec(ended))
+}
+
+/// The locks that end at a `new` of the section of a number.
+fn ended_of(
+    alloc: Global,
+    analysis: &Analysis,
+    searcher: &mut Searcher,
+    number: u16,
+    section: Section,
+) -> Result<Items<Ended>, AllocError>
+    requires analysed { IsAnalysed analysis.now }
+    requires there { slice_get analysis.now.lowering.sections number ≡ Some section }
+    ensures { IfOk result (AreEnded (read analysis.now) number) }
+{
+    let locks = ended_locks(alloc, analysis, number, section)?;
+    let ended = all_ended(alloc, analysis, searcher, number, section, &locks)?;
+    Ok(ended)
+}
+
+/// For each section the locks that end at a `new` of it.
+pub fn ended_of_sections(
+    alloc: Global,
+    analysis: &Analysis,
+    searcher: &mut Searcher,
+) -> Result<Items<Items<Ended>>, AllocError>
+    requires { IsAnalysed analysis.now }
+    ensures { IfOk result (AreAllEnded (read analysis.now)) }
+{
+    let mut sections = Vec::new(alloc);
+    for (number, section) in analysis.lowering.sections().iter().enumerate() {
+        let number = number as u16;
+        sections.push(ended_of(alloc, analysis, searcher, number, *section)?)?;
+    }
+    Ok(Items::from_vec(sections))
+}
