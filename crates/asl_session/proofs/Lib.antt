@@ -3,4 +3,3 @@ mod Lines
 mod Owners
 mod Sends
 mod Statuses
-mod Tellings
