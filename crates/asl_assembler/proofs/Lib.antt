@@ -9,11 +9,13 @@ pub mod Listings
 pub mod Texts
 pub mod Turns
 pub mod Overs
+pub mod Rows
 pub mod Outcomes
 pub mod Writes
 pub mod Prints
 pub mod Bodies
 pub mod Decimals
+pub mod Digits
 pub mod Lines
 pub mod Canonicals
 pub mod Spelled

@@ -326,6 +326,12 @@ abbrev pub image_from : ℕ → Place → Image → List (List ℕ) → Result I
 image_from n p i [] = or_line (finished p i) (n + 1)
 image_from n p i (l ∷ ls) = and_then (or_line (step_line p i l) (n + 1)) (λ s. image_from (n + 1) s.0 s.1 ls)
 
+-- the first line of the text says this, and this is the text after it
+pub record BeginsWith (text : List ℕ) (meant : Line) (rest : List ℕ) : Type 0 where
+  pub first : List ℕ
+  pub split : lines_of text ≡ first ∷ lines_of rest
+  pub said : meaning_of (words_of first) ≡ Some meant
+
 -- nothing is read
 abbrev pub blank_image : Image
 blank_image = record { version = 0; classes = 0; globals = []; functions = []; start = 0; code = []; lists = [] }

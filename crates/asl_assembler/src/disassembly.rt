@@ -1,6 +1,7 @@
 //! From a program to its canonical text, part by part.
 
-ghost use Rattle.std.specs.Prelude.{◌≡◌, ◌<◌, ◌^◌, ℕ, List, [], ◌∷◌, IfOk, OnOk, string_bytes};
+ghost use Rattle.std.specs.Prelude.{◌≡◌, ◌<◌, ◌^◌, ℕ, List, [], ◌∷◌, ◌++◌, IfOk, OnOk, codes};
+ghost use Rattle.std.specs.Fmt.{decimal};
 ghost use Rattle.asl_code.specs.declared.image.Image.{Image};
 ghost use Rattle.asl_code.specs.declared.instr.Instr.{Instr};
 ghost use Rattle.asl_code.specs.declared.lock.Lock.{Lock};
@@ -12,7 +13,8 @@ ghost use Rattle.asl_assembler.specs.Canonical.{bodies, canonical_text, line_tex
 ghost use Rattle.asl_assembler.specs.Writing.{Writes, WritesEach, WritesLine, FitsGlobalLine, global_text, FitsInstrLine, instr_text};
 ghost use Rattle.asl_assembler.specs.Writing.{FitsLockLine, lock_text, FitsBodyLines, body_text, FitsListLines, list_text};
 
-use crate::print::{put_instr, put_lock};
+use crate::piece::Piece;
+use crate::print::{put_instr, put_lock, short_line};
 use asl_code::{Function, Image, Instr, Items, Lock, Program};
 use std::alloc::{AllocError, Global};
 
@@ -29,15 +31,15 @@ pub fn disassemble(alloc: Global, program: &Program) -> Result<Vec<u8>, AllocErr
     ensures spelled { IfOk result (λ text. Spells text.items program.now) }
 {
     let room = program.code().len().saturating_mul(LINE_ROOM);
-    let mut text = String::with_capacity(alloc, room)?;
+    let mut text = Vec::with_capacity(alloc, room)?;
     put_image(&mut text, program.image())?;
-    Ok(text.into_bytes())
+    Ok(text)
 }
 
-fn put_image(text: &mut String, image: &Image) -> Result<(), AllocError>
+fn put_image(text: &mut Vec<u8>, image: &Image) -> Result<(), AllocError>
     requires version { IsVersion image.now.version }
     requires classes { image.now.classes < 2 ^ 16 }
-    ensures { OnOk result (Writes Image FitsText canonical_text (string_bytes text.old) (string_bytes text.new) image.now) }
+    ensures { OnOk result (Writes Image FitsText canonical_text text.old.items text.new.items image.now) }
 {
     put_head(text, image.version, image.classes)?;
     put_globals(text, image.globals.as_slice())?;
@@ -46,24 +48,39 @@ fn put_image(text: &mut String, image: &Image) -> Result<(), AllocError>
     put_lists(text, image.lists.as_slice())
 }
 
+/// The lines of the version, and of how many classes there are.
+fn head_lines(version: u32, classes: u32) -> Piece
+    ensures { result ≡ codes "version " ++ (decimal version ++ (codes "\nclasses " ++ (decimal classes ++ codes "\n"))) }
+{
+    let mut lines = Piece::new();
+    lines.byte(b'\n');
+    lines.number(classes);
+    lines.word(b"\nclasses ");
+    lines.number(version);
+    lines.word(b"version ");
+    lines
+}
+
 /// The version, and how many classes there are.
-fn put_head(text: &mut String, version: u32, classes: u32) -> Result<(), AllocError>
+fn put_head(text: &mut Vec<u8>, version: u32, classes: u32) -> Result<(), AllocError>
     requires version { IsVersion version }
     requires classes { classes < 2 ^ 16 }
-    ensures { OnOk result (WritesEach Line FitsLine line_text (string_bytes text.old) (string_bytes text.new)
+    ensures { OnOk result (WritesEach Line FitsLine line_text text.old.items text.new.items
         (line.Version version ∷ line.Classes classes ∷ [])) }
 {
-    write!(text, "version {version}\nclasses {classes}\n")
+    let lines = head_lines(version, classes);
+    lines.add_to(text)
 }
 
-fn put_global(text: &mut String, class: u16) -> Result<(), AllocError>
-    ensures { OnOk result (Writes ℕ FitsGlobalLine global_text (string_bytes text.old) (string_bytes text.new) class) }
+fn put_global(text: &mut Vec<u8>, class: u16) -> Result<(), AllocError>
+    ensures { OnOk result (Writes ℕ FitsGlobalLine global_text text.old.items text.new.items class) }
 {
-    write!(text, "global {class}\n")
+    let line = short_line(b"global", class);
+    line.add_to(text)
 }
 
-fn put_globals(text: &mut String, classes: &[u16]) -> Result<(), AllocError>
-    ensures { OnOk result (WritesEach ℕ FitsGlobalLine global_text (string_bytes text.old) (string_bytes text.new) classes.now) }
+fn put_globals(text: &mut Vec<u8>, classes: &[u16]) -> Result<(), AllocError>
+    ensures { OnOk result (WritesEach ℕ FitsGlobalLine global_text text.old.items text.new.items classes.now) }
 {
     for class in classes {
         put_global(text, *class)?;
@@ -71,19 +88,20 @@ fn put_globals(text: &mut String, classes: &[u16]) -> Result<(), AllocError>
     Ok(())
 }
 
-fn put_entry(text: &mut String, function: u16) -> Result<(), AllocError>
-    ensures { OnOk result (WritesLine (string_bytes text.old) (string_bytes text.new) (line.Entry function)) }
+fn put_entry(text: &mut Vec<u8>, function: u16) -> Result<(), AllocError>
+    ensures { OnOk result (WritesLine text.old.items text.new.items (line.Entry function)) }
 {
-    write!(text, "entry {function}\n")
+    let line = short_line(b"entry", function);
+    line.add_to(text)
 }
 
 /// The functions, each with its body: the bodies lie one after the other in the code.
 fn put_functions(
-    text: &mut String,
+    text: &mut Vec<u8>,
     functions: &[Function],
     code: &[Instr],
 ) -> Result<(), AllocError>
-    ensures { OnOk result (WritesEach Body FitsBodyLines body_text (string_bytes text.old) (string_bytes text.new)
+    ensures { OnOk result (WritesEach Body FitsBodyLines body_text text.old.items text.new.items
         (bodies functions.now code.now)) }
 {
     let mut rest = code;
@@ -96,22 +114,36 @@ fn put_functions(
     Ok(())
 }
 
-fn put_function(text: &mut String, function: &Function, code: &[Instr]) -> Result<(), AllocError>
-    ensures { OnOk result (Writes Body FitsBodyLines body_text (string_bytes text.old) (string_bytes text.new)
+fn put_function(text: &mut Vec<u8>, function: &Function, code: &[Instr]) -> Result<(), AllocError>
+    ensures { OnOk result (Writes Body FitsBodyLines body_text text.old.items text.new.items
         (record { params = function.now.params; regs = function.now.regs; code = code.now })) }
 {
     put_signature(text, function.params, function.regs)?;
     put_code(text, code)
 }
 
-fn put_signature(text: &mut String, params: u8, regs: u8) -> Result<(), AllocError>
-    ensures { OnOk result (WritesLine (string_bytes text.old) (string_bytes text.new) (line.Function params regs)) }
+/// The line of a function's registers.
+fn signature_line(params: u8, regs: u8) -> Piece
+    ensures { result ≡ line_text (line.Function params regs) }
 {
-    write!(text, "fn {params} {regs}\n")
+    let mut line = Piece::new();
+    line.byte(b'\n');
+    line.number(u32::from(regs));
+    line.byte(b' ');
+    line.number(u32::from(params));
+    line.word(b"fn ");
+    line
 }
 
-fn put_code(text: &mut String, code: &[Instr]) -> Result<(), AllocError>
-    ensures { OnOk result (WritesEach Instr FitsInstrLine instr_text (string_bytes text.old) (string_bytes text.new) code.now) }
+fn put_signature(text: &mut Vec<u8>, params: u8, regs: u8) -> Result<(), AllocError>
+    ensures { OnOk result (WritesLine text.old.items text.new.items (line.Function params regs)) }
+{
+    let line = signature_line(params, regs);
+    line.add_to(text)
+}
+
+fn put_code(text: &mut Vec<u8>, code: &[Instr]) -> Result<(), AllocError>
+    ensures { OnOk result (WritesEach Instr FitsInstrLine instr_text text.old.items text.new.items code.now) }
 {
     for instr in code {
         put_instr(text, instr)?;
@@ -119,8 +151,8 @@ fn put_code(text: &mut String, code: &[Instr]) -> Result<(), AllocError>
     Ok(())
 }
 
-fn put_lists(text: &mut String, lists: &[Items<Lock>]) -> Result<(), AllocError>
-    ensures { OnOk result (WritesEach (List Lock) FitsListLines list_text (string_bytes text.old) (string_bytes text.new) lists.now) }
+fn put_lists(text: &mut Vec<u8>, lists: &[Items<Lock>]) -> Result<(), AllocError>
+    ensures { OnOk result (WritesEach (List Lock) FitsListLines list_text text.old.items text.new.items lists.now) }
 {
     for list in lists {
         put_list(text, list.as_slice())?;
@@ -128,15 +160,15 @@ fn put_lists(text: &mut String, lists: &[Items<Lock>]) -> Result<(), AllocError>
     Ok(())
 }
 
-fn put_list(text: &mut String, locks: &[Lock]) -> Result<(), AllocError>
-    ensures { OnOk result (Writes (List Lock) FitsListLines list_text (string_bytes text.old) (string_bytes text.new) locks.now) }
+fn put_list(text: &mut Vec<u8>, locks: &[Lock]) -> Result<(), AllocError>
+    ensures { OnOk result (Writes (List Lock) FitsListLines list_text text.old.items text.new.items locks.now) }
 {
-    text.push_str("list\n")?;
+    text.extend_from_slice(b"list\n")?;
     put_locks(text, locks)
 }
 
-fn put_locks(text: &mut String, locks: &[Lock]) -> Result<(), AllocError>
-    ensures { OnOk result (WritesEach Lock FitsLockLine lock_text (string_bytes text.old) (string_bytes text.new) locks.now) }
+fn put_locks(text: &mut Vec<u8>, locks: &[Lock]) -> Result<(), AllocError>
+    ensures { OnOk result (WritesEach Lock FitsLockLine lock_text text.old.items text.new.items locks.now) }
 {
     for lock in locks {
         put_lock(text, lock)?;

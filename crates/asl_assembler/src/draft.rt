@@ -26,7 +26,7 @@ pub(crate) enum Place {
 }
 
 /// The function with one instruction more.
-fn one_longer(function: Function) -> Function
+pub(crate) fn one_longer(function: Function) -> Function
     ensures { result ≡ longer function }
 {
     Function {

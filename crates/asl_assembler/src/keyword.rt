@@ -94,6 +94,7 @@ fn find_directive(word: &[u8]) -> Option<Keyword>
 }
 
 /// The same of the instructions that set a register and touch no cell.
+#[inline(always)]
 fn find_setter(word: &[u8]) -> Option<Keyword>
     ensures { result ≡ first_named setters word.now }
 {
@@ -112,6 +113,7 @@ fn find_setter(word: &[u8]) -> Option<Keyword>
 }
 
 /// The same of the other instructions.
+#[inline(always)]
 fn find_other(word: &[u8]) -> Option<Keyword>
     ensures { result ≡ first_named others word.now }
 {

@@ -2,6 +2,7 @@
 #![tactic(auto)]
 
 mod assembly;
+mod body;
 mod disassembly;
 mod draft;
 mod keyword;
@@ -10,6 +11,7 @@ mod line;
 mod number;
 mod operand;
 mod order;
+mod piece;
 mod print;
 mod read;
 mod words;

@@ -36,7 +36,7 @@ pub(crate) enum Line {
 
 /// The instruction of a keyword and of the words after it.
 #[tactic(auto, unfolding(crate::specs::Reading::instr_of))]
-fn instruction(name: Keyword, rest: &[u8]) -> Option<Instr>
+pub(crate) fn instruction(name: Keyword, rest: &[u8]) -> Option<Instr>
     ensures { result ≡ instr_of name (words_of rest.now) }
 {
     match name {

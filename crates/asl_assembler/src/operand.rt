@@ -10,6 +10,7 @@ use crate::words::{one_word_in, three_words_in, two_words_in};
 use asl_code::{Base, Effect, Op};
 
 /// A register, as `r0`.
+#[inline(always)]
 pub(crate) fn register(word: &[u8]) -> Option<u8>
     ensures { result ≡ register_of word.now }
 {

@@ -5,6 +5,7 @@ ghost use Rattle.asl_assembler.specs.Words.{lines_of};
 ghost use Rattle.asl_assembler.specs.Reading.{image_from, blank_image, Answers};
 ghost use Rattle.asl_assembler.specs.declared.read.ReadFault.TheVariants.{OutOfMemory};
 
+use crate::body::take_body;
 use crate::draft::{Place, close, is_over, take_bytes};
 use crate::words::split_line;
 use asl_code::{Image, Items};
@@ -57,7 +58,6 @@ pub(crate) fn read(alloc: Global, text: &[u8]) -> Result<Image, ReadFault>
     while !rest.is_empty() {
         let (line, behind) = split_line(rest);
         number += 1;
-        rest = behind;
         place = match take_bytes(alloc, place, line, &mut image)? {
             Some(next) => next,
             None => return Err(ReadFault::Line(number)),
@@ -65,6 +65,7 @@ pub(crate) fn read(alloc: Global, text: &[u8]) -> Result<Image, ReadFault>
         if is_over(&place, &image) {
             return Err(ReadFault::Over);
         }
+        rest = take_body(behind, &mut number, &mut place, &mut image)?;
     }
     if close(place, &mut image)? {
         Ok(image)

@@ -48,6 +48,7 @@ pub(crate) fn split_line(text: &[u8]) -> (&[u8], &[u8])
 }
 
 /// The first word of a line, and the line after it.
+#[inline(always)]
 pub(crate) fn next_word(line: &[u8]) -> Option<(&[u8], &[u8])>
     ensures words { MatchOption result (words_of line.now ≡ []) (λ x. words_of line.now ≡ x.0.now ∷ words_of x.1.now) }
     ensures shorter { IfSome result (λ x. length x.1.now < length line.now) }

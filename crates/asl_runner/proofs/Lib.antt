@@ -5,3 +5,4 @@ mod Joins
 mod Sizes
 mod Ends
 mod Promises
+mod Own

@@ -1,5 +1,5 @@
 -- A step of a thread that has not ended is no step of one that had.
-use Rattle.std.proofs.Common.{◌≡◌, ℕ, ◌++◌, true, false, List, [], ◌∷◌, length, Option, None, Some, slice_get, Result, Ok, Err, IfOk, OnErr, refl, ap, sym, ◌∙◌, subst}
+use Rattle.std.proofs.Common.{◌≡◌, ℕ, ◌++◌, true, false, List, [], ◌∷◌, length, None, Some, slice_get, Result, Ok, Err, IfOk, OnErr, refl, ap, sym, ◌∙◌, subst}
 use Rattle.std.specs.Prelude.{is_none, option_and_then}
 use Rattle.std.proofs.lemmas.List.Elements.{All-push}
 use Rattle.asl_code.specs.declared.image.Image.{Image}
@@ -7,7 +7,7 @@ use Rattle.asl_code.specs.declared.instr.Instr.{Instr}
 use Rattle.asl_code.specs.declared.instr.Instr.TheVariants as instr
 use Rattle.asl_machine.specs.declared.reply.Reply.{Reply}
 use Rattle.asl_machine.specs.declared.reply.Reply.TheVariants as reply
-use Rattle.asl_machine.specs.State.{Activity, Thread, Running, Done, Failed, State, activity_of}
+use Rattle.asl_machine.specs.State.{Thread, Running, Done, Failed, State, activity_of}
 use Rattle.asl_machine.specs.Run.{start_of, state_after}
 use Rattle.asl_machine.specs.Step.{At, Line, StepOf, Step}
 use Rattle.asl_machine.specs.StepFunction.{step_of}

@@ -3,7 +3,7 @@ ghost use Rattle.std.specs.Prelude.{◌≡◌, ◌≢◌, ◌<◌, ◌≤◌, �
 ghost use Rattle.asl_code.specs.Versions.{newest_threads};
 ghost use Rattle.asl_runner.specs.Working.{HasLeft};
 ghost use Rattle.asl_runner.specs.Ending.{IsMine};
-ghost use Rattle.asl_runner.specs.Turning.{AfterTurn, IsAt, IsReadyAt};
+ghost use Rattle.asl_runner.specs.Turning.{AfterTurn, IsAt, IsReadyAt, IsTurnOf};
 
 use crate::gate::Gate;
 use crate::locked::Steps;
@@ -29,7 +29,7 @@ pub struct Post {
 }
 
 /// What a worker has at hand: its seat, a receipt for each of its calls, which threads have not been told ended, and from
-/// which thread on it looks for its next.
+/// which of its numbers on it looks for its next thread.
 #[derive(Drop)]
 pub struct Working {
     pub seat: TurnSeat,
@@ -54,34 +54,37 @@ enum Next {
     Refused,
 }
 
-/// The first of the worker's threads from low to below high that goes on.
+/// The first of the worker's threads from low, which is one, to below high that goes on.
 fn first_going(post: Post, going: &[bool; MAX_THREADS], low: u32, high: u32) -> Option<u8>
     requires high { high ≤ newest_threads }
-    requires some { 0 < post.workers }
+    requires at { IsAt post }
+    requires mine { IsTurnOf post low }
     ensures { MatchOption result
         ((t : ℕ) → low ≤ t → t < high → (t % post.workers) ≡ post.worker → slice_get going.now t ≢ Some true)
         (λ t. (t < high) × ((t % post.workers) ≡ post.worker) × (slice_get going.now t ≡ Some true)) }
 {
-    for t in low..high {
-        if t % post.workers == u32::from(post.worker) && going[t as usize] {
+    let mut t = low;
+    while t < high {
+        if going[t as usize] {
             return Some(t as u8);
         }
+        t += post.workers;
     }
     None
 }
 
 /// A thread of the worker that goes on, in turn from the number on.
+#[tactic(auto, using(crate::proofs::Own::none_before, crate::proofs::Own::own_first))]
 fn next_thread(post: Post, going: &[bool; MAX_THREADS], from: u32) -> Option<u8>
-    requires count { post.count ≤ newest_threads }
-    requires some { 0 < post.workers }
+    requires at { IsAt post }
+    requires mine { IsTurnOf post from }
     ensures { MatchOption result
         ((t : ℕ) → IsMine post.count post.workers post.worker t → slice_get going.now t ≢ Some true)
         (λ t. IsMine post.count post.workers post.worker t × (slice_get going.now t ≡ Some true)) }
 {
-    let from = from.min(post.count);
     match first_going(post, going, from, post.count) {
         Some(thread) => Some(thread),
-        None => first_going(post, going, 0, from),
+        None => first_going(post, going, u32::from(post.worker), from.min(post.count)),
     }
 }
 
@@ -116,7 +119,7 @@ fn turn<R: Wait, S: Steps, G: Gate>(
     };
     gate.after(post.worker, call, &receipt);
     note_end(&mut at.going, &receipt);
-    at.from = u32::from(thread) + 1;
+    at.from = u32::from(thread) + post.workers;
     at.receipts.push_reserved(receipt);
     Next::GoOn
 }
@@ -151,6 +154,7 @@ fn stepped<R: Wait, S: Steps>(rt: &R, alloc: Global, steps: &S, thread: u8) -> O
 }
 
 /// Works until all threads of the worker have ended, no ticket is left, or a growth is refused.
+#[tactic(auto, using(crate::proofs::Own::own_first))]
 pub fn run_worker<R: Wait, S: Steps, G: Gate>(
     rt: &R,
     alloc: Global,

@@ -1,4 +1,4 @@
-use Rattle.std.proofs.Common.{◌≡◌, ℕ, List, ◌++◌, ◌∙◌, ap, sym, subst, arith, string_bytes}
+use Rattle.std.proofs.Common.{◌≡◌, ℕ, List, ◌++◌, ◌∙◌, ap, sym, subst, arith}
 use Rattle.asl_code.proofs.FitsLaws.{image_fits}
 use Rattle.asl_assembler.specs.Text.{Spells}
 use Rattle.asl_assembler.specs.Canonical.{canonical_text}
@@ -15,6 +15,5 @@ pub returns-clause-spelled : goal.returns-clause-spelled
 returns-clause-spelled c =
     let i = c.args.program.now in
     let w = rw c.image.ensures.image at c.in_ok-put_image.ensures in
-    let bytes : c.into_bytes.result.items ≡ string_bytes c.put_image.new.text = ap (λ v. v.items) c.into_bytes.ensures.value in
-    let all : c.into_bytes.result.items ≡ canonical_text i = bytes ∙ w.added ∙ ap (λ (t : List ℕ). t ++ canonical_text i) c.in_ok-text.ensures.bytes in
+    let all : c.put_image.new.text.items ≡ canonical_text i = w.added ∙ ap (λ (t : List ℕ). t ++ canonical_text i) c.in_ok-text.ensures.items in
     subst (λ (t : List ℕ). Spells t i) (sym all) (canonical_spelled i c.image.ensures.verified w.fits)

@@ -1,4 +1,4 @@
-use Rattle.std.proofs.Common.{refl, string_bytes, subst, List}
+use Rattle.std.proofs.Common.{refl, subst, List}
 use Rattle.std.proofs.lemmas.List.{take_all}
 use Rattle.asl_code.specs.declared.image.Function.{Function}
 use Rattle.asl_assembler.specs.Text.{Body}
@@ -9,7 +9,7 @@ use Rattle.asl_assembler.proofs.Bodies.{functions_more, rest_left}
 use Rattle.asl_assembler.proofs.disassembly.put_functions.Goals as goal
 
 pub loop-function-init : goal.loop-function-init
-loop-function-init c = record { rest = refl; written = none_written Body FitsBodyLines body_text (string_bytes c.args.text.now) }
+loop-function-init c = record { rest = refl; written = none_written Body FitsBodyLines body_text c.args.text.now.items }
 
 pub loop-function-preserved : goal.loop-function-preserved
 loop-function-preserved c =
@@ -20,10 +20,10 @@ loop-function-preserved c =
     let left = c.loop-function.invariant.rest in
     record {
       rest = rest_left fs i _ code rest c.split_at.result.1.now c.loop-function-test.true left (rw c.min-len.ensures at c.split_at.ensures.back);
-      written = functions_more (string_bytes c.args.text.now) (string_bytes c.loop-function.text) (string_bytes c.put_function.new.text) fs i _ code rest c.split_at.result.0.now c.loop-function-test.true left (rw c.min-len.ensures at c.split_at.ensures.front) c.loop-function.invariant.written c.in_ok-put_function.ensures;
+      written = functions_more c.args.text.now.items c.loop-function.text.items c.put_function.new.text.items fs i _ code rest c.split_at.result.0.now c.loop-function-test.true left (rw c.min-len.ensures at c.split_at.ensures.front) c.loop-function.invariant.written c.in_ok-put_function.ensures;
     }
 
 pub returns : goal.returns
 returns c =
-    subst (λ (fs : List Function). WritesEach Body FitsBodyLines body_text (string_bytes c.args.text.now) (string_bytes c.loop-function.text) (bodies fs c.args.code.now))
+    subst (λ (fs : List Function). WritesEach Body FitsBodyLines body_text c.args.text.now.items c.loop-function.text.items (bodies fs c.args.code.now))
     (take_all c.loop-function.function-index c.args.functions.now c.loop-function-test.false) c.loop-function.invariant.written

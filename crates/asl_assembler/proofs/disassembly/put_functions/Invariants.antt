@@ -1,4 +1,4 @@
-use Rattle.std.proofs.Common.{◌≡◌, take, drop, string_bytes}
+use Rattle.std.proofs.Common.{◌≡◌, take, drop}
 use Rattle.asl_code.specs.Bodies.{total_len}
 use Rattle.asl_assembler.specs.Text.{Body}
 use Rattle.asl_assembler.specs.Canonical.{bodies}
@@ -9,5 +9,5 @@ use Rattle.asl_assembler.proofs.disassembly.put_functions.Given as goal
 abbrev pub invariant-loop-function : goal.invariant-loop-function
 invariant-loop-function l = record {
   rest : l.rest ≡ drop (total_len (take l.function-index l.functions)) l.code;
-  written : WritesEach Body FitsBodyLines body_text (string_bytes l.initial.text) (string_bytes l.text) (bodies (take l.function-index l.functions) l.code);
+  written : WritesEach Body FitsBodyLines body_text l.initial.text.items l.text.items (bodies (take l.function-index l.functions) l.code);
 }

@@ -1,4 +1,4 @@
-use Rattle.std.proofs.Common.{List, string_bytes}
+use Rattle.std.proofs.Common.{List}
 use Rattle.std.proofs.lemmas.Result.{on_ok_weaker}
 use Rattle.asl_code.specs.declared.lock.Lock.{Lock}
 use Rattle.asl_assembler.specs.declared.line.Line.TheVariants as line
@@ -8,10 +8,10 @@ use Rattle.asl_assembler.proofs.disassembly.put_list.Goals as goal
 
 pub returns : goal.returns
 returns c =
-    let old = string_bytes c.args.text.now in
-    let mid = string_bytes c.push_str.new.self in
-    let new = string_bytes c.put_locks.new.text in
+    let old = c.args.text.now.items in
+    let mid = c.extend_from_slice.new.self.items in
+    let new = c.put_locks.new.text.items in
     on_ok_weaker c.put_locks.result
     (λ w. as_one (List Lock) list_lines old new c.args.locks.now
-    (line_then old mid new line.List _ (record { fits = record { fields = (tt, tt); kept = tt }; added = c.in_ok-push_str.ensures.bytes }) (lines_mapped Lock line.Lock mid new c.args.locks.now w)))
+    (line_then old mid new line.List _ (record { fits = record { fields = (tt, tt); kept = tt }; added = c.in_ok-extend_from_slice.ensures.items }) (lines_mapped Lock line.Lock mid new c.args.locks.now w)))
     c.put_locks.ensures

@@ -1,4 +1,4 @@
-use Rattle.std.proofs.Common.{rules, ◌≡◌, ◌+◌, Some, length, slice_get, vec_len, arith, ap, ◌∙◌}
+use Rattle.std.proofs.Common.{rules, ◌≡◌, ◌+◌, length, vec_len, arith, ap, ◌∙◌}
 use Rattle.std.specs.Vec.Iter.{into_iter_items}
 use Rattle.asl_turns.specs.Turn.{Turn}
 use Rattle.asl_runner.proofs.Joins.{first_from, first_worked, refused_more, rest_from, rest_worked, work_joined}

@@ -7,7 +7,7 @@ use Rattle.asl_runner.proofs.Promises.{pushed_or}
 use Rattle.asl_runner.proofs.starting.start_workers.Goals as goal
 
 pub start_worker-requires-clause-at : goal.start_worker-requires-clause-at
-start_worker-requires-clause-at g c κs within = record { threads = c.requires.threads; mine = omega (arith, c.loop-seat.invariant.4, c.in-Some.ensures.steps.1) }
+start_worker-requires-clause-at g c κs within = record { threads = c.requires.threads; mine = omega (arith, c.loop-seat.invariant.4, c.in-Some.ensures.steps.1); few = c.loop-seat.invariant.5 }
 
 pub start_worker-requires-clause-seat : goal.start_worker-requires-clause-seat
 start_worker-requires-clause-seat g c κs within = c.loop-seat.invariant.6 0 c.in-Some.seat (ap (λ (seats : List Turn). slice_get seats 0) c.in-Some.ensures.steps.0)

@@ -1,4 +1,5 @@
 use Rattle.std.proofs.Common.{◌≡◌, ◌<◌, ◌++◌, ◌∷◌, [], true, List, Some, slice_get, arith, ap, ◌∙◌}
+use Rattle.std.proofs.Math.Nat.{add-mod_right}
 use Rattle.asl_journal.specs.declared.event.Receipt.{Receipt}
 use Rattle.asl_runner.proofs.Workers.{steps_as}
 use Rattle.asl_runner.proofs.worker.turn.Goals as goal
@@ -13,5 +14,9 @@ returns g c =
     let receipt = c.in-Some-stepped.receipt in
     let goes : slice_get at.going receipt.thread ≡ Some true = ap (slice_get at.going) c.in-Some-stepped.ensures ∙ c.in-Some.ensures.1 in
     let more = c.push_reserved.ensures.items ∙ ap (λ (rs : List Receipt). rs ++ receipt ∷ []) c.reserve.ensures.items in
-    steps_as c.args.turns.now post.count post.workers post.worker at.seat c.draw.new.seat c.in-Some-draw._ticket at.receipts.items c.push_reserved.new.self.items receipt at.going c.note_end.new.going
-    works drawn more goes c.note_end.ensures.ended c.note_end.ensures.goes
+    record {
+      placed = c.requires.ready.placed;
+      works = steps_as c.args.turns.now post.count post.workers post.worker at.seat c.draw.new.seat c.in-Some-draw._ticket at.receipts.items c.push_reserved.new.self.items receipt at.going c.note_end.new.going
+          works drawn more goes c.note_end.ensures.ended c.note_end.ensures.goes;
+      from = rw c.from.ensures (add-mod_right c.in-Some.thread post.workers ∙ c.in-Some.ensures.0.mine);
+    }
