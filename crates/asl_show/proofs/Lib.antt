@@ -1,3 +1,4 @@
 mod Texts
 mod Lines
 mod Clashes
+mod Frames

@@ -1,5 +1,5 @@
 -- The lines of a view, as loops write them: those so far, and then those that are left.
-use Rattle.std.proofs.Common.{◌≡◌, ℕ, suc, ◌+◌, ◌-◌, ◌<◌, ◌≤◌, List, ◌++◌, refl, sym, ap, ◌∙◌, append_assoc, append-nil, add-one, arith}
+use Rattle.std.proofs.Common.{◌≡◌, ℕ, zero, suc, ◌+◌, ◌-◌, ◌<◌, ◌≤◌, List, [], ◌++◌, refl, sym, ap, ◌∙◌, append_assoc, append-nil, add-one, arith}
 use Rattle.asl_show.specs.Lines.{lines_from}
 
 -- the lines of the numbers that are left
@@ -34,3 +34,9 @@ unfolding lines_from
 all_written line n end first text le w =
     let none : end - n ≡ 0 = omega (arith, le) in
     sym (append-nil text) ∙ ap (λ (k : ℕ). text ++ lines_from line n k) (sym none) ∙ w.all
+
+-- where each number has no line, there is no text
+pub no_lines : (line : ℕ → List ℕ) (first count : ℕ) → ((n : ℕ) → line n ≡ []) → lines_from line first count ≡ []
+unfolding lines_from
+no_lines line first zero none = refl
+no_lines line first (suc count) none = ap (λ (l : List ℕ). l ++ lines_from line (suc first) count) (none first) ∙ no_lines line (suc first) count none

@@ -1,7 +1,7 @@
 //! The frames of the threads as text.
 ghost use Rattle.std.specs.Prelude.{◌≡◌, ◌<◌, ◌++◌, length, OnOk, string_bytes};
 ghost use Rattle.asl_show.specs.Lines.{lines_from};
-ghost use Rattle.asl_show.specs.Stack.{frame_at_line, frame_text, local_at, stack_of, stack_text};
+ghost use Rattle.asl_show.specs.Stack.{frame_text, local_at, stack_of, stack_text};
 
 use crate::replies::push_value;
 use asl_code::limits::REGS;
@@ -33,6 +33,7 @@ fn push_frames(text: &mut String, machine: &Machine<'_>, t: u32) -> Result<(), A
     Ok(())
 }
 
+/// Adds the frame of this number, if it is there: its line and its registers.
 fn push_frame(
     text: &mut String,
     machine: &Machine<'_>,
@@ -42,25 +43,12 @@ fn push_frame(
     requires { t < length machine.now.state.threads }
     ensures { OnOk result (string_bytes text.new ≡ string_bytes text.old ++ frame_text machine.now.state t index) }
 {
-    push_frame_line(text, machine, t, index)?;
-    push_locals(text, machine, t, index)
-}
-
-/// Adds the frame's own line, if it is there.
-fn push_frame_line(
-    text: &mut String,
-    machine: &Machine<'_>,
-    t: u32,
-    index: u32,
-) -> Result<(), AllocError>
-    requires { t < length machine.now.state.threads }
-    ensures { OnOk result (string_bytes text.new ≡ string_bytes text.old ++ frame_at_line machine.now.state t index) }
-{
     match machine.frame(t, index) {
         Some(frame) => {
             let function = frame.function;
             let pc = frame.pc;
-            write!(text, "frame {t} {index} fn {function} pc {pc}\n")
+            write!(text, "frame {t} {index} fn {function} pc {pc}\n")?;
+            push_locals(text, machine, t, index)
         }
         None => Ok(()),
     }

@@ -1,6 +1,5 @@
-use Rattle.std.proofs.Common.{◌≡◌, ◌<◌, ℕ, length, subst, sym, inl, inr, List, [], Some}
+use Rattle.std.proofs.Common.{◌<◌, ℕ, length, subst, sym, inl, inr}
 use Rattle.std.proofs.lemmas.Bool.{cases_Bool}
-use Rattle.asl_machine.specs.declared.reply.Reply.TheVariants as reply
 use Rattle.asl_lock_forest.specs.Holding.{asked, held, can_grant}
 use Rattle.asl_lock_forest.proofs.Grantable.{can_grant-tells, can_grant-refused}
 use Rattle.asl_lock_forest.proofs.Lawful.{way_there}
