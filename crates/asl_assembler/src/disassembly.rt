@@ -75,7 +75,8 @@ fn put_head(text: &mut Vec<u8>, version: u32, classes: u32) -> Result<(), AllocE
 fn put_global(text: &mut Vec<u8>, class: u16) -> Result<(), AllocError>
     ensures { OnOk result (Writes ℕ FitsGlobalLine global_text text.old.items text.new.items class) }
 {
-    let line = short_line(b"global", class);
+    let mut line = Piece::new();
+    short_line(&mut line, b"global", class);
     line.add_to(text)
 }
 
@@ -91,7 +92,8 @@ fn put_globals(text: &mut Vec<u8>, classes: &[u16]) -> Result<(), AllocError>
 fn put_entry(text: &mut Vec<u8>, function: u16) -> Result<(), AllocError>
     ensures { OnOk result (WritesLine text.old.items text.new.items (line.Entry function)) }
 {
-    let line = short_line(b"entry", function);
+    let mut line = Piece::new();
+    short_line(&mut line, b"entry", function);
     line.add_to(text)
 }
 

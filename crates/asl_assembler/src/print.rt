@@ -15,41 +15,39 @@ use std::alloc::AllocError;
 
 /// The line of a word and one register.
 #[inline(always)]
-fn register_line(word: &[u8], register: u8) -> Piece
-    requires { length word.now ≤ 6 }
-    ensures { result ≡ word.now ++ operands (codes ", ") (Register register ∷ []) }
+fn register_line(line: &mut Piece, word: &[u8], register: u8)
+    requires empty { line.old ≡ [] }
+    requires short { length word.now ≤ 6 }
+    ensures { line.new ≡ word.now ++ operands (codes ", ") (Register register ∷ []) }
 {
-    let mut line = Piece::new();
     line.byte(b'\n');
     line.register(register);
     line.byte(b' ');
     line.word(word);
-    line
 }
 
 /// The line of a word and two registers.
 #[inline(always)]
-fn two_line(word: &[u8], first: u8, second: u8) -> Piece
-    requires { length word.now ≤ 6 }
-    ensures { result ≡ word.now ++ operands (codes ", ") (Register first ∷ Register second ∷ []) }
+fn two_line(line: &mut Piece, word: &[u8], first: u8, second: u8)
+    requires empty { line.old ≡ [] }
+    requires short { length word.now ≤ 6 }
+    ensures { line.new ≡ word.now ++ operands (codes ", ") (Register first ∷ Register second ∷ []) }
 {
-    let mut line = Piece::new();
     line.byte(b'\n');
     line.register(second);
     line.comma();
     line.register(first);
     line.byte(b' ');
     line.word(word);
-    line
 }
 
 /// The line of a word and three registers.
 #[inline(always)]
-fn three_line(word: &[u8], first: u8, second: u8, third: u8) -> Piece
-    requires { length word.now ≤ 6 }
-    ensures { result ≡ word.now ++ operands (codes ", ") (Register first ∷ Register second ∷ Register third ∷ []) }
+fn three_line(line: &mut Piece, word: &[u8], first: u8, second: u8, third: u8)
+    requires empty { line.old ≡ [] }
+    requires short { length word.now ≤ 6 }
+    ensures { line.new ≡ word.now ++ operands (codes ", ") (Register first ∷ Register second ∷ Register third ∷ []) }
 {
-    let mut line = Piece::new();
     line.byte(b'\n');
     line.register(third);
     line.comma();
@@ -58,45 +56,42 @@ fn three_line(word: &[u8], first: u8, second: u8, third: u8) -> Piece
     line.register(first);
     line.byte(b' ');
     line.word(word);
-    line
 }
 
 /// The line of a word and a number.
 #[inline(always)]
-pub(crate) fn short_line(word: &[u8], number: u16) -> Piece
-    requires { length word.now ≤ 6 }
-    ensures { result ≡ word.now ++ operands (codes ", ") (Short number ∷ []) }
+pub(crate) fn short_line(line: &mut Piece, word: &[u8], number: u16)
+    requires empty { line.old ≡ [] }
+    requires short { length word.now ≤ 6 }
+    ensures { line.new ≡ word.now ++ operands (codes ", ") (Short number ∷ []) }
 {
-    let mut line = Piece::new();
     line.byte(b'\n');
     line.number(u32::from(number));
     line.byte(b' ');
     line.word(word);
-    line
 }
 
 /// The line of a word, a register and a number.
-fn register_and_short_line(word: &[u8], register: u8, number: u16) -> Piece
-    requires { length word.now ≤ 6 }
-    ensures { result ≡ word.now ++ operands (codes ", ") (Register register ∷ Short number ∷ []) }
+fn register_and_short_line(line: &mut Piece, word: &[u8], register: u8, number: u16)
+    requires empty { line.old ≡ [] }
+    requires short { length word.now ≤ 6 }
+    ensures { line.new ≡ word.now ++ operands (codes ", ") (Register register ∷ Short number ∷ []) }
 {
-    let mut line = Piece::new();
     line.byte(b'\n');
     line.number(u32::from(number));
     line.comma();
     line.register(register);
     line.byte(b' ');
     line.word(word);
-    line
 }
 
 /// The line of a word, two registers and a number.
 #[inline(always)]
-fn two_and_short_line(word: &[u8], first: u8, second: u8, number: u16) -> Piece
-    requires { length word.now ≤ 6 }
-    ensures { result ≡ word.now ++ operands (codes ", ") (Register first ∷ Register second ∷ Short number ∷ []) }
+fn two_and_short_line(line: &mut Piece, word: &[u8], first: u8, second: u8, number: u16)
+    requires empty { line.old ≡ [] }
+    requires short { length word.now ≤ 6 }
+    ensures { line.new ≡ word.now ++ operands (codes ", ") (Register first ∷ Register second ∷ Short number ∷ []) }
 {
-    let mut line = Piece::new();
     line.byte(b'\n');
     line.number(u32::from(number));
     line.comma();
@@ -105,15 +100,14 @@ fn two_and_short_line(word: &[u8], first: u8, second: u8, number: u16) -> Piece
     line.register(first);
     line.byte(b' ');
     line.word(word);
-    line
 }
 
 /// The line of a word, a register and two numbers.
-fn register_and_shorts_line(word: &[u8], register: u8, first: u16, second: u16) -> Piece
-    requires { length word.now ≤ 6 }
-    ensures { result ≡ word.now ++ operands (codes ", ") (Register register ∷ Short first ∷ Short second ∷ []) }
+fn register_and_shorts_line(line: &mut Piece, word: &[u8], register: u8, first: u16, second: u16)
+    requires empty { line.old ≡ [] }
+    requires short { length word.now ≤ 6 }
+    ensures { line.new ≡ word.now ++ operands (codes ", ") (Register register ∷ Short first ∷ Short second ∷ []) }
 {
-    let mut line = Piece::new();
     line.byte(b'\n');
     line.number(u32::from(second));
     line.comma();
@@ -122,76 +116,70 @@ fn register_and_shorts_line(word: &[u8], register: u8, first: u16, second: u16) 
     line.register(register);
     line.byte(b' ');
     line.word(word);
-    line
 }
 
 /// The line of a word, a register and an integer.
-fn register_and_integer_line(word: &[u8], register: u8, integer: i32) -> Piece
-    requires { length word.now ≤ 6 }
-    ensures { result ≡ word.now ++ operands (codes ", ") (Register register ∷ Integer integer ∷ []) }
+fn register_and_integer_line(line: &mut Piece, word: &[u8], register: u8, integer: i32)
+    requires empty { line.old ≡ [] }
+    requires short { length word.now ≤ 6 }
+    ensures { line.new ≡ word.now ++ operands (codes ", ") (Register register ∷ Integer integer ∷ []) }
 {
-    let mut line = Piece::new();
     line.byte(b'\n');
     line.integer(integer);
     line.comma();
     line.register(register);
     line.byte(b' ');
     line.word(word);
-    line
 }
 
 /// The line of a word, a register and a global.
-fn register_and_global_line(word: &[u8], register: u8, global: u16) -> Piece
-    requires { length word.now ≤ 6 }
-    ensures { result ≡ word.now ++ operands (codes ", ") (Register register ∷ GlobalName global ∷ []) }
+fn register_and_global_line(line: &mut Piece, word: &[u8], register: u8, global: u16)
+    requires empty { line.old ≡ [] }
+    requires short { length word.now ≤ 6 }
+    ensures { line.new ≡ word.now ++ operands (codes ", ") (Register register ∷ GlobalName global ∷ []) }
 {
-    let mut line = Piece::new();
     line.byte(b'\n');
     line.global(global);
     line.comma();
     line.register(register);
     line.byte(b' ');
     line.word(word);
-    line
 }
 
 /// The line of an instruction.
-fn instr_line(instr: &Instr) -> Piece
-    ensures written { result ≡ instr_text instr.now }
+fn instr_line(line: &mut Piece, instr: &Instr)
+    requires { line.old ≡ [] }
+    ensures written { line.new ≡ instr_text instr.now }
     ensures fits { FitsInstrLine instr.now }
 {
     match *instr {
-        Instr::SetInt { to, value } => register_and_integer_line(b"int", to, value),
-        Instr::SetNull { to } => register_line(b"null", to),
-        Instr::Move { to, from } => two_line(b"mov", to, from),
-        Instr::Add { to, left, right } => three_line(b"add", to, left, right),
-        Instr::Subtract { to, left, right } => three_line(b"sub", to, left, right),
-        Instr::LessThan { to, left, right } => three_line(b"lt", to, left, right),
-        Instr::Equals { to, left, right } => three_line(b"eq", to, left, right),
-        Instr::GlobalAddress { to, global } => register_and_global_line(b"glob", to, global),
+        Instr::SetInt { to, value } => register_and_integer_line(line, b"int", to, value),
+        Instr::SetNull { to } => register_line(line, b"null", to),
+        Instr::Move { to, from } => two_line(line, b"mov", to, from),
+        Instr::Add { to, left, right } => three_line(line, b"add", to, left, right),
+        Instr::Subtract { to, left, right } => three_line(line, b"sub", to, left, right),
+        Instr::LessThan { to, left, right } => three_line(line, b"lt", to, left, right),
+        Instr::Equals { to, left, right } => three_line(line, b"eq", to, left, right),
+        Instr::GlobalAddress { to, global } => register_and_global_line(line, b"glob", to, global),
         Instr::FieldAddress { to, from, offset } => {
-            two_and_short_line(b"field", to, from, u16::from(offset))
+            two_and_short_line(line, b"field", to, from, u16::from(offset))
         }
-        Instr::Load { to, address } => two_line(b"load", to, address),
-        Instr::Store { address, from } => two_line(b"store", address, from),
+        Instr::Load { to, address } => two_line(line, b"load", to, address),
+        Instr::Store { address, from } => two_line(line, b"store", address, from),
         Instr::New { to, cells, class } => {
-            register_and_shorts_line(b"new", to, u16::from(cells), class)
+            register_and_shorts_line(line, b"new", to, u16::from(cells), class)
         }
-        Instr::Jump { target } => short_line(b"jmp", target),
-        Instr::JumpIfZero { test, target } => register_and_short_line(b"jz", test, target),
+        Instr::Jump { target } => short_line(line, b"jmp", target),
+        Instr::JumpIfZero { test, target } => register_and_short_line(line, b"jz", test, target),
         Instr::Call {
             to,
             first,
             function,
-        } => two_and_short_line(b"call", to, first, function),
-        Instr::Return { from } => register_line(b"ret", from),
-        Instr::Output { from } => register_line(b"out", from),
-        Instr::Acquire { list } => short_line(b"acq", list),
-        Instr::Release => {
-            let mut line = Piece::new();
-            line.word(b"rel\n");
-            line
-        }
+        } => two_and_short_line(line, b"call", to, first, function),
+        Instr::Return { from } => register_line(line, b"ret", from),
+        Instr::Output { from } => register_line(line, b"out", from),
+        Instr::Acquire { list } => short_line(line, b"acq", list),
+        Instr::Release => line.word(b"rel\n"),
     }
 }
 
@@ -199,7 +187,8 @@ fn instr_line(instr: &Instr) -> Piece
 pub(crate) fn put_instr(text: &mut Vec<u8>, instr: &Instr) -> Result<(), AllocError>
     ensures { OnOk result (WritesLine text.old.items text.new.items (line.Instruction instr.now)) }
 {
-    let line = instr_line(instr);
+    let mut line = Piece::new();
+    instr_line(&mut line, instr);
     line.add_to(text)
 }
 

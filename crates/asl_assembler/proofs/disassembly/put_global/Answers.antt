@@ -3,4 +3,4 @@ use Rattle.std.proofs.lemmas.Result.{on_ok_weaker}
 use Rattle.asl_assembler.proofs.disassembly.put_global.Goals as goal
 
 pub returns : goal.returns
-returns c = on_ok_weaker c.add_to.result (λ w. record { fits = record { fields = (tt, (omega arith, tt)); kept = tt }; added = rw c.short_line-line.ensures at w }) c.add_to.ensures
+returns c = on_ok_weaker c.add_to.result (λ w. record { fits = record { fields = (tt, (omega arith, tt)); kept = tt }; added = rw c.short_line.ensures at w }) c.add_to.ensures
