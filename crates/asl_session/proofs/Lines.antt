@@ -1,5 +1,5 @@
 -- The lines of events, as a loop writes them: those of the events so far, and then those of the rest.
-use Rattle.std.proofs.Common.{◌≡◌, ℕ, suc, ◌+◌, ◌<◌, List, [], ◌++◌, length, drop, get_or, refl, ◌∙◌, ap, drop-cons, arith}
+use Rattle.std.proofs.Common.{◌≡◌, ℕ, suc, ◌+◌, ◌<◌, List, [], ◌++◌, length, drop, get_or, ◌∙◌, ap, drop-cons, arith}
 use Rattle.std.proofs.Math.ListN.{drop_of_length-le}
 use Rattle.asl_journal.specs.declared.event.Event.{Event}
 use Rattle.asl_show.specs.Replies.{step_line}

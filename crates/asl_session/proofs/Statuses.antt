@@ -1,5 +1,5 @@
 -- What the status of a call tells, from what its answer tells.
-use Rattle.std.proofs.Common.{◌≡◌, ◌≢◌, ℕ, ◌+◌, ◌<◌, ◌≤◌, ◌⊎◌, inl, inr, length, refl, arith}
+use Rattle.std.proofs.Common.{◌≡◌, ◌≢◌, ℕ, ◌+◌, ◌<◌, ◌≤◌, ◌⊎◌, length, refl, arith}
 use Rattle.std.specs.Prelude.{◌↔◌, Result, Ok, Err, IfOk, OnOk, OnErr, IsErrOf}
 use Rattle.asl_machine.specs.declared.reply.Reply.{Reply}
 use Rattle.asl_machine.specs.Step.{Step}
