@@ -1,45 +1,106 @@
 // The proved toolchain as a WebAssembly module, for the browser and for Node (from 24, or with --experimental-wasm-memory64).
 //   const asl = await loadAsl(bytes);                       the bytes of asl.wasm
 //   asl(['compile', '--text'], source)                      { status, output: Uint8Array, errors: string }
+//   const session = asl.session(program, threads);          an image or assembly text; a run that is stepped, gone through, and cut
 // The words and the status are those of the program `asl`; `run`, which needs threads, has status 255.
 
 const encoder = new TextEncoder();
 const decoder = new TextDecoder();
 const ERRORS = 4096;
 const ANSWER = 24; // status in 4 bytes, 4 unused, the length of the output and of the errors in 8 each
+const HANDLE = 16; // whether it is live in 1 byte, 7 unused, where it stands in 8
+const TOLD = 8;    // a length in 8 bytes; or the position and the number of events in 4 each
+const ROOM = 1 << 16; // bytes that a text is given at first
+
+// The statuses of sessions (include/asl.h) by the names that the program has for them, where it has one.
+const STATUSES = { 2: 'OutOfMemory', 3: 'BadHandle', 4: 'BadThread', 11: 'BadCount', 12: 'NoProgram', 13: 'NoSuchStep', 14: 'NotAtEnd',
+  15: 'JournalFull', 16: 'NullPointer' };
 
 export async function loadAsl(bytes) {
   const { instance } = await WebAssembly.instantiate(bytes, {});
-  return callerOf(instance.exports);
+  const wasm = instance.exports, memory = memoryOf(wasm);
+  return Object.assign(callerOf(wasm, memory), { session: (program, threads) => sessionOf(wasm, memory, program, threads),
+    memory: () => wasm.memory.buffer.byteLength });
 }
 
-function callerOf(wasm) {
+function memoryOf(wasm) {
   const at = (pointer, length) => new Uint8Array(wasm.memory.buffer, Number(pointer), length);
   const take = length => {
     const pointer = wasm.asl_take(BigInt(Math.max(length, 1)));
     if (!pointer) throw new Error('out of memory');
     return pointer;
   };
+  const look = (pointer, length) => new DataView(wasm.memory.buffer, Number(pointer), length);
+  return { at, take, give: pointer => wasm.asl_give(pointer), look };
+}
+
+const bytesOf = input => (typeof input === 'string' ? encoder.encode(input) : input);
+
+function callerOf(wasm, { at, take, give, look }) {
   const once = (words, input, room) => {
     const taken = [words.length, input.length, room, ERRORS, ANSWER].map(take), [w, i, out, err, answer] = taken;
     at(w, words.length).set(words);
     at(i, input.length).set(input);
     wasm.asl_call(w, BigInt(words.length), i, BigInt(input.length), out, BigInt(room), err, BigInt(ERRORS), answer);
-    const told = new DataView(wasm.memory.buffer, Number(answer), ANSWER);
+    const told = look(answer, ANSWER);
     const length = Number(told.getBigUint64(8, true)), said = Number(told.getBigUint64(16, true));
     const result = { status: told.getUint32(0, true), length, output: length <= room ? at(out, length).slice() : null,
       errors: decoder.decode(at(err, Math.min(said, ERRORS)).slice()) };
-    taken.forEach(pointer => wasm.asl_give(pointer));
+    taken.forEach(give);
     return result;
   };
-  let room = 1 << 16; // for the output; it grows to the largest that was seen
-  const call = (words, input) => {
+  let room = ROOM; // for the output; it grows to the largest that was seen
+  return (words, input) => {
     const list = encoder.encode(words.join('\n'));
-    const bytes = typeof input === 'string' ? encoder.encode(input) : input;
+    const bytes = bytesOf(input);
     let answer = once(list, bytes, room);
     room = Math.max(room, Math.ceil(answer.length * 1.3));
     if (!answer.output) answer = once(list, bytes, room);
     return answer;
   };
-  return Object.assign(call, { memory: () => wasm.memory.buffer.byteLength });
+}
+
+function accept(status) {
+  if (status) throw Object.assign(new Error(STATUSES[status]), { name: STATUSES[status], status });
+}
+
+// The handle of a new session, which holds none where the program is refused.
+function opened(wasm, { at, take, give }, program, threads) {
+  const bytes = bytesOf(program), handle = take(HANDLE), input = take(bytes.length);
+  at(handle, HANDLE).fill(0);
+  at(input, bytes.length).set(bytes);
+  const status = wasm.asl_session_open_nonnull(input, BigInt(bytes.length), threads, handle);
+  give(input);
+  if (status) give(handle);
+  accept(status);
+  return handle;
+}
+
+// A session. What is refused throws an error that is named as the status. `close` gives back all that it has; afterwards each of its
+// functions throws BadHandle.
+function sessionOf(wasm, memory, program, threads) {
+  const { at, take, give, look } = memory;
+  let handle = opened(wasm, memory, program, threads), room = ROOM, told = take(TOLD), text = take(room);
+  const call = (name, ...words) => accept(handle ? wasm[`asl_session_${name}_nonnull`](handle, ...words) : 3);
+  const tell = (name, ...words) => {
+    call(name, ...words, text, BigInt(room), told);
+    const length = Number(look(told, TOLD).getBigUint64(0, true));
+    if (length <= room) return decoder.decode(at(text, length));
+    give(text);
+    text = take(room = Math.ceil(length * 1.3));
+    return tell(name, ...words);
+  };
+  const telling = Object.fromEntries(['view', 'asks', 'stack', 'objects'].map(name => [name, () => tell(name)]));
+  return { ...telling, step: thread => call('step', thread), go: k => call('go', k), cut: k => call('cut', k),
+    log: first => tell('log', first),
+    place: () => {
+      call('place', told);
+      const view = look(told, TOLD);
+      return { position: view.getUint32(0, true), events: view.getUint32(4, true) };
+    },
+    close: () => {
+      call('close');
+      [handle, told, text].forEach(give);
+      handle = 0n;
+    } };
 }
