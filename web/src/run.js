@@ -1,99 +1,96 @@
-// A recorded run: the schedule goes to the toolchain, which replies; the events are those of its `log --trace`, and the state at
-// each position is what its debugger prints there. A call makes the whole run again, so only what is not known yet is asked.
+// A run that is stepped: a session of the toolchain (docs/EMBEDDING.md, "Sessions from C"), the events that it has replied, and the
+// states at positions that were looked at, as the session prints them there.
 
-import { record, trace, viewsOf, framesOf } from './toolchain.js';
-import { readTrace } from './trace.js';
+import { openSession, record, trace } from './toolchain.js';
+import { readTrace, readEvent } from './trace.js';
 import { readView, readInto } from './view.js';
 
-const MOST_VIEWS = 64, FEW_VIEWS = 2; // positions that one call of the debugger tells
-const CALL = 16;                      // milliseconds that such a call may take
-const KEPT_LETTERS = 12e6;            // of texts of views
 const KEPT_STATES = 200;
+const FEW = 32; // steps whose places are looked up one by one; those of more are told by a trace of the whole run
 const NO_REQUEST = { nodes: new Map(), clashes: [] };
 
 export class Run {
   constructor(program, image, threads) {
-    Object.assign(this, { program, image, threads, events: [], texts: new Map(), letters: 0, states: new Map(), stretch: 8 });
+    Object.assign(this, { program, image, threads, events: [], states: new Map(), session: openSession(image, threads) });
     this.calls = program.code.some(line => line.startsWith('call '));
-    this.record([]);
-    this.view(0);
   }
+  // Gives the session's memory back; nothing may be asked afterwards.
+  close() { this.session.close(); }
   get length() { return this.events.length; }
   get schedule() { return this.events.map(event => event.thread); }
-  // The run file. What was cut off stands in the recorded one until there is need of another.
-  get file() {
-    if (this.recorded !== this.length) this.record(this.schedule);
-    return this.bytes;
-  }
+  get file() { return this.recordOf(this.schedule); }
 
-  // Records a schedule; an empty one is of one step, which is not looked at.
-  record(schedule) {
-    const answer = record(this.image, this.threads, schedule.length ? schedule : [0]);
-    if (answer.refusal && !this.bytes) throw new Error(answer.refusal);
-    if (!answer.refusal) Object.assign(this, { bytes: answer.output, recorded: schedule.length });
-    return answer.refusal;
+  recordOf(schedule) {
+    const answer = record(this.image, this.threads, schedule);
+    if (answer.refusal) throw new Error(answer.refusal);
+    return answer.output;
   }
-  // Appends steps; answers the refusal of the toolchain, if any.
+  // Appends steps, all or none; answers the refusal of the toolchain, if any.
   extend(schedule) {
-    const from = this.length, refused = this.record([...this.schedule, ...schedule]);
-    if (refused) return refused;
-    this.events.push(...readTrace(trace(this.bytes).text, from));
-    this.tellDepths();
-    return null;
+    const from = this.length;
+    try {
+      this.session.go(from);
+      const events = schedule.length > FEW ? this.stepMany(schedule) : schedule.map((thread, i) => this.stepOne(thread, from + i));
+      this.tellDepths(events);
+      for (const event of events) this.events.push(event);
+      return null;
+    } catch (error) {
+      this.session.cut(from);
+      return error.message;
+    }
+  }
+  stepOne(thread, k) {
+    const place = this.placeOf(thread);
+    this.session.step(thread);
+    return readEvent(this.session.log(k), place);
+  }
+  stepMany(schedule) {
+    for (const thread of schedule) this.session.step(thread);
+    return readTrace(trace(this.recordOf([...this.schedule, ...schedule])).text, this.length);
+  }
+  // Where a thread is, which runs; one that has ended is nowhere.
+  placeOf(thread) {
+    const line = new RegExp(`^thread ${thread} pc (\\d+) depth (\\d+)$`, 'm').exec(this.session.view());
+    return line ? { pc: Number(line[1]), depth: Number(line[2]) } : { pc: -1, depth: 0 };
   }
   // The depth of an event's thread after it is that before the thread's next event; after its last one, that at the end.
-  tellDepths() {
-    const next = this.viewWithFrames(this.length).threads.map(thread => thread.depth || 0);
-    for (let k = this.length - 1; k >= 0; k--) {
-      const event = this.events[k];
+  tellDepths(events) {
+    const next = readView(this.session.view()).threads.map(thread => thread.depth || 0);
+    for (let i = events.length - 1; i >= 0; i--) {
+      const event = events[i];
       event.after = next[event.thread];
       next[event.thread] = event.depth;
     }
   }
   truncate(length) {
     if (length >= this.length) return;
+    this.session.cut(length);
     this.events.length = length;
     for (const k of this.states.keys()) if (k > length) this.states.delete(k);
-    for (const k of this.texts.keys()) if (k > length) this.forget(k);
-    this.tellDepths();
   }
-  // Asks for position k, and for those round it that are not known, as many as may be had soon.
-  readViews(k, framed) {
-    let from = k, to = k;
-    while (k - from < this.stretch / 2 && from > 0 && !this.texts.has(from - 1)) from--;
-    while (to - from < this.stretch && to < this.length && !this.texts.has(to + 1)) to++;
-    const began = performance.now();
-    viewsOf(this.bytes, from, to, framed).forEach((text, i) => {
-      this.letters += text.length;
-      this.texts.set(from + i, text);
-    });
-    const each = (performance.now() - began) / (to - from + 1);
-    this.stretch = Math.max(FEW_VIEWS, Math.min(MOST_VIEWS, 2 * this.stretch, Math.floor(CALL / each)));
-    for (const other of this.texts.keys()) {
-      if (this.letters < KEPT_LETTERS) break;
-      if (other < from || other > to) this.forget(other);
-    }
+  // Becomes the run of another schedule: what differs is cut off and stepped anew.
+  become(schedule) {
+    const differs = schedule.findIndex((thread, k) => thread !== this.events[k]?.thread);
+    this.truncate(differs < 0 ? schedule.length : differs);
+    return differs < 0 ? null : this.extend(schedule.slice(differs));
   }
-  forget(k) {
-    if (!this.texts.has(k)) return;
-    this.letters -= this.texts.get(k).length;
-    this.texts.delete(k);
-  }
-  viewText(k, framed) {
-    if (!this.texts.has(k)) this.readViews(k, framed);
-    return this.texts.get(k);
-  }
-  view(k, framed = -1) {
+  view(k) {
     if (!this.states.has(k)) {
       if (this.states.size > KEPT_STATES) this.states.delete(this.states.keys().next().value);
-      this.states.set(k, readView(this.viewText(k, framed)));
+      this.session.go(k);
+      this.states.set(k, readView(this.session.view() + this.session.asks() + this.session.objects()));
     }
     return this.states.get(k);
   }
-  // The state with the frames of all threads; a program without calls has but one each, that of the view.
+  // The state with the frames of all threads; a program without calls has but one each, that of the view. They take longer than
+  // all the rest.
   viewWithFrames(k) {
-    const state = this.view(k, this.calls ? k : -1);
-    if (this.calls && !state.threads.some(thread => thread.frames?.length)) readInto(state, framesOf(this.bytes, k));
+    const state = this.view(k);
+    if (this.calls && !state.framed) {
+      this.session.go(k);
+      readInto(state, this.session.stack());
+      state.framed = true;
+    }
     return state;
   }
   // The request of a thread at position k, and who is in the way; none where it stands at no `acq`.

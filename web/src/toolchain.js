@@ -3,16 +3,20 @@
 import { loadTool } from './tool.js';
 
 const decoder = new TextDecoder();
-const tool = { call: null, calls: 0, milliseconds: 0 };
+const tool = { call: null, calls: 0, milliseconds: 0, sessions: 0 };
 
 export const openToolchain = async base64 => { tool.call = await loadTool(base64); };
-export const toolStatistics = () => ({ calls: tool.calls, milliseconds: tool.milliseconds, bytes: tool.call.memory() });
+export const toolStatistics = () => ({ calls: tool.calls, milliseconds: tool.milliseconds, sessions: tool.sessions,
+  bytes: tool.call.memory() });
+
+function timed(work) {
+  const began = performance.now();
+  tool.calls++;
+  try { return work(); } finally { tool.milliseconds += performance.now() - began; }
+}
 
 function ask(words, input) {
-  const began = performance.now();
-  const { status, output, errors } = tool.call(words.map(String), input);
-  tool.calls++;
-  tool.milliseconds += performance.now() - began;
+  const { status, output, errors } = timed(() => tool.call(words.map(String), input));
   if (status === 0) return { output };
   const said = /^asl: (.*)/.exec(errors);
   return { refusal: said ? said[1].trim() : errors.trim() };
@@ -34,18 +38,10 @@ export const record = (image, threads, schedule) => ask(['step', '--threads', th
 export const stepLines = (image, threads, schedule) => text(ask(['step', '--threads', threads, ...schedule], image));
 export const trace = runFile => text(ask(['log', '--trace'], runFile));
 
-// What the debugger prints at positions from..to of a recorded run, as texts, with all frames at position `framed` if it is there.
-// Frames take it longer than all the rest.
-export function viewsOf(runFile, from, to, framed) {
-  const look = k => ['view', 'asks', 'objects', ...(k === framed ? ['stack'] : [])];
-  const words = ['goto', from, ...look(from)];
-  for (let k = from + 1; k <= to; k++) words.push('forward', ...look(k));
-  const answer = text(ask(['debug', ...words], runFile));
-  if (answer.refusal) throw new Error('debug: ' + answer.refusal);
-  return answer.text.split(/^at \d+\n/m).slice(1);
-}
-export function framesOf(runFile, k) {
-  const answer = text(ask(['debug', 'goto', k, 'stack'], runFile));
-  if (answer.refusal) throw new Error('debug: ' + answer.refusal);
-  return answer.text.replace(/^at \d+\n/, '');
+// A session (asl.mjs): what it refuses it throws. It is open until it is closed.
+export function openSession(image, threads) {
+  const session = timed(() => tool.call.session(image, threads));
+  tool.sessions++;
+  const counted = Object.entries(session).map(([name, work]) => [name, (...words) => timed(() => work(...words))]);
+  return { ...Object.fromEntries(counted), close: () => { session.close(); tool.sessions--; } };
 }

@@ -8,6 +8,12 @@ function replyOf(words) {
   throw new Error('a reply that is not known: ' + words.join(' '));
 }
 
+// The event of a line of `asl log`, `INDEX THREAD REPLY`; the place is where its thread was before it.
+export function readEvent(line, place) {
+  const [, thread, ...reply] = line.trimEnd().split(' ');
+  return { thread: Number(thread), ...place, ...replyOf(reply) };
+}
+
 // A thread that had ended has no pc and no depth.
 function eventOf(line) {
   const [, thread, pc, depth, ...reply] = line.split(' ');
