@@ -1,6 +1,6 @@
 // Puts the workbench together: loads the toolchain, draws what changed, listens.
 
-import { byId, el, keepingFocus, textSize } from './dom.js';
+import { byId, el, keepingFocus, lookAtDrawn, textSize, whenDrawn } from './dom.js';
 import { openToolchain, toolStatistics } from './toolchain.js';
 import { Bench, MOST_THREADS } from './bench.js';
 import { tellView } from './view.js';
@@ -10,7 +10,7 @@ import { sectionAt } from './stretches.js';
 import { listAt } from './program.js';
 import { roundRobin, untilBlocked, atRandom } from './schedules.js';
 import { drawText, drawPlaces, paintText, breakLine, enterEditor } from './panels/editor.js';
-import { drawTimeline, printTimeline, drawStrip, drawStripCursor, zoomBy, lanesShown } from './panels/timeline.js';
+import { drawTimeline, measureLanes, printTimeline, drawStrip, drawStripCursor, zoomBy, lanesShown } from './panels/timeline.js';
 import { drawLocks } from './panels/locks.js';
 import { drawThreads } from './panels/threads.js';
 import { drawHeap } from './panels/heap.js';
@@ -47,11 +47,13 @@ function draw() {
   if (what.has('text') || what.has('size')) { drawText(bench, openWhy); drawSections(bench, openWhy, chooseK); drawSettings(); }
   document.body.classList.toggle('no-run', !bench.run);
   document.body.classList.toggle('refused', Boolean(bench.refusal));
+  measureLanes();
   drawPlaces(bench);
   drawLesson(bench);
   if (bench.run) drawRun(what.size > 1 || !what.has('position'));
   else byId('say').replaceChildren(el('p', { class: 'is-fault' },
     bench.refusal ? 'The text does not compile yet: ' + bench.refusal.words : ''));
+  lookAtDrawn();
   clearTimeout(due.address);
   due.address = setTimeout(writeAddress, 250);
 }
@@ -70,7 +72,7 @@ function drawRun(whole) {
   slide.max = bench.run.length;
   slide.value = bench.position;
   drawTimeline(bench);
-  if (whole) drawStrip(bench);
+  if (whole) whenDrawn(() => drawStrip(bench));
   drawStripCursor(bench);
   drawLocks(bench);
   drawThreads(bench, change);

@@ -1,7 +1,7 @@
 // The heap: objects as rows of cells, chains laid out from the globals, arrows
 // between them, the registers that point at each, the locks on each cell.
 
-import { byId, el, svg, threadColour, count } from '../dom.js';
+import { byId, el, svg, threadColour, count, whenDrawn } from '../dom.js';
 
 const MOST_OBJECTS = 28, MOST_CELLS = 16, MOST_TAGS = 6;
 const target = value => (value.startsWith('addr ') ? Number(value.slice(5).split('.')[0]) : -1);
@@ -15,7 +15,7 @@ export function drawHeap(bench, change) {
   byId('heap').replaceChildren(arrows, ...boxes,
     ...(hidden ? [el('p', { class: 'legend' }, `and ${count(hidden, 'more object')}, not drawn`)] : []));
   byId('heap-note').textContent = count(bench.state.objects.length, 'object');
-  drawArrows(bench, arrows, seen);
+  whenDrawn(() => drawArrows(bench, arrows, seen));
 }
 
 // place -> [[thread, name]..]: the registers that hold this address.
@@ -92,15 +92,15 @@ function cellBox(bench, o, f, value, size, locks, change) {
 }
 
 function drawArrows(bench, picture, seen) {
-  const heap = byId('heap'), frame = heap.getBoundingClientRect();
-  picture.setAttribute('width', heap.scrollWidth);
-  picture.setAttribute('height', heap.scrollHeight);
+  const heap = byId('heap'), frame = heap.getBoundingClientRect(), { scrollWidth: width, scrollHeight: height } = heap, routes = [];
   const left = frame.left - heap.scrollLeft, top = frame.top - heap.scrollTop;
   for (const o of seen) bench.state.objects[o].slice(0, MOST_CELLS).forEach((value, f) => {
     const from = byId(`cell-${o}-${f}`), to = byId('object-' + target(value));
-    if (from && to) picture.append(svg('path',
-      { d: route(from, to, left, top, f), 'marker-end': 'url(#arrow-head)', class: 'pointer' }));
+    if (from && to) routes.push(route(from, to, left, top, f));
   });
+  picture.setAttribute('width', width);
+  picture.setAttribute('height', height);
+  picture.append(...routes.map(d => svg('path', { d, 'marker-end': 'url(#arrow-head)', class: 'pointer' })));
 }
 
 // Straight to the next box where nothing lies between; below the box's other

@@ -1,7 +1,7 @@
 // The lock tree as a table: nodes down, threads across; held modes solid, the
 // request of a blocked thread dashed, a clash crossed with the holder framed.
 
-import { byId, el, chip, threadColour } from '../dom.js';
+import { byId, el, chip, renew, threadColour } from '../dom.js';
 import { MEANING } from '../modes.js';
 import { waitAt } from '../stretches.js';
 
@@ -14,12 +14,14 @@ export function drawLocks(bench) {
   const nodes = rows(bench, waits, threads);
   const clashes = new Map();
   for (const { clashes: found } of waits.values()) for (const c of found) clashes.set(c.node + '/' + c.thread, true);
-  const body = el('tbody', {}, nodes.map(node => el('tr', {}, el('th', { scope: 'row' }, nodeName(bench, node)),
-    threads.map(t => cell(bench, node, t, waits.get(t), clashes)))));
-  const heading = el('thead', {},
-    el('tr', {}, el('th', { scope: 'col' }, 'node'),
-    threads.map(t => el('th', { scope: 'col' }, chip(t, waits.has(t) ? 'blk' : '')))));
-  byId('locks').replaceChildren(heading, body);
+  const body = nodes.map(node => el('tr', {}, el('th', { scope: 'row' }, nodeName(bench, node)),
+    threads.map(t => cell(bench, node, t, waits.get(t), clashes))));
+  const heading = el('tr', {}, el('th', { scope: 'col' }, 'node'),
+    threads.map(t => el('th', { scope: 'col' }, chip(t, waits.has(t) ? 'blk' : ''))));
+  const table = byId('locks');
+  if (!table.tHead) table.append(el('thead'), el('tbody'));
+  renew(table.tHead, [heading]);
+  renew(table.tBodies[0], body);
 }
 
 // Threads that wait at the position, with what they ask for now.

@@ -1,6 +1,6 @@
 // Each thread: what it is at, why it waits, its registers by variable name.
 
-import { byId, el, chip, threadColour, count } from '../dom.js';
+import { byId, el, chip, threadColour, count, renew } from '../dom.js';
 import { waitAt } from '../stretches.js';
 
 export function drawThreads(bench, change) {
@@ -13,7 +13,7 @@ export function drawThreads(bench, change) {
   });
   if (rest.length) boxes.push(el('p', { class: 'legend' }, 'others (hatched: blocked, dashed: ended): ',
     rest.map(t => chip(t, lookOf(bench, t)))));
-  byId('threads').replaceChildren(...boxes);
+  renew(byId('threads'), boxes);
 }
 
 const lookOf = (bench, t) => (bench.ended(t) ? 'end' : waitAt(bench.stretches, t, bench.position) ? 'blk' : '');
