@@ -1,4 +1,4 @@
-//! A debugger that records its run, kept without its program between the calls.
+//! A debugger that records its run.
 use crate::readers::{Seen, told_of};
 use crate::samples::{COUNTER, SCHEDULE, program};
 use crate::steps::{Told, journal, told_of_events};
@@ -25,49 +25,19 @@ fn moved(alloc: Global, debugger: &mut Debugger<'_>, k: u32) -> Result<(), Debug
     debugger.goto(alloc, k)
 }
 
-/// The debugger, let go and taken up again.
-fn rested<'p>(program: &'p Program, debugger: Debugger<'p>) -> Debugger<'p> {
-    Debugger::resume(program, debugger.pause())
-}
-
-/// A step, and the debugger is behind it.
-fn step<'p>(
-    alloc: Global,
-    program: &'p Program,
-    debugger: Debugger<'p>,
-    t: u32,
-) -> Option<(Debugger<'p>, Reply)> {
-    let mut debugger = rested(program, debugger);
-    let reply = changed(
-        alloc,
-        StepFault::OutOfMemory,
-        &mut debugger,
-        told,
-        stepped,
-        t,
-    )?;
-    Some((debugger, reply))
-}
-
 /// Whether the events are recorded by their threads, with their replies.
-fn record<'p>(
-    alloc: Global,
-    program: &'p Program,
-    debugger: Debugger<'p>,
-    events: &[Event],
-) -> Option<Debugger<'p>> {
-    let mut debugger = debugger;
+fn record(alloc: Global, debugger: &mut Debugger<'_>, events: &[Event]) -> Option<bool> {
     for event in events {
-        let (behind, reply) = step(alloc, program, debugger, u32::from(event.thread))?;
+        let t = u32::from(event.thread);
+        let reply = changed(alloc, StepFault::OutOfMemory, debugger, told, stepped, t)?;
         if reply != event.reply {
-            return None;
+            return Some(false);
         }
-        debugger = behind;
     }
-    Some(debugger)
+    Some(true)
 }
 
-/// A debugger of one thread that has done nothing.
+/// A debugger of so many threads that have done nothing.
 fn fresh(alloc: Global, program: &Program, threads: u32, spacing: u32) -> Option<Debugger<'_>> {
     let journal = Journal::of(threads, Vec::new(alloc)).ok()?;
     Debugger::open(alloc, program, journal, spacing.max(1)).ok()
@@ -77,8 +47,10 @@ fn fresh(alloc: Global, program: &Program, threads: u32, spacing: u32) -> Option
 fn is_recorded(alloc: Global, program: &Program, spacing: u32) -> Option<bool> {
     let given = journal(alloc, program, 0)?;
     let events = given.events();
-    let debugger = fresh(alloc, program, given.threads(), spacing)?;
-    let mut debugger = record(alloc, program, debugger, events)?;
+    let mut debugger = fresh(alloc, program, given.threads(), spacing)?;
+    if !record(alloc, &mut debugger, events)? {
+        return Some(false);
+    }
     let end = told(&debugger);
     if debugger.journal().events() != events {
         return Some(false);
@@ -99,8 +71,7 @@ fn is_recorded(alloc: Global, program: &Program, spacing: u32) -> Option<bool> {
         if debugger.journal().events() != &events[..k] {
             return Some(false);
         }
-        debugger = record(alloc, program, debugger, &events[k..])?;
-        if told(&debugger) != end {
+        if !record(alloc, &mut debugger, &events[k..])? || told(&debugger) != end {
             return Some(false);
         }
     }
