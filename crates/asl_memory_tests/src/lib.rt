@@ -11,8 +11,6 @@ mod moves;
 #[cfg(test)]
 mod readers;
 #[cfg(test)]
-mod records;
-#[cfg(test)]
 mod samples;
 #[cfg(test)]
 mod steps;
