@@ -111,7 +111,7 @@ typedef struct asl_session {
  * does; asl_session_open alone may run out of memory before it knows of 12 and 11. Unless it is ASL_OK, nothing has changed and nothing
  * was written. */
 enum {
-  ASL_NO_PROGRAM = 12,   /* the bytes are no program: `asl verify` or `asl asm` says why */
+  ASL_NO_PROGRAM = 12,   /* the bytes are no program: `asl dis` says why of an image, `asl asm` of a text */
   ASL_NO_SUCH_STEP = 13, /* the journal has no such position */
   ASL_NOT_AT_END = 14,   /* events follow the position: cut first */
   ASL_JOURNAL_FULL = 15, /* the journal has 16,777,216 events */
