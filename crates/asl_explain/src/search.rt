@@ -1,27 +1,22 @@
 //! The search for the statements that need a lock of a section's start: forward over the code and into calls.
-ghost use Rattle.std.specs.Prelude.{◌≤◌};
 ghost use Rattle.asl_explain.specs.Analysed.{IsAnalysed};
+
+mod chains;
+mod point;
+mod ways;
 
 use crate::analysis::Analysis;
 use crate::confirm::{is_on, made_at};
 use crate::events::{Events, find_events};
-use crate::links::{based_back, entered_back, is_accessed, is_kept, is_link};
+use crate::links::is_accessed;
+use crate::search::point::{Point, lock_of, narrow, needed_point, point_of};
 use crate::table::{Table, make_table};
-use crate::value::{Chain, Ending, Step, Why};
+use crate::value::{Chain, Ending, Why};
 use asl_backward_flow::Region;
-use asl_code::{Base, Instr, Items, Lock};
-use asl_lock_expr::View;
+use asl_code::Lock;
 use asl_lower::Section;
 use std::alloc::{AllocError, Global};
 use std::collections::{BTreeMap, HashSet};
-
-/// A lock that the region at a place of the flow needs at a pc, by its number there.
-#[derive(Clone, Copy, PartialEq, Eq, PartialOrd, Ord, Hash, Drop)]
-struct Point {
-    place: u16,
-    pc: u16,
-    number: u16,
-}
 
 /// A point that is to be looked at: the one with the fewest changes first, then that with the fewest instructions.
 #[derive(Clone, Copy, PartialEq, Eq, PartialOrd, Ord, Drop)]
@@ -39,23 +34,16 @@ struct Change {
     earlier: Option<usize>,
 }
 
-/// A way on from a point: where it comes to, and why the lock there makes that of the point needed, if it is another.
-#[derive(Clone, Copy)]
-struct Way {
-    to: Point,
-    why: Option<Why>,
-}
-
 /// A statement that needs the lock: the point of its access, and the last change on the way to it.
 #[derive(Clone, Copy)]
-struct Access {
+pub(crate) struct Access {
     point: Point,
     last: Option<usize>,
 }
 
 /// One search.
 #[derive(Drop)]
-struct Search {
+pub(crate) struct Search {
     waiting: BTreeMap<Waiting, Option<usize>>,
     seen: HashSet<Point>,
     changes: Vec<Change>,
@@ -83,47 +71,6 @@ fn search_from(alloc: Global) -> Search {
         statements: HashSet::new(alloc),
         accesses: Vec::new(alloc),
     }
-}
-
-/// A place of the flow as a number of a point.
-fn narrow(place: Option<usize>) -> Option<u16> {
-    let place = place?;
-    if place < 65536 {
-        Some(place as u16)
-    } else {
-        None
-    }
-}
-
-/// The point of a lock that the region at a place needs at a pc.
-fn needed_point(analysis: &Analysis, place: u16, pc: u16, lock: &Lock) -> Option<Point> {
-    let number = analysis.flow.number(usize::from(place), lock)?;
-    point_of(analysis, place, pc, number)
-}
-
-/// The point of the lock of a number, if the region at a place needs it at a pc.
-fn point_of(analysis: &Analysis, place: u16, pc: u16, number: usize) -> Option<Point> {
-    if number < 65536
-        && analysis
-            .flow
-            .needs(usize::from(place), u32::from(pc), number)
-    {
-        Some(Point {
-            place,
-            pc,
-            number: number as u16,
-        })
-    } else {
-        None
-    }
-}
-
-/// The lock of a point.
-fn lock_of(analysis: &Analysis, point: Point) -> Option<&Lock> {
-    analysis
-        .flow
-        .locks(usize::from(point.place))
-        .get(usize::from(point.number))
 }
 
 impl Searcher {
@@ -186,27 +133,6 @@ impl Searcher {
         }
         self.go_on(analysis, &mut search, 1)?;
         self.ending_of(analysis, &search)
-    }
-
-    /// The `new` and the chain of the first statement that was found.
-    fn ending_of(
-        &self,
-        analysis: &Analysis,
-        search: &Search,
-    ) -> Result<Option<Ending>, AllocError> {
-        let Some(access) = search.accesses.first() else {
-            return Ok(None);
-        };
-        let mut steps = self.steps(analysis, search, *access)?;
-        let Some(end) = steps.pop() else {
-            return Ok(None);
-        };
-        Ok(Some(Ending {
-            pc: end.pc,
-            chain: Chain {
-                steps: Items::from_vec(steps),
-            },
-        }))
     }
 
     /// Puts a lock among those that wait after each of these `new` that sets the register on which the lock begins.
@@ -403,237 +329,6 @@ impl Searcher {
         let view = analysis.view(table.function);
         if is_accessed(self.alloc, &view, instr, lock)? && search.statements.insert(point.pc)? {
             search.accesses.push(Access { point, last })?;
-        }
-        Ok(())
-    }
-
-    /// Sees to it that there is a table of what is called at a point.
-    fn enter(&mut self, analysis: &Analysis, point: Point) -> Result<(), AllocError> {
-        if let Some(Instr::Call { function, .. }) = analysis
-            .lowering
-            .code()
-            .get(usize::from(point.pc))
-        {
-            if let Some(Some(place)) = self.bodies.get(usize::from(*function)) {
-                let place = *place;
-                self.prepare(analysis, place, Region::Body(*function), *function)?;
-            }
-        }
-        Ok(())
-    }
-
-    /// The ways on from a point.
-    fn ways(&self, analysis: &Analysis, point: Point) -> Result<Vec<Way>, AllocError>
-        requires { IsAnalysed analysis.now }
-    {
-        let mut ways = Vec::new(self.alloc);
-        let (Some(table), Some(lock)) = (self.table_of(point.place), lock_of(analysis, point))
-        else {
-            return Ok(ways);
-        };
-        let pc = usize::from(point.pc);
-        let lowering = &analysis.lowering;
-        if pc >= lowering.code().len() {
-            return Ok(ways);
-        }
-        let instr = &lowering.code()[pc];
-        let view = analysis.view(table.function);
-        for next in lowering.successors(point.pc).as_slice() {
-            self.add_linked(analysis, &view, instr, table, point, lock, *next, &mut ways)?;
-        }
-        self.add_entry(analysis, instr, point, lock, &mut ways)?;
-        self.add_longer(analysis, table, point, &mut ways)?;
-        Ok(ways)
-    }
-
-    /// Adds the ways to the locks at the same pc whose evaluation reads the cell of the point's.
-    fn add_longer(
-        &self,
-        analysis: &Analysis,
-        table: &Table,
-        point: Point,
-        ways: &mut Vec<Way>,
-    ) -> Result<(), AllocError> {
-        let Some(longer) = table.longer.get(usize::from(point.number)) else {
-            return Ok(());
-        };
-        for number in longer {
-            if let Some(to) = point_of(analysis, point.place, point.pc, usize::from(*number)) {
-                ways.push(Way {
-                    to,
-                    why: Some(Why::Dereferenced),
-                })?;
-            }
-        }
-        Ok(())
-    }
-
-    /// Adds the way to the entry of the function that is called at a point.
-    fn add_entry(
-        &self,
-        analysis: &Analysis,
-        instr: &Instr,
-        point: Point,
-        lock: &Lock,
-        ways: &mut Vec<Way>,
-    ) -> Result<(), AllocError> {
-        let Instr::Call {
-            first,
-            function,
-            ..
-        } = *instr
-        else {
-            return Ok(());
-        };
-        let lowering = &analysis.lowering;
-        let Some(callee) = lowering.functions().get(usize::from(function)) else {
-            return Ok(());
-        };
-        let Some(Some(place)) = self.bodies.get(usize::from(function)) else {
-            return Ok(());
-        };
-        if let Some(entered) = entered_back(first, callee.params, lock)? {
-            if let Some(to) = needed_point(analysis, *place, lowering.start(function), &entered) {
-                ways.push(Way {
-                    to,
-                    why: Some(Why::Entered),
-                })?;
-            }
-        }
-        Ok(())
-    }
-
-    /// Adds the ways over an instruction to the locks after it that become the point's.
-    fn add_linked(
-        &self,
-        analysis: &Analysis,
-        view: &View,
-        instr: &Instr,
-        table: &Table,
-        point: Point,
-        lock: &Lock,
-        next: u16,
-        ways: &mut Vec<Way>,
-    ) -> Result<(), AllocError>
-        requires { view.now.longest ≤ 8 }
-    {
-        if let Some(to) = point_of(analysis, point.place, next, usize::from(point.number)) {
-            if is_kept(self.alloc, view, instr, lock)? {
-                ways.push(Way { to, why: None })?;
-            }
-        }
-        if let Some(after) = based_back(instr, lock) {
-            if let Some(number) = analysis.flow.number(usize::from(point.place), &after) {
-                self.add_changed(analysis, view, instr, point, lock, next, number, ways)?;
-            }
-        }
-        match (instr, lock) {
-            (Instr::Store { from, .. }, Lock::Expr(expr, _)) if expr.base == Base::Reg(*from) => {
-                for number in &table.starred {
-                    let number = usize::from(*number);
-                    self.add_changed(analysis, view, instr, point, lock, next, number, ways)?;
-                }
-            }
-            (Instr::FieldAddress { .. } | Instr::Load { .. }, Lock::Class(_, _)) => {
-                for number in &table.full {
-                    let number = usize::from(*number);
-                    self.add_changed(analysis, view, instr, point, lock, next, number, ways)?;
-                }
-            }
-            (Instr::Call { .. }, Lock::Class(class, _)) => {
-                for (number, own) in table.classes.iter().enumerate() {
-                    if *own == Some(*class) {
-                        self.add_changed(analysis, view, instr, point, lock, next, number, ways)?;
-                    }
-                }
-            }
-            _ => {}
-        }
-        Ok(())
-    }
-
-    /// Adds the way over an instruction to another lock after it, if that is needed there and becomes the point's.
-    fn add_changed(
-        &self,
-        analysis: &Analysis,
-        view: &View,
-        instr: &Instr,
-        point: Point,
-        lock: &Lock,
-        next: u16,
-        number: usize,
-        ways: &mut Vec<Way>,
-    ) -> Result<(), AllocError>
-        requires { view.now.longest ≤ 8 }
-    {
-        if number == usize::from(point.number) {
-            return Ok(());
-        }
-        let Some(to) = point_of(analysis, point.place, next, number) else {
-            return Ok(());
-        };
-        let Some(after) = lock_of(analysis, to) else {
-            return Ok(());
-        };
-        if is_link(self.alloc, view, instr, after, lock)? {
-            ways.push(Way {
-                to,
-                why: Some(Why::Linked),
-            })?;
-        }
-        Ok(())
-    }
-
-    /// The chains of the statements that were found.
-    fn chains_of(&self, analysis: &Analysis, search: &Search) -> Result<Vec<Chain>, AllocError> {
-        let mut chains = Vec::new(self.alloc);
-        for access in &search.accesses {
-            let steps = self.steps(analysis, search, *access)?;
-            chains.push(Chain {
-                steps: Items::from_vec(steps),
-            })?;
-        }
-        Ok(chains)
-    }
-
-    /// The steps of the chain of a statement.
-    fn steps(
-        &self,
-        analysis: &Analysis,
-        search: &Search,
-        access: Access,
-    ) -> Result<Vec<Step>, AllocError> {
-        let mut steps = Vec::new(self.alloc);
-        self.add_step(analysis, access.point, Why::Accessed, &mut steps)?;
-        let mut last = access.last;
-        for _ in 0..search.changes.len() {
-            let Some(number) = last else {
-                break;
-            };
-            let Some(change) = search.changes.get(number) else {
-                break;
-            };
-            self.add_step(analysis, change.point, change.why, &mut steps)?;
-            last = change.earlier;
-        }
-        Ok(steps)
-    }
-
-    /// Adds a step with the lock of a point.
-    fn add_step(
-        &self,
-        analysis: &Analysis,
-        point: Point,
-        why: Why,
-        steps: &mut Vec<Step>,
-    ) -> Result<(), AllocError> {
-        if let (Some(table), Some(lock)) = (self.table_of(point.place), lock_of(analysis, point)) {
-            steps.push(Step {
-                region: table.region,
-                pc: point.pc,
-                lock: lock.clone()?,
-                why,
-            })?;
         }
         Ok(())
     }
