@@ -20,6 +20,7 @@ mod Closing
 mod Completing
 mod Tellings
 mod Listing
+mod LockNumbers
 pub mod Basing
 pub mod Ending
 pub mod Alike

@@ -46,6 +46,10 @@ IsOfPart p pc lock = (n : ℕ) × (k : ℕ) × (slice_get p.needs k ≡ Some (pc
 abbrev pub IsTold : List Part → Region → ℕ → Lock → Type 0
 IsTold parts r pc lock = (k : ℕ) × (p : Part) × (slice_get parts k ≡ Some p) × (p.region ≡ r) × IsOfPart p pc lock
 
+-- no part is of the region
+abbrev pub HasNoPart : List Part → Region → Type 0
+HasNoPart parts r = (k : ℕ) (p : Part) → slice_get parts k ≡ Some p → ¬ (p.region ≡ r)
+
 -- the parts say exactly what is needed
 abbrev pub TellsNeeded : Lowered → Classed → (ℕ → ℕ → Bool) → ℕ → List Part → Type 0
 TellsNeeded l c stores longest parts = (r : Region) (pc : ℕ) (lock : Lock) → IsTold parts r pc lock ↔ Needed l c stores longest r pc lock

@@ -1,9 +1,9 @@
 //! What each region needs at each of its points, region by region.
-ghost use Rattle.std.specs.Prelude.{◌≡◌, ◌↔◌, ℕ, map, slice_get, IsTrue, IfOk, IfSome};
+ghost use Rattle.std.specs.Prelude.{◌≡◌, ◌↔◌, ℕ, map, slice_get, IsTrue, IfOk, MatchOption};
 ghost use Rattle.asl_code.specs.declared.lock.Lock.{Lock};
 ghost use Rattle.asl_lock_expr.specs.Links.{IsOne};
 ghost use Rattle.asl_lock_expr.specs.Order.{AreInOrder};
-ghost use Rattle.asl_backward_flow.specs.Needed.{Part as PartValue, IsTold, region_of};
+ghost use Rattle.asl_backward_flow.specs.Needed.{Part as PartValue, HasNoPart, IsTold, region_of};
 ghost use Rattle.asl_backward_flow.specs.Parts.{part, AreAtTheirNumbers};
 
 use crate::part::Part;
@@ -52,9 +52,9 @@ impl Flow {
         told(alloc, self.parts.as_slice(), region, pc)
     }
 
-    /// The place at which the flow has a region; of a flow that `needed` answered none where there is no such region.
+    /// The place at which the flow has a region, and none where it has no such region.
     pub fn place(&self, region: Region) -> Option<usize>
-        ensures { IfSome result (λ k. (p : PartValue) × (slice_get self.now k ≡ Some p) × (p.region ≡ region_of region)) }
+        ensures { MatchOption result (HasNoPart self.now (region_of region)) (λ k. (p : PartValue) × (slice_get self.now k ≡ Some p) × (p.region ≡ region_of region)) }
     {
         place_of(self.parts.as_slice(), region)
     }
@@ -70,7 +70,10 @@ impl Flow {
     }
 
     /// The number of a lock among those of the region at a place, if it is one of them.
-    pub fn number(&self, place: usize, lock: &Lock) -> Option<usize> {
+    pub fn number(&self, place: usize, lock: &Lock) -> Option<usize>
+        ensures { (p : PartValue) → slice_get self.now place ≡ Some p
+            → MatchOption result (¬ IsOne p.locks lock.now) (λ n. slice_get p.locks n ≡ Some lock.now) }
+    {
         self.parts.get(place)?.locks.get_index_of(lock)
     }
 
@@ -87,7 +90,8 @@ impl Flow {
 
 /// The place of a part of a region.
 fn place_of(parts: &[Part], region: Region) -> Option<usize>
-    ensures { IfSome result (λ k. (p : PartValue) × (slice_get (map part parts.now) k ≡ Some p) × (p.region ≡ region_of region)) }
+    ensures { MatchOption result (HasNoPart (map part parts.now) (region_of region))
+        (λ k. (p : PartValue) × (slice_get (map part parts.now) k ≡ Some p) × (p.region ≡ region_of region)) }
 {
     for (place, part) in parts.iter().enumerate() {
         if part.region == region {
