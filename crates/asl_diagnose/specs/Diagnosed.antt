@@ -8,7 +8,8 @@ use Rattle.asl_syntax.specs.Parsed.{Parses}
 use Rattle.asl_syntax.specs.Fault.{IsFault as IsSyntaxFault}
 use Rattle.asl_emitter.specs.declared.fault.InferFault.{InferFault}
 use Rattle.asl_emitter.specs.declared.fault.InferFault.TheVariants as infer
-use Rattle.asl_emitter.specs.Refused.{IsAccepted, IsRefused}
+use Rattle.asl_emitter.specs.Refused.{IsRefused}
+use Rattle.asl_emitter.specs.Sources.{IsAcceptedSource}
 use Rattle.asl_backward_flow.specs.declared.region.Region.{Region}
 use Rattle.asl_backward_flow.specs.declared.region.Region.TheVariants as region
 use Rattle.asl_assembler.specs.declared.assembly.AsmFault.{AsmFault}
@@ -25,12 +26,6 @@ use Rattle.asl_diagnose.specs.Position.{line_behind, IsColumn, IsLineFront}
 use Rattle.asl_diagnose.specs.Instructions.{instructions_in, IsInstructionLine, pc_of}
 use Rattle.asl_diagnose.specs.Expected.{IsStop}
 use Rattle.asl_diagnose.specs.Places.{IsNameAt, IsWordAt, IsSomeWordAt, IsFunctionAt, AreDeclaredAt, IsOverfull}
-
--- the source is accepted: a program is inferred for it
-pub record IsAcceptedSource (source : List ℕ) (k : ℕ) : Type 0 where
-  pub tree : List Item
-  pub parses : Parses source tree
-  pub accepted : IsAccepted tree k
 
 -- the source is a program for which no lists are inferred
 pub record IsNotInferred (source : List ℕ) (k : ℕ) (fault : InferFault) : Type 0 where

@@ -9,10 +9,10 @@ use Rattle.asl_lower.specs.declared.section.Section.{Section}
 use Rattle.asl_lower.specs.Regions.{Inside}
 use Rattle.asl_lock_expr.specs.Order.{AreInOrder}
 use Rattle.asl_soundness.specs.Over.{StandsOver}
-use Rattle.asl_emitter.specs.declared.fault.InferFault.{InferFault}
 use Rattle.asl_emitter.specs.declared.fault.InferFault.TheVariants as infer
 use Rattle.asl_emitter.specs.Inferred.{Analysis, IsInferredFor}
 use Rattle.asl_emitter.specs.Refused.{IsAccepted, IsRefused as IsNotInferred}
+use Rattle.asl_emitter.specs.Sources.{HasRefusedTree}
 use Rattle.asl_explain.specs.declared.fault.ExplainFault.{ExplainFault}
 use Rattle.asl_explain.specs.declared.fault.ExplainFault.TheVariants.{Source, Infer}
 use Rattle.asl_explain.specs.declared.value.Chain.{Chain}
@@ -103,19 +103,7 @@ pub record IsExplanation (source : List ℕ) (longest : ℕ) (e : Explanation) :
   pub accepted : IsAccepted tree longest
   pub explained : IsExplained tree longest e
 
--- the source is a program's, for which lists are inferred
-pub record IsAcceptedSource (source : List ℕ) (longest : ℕ) : Type 0 where
-  pub tree : List Item
-  pub parsed : Parses source tree
-  pub accepted : IsAccepted tree longest
-
--- the source is a program's, for which no lists are inferred
-pub record HasNoLists (source : List ℕ) (longest : ℕ) (cause : InferFault) : Type 0 where
-  pub tree : List Item
-  pub parsed : Parses source tree
-  pub refused : IsNotInferred tree longest cause
-
 -- what each refusal says of the source
 abbrev pub IsRefused : List ℕ → ℕ → ExplainFault → Type 0
 IsRefused source longest (Source cause) = syntax.IsFault source cause
-IsRefused source longest (Infer cause) = HasNoLists source longest cause
+IsRefused source longest (Infer cause) = HasRefusedTree source longest cause

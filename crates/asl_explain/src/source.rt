@@ -1,6 +1,7 @@
 //! The explanation of a source.
 ghost use Rattle.std.specs.Prelude.{◌≤◌, IfOk, IfErr, string_bytes};
-ghost use Rattle.asl_explain.specs.Explained.{IsExplanation, IsAcceptedSource, IsRefused};
+ghost use Rattle.asl_emitter.specs.Sources.{IsAcceptedSource};
+ghost use Rattle.asl_explain.specs.Explained.{IsExplanation, IsRefused};
 ghost use Rattle.asl_explain.specs.Told.{IsText};
 ghost use Rattle.asl_explain.specs.Analysed.{IsAnalysed, IsOfSource};
 ghost use Rattle.asl_explain.specs.Telling.{IsTextOf};

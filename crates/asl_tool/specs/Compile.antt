@@ -5,9 +5,9 @@ use Rattle.asl_code.specs.Verified.{IsVerified}
 use Rattle.asl_syntax.specs.Tree.{Item}
 use Rattle.asl_syntax.specs.Parsed.{Parses}
 use Rattle.asl_syntax.specs.Fault as syntax
-use Rattle.asl_emitter.specs.declared.fault.InferFault.{InferFault}
 use Rattle.asl_emitter.specs.Inferred.{IsInferredFor}
-use Rattle.asl_emitter.specs.Refused.{IsAccepted, IsRefused}
+use Rattle.asl_emitter.specs.Refused.{IsAccepted}
+use Rattle.asl_emitter.specs.Sources.{HasRefusedTree}
 use Rattle.asl_soundness.specs.Safe.{NeverFaultsForLocks}
 use Rattle.asl_atomicity.specs.Serial.{HasSerialRuns}
 use Rattle.asl_atomicity.specs.Renamed.{HasSerialRunsUpTo}
@@ -37,12 +37,6 @@ pub record IsCompiled (source : List ℕ) (longest : ℕ) (as_text : Bool) (outp
   pub image : Image
   pub program : IsProgramFor source longest image
   pub written : IsProgramWritten as_text image output
-
--- the source is a program's, for which no image is inferred
-pub record HasRefusedTree (source : List ℕ) (longest : ℕ) (cause : InferFault) : Type 0 where
-  pub tree : List Item
-  pub parsed : Parses source tree
-  pub refused : IsRefused tree longest cause
 
 -- what each refusal of `compile` says of the source; want of memory for the output comes only where a program is inferred for
 -- the source

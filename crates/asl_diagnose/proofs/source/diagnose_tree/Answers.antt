@@ -3,7 +3,7 @@ use Rattle.asl_diagnose.proofs.Telling.{infer_told}
 use Rattle.asl_diagnose.proofs.source.diagnose_tree.Goals as goal
 
 pub returns-in-Ok : goal.returns-in-Ok
-returns-in-Ok c = record { tree = tree_of c.args.ast.now; parses = c.requires.parses; accepted = c.in-Ok.ensures.accepted }
+returns-in-Ok c = record { tree = tree_of c.args.ast.now; parsed = c.requires.parses; accepted = c.in-Ok.ensures.accepted }
 
 pub returns-in_ok-told_infer-in-Err : goal.returns-in_ok-told_infer-in-Err
 returns-in_ok-told_infer-in-Err c =
