@@ -1,8 +1,8 @@
 //! Images as bytes: `bytes B ..` gives them, and `set PLACE B` changes one or puts one behind the last. On what is given: `load` (what is
 //! loaded is stored again, and must be the same), `cut N`, `cuts` (at each place), `changes`: of each byte changed to each other
 //! value, how often what is answered.
-use crate::text::{numbers, put_bad, put_line, put_word};
 use asl_loader::{LoadFault, load, store};
+use asl_probe_text::{numbers, put_bad, put_line, put_word};
 use std::alloc::{AllocError, Global};
 
 pub fn answer(alloc: Global, calls: &str, out: &mut String) -> Result<(), AllocError> {

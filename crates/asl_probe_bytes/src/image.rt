@@ -3,8 +3,8 @@
 //! until it is given again. `verify` answers the program's parts, or the fault, with the parts of the image that is handed back.
 //! And the containers that images are made of: `items N ..`, `path OP ..`, `effect LOCK`, `fault N`.
 use crate::numbers::eight;
-use crate::text::{effect_name, lock, numbers, put_bad, put_line, put_locks, put_number};
 use asl_code::{Function, Image, Instr, Items, Lock, Program, get_instr};
+use asl_probe_text::{effect_name, lock, numbers, put_bad, put_line, put_locks, put_number};
 use std::alloc::{AllocError, Global};
 
 /// The parts of an image, as they are spelled.

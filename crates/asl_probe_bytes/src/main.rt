@@ -9,7 +9,6 @@ mod files;
 mod image;
 mod laws;
 mod numbers;
-mod text;
 mod texts;
 
 use std::alloc::{AllocError, Global};

@@ -1,12 +1,12 @@
 //! Bytes of instructions and values, and versions: `instr BYTES`, `value BYTES`, `cut_value BYTES` (cut at each place), `version N`,
 //! `newest`, `version_for THREADS`, `faults PC` (faults of images, texts and files in words). An instruction is answered by its name and its fields, 0 where it has fewer than three.
-use crate::text::{numbers, put_bad, put_line, put_number, put_word};
 use asl_assembler::AsmFault;
 use asl_code::{
     Instr, NEWEST, NEWEST_LIMITS, Value, ValueFault, VerifyFault, get_instr, get_value, has_fresh,
     is_version, limits_of, put_instr, put_value, version_for,
 };
 use asl_loader::LoadFault;
+use asl_probe_text::{numbers, put_bad, put_line, put_number, put_word};
 use std::alloc::{AllocError, Global};
 
 pub fn answer(alloc: Global, calls: &str, out: &mut String) -> Result<(), AllocError> {

@@ -4,9 +4,9 @@
 //! stands for the line `?` of the text above: the answer is the first instruction, or the locks of the only list.
 use crate::image::put_program;
 use crate::numbers::put_instr_fields;
-use crate::text::{put_bad, put_escaped, put_line, put_locks, unescaped};
 use asl_assembler::{AsmFault, assemble, disassemble};
 use asl_code::Program;
+use asl_probe_text::{put_bad, put_escaped, put_line, put_locks, unescaped};
 use std::alloc::{AllocError, Global};
 
 pub fn answer(alloc: Global, calls: &str, out: &mut String) -> Result<(), AllocError> {

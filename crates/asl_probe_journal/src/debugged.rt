@@ -5,12 +5,12 @@
 //! K: the refusal, and how many events come back), `crowded N SPACING` (no events, N threads: the refusal, and the threads).
 use crate::runs::{journal_of, replayed_from};
 use crate::shown::shows_same;
-use crate::text::{numbers, put_bad, put_line, put_same, put_word};
 use asl_assembler::assemble;
 use asl_code::{Program, Value};
 use asl_debugger::{DebugFault, Debugger};
 use asl_journal::Journal;
 use asl_machine::Reply;
+use asl_probe_text::{numbers, put_bad, put_line, put_same, put_word};
 use std::alloc::{AllocError, Global};
 
 pub fn answer(alloc: Global, given: &str, calls: &str, out: &mut String) -> Result<(), AllocError> {

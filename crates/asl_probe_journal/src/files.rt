@@ -1,9 +1,9 @@
 //! Journals as bytes: `bytes B ..` gives them; `get` (what is read is written again, and must be the same), `cuts` (at each place),
 //! `at PLACE`: the answers where the byte at this place has each value, those that are equal and side by side once, with their
 //! number. And journals of events: `of N T` (N threads, one event of thread T), `too_many` (one event more than may be).
-use crate::text::{numbers, put_bad, put_line, put_word};
 use asl_journal::{Event, Journal, JournalFault, get, put};
 use asl_machine::Reply;
+use asl_probe_text::{numbers, put_bad, put_line, put_word};
 use std::alloc::{AllocError, Global};
 
 pub fn answer(alloc: Global, calls: &str, out: &mut String) -> Result<(), AllocError> {

@@ -10,7 +10,6 @@ mod files;
 mod recorded;
 mod runs;
 mod shown;
-mod text;
 
 use std::alloc::{AllocError, Global};
 use std::io;

@@ -3,11 +3,11 @@
 //! `cell`, `all_ran` (whether each event is a step of thread 0 that ran). Of a run of two threads: `put SCHEDULE` (its bytes), `replay SCHEDULE`, `follow K SCHEDULE` (from behind K events),
 //! `differs K SCHEDULE` (with another reply at K), `last SCHEDULE`. And `empty N`, a journal without events.
 use crate::runs::{empty_met, is_followed, is_replayed, journal_of, last_event, refused_at};
-use crate::text::{numbers, put_bad, put_line, put_same, put_word};
 use asl_assembler::assemble;
 use asl_code::{Cell, Program};
 use asl_journal::{Event, JournalFault, Journaled, Receipt, put};
 use asl_machine::Reply;
+use asl_probe_text::{numbers, put_bad, put_line, put_same, put_word};
 use std::alloc::{AllocError, Global};
 
 pub fn answer(alloc: Global, given: &str, calls: &str, out: &mut String) -> Result<(), AllocError> {

@@ -3,10 +3,10 @@
 //! `stays K F INSTR LOCK`. An instruction is spelled by its eight bytes.
 ghost use Rattle.std.specs.Prelude.{◌≤◌};
 
-use crate::text::{instr, lock, put_bad, put_bool, put_locks};
 use asl_code::Lock;
 use asl_lock_expr::{View, Writes, add_accesses, add_entered, add_links, stays};
 use asl_points_to::Classes;
+use asl_probe_text::{instr, lock, put_bad, put_bool, put_locks};
 use std::alloc::AllocError;
 
 pub fn answer(

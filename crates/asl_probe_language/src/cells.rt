@@ -3,9 +3,9 @@
 //! locks, with `; ` between: `dereferenced LOCK`, `in_order LOCKS`, which are added one after the other.
 ghost use Rattle.asl_lock_expr.specs.Order.{AreInOrder};
 
-use crate::text::{cell, lock, put_bad, put_line, put_locks, value};
 use asl_code::{Cell, Lock, Value};
 use asl_lock_expr::{HeapView, add_dereferenced, add_in_order, eval, follow, go_on, pointed};
+use asl_probe_text::{cell, lock, put_bad, put_line, put_locks, value};
 use std::alloc::{AllocError, Global};
 
 /// A heap whose only object has the number 1 and three cells.

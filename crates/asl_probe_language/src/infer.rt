@@ -1,13 +1,13 @@
 //! Programs that are inferred for sources on one line: `infer K TEXT` (the lists, on one line), `program K TEXT` (the whole text),
 //! `image K TEXT` (its bytes), `accept K TEXT`. And what is left of lists of locks, by the classes of the last source that was
 //! given by `classes TEXT`, in function 0: `reduce LOCK; LOCK`, `fit LOCK; LOCK`, `most` (the locks of a list at most).
-use crate::text::{lock, put_bad, put_line, put_locks, put_word};
 use asl_assembler::disassemble;
 use asl_code::{Lock, Program};
 use asl_emitter::{InferFault, MAX_LOCKS, fit, infer, reduce};
 use asl_loader::store;
 use asl_lower::lower;
 use asl_points_to::{Classes, classes};
+use asl_probe_text::{lock, put_bad, put_line, put_locks, put_word};
 use asl_syntax::{Ast, parse};
 use std::alloc::{AllocError, Global};
 

@@ -10,7 +10,6 @@ mod cells;
 mod infer;
 mod laws;
 mod source;
-mod text;
 
 use std::alloc::{AllocError, Global};
 use std::io;

@@ -3,12 +3,12 @@
 ghost use Rattle.asl_points_to.specs.Classes.{AreClasses};
 
 use crate::adding;
-use crate::text::{lock, put_bad, put_bool, put_line, put_locks};
 use asl_backward_flow::{Region, needed};
 use asl_code::Lock;
 use asl_lock_expr::{Writes, class_of, links, writes};
 use asl_lower::{Lowering, lower};
 use asl_points_to::{Classes, classes};
+use asl_probe_text::{lock, put_bad, put_bool, put_line, put_locks};
 use asl_syntax::{Ast, parse};
 use std::alloc::{AllocError, Global};
 

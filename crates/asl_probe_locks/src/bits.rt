@@ -1,8 +1,8 @@
 //! Two sets of numbers, `a` and `b`: `new SET LEN [of N]` (with the multiples of N), `add SET N`, `has SET N`, `len SET`,
 //! `members SET`, `agree SET` (whether `has` and `members` say the same), `merge INTO`, `within SET`, of which the last two take
 //! the other set too.
-use crate::text::{put_bad, put_bool, put_number};
 use asl_lane_sets::Bits;
+use asl_probe_text::{put_bad, put_bool, put_number};
 use std::alloc::{AllocError, Global};
 
 pub fn answer(alloc: Global, calls: &str, out: &mut String) -> Result<(), AllocError> {

@@ -8,9 +8,9 @@ ghost use Rattle.asl_lock_forest.specs.Holding.{HoldsNothing};
 ghost use Rattle.asl_lock_forest.specs.Request.{names_once, asks_modes, asks_parents, IsOfClasses};
 
 use crate::request::{is_taken, is_there};
-use crate::text::{cell, effect, mode, mode_name, node, put_bad, put_bool};
 use asl_lock_forest::{Forest, Node};
 use asl_mode_lanes::Mode;
+use asl_probe_text::{cell, effect, mode, mode_name, node, put_bad, put_bool};
 use std::alloc::{AllocError, Global};
 
 /// A forest, with the numbers that it is made with.

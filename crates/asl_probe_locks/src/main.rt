@@ -10,7 +10,6 @@ mod forest;
 mod laws;
 mod modes;
 mod request;
-mod text;
 
 use std::alloc::{AllocError, Global};
 use std::io;

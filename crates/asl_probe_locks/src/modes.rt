@@ -3,8 +3,8 @@
 ghost use Rattle.asl_mode_lanes.specs.Row.{IsRow};
 ghost use Rattle.std.specs.Prelude.{IfOk, IfSome};
 
-use crate::text::{mode, mode_name, put_bad, put_line, put_number, put_word};
 use asl_mode_lanes::{Mode, compatible, conflicts, join, join_rows};
+use asl_probe_text::{mode, mode_name, put_bad, put_line, put_number, put_word};
 use std::alloc::{AllocError, Global};
 
 const MODES: [Mode; 6] = [Mode::NL, Mode::IS, Mode::IX, Mode::S, Mode::SIX, Mode::X];

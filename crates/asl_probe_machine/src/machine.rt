@@ -4,12 +4,12 @@
 //! has counts the steps that are blocked.
 //! Where a growth is refused, everything told must be as before, and the same call is made again.
 use crate::pace;
-use crate::text::{cell, mode_name, node, put_bad, put_bool, put_line, put_value, put_word};
 use asl_assembler::{AsmFault, assemble};
 use asl_code::{Cell, Program};
 use asl_lock_forest::Node;
 use asl_machine::{Machine, MachineFault};
 use asl_mode_lanes::Mode;
+use asl_probe_text::{cell, mode_name, node, put_bad, put_bool, put_line, put_value, put_word};
 use std::alloc::{AllocError, Global};
 
 pub fn answer(alloc: Global, given: &str, calls: &str, out: &mut String) -> Result<(), AllocError> {

@@ -8,7 +8,6 @@
 mod laws;
 mod machine;
 mod pace;
-mod text;
 
 use std::alloc::{AllocError, Global};
 use std::io;

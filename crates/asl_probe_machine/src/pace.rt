@@ -1,9 +1,9 @@
 //! Steps of a machine alone, to count what a step costs: `pace THREADS WARM TURNS STEPS`. Each of the threads makes WARM steps, one
 //! thread after another; then STEPS steps are made by the first TURNS threads in turn. The answer is how many of these were
 //! blocked.
-use crate::text::put_line;
 use asl_code::Program;
 use asl_machine::{Machine, MachineFault, Reply};
+use asl_probe_text::put_line;
 use std::alloc::{AllocError, Global};
 
 /// What to run.

@@ -3,8 +3,8 @@
 //! whether it is inner), `places TEXT` (for each pc the function in whose body it is, and where control continues).
 use crate::listing::put_listing;
 use crate::sources::parse_again;
-use crate::text::{put_bad, put_line, put_number, put_word, unescaped};
 use asl_lower::{LowerFault, Lowering, lower};
+use asl_probe_text::{put_bad, put_line, put_number, put_word, unescaped};
 use asl_syntax::Ast;
 use std::alloc::{AllocError, Global};
 

@@ -9,7 +9,6 @@ mod laws;
 mod listing;
 mod lowering;
 mod sources;
-mod text;
 
 use std::alloc::{AllocError, Global};
 use std::io;

@@ -1,10 +1,10 @@
 //! Sources, with `\n`, `\r`, `\t` and `\v` in them: `tokens TEXT` (a sign and a place each), `first_bad TEXT`, `first_fault TEXT`,
 //! `parse TEXT`, `parse_once TEXT` (not made again where memory is refused), `reprint TEXT`, `items TEXT`, and
 //! `reparse TEXT`, of what is printed.
-use crate::text::{put_bad, put_escaped, put_line, put_word, unescaped};
 use asl_grammar::lexer::{Found, Tokens, first_bad};
 use asl_grammar::recognizer::first_fault;
 use asl_grammar::token::{Mark, Token};
+use asl_probe_text::{put_bad, put_escaped, put_line, put_word, unescaped};
 use asl_syntax::{Ast, SyntaxFault, parse, print};
 use std::alloc::{AllocError, Global};
 

@@ -1,5 +1,6 @@
-//! Words and numbers of scripts and answers.
-use std::alloc::{AllocError, Global};
+//! Lines of answers, and words in them.
+
+use std::alloc::AllocError;
 
 /// Writes a line for a call that is none.
 pub fn put_bad(line: &str, out: &mut String) -> Result<(), AllocError> {
@@ -7,6 +8,7 @@ pub fn put_bad(line: &str, out: &mut String) -> Result<(), AllocError> {
     put_line(line, out)
 }
 
+/// Writes a line.
 pub fn put_line(line: &str, out: &mut String) -> Result<(), AllocError> {
     out.push_str(line)?;
     out.push('\n')
@@ -20,18 +22,18 @@ pub fn put_word(word: &str, out: &mut String) -> Result<(), AllocError> {
     out.push_str(word)
 }
 
-/// The numbers of a text, up to the first word that is none.
-pub fn numbers(alloc: Global, text: &str) -> Result<Vec<u8>, AllocError> {
-    let mut numbers = Vec::new(alloc);
-    for word in text.split_whitespace() {
-        match word.parse::<u8>() {
-            Ok(number) => numbers.push(number)?,
-            Err(_) => return Ok(numbers),
-        }
-    }
-    Ok(numbers)
+/// Writes a number behind the others of its line.
+pub fn put_number(number: usize, out: &mut String) -> Result<(), AllocError> {
+    put_word("", out)?;
+    write!(out, "{number}")
 }
 
+/// Writes `yes` or `no` as a line.
+pub fn put_bool(yes: bool, out: &mut String) -> Result<(), AllocError> {
+    out.push_str(if yes { "yes\n" } else { "no\n" })
+}
+
+/// Writes whether two things are the same as a line, or that there is nothing to compare.
 pub fn put_same(is_same: Option<bool>, out: &mut String) -> Result<(), AllocError> {
     match is_same {
         Some(true) => put_line("same", out),

@@ -1,29 +1,17 @@
-//! Words and texts of scripts and answers.
+//! Texts of several lines, and of numbers, on one line.
+
 use std::alloc::{AllocError, Global};
 
-/// Writes a line for a call that is none.
-pub fn put_bad(line: &str, out: &mut String) -> Result<(), AllocError> {
-    out.push_str("no such call: ")?;
-    put_line(line, out)
-}
-
-pub fn put_line(line: &str, out: &mut String) -> Result<(), AllocError> {
-    out.push_str(line)?;
-    out.push('\n')
-}
-
-/// Writes a word behind the others of its line.
-pub fn put_word(word: &str, out: &mut String) -> Result<(), AllocError> {
-    if !out.ends_with('\n') {
-        out.push(' ')?;
+/// The numbers of a text, up to the first word that is none.
+pub fn numbers(alloc: Global, text: &str) -> Result<Vec<u8>, AllocError> {
+    let mut numbers = Vec::new(alloc);
+    for word in text.split_whitespace() {
+        match word.parse::<u8>() {
+            Ok(number) => numbers.push(number)?,
+            Err(_) => return Ok(numbers),
+        }
     }
-    out.push_str(word)
-}
-
-/// Writes a number behind the others of its line.
-pub fn put_number(number: usize, out: &mut String) -> Result<(), AllocError> {
-    put_word("", out)?;
-    write!(out, "{number}")
+    Ok(numbers)
 }
 
 /// A text on one line, in which `\\n`, `\\r` and `\\t` stand for a line feed, a carriage return and a tab,
