@@ -3,8 +3,10 @@ use Rattle.std.proofs.Common.{◌≡◌, ◌⊎◌, ⊎_elim, ℕ, zero, suc, �
 use Rattle.std.proofs.lemmas.List.{length-replicate}
 use Rattle.std.proofs.lemmas.Option.{slice_get_within}
 use Rattle.asl_code.specs.declared.lock.Lock.{Lock}
+use Rattle.asl_code.specs.declared.lock.Lock.TheVariants as lock
 use Rattle.asl_lane_sets.specs.NumberSet.{IsIn}
 use Rattle.asl_lock_expr.specs.declared.touch.Touch.{Touch}
+use Rattle.asl_lock_expr.specs.declared.touch.Touch.TheVariants as touch
 use Rattle.asl_lock_expr.specs.Links.{View}
 use Rattle.asl_lock_expr.specs.Touches.{IsClear}
 use Rattle.asl_backward_flow.specs.declared.masks.Mask.{Mask}
@@ -49,6 +51,12 @@ module _ (v : View) (locks : List Lock) where
       (λ below. let name = so n below in (name.0, name.1, ⊎_elim (λ h. inl (kept n h)) (λ c. inr c) name.2))
       (λ (e : n ≡ x.below). (m, ap (slice_get locks) e ∙ at, ⊎_elim (λ h. inl (subst (IsIn touched) (sym e) h)) (λ c. inr c) here))
       (below_or_at n x.below lt)
+
+-- a lock that something does not concern, nothing does not concern either
+pub clear_of_nothing : (v : View) (t : Touch) (m : Lock) → IsClear v t m → IsClear v touch.Nothing m
+clear_of_nothing v t (lock.Root effect) h = tt
+clear_of_nothing v t (lock.Class class effect) h = tt
+clear_of_nothing v t (lock.Expr e effect) h = (h.0, refl)
 
 -- masks of all regions
 rows_none : (n k : ℕ) (masks : List Mask) → slice_get (replicate {A = List Mask} n []) k ≡ Some masks → masks ≡ []

@@ -16,6 +16,7 @@ fn follow(
     analysis: &Analysis,
     point: (u16, u16),
     masks: &mut Vec<Vec<Mask>>,
+    pcs: &mut Vec<u16>,
     found: &mut Found,
 ) -> Result<(), AddFault>
     requires analysis { IsRead (read analysis.now) }
@@ -28,7 +29,7 @@ fn follow(
     ensures err { IfErr result (Overflows (read analysis.now) (table found.new)) }
 {
     let set = found.needs(point.0, point.1)?;
-    add_back(alloc, analysis, point.0, point.1, &set, masks, found)?;
+    add_back(alloc, analysis, point.0, point.1, &set, masks, pcs, found)?;
     add_entry(alloc, analysis, point.0, point.1, &set, found)
 }
 
@@ -40,8 +41,9 @@ pub fn follow_all(alloc: Global, analysis: &Analysis, found: &mut Found) -> Resu
     ensures err { IfErr result (Overflows (read analysis.now) (table found.new)) }
 {
     let mut masks = no_masks(alloc, analysis.spans.len())?;
+    let mut pcs = Vec::new(alloc);
     while let Some(point) = found.list.pop() {
-        follow(alloc, analysis, point, &mut masks, found)?;
+        follow(alloc, analysis, point, &mut masks, &mut pcs, found)?;
     }
     Ok(())
 }

@@ -70,7 +70,7 @@ impl Found {
     pub fn new(alloc: Global, spans: &[Span]) -> Result<Found, AllocError>
         ensures { IfOk result (λ found. IsBlank (table found) spans.now) }
     {
-        let mut parts = Vec::new(alloc);
+        let mut parts = Vec::with_capacity(alloc, spans.len())?;
         for span in spans {
             parts.push(Part::new(alloc, span)?)?;
         }

@@ -90,7 +90,7 @@ fn has_number(set: &Bits, number: usize) -> bool
 fn empty_sets(alloc: Global, count: usize) -> Result<Vec<Bits>, AllocError>
     ensures { IfOk result (λ sets. sets.items ≡ replicate count []) }
 {
-    let mut sets = Vec::new(alloc);
+    let mut sets = Vec::with_capacity(alloc, count)?;
     for _ in 0..count {
         sets.push(Bits::with_len(alloc, 0)?)?;
     }

@@ -110,7 +110,7 @@ fn add_with_prefixes(
 }
 
 /// Adds what the locks of these numbers, which are needed at the pc, become over each instruction of the region from which
-/// control goes on to the pc.
+/// control goes on to the pc. The list `pcs` is for these instructions, so that none is made anew.
 pub fn add_back(
     alloc: Global,
     analysis: &Analysis,
@@ -118,6 +118,7 @@ pub fn add_back(
     pc: u16,
     set: &Bits,
     masks: &mut Vec<Vec<Mask>>,
+    pcs: &mut Vec<u16>,
     found: &mut Found,
 ) -> Result<(), AddFault>
     requires analysis { IsRead (read analysis.now) }
@@ -132,26 +133,26 @@ pub fn add_back(
     ensures err { IfErr result (Stopped (table found.old) (table found.new)
         (IsBack (read analysis.now) part pc (IsNamed (locks_of (table found.old) part) set.now))) }
 {
-    let mut pcs = last(alloc, analysis, part, pc)?;
-    add_jumps(analysis, part, pc, &mut pcs)?;
+    last(analysis, part, pc, pcs)?;
+    add_jumps(analysis, part, pc, pcs)?;
     for from in pcs.as_slice() {
         add_linked(alloc, analysis, part, *from, set, masks, found)?;
     }
     Ok(())
 }
 
-/// The pc before, if the region has it and control goes on from there.
-fn last(alloc: Global, analysis: &Analysis, part: u16, pc: u16) -> Result<Vec<u16>, AllocError>
+/// Makes a list that of the pc before, if the region has it and control goes on from there.
+fn last(analysis: &Analysis, part: u16, pc: u16, pcs: &mut Vec<u16>) -> Result<(), AllocError>
     requires there { part < length analysis.now.spans.now }
     requires code { pc < length analysis.now.lowering.now.code }
-    ensures { IfOk result (λ v. AreBefore (read analysis.now) part pc (λ q. IsEdge analysis.now.lowering.now pc q × (pc ≡ q + 1)) v.items) }
+    ensures { OnOk result (AreBefore (read analysis.now) part pc (λ q. IsEdge analysis.now.lowering.now pc q × (pc ≡ q + 1)) pcs.new.items) }
 {
     let span = analysis.spans[usize::from(part)];
-    let mut pcs = Vec::new(alloc);
+    pcs.clear();
     if pc > 0 && span.has(pc - 1) && goes_on(analysis.lowering, pc - 1, pc) {
         pcs.push(pc - 1)?;
     }
-    Ok(pcs)
+    Ok(())
 }
 
 /// Adds the other pcs of the region from which control goes on to the pc.
@@ -196,9 +197,20 @@ fn add_linked(
         (At part pc (IsLinkedOf (read analysis.now) part pc (IsNamed (locks_of (table found.old) part) set.now)))) }
 {
     let stay = stay_over(alloc, analysis, part, pc, set, masks, found)?;
-    let changed = set.without(&stay)?;
+    let changed = changed(alloc, set, &stay)?;
     found.add_numbered(part, pc, &stay)?;
     add_changed(alloc, analysis, part, pc, &changed, found)
+}
+
+/// The numbers of the first set that are none of the second.
+fn changed(alloc: Global, set: &Bits, stay: &Bits) -> Result<Bits, AllocError>
+    requires { length set.now ≡ length stay.now }
+    ensures numbers { IfOk result (λ changed. (k : ℕ) → IsIn changed k ↔ (IsIn set.now k × ¬ IsIn stay.now k)) }
+{
+    if set.within(stay) {
+        return Bits::with_len(alloc, 0);
+    }
+    set.without(stay)
 }
 
 /// The numbers of the locks that stay over the instruction.
@@ -216,6 +228,7 @@ fn stay_over(
     requires code { pc < length analysis.now.lowering.now.code }
     requires masks { AreAllMasks (read analysis.now) (table found.now) (map (λ v. v.items) masks.old.items) }
     ensures masks { OnOk result (AreAllMasks (read analysis.now) (table found.now) (map (λ v. v.items) masks.new.items)) }
+    ensures length { IfOk result (λ stay. length stay ≡ length set.now) }
     ensures within { IfOk result (λ stay. (n : ℕ) → IsIn stay n → IsIn set.now n) }
     ensures stays { IfOk result (λ stay. (m : _) → IsNamed (locks_of (table found.now) part) stay m → StaysAt (read analysis.now) part pc m) }
 {
