@@ -31,29 +31,29 @@ pub fn no_masks(alloc: Global, count: usize) -> Result<Vec<Vec<Mask>>, AllocErro
     Ok(all)
 }
 
-/// The numbers of a set whose locks stay as they are over an instruction, by the masks of their region.
+/// Makes a set that of the numbers of another whose locks stay as they are over an instruction, by the masks of their region.
 pub fn staying(
     alloc: Global,
     view: &View,
     instr: Instr,
     locks: &[Lock],
     set: &Bits,
+    stay: &mut Bits,
     masks: &mut Vec<Mask>,
-) -> Result<Bits, AllocError>
+) -> Result<(), AllocError>
     requires { AreMasks (seen_by view.now) locks.now masks.old.items }
     ensures masks { OnOk result (AreMasks (seen_by view.now) locks.now masks.new.items) }
-    ensures length { IfOk result (λ stay. length stay ≡ length set.now) }
-    ensures within { IfOk result (λ stay. (n : ℕ) → IsIn stay n → IsIn set.now n) }
-    ensures stays { IfOk result (λ stay. (n : ℕ) (m : AnyLock) → IsIn stay n → slice_get locks.now n ≡ Some m → Stays (seen_by view.now) instr m) }
+    ensures length { OnOk result (length stay.new ≡ length set.now) }
+    ensures within { OnOk result ((n : ℕ) → IsIn stay.new n → IsIn set.now n) }
+    ensures stays { OnOk result ((n : ℕ) (m : AnyLock) → IsIn stay.new n → slice_get locks.now n ≡ Some m → Stays (seen_by view.now) instr m) }
 {
-    let mut stay = set.copy()?;
-    keep_clear(alloc, view, set_by(instr), locks, &mut stay, masks)?;
+    stay.copy_from(set)?;
+    keep_clear(alloc, view, set_by(instr), locks, stay, masks)?;
     let stored = stored_by(instr);
     if stored.is(Touch::Nothing) {
-        return Ok(stay);
+        return Ok(());
     }
-    keep_clear(alloc, view, stored, locks, &mut stay, masks)?;
-    Ok(stay)
+    keep_clear(alloc, view, stored, locks, stay, masks)
 }
 
 /// Takes from a set the numbers of the locks that what is touched may concern.

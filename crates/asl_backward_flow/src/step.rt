@@ -110,7 +110,8 @@ fn add_with_prefixes(
 }
 
 /// Adds what the locks of these numbers, which are needed at the pc, become over each instruction of the region from which
-/// control goes on to the pc. The list `pcs` is for these instructions, so that none is made anew.
+/// control goes on to the pc. The list `pcs` is for these instructions, and
+/// the set `stay` for the locks that stay over one, so that none is made anew.
 pub fn add_back(
     alloc: Global,
     analysis: &Analysis,
@@ -119,6 +120,7 @@ pub fn add_back(
     set: &Bits,
     masks: &mut Vec<Vec<Mask>>,
     pcs: &mut Vec<u16>,
+    stay: &mut Bits,
     found: &mut Found,
 ) -> Result<(), AddFault>
     requires analysis { IsRead (read analysis.now) }
@@ -136,7 +138,7 @@ pub fn add_back(
     last(analysis, part, pc, pcs)?;
     add_jumps(analysis, part, pc, pcs)?;
     for from in pcs.as_slice() {
-        add_linked(alloc, analysis, part, *from, set, masks, found)?;
+        add_linked(alloc, analysis, part, *from, set, stay, masks, found)?;
     }
     Ok(())
 }
@@ -180,6 +182,7 @@ fn add_linked(
     part: u16,
     pc: u16,
     set: &Bits,
+    stay: &mut Bits,
     masks: &mut Vec<Vec<Mask>>,
     found: &mut Found,
 ) -> Result<(), AddFault>
@@ -196,9 +199,9 @@ fn add_linked(
     ensures err { IfErr result (Stopped (table found.old) (table found.new)
         (At part pc (IsLinkedOf (read analysis.now) part pc (IsNamed (locks_of (table found.old) part) set.now)))) }
 {
-    let stay = stay_over(alloc, analysis, part, pc, set, masks, found)?;
-    let changed = changed(alloc, set, &stay)?;
-    found.add_numbered(part, pc, &stay)?;
+    stay_over(alloc, analysis, part, pc, set, stay, masks, found)?;
+    let changed = changed(alloc, set, stay)?;
+    found.add_numbered(part, pc, stay)?;
     add_changed(alloc, analysis, part, pc, &changed, found)
 }
 
@@ -213,24 +216,25 @@ fn changed(alloc: Global, set: &Bits, stay: &Bits) -> Result<Bits, AllocError>
     set.without(stay)
 }
 
-/// The numbers of the locks that stay over the instruction.
+/// Makes a set that of the numbers of the locks that stay over the instruction.
 fn stay_over(
     alloc: Global,
     analysis: &Analysis,
     part: u16,
     pc: u16,
     set: &Bits,
+    stay: &mut Bits,
     masks: &mut Vec<Vec<Mask>>,
     found: &Found,
-) -> Result<Bits, AllocError>
+) -> Result<(), AllocError>
     requires ready { IsReady (read analysis.now) (table found.now) }
     requires there { part < length analysis.now.spans.now }
     requires code { pc < length analysis.now.lowering.now.code }
     requires masks { AreAllMasks (read analysis.now) (table found.now) (map (λ v. v.items) masks.old.items) }
     ensures masks { OnOk result (AreAllMasks (read analysis.now) (table found.now) (map (λ v. v.items) masks.new.items)) }
-    ensures length { IfOk result (λ stay. length stay ≡ length set.now) }
-    ensures within { IfOk result (λ stay. (n : ℕ) → IsIn stay n → IsIn set.now n) }
-    ensures stays { IfOk result (λ stay. (m : _) → IsNamed (locks_of (table found.now) part) stay m → StaysAt (read analysis.now) part pc m) }
+    ensures length { OnOk result (length stay.new ≡ length set.now) }
+    ensures within { OnOk result ((n : ℕ) → IsIn stay.new n → IsIn set.now n) }
+    ensures stays { OnOk result ((m : _) → IsNamed (locks_of (table found.now) part) stay.new m → StaysAt (read analysis.now) part pc m) }
 {
     let span = analysis.spans[usize::from(part)];
     let view = view(analysis, span.function);
@@ -242,6 +246,7 @@ fn stay_over(
         instr,
         locks,
         set,
+        stay,
         &mut masks[usize::from(part)],
     )
 }
