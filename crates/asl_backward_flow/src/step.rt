@@ -104,6 +104,9 @@ fn add_with_prefixes(
     ensures ok { OnOk result (Added (read analysis.now) (table found.old) (table found.new) (At part pc (WithFronts (IsOne locks.items)))) }
     ensures err { IfErr result (Stopped (table found.old) (table found.new) (At part pc (WithFronts (IsOne locks.items)))) }
 {
+    if locks.is_empty() {
+        return Ok(());
+    }
     let fronts = prefixes(alloc, &locks)?;
     found.add_all(part, pc, locks)?;
     found.add_all(part, pc, fronts)
