@@ -1,5 +1,5 @@
 -- Dereferenced prefixes, and locks that are found with theirs.
-use Rattle.std.proofs.Common.{◌≡◌, ◌↔◌, ◌⊎◌, ⊎_elim, ℕ, ◌++◌, Bool, List, Result, Ok, Err, OnOk, IfErr, [], ◌∷◌, Some, slice_get, ap, sym, subst, ◌∙◌, inl, inr}
+use Rattle.std.proofs.Common.{◌≡◌, ◌↔◌, ◌⊎◌, ⊎_elim, ℕ, ◌++◌, Bool, List, Result, Ok, Err, OnOk, IfErr, [], ◌∷◌, Some, length, slice_get, ap, sym, subst, ◌∙◌, inl, inr, arith}
 use Rattle.std.specs.List.{flat_map}
 use Rattle.asl_code.specs.declared.lock.Base.{Base}
 use Rattle.asl_code.specs.declared.lock.Expr.{Expr}
@@ -145,3 +145,8 @@ list_added r old new part pc locks ready whole has lists adds = record {
   adds = adds;
   lists = lists;
 }
+
+-- no locks have no prefixes either
+pub fronts_none : (locks : List Lock) → length locks ≡ 0 → (m : Lock) → WithFronts (IsOne locks) m → ⊥
+fronts_none [] e m h = ⊎_elim (λ o. o) (λ (k : (l : Lock) × IsOne [] l × IsOne (dereferenced l) m). k.1) h
+fronts_none (a ∷ rest) e m h = absurd (omega (arith, e))

@@ -1,5 +1,5 @@
 -- What locks become over an instruction, or at calls: some at once, the others one by one.
-use Rattle.std.proofs.Common.{◌≡◌, ◌↔◌, ℕ, ◌+◌, ◌≤◌, Bool, List, Some, Result, Ok, Err, OnOk, IfOk, IfErr, length, slice_get, inl, inr, refl, ap, sym, subst, ◌∙◌, arith}
+use Rattle.std.proofs.Common.{◌≡◌, ◌↔◌, ℕ, ◌+◌, ◌≤◌, Bool, List, Some, Result, Ok, Err, OnOk, IfErr, length, slice_get, inl, inr, refl, ap, sym, subst, ◌∙◌, arith}
 use Rattle.std.specs.List.{Contains}
 use Rattle.std.proofs.lemmas.Option.{slice_get_within, slice_get-get_or, get_or_from_slice_get}
 use Rattle.asl_code.specs.declared.instr.Instr.{Instr}
@@ -209,7 +209,7 @@ masks_later r b c all these so (Err e) x = tt
 
 -- what stays over an instruction that was read from the code
 pub stays_ok : {E : Type 0} (r : Read) (t : Table) (part pc : ℕ) (s : Span) (i : Instr) → slice_get r.spans part ≡ Some s → slice_get r.lowered.code pc ≡ Some i → (given : List Lock) → locks_of t part ≡ given → (v : View) → v ≡ seen r s.function
-    → (result : Result (List Bool) E) → IfOk result (λ stay. (n : ℕ) (m : Lock) → IsIn stay n → slice_get given n ≡ Some m → Stays v i m) → IfOk result (λ stay. (m : Lock) → IsNamed (locks_of t part) stay m → StaysAt r part pc m)
-stays_ok r t part pc s i there stands given given_is v view_is (Ok stay) told =
+    → (stay : List Bool) (result : Result Unit E) → OnOk result ((n : ℕ) (m : Lock) → IsIn stay n → slice_get given n ≡ Some m → Stays v i m) → OnOk result ((m : Lock) → IsNamed (locks_of t part) stay m → StaysAt r part pc m)
+stays_ok r t part pc s i there stands given given_is v view_is stay (Ok u) told =
     λ m h. record { span = s; there = there; instruction = i; stands = stands; stays = subst (λ w. Stays w i m) view_is (told h.0 m h.1 (ap (λ (l : List Lock). slice_get l h.0) (sym given_is) ∙ h.2)) }
-stays_ok r t part pc s i there stands given given_is v view_is (Err e) told = tt
+stays_ok r t part pc s i there stands given given_is v view_is stay (Err e) told = tt

@@ -1,10 +1,12 @@
 -- Masks of the locks that what is touched may concern.
-use Rattle.std.proofs.Common.{◌≡◌, ◌⊎◌, ⊎_elim, ℕ, zero, suc, ◌+◌, ◌≤◌, List, [], ◌∷◌, ◌++◌, Some, Bool, Result, Ok, Err, IfOk, OnOk, length, replicate, slice_get, slice_set, inl, inr, refl, ap, sym, subst, ◌∙◌, arith, length-set}
+use Rattle.std.proofs.Common.{◌≡◌, ◌⊎◌, ⊎_elim, ℕ, zero, suc, ◌+◌, ◌≤◌, List, [], ◌∷◌, ◌++◌, Some, Bool, Result, Ok, Err, OnOk, length, replicate, slice_get, slice_set, inl, inr, refl, ap, sym, subst, ◌∙◌, arith, length-set}
 use Rattle.std.proofs.lemmas.List.{length-replicate}
 use Rattle.std.proofs.lemmas.Option.{slice_get_within}
 use Rattle.asl_code.specs.declared.lock.Lock.{Lock}
+use Rattle.asl_code.specs.declared.lock.Lock.TheVariants as lock
 use Rattle.asl_lane_sets.specs.NumberSet.{IsIn}
 use Rattle.asl_lock_expr.specs.declared.touch.Touch.{Touch}
+use Rattle.asl_lock_expr.specs.declared.touch.Touch.TheVariants as touch
 use Rattle.asl_lock_expr.specs.Links.{View}
 use Rattle.asl_lock_expr.specs.Touches.{IsClear}
 use Rattle.asl_backward_flow.specs.declared.masks.Mask.{Mask}
@@ -50,6 +52,12 @@ module _ (v : View) (locks : List Lock) where
       (λ (e : n ≡ x.below). (m, ap (slice_get locks) e ∙ at, ⊎_elim (λ h. inl (subst (IsIn touched) (sym e) h)) (λ c. inr c) here))
       (below_or_at n x.below lt)
 
+-- a lock that something does not concern, nothing does not concern either
+pub clear_of_nothing : (v : View) (t : Touch) (m : Lock) → IsClear v t m → IsClear v touch.Nothing m
+clear_of_nothing v t (lock.Root effect) h = tt
+clear_of_nothing v t (lock.Class class effect) h = tt
+clear_of_nothing v t (lock.Expr e effect) h = (h.0, refl)
+
 -- masks of all regions
 rows_none : (n k : ℕ) (masks : List Mask) → slice_get (replicate {A = List Mask} n []) k ≡ Some masks → masks ≡ []
 rows_none zero k masks e = absurd cc
@@ -84,13 +92,9 @@ masks_set r t all part s masks there is so = record {
 }
 
 -- what holds of a result from two facts of it
-pub ok_both : {A E : Type 0} (r : Result A E) (P Q W : A → Type 0) → ((v : A) → P v → Q v → W v) → IfOk r P → IfOk r Q → IfOk r W
-ok_both (Ok v) P Q W f p q = f v p q
-ok_both (Err e) P Q W f p q = tt
-
-pub ok_any : {A E : Type 0} (r : Result A E) (P : Type 0) → P → OnOk r P
-ok_any (Ok v) P p = p
-ok_any (Err e) P p = tt
+pub on_both : {A E : Type 0} (r : Result A E) (P Q W : Type 0) → (P → Q → W) → OnOk r P → OnOk r Q → OnOk r W
+on_both (Ok v) P Q W f p q = f p q
+on_both (Err e) P Q W f p q = tt
 
 pub on_more : {A E : Type 0} (r : Result A E) (P Q : Type 0) → (P → Q) → OnOk r P → OnOk r Q
 on_more (Ok v) P Q f p = f p

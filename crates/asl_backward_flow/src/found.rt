@@ -70,7 +70,7 @@ impl Found {
     pub fn new(alloc: Global, spans: &[Span]) -> Result<Found, AllocError>
         ensures { IfOk result (λ found. IsBlank (table found) spans.now) }
     {
-        let mut parts = Vec::new(alloc);
+        let mut parts = Vec::with_capacity(alloc, spans.len())?;
         for span in spans {
             parts.push(Part::new(alloc, span)?)?;
         }
@@ -139,14 +139,14 @@ impl Found {
         Ok(())
     }
 
-    /// The numbers of the locks that a region is found to need at a pc.
-    pub fn needs(&self, part: u16, pc: u16) -> Result<Bits, AllocError>
+    /// Makes a set that of the numbers of the locks that a region is found to need at a pc.
+    pub fn needs(&self, part: u16, pc: u16, into: &mut Bits) -> Result<(), AllocError>
         requires there { part < vec_len self.now.parts }
         requires point { HasPoint (table self.now) part pc }
-        ensures { IfOk result (λ set. (n : ℕ) → IsIn set n ↔ Has (table self.now) part pc n) }
+        ensures { OnOk result ((n : ℕ) → IsIn into.new n ↔ Has (table self.now) part pc n) }
     {
         let region = &self.parts[usize::from(part)];
-        region.needs[usize::from(pc - region.first)].copy()
+        into.copy_from(&region.needs[usize::from(pc - region.first)])
     }
 
     /// The lock of this number of a region.

@@ -24,49 +24,58 @@ pub struct Mask {
 pub fn no_masks(alloc: Global, count: usize) -> Result<Vec<Vec<Mask>>, AllocError>
     ensures { IfOk result (λ all. map (λ v. v.items) all.items ≡ replicate count []) }
 {
-    let mut all = Vec::new(alloc);
+    let mut all = Vec::with_capacity(alloc, count)?;
     for _ in 0..count {
         all.push(Vec::new(alloc))?;
     }
     Ok(all)
 }
 
-/// The numbers of a set whose locks stay as they are over an instruction, by the masks of their region.
+/// Makes a set that of the numbers of another whose locks stay as they are over an instruction, by the masks of their region.
 pub fn staying(
     alloc: Global,
     view: &View,
     instr: Instr,
     locks: &[Lock],
     set: &Bits,
+    stay: &mut Bits,
     masks: &mut Vec<Mask>,
-) -> Result<Bits, AllocError>
+) -> Result<(), AllocError>
     requires { AreMasks (seen_by view.now) locks.now masks.old.items }
     ensures masks { OnOk result (AreMasks (seen_by view.now) locks.now masks.new.items) }
-    ensures within { IfOk result (λ stay. (n : ℕ) → IsIn stay n → IsIn set.now n) }
-    ensures stays { IfOk result (λ stay. (n : ℕ) (m : AnyLock) → IsIn stay n → slice_get locks.now n ≡ Some m → Stays (seen_by view.now) instr m) }
+    ensures length { OnOk result (length stay.new ≡ length set.now) }
+    ensures within { OnOk result ((n : ℕ) → IsIn stay.new n → IsIn set.now n) }
+    ensures stays { OnOk result ((n : ℕ) (m : AnyLock) → IsIn stay.new n → slice_get locks.now n ≡ Some m → Stays (seen_by view.now) instr m) }
 {
-    let stay = clear_of(alloc, view, set_by(instr), locks, set, masks)?;
-    clear_of(alloc, view, stored_by(instr), locks, &stay, masks)
+    stay.copy_from(set)?;
+    keep_clear(alloc, view, set_by(instr), locks, stay, masks)?;
+    let stored = stored_by(instr);
+    if stored.is(Touch::Nothing) {
+        return Ok(());
+    }
+    keep_clear(alloc, view, stored, locks, stay, masks)
 }
 
-/// The numbers of a set whose locks are not concerned by what is touched.
-fn clear_of(
+/// Takes from a set the numbers of the locks that what is touched may concern.
+fn keep_clear(
     alloc: Global,
     view: &View,
     touch: Touch,
     locks: &[Lock],
-    set: &Bits,
+    set: &mut Bits,
     masks: &mut Vec<Mask>,
-) -> Result<Bits, AllocError>
+) -> Result<(), AllocError>
     requires { AreMasks (seen_by view.now) locks.now masks.old.items }
     ensures masks { OnOk result (AreMasks (seen_by view.now) locks.now masks.new.items) }
-    ensures within { IfOk result (λ clear. (n : ℕ) → IsIn clear n → IsIn set.now n) }
-    ensures clear { IfOk result (λ clear. (n : ℕ) (m : AnyLock) → IsIn clear n → slice_get locks.now n ≡ Some m → IsClear (seen_by view.now) touch m) }
+    ensures length { OnOk result (length set.new ≡ length set.old) }
+    ensures within { OnOk result ((n : ℕ) → IsIn set.new n → IsIn set.old n) }
+    ensures clear { OnOk result ((n : ℕ) (m : AnyLock) → IsIn set.new n → slice_get locks.now n ≡ Some m → IsClear (seen_by view.now) touch m) }
 {
     let place = mask_of(alloc, view, touch, locks, masks)?;
     let mask = &mut masks[place];
     extend(view, locks, mask)?;
-    set.without(&mask.touched)
+    set.remove_all(&mask.touched);
+    Ok(())
 }
 
 /// The place of the mask of what is touched, where one is put if there is none.

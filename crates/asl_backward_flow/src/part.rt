@@ -1,5 +1,6 @@
 //! A region with the locks that it needs, and the points at which it needs them.
 ghost use Rattle.std.specs.Prelude.{◌≡◌, ◌<◌, ◌≤◌, ◌↔◌, ◌⊎◌, ℕ, Some, [], length, replicate, slice_get, IsTrue, IfOk, OnOk, OnErr};
+ghost use Rattle.std.specs.List.{Contains};
 ghost use Rattle.asl_code.specs.declared.lock.Lock.{Lock};
 ghost use Rattle.asl_lane_sets.specs.NumberSet.{IsIn};
 ghost use Rattle.asl_lock_expr.specs.Links.{IsOne};
@@ -15,9 +16,13 @@ use asl_lane_sets::Bits;
 use asl_lock_expr::add_in_order;
 use indexmap::IndexSet;
 use std::alloc::{AllocError, Global};
+use std::cmp::Ordering;
 
 /// By how many numbers a set grows at least, where numbers come one by one.
 pub const STEP: usize = 256;
+
+/// So many numbers stay as they are.
+const FEW: usize = 16;
 
 /// A region with its locks in the order in which they were found. For each of its points, from the first pc on, a set has the
 /// numbers of the locks that are needed there; a set is as long as its numbers made it.
@@ -90,11 +95,29 @@ fn has_number(set: &Bits, number: usize) -> bool
 fn empty_sets(alloc: Global, count: usize) -> Result<Vec<Bits>, AllocError>
     ensures { IfOk result (λ sets. sets.items ≡ replicate count []) }
 {
-    let mut sets = Vec::new(alloc);
+    let mut sets = Vec::with_capacity(alloc, count)?;
     for _ in 0..count {
         sets.push(Bits::with_len(alloc, 0)?)?;
     }
     Ok(sets)
+}
+
+/// Puts many numbers in the order of their locks, so that few locks are moved where they are put at their places one by one.
+fn arrange(locks: &[Lock], numbers: &mut Vec<usize>)
+    ensures { (k : ℕ) → Contains numbers.new.items k ↔ Contains numbers.old.items k }
+{
+    if numbers.len() <= FEW {
+        return;
+    }
+    numbers.sort_unstable_by(|a, b| compare(locks, *a, *b));
+}
+
+/// Which of two numbers has the lock that comes first.
+fn compare(locks: &[Lock], a: usize, b: usize) -> Ordering {
+    match (locks.get(a), locks.get(b)) {
+        (Some(first), Some(second)) => first.cmp(second),
+        _ => Ordering::Equal,
+    }
 }
 
 impl Part {
@@ -152,7 +175,8 @@ impl Part {
         ensures order { OnOk result (AreInOrder locks.new.items) }
         ensures locks { OnOk result ((m : Lock) → IsOne locks.new.items m ↔ (IsOne locks.old.items m ⊎ IsNamed self.now.locks.keys set.now m)) }
     {
-        let numbers = set.members(alloc)?;
+        let mut numbers = set.members(alloc)?;
+        arrange(self.locks.as_slice(), &mut numbers);
         for number in numbers.as_slice() {
             self.add_lock(*number, locks)?;
         }

@@ -104,13 +104,17 @@ fn add_with_prefixes(
     ensures ok { OnOk result (Added (read analysis.now) (table found.old) (table found.new) (At part pc (WithFronts (IsOne locks.items)))) }
     ensures err { IfErr result (Stopped (table found.old) (table found.new) (At part pc (WithFronts (IsOne locks.items)))) }
 {
+    if locks.is_empty() {
+        return Ok(());
+    }
     let fronts = prefixes(alloc, &locks)?;
     found.add_all(part, pc, locks)?;
     found.add_all(part, pc, fronts)
 }
 
 /// Adds what the locks of these numbers, which are needed at the pc, become over each instruction of the region from which
-/// control goes on to the pc.
+/// control goes on to the pc. The list `pcs` is for these instructions, and
+/// the set `stay` for the locks that stay over one, so that none is made anew.
 pub fn add_back(
     alloc: Global,
     analysis: &Analysis,
@@ -118,6 +122,8 @@ pub fn add_back(
     pc: u16,
     set: &Bits,
     masks: &mut Vec<Vec<Mask>>,
+    pcs: &mut Vec<u16>,
+    stay: &mut Bits,
     found: &mut Found,
 ) -> Result<(), AddFault>
     requires analysis { IsRead (read analysis.now) }
@@ -132,26 +138,26 @@ pub fn add_back(
     ensures err { IfErr result (Stopped (table found.old) (table found.new)
         (IsBack (read analysis.now) part pc (IsNamed (locks_of (table found.old) part) set.now))) }
 {
-    let mut pcs = last(alloc, analysis, part, pc)?;
-    add_jumps(analysis, part, pc, &mut pcs)?;
+    last(analysis, part, pc, pcs)?;
+    add_jumps(analysis, part, pc, pcs)?;
     for from in pcs.as_slice() {
-        add_linked(alloc, analysis, part, *from, set, masks, found)?;
+        add_linked(alloc, analysis, part, *from, set, stay, masks, found)?;
     }
     Ok(())
 }
 
-/// The pc before, if the region has it and control goes on from there.
-fn last(alloc: Global, analysis: &Analysis, part: u16, pc: u16) -> Result<Vec<u16>, AllocError>
+/// Makes a list that of the pc before, if the region has it and control goes on from there.
+fn last(analysis: &Analysis, part: u16, pc: u16, pcs: &mut Vec<u16>) -> Result<(), AllocError>
     requires there { part < length analysis.now.spans.now }
     requires code { pc < length analysis.now.lowering.now.code }
-    ensures { IfOk result (λ v. AreBefore (read analysis.now) part pc (λ q. IsEdge analysis.now.lowering.now pc q × (pc ≡ q + 1)) v.items) }
+    ensures { OnOk result (AreBefore (read analysis.now) part pc (λ q. IsEdge analysis.now.lowering.now pc q × (pc ≡ q + 1)) pcs.new.items) }
 {
     let span = analysis.spans[usize::from(part)];
-    let mut pcs = Vec::new(alloc);
+    pcs.clear();
     if pc > 0 && span.has(pc - 1) && goes_on(analysis.lowering, pc - 1, pc) {
         pcs.push(pc - 1)?;
     }
-    Ok(pcs)
+    Ok(())
 }
 
 /// Adds the other pcs of the region from which control goes on to the pc.
@@ -179,6 +185,7 @@ fn add_linked(
     part: u16,
     pc: u16,
     set: &Bits,
+    stay: &mut Bits,
     masks: &mut Vec<Vec<Mask>>,
     found: &mut Found,
 ) -> Result<(), AddFault>
@@ -195,29 +202,42 @@ fn add_linked(
     ensures err { IfErr result (Stopped (table found.old) (table found.new)
         (At part pc (IsLinkedOf (read analysis.now) part pc (IsNamed (locks_of (table found.old) part) set.now)))) }
 {
-    let stay = stay_over(alloc, analysis, part, pc, set, masks, found)?;
-    let changed = set.without(&stay)?;
-    found.add_numbered(part, pc, &stay)?;
+    stay_over(alloc, analysis, part, pc, set, stay, masks, found)?;
+    let changed = changed(alloc, set, stay)?;
+    found.add_numbered(part, pc, stay)?;
     add_changed(alloc, analysis, part, pc, &changed, found)
 }
 
-/// The numbers of the locks that stay over the instruction.
+/// The numbers of the first set that are none of the second.
+fn changed(alloc: Global, set: &Bits, stay: &Bits) -> Result<Bits, AllocError>
+    requires { length set.now ≡ length stay.now }
+    ensures numbers { IfOk result (λ changed. (k : ℕ) → IsIn changed k ↔ (IsIn set.now k × ¬ IsIn stay.now k)) }
+{
+    if set.within(stay) {
+        return Bits::with_len(alloc, 0);
+    }
+    set.without(stay)
+}
+
+/// Makes a set that of the numbers of the locks that stay over the instruction.
 fn stay_over(
     alloc: Global,
     analysis: &Analysis,
     part: u16,
     pc: u16,
     set: &Bits,
+    stay: &mut Bits,
     masks: &mut Vec<Vec<Mask>>,
     found: &Found,
-) -> Result<Bits, AllocError>
+) -> Result<(), AllocError>
     requires ready { IsReady (read analysis.now) (table found.now) }
     requires there { part < length analysis.now.spans.now }
     requires code { pc < length analysis.now.lowering.now.code }
     requires masks { AreAllMasks (read analysis.now) (table found.now) (map (λ v. v.items) masks.old.items) }
     ensures masks { OnOk result (AreAllMasks (read analysis.now) (table found.now) (map (λ v. v.items) masks.new.items)) }
-    ensures within { IfOk result (λ stay. (n : ℕ) → IsIn stay n → IsIn set.now n) }
-    ensures stays { IfOk result (λ stay. (m : _) → IsNamed (locks_of (table found.now) part) stay m → StaysAt (read analysis.now) part pc m) }
+    ensures length { OnOk result (length stay.new ≡ length set.now) }
+    ensures within { OnOk result ((n : ℕ) → IsIn stay.new n → IsIn set.now n) }
+    ensures stays { OnOk result ((m : _) → IsNamed (locks_of (table found.now) part) stay.new m → StaysAt (read analysis.now) part pc m) }
 {
     let span = analysis.spans[usize::from(part)];
     let view = view(analysis, span.function);
@@ -229,6 +249,7 @@ fn stay_over(
         instr,
         locks,
         set,
+        stay,
         &mut masks[usize::from(part)],
     )
 }

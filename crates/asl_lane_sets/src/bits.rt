@@ -1,5 +1,5 @@
 //! A set of numbers below its length.
-ghost use Rattle.std.specs.Prelude.{◌≡◌, ◌<◌, ◌≤◌, ◌⊎◌, ◌↔◌, ◌++◌, ◌+◌, ◌^◌, ℕ, IsTrue, length, true, false, replicate, IfOk, OnOk, OnErr};
+ghost use Rattle.std.specs.Prelude.{[], ◌≡◌, ◌<◌, ◌≤◌, ◌⊎◌, ◌↔◌, ◌++◌, ◌+◌, ◌^◌, ℕ, IsTrue, length, true, false, replicate, IfOk, OnOk, OnErr};
 ghost use Rattle.std.specs.List.{Contains};
 ghost use Rattle.asl_lane_sets.specs.NumberSet.{IsIn, IsRising, members_of};
 ghost use Rattle.asl_lane_sets.specs.Packed.{has_bit, ones};
@@ -112,6 +112,22 @@ impl Bits {
             len: self.len,
             words,
         })
+    }
+
+    /// Makes the set the same as another, in the room that it has.
+    ///
+    /// # Errors
+    ///
+    /// A growth was refused; the set then has no numbers, and length 0.
+    pub fn copy_from(&mut self, other: &Bits) -> Result<(), AllocError>
+        ensures ok { OnOk result (self.new ≡ other.now) }
+        ensures err { OnErr result (self.new ≡ []) }
+    {
+        self.len = 0;
+        self.words.clear();
+        self.words.extend_from_slice(&other.words)?;
+        self.len = other.len;
+        Ok(())
     }
 
     /// The numbers that are none of another set.

@@ -1,5 +1,5 @@
 //! The order of locks, and lists in that order.
-ghost use Rattle.std.specs.Prelude.{IsTrue, ◌≡◌, ◌≤◌, ◌↔◌, ◌⊎◌, OnOk, OnErr, IfNone, IfSome, length, insert};
+ghost use Rattle.std.specs.Prelude.{IsTrue, ◌≡◌, ◌<◌, ◌≤◌, ◌↔◌, ◌⊎◌, OnOk, OnErr, IfNone, IfSome, length, insert};
 ghost use Rattle.asl_lock_expr.specs.Links.{IsOne};
 ghost use Rattle.asl_lock_expr.specs.Order.{lock_cmp, AreInOrder};
 ghost use Rattle.asl_lock_expr.specs.Placing.{placed};
@@ -43,7 +43,7 @@ fn place(locks: &[Lock], new: &Lock) -> Option<usize>
     let mut low = 0;
     let mut high = locks.len();
     while low < high {
-        let middle = low + (high - low) / 2;
+        let middle = probed(low, high, locks.len());
         match compare(&locks[middle], new) {
             Ordering::Less => low = middle + 1,
             Ordering::Equal => return None,
@@ -51,6 +51,19 @@ fn place(locks: &[Lock], new: &Lock) -> Option<usize>
         }
     }
     Some(low)
+}
+
+/// The place at which a list is looked at, where a lock goes between two places of it: the last of the list, since locks mostly
+/// come in their order, and then the middle.
+fn probed(low: usize, high: usize, len: usize) -> usize
+    requires { low < high }
+    ensures above { low ≤ result }
+    ensures below { result < high }
+{
+    if high == len {
+        return high - 1;
+    }
+    low + (high - low) / 2
 }
 
 /// Which lock comes first.

@@ -1,10 +1,11 @@
-use Rattle.std.proofs.Common.{rules, ap, ◌∙◌}
+use Rattle.std.proofs.Common.{◌≡◌, rules, vec_len, length, ap, sym, ◌∙◌, arith}
+use Rattle.std.proofs.lemmas.Bool.{eqb-true}
 use Rattle.std.specs.List.{flat_map}
 use Rattle.asl_lock_expr.specs.Links.{dereferenced}
 use Rattle.asl_backward_flow.specs.Found.{table}
 use Rattle.asl_backward_flow.specs.Follows.{read}
-use Rattle.asl_backward_flow.proofs.Adding.{added_list, stopped_list}
-use Rattle.asl_backward_flow.proofs.Fronts.{list_added, with_ok, with_err, with_stopped}
+use Rattle.asl_backward_flow.proofs.Adding.{added_none, added_list, stopped_list}
+use Rattle.asl_backward_flow.proofs.Fronts.{fronts_none, list_added, with_ok, with_err, with_stopped}
 use Rattle.asl_backward_flow.proofs.step.add_with_prefixes.Goals as goal
 
 pub returns-clause-ok : goal.returns-clause-ok
@@ -29,3 +30,9 @@ returns-in_err-add_all-clause-err c =
     let stopped = with_stopped (read c.args.analysis.now) (table c.args.found.now) (table c.add_all.new.self) (table c.add_all.new.self) c.args.part c.args.pc c.args.locks.items c.in_ok-fronts.fronts.items
     (c.in_ok-fronts.ensures ∙ ap (flat_map dereferenced) c.deref.ensures.value) _ (record { adds = c.in_err-add_all.ensures.adds; over = c.in_err-add_all.ensures.over }) in
     search (rules, stopped)
+
+pub returns-then-is_empty-clause-ok : goal.returns-then-is_empty-clause-ok
+returns-then-is_empty-clause-ok c =
+    let none = eqb-true (vec_len c.args.locks) 0 (sym c.is_empty.ensures ∙ c.if-is_empty.true) in
+    let count : length c.args.locks.items ≡ 0 = omega (arith, none, c.args.locks.ok.0) in
+    added_none (read c.args.analysis.now) (table c.args.found.now) _ c.requires.ready (λ p q m h. fronts_none c.args.locks.items count m h.2)

@@ -51,4 +51,4 @@ returns-clause-stays c =
     let locks_are = locks_before c.args.found.now.parts.items c.args.part c.from-3.result c.index.result.now (heap_items c.args.found.now.list) c.from-3.ensures within c.index.ensures ∙ sym c.as_slice-locks.ensures.keys in
     stays_ok (read c.args.analysis.now) (table c.args.found.now) c.args.part c.args.pc _ _ there
     (stands_at c.args.analysis.now.lowering.now.code c.code.result.now c.from-2.result c.args.pc _ c.code.ensures.code c.from-2.ensures c.requires.code)
-    c.as_slice-locks.result.now locks_are (seen_by c.view-view.result) c.view-view.ensures c.staying.result c.staying.ensures.stays
+    c.as_slice-locks.result.now locks_are (seen_by c.view-view.result) c.view-view.ensures c.staying.new.stay c.staying.result c.staying.ensures.stays

@@ -5,7 +5,7 @@ use Rattle.asl_backward_flow.proofs.Blanks.{made_none, made_more, made_blank}
 use Rattle.asl_backward_flow.proofs.found.Found.new.Goals as goal
 
 pub loop-span-init : goal.loop-span-init
-loop-span-init c = made_none c.args.spans.now _ c.new-parts.ensures.items
+loop-span-init c = made_none c.args.spans.now _ c.in_ok-parts.ensures.items
 
 pub loop-span-preserved : goal.loop-span-preserved
 loop-span-preserved c =

@@ -16,6 +16,7 @@ loop-number-preserved c = record {
 
 pub returns-clause-locks : goal.returns-clause-locks
 returns-clause-locks c =
-    let numbers = subst (λ (l : List ℕ). (k : ℕ) → Contains l k ↔ IsIn c.args.set.now k) (sym c.as_slice-number-items.ensures.value) c.in_ok-numbers.ensures.numbers in
+    let numbers = subst (λ (l : List ℕ). (k : ℕ) → Contains l k ↔ IsIn c.args.set.now k) (sym c.as_slice-number-items.ensures.value)
+    (λ k. (λ h. (c.in_ok-numbers.ensures.numbers k).0 ((c.arrange.ensures k).0 h), λ h. (c.arrange.ensures k).1 ((c.in_ok-numbers.ensures.numbers k).1 h))) in
     let end = c.loop-number-test.false in
     numbers_all c.args.self.now.locks.keys c.as_slice-number-items.result.now c.args.set.now c.loop-number.number-index c.args.locks.now.items c.loop-number.locks.items numbers (omega (arith, end)) c.loop-number.invariant.locks
