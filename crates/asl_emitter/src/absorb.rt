@@ -10,7 +10,7 @@ ghost use Rattle.asl_emitter.specs.Above.{above, classes_above};
 use asl_code::{Effect, Expr, Lock};
 use asl_lock_expr::{class_of, is_one};
 use asl_points_to::Classes;
-use std::alloc::{AllocError, Global};
+use std::alloc::AllocError;
 
 /// Whether the first effect is at least as strong as the second.
 pub fn covers(effect: Effect, other: Effect) -> bool
@@ -48,22 +48,22 @@ pub fn does_for(classes: &Classes, function: u16, lock: &Lock, other: &Lock) -> 
 }
 
 /// Whether none of the locks, which are in order, absorbs this one. Only a lock on its class, and one on the same expression or
-/// class with a stronger effect, can.
+/// class with a stronger effect, can. The list `stronger` is for these, so that none is made anew.
 ///
 /// # Errors
 ///
 /// Allocation failed.
 pub fn is_free(
-    alloc: Global,
     classes: &Classes,
     function: u16,
     given: &[Lock],
     lock: &Lock,
+    stronger: &mut Vec<Lock>,
 ) -> Result<bool, AllocError>
     requires { AreInOrder given.now }
     ensures { IfOk result (λ free. IsTrue free ↔ IsFree classes.now function (IsOne given.now) lock.now) }
 {
-    let stronger = absorbers(alloc, classes, function, lock)?;
+    list_absorbers(classes, function, lock, stronger)?;
     Ok(has_none(given, stronger.as_slice()))
 }
 
@@ -80,30 +80,30 @@ fn has_none(given: &[Lock], these: &[Lock]) -> bool
     true
 }
 
-/// The locks that absorb this one.
-fn absorbers(
-    alloc: Global,
+/// Makes a list that of the locks that absorb this one.
+fn list_absorbers(
     classes: &Classes,
     function: u16,
     lock: &Lock,
-) -> Result<Vec<Lock>, AllocError>
-    ensures { IfOk result (λ v. v.items ≡ above classes.now function lock.now) }
+    list: &mut Vec<Lock>,
+) -> Result<(), AllocError>
+    ensures { OnOk result (list.new.items ≡ above classes.now function lock.now) }
 {
-    let mut above = Vec::new(alloc);
+    list.clear();
     match lock {
-        Lock::Root(_) => Ok(above),
+        Lock::Root(_) => Ok(()),
         Lock::Class(class, effect) => {
             if *effect == Effect::Read {
-                above.push(Lock::Class(*class, Effect::Write))?;
+                list.push(Lock::Class(*class, Effect::Write))?;
             }
-            Ok(above)
+            Ok(())
         }
         Lock::Expr(expr, effect) => {
-            add_classes(class_of(classes, function, expr), *effect, &mut above)?;
+            add_classes(class_of(classes, function, expr), *effect, list)?;
             if *effect == Effect::Read {
-                above.push(stronger(expr)?)?;
+                list.push(stronger(expr)?)?;
             }
-            Ok(above)
+            Ok(())
         }
     }
 }

@@ -1,11 +1,12 @@
 //! Lists of at most 256 locks.
-ghost use Rattle.std.specs.Prelude.{◌≡◌, ◌<◌, IfOk};
+ghost use Rattle.std.specs.Prelude.{◌≡◌, ◌<◌, ◌≤◌, ◌⊎◌, length, IfOk};
 ghost use Rattle.std.specs.List.{flat_map};
 ghost use Rattle.asl_code.specs.Versions.{newest_locks};
 ghost use Rattle.asl_lock_expr.specs.Links.{IsOne};
+ghost use Rattle.asl_lock_expr.specs.Order.{AreInOrder};
 ghost use Rattle.asl_emitter.specs.Lists.{IsFitted, IsCoarse, as_class, strongest};
 
-use crate::reduced::reduce;
+use crate::reduced::{keep_free, reduce};
 use asl_code::{Effect, Lock, NEWEST_LIMITS};
 use asl_lock_expr::class_of;
 use asl_points_to::Classes;
@@ -29,6 +30,32 @@ pub fn fit(
     ensures { IfOk result (λ v. IsFitted classes.now function newest_locks (IsOne given.now) v.items) }
 {
     let fine = reduce(alloc, classes, function, given)?;
+    at_most(alloc, classes, function, fine)
+}
+
+/// The same of locks that are in order.
+pub fn fit_in_order(
+    alloc: Global,
+    classes: &Classes,
+    function: u16,
+    given: &[Lock],
+) -> Result<Vec<Lock>, AllocError>
+    requires { AreInOrder given.now }
+    ensures { IfOk result (λ v. IsFitted classes.now function newest_locks (IsOne given.now) v.items) }
+{
+    let fine = keep_free(alloc, classes, function, given)?;
+    at_most(alloc, classes, function, fine)
+}
+
+/// The locks as they are, where they are at most 256; else their classes or the root.
+fn at_most(
+    alloc: Global,
+    classes: &Classes,
+    function: u16,
+    fine: Vec<Lock>,
+) -> Result<Vec<Lock>, AllocError>
+    ensures { IfOk result (λ v. ((length fine.items ≤ newest_locks) × (v.items ≡ fine.items)) ⊎ ((newest_locks < length fine.items) × IsCoarse classes.now function newest_locks fine.items v.items)) }
+{
     if fine.len() <= MAX_LOCKS {
         return Ok(fine);
     }

@@ -4,7 +4,7 @@ ghost use Rattle.asl_code.specs.declared.instr.Instr.TheVariants.{New as NewInst
 ghost use Rattle.asl_soundness.specs.Coded.{classed};
 ghost use Rattle.asl_emitter.specs.Parts.{HasSites, AreFitted};
 
-use crate::fitted::fit;
+use crate::fitted::fit_in_order;
 use asl_backward_flow::{Flow, Region};
 use asl_code::{Instr, Items, Lock};
 use asl_lower::Lowering;
@@ -58,7 +58,7 @@ pub fn lists(
     for (number, section) in lowering.sections().iter().enumerate() {
         let entry = u32::from(section.acquire) + 1;
         let needed = flow.at(alloc, Region::Section(number as u16), entry)?;
-        let list = fit(alloc, classes, section.function, &needed)?;
+        let list = fit_in_order(alloc, classes, section.function, &needed)?;
         lists.push(Items::from_vec(list))?;
     }
     Ok(Items::from_vec(lists))

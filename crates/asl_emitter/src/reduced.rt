@@ -29,7 +29,7 @@ pub fn reduce(
 }
 
 /// The locks of a list in order that no other of them absorbs.
-fn keep_free(
+pub fn keep_free(
     alloc: Global,
     classes: &Classes,
     function: u16,
@@ -39,8 +39,9 @@ fn keep_free(
     ensures { IfOk result (λ v. IsReduced classes.now function (IsOne given.now) v.items) }
 {
     let mut reduced = Vec::new(alloc);
+    let mut stronger = Vec::new(alloc);
     for lock in given {
-        let free = is_free(alloc, classes, function, given, lock)?;
+        let free = is_free(classes, function, given, lock, &mut stronger)?;
         if free {
             add_in_order(&mut reduced, copied(lock)?)?;
         }

@@ -54,14 +54,18 @@ fn place(locks: &[Lock], new: &Lock) -> Option<usize>
 }
 
 /// The place at which a list is looked at, where a lock goes between two places of it: the last of the list, since locks mostly
-/// come in their order, and then the middle.
+/// come in their order, then the first, since those on classes come before all others, and then the middle.
 fn probed(low: usize, high: usize, len: usize) -> usize
-    requires { low < high }
+    requires order { low < high }
+    requires within { high ≤ len }
     ensures above { low ≤ result }
     ensures below { result < high }
 {
     if high == len {
         return high - 1;
+    }
+    if low == 0 && high == len - 1 {
+        return 0;
     }
     low + (high - low) / 2
 }
