@@ -1,6 +1,6 @@
 use Rattle.std.proofs.lemmas.Result.{err_from_is_err_and}
-use Rattle.asl_tool.proofs.RunFiles.{log_fault}
-use Rattle.asl_tool.proofs.run_file.run_of.Goals as goal
+use Rattle.asl_journal.proofs.RunFiles.{log_fault}
+use Rattle.asl_journal.proofs.run_file.run_of.Goals as goal
 
 pub returns-in_err-journal-clause-refused : goal.returns-in_err-journal-clause-refused
 returns-in_err-journal-clause-refused c =

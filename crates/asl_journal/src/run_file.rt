@@ -5,10 +5,13 @@ ghost use Rattle.asl_code.specs.declared.image.Image.{Image};
 ghost use Rattle.asl_journal.specs.Journal.{Log};
 ghost use Rattle.asl_journal.specs.Bytes.{SpellsLog};
 ghost use Rattle.asl_loader.specs.Faults.{IsProgramImage};
-ghost use Rattle.asl_tool.specs.RunFile.{HasParts, HasNoParts, SpellsRun, IsFileFault, IsPartFault, IsLogFault};
+ghost use Rattle.asl_journal.specs.RunFile.{HasParts, HasNoParts, SpellsRun, IsFileFault, IsPartFault, IsLogFault};
 
+use crate::fault::JournalFault;
+use crate::journal::Journal;
+use crate::loading::get;
+use crate::writing::put;
 use asl_code::Program;
-use asl_journal::{Journal, JournalFault, get, put};
 use asl_loader::{LoadFault, load, store};
 use std::alloc::{AllocError, Global};
 use thiserror::Error;

@@ -12,8 +12,8 @@ use Rattle.asl_journal.specs.declared.fault.JournalFault.TheVariants as journal
 use Rattle.asl_journal.specs.Journal.{Log}
 use Rattle.asl_journal.specs.Bytes.{log_fields, SpellsLog}
 use Rattle.asl_journal.specs.Faults as log_faults
-use Rattle.asl_tool.specs.declared.run_file.FileFault.{FileFault}
-use Rattle.asl_tool.specs.declared.run_file.FileFault.TheVariants as fault
+use Rattle.asl_journal.specs.declared.run_file.FileFault.{FileFault}
+use Rattle.asl_journal.specs.declared.run_file.FileFault.TheVariants as fault
 
 -- a file of two parts: the first one's length in four bytes, and both
 abbrev pub file_of : List ℕ → List ℕ → List ℕ

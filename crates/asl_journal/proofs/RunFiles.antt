@@ -22,9 +22,9 @@ use Rattle.asl_journal.specs.Faults as log_faults
 use Rattle.asl_journal.proofs.Logs.{log_is_one}
 use Rattle.asl_journal.proofs.Outcomes as logs
 use Rattle.asl_loader.specs.Faults.{IsProgramImage}
-use Rattle.asl_tool.specs.declared.run_file.FileFault.{FileFault}
-use Rattle.asl_tool.specs.declared.run_file.FileFault.TheVariants as fault
-use Rattle.asl_tool.specs.RunFile.{file_of, HasParts, HasNoParts, SpellsRun, IsFileFault, IsPartFault, IsLogFault, IsFileOutcome, RunOfSpellingIsOne, SpellingOfRunIsOne, FilesHaveAnOutcome, FileOutcomeIsOne}
+use Rattle.asl_journal.specs.declared.run_file.FileFault.{FileFault}
+use Rattle.asl_journal.specs.declared.run_file.FileFault.TheVariants as fault
+use Rattle.asl_journal.specs.RunFile.{file_of, HasParts, HasNoParts, SpellsRun, IsFileFault, IsPartFault, IsLogFault, IsFileOutcome, RunOfSpellingIsOne, SpellingOfRunIsOne, FilesHaveAnOutcome, FileOutcomeIsOne}
 
 -- ---- the parts
 

@@ -1,6 +1,6 @@
 use Rattle.std.proofs.Common.{arith}
-use Rattle.asl_tool.proofs.RunFiles.{only_run}
-use Rattle.asl_tool.proofs.run_file.get_run.Goals as goal
+use Rattle.asl_journal.proofs.RunFiles.{only_run}
+use Rattle.asl_journal.proofs.run_file.get_run.Goals as goal
 
 pub returns-in-Some-clause-only : goal.returns-in-Some-clause-only
 returns-in-Some-clause-only c =
