@@ -8,7 +8,7 @@ use Rattle.asl_debugger.specs.declared.fault.StepFault.{StepFault}
 use Rattle.asl_debugger.specs.declared.fault.StepFault.TheVariants as step
 use Rattle.asl_debugger.specs.declared.fault.DebugFault.{DebugFault}
 use Rattle.asl_debugger.specs.declared.fault.DebugFault.TheVariants as debug
-use Rattle.asl_session.specs.Buffer.{Holds}
+use Rattle.asl_foreign.specs.Buffer.{Holds}
 use Rattle.asl_debugger.specs.Session.{Session, moved, recorded, state_before}
 
 -- the status of a step's answer

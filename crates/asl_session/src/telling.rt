@@ -1,9 +1,9 @@
 //! What calls hand back to C: places, texts and bytes.
 ghost use Rattle.std.specs.Prelude.{◌≡◌, ◌≢◌, length, IfOk, OnErr, is_ok, if◌then◌else◌, string_bytes};
-ghost use Rattle.asl_session.specs.Buffer.{Holds};
+ghost use Rattle.asl_foreign.specs.Buffer.{Holds};
 
-use crate::buffer::put;
 use crate::status::{DONE, NO_MEMORY};
+use asl_foreign::put_front;
 use std::alloc::AllocError;
 
 /// Where a session is: how many events lead to the machine that is shown, and how many the journal has.
@@ -46,7 +46,7 @@ fn hand_over(all: &[u8], buffer: &mut [u8], whole: &mut usize) -> u32
     ensures front { Holds all.now buffer.old buffer.new }
     ensures length { whole.new ≡ length all.now }
 {
-    put(all, buffer);
+    put_front(all, buffer);
     *whole = all.len();
     DONE
 }

@@ -1,4 +1,4 @@
--- What a buffer has after a text was put into it (docs/EMBEDDING.md, "Sessions from C").
+-- What a buffer has after a text was put into it (docs/EMBEDDING.md, "The commands from C" and "Sessions from C").
 use Rattle.std.specs.Prelude.{◌≡◌, ◌++◌, ℕ, List, length, take, drop}
 
 -- the text as far as there is room, and then what the buffer had
