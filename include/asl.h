@@ -137,6 +137,7 @@ uint32_t asl_session_asks_nonnull(asl_session *session, uint8_t *text, size_t ro
 uint32_t asl_session_stack_nonnull(asl_session *session, uint8_t *text, size_t room, size_t *length);
 uint32_t asl_session_objects_nonnull(asl_session *session, uint8_t *text, size_t room, size_t *length);
 uint32_t asl_session_log_nonnull(asl_session *session, uint32_t first, uint8_t *text, size_t room, size_t *length);
+uint32_t asl_session_run_file_nonnull(asl_session *session, uint8_t *bytes, size_t room, size_t *length);
 
 /* Opens a session: so many threads of the program of these bytes, at their start. Bytes that begin with "ASLM" are read as an image,
  * all others as assembly text. Returns 0, 3 (there is a session already, or no place for one), 16, 12, 11 or 2. */
@@ -207,6 +208,15 @@ static inline uint32_t asl_session_log(asl_session *session, uint32_t first, uin
   if (!session || !session->live) return ASL_BAD_HANDLE;
   if (!length || (!text && room)) return ASL_NULL_POINTER;
   return asl_session_log_nonnull(session, first, text, room, length);
+}
+
+/* The run file of the program and of all events, whatever the position is: what `asl step --record` writes of the same steps, and
+ * `asl replay`, `asl log` and `asl debug` read. `bytes` gets as much as it has room for, from its front on; its other bytes stay.
+ * `length` is the whole length. Returns 0, 3, 16 or 2. */
+static inline uint32_t asl_session_run_file(asl_session *session, uint8_t *bytes, size_t room, size_t *length) {
+  if (!session || !session->live) return ASL_BAD_HANDLE;
+  if (!length || (!bytes && room)) return ASL_NULL_POINTER;
+  return asl_session_run_file_nonnull(session, bytes, room, length);
 }
 
 #ifdef __cplusplus

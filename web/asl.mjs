@@ -82,17 +82,18 @@ function sessionOf(wasm, memory, program, threads) {
   const { at, take, give, look } = memory;
   let handle = opened(wasm, memory, program, threads), room = ROOM, told = take(TOLD), text = take(room);
   const call = (name, ...words) => accept(handle ? wasm[`asl_session_${name}_nonnull`](handle, ...words) : 3);
-  const tell = (name, ...words) => {
+  const toldBytes = (name, ...words) => { // they stand there until the next call
     call(name, ...words, text, BigInt(room), told);
     const length = Number(look(told, TOLD).getBigUint64(0, true));
-    if (length <= room) return decoder.decode(at(text, length));
+    if (length <= room) return at(text, length);
     give(text);
     text = take(room = Math.ceil(length * 1.3));
-    return tell(name, ...words);
+    return toldBytes(name, ...words);
   };
+  const tell = (name, ...words) => decoder.decode(toldBytes(name, ...words));
   const telling = Object.fromEntries(['view', 'asks', 'stack', 'objects'].map(name => [name, () => tell(name)]));
   return { ...telling, step: thread => call('step', thread), go: k => call('go', k), cut: k => call('cut', k),
-    log: first => tell('log', first),
+    log: first => tell('log', first), runFile: () => toldBytes('run_file').slice(),
     place: () => {
       call('place', told);
       const view = look(told, TOLD);

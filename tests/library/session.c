@@ -1,6 +1,7 @@
 /* Sessions: steps a program by a schedule with memory refused at each request in turn, and prints for each position what
- * `asl debug goto K view asks stack objects` prints, and then the lines of the events, as `asl log` does.
- * usage: session PROGRAM THREADS T.. ; link it with --wrap=malloc and --wrap=realloc. */
+ * `asl debug goto K view asks stack objects` prints, and then the lines of the events, as `asl log` does. It writes the run file into
+ * FILE, and into HALF that of the first half of the events.
+ * usage: session PROGRAM FILE HALF THREADS T.. ; link it with --wrap=malloc and --wrap=realloc. */
 #include "asl.h"
 #include "refuse.h"
 #include <stdio.h>
@@ -28,7 +29,10 @@ static void must(bool holds, const char *what) {
     granted = -1;                                           \
   } while (0)
 
-static void print_page(asl_session *session, uint32_t (*page)(asl_session *, uint8_t *, size_t, size_t *)) {
+typedef uint32_t tells(asl_session *, uint8_t *, size_t, size_t *);
+
+/* puts what the call tells into `text`, and answers its length */
+static size_t told(asl_session *session, tells *page) {
   size_t length = 0, again = 0;
   uint32_t status;
   memset(text, UNTOUCHED, ROOM);
@@ -39,7 +43,15 @@ static void print_page(asl_session *session, uint32_t (*page)(asl_session *, uin
   memset(part, UNTOUCHED, ROOM);
   must(page(session, part, length / 2, &again) == ASL_OK && again == length, "the length with too little room");
   must(!memcmp(part, text, length / 2) && part[length / 2] == UNTOUCHED, "the first part where there is too little room");
-  fwrite(text, 1, length, stdout);
+  return length;
+}
+
+static void print_page(asl_session *session, tells *page) { fwrite(text, 1, told(session, page), stdout); }
+
+static void write_run_file(asl_session *session, const char *name) {
+  size_t length = told(session, asl_session_run_file);
+  FILE *file = fopen(name, "wb");
+  must(file && fwrite(text, 1, length, file) == length && !fclose(file), "a run file");
 }
 
 static void print_position(asl_session *session, uint32_t k) {
@@ -77,6 +89,7 @@ static void without_session(void) {
   must(asl_session_stack(&none, part, ROOM, &length) == ASL_BAD_HANDLE, "no stack");
   must(asl_session_objects(&none, part, ROOM, &length) == ASL_BAD_HANDLE, "no objects");
   must(asl_session_log(&none, 0, part, ROOM, &length) == ASL_BAD_HANDLE, "no log");
+  must(asl_session_run_file(&none, part, ROOM, &length) == ASL_BAD_HANDLE, "no run file");
   must(length == 7 && part[0] == UNTOUCHED, "nothing written of no session");
   must(asl_session_open((const uint8_t *)"x", 1, 1, &none) == ASL_NO_PROGRAM, "no text of a program");
   must(asl_session_open((const uint8_t *)"ASLM", 4, 1, &none) == ASL_NO_PROGRAM, "no image of a program");
@@ -95,6 +108,7 @@ static void with_null(asl_session *session) {
   must(asl_session_view(NULL, part, ROOM, &length) == ASL_BAD_HANDLE && asl_session_asks(NULL, part, ROOM, &length) == ASL_BAD_HANDLE, "NULL to view");
   must(asl_session_stack(NULL, part, ROOM, &length) == ASL_BAD_HANDLE && asl_session_objects(NULL, part, ROOM, &length) == ASL_BAD_HANDLE, "NULL to show");
   must(asl_session_log(NULL, 0, part, ROOM, &length) == ASL_BAD_HANDLE, "NULL to log");
+  must(asl_session_run_file(NULL, part, ROOM, &length) == ASL_BAD_HANDLE, "NULL to write down");
   must(asl_session_open(NULL, 1, 1, &none) == ASL_NULL_POINTER && asl_session_open(NULL, 1, 1, session) == ASL_BAD_HANDLE, "no program");
   must(asl_session_place(session, NULL) == ASL_NULL_POINTER && asl_session_place(&none, NULL) == ASL_BAD_HANDLE, "no place");
   must(asl_session_view(session, NULL, 1, &length) == ASL_NULL_POINTER && asl_session_view(session, part, ROOM, NULL) == ASL_NULL_POINTER, "no view");
@@ -102,6 +116,7 @@ static void with_null(asl_session *session) {
   must(asl_session_stack(session, NULL, 1, &length) == ASL_NULL_POINTER && asl_session_stack(session, part, ROOM, NULL) == ASL_NULL_POINTER, "no stack");
   must(asl_session_objects(session, NULL, 1, &length) == ASL_NULL_POINTER && asl_session_objects(session, part, ROOM, NULL) == ASL_NULL_POINTER, "no objects");
   must(asl_session_log(session, 0, NULL, 1, &length) == ASL_NULL_POINTER && asl_session_log(session, 0, part, ROOM, NULL) == ASL_NULL_POINTER, "no log");
+  must(asl_session_run_file(session, NULL, 1, &length) == ASL_NULL_POINTER && asl_session_run_file(session, part, ROOM, NULL) == ASL_NULL_POINTER, "no run file");
   must(place.position == 9 && length == 7, "nothing written with NULL");
 }
 
@@ -124,30 +139,35 @@ static void refusals(asl_session *session, uint32_t threads, uint32_t events) {
 }
 
 int main(int count, char **words) {
-  if (count < 3) return 2;
+  enum { FIRST = 5 };
+  if (count < FIRST) return 2;
   FILE *file = fopen(words[1], "rb");
   if (!file) return 2;
   size_t size = fread(program, 1, ROOM, file), length = 0;
   fclose(file);
-  uint32_t threads = (uint32_t)atoi(words[2]), events = (uint32_t)(count - 3), status;
+  uint32_t threads = (uint32_t)atoi(words[4]), events = (uint32_t)(count - FIRST), status;
   static asl_session session;
   without_session();
   must(asl_session_open(program, size, 0, &session) == ASL_BAD_COUNT, "no threads");
   must(asl_session_open(program, size, 129, &session) == ASL_BAD_COUNT, "too many threads");
   REFUSED_IN_TURN(status, asl_session_open(program, size, threads, &session));
   must(status == ASL_OK, "open");
-  step_all(&session, words, 3, count);
+  step_all(&session, words, FIRST, count);
   with_null(&session);
   refusals(&session, threads, events);
   for (uint32_t k = events; k-- > 0;) {
     REFUSED_IN_TURN(status, asl_session_cut(&session, k));
     must(status == ASL_OK, "cut");
-    step_all(&session, words, 3 + (int)k, count);
+    step_all(&session, words, FIRST + (int)k, count);
   }
   for (uint32_t k = 0; k <= events; k++) print_position(&session, k);
   REFUSED_IN_TURN(status, asl_session_log(&session, 0, text, ROOM, &length));
   must(status == ASL_OK && length <= ROOM, "log");
   fwrite(text, 1, length, stdout);
+  must(asl_session_go(&session, events / 3) == ASL_OK, "back");
+  write_run_file(&session, words[2]); /* of all events, though it is behind the first third */
+  must(asl_session_cut(&session, events / 2) == ASL_OK, "cut in the middle");
+  write_run_file(&session, words[3]);
   must(asl_session_close(&session) == ASL_OK && asl_session_close(&session) == ASL_BAD_HANDLE, "close");
   return 0;
 }

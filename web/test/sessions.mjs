@@ -8,21 +8,26 @@ const asl = await loadAsl(readFileSync(process.argv[2] || ROOT + 'web/out/asl.wa
 const decoder = new TextDecoder();
 let passed = 0, failed = 0;
 function check(is, words) { if (is) passed++; else { failed++; console.log('FAILED', words); } }
+const same = (one, other) => Buffer.compare(one, other) === 0;
 const answer = (words, input) => decoder.decode(asl(words.map(String), input).output);
 
-// Each position against `debug`, and the journal against `log`, of a schedule whose steps go by a multiplier.
+// Each position against `debug`, the journal against `log`, and the run file against `step --record`, of a schedule whose steps go by a multiplier.
 function follow(program, threads, steps, name) {
   const schedule = Array.from({ length: steps }, (_, i) => ((i * 7919) >> 3) % threads);
-  const file = asl(['step', '--threads', threads, '--record', ...schedule].map(String), program).output;
+  const recorded = count => asl(['step', '--threads', threads, '--record', ...schedule.slice(0, count)].map(String), program).output;
+  const file = recorded(steps);
   const session = asl.session(program, threads);
   for (const thread of schedule) session.step(thread);
   check(session.log(0) === answer(['log'], file), name + ': log');
+  check(same(session.runFile(), file), name + ': run file');
   for (let k = steps; k >= 0; k -= 7) {
     session.go(k);
     for (const word of ['view', 'asks', 'stack', 'objects'])
       check(`at ${k}\n${session[word]()}` === answer(['debug', 'goto', k, word], file), `${name}: ${word} at ${k}`);
   }
+  check(session.place().position < 7 && same(session.runFile(), file), name + ': run file from the front');
   session.cut(3);
+  check(same(session.runFile(), recorded(3)), name + ': run file behind a cut');
   check(JSON.stringify(session.place()) === '{"position":3,"events":3}', name + ': place');
   session.close();
 }
@@ -49,6 +54,7 @@ session.go(1);
 refused(() => session.step(0), 'NotAtEnd');
 session.close();
 refused(() => session.view(), 'BadHandle');
+refused(() => session.runFile(), 'BadHandle');
 refused(() => session.close(), 'BadHandle');
 
 let bytes = 0;

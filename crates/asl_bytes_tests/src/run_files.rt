@@ -1,7 +1,6 @@
 //! The counter's run file, cut at each place, and with each byte changed to each other value.
 use crate::rows::{Met, NONE, add, row_of_image};
-use asl_journal::JournalFault;
-use asl_tool::{FileFault, get_run, put_run};
+use asl_journal::{FileFault, JournalFault, get_run, put_run};
 use std::alloc::{AllocError, Global};
 
 /// The run file of the counter's threads, stepped 0, 0, 1, 1: the image of 94 bytes behind its length, and the journal.

@@ -5,7 +5,6 @@ mod ask;
 mod exports;
 mod fits;
 mod handle;
-mod parts;
 mod slot;
 
 pub use handle::Handle;

@@ -3,7 +3,7 @@ ghost use Rattle.std.specs.Prelude.{◌≡◌, Bool, true, false};
 ghost use Rattle.asl_lock_forest.specs.Held.{Held, coded_held};
 ghost use Rattle.std.specs.Coded.{coded_bool};
 
-use crate::parts::Parts;
+use asl_foreign::Parts;
 use asl_lock_forest::Forest;
 use std::alloc::Global;
 use std::marker::Model;

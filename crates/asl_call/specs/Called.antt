@@ -4,7 +4,7 @@ use Rattle.std.specs.Prelude.{◌≡◌, ◌<◌, ◌⊎◌, ℕ, List, [], Some
 use Rattle.asl_tool.specs.Tool.{EndsAlone, AsksForWork}
 use Rattle.asl_call.specs.declared.call.Answer.{Answer}
 use Rattle.asl_call.specs.Words.{words_of}
-use Rattle.asl_call.specs.Buffer.{Holds}
+use Rattle.asl_foreign.specs.Buffer.{Holds}
 
 -- the call did what the words ask for, over the input, from a writer that had nothing: the buffers hold what was written and what
 -- was said on standard error, and the answer has their lengths

@@ -1,3 +1,3 @@
-pub mod Buffer
+pub use Rattle.asl_foreign.specs.Buffer
 pub mod Called
 pub mod Words

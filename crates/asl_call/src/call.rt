@@ -4,8 +4,8 @@ ghost use Rattle.asl_tool.specs.Tool.{AsksForWork, EndsAlone};
 ghost use Rattle.asl_call.specs.Words.{words_of};
 ghost use Rattle.asl_call.specs.Called.{SaysWhyNot, IsAnswered};
 
-use crate::buffer::put;
 use crate::words::split;
+use asl_foreign::put_front;
 use asl_tool::tool_alone;
 use std::alloc::Global;
 
@@ -105,8 +105,8 @@ pub extern "C" fn asl_call(
 {
     match called(alloc, words, input) {
         Ok(done) => {
-            put(done.output.as_slice(), output);
-            put(done.errors.as_slice(), errors);
+            put_front(done.output.as_slice(), output);
+            put_front(done.errors.as_slice(), errors);
             *answer = Answer {
                 status: u32::from(done.status),
                 output_length: done.output.len(),

@@ -1,7 +1,6 @@
 //! For C: each command of the program as one call over memory. `include/asl.h` declares it.
 #![tactic(auto)]
 
-mod buffer;
 mod call;
 mod words;
 

@@ -2,10 +2,12 @@ pub mod Front
 pub mod Loads
 pub mod Logs
 pub mod Kept
+mod Lengths
 pub mod Outcomes
 pub mod Parts
 pub mod Recordings
 pub mod Replays
+pub mod RunFiles
 pub mod Runs
 pub mod Values
 pub mod Written

@@ -4,6 +4,7 @@ pub mod Journal
 pub mod Recorded
 pub mod Paused
 pub mod Replay
+pub mod RunFile
 -- Machinery of the proofs, not of the promise:
 pub mod Fault
 pub mod Reading

@@ -9,6 +9,7 @@ ghost use Rattle.asl_journal.specs.Bytes.{LogOfSpellingIsOne, SpellingOfLogIsOne
 ghost use Rattle.asl_journal.specs.Faults.{BytesHaveAnOutcome, OutcomeIsOne};
 ghost use Rattle.asl_journal.specs.Journal.{AreThere, GoesBy, IsJournal, schedule_of, replies_in, state_at};
 ghost use Rattle.asl_journal.specs.Replay.{DiffersAt};
+ghost use Rattle.asl_journal.specs.RunFile.{RunOfSpellingIsOne, SpellingOfRunIsOne, FilesHaveAnOutcome, FileOutcomeIsOne};
 
 /// A journal and its bytes belong to no other. So to get what was put gives the same journal.
 pub fn journal_and_bytes_are_one()
@@ -20,6 +21,18 @@ pub fn journal_and_bytes_are_one()
 pub fn bytes_have_one_outcome()
     ensures some { BytesHaveAnOutcome }
     ensures one { OutcomeIsOne }
+{}
+
+/// A run and its bytes belong to no other. So to get what was put gives the same program and the same journal.
+pub fn run_and_bytes_are_one()
+    ensures run { RunOfSpellingIsOne }
+    ensures bytes { SpellingOfRunIsOne }
+{}
+
+/// Bytes have exactly one outcome as a run file: a run, or one refusal. Want of memory is left out.
+pub fn run_files_have_one_outcome()
+    ensures some { FilesHaveAnOutcome }
+    ensures one { FileOutcomeIsOne }
 {}
 
 /// A journal of a verified program goes by the instruction table: by it alone the program's threads run over the journal's

@@ -1,4 +1,4 @@
-//! Journals: the events of a run in order, a machine that writes them down as it steps, replay, and the bytes of a journal.
+//! Journals: the events of a run in order, a machine that writes them down as it steps, replay, the bytes of a journal, and run files.
 #![tactic(auto)]
 
 mod event;
@@ -10,6 +10,7 @@ mod limits;
 mod loading;
 mod reading;
 mod replaying;
+mod run_file;
 mod writing;
 
 pub use event::{Event, Receipt};
@@ -19,4 +20,5 @@ pub use journaled::{Journaled, PausedJournaled};
 pub use limits::MAX_EVENTS;
 pub use loading::get;
 pub use replaying::{follow, replay, run_on};
+pub use run_file::{FileFault, get_run, put_run};
 pub use writing::put;

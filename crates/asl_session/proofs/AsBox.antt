@@ -8,7 +8,7 @@ use Rattle.std.specs.contracts.impls.GlobalAllocator.TheImpl.{ghosts, dict}
 use Rattle.std.proofs.alloc.Global.TheLaws as heap
 use Rattle.asl_session.specs.contracts.session.Session as Session
 use Rattle.asl_session.proofs.session.Session.TheLaws as session
-use Rattle.asl_session.specs.contracts.parts.Parts as Parts
+use Rattle.asl_foreign.specs.contracts.parts.Parts as Parts
 use Rattle.asl_session.specs.contracts.slot.Slot as Held
 
 abbrev pub E : Bx

@@ -1,5 +1,5 @@
 pub mod Pages
-pub mod Buffer
+pub use Rattle.asl_foreign.specs.Buffer
 pub mod Opening
 pub mod Status
 -- Machinery: what a handle owns.

@@ -3,11 +3,12 @@ use Rattle.std.specs.Prelude.{◌≡◌, ◌≢◌, ◌<◌, ◌≤◌, ◌+◌,
 use Rattle.asl_machine.specs.declared.reply.Reply.{Reply}
 use Rattle.asl_machine.specs.Step.{Step}
 use Rattle.asl_journal.specs.Journal.{most_events, with_event}
+use Rattle.asl_journal.specs.RunFile.{SpellsRun}
 use Rattle.asl_debugger.specs.declared.fault.StepFault.{StepFault}
 use Rattle.asl_debugger.specs.declared.fault.StepFault.TheVariants as step
 use Rattle.asl_debugger.specs.declared.fault.DebugFault.{DebugFault}
 use Rattle.asl_debugger.specs.declared.fault.DebugFault.TheVariants as debug
-use Rattle.asl_session.specs.Buffer.{Holds}
+use Rattle.asl_foreign.specs.Buffer.{Holds}
 use Rattle.asl_debugger.specs.Session.{Session, moved, recorded, state_before}
 
 -- the status of a step's answer
@@ -57,4 +58,10 @@ IsCut s k status new = IsMovedTo s (recorded s (record { threads = s.log.threads
 -- 0: the buffer holds the text as far as it has room, and its whole length is told. Else it is 2: there was no memory
 pub record IsTold (text old new : List ℕ) (told status : ℕ) : Type 0 where
   pub done : status ≡ 0 → Holds text old new × (told ≡ length text)
+  pub other : (status ≡ 0) ⊎ (status ≡ 2)
+
+-- 0: there are bytes that spell the session's program and its whole journal, wherever its position is; the buffer holds them as far as
+-- it has room, and their whole length is told. Else it is 2: there was no memory
+pub record IsRunFileTold (s : Session) (old new : List ℕ) (told status : ℕ) : Type 0 where
+  pub done : status ≡ 0 → (file : List ℕ) × SpellsRun s.image s.log file × Holds file old new × (told ≡ length file)
   pub other : (status ≡ 0) ⊎ (status ≡ 2)

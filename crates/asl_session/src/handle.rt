@@ -1,9 +1,9 @@
 //! A session that C keeps.
 ghost use Rattle.std.specs.Prelude.{◌≡◌, true, false, IfSome, IfNone};
 
-use crate::parts::Parts;
 use crate::session::Session;
 use crate::slot::Slot;
+use asl_foreign::Parts;
 use std::alloc::Global;
 
 /// A session that C keeps, or none.

@@ -1,13 +1,11 @@
 //! Sessions for C: a program and a debugger over it that records, in a handle that C keeps. `include/asl.h` declares the functions.
 #![tactic(auto)]
 
-mod buffer;
 mod exports;
 mod handle;
 mod kept;
 mod opening;
 mod pages;
-mod parts;
 mod session;
 mod slot;
 mod status;

@@ -4,6 +4,7 @@ ghost use Rattle.asl_code.specs.Versions.{most_threads};
 ghost use Rattle.asl_machine.specs.Run.{IsThreadCount};
 ghost use Rattle.asl_machine.specs.Step.{Step};
 ghost use Rattle.asl_journal.specs.Journal.{most_events, with_event};
+ghost use Rattle.asl_journal.specs.RunFile.{SpellsRun};
 ghost use Rattle.asl_debugger.specs.Session.{moved, recorded, state_before};
 ghost use Rattle.asl_debugger.specs.Paused.{IsSessionRestOf};
 ghost use Rattle.asl_session.specs.Pages.{text_of, log_text};
@@ -11,7 +12,7 @@ ghost use Rattle.asl_session.specs.Pages.{text_of, log_text};
 use crate::pages::{Page, lines_from, page_of};
 use asl_code::Program;
 use asl_debugger::{DebugFault, Debugger, PausedDebugger, StepFault};
-use asl_journal::Journal;
+use asl_journal::{Journal, put_run};
 use asl_machine::Reply;
 use std::alloc::{AllocError, Global};
 use std::marker::Model;
@@ -145,6 +146,17 @@ impl Session {
         let events = self.debugger.journal().events();
         let first = (first as usize).min(events.len());
         lines_from(alloc, first, &events[first..])
+    }
+
+    /// The run file of the program and the whole journal, wherever the position is.
+    ///
+    /// # Errors
+    ///
+    /// An allocation failed.
+    pub fn run_file(&self, alloc: Global) -> Result<Vec<u8>, AllocError>
+        ensures { IfOk result (λ bytes. SpellsRun self.now.image self.now.log bytes.items) }
+    {
+        put_run(alloc, &self.program, self.debugger.journal())
     }
 
     /// How many events lead to the machine that is shown.

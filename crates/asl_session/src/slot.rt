@@ -3,8 +3,8 @@ ghost use Rattle.std.specs.Prelude.{◌≡◌, Bool, true, false};
 ghost use Rattle.std.specs.Coded.{coded_bool};
 ghost use Rattle.asl_session.specs.Owned.{Kept, coded_kept};
 
-use crate::parts::Parts;
 use crate::session::Session;
+use asl_foreign::Parts;
 use std::alloc::Global;
 use std::marker::Model;
 

@@ -4,8 +4,6 @@ mod Lines
 mod Traces
 mod Schedules
 mod Stored
-mod Lengths
-mod RunFiles
 mod Differences
 mod Records
 mod Sessions

@@ -18,6 +18,10 @@ use Rattle.asl_journal.specs.declared.fault.JournalFault.TheVariants as journal
 use Rattle.asl_journal.specs.Journal.{Log, IsJournal}
 use Rattle.asl_journal.specs.Replay.{IsReplayFault}
 use Rattle.asl_journal.proofs.Replays.{one_difference, no_difference}
+use Rattle.asl_journal.specs.declared.run_file.FileFault.{FileFault}
+use Rattle.asl_journal.specs.declared.run_file.FileFault.TheVariants as file
+use Rattle.asl_journal.specs.RunFile.{IsFileOutcome}
+use Rattle.asl_journal.proofs.RunFiles.{files_have_an_outcome, file_outcome_is_one, run_is_one}
 use Rattle.asl_machine.specs.Run.{start_of}
 use Rattle.asl_tool.specs.declared.program.ProgramFault.{ProgramFault}
 use Rattle.asl_tool.specs.declared.program.ProgramFault.TheVariants as program
@@ -26,9 +30,6 @@ use Rattle.asl_words.specs.declared.command.Command.TheVariants as command
 use Rattle.asl_tool.specs.declared.command.CommandFault.{CommandFault}
 use Rattle.asl_tool.specs.declared.command.CommandFault.TheVariants as fault
 use Rattle.asl_tool.specs.Program.{BeginsAsImage, IsProgram, IsNoProgram}
-use Rattle.asl_tool.specs.declared.run_file.FileFault.{FileFault}
-use Rattle.asl_tool.specs.declared.run_file.FileFault.TheVariants as file
-use Rattle.asl_tool.specs.RunFile.{IsFileOutcome}
 use Rattle.asl_tool.specs.Step.{IsRecorded, IsStepped, written}
 use Rattle.asl_words.specs.declared.debug_word.DebugWord.{DebugWord}
 use Rattle.asl_tool.specs.Debug.{IsDebugged, IsTalk, opened}
@@ -37,7 +38,6 @@ use Rattle.asl_tool.specs.Replay.{IsTold, same_text}
 use Rattle.asl_tool.specs.Command.{IsAssembled, IsDisassembled, IsOutput, IsRefused, IsRefusedStep, IsRefusedText, IsRefusedImage, IsRefusedReplay}
 use Rattle.asl_tool.proofs.Differences.{some_difference}
 use Rattle.asl_tool.proofs.Records.{RunOutcome, run_one, some_run}
-use Rattle.asl_tool.proofs.RunFiles.{files_have_an_outcome, file_outcome_is_one, run_is_one}
 use Rattle.asl_tool.proofs.Talks.{talk_one, some_talk}
 use Rattle.asl_tool.proofs.Stored.{stored}
 use Rattle.asl_tool.specs.Outcome.{IsWantOfMemory, IsOutcome, IsSettled}

@@ -17,6 +17,7 @@ use Rattle.asl_diagnose.specs.Told.{IsTold}
 use Rattle.asl_explain.specs.Told.{IsText}
 use Rattle.asl_explain.specs.Explained as explain
 use Rattle.asl_explain.specs.declared.fault.ExplainFault.TheVariants as why
+use Rattle.asl_journal.specs.RunFile.{IsFileFault}
 use Rattle.asl_map.specs.Mapped.{IsMapText}
 use Rattle.asl_map.specs.Mapped as map
 use Rattle.asl_tool.specs.Check.{IsChecked, IsRefusedCheck}
@@ -24,7 +25,6 @@ use Rattle.asl_tool.specs.Compile.{IsCompiled, IsRefusedSource}
 use Rattle.asl_tool.specs.Debug.{IsDebugged}
 use Rattle.asl_tool.specs.Log.{IsLogged}
 use Rattle.asl_tool.specs.Replay.{IsReplayed, HasRefusedReplay}
-use Rattle.asl_tool.specs.RunFile.{IsFileFault}
 use Rattle.asl_tool.specs.Step.{IsRecorded, IsStepped, IsSteppable, HasRefusedRun}
 
 -- the text is a program, and the bytes are its image

@@ -3,6 +3,7 @@ use Rattle.std.specs.Prelude.{◌≡◌, ◌+◌, ◌<◌, ◌≤◌, ℕ, List,
 use Rattle.std.specs.Fmt.{decimal}
 use Rattle.asl_code.specs.declared.image.Image.{Image}
 use Rattle.asl_journal.specs.Journal.{Log, IsJournal}
+use Rattle.asl_journal.specs.RunFile.{SpellsRun}
 use Rattle.asl_debugger.specs.Breaks.{HasBreak, HasNoBreak}
 use Rattle.asl_debugger.specs.Session.{Session, IsNextStop, IsLastStop, machine_before, state_before, moved, with_breaks}
 use Rattle.asl_debugger.specs.declared.fault.DebugFault.{DebugFault}
@@ -13,7 +14,6 @@ use Rattle.asl_words.specs.declared.debug_word.DebugWord.{DebugWord}
 use Rattle.asl_words.specs.declared.debug_word.DebugWord.TheVariants as word
 use Rattle.asl_words.specs.declared.debug_word.Move.{Move}
 use Rattle.asl_words.specs.declared.debug_word.Move.TheVariants as step
-use Rattle.asl_tool.specs.RunFile.{SpellsRun}
 use Rattle.asl_show.specs.View.{view_text}
 use Rattle.asl_show.specs.Asks.{asks_text}
 use Rattle.asl_show.specs.Stack.{stack_text}

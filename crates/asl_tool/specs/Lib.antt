@@ -1,7 +1,7 @@
 pub mod Streams
 pub mod Output
 pub mod Program
-pub mod RunFile
+pub use Rattle.asl_journal.specs.RunFile
 pub mod Step
 pub mod Replay
 pub mod Log

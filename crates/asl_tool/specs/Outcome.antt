@@ -9,9 +9,9 @@ use Rattle.asl_points_to.specs.declared.fault.ClassesFault.TheVariants as classe
 use Rattle.asl_map.specs.declared.fault.MapFault.TheVariants as map
 use Rattle.asl_check.specs.declared.fault.CheckFault.TheVariants as check
 use Rattle.asl_journal.specs.declared.fault.JournalFault.TheVariants as journal
+use Rattle.asl_journal.specs.declared.run_file.FileFault.TheVariants as file
 use Rattle.asl_runner.specs.declared.fault.RunFault.TheVariants as run
 use Rattle.asl_tool.specs.declared.program.ProgramFault.TheVariants as program
-use Rattle.asl_tool.specs.declared.run_file.FileFault.TheVariants as file
 use Rattle.asl_words.specs.declared.command.Command.{Command}
 use Rattle.asl_words.specs.declared.command.Command.TheVariants as command
 use Rattle.asl_tool.specs.declared.command.CommandFault.{CommandFault}

@@ -5,7 +5,7 @@ use Rattle.asl_code.specs.declared.image.Image.{Image}
 use Rattle.asl_journal.specs.declared.fault.JournalFault.{JournalFault}
 use Rattle.asl_journal.specs.Journal.{Log, IsJournal}
 use Rattle.asl_journal.specs.Replay.{IsReplayFault}
-use Rattle.asl_tool.specs.RunFile.{SpellsRun}
+use Rattle.asl_journal.specs.RunFile.{SpellsRun}
 
 -- the line that says how many events came again
 abbrev pub same_text : Log → List ℕ

@@ -5,9 +5,9 @@ use Rattle.asl_machine.specs.Run.{IsThreadCount}
 use Rattle.asl_journal.specs.declared.fault.JournalFault.{JournalFault}
 use Rattle.asl_journal.specs.declared.fault.JournalFault.TheVariants as journal
 use Rattle.asl_journal.specs.Journal.{Log, IsJournal, schedule_of, most_events}
+use Rattle.asl_journal.specs.RunFile.{SpellsRun, run_bytes}
 use Rattle.asl_tool.specs.Output.{event_lines}
 use Rattle.asl_tool.specs.Program.{IsProgram}
-use Rattle.asl_tool.specs.RunFile.{SpellsRun, run_bytes}
 
 -- every thread of the schedule is there
 abbrev pub AllThere : ℕ → List ℕ → Type 0

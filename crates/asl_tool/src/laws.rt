@@ -4,10 +4,10 @@ ghost use Rattle.asl_words.specs.declared.command.Command.{Command};
 ghost use Rattle.asl_tool.specs.declared.command.CommandFault.{CommandFault};
 ghost use Rattle.asl_tool.specs.Log.{IsLogged};
 ghost use Rattle.asl_tool.specs.Outcome.{IsOutcome, IsSettled};
-ghost use Rattle.asl_tool.specs.RunFile.{RunOfSpellingIsOne, SpellingOfRunIsOne, FilesHaveAnOutcome, FileOutcomeIsOne};
 ghost use Rattle.asl_tool.specs.Step.{IsRecorded, IsStepped};
 
 use asl_assembler::laws::texts_have_one_outcome;
+pub use asl_journal::laws::{run_and_bytes_are_one, run_files_have_one_outcome};
 use asl_loader::laws::bytes_have_one_outcome;
 
 /// A command has exactly one outcome for the bytes of an input: one output, or one refusal. Want of memory is none. `compile`
@@ -22,18 +22,6 @@ pub fn commands_have_one_outcome()
     texts_have_one_outcome();
     bytes_have_one_outcome();
 }
-
-/// A run and its bytes belong to no other. So to get what was put gives the same program and the same journal.
-pub fn run_and_bytes_are_one()
-    ensures run { RunOfSpellingIsOne }
-    ensures bytes { SpellingOfRunIsOne }
-{}
-
-/// Bytes have exactly one outcome as a run file: a run, or one refusal. Want of memory is left out.
-pub fn run_files_have_one_outcome()
-    ensures some { FilesHaveAnOutcome }
-    ensures one { FileOutcomeIsOne }
-{}
 
 /// What `step --record` writes is printed by `log` as `step` without `--record` prints the same steps, and in no other way.
 pub fn logs_are_steps()

@@ -11,13 +11,12 @@ mod logging;
 mod program;
 mod replaying;
 mod run;
-mod run_file;
 mod spacing;
 mod step;
 mod streams;
 
+pub use asl_journal::{FileFault, get_run, put_run};
 pub use command::{CommandFault, output_of};
 pub use exit_status::{tool, tool_alone};
 pub use program::ProgramFault;
-pub use run_file::{FileFault, get_run, put_run};
 pub use streams::{ReadFault, WriteFault, read_whole, write_whole};

@@ -1,0 +1,8 @@
+//! What the libraries for C have in common: a box in parts that a handle of C can keep, and a buffer of the caller.
+#![tactic(auto)]
+
+mod buffer;
+mod parts;
+
+pub use buffer::put_front;
+pub use parts::Parts;
