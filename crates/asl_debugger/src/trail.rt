@@ -11,8 +11,8 @@ use asl_journal::Journal;
 use asl_machine::{Machine, Paused};
 use std::alloc::Global;
 
-/// How many events are a way that is short for any machine.
-const LEAST_WAY: u32 = 16;
+/// How many events are a short way, on which no marks are left.
+const SHORT_WAY: u32 = 16;
 
 /// How many frames a thread has at most.
 const MOST_FRAMES: u32 = 256;
@@ -47,8 +47,8 @@ pub fn keep_marks(marks: &mut Vec<Mark>, start: u32, end: u32)
     marks.retain(|mark| start <= mark.position && mark.position <= end);
 }
 
-/// The machine at position `end`, from the one at position `start`. Marks are left half of the way on, half of the rest and so on,
-/// until the rest is short. No mark is left where memory is refused for it.
+/// The machine at position `end`, from the one at position `start`. On a way that is not short, marks are left half of the way on, half
+/// of the rest and so on.
 pub fn machine_by_marks<'p>(
     alloc: Global,
     from: Machine<'p>,
@@ -68,35 +68,33 @@ pub fn machine_by_marks<'p>(
 {
     let mut machine = from;
     let mut here = start;
-    let least = least_way(&machine, end - start);
-    while end - here > least {
+    while end - here > SHORT_WAY {
         let middle = here + (end - here) / 2;
         machine = machine_between(alloc, machine, journal, here as usize, middle as usize)?;
-        leave_mark(alloc, marks, &machine, middle);
+        leave_mark(alloc, marks, &machine, middle, end - middle);
         here = middle;
     }
     machine_between(alloc, machine, journal, here as usize, end as usize)
 }
 
-/// Leaves a mark of the machine at this position, if memory allows.
-fn leave_mark(alloc: Global, marks: &mut Vec<Mark>, machine: &Machine<'_>, position: u32)
+/// Leaves a mark of the machine at this position, with so many events of the way still before it. Where the machine has more objects and frames
+/// than that, a copy would cost more than the steps that it saves, and none is left; nor is one where memory is refused for it.
+fn leave_mark(
+    alloc: Global,
+    marks: &mut Vec<Mark>,
+    machine: &Machine<'_>,
+    position: u32,
+    rest_of_way: u32,
+)
     ensures { (log : Log) → machine.now ≡ machine_before machine.now.image log position → position ≤ length log.events
         → AreMarks machine.now.image log marks.old.items → AreMarks machine.now.image log marks.new.items }
 {
+    if pieces(machine) > rest_of_way {
+        return;
+    }
     if let Ok(rest) = rest_of(alloc, machine) {
         let _ = marks.push(Mark { position, rest });
     }
-}
-
-/// How long a way is at least on which a mark is left: on a longer one, stepping through half of it costs more than a copy of the
-/// machine does, which grows with its objects and frames. They are counted only where the way is not short anyway.
-fn least_way(machine: &Machine<'_>, way: u32) -> u32
-    ensures { LEAST_WAY ≤ result }
-{
-    if way <= LEAST_WAY {
-        return LEAST_WAY;
-    }
-    LEAST_WAY.saturating_add(pieces(machine))
 }
 
 /// How many objects and frames the machine has.
