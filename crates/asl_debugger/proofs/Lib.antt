@@ -1,4 +1,5 @@
 pub mod Halts
+pub mod Marking
 pub mod Marks
 pub mod Places
 pub mod Positions

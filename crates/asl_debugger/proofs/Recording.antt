@@ -1,9 +1,9 @@
 -- A debugger's journal with one event more, and cut.
 use Rattle.std.proofs.Common.{◌≡◌, ℕ, zero, suc, ◌+◌, ◌*◌, ◌/◌, ◌<◌, ◌≤◌, inl, inr, List, [], ◌∷◌, ◌++◌, length, take, Some, refl, ap, sym, subst, ◌∙◌, arith, mul-le-mul_right}
-use Rattle.std.specs.Prelude.{slice_get}
+use Rattle.std.specs.Prelude.{slice_get, All, Contains}
 use Rattle.std.proofs.lemmas.Bool.{cases_lt}
 use Rattle.std.proofs.lemmas.List.{take_all, take-take, take-append-le, length-take-le, length_push}
-use Rattle.std.proofs.lemmas.List.Elements.{All-push, All-take}
+use Rattle.std.proofs.lemmas.List.Elements.{All-push, All-take, All-weaker, All-contains, All-contains_itself}
 use Rattle.std.proofs.lemmas.Option.{slice_get_within}
 use Rattle.asl_code.specs.declared.image.Image.{Image}
 use Rattle.asl_machine.specs.declared.reply.Reply.{Reply}
@@ -17,7 +17,8 @@ use Rattle.asl_journal.specs.declared.event.Event.{Event}
 use Rattle.asl_journal.specs.Journal.{Log, IsLog, IsJournal, most_events, schedule_of, with_event}
 use Rattle.asl_journal.proofs.Runs.{state_snoc, goes_snoc, prefix_is_journal}
 use Rattle.asl_debugger.specs.Session.{state_before, machine_before}
-use Rattle.asl_debugger.specs.Kept.{IsMark, AreCheckpoints, IsKept}
+use Rattle.asl_debugger.specs.declared.trail.Mark.{Mark}
+use Rattle.asl_debugger.specs.Kept.{IsMark, IsMarkOf, AreCheckpoints, AreMarks, IsKept}
 use Rattle.asl_debugger.proofs.Marks.{each_pushed, longer, number_there}
 use Rattle.asl_debugger.proofs.Positions.{is_at}
 
@@ -29,8 +30,8 @@ stands_before length_of count spacing index none_past lt =
     omega (arith, mul-le-mul_right spacing next, more)
 
 -- one more event by thread t, and the machine behind it
-module _ (image : Image) (log : Log) (spacing position : ℕ) (checkpoints : List Rest) (machine new : Configuration) (t : ℕ) (reply : Reply)
-    (kept : IsKept image log spacing checkpoints machine position) (end : position ≡ length log.events) (room : length log.events < most_events) (there : t < log.threads)
+module _ (image : Image) (log : Log) (spacing position : ℕ) (checkpoints : List Rest) (marks : List Mark) (machine new : Configuration) (t : ℕ) (reply : Reply)
+    (kept : IsKept image log spacing checkpoints marks machine position) (end : position ≡ length log.events) (room : length log.events < most_events) (there : t < log.threads)
     (same : new.image ≡ machine.image) (said : reply ≡ (step_of machine.image machine.state t).reply) (steps : new.state ≡ (step_of machine.image machine.state t).state) where
   abbrev event : Event
   event = record { thread = t; reply = reply }
@@ -91,7 +92,11 @@ module _ (image : Image) (log : Log) (spacing position : ℕ) (checkpoints : Lis
   each : AreCheckpoints image more spacing checkpoints
   each = λ index rest e. stays (index * spacing) rest (stands_before (length log.events) (length checkpoints) spacing index kept.none_past (slice_get_within checkpoints index rest e)) (kept.each index rest e)
 
-  kept_by : (cs : List Rest) → AreCheckpoints image more spacing cs → length more.events < length cs * spacing → length cs * spacing ≤ length more.events + spacing → IsKept image more spacing cs (machine_before image more (position + 1)) (position + 1)
+  marked : AreMarks image more marks
+  marked = All-weaker (IsMarkOf image log) (IsMarkOf image more)
+      (λ mark old. record { is = stays mark.position mark.rest old.within old.is; within = omega (arith, one_more, old.within) }) marks kept.marked
+
+  kept_by : (cs : List Rest) → AreCheckpoints image more spacing cs → length more.events < length cs * spacing → length cs * spacing ≤ length more.events + spacing → IsKept image more spacing cs marks (machine_before image more (position + 1)) (position + 1)
   kept_by cs es enough none_past = record {
     is_log = is_log;
     journal = journal;
@@ -101,13 +106,14 @@ module _ (image : Image) (log : Log) (spacing position : ℕ) (checkpoints : Lis
     each = es;
     enough = enough;
     none_past = none_past;
+    marked = marked;
   }
 
-  moved_to : (cs : List Rest) → IsKept image more spacing cs (machine_before image more (position + 1)) (position + 1) → IsKept new.image more spacing cs new (position + 1)
-  moved_to cs k = subst (λ (m : Configuration). IsKept m.image more spacing cs m (position + 1)) (sym shown) k
+  moved_to : (cs : List Rest) → IsKept image more spacing cs marks (machine_before image more (position + 1)) (position + 1) → IsKept new.image more spacing cs marks new (position + 1)
+  moved_to cs k = subst (λ (m : Configuration). IsKept m.image more spacing cs marks m (position + 1)) (sym shown) k
 
   -- no checkpoint is due behind it
-  pub kept_behind : (position + 1 ≡ length checkpoints * spacing → ⊥) → IsKept new.image more spacing checkpoints new (position + 1)
+  pub kept_behind : (position + 1 ≡ length checkpoints * spacing → ⊥) → IsKept new.image more spacing checkpoints marks new (position + 1)
   kept_behind none_due =
       let enough = kept.enough in
       let none_past = kept.none_past in
@@ -116,7 +122,7 @@ module _ (image : Image) (log : Log) (spacing position : ℕ) (checkpoints : Lis
 
   -- a checkpoint is due behind it, and this is left of the machine there
   pub kept_with : (rest : Rest) → position + 1 ≡ length checkpoints * spacing → IsRestOf machine.image rest → rest.state ≡ (step_of machine.image machine.state t).state
-      → IsKept new.image more spacing (checkpoints ++ rest ∷ []) new (position + 1)
+      → IsKept new.image more spacing (checkpoints ++ rest ∷ []) marks new (position + 1)
   kept_with rest due fits state =
       let mark : IsMark image more (position + 1) rest = record { fits = subst (λ (i : Image). IsRestOf i rest) of_image fits; state = state ∙ sym state_behind } in
       let size = longer spacing checkpoints rest in
@@ -132,15 +138,16 @@ took (suc n) (y ∷ ys) zero x e = e
 took (suc n) (y ∷ ys) (suc i) x e = took n ys i x e
 
 -- a journal cut at the position
-pub kept_cut : (image : Image) (log : Log) (spacing position : ℕ) (checkpoints : List Rest) (machine : Configuration) → IsKept image log spacing checkpoints machine position
-    → IsKept image (record { threads = log.threads; events = take position log.events }) spacing (take (position / spacing + 1) checkpoints) machine position
-kept_cut image log spacing position checkpoints machine kept =
+pub kept_cut : (image : Image) (log : Log) (spacing position : ℕ) (checkpoints : List Rest) (marks some_marks : List Mark) (machine : Configuration) → IsKept image log spacing checkpoints marks machine position
+    → AreMarks image log some_marks → All (λ (mark : Mark). mark.position ≤ position) some_marks
+    → IsKept image (record { threads = log.threads; events = take position log.events }) spacing (take (position / spacing + 1) checkpoints) some_marks machine position
+kept_cut image log spacing position checkpoints marks some_marks machine kept left before =
     let within = kept.within in
     let some = kept.spaced in
     let number = position / spacing in
     let low : number * spacing ≤ position = omega (arith, some) in
     let high : position < number * spacing + spacing = omega (arith, some) in
-    let there = number_there image log spacing position position number checkpoints machine kept within low in
+    let there = number_there image log spacing position position number checkpoints marks machine kept within low in
     let size : length (take (number + 1) checkpoints) ≡ number + 1 = length-take-le (number + 1) checkpoints (omega (arith, there)) in
     let short : length (take position log.events) ≡ position = length-take-le position log.events within in
     let more : (number + 1) * spacing ≡ number * spacing + spacing = omega arith in
@@ -161,4 +168,10 @@ kept_cut image log spacing position checkpoints machine kept =
           record { fits = old.fits; state = old.state ∙ state (index * spacing) le };
       enough = omega (arith, short, room, high);
       none_past = omega (arith, short, room, low);
+      marked = All-weaker (Contains some_marks) (IsMarkOf image cut)
+          (λ mark here.
+          let old = All-contains (IsMarkOf image log) some_marks mark left here in
+          let le : mark.position ≤ position = All-contains (λ (m : Mark). m.position ≤ position) some_marks mark before here in
+          record { is = record { fits = old.is.fits; state = old.is.state ∙ state mark.position le }; within = omega (arith, short, le) })
+          some_marks (All-contains_itself some_marks);
     }

@@ -1,9 +1,9 @@
 //! The machine at positions of a journal, and the checkpoints that a debugger keeps.
-ghost use Rattle.std.specs.Prelude.{◌≡◌, ◌<◌, ◌≤◌, ◌+◌, ◌*◌, length, take, IfErr, IfOk, OnErr, OnOk};
+ghost use Rattle.std.specs.Prelude.{◌≡◌, ◌<◌, ◌≤◌, ◌+◌, ◌*◌, [], length, take, IfErr, IfOk, OnErr, OnOk};
 ghost use Rattle.asl_machine.specs.Paused.{IsRestOf};
 ghost use Rattle.asl_machine.specs.Run.{IsThreadCount, start_of};
 ghost use Rattle.asl_journal.specs.Journal.{GoesBy, IsJournal, IsLog};
-ghost use Rattle.asl_debugger.specs.Kept.{AreCheckpoints};
+ghost use Rattle.asl_debugger.specs.Kept.{AreCheckpoints, IsKept};
 ghost use Rattle.asl_debugger.specs.Opening.{IsOpenFault};
 ghost use Rattle.asl_debugger.specs.Session.{MayWantMemoryAt, machine_before, state_before};
 
@@ -73,9 +73,25 @@ pub fn make_event(
     Ok(())
 }
 
+/// The checkpoints of the journal, and the machine at position 0, if the journal is one of the program.
+pub fn prepared<'p>(
+    alloc: Global,
+    program: &'p Program,
+    journal: &Journal,
+    spacing: u32,
+) -> Result<(Vec<Paused>, Machine<'p>), DebugFault>
+    requires { 0 < spacing }
+    ensures kept { IfOk result (λ parts. IsKept program.now journal.now spacing parts.0.items [] parts.1 0) }
+    ensures refused { IfErr result (λ fault. IsOpenFault program.now journal.now fault) }
+{
+    let checkpoints = checkpoints_of(alloc, program, journal, spacing)?;
+    let machine = machine_of(alloc, program, &checkpoints[0])?;
+    Ok((checkpoints, machine))
+}
+
 /// The checkpoints of the journal, if it is one of the program: what is left of the machine at 0, the spacing, twice the spacing
 /// and so on.
-pub fn checkpoints_of<'p>(
+fn checkpoints_of<'p>(
     alloc: Global,
     program: &'p Program,
     journal: &Journal,
@@ -92,13 +108,13 @@ pub fn checkpoints_of<'p>(
     let events = journal.events();
     let mut machine = first_machine(alloc, program, journal)?;
     let mut checkpoints = Vec::new(alloc);
-    let first = mark(alloc, &machine)?;
+    let first = rest_of(alloc, &machine)?;
     checkpoints.push(first)?;
     let mut here = 0;
     while events.len() - here >= spacing as usize {
         let next = here + spacing as usize;
         machine = machine_between(alloc, machine, journal, here, next)?;
-        let checkpoint = mark(alloc, &machine)?;
+        let checkpoint = rest_of(alloc, &machine)?;
         checkpoints.push(checkpoint)?;
         here = next;
     }
@@ -107,7 +123,7 @@ pub fn checkpoints_of<'p>(
 }
 
 /// What is left of a copy of the machine.
-pub fn mark(alloc: Global, machine: &Machine<'_>) -> Result<Paused, DebugFault>
+pub fn rest_of(alloc: Global, machine: &Machine<'_>) -> Result<Paused, DebugFault>
     ensures fits { IfOk result (IsRestOf machine.now.image) }
     ensures state { IfOk result (λ checkpoint. checkpoint.state ≡ machine.now.state) }
     ensures memory { IfErr result (λ fault. fault ≡ DebugFault.OutOfMemory) }

@@ -5,13 +5,15 @@ ghost use Rattle.asl_debugger.specs.Breaks.{has_break, HasBreak, HasNoBreak};
 ghost use Rattle.asl_debugger.specs.Kept.{IsKept};
 ghost use Rattle.asl_debugger.specs.Opening.{IsOpenFault};
 
+mod moving;
 mod pausing;
 mod recording;
 mod search;
 
 use crate::breakpoints::{clear_break, put_break};
-use crate::checkpoints::{checkpoints_of, machine_between, machine_of, make_event};
+use crate::checkpoints::{make_event, prepared};
 use crate::fault::DebugFault;
+use crate::trail::Mark;
 use asl_code::Program;
 use asl_journal::Journal;
 use asl_machine::{Machine, Paused};
@@ -20,12 +22,14 @@ use std::alloc::Global;
 use std::marker::Model;
 
 /// A journal of a program, a position in it with the machine there, and breakpoints. Checkpoints of the machine, kept without the
-/// program, stand at 0, the spacing, twice the spacing and so on (`docs/JOURNAL.md`, "The debugger").
+/// program, stand at 0, the spacing, twice the spacing and so on, and marks between two of them, where moves back left them
+/// (`docs/JOURNAL.md`, "The debugger").
 #[derive(Drop)]
 pub struct Debugger<'p> {
     journal: Journal,
     spacing: u32,
     checkpoints: Vec<Paused>,
+    marks: Vec<Mark>,
     machine: Machine<'p>,
     position: u32,
     breakpoints: Vec<u32>,
@@ -44,7 +48,7 @@ impl<'p> Model for Debugger<'p> {
       breakpoints = d.breakpoints.items;
     } };
 
-    ghost invariant = { λ d. IsKept d.machine.image d.journal d.spacing d.checkpoints.items d.machine d.position };
+    ghost invariant = { λ d. IsKept d.machine.image d.journal d.spacing d.checkpoints.items d.marks.items d.machine d.position };
 }
 
 impl<'p> Debugger<'p> {
@@ -83,6 +87,7 @@ impl<'p> Debugger<'p> {
                 journal,
                 spacing,
                 checkpoints,
+                marks: Vec::new(alloc),
                 machine,
                 position: 0,
                 breakpoints: Vec::new(alloc),
@@ -105,10 +110,7 @@ impl<'p> Debugger<'p> {
         if k as usize > self.journal.events().len() {
             return Err(DebugFault::NoSuchStep);
         }
-        let machine = self.machine_at(alloc, k)?;
-        self.machine = machine;
-        self.position = k;
-        Ok(())
+        self.show(alloc, k)
     }
 
     /// Goes on by one event, which takes one step. Memory is wanted only where that step may want it.
@@ -147,11 +149,7 @@ impl<'p> Debugger<'p> {
         if self.position == 0 {
             return Err(DebugFault::AtStart);
         }
-        let before = self.position - 1;
-        let machine = self.machine_at(alloc, before)?;
-        self.machine = machine;
-        self.position = before;
-        Ok(())
+        self.show(alloc, self.position - 1)
     }
 
     /// Goes on to the least later stop, or to the end where there is none.
@@ -191,10 +189,7 @@ impl<'p> Debugger<'p> {
             return Err(DebugFault::AtStart);
         }
         let stop = self.last_stop(alloc)?;
-        let machine = self.machine_at(alloc, stop)?;
-        self.machine = machine;
-        self.position = stop;
-        Ok(())
+        self.show(alloc, stop)
     }
 
     /// Makes the place a breakpoint. A place above 65,535, which no code has, is never one: nothing is kept of it. There, and
@@ -245,40 +240,4 @@ impl<'p> Debugger<'p> {
     {
         &self.journal
     }
-
-    /// The machine at position k, from the greatest checkpoint that is not past it, or from the present one if that is
-    /// nearer.
-    fn machine_at(&self, alloc: Global, k: u32) -> Result<Machine<'p>, DebugFault>
-        requires { k ≤ length self.now.log.events }
-        ensures machine { IfOk result (λ machine. machine ≡ machine_before self.now.image self.now.log k) }
-        ensures memory { IfErr result (λ fault. fault ≡ DebugFault.OutOfMemory) }
-    {
-        let number = k / self.spacing;
-        let start = number * self.spacing;
-        if start <= self.position && self.position <= k {
-            let here = self.position as usize;
-            let machine = self.machine.try_copy(alloc)?;
-            machine_between(alloc, machine, &self.journal, here, k as usize)
-        } else {
-            let nearest = &self.checkpoints[number as usize];
-            let machine = machine_of(alloc, self.machine.program(), nearest)?;
-            machine_between(alloc, machine, &self.journal, start as usize, k as usize)
-        }
-    }
-}
-
-/// The checkpoints of the journal, and the machine at position 0, if the journal is one of the program.
-fn prepared<'p>(
-    alloc: Global,
-    program: &'p Program,
-    journal: &Journal,
-    spacing: u32,
-) -> Result<(Vec<Paused>, Machine<'p>), DebugFault>
-    requires { 0 < spacing }
-    ensures kept { IfOk result (λ parts. IsKept program.now journal.now spacing parts.0.items parts.1 0) }
-    ensures refused { IfErr result (λ fault. IsOpenFault program.now journal.now fault) }
-{
-    let checkpoints = checkpoints_of(alloc, program, journal, spacing)?;
-    let machine = machine_of(alloc, program, &checkpoints[0])?;
-    Ok((checkpoints, machine))
 }

@@ -6,6 +6,7 @@ mod checkpoints;
 mod debugger;
 mod fault;
 mod stops;
+mod trail;
 
 pub use debugger::{Debugger, PausedDebugger};
 pub use fault::{DebugFault, StepFault};

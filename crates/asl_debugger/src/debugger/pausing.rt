@@ -3,6 +3,7 @@ ghost use Rattle.std.specs.Prelude.{◌≡◌};
 ghost use Rattle.asl_debugger.specs.Paused.{IsSessionRestOf};
 
 use crate::debugger::Debugger;
+use crate::trail::Mark;
 use asl_code::Program;
 use asl_journal::Journal;
 use asl_machine::{Machine, Paused};
@@ -14,6 +15,7 @@ pub struct PausedDebugger {
     journal: Journal,
     spacing: u32,
     checkpoints: Vec<Paused>,
+    marks: Vec<Mark>,
     machine: Paused,
     position: u32,
     breakpoints: Vec<u32>,
@@ -35,6 +37,7 @@ impl Model for PausedDebugger {
       machine = p.machine;
       spacing = p.spacing;
       checkpoints = p.checkpoints.items;
+      marks = p.marks.items;
     } };
 }
 
@@ -66,6 +69,7 @@ impl<'p> Debugger<'p> {
             journal,
             spacing,
             checkpoints,
+            marks,
             machine,
             position,
             breakpoints,
@@ -74,6 +78,7 @@ impl<'p> Debugger<'p> {
             journal,
             spacing,
             checkpoints,
+            marks,
             machine: machine.pause(),
             position,
             breakpoints,
@@ -94,6 +99,7 @@ impl<'p> Debugger<'p> {
             journal,
             spacing,
             checkpoints,
+            marks,
             machine,
             position,
             breakpoints,
@@ -102,6 +108,7 @@ impl<'p> Debugger<'p> {
             journal,
             spacing,
             checkpoints,
+            marks,
             machine: Machine::resume(program, machine),
             position,
             breakpoints,

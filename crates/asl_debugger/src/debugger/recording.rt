@@ -7,6 +7,7 @@ ghost use Rattle.asl_journal.specs.Journal.{most_events, with_event};
 
 use crate::debugger::Debugger;
 use crate::fault::StepFault;
+use crate::trail::keep_marks;
 use asl_journal::{Journal, MAX_EVENTS};
 use asl_machine::{Machine, Paused, Reply};
 use std::alloc::Global;
@@ -76,6 +77,7 @@ impl<'p> Debugger<'p> {
     {
         let number = self.position / self.spacing;
         self.checkpoints.truncate(number as usize + 1);
+        keep_marks(&mut self.marks, 0, self.position);
         self.journal.cut(self.position);
     }
 }

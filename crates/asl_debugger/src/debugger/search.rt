@@ -1,7 +1,7 @@
 //! The search for stops, on copies of machines.
 ghost use Rattle.std.specs.Prelude.{◌≡◌, ◌<◌, ◌≤◌, ◌*◌, length, IfErr, IfOk};
 
-use crate::checkpoints::{machine_of, make_event};
+use crate::checkpoints::make_event;
 use crate::debugger::Debugger;
 use crate::fault::DebugFault;
 use crate::stops::is_at_break;
@@ -38,7 +38,7 @@ impl<'p> Debugger<'p> {
         Ok((machine, position as u32))
     }
 
-    /// The greatest earlier stop, or the start: the stretches between checkpoints are searched one by one, the last
+    /// The greatest earlier stop, or the start: the stretches between checkpoints and marks are searched one by one, the last
     /// first.
     pub(crate) fn last_stop(&self, alloc: Global) -> Result<u32, DebugFault>
         requires { 0 < self.now.position }
@@ -47,10 +47,7 @@ impl<'p> Debugger<'p> {
     {
         let mut until = self.position;
         while until > 0 {
-            let number = (until - 1) / self.spacing;
-            let start = number * self.spacing;
-            let checkpoint = &self.checkpoints[number as usize];
-            let from = machine_of(alloc, self.machine.program(), checkpoint)?;
+            let (from, start) = self.nearest(alloc, until - 1)?;
             match self.last_within(alloc, from, start, until)? {
                 Some(stop) => return Ok(stop),
                 None => until = start,

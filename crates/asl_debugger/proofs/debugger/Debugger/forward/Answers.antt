@@ -7,4 +7,4 @@ invariant_of-self-2 c =
     let inside = c.self.inside in
     let len = ap (λ es. length es) c.events.ensures.events in
     let within : inside.position + 1 ≤ length inside.journal.events = omega (arith, len, c.self.invariant.within) in
-    kept_at inside.journal inside.spacing inside.checkpoints.items inside.machine c.make_event.new.machine inside.position (inside.position + 1) c.self.invariant within c.in_ok-make_event.ensures.made
+    kept_at inside.journal inside.spacing inside.checkpoints.items inside.marks.items inside.marks.items inside.machine c.make_event.new.machine inside.position (inside.position + 1) c.self.invariant c.self.invariant.marked within c.in_ok-make_event.ensures.made

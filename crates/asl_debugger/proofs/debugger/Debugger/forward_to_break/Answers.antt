@@ -7,4 +7,4 @@ invariant_of-self c =
     let inside = c.self.inside in
     let within : c.in_ok-machine.position ≤ length inside.journal.events = search (rules, arith) in
     let shown = rw (← c.self.view_is) at c.in_ok-machine.ensures.machine in
-    kept_at inside.journal inside.spacing inside.checkpoints.items inside.machine c.in_ok-machine.machine inside.position (c.in_ok-machine.position) c.self.invariant within shown
+    kept_at inside.journal inside.spacing inside.checkpoints.items inside.marks.items inside.marks.items inside.machine c.in_ok-machine.machine inside.position (c.in_ok-machine.position) c.self.invariant c.self.invariant.marked within shown

@@ -27,7 +27,7 @@ invariant_of-self-then-next-len c =
     let there : c.args.t < d.journal.threads = rw (← c.self.view_is) at c.requires.thread in
     let items : c.push_reserved.new.self.items ≡ d.checkpoints.items ++ ahead ∷ [] = c.push_reserved.ensures.items ∙ ap (λ (rs : List Rest). rs ++ ahead ∷ []) c.in_ok-reserve.ensures.items in
     let due : d.position + 1 ≡ length d.checkpoints.items * d.spacing = c.if-next-len.true ∙ ap (λ (n : ℕ). n * d.spacing) (c.len.ensures ∙ d.checkpoints.ok.0) in
-    rw (told.event, items) (kept_with d.machine.image d.journal d.spacing d.position d.checkpoints.items d.machine c.write_step.new.machine c.args.t c.in_ok-reply.reply c.self.invariant end room there
+    rw (told.event, items) (kept_with d.machine.image d.journal d.spacing d.position d.checkpoints.items d.marks.items d.machine c.write_step.new.machine c.args.t c.in_ok-reply.reply c.self.invariant end room there
     told.image told.reply told.state ahead due c.in_ok-ahead.ensures.fits c.in_ok-ahead.ensures.state)
 
 pub write_step-requires-else-next-len-clause-threads :
@@ -44,7 +44,7 @@ invariant_of-self-else-next-len c =
     let room : length d.journal.events < most_events = rw (← c.self.view_is) at c.requires.room in
     let there : c.args.t < d.journal.threads = rw (← c.self.view_is) at c.requires.thread in
     let none_due = λ (e : d.position + 1 ≡ length d.checkpoints.items * d.spacing). c.if-next-len.false (e ∙ sym (ap (λ (n : ℕ). n * d.spacing) (c.len.ensures ∙ d.checkpoints.ok.0))) in
-    rw told.event (kept_behind d.machine.image d.journal d.spacing d.position d.checkpoints.items d.machine c.write_step-else-next-len.new.machine c.args.t c.in_ok-reply-2.reply c.self.invariant end room
+    rw told.event (kept_behind d.machine.image d.journal d.spacing d.position d.checkpoints.items d.marks.items d.machine c.write_step-else-next-len.new.machine c.args.t c.in_ok-reply-2.reply c.self.invariant end room
     there told.image told.reply told.state none_due)
 
 pub returns-in_ok-reply-clause-step : goal.returns-in_ok-reply-clause-step
@@ -54,7 +54,7 @@ returns-in_ok-reply-clause-step c =
     let end : d.position ≡ length d.journal.events = rw (← c.self.view_is) at c.requires.end in
     let room : length d.journal.events < most_events = rw (← c.self.view_is) at c.requires.room in
     let there : c.args.t < d.journal.threads = rw (← c.self.view_is) at c.requires.thread in
-    rw (← c.self.view_is, told.event) (step_behind d.machine.image d.journal d.spacing d.position d.checkpoints.items d.machine c.write_step.new.machine c.args.t c.in_ok-reply.reply c.self.invariant end room
+    rw (← c.self.view_is, told.event) (step_behind d.machine.image d.journal d.spacing d.position d.checkpoints.items d.marks.items d.machine c.write_step.new.machine c.args.t c.in_ok-reply.reply c.self.invariant end room
     there told.image told.reply told.state told.step)
 
 pub returns-in_ok-reply-2-clause-step : goal.returns-in_ok-reply-2-clause-step
@@ -64,5 +64,5 @@ returns-in_ok-reply-2-clause-step c =
     let end : d.position ≡ length d.journal.events = rw (← c.self.view_is) at c.requires.end in
     let room : length d.journal.events < most_events = rw (← c.self.view_is) at c.requires.room in
     let there : c.args.t < d.journal.threads = rw (← c.self.view_is) at c.requires.thread in
-    rw (← c.self.view_is, told.event) (step_behind d.machine.image d.journal d.spacing d.position d.checkpoints.items d.machine c.write_step-else-next-len.new.machine c.args.t c.in_ok-reply-2.reply
+    rw (← c.self.view_is, told.event) (step_behind d.machine.image d.journal d.spacing d.position d.checkpoints.items d.marks.items d.machine c.write_step-else-next-len.new.machine c.args.t c.in_ok-reply-2.reply
     c.self.invariant end room there told.image told.reply told.state told.step)

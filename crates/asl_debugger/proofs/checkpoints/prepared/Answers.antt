@@ -1,7 +1,9 @@
 use Rattle.std.proofs.Common.{refl, arith, length}
+use Rattle.std.proofs.lemmas.List.Elements.{All-nil}
 use Rattle.std.proofs.lemmas.Option.{slice_get_read}
+use Rattle.asl_debugger.specs.Kept.{IsMarkOf}
 use Rattle.asl_debugger.proofs.Marks.{first_there, first_is, marked}
-use Rattle.asl_debugger.proofs.debugger.prepared.Goals as goal
+use Rattle.asl_debugger.proofs.checkpoints.prepared.Goals as goal
 
 pub machine_of-requires : goal.machine_of-requires
 machine_of-requires c =
@@ -27,4 +29,5 @@ returns-clause-kept c =
       each = told.each;
       enough = told.enough;
       none_past = told.none_past;
+      marked = All-nil (IsMarkOf c.args.program.now c.args.journal.now);
     }
