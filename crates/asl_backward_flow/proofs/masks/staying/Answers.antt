@@ -1,6 +1,5 @@
 use Rattle.std.proofs.Common.{◌≡◌, sym, subst, ◌∙◌}
 use Rattle.asl_lock_expr.specs.LinksView.{seen}
-use Rattle.asl_lock_expr.specs.declared.touch.Touch.{Touch}
 use Rattle.asl_lock_expr.specs.declared.touch.Touch.TheVariants as touch
 use Rattle.asl_lock_expr.specs.Touches.{IsClear, stored_by}
 use Rattle.asl_lock_expr.proofs.Touching.{clear_stays}
