@@ -1,6 +1,6 @@
 // Puts the workbench together: loads the toolchain, draws what changed, listens.
 
-import { byId, el, keepingFocus, lookAtDrawn, textSize, whenDrawn } from './dom.js';
+import { byId, el, keepingFocus, lookAtDrawn, make, renew, setText, textSize } from './dom.js';
 import { openToolchain, toolStatistics } from './toolchain.js';
 import { Bench, MOST_THREADS } from './bench.js';
 import { tellView } from './view.js';
@@ -10,7 +10,8 @@ import { sectionAt } from './stretches.js';
 import { listAt } from './program.js';
 import { roundRobin, untilBlocked, atRandom } from './schedules.js';
 import { drawText, drawPlaces, paintText, breakLine, enterEditor } from './panels/editor.js';
-import { drawTimeline, measureLanes, printTimeline, drawStrip, drawStripCursor, zoomBy, lanesShown } from './panels/timeline.js';
+import { drawTimeline, measureLanes, printTimeline, zoomBy, lanesShown } from './panels/timeline.js';
+import { drawStrip, drawStripCursor } from './panels/strip.js';
 import { drawLocks } from './panels/locks.js';
 import { drawThreads } from './panels/threads.js';
 import { drawHeap } from './panels/heap.js';
@@ -50,8 +51,8 @@ function draw() {
   measureLanes();
   drawPlaces(bench);
   drawLesson(bench);
-  if (bench.run) drawRun(what.size > 1 || !what.has('position'));
-  else byId('say').replaceChildren(el('p', { class: 'is-fault' },
+  if (bench.run) drawRun(what);
+  else renew(byId('say'), el('p', { class: 'is-fault' },
     bench.refusal ? 'The text does not compile yet: ' + bench.refusal.words : ''));
   lookAtDrawn();
   clearTimeout(due.address);
@@ -60,19 +61,19 @@ function draw() {
 
 function drawSentences() {
   drawComparison(bench, comparison, chooseK);
-  if (bench.run) byId('say').replaceChildren(el('p', {}, sentence(bench, openWhy)),
+  if (bench.run) renew(byId('say'), el('p', {}, sentence(bench, openWhy)),
     el('p', { class: 'soft' }, elsewhere(bench, comparison), nextSentence(bench)));
 }
 
-function drawRun(whole) {
+function drawRun(what) {
   const change = differenceAt(bench.run, bench.position);
   drawSentences();
-  byId('position').textContent = `after ${bench.position} of ${bench.run.length} events`;
+  setText(byId('position'), `after ${bench.position} of ${bench.run.length} events`);
   const slide = byId('slide');
   slide.max = bench.run.length;
   slide.value = bench.position;
   drawTimeline(bench);
-  if (whole) whenDrawn(() => drawStrip(bench));
+  if (what.size > 1 || !what.has('position')) drawStrip(bench, what.has('text') || what.has('size'));
   drawStripCursor(bench);
   drawLocks(bench);
   drawThreads(bench, change);
@@ -259,8 +260,8 @@ async function loadFragment() {
 
 async function start() {
   setDark(matchMedia('(prefers-color-scheme: dark)').matches);
-  byId('example').append(...Object.entries(examples).map(([name, { about }]) => el('option', { value: name },
-    `${name} – ${about}`)));
+  byId('example').append(...Object.entries(examples).map(([name, { about }]) => make(el('option', { value: name },
+    `${name} – ${about}`))));
   toggleInstructions(innerWidth < 720);
   await openToolchain(byId('wasm').textContent.trim());
   listenToButtons();
@@ -272,6 +273,6 @@ async function start() {
 }
 
 start().catch(error => {
-  byId('say').replaceChildren(el('p', { class: 'is-fault' }, 'The workbench cannot start here: ' + error.message),
+  renew(byId('say'), el('p', { class: 'is-fault' }, 'The workbench cannot start here: ' + error.message),
     el('p', {}, 'It needs a browser with 64-bit WebAssembly memory: Chrome or Edge from 133, Firefox from 134.'));
 });

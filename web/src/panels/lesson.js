@@ -1,6 +1,6 @@
 // A lesson beside the panels: its steps, those done ticked, the present one with a hint on request.
 
-import { byId, el } from '../dom.js';
+import { byId, el, renew } from '../dom.js';
 import { LESSONS } from '../lessons.js';
 
 const lesson = { number: -1, done: 0, hint: false };
@@ -43,7 +43,7 @@ export function drawLesson(bench) {
   const over = lesson.done === chosen.steps.length;
   byId('lesson-title').textContent = `Lesson ${lesson.number + 1}: ${chosen.title}`;
   byId('lesson-about').textContent = chosen.about;
-  byId('lesson-steps').replaceChildren(...chosen.steps.map((step, i) => stepRow(bench, step, i)));
+  renew(byId('lesson-steps'), chosen.steps.map((step, i) => stepRow(bench, step, i)));
   byId('lesson-end').textContent = over ? 'Done.' : '';
 }
 
