@@ -5,11 +5,12 @@ import { LESSONS } from '../lessons.js';
 
 const lesson = { number: -1, done: 0, hint: false };
 
-export function openLesson(bench, number, examples) {
+export async function openLesson(bench, number, examples) {
   const chosen = LESSONS[number];
   if (!chosen) return false;
-  Object.assign(lesson, { number, done: 0, hint: false });
-  bench.load({ ...examples[chosen.example], title: chosen.example, k: chosen.k, threads: chosen.threads, schedule: [], position: 0 });
+  const { example, k, threads } = chosen;
+  const taken = await bench.load({ ...examples[example], title: example, k, threads, schedule: [], position: 0 });
+  if (taken) Object.assign(lesson, { number, done: 0, hint: false });
   return true;
 }
 
