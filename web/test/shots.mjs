@@ -54,7 +54,7 @@ async function take(browser, { name, place, look }) {
   for (const key of keys) await browser.key(key);
   if (run) await browser.run(run);
   if (click) await browser.run(`document.querySelector('${click}').click()`);
-  await browser.sleep(400);
+  await browser.sleep(700); // the blocked steps at each k are asked when nothing has changed for a while
   await browser.frames();
   if (print) { await browser.media(false, 'print'); await browser.run("dispatchEvent(new Event('beforeprint'))"); await browser.sleep(200); }
   await browser.picture(`${folder}/${name}.png`, Boolean(whole));
