@@ -3,6 +3,7 @@
 // makes no worker, the page makes the calls itself.
 
 const PATIENCE = 100; // milliseconds that a dropped call may go on
+const LARGE = 2 ** 28; // bytes of memory with which a worker is ended, since memory of WebAssembly never shrinks
 
 // Why a call has no answer: nobody wants it any more, or somebody stopped it.
 export class Dropped extends Error {}
@@ -60,12 +61,12 @@ export class Aside {
     });
   }
   // An answer to another call than the present one comes too late.
-  answered({ number, failed, ...answer }) {
+  answered({ number, failed, bytes = 0, ...answer }) {
     const { current } = this;
     if (!current || current.number !== number) return;
     this.current = null;
     clearTimeout(this.timer);
-    if (failed) this.end();
+    if (failed || bytes > LARGE) this.end();
     if (failed) this.finish(current, 'fail', new Failed('the toolchain failed: ' + failed)); else this.finish(current, 'done', answer);
     this.next();
     this.told();

@@ -8,7 +8,8 @@ self.onmessage = async ({ data: { module, number, words, input } }) => {
   if (module) { loading = loadAsl(module); return; }
   try {
     const asl = await loading;
-    self.postMessage({ number, ...asl(words, input) });
+    const answer = asl(words, input);
+    self.postMessage({ number, ...answer, bytes: asl.memory() });
   } catch (error) {
     self.postMessage({ number, failed: String(error.message || error) });
   }

@@ -46,6 +46,15 @@ const outcome = promise => promise.then(answer => answer.output, error => error)
   workers[1].answer(0);
   check(await b === 'b', 'an ended worker is not heard: ' + await b);
 }
+{ // memory that only grows is given back with the worker
+  const aside = fresh(), a = outcome(aside.ask('a'));
+  workers[0].answer(0, { bytes: 1e6 });
+  const b = outcome(aside.ask('b'));
+  workers[0].answer(1, { bytes: 1e9 });
+  const c = outcome(aside.ask('c'));
+  workers[1].answer(0);
+  check(String([await a, await b, await c]) === 'a,b,c' && workers[0].ended && !workers[1].ended, 'a worker of much memory is ended behind its answer');
+}
 { // stopped
   const aside = fresh(), a = outcome(aside.ask('a')), b = outcome(aside.ask('b'));
   aside.stop();
