@@ -1,5 +1,5 @@
 // The proved toolchain as a WebAssembly module, for the browser and for Node (from 24, or with --experimental-wasm-memory64).
-//   const asl = await loadAsl(bytes);                       the bytes of asl.wasm
+//   const asl = await loadAsl(bytes);                       the bytes of asl.wasm, or a module that was compiled of them
 //   asl(['compile', '--text'], source)                      { status, output: Uint8Array, errors: string }
 //   const session = asl.session(program, threads);          an image or assembly text; a run that is stepped, gone through, and cut
 // The words and the status are those of the program `asl`; `run`, which needs threads, has status 255.
@@ -17,8 +17,8 @@ const STATUSES = { 2: 'OutOfMemory', 3: 'BadHandle', 4: 'BadThread', 11: 'BadCou
   15: 'JournalFull', 16: 'NullPointer' };
 
 export async function loadAsl(bytes) {
-  const { instance } = await WebAssembly.instantiate(bytes, {});
-  const wasm = instance.exports, memory = memoryOf(wasm);
+  const made = await WebAssembly.instantiate(bytes, {});
+  const wasm = (made.instance || made).exports, memory = memoryOf(wasm);
   return Object.assign(callerOf(wasm, memory), { session: (program, threads) => sessionOf(wasm, memory, program, threads),
     memory: () => wasm.memory.buffer.byteLength });
 }

@@ -9,7 +9,7 @@ const letters = (bytes, at) => String.fromCharCode(...bytes.slice(at, at + 4));
 const same = (a, b) => a.length === b.length && a.every((byte, i) => byte === b[i]);
 
 // What to load for a file, or { refusal } in the toolchain's words.
-export function readFile(name, bytes, sources) {
+export async function readFile(name, bytes, sources) {
   if (letters(bytes, 0) === 'ASLM') return ofImage(name, bytes, sources);
   if (letters(bytes, 4) === 'ASLM') return ofRun(name, bytes, sources);
   const text = decoder.decode(bytes).replace(/\r\n?/g, '\n');
@@ -18,22 +18,22 @@ export function readFile(name, bytes, sources) {
 }
 
 // An image shows the source that makes it, if one is at hand, else its assembly.
-function ofImage(name, image, sources) {
-  const told = disassemble(image);
+async function ofImage(name, image, sources) {
+  const told = await disassemble(image);
   if (told.refusal) return told;
   for (const { text, title } of sources) for (let k = 0; k <= 8; k++) {
-    const answer = compile(text, k);
+    const answer = await compile(text, k);
     if (answer.output && same(answer.output, image)) return { text, kind: 'asl', title, k };
   }
   return { text: told.text, kind: 'asm', title: name.replace(/\.\w+$/, '.asm') };
 }
 
-function ofRun(name, bytes, sources) {
-  const told = trace(bytes);
+async function ofRun(name, bytes, sources) {
+  const told = await trace(bytes);
   if (told.refusal) return told;
   const { image, threads } = partsOf(bytes);
   const schedule = readTrace(told.text).map(event => event.thread);
-  return { ...ofImage(name, image, sources), threads, schedule, position: schedule.length };
+  return { ...await ofImage(name, image, sources), threads, schedule, position: schedule.length };
 }
 
 export function download(name, bytes) {

@@ -6,7 +6,7 @@ export const KEYS = [
   ['u  U', 'undo a branch, redo'], ['c', 'clear the run'], ['Space', 'play, pause'],
   ['b  B', 'next, previous blocked'], ['h', 'from a blocked try to the event that took the lock'],
   ['o  O', 'next, previous output'], ['f  F', 'next, previous fault'], ['[  ]', 'previous, next event of the same thread'],
-  ['e  Esc', 'into the editor, out of it'], ['k  K', 'larger, smaller k'], ['t  T', 'more, fewer threads'],
+  ['e  Esc', 'into the editor, out of it'], ['Esc', 'stop what takes long'], ['k  K', 'larger, smaller k'], ['t  T', 'more, fewer threads'],
     ['x', 'why these locks'], ['m', 'instructions, hidden or shown'],
   ['l', 'all lanes, or those with events in view'], ['+  −', 'zoom of the timeline'],
     ['L', 'lecture: large, without the small print'],

@@ -1,7 +1,8 @@
 // Puts the workbench together: loads the toolchain, draws what changed, listens.
 
-import { byId, el, keepingFocus, lookAtDrawn, textSize, whenDrawn } from './dom.js';
-import { openToolchain, toolStatistics } from './toolchain.js';
+import { byId, el, keepingFocus, lookAtDrawn, make, renew, setText, textSize } from './dom.js';
+import { isBusy, isWaitedFor, openToolchain, stopAll, toolStatistics } from './toolchain.js';
+import { unlessDropped } from './aside.js';
 import { Bench, MOST_THREADS } from './bench.js';
 import { tellView } from './view.js';
 import { differenceAt } from './difference.js';
@@ -10,7 +11,8 @@ import { sectionAt } from './stretches.js';
 import { listAt } from './program.js';
 import { roundRobin, untilBlocked, atRandom } from './schedules.js';
 import { drawText, drawPlaces, paintText, breakLine, enterEditor } from './panels/editor.js';
-import { drawTimeline, measureLanes, printTimeline, drawStrip, drawStripCursor, zoomBy, lanesShown } from './panels/timeline.js';
+import { drawTimeline, measureLanes, printTimeline, zoomBy, lanesShown } from './panels/timeline.js';
+import { drawStrip, drawStripCursor } from './panels/strip.js';
 import { drawLocks } from './panels/locks.js';
 import { drawThreads } from './panels/threads.js';
 import { drawHeap } from './panels/heap.js';
@@ -29,7 +31,8 @@ const data = id => JSON.parse(byId(id).textContent);
 const examples = data('examples');
 const bench = new Bench(changed);
 const comparison = new Comparison(bench, changed);
-const due = { frame: 0, what: new Set(), address: 0, player: 0, own: '' };
+const due = { frame: 0, what: new Set(), address: 0, lists: 0, working: 0, player: 0, own: '' };
+const SOON = 200; // milliseconds that may pass before the page says that it waits
 
 // ---- drawing: once a frame, only what changed
 
@@ -43,36 +46,47 @@ function draw() {
   due.frame = 0;
   const { what } = due;
   due.what = new Set();
+  if (what.has('text') || what.has('size') || what.has('lists')) drawLists(what.has('lists'));
+  what.delete('lists');
+  if (!what.size) return;
   if (what.size === 1 && what.has('comparison')) return drawSentences();
-  if (what.has('text') || what.has('size')) { drawText(bench, openWhy); drawSections(bench, openWhy, chooseK); drawSettings(); }
+  if (what.has('text') || what.has('size')) { drawText(bench, openWhy); drawSettings(); }
   document.body.classList.toggle('no-run', !bench.run);
   document.body.classList.toggle('refused', Boolean(bench.refusal));
   measureLanes();
   drawPlaces(bench);
   drawLesson(bench);
-  if (bench.run) drawRun(what.size > 1 || !what.has('position'));
-  else byId('say').replaceChildren(el('p', { class: 'is-fault' },
+  if (bench.run) drawRun(what);
+  else renew(byId('say'), el('p', { class: 'is-fault' },
     bench.refusal ? 'The text does not compile yet: ' + bench.refusal.words : ''));
   lookAtDrawn();
   clearTimeout(due.address);
   due.address = setTimeout(writeAddress, 250);
 }
 
+// The lists of all k come soon after a text; what stood there stays until then.
+function drawLists(atOnce) {
+  clearTimeout(due.lists);
+  due.lists = 0;
+  if (atOnce || bench.lists) return drawSections(bench, openWhy, chooseK);
+  due.lists = setTimeout(() => changed('lists'), SOON);
+}
+
 function drawSentences() {
   drawComparison(bench, comparison, chooseK);
-  if (bench.run) byId('say').replaceChildren(el('p', {}, sentence(bench, openWhy)),
+  if (bench.run) renew(byId('say'), el('p', {}, sentence(bench, openWhy)),
     el('p', { class: 'soft' }, elsewhere(bench, comparison), nextSentence(bench)));
 }
 
-function drawRun(whole) {
+function drawRun(what) {
   const change = differenceAt(bench.run, bench.position);
   drawSentences();
-  byId('position').textContent = `after ${bench.position} of ${bench.run.length} events`;
+  setText(byId('position'), `after ${bench.position} of ${bench.run.length} events`);
   const slide = byId('slide');
   slide.max = bench.run.length;
   slide.value = bench.position;
   drawTimeline(bench);
-  if (whole) whenDrawn(() => drawStrip(bench));
+  if (what.size > 1 || !what.has('position')) drawStrip(bench, what.has('text') || what.has('size'));
   drawStripCursor(bench);
   drawLocks(bench);
   drawThreads(bench, change);
@@ -97,7 +111,7 @@ function drawSettings() {
 }
 
 function drawButtons() {
-  const { position, run } = bench, over = run.view(position).threads.every(thread => thread.status !== 'runs');
+  const { position, run } = bench, over = isOver();
   const off = { first: !position, back: !position, forward: position === run.length, last: position === run.length,
     undo: !bench.past.length, redo: !bench.future.length,
     clear: !run.length, robin: over, random: over, until: over, play: !run.length };
@@ -116,25 +130,25 @@ async function writeAddress() {
 const blockedSteps = () => events().filter(event => event.reply === 'blocked').length;
 
 // Another k makes the same schedule again: what that changes is told.
-function chooseK(k) {
+async function chooseK(k) {
   if (bench.kind !== 'asl' || k < 0 || k > 8 || k === bench.k) return;
   const before = blockedSteps(), old = bench.k;
-  bench.setK(k);
-  if (!events().length || bench.refusal) return;
+  if (!await bench.setK(k) || !events().length || bench.refusal) return;
   note(`The same ${events().length} steps: with k ${k} ${blockedSteps()} of them are blocked, with k ${old} ${before}.`);
 }
 
 const most = () => Math.max(1, Math.min(10000, Number(byId('most').value) || 200));
-const told = steps => { if (!steps) note('Nothing to step: all threads have ended.'); };
-const robin = () => bench.run && told(roundRobin(bench, most()));
-const until = () => bench.run && told(untilBlocked(bench, most()));
-const random = () => bench.run && told(atRandom(bench, most(), Number(byId('seed').value) || 1));
+const isOver = () => bench.state.threads.every(thread => thread.status !== 'runs');
+const tell = async steps => { if (!(await steps) && bench.run && isOver()) note('Nothing to step: all threads have ended.'); };
+const robin = () => tell(roundRobin(bench, most()));
+const until = () => tell(untilBlocked(bench, most()));
+const random = () => tell(atRandom(bench, most(), Number(byId('seed').value) || 1));
 const events = () => (bench.run ? bench.run.events : []);
 
-function seek(fits, way) {
+const seek = (fits, way) => bench.alone(() => {
   const list = events();
-  for (let k = bench.position + (way > 0 ? 0 : -2); k >= 0 && k < list.length; k += way) if (fits(list[k])) return bench.go(k + 1);
-}
+  for (let k = bench.position + (way > 0 ? 0 : -2); k >= 0 && k < list.length; k += way) if (fits(list[k])) return bench.show(k + 1);
+});
 const replies = (reply, way) => () => seek(event => event.reply === reply, way);
 const sameThread = way => () => { const t = (bench.last || bench.next || {}).thread; seek(event => event.thread === t, way); };
 
@@ -149,14 +163,13 @@ function toHolder() {
 function play() {
   if (due.player) { clearInterval(due.player); due.player = 0; } else {
     if (bench.position === events().length) bench.go(0);
-    due.player = setInterval(() => (bench.position < events().length ? bench.go(bench.position + 1) : play()), 800);
+    due.player = setInterval(() => (bench.position < events().length ? bench.move(1) : play()), 800);
   }
   byId('play').textContent = due.player ? 'Pause' : 'Play';
 }
 
-function openWhy(section) {
-  openDialog('Why these locks', el('pre', { class: 'why' }, whyText(bench, section)));
-}
+const openWhy = section => unlessDropped(whyText(bench, section).then(words =>
+  openDialog('Why these locks', el('pre', { class: 'why' }, words))));
 
 // The section that the shown event is of; else the first.
 function whyHere() {
@@ -173,33 +186,36 @@ async function openShare() {
   const base = bench.title.replace(/\.\w+$/, '');
   const copy = (label, text) => el('div', { class: 'share' }, el('b', {}, label), el('pre', { tabindex: 0 }, text),
     el('button', { onclick: async () => note((await copyText(text)) ? 'Copied.' : 'Could not copy.') }, 'Copy'));
-  const file = (name, bytes) => el('button', { onclick: () => download(name, bytes) }, 'Save ' + name);
+  const file = (name, bytesOf) => el('button', { onclick: () => unlessDropped((async () => download(name, await bytesOf()))()) },
+    'Save ' + name);
   openDialog('Share', copy('Link', location.href), copy('The same by command line', commandLines(bench)),
-    el('p', { class: 'files' }, bench.run.length ? file(base + '.run', bench.run.file) : null, file(base + '.img', bench.image),
-      file(`${base}.${bench.kind}`, bench.text)));
+    el('p', { class: 'files' }, bench.run.length ? file(base + '.run', () => bench.run.file()) : null,
+      file(base + '.img', () => bench.image),
+      file(`${base}.${bench.kind}`, () => bench.text)));
 }
 
-function loadFile(name, bytes) {
+async function loadFile(name, bytes) {
   const sources = [...(bench.kind === 'asl' ? [{ text: bench.builtText || bench.text, title: bench.title }] : []),
     ...Object.entries(examples).filter(([, e]) => e.kind === 'asl').map(([title, e]) => ({ text: e.text, title }))];
-  const read = readFile(name, bytes, sources);
+  const read = await readFile(name, bytes, sources);
   if (read.refusal) return note(`${name} is refused: ${read.refusal}`);
-  bench.load({ schedule: [], ...read });
+  await bench.load({ schedule: [], ...read });
 }
-const loadFiles = async list => { for (const file of list) loadFile(file.name, new Uint8Array(await file.arrayBuffer())); };
+async function loadFiles(list) {
+  for (const file of list) await unlessDropped(loadFile(file.name, new Uint8Array(await file.arrayBuffer())));
+}
 const loadExample = name => bench.load({ ...examples[name], title: name });
 
 // ---- listening
 
 function listenToButtons() {
-  const actions = { first: () => bench.go(0), back: () => bench.go(bench.position - 1), forward: () => bench.go(bench.position + 1),
-    last: () => bench.go(events().length),
+  const actions = { first: () => bench.go(0), back: () => bench.move(-1), forward: () => bench.move(1), last: () => bench.go(Infinity),
     robin, random, until, undo: () => bench.undo(), redo: () => bench.redo(), clear: () => bench.clear(), play, share: openShare,
     lessons: openLessons, 'lesson-close': () => closeLesson(bench),
       help: openKeys, lecture: () => { toggleLecture(); changed('size'); },
     theme: () => { setDark(!isDark()); changed('size'); }, larger: () => resize(2), smaller: () => resize(-2),
       'show-instructions': () => toggleInstructions(), 'dialog-close': () => byId('dialog').close(),
-      open: () => byId('file').click() };
+      open: () => byId('file').click(), stop: stopAll };
   for (const [id, action] of Object.entries(actions)) byId(id).addEventListener('click', action);
   byId('slide').addEventListener('input', event => bench.go(Number(event.target.value)));
   byId('example').addEventListener('change', event => { if (event.target.value) loadExample(event.target.value); leave(event); });
@@ -212,15 +228,23 @@ function listenToButtons() {
     if (width) bench.go(Math.round(((event.clientX - left) / width) * events().length)); });
 }
 
+// After a while of waiting the page says so, shows the text that is wanted, and offers to stop.
+function waitingChanged() {
+  if (!isWaitedFor()) {
+    clearTimeout(due.working);
+    Object.assign(due, { working: 0 });
+    byId('working').hidden = true;
+  } else due.working ||= setTimeout(() => { byId('working').hidden = false; changed('size'); }, SOON);
+}
+
 // After a choice by the mouse the keys are the workbench's again; by keyboard one goes on choosing, and leaves by Escape.
 const leave = ({ target }) => { if (!target.matches(':focus-visible')) target.blur(); };
 const resize = by => { changeTextSize(by); changed('size'); };
 
 function listenToKeyboard() {
-  listenToKeys({ step: t => bench.step(t), ArrowLeft: () => bench.go(bench.position - 1),
-    ArrowRight: () => bench.go(bench.position + 1),
-    ShiftArrowLeft: () => bench.go(bench.position - 10), ShiftArrowRight: () => bench.go(bench.position + 10),
-      Home: () => bench.go(0), End: () => bench.go(events().length),
+  listenToKeys({ step: t => bench.step(t), ArrowLeft: () => bench.move(-1), ArrowRight: () => bench.move(1),
+    ShiftArrowLeft: () => bench.move(-10), ShiftArrowRight: () => bench.move(10), Home: () => bench.go(0),
+    End: () => bench.go(Infinity), Escape: stopAll,
     r: robin, R: random, n: until, u: () => bench.undo(), U: () => bench.redo(), c: () => bench.clear(), ' ': play,
     b: replies('blocked', 1), B: replies('blocked', -1), o: replies('out', 1), O: replies('out', -1), f: replies('fault', 1),
       F: replies('fault', -1), h: toHolder, '[': sameThread(-1), ']': sameThread(1),
@@ -259,19 +283,19 @@ async function loadFragment() {
 
 async function start() {
   setDark(matchMedia('(prefers-color-scheme: dark)').matches);
-  byId('example').append(...Object.entries(examples).map(([name, { about }]) => el('option', { value: name },
-    `${name} – ${about}`)));
+  byId('example').append(...Object.entries(examples).map(([name, { about }]) => make(el('option', { value: name },
+    `${name} – ${about}`))));
   toggleInstructions(innerWidth < 720);
-  await openToolchain(byId('wasm').textContent.trim());
+  await openToolchain(byId('wasm').textContent.trim(), byId('worker').textContent, waitingChanged);
   listenToButtons();
   listenToKeyboard();
   listenToPage();
   if (!(await loadFragment())) loadExample('counter.asl');
   requestAnimationFrame(() => setTimeout(() => { window.workbench = { bench, tellView, loadFile, toolStatistics, textSize,
-    ready: performance.now() }; }));
+    isBusy: () => isBusy() || Boolean(bench.going || due.lists), ready: performance.now() }; }));
 }
 
 start().catch(error => {
-  byId('say').replaceChildren(el('p', { class: 'is-fault' }, 'The workbench cannot start here: ' + error.message),
+  renew(byId('say'), el('p', { class: 'is-fault' }, 'The workbench cannot start here: ' + error.message),
     el('p', {}, 'It needs a browser with 64-bit WebAssembly memory: Chrome or Edge from 133, Firefox from 134.'));
 });

@@ -12,8 +12,8 @@ const READ = {
 };
 
 // Of a source that the toolchain has accepted.
-export function mapSource(text) {
-  const answer = mapText(text);
+export async function mapSource(text) {
+  const answer = await mapText(text);
   if (answer.refusal) throw new Error('map: ' + answer.refusal);
   const map = { spans: [], functions: [], registers: [], globals: [] };
   for (const line of answer.text.trimEnd().split('\n')) {

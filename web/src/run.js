@@ -1,5 +1,7 @@
 // A run that is stepped: a session of the toolchain (docs/EMBEDDING.md, "Sessions from C"), the events that it has replied, and the
-// states at positions that were looked at, as the session prints them there.
+// states at positions that were looked at, as the session prints them there. The session is the page's own: a step and what it changed
+// cost less than a message to a worker. What of many steps is asked beside the page has no answer for a while; until then the run may
+// be looked at, and only what has waited for the answer may change it.
 
 import { openSession, record, trace } from './toolchain.js';
 import { readTrace, readEvent } from './trace.js';
@@ -7,6 +9,7 @@ import { readView, readInto } from './view.js';
 
 const KEPT_STATES = 200;
 const FEW = 32; // steps whose places are looked up one by one; those of more are told by a trace of the whole run
+const BREATH = 4096; // steps after which the page may do something else
 const NO_REQUEST = { nodes: new Map(), clashes: [] };
 
 export class Run {
@@ -18,19 +21,21 @@ export class Run {
   close() { this.session.close(); }
   get length() { return this.events.length; }
   get schedule() { return this.events.map(event => event.thread); }
-  get file() { return this.recordOf(this.schedule); }
+  file() { return this.recordOf(this.schedule); }
 
-  recordOf(schedule) {
-    const answer = record(this.image, this.threads, schedule);
+  async recordOf(schedule) {
+    const answer = await record(this.image, this.threads, schedule);
     if (answer.refusal) throw new Error(answer.refusal);
     return answer.output;
   }
   // Appends steps, all or none; answers the refusal of the toolchain, if any.
-  extend(schedule) {
+  async extend(schedule) {
     const from = this.length;
     try {
       this.session.go(from);
-      const events = schedule.length > FEW ? this.stepMany(schedule) : schedule.map((thread, i) => this.stepOne(thread, from + i));
+      const events = schedule.length > FEW ? await this.stepMany(schedule)
+        : schedule.map((thread, i) => this.stepOne(thread, from + i));
+      this.session.go(from + schedule.length);
       this.tellDepths(events);
       for (const event of events) this.events.push(event);
       return null;
@@ -44,9 +49,16 @@ export class Run {
     this.session.step(thread);
     return readEvent(this.session.log(k), place);
   }
-  stepMany(schedule) {
-    for (const thread of schedule) this.session.step(thread);
-    return readTrace(trace(this.recordOf([...this.schedule, ...schedule])).text, this.length);
+  async stepMany(schedule) {
+    for (let i = 0; i < schedule.length; i++) {
+      this.session.step(schedule[i]);
+      if (i % BREATH < BREATH - 1) continue;
+      await new Promise(done => setTimeout(done));
+      this.session.go(this.length + i + 1);
+    }
+    const answer = await trace(await this.recordOf([...this.schedule, ...schedule]));
+    if (answer.refusal) throw new Error(answer.refusal);
+    return readTrace(answer.text, this.length);
   }
   // Where a thread is, which runs; one that has ended is nowhere.
   placeOf(thread) {
@@ -68,11 +80,10 @@ export class Run {
     this.events.length = length;
     for (const k of this.states.keys()) if (k > length) this.states.delete(k);
   }
-  // Becomes the run of another schedule: what differs is cut off and stepped anew.
-  become(schedule) {
+  // How many steps a schedule has in common with this run.
+  sameAs(schedule) {
     const differs = schedule.findIndex((thread, k) => thread !== this.events[k]?.thread);
-    this.truncate(differs < 0 ? schedule.length : differs);
-    return differs < 0 ? null : this.extend(schedule.slice(differs));
+    return differs < 0 ? schedule.length : differs;
   }
   view(k) {
     if (!this.states.has(k)) {

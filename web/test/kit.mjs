@@ -18,7 +18,10 @@ const byModule = call => (words, input) => Buffer.from(call(words.map(String), i
 export const asl = ASL.endsWith('.wasm') ? byModule(await loadAsl(readFileSync(ASL))) : native;
 export const browser = await (options.includes('--firefox') ? openFirefox : openChromium)();
 export const { run } = browser;
-export const key = (name, shift) => browser.key(name, shift);
+// Until what was asked of the toolchain is answered, and painted.
+export const calm = () => run(`(async () => { do await new Promise(done => requestAnimationFrame(() => setTimeout(done)));
+  while (window.workbench?.isBusy()); await new Promise(done => requestAnimationFrame(() => setTimeout(done))); })()`);
+export async function key(name, shift) { await browser.strike(name, shift); await calm(); }
 
 export function check(is, words) { if (is) passed++; else if (++failed <= 12) console.log('FAILED', words); }
 export async function part(name, work) {
@@ -29,7 +32,7 @@ export async function part(name, work) {
 }
 
 export const open = (fragment = '') => browser.open(PAGE + fragment, READY);
-export const settled = async () => { await browser.sleep(150); await browser.frames(); };
+export const settled = async () => { await browser.sleep(150); await calm(); };
 export const at = () => run('[workbench.bench.position, workbench.bench.run.length]');
 export const textOf = selector => run(`document.querySelector(${JSON.stringify(selector)})?.textContent || ''`);
 // A module with a memory of 64-bit addresses and nothing else.

@@ -4,12 +4,12 @@ import { mkdtempSync, readFileSync, readdirSync, writeFileSync } from 'node:fs';
 import { tmpdir } from 'node:os';
 import { join } from 'node:path';
 import { fileURLToPath } from 'node:url';
-import { asl, at, browser, check, finish, hasMemory64, key, open, part, run, settled, textOf } from './kit.mjs';
+import { asl, at, browser, calm, check, finish, hasMemory64, key, open, part, run, settled, textOf } from './kit.mjs';
 import { EXAMPLES, PAGE } from './paths.mjs';
 
 const type = async text => {
   await run(`(() => { const t = document.getElementById('text'); t.value = ${JSON.stringify(text)}; t.dispatchEvent(new Event('input')); })()`);
-  await browser.sleep(200); await browser.frames();
+  await browser.sleep(200); await calm();
 };
 
 // What the page shows, read from its elements, in the lines of `view`.
@@ -38,7 +38,8 @@ await part('loads without script errors and without network', async () => {
   await open();
   const fetched = await run("performance.getEntriesByType('resource').length");
   check(fetched === 0, 'resources fetched: ' + fetched);
-  check(browser.requests.every(url => url.startsWith(PAGE) || url === 'about:blank'), 'requests ' + browser.requests);
+  const own = url => url.startsWith(PAGE) || url === 'about:blank' || url.startsWith('blob:'); // the worker's text is the page's
+  check(browser.requests.every(own), 'requests ' + browser.requests);
   check(browser.errors.length === 0, 'errors ' + browser.errors);
   const blocked = await run("fetch('https://example.com/').then(() => 'got', () => 'refused')");
   check(blocked === 'refused', 'the policy lets fetch through');
@@ -74,7 +75,7 @@ await part('random steps on 3 examples: the page at each position is the native 
     const schedule = await run('workbench.bench.run.schedule');
     const image = asl(['compile', '--k', k], readFileSync(EXAMPLES + name));
     const file = asl(['step', '--threads', threads, '--record', ...schedule], image);
-    check(Buffer.from(await run('btoa(String.fromCharCode(...workbench.bench.run.file))'), 'base64').equals(file), name + ': run file');
+    check(Buffer.from(await run('workbench.bench.run.file().then(file => btoa(String.fromCharCode(...file)))'), 'base64').equals(file), name + ': run file');
     for (let p = 0; p <= length; p++) {
       const native = asl(['debug', 'goto', p, 'view'], file).toString();
       const [told, shown] = await run(`(async () => { const { bench, tellView } = workbench; bench.go(${p}); await new Promise(d => requestAnimationFrame(() => setTimeout(d))); return [tellView(bench.state), ${SHOWN}]; })()`);
@@ -151,7 +152,7 @@ await part('sessions: a run has one, which is closed behind it, and memory is st
     for (const name of ['hash.asl', 'sum.asm', 'nested.asl']) {
       await run(`(() => { const e = document.getElementById('example'); e.value = '${name}'; e.dispatchEvent(new Event('change')); e.blur(); })()`);
       for (const pressed of ['R', 'ArrowLeft', '0', 'u', 'U', 't', 'T', 'k', 'c']) await browser.strike(pressed);
-      await browser.frames();
+      await calm();
       check((await statistics()).sessions === 1, `${name}: ${(await statistics()).sessions} sessions`);
     }
     bytes.push((await statistics()).bytes);
@@ -192,7 +193,7 @@ await part('the mouse: lane heads, events, buttons, a dropped file', async () =>
   const click = async target => {
     const [x, y] = await run(`(() => { const b = (${target}).getBoundingClientRect(); return [b.left + b.width / 2, b.top + b.height / 2]; })()`);
     await browser.click(x, y);
-    await browser.frames();
+    await calm();
   };
   for (const t of [0, 0, 1, 1]) await click(`document.querySelector('[data-step="${t}"]')`);
   check(String(await at()) === '4,4' && await run("workbench.bench.last.reply") === 'blocked', 'heads step');
@@ -296,6 +297,7 @@ await part('reasons are those of the native toolchain, of the section that is as
     check(sections > 0, name + ': sections');
     for (let section = 0; section < sections; section++) {
       await run(`document.querySelectorAll('#sections .matrix')[${section}].querySelector('.link').click()`);
+      await calm();
       const shown = await run("document.querySelector('#dialog-body .why').textContent");
       check(shown.startsWith(`section ${section}, `) && native.includes(shown), `${name}: section ${section}: ${shown.slice(0, 40)}`);
       await run("document.getElementById('dialog').close()");
@@ -352,5 +354,6 @@ await part('no sideways scrolling at 420 px', async () => {
   await browser.size(1400, 1000);
 });
 
+await import('./waiting.mjs');
 await import('./lessons.mjs');
 await finish();

@@ -45,16 +45,18 @@ const shots = Object.keys(PLACES).flatMap(place => Object.keys(LOOKS).map(look =
 const isWanted = ({ name, place, look }) => (wanted.length ? wanted.some(word => name.includes(word))
   : look === 'light' || SEEN.includes(place) && !look.startsWith('readme'));
 
+const CALM = '(async () => { while (workbench.isBusy()) await new Promise(done => setTimeout(done, 10)); })()';
+
 async function take(browser, { name, place, look }) {
   const { url = '', keys = [], run, click } = PLACES[place], { w, h, scale = 1, dark, vision, print, whole } = LOOKS[look];
   await browser.size(w, h, scale);
   await browser.media(Boolean(dark));
   await browser.vision(vision || 'none');
   await browser.open(PAGE + url, READY);
-  for (const key of keys) await browser.key(key);
+  for (const key of keys) { await browser.key(key); await browser.run(CALM); }
   if (run) await browser.run(run);
   if (click) await browser.run(`document.querySelector('${click}').click()`);
-  await browser.sleep(400);
+  await browser.sleep(700); // the blocked steps at each k are asked when nothing has changed for a while
   await browser.frames();
   if (print) { await browser.media(false, 'print'); await browser.run("dispatchEvent(new Event('beforeprint'))"); await browser.sleep(200); }
   await browser.picture(`${folder}/${name}.png`, Boolean(whole));

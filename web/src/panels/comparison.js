@@ -1,6 +1,6 @@
 // How the run would go at each k: its blocked steps, and the step that is shown, if it is blocked.
 
-import { byId, el, kButton } from '../dom.js';
+import { byId, el, kButton, renew } from '../dom.js';
 import { KS } from '../comparison.js';
 
 export function drawComparison(bench, comparison, chooseK) {
@@ -13,7 +13,7 @@ export function drawComparison(bench, comparison, chooseK) {
   const free = comparison.freeAt(position - 1);
   const row = (words, cell) => el('tr', {}, el('th', { scope: 'row' }, words),
     KS.map(k => el('td', { class: k === bench.k ? 'chosen' : null }, cell(k))), el('td'));
-  box.replaceChildren(el('table', { class: 'matrix' },
+  renew(box, el('table', { class: 'matrix' },
     el('thead', {}, el('tr', {}, el('th', { scope: 'col' }, el('b', {}, 'the same steps'), ' at k'), heads, el('th'))),
     el('tbody', {}, row('steps that are blocked', k => comparison.count(k) ?? '–'),
       last && last.reply === 'blocked' ? row(`event ${position - 1}, the one shown`, k => verdict(free.includes(k))) : null)));

@@ -1,7 +1,7 @@
 // The heap: objects as rows of cells, chains laid out from the globals, arrows
 // between them, the registers that point at each, the locks on each cell.
 
-import { byId, el, svg, threadColour, count, whenDrawn } from '../dom.js';
+import { byId, el, svg, threadColour, count, renew, setText, textSize, whenDrawn } from '../dom.js';
 
 const MOST_OBJECTS = 28, MOST_CELLS = 16, MOST_TAGS = 6;
 const target = value => (value.startsWith('addr ') ? Number(value.slice(5).split('.')[0]) : -1);
@@ -9,13 +9,12 @@ const target = value => (value.startsWith('addr ') ? Number(value.slice(5).split
 export function drawHeap(bench, change) {
   const tags = tagsOf(bench), locks = locksOf(bench);
   const { rows, seen } = layout(bench, [...tags.keys()].map(place => Number(place.split('.')[0])), change.objects);
-  const arrows = svg('svg', { class: 'arrows' });
   const boxes = rows.map(row => el('div', { class: 'chain' }, row.map(o => objectBox(bench, o, tags, locks, change))));
   const hidden = bench.state.objects.length - seen.size;
-  byId('heap').replaceChildren(arrows, ...boxes,
-    ...(hidden ? [el('p', { class: 'legend' }, `and ${count(hidden, 'more object')}, not drawn`)] : []));
-  byId('heap-note').textContent = count(bench.state.objects.length, 'object');
-  whenDrawn(() => drawArrows(bench, arrows, seen));
+  const other = renew(byId('heap'), svg('svg', { class: 'arrows' }), boxes,
+    hidden ? el('p', { class: 'legend' }, `and ${count(hidden, 'more object')}, not drawn`) : null);
+  setText(byId('heap-note'), count(bench.state.objects.length, 'object'));
+  whenDrawn(() => drawArrows(bench, seen, other));
 }
 
 // place -> [[thread, name]..]: the registers that hold this address.
@@ -68,7 +67,7 @@ function objectBox(bench, o, tags, locks, change) {
   const cells = bench.state.objects[o];
   const mine = cells.flatMap((_, f) => (tags.get(`${o}.${f}`) || []).map(([t, name]) => [t, name + (f ? ` → [${f}]` : '')]));
   const fresh = bench.state.threads.findIndex(thread => thread.fresh.includes(o));
-  return el('div', { class: 'object' + (fresh >= 0 ? ' fresh' : '') + (change.objects.includes(o) ? ' made' : ''),
+  return el('div', { key: o, class: 'object' + (fresh >= 0 ? ' fresh' : '') + (change.objects.includes(o) ? ' made' : ''),
     id: 'object-' + o },
     el('div', { class: 'tags' }, mine.slice(0,
       MOST_TAGS).map(([t, name]) => el('span',
@@ -91,16 +90,18 @@ function cellBox(bench, o, f, value, size, locks, change) {
     bench.names.value(value));
 }
 
-function drawArrows(bench, picture, seen) {
-  const heap = byId('heap'), frame = heap.getBoundingClientRect(), { scrollWidth: width, scrollHeight: height } = heap, routes = [];
+// The arrows are where they were if the heap is as it was, as wide and with letters as large.
+let arrowsFor = '';
+function drawArrows(bench, seen, other) {
+  const heap = byId('heap'), frame = heap.getBoundingClientRect(), routes = [], room = `${frame.width} ${textSize()}`;
+  if (!other && arrowsFor === room) return null;
+  arrowsFor = room;
   const left = frame.left - heap.scrollLeft, top = frame.top - heap.scrollTop;
   for (const o of seen) bench.state.objects[o].slice(0, MOST_CELLS).forEach((value, f) => {
     const from = byId(`cell-${o}-${f}`), to = byId('object-' + target(value));
     if (from && to) routes.push(route(from, to, left, top, f));
   });
-  picture.setAttribute('width', width);
-  picture.setAttribute('height', height);
-  picture.append(...routes.map(d => svg('path', { d, 'marker-end': 'url(#arrow-head)', class: 'pointer' })));
+  return () => renew(heap.firstChild, routes.map(d => svg('path', { d, 'marker-end': 'url(#arrow-head)', class: 'pointer' })));
 }
 
 // Straight to the next box where nothing lies between; below the box's other

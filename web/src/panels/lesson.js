@@ -1,15 +1,16 @@
 // A lesson beside the panels: its steps, those done ticked, the present one with a hint on request.
 
-import { byId, el } from '../dom.js';
+import { byId, el, renew } from '../dom.js';
 import { LESSONS } from '../lessons.js';
 
 const lesson = { number: -1, done: 0, hint: false };
 
-export function openLesson(bench, number, examples) {
+export async function openLesson(bench, number, examples) {
   const chosen = LESSONS[number];
   if (!chosen) return false;
-  Object.assign(lesson, { number, done: 0, hint: false });
-  bench.load({ ...examples[chosen.example], title: chosen.example, k: chosen.k, threads: chosen.threads, schedule: [], position: 0 });
+  const { example, k, threads } = chosen;
+  const taken = await bench.load({ ...examples[example], title: example, k, threads, schedule: [], position: 0 });
+  if (taken) Object.assign(lesson, { number, done: 0, hint: false });
   return true;
 }
 
@@ -43,7 +44,7 @@ export function drawLesson(bench) {
   const over = lesson.done === chosen.steps.length;
   byId('lesson-title').textContent = `Lesson ${lesson.number + 1}: ${chosen.title}`;
   byId('lesson-about').textContent = chosen.about;
-  byId('lesson-steps').replaceChildren(...chosen.steps.map((step, i) => stepRow(bench, step, i)));
+  renew(byId('lesson-steps'), chosen.steps.map((step, i) => stepRow(bench, step, i)));
   byId('lesson-end').textContent = over ? 'Done.' : '';
 }
 

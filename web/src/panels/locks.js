@@ -14,14 +14,11 @@ export function drawLocks(bench) {
   const nodes = rows(bench, waits, threads);
   const clashes = new Map();
   for (const { clashes: found } of waits.values()) for (const c of found) clashes.set(c.node + '/' + c.thread, true);
-  const body = nodes.map(node => el('tr', {}, el('th', { scope: 'row' }, nodeName(bench, node)),
+  const body = nodes.map(node => el('tr', { key: node }, el('th', { scope: 'row' }, nodeName(bench, node)),
     threads.map(t => cell(bench, node, t, waits.get(t), clashes))));
   const heading = el('tr', {}, el('th', { scope: 'col' }, 'node'),
     threads.map(t => el('th', { scope: 'col' }, chip(t, waits.has(t) ? 'blk' : ''))));
-  const table = byId('locks');
-  if (!table.tHead) table.append(el('thead'), el('tbody'));
-  renew(table.tHead, [heading]);
-  renew(table.tBodies[0], body);
+  renew(byId('locks'), el('thead', {}, heading), el('tbody', {}, body));
 }
 
 // Threads that wait at the position, with what they ask for now.
@@ -65,18 +62,17 @@ function nodeName(bench, node) {
 }
 
 function cell(bench, node, t, wait, clashes) {
-  const mode = bench.state.threads[t].held.get(node);
-  const box = el('td', { style: threadColour(t) });
-  if (mode) {
-    const framed = clashes.has(node + '/' + t);
-    box.append(el('span', { class: `mode ${look(mode)}${framed ? ' clash' : ''}`, 'data-held': `held ${t} ${node} ${mode}`,
-      title: `thread ${t} holds ${mode}: ${MEANING[mode]}${framed ? '; it is in the way' : ''}` }, mode));
-  }
-  const asked = wait && wait.nodes.get(node);
-  if (asked) {
-    const no = wait.clashes.some(c => c.node === node);
-    box.append(el('span', { class: 'wish' + (no ? ' no' : ''), title: `thread ${t} asks ${asked}: ${MEANING[asked]}` },
-      (no ? '✕ ' : '') + asked + '?'));
-  }
-  return box;
+  const mode = bench.state.threads[t].held.get(node), asked = wait && wait.nodes.get(node);
+  return el('td', { style: threadColour(t) }, mode ? heldMode(node, t, mode, clashes.has(node + '/' + t)) : null,
+    asked ? wish(node, t, asked, wait) : null);
+}
+
+const heldMode = (node, t, mode, framed) => el('span', { class: `mode ${look(mode)}${framed ? ' clash' : ''}`,
+  'data-held': `held ${t} ${node} ${mode}`,
+  title: `thread ${t} holds ${mode}: ${MEANING[mode]}${framed ? '; it is in the way' : ''}` }, mode);
+
+function wish(node, t, asked, wait) {
+  const no = wait.clashes.some(c => c.node === node);
+  return el('span', { class: 'wish' + (no ? ' no' : ''), title: `thread ${t} asks ${asked}: ${MEANING[asked]}` },
+    (no ? '✕ ' : '') + asked + '?');
 }

@@ -1,7 +1,7 @@
 // Each thread: what it is at, why it waits, its registers by variable name.
 
 import { byId, el, chip, threadColour, count, renew } from '../dom.js';
-import { waitAt } from '../stretches.js';
+import { countBefore, waitAt } from '../stretches.js';
 
 export function drawThreads(bench, change) {
   const { threads } = bench.run.viewWithFrames(bench.position);
@@ -11,7 +11,7 @@ export function drawThreads(bench, change) {
     if (threads.length > 8 && !near && !thread.held.size) rest.push(t);
     else boxes.push(threadBox(bench, thread, t, change));
   });
-  if (rest.length) boxes.push(el('p', { class: 'legend' }, 'others (hatched: blocked, dashed: ended): ',
+  if (rest.length) boxes.push(el('p', { key: 'rest', class: 'legend' }, 'others (hatched: blocked, dashed: ended): ',
     rest.map(t => chip(t, lookOf(bench, t)))));
   renew(byId('threads'), boxes);
 }
@@ -22,7 +22,7 @@ function threadBox(bench, thread, t, change) {
   const acted = change.thread === t;
   const runs = `thread ${t} pc ${thread.pc} depth ${thread.depth}`;
   const told = thread.status === 'runs' ? runs : `thread ${t} ${thread.status} ${thread.value ?? thread.fault}`;
-  return el('div', { class: 'thread' + (acted ? ' acted' : ''), style: threadColour(t), 'data-thread': told },
+  return el('div', { key: t, class: 'thread' + (acted ? ' acted' : ''), style: threadColour(t), 'data-thread': told },
     el('div', { class: 'line' }, chip(t, lookOf(bench, t)), status(bench, thread, t),
       thread.status === 'runs' ? el('span', { class: 'soft code' },
         `${bench.names.functionAt(thread.pc)}, pc ${thread.pc}`) : null),
@@ -51,7 +51,7 @@ function status(bench, thread, t) {
 function waiting(bench, t) {
   const wait = waitAt(bench.stretches, t, bench.position);
   if (!wait) return null;
-  const tries = bench.run.events.slice(wait.from, bench.position).filter(e => e.thread === t && e.reply === 'blocked').length;
+  const tries = countBefore(wait.tries, bench.position);
   const clash = bench.run.request(bench.position, t).clashes[0];
   const why = clash ? `T${clash.thread} holds ${clash.holds} at ${bench.names.shortNode(clash.node)}` : 'nothing is in its way now';
   return el('div', { class: 'waits' }, `since event ${wait.from}, ${count(tries, 'try', 'tries')}; ${why}`);
