@@ -1,15 +1,45 @@
-//! Compares receipts with the journal and the machine.
-ghost use Rattle.std.specs.Prelude.{◌≡◌, ◌≢◌, ◌<◌, ℕ, slice_get, Some, MatchBool, MatchOption};
+//! Compares receipts with the journal and the machine, in one walk over the journal.
+ghost use Rattle.std.specs.Prelude.{◌≡◌, ◌<◌, ◌≤◌, ℕ, length, slice_get, Some, MatchBool, MatchOption, vec_len};
 ghost use Rattle.asl_journal.specs.Recorded.{has_ended};
-ghost use Rattle.asl_runner.specs.History.{AreTrue, IsDealt, IsRight, IsWrong, entry, entry_of};
+ghost use Rattle.asl_runner.specs.History.{IsRight, IsWrong, entry, entry_of};
+ghost use Rattle.asl_runner.specs.Comparing.{HaveCome, IsNext, TellsTruth};
 
 use crate::report::Report;
 use asl_journal::{Event, Receipt};
 use asl_machine::Machine;
 
-/// The first worker with wrong receipts.
-pub fn first_wrong(report: &Report, workers: u8) -> Option<u8>
-    requires { 0 < workers }
+/// How many workers a run has at most.
+const MAX_WORKERS: usize = 8;
+
+/// A worker with wrong receipts: the first of which the journal shows it, or else one that has receipts left over.
+pub fn wrong_worker(report: &Report, workers: u8) -> Option<u8>
+    requires some { 0 < workers }
+    requires few { workers ≤ 8 }
+    requires receipts { vec_len report.now.receipts ≡ workers }
+    ensures { MatchOption result
+        ((worker : ℕ) (mine : _) → worker < workers → slice_get report.now.receipts.items worker ≡ Some mine
+        → IsRight workers worker report.now.machine.state report.now.journal.events mine.items)
+        (λ worker. (worker < workers) × ((mine : _) → slice_get report.now.receipts.items worker ≡ Some mine
+        → IsWrong workers worker report.now.machine.state report.now.journal.events mine.items)) }
+{
+    let mut next = [0; MAX_WORKERS];
+    for (index, event) in report.journal.events().iter().enumerate() {
+        let worker = event.thread % workers;
+        let at: usize = next[usize::from(worker)];
+        let receipts = report.receipts[usize::from(worker)].as_slice();
+        if !is_next(&report.machine, receipts, at, index, event) {
+            return Some(worker);
+        }
+        next[usize::from(worker)] = at + 1;
+    }
+    left_over(report, workers, &next)
+}
+
+/// A worker that has more receipts than events, by how many of them are those of its events.
+fn left_over(report: &Report, workers: u8, next: &[usize; MAX_WORKERS]) -> Option<u8>
+    requires few { workers ≤ 8 }
+    requires receipts { vec_len report.now.receipts ≡ workers }
+    requires come { HaveCome workers report.now.machine.state report.now.journal.events report.now.receipts.items next.now (length report.now.journal.events) }
     ensures { MatchOption result
         ((worker : ℕ) (mine : _) → worker < workers → slice_get report.now.receipts.items worker ≡ Some mine
         → IsRight workers worker report.now.machine.state report.now.journal.events mine.items)
@@ -17,69 +47,43 @@ pub fn first_wrong(report: &Report, workers: u8) -> Option<u8>
         → IsWrong workers worker report.now.machine.state report.now.journal.events mine.items)) }
 {
     for worker in 0..workers {
-        if let Some(receipts) = report.receipts.get(usize::from(worker)) {
-            if !is_right(report, workers, worker, receipts.as_slice()) {
-                return Some(worker);
-            }
+        if next[usize::from(worker)] != report.receipts[usize::from(worker)].len() {
+            return Some(worker);
         }
     }
     None
 }
 
-/// Whether the worker's receipts are the journal's entries of its threads, and true of the machine.
-fn is_right(report: &Report, workers: u8, worker: u8, receipts: &[Receipt]) -> bool
-    requires { 0 < workers }
-    ensures { MatchBool result
-        (IsRight workers worker report.now.machine.state report.now.journal.events receipts.now)
-        (IsWrong workers worker report.now.machine.state report.now.journal.events receipts.now) }
-{
-    is_dealt(workers, worker, report.journal.events(), receipts)
-        && are_true(&report.machine, receipts)
-}
-
-/// Whether the receipts are the entries of the worker's threads, in the journal's order.
-fn is_dealt(workers: u8, worker: u8, events: &[Event], receipts: &[Receipt]) -> bool
-    requires { 0 < workers }
-    ensures { MatchBool result (IsDealt workers worker events.now receipts.now) (¬ IsDealt workers worker events.now receipts.now) }
-{
-    let mut next = 0;
-    for (index, event) in events.iter().enumerate() {
-        if event.thread % workers == worker {
-            if !is_entry_at(receipts, next, index, event) {
-                return false;
-            }
-            next += 1;
-        }
-    }
-    next == receipts.len()
-}
-
-/// Whether the next receipt is there and of the event, which stands at the index.
-fn is_entry_at(receipts: &[Receipt], next: usize, index: usize, event: &Event) -> bool
-    ensures { MatchBool result
-        ((receipt : _) × (slice_get receipts.now next ≡ Some receipt) × (entry_of receipt ≡ entry index event.now.thread event.now.reply))
-        ((receipt : _) → slice_get receipts.now next ≡ Some receipt → entry_of receipt ≢ entry index event.now.thread event.now.reply) }
+/// Whether the next receipt is there, is of the event, which stands at the index, and is true of the machine.
+fn is_next(
+    machine: &Machine,
+    receipts: &[Receipt],
+    next: usize,
+    index: usize,
+    event: &Event,
+) -> bool
+    ensures { MatchBool result (IsNext machine.now.state receipts.now next index event.now) (¬ IsNext machine.now.state receipts.now next index event.now) }
 {
     match receipts.get(next) {
-        Some(receipt) => {
-            receipt.index as usize == index
-                && receipt.thread == event.thread
-                && receipt.reply == event.reply
-        }
+        Some(receipt) => is_of(receipt, index, event) && is_true(machine, receipt),
         None => false,
     }
 }
 
-/// Whether each thread of which a receipt says that it has ended has.
-fn are_true(machine: &Machine, receipts: &[Receipt]) -> bool
-    ensures { MatchBool result (AreTrue machine.now.state receipts.now) (¬ AreTrue machine.now.state receipts.now) }
+/// Whether the receipt is of the event, which stands at the index.
+fn is_of(receipt: &Receipt, index: usize, event: &Event) -> bool
+    ensures { MatchBool result (entry_of receipt.now ≡ entry index event.now.thread event.now.reply) (¬ (entry_of receipt.now ≡ entry index event.now.thread event.now.reply)) }
 {
-    for receipt in receipts {
-        if receipt.ended && !is_at_end(machine, receipt.thread) {
-            return false;
-        }
-    }
-    true
+    receipt.index as usize == index
+        && receipt.thread == event.thread
+        && receipt.reply == event.reply
+}
+
+/// Whether the thread has ended, where the receipt says so.
+fn is_true(machine: &Machine, receipt: &Receipt) -> bool
+    ensures { MatchBool result (TellsTruth machine.now.state receipt.now) (¬ TellsTruth machine.now.state receipt.now) }
+{
+    !receipt.ended || is_at_end(machine, receipt.thread)
 }
 
 /// Whether the thread does not run.

@@ -5,7 +5,7 @@ ghost use Rattle.asl_runner.specs.History.{AreAllEndsLast, AreAllTrue, AreRunnin
 ghost use Rattle.asl_runner.specs.Refused.{IsRefusal};
 ghost use Rattle.asl_runner.specs.Ending.{AreAllTold, IsRun};
 
-use crate::compare::first_wrong;
+use crate::compare::wrong_worker;
 use crate::fault::RunFault;
 use crate::gate::Gate;
 use crate::gathering::{gather, seats};
@@ -71,7 +71,7 @@ pub fn run<'p, R: Threads + Wait + Sync, G: Gate>(
         Ok(report) => report,
         Err(fault) => return Err((fault, None)),
     };
-    match first_wrong(&report, workers) {
+    match wrong_worker(&report, workers) {
         Some(worker) => Err((RunFault::Receipt(worker), Some(report))),
         None => Ok(report),
     }

@@ -114,8 +114,15 @@ fn turn<R: Wait, S: Steps, G: Gate>(
     };
     let call = at.receipts.len() as u64 + 1;
     gate.before(post.worker, call);
-    let Some(receipt) = stepped(rt, alloc, steps, thread) else {
+    let Some(told) = stepped(rt, alloc, steps, thread) else {
         return Next::Refused;
+    };
+    // A copy of the whole receipt would carry along what pads it.
+    let receipt = Receipt {
+        index: told.index,
+        thread: told.thread,
+        reply: told.reply,
+        ended: told.ended,
     };
     gate.after(post.worker, call, &receipt);
     note_end(&mut at.going, &receipt);

@@ -1,4 +1,6 @@
-use Rattle.std.proofs.Common.{rules, inl, inr, sym, ap, ◌∙◌}
+use Rattle.std.proofs.Common.{rules, inl, inr, sym, ap, ◌∙◌, arith, Vec, Global}
+use Rattle.std.proofs.lemmas.List.{length-map}
+use Rattle.asl_journal.specs.declared.event.Receipt.{Receipt}
 use Rattle.asl_machine.specs.View.{Configuration}
 use Rattle.asl_runner.specs.Ending.{all_receipts}
 use Rattle.asl_runner.proofs.Ends.{have_ended, are_right, wrong_at}
@@ -58,3 +60,9 @@ returns-in-Some-clause-refused g c =
       },
       wrong_at c.args.program.now c.args.n c.args.workers c.args.limit c.in-Some.worker c.in-Ok-run_as.report (rw (← c.in-Ok.ensures.image) ran) c.in-Some.ensures.0 c.in-Some.ensures.1,
     )
+
+pub wrong_worker-requires-clause-receipts : goal.wrong_worker-requires-clause-receipts
+wrong_worker-requires-clause-receipts g c =
+    let ran = c.in-Ok-run_as.ensures.run in
+    let report = c.in-Ok-run_as.report in
+    omega (arith, ran.dealers, length-map report.receipts.items (λ (m : Vec Receipt Global). m.items), report.receipts.ok.0)

@@ -11,7 +11,8 @@ returns g c =
     let at = c.args.at.now in
     let left : 0 < at.seat.left = omega (arith, works.left) in
     let drawn = (c.in-Some-draw.ensures.some left).1 in
-    let receipt = c.in-Some-stepped.receipt in
+    let told = c.in-Some-stepped.told in
+    let receipt : Receipt = record { index = told.index; thread = told.thread; reply = told.reply; ended = told.ended } in
     let goes : slice_get at.going receipt.thread ≡ Some true = ap (slice_get at.going) c.in-Some-stepped.ensures ∙ c.in-Some.ensures.1 in
     let more = c.push_reserved.ensures.items ∙ ap (λ (rs : List Receipt). rs ++ receipt ∷ []) c.reserve.ensures.items in
     record {
