@@ -2,3 +2,8 @@ mod Values
 mod Numbers
 mod Talks
 mod Asked
+mod Plain
+mod StepRules
+mod StepWalk
+mod StepRows
+mod ReadApart

@@ -4,3 +4,4 @@ pub mod Words
 -- Machinery of the proofs, not of the promise:
 pub mod Building
 pub mod Reading
+pub mod Apart

@@ -1,6 +1,7 @@
 //! The words of the program `asl`: what a command line asks for, and the texts of help and of wrong usage.
 #![tactic(auto)]
 
+mod apart;
 mod arguments;
 mod command;
 mod debug_word;

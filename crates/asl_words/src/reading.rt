@@ -5,6 +5,7 @@ ghost use Rattle.asl_words.specs.Words.{AreDebugWords, AsksFor, IsFlagAt, IsLeng
 ghost use Rattle.asl_words.specs.Number.{AreNumbers, IsNumber};
 ghost use Rattle.asl_words.specs.Reading.{IsNumbersFault, IsRefusal, IsTalkFault, IsWrongUsage};
 
+use crate::apart::read_apart;
 use crate::arguments::program;
 use crate::command::{Command, Invocation, Team};
 use crate::debug_word::DebugWord;
@@ -31,6 +32,16 @@ const A_WORD: &str =
 ///
 /// A growth was refused.
 pub fn read_words(alloc: Global, words: &[String]) -> Result<Invocation, AllocError>
+    ensures { IfOk result (AsksFor (map string_bytes words.now)) }
+{
+    match read_apart(alloc, words)? {
+        Some(command) => Ok(Invocation::Alone(command)),
+        None => read_all(alloc, words),
+    }
+}
+
+/// The same by `clap` alone.
+pub fn read_all(alloc: Global, words: &[String]) -> Result<Invocation, AllocError>
     ensures { IfOk result (AsksFor (map string_bytes words.now)) }
 {
     match program(alloc)?.try_get_matches_from(words) {

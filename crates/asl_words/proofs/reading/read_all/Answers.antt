@@ -2,7 +2,7 @@ use Rattle.std.proofs.Common.{map, string_bytes}
 use Rattle.std.proofs.lemmas.Result.{IfOk-weaker}
 use Rattle.clap.specs.Words.{app_of, kind_of, subcommand_rows_of}
 use Rattle.asl_words.proofs.Asked.{taken_words, refused_words}
-use Rattle.asl_words.proofs.reading.read_words.Goals as goal
+use Rattle.asl_words.proofs.reading.read_all.Goals as goal
 
 pub returns-in-Ok : goal.returns-in-Ok
 returns-in-Ok c =

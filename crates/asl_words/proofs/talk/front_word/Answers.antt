@@ -1,4 +1,4 @@
-use Rattle.std.proofs.Common.{rules, ◌≡◌, ◌<◌, ◌≤◌, length, arith}
+use Rattle.std.proofs.Common.{rules}
 use Rattle.asl_words.proofs.Talks.{no_word_first, no_word_last, no_number_behind}
 use Rattle.asl_words.proofs.talk.front_word.Goals as goal
 
