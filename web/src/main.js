@@ -258,10 +258,9 @@ function listenToKeyboard() {
 }
 
 function listenToPage() {
-  let typed = 0, sized = 0;
+  let sized = 0;
   byId('text').addEventListener('input',
-    event => { const text = event.target.value; paintText(text, bench.kind, null); clearTimeout(typed);
-    typed = setTimeout(() => bench.edit(text), 120); });
+    event => { bench.type(event.target.value); paintText(bench.text, bench.kind, null); });
   byId('text').addEventListener('keydown',
     event => { if (event.key === 'Enter' && !event.ctrlKey && !event.metaKey && !event.isComposing) breakLine(event); });
   addEventListener('resize', () => { clearTimeout(sized); sized = setTimeout(() => changed('size'), 80); });
