@@ -104,7 +104,7 @@ module _ (objects : List Object) (c0 : Cell) (v : Value) (there : IsSome (cell_a
 
 -- a step that is not an entry leaves its thread what it held, or nothing
 after_less : (f : Fate) (t : ℕ) (h : Holding) (n : Node) → (held (holding_after f t h) t n ≡ held h t n) ⊎ (held (holding_after f t h) t n ≡ NL)
-after_less fate.GoesOn t h n = inl refl
+after_less fate.Continues t h n = inl refl
 after_less (fate.Shows v) t h n = inl refl
 after_less (fate.Ends v) t h n = inl refl
 after_less (fate.Fails f) t h n = inr (held_release_own h t n)

@@ -17,7 +17,7 @@ pub mod RenamedSteps
 pub mod Renamings
 pub mod Staying
 pub mod Growing
-pub mod Crossing
+pub mod Commuting
 pub mod Making
 pub mod Inserting
 pub mod UpTo

@@ -32,7 +32,7 @@ use Rattle.asl_machine.proofs.Lists.{get_other, get_before, get_last, is_there}
 use Rattle.asl_machine.proofs.Heaps.{many_globals}
 use Rattle.asl_machine.proofs.Freshness.{fresh_got}
 use Rattle.asl_atomicity.specs.Renamed.{Renaming, value_by, node_by, reply_by, object_by, frame_by, thread_by, IsRenamed, Keeps}
-use Rattle.asl_atomicity.proofs.Crossing.{crossed, crossed_first, crossed_second, crossed_other, crossed_past, crossing, below_stays, above_apart}
+use Rattle.asl_atomicity.proofs.Commuting.{crossed, crossed_first, crossed_second, crossed_other, crossed_past, crossing, below_stays, above_apart}
 use Rattle.asl_atomicity.proofs.Uniform.{place_at}
 use Rattle.asl_atomicity.proofs.Stores.{set_set, object_of}
 use Rattle.asl_atomicity.proofs.Swaps.{of_turn}
@@ -55,7 +55,7 @@ pub record Crossed (image : Image) (s : State) (u t : ℕ) : Type 0 where
 abbrev new_step : Image → State → ℕ → Activity → ℕ → ℕ → ℕ → Bool → Stepped
 new_step image z x a to cells class full =
     of_turn z x (turn_by x (record {
-      fate = if full then fate.Fails fault.Full else fate.GoesOn;
+      fate = if full then fate.Fails fault.Full else fate.Continues;
       activity = if full then a else having_made image.version a to (length z.objects);
       objects = if full then z.objects else z.objects ++ new_object class cells ∷ [];
       holding = z.holding;

@@ -33,7 +33,7 @@ abbrev pub fate_by : (ℕ → ℕ) → Fate → Fate
 fate_by f (fate.Shows v) = fate.Shows (value_by f v)
 fate_by f (fate.Ends v) = fate.Ends (value_by f v)
 fate_by f (fate.Fails w) = fate.Fails (fault_by f w)
-fate_by f fate.GoesOn = fate.GoesOn
+fate_by f fate.Continues = fate.Continues
 fate_by f fate.Waits = fate.Waits
 
 abbrev pub value_result_by : (ℕ → ℕ) → Result Value Fault → Result Value Fault
@@ -242,7 +242,7 @@ module _ (p : Renaming) where
 
       pub make_by : (to cells class : ℕ) → LeftBy p.new (make_left image.version (place_at t a one h) to cells class) (make_left image.version (place_at t here other g) to cells class)
       make_by to cells class = record {
-        fate = ap (λ n. if n == 65536 then fate.Fails fault.Full else fate.GoesOn) count ∙ fate_room (length one == 65536);
+        fate = ap (λ n. if n == 65536 then fate.Fails fault.Full else fate.Continues) count ∙ fate_room (length one == 65536);
         activity = ap (λ n. if n == 65536 then here else having here n) count ∙ activity_room (length one == 65536);
         count = ap (λ n. length (if n == 65536 then other else other ++ new_object class cells ∷ [])) count ∙ count_room (length one == 65536);
         objects = made_by cells class;
@@ -252,7 +252,7 @@ module _ (p : Renaming) where
           having : Activity → ℕ → Activity
           having b n = having_made image.version b to n
 
-          fate_room : (b : Bool) → (if b then fate.Fails fault.Full else fate.GoesOn) ≡ fate_by p.new (if b then fate.Fails fault.Full else fate.GoesOn)
+          fate_room : (b : Bool) → (if b then fate.Fails fault.Full else fate.Continues) ≡ fate_by p.new (if b then fate.Fails fault.Full else fate.Continues)
           fate_room true = refl
           fate_room false = refl
 

@@ -78,7 +78,7 @@ module _ (p : Renaming) where
 
     call_by : (to first function : ℕ) → LeftBy p.new (call_left image (place_at t a one h) to first function) (call_left image (place_at t there other g) to first function)
     call_by to first function = record {
-      fate = ap (λ n. if n == 256 then fate.Fails fault.Stack else fate.GoesOn) frames_by ∙ fate_room (frame_count a == 256);
+      fate = ap (λ n. if n == 256 then fate.Fails fault.Stack else fate.Continues) frames_by ∙ fate_room (frame_count a == 256);
       activity = ap (λ n. if n == 256 then there else calling (values_from there.top.regs first params)) frames_by ∙ activity_room (frame_count a == 256);
       count = count;
       objects = same;
@@ -97,7 +97,7 @@ module _ (p : Renaming) where
         calling : List Value → Activity
         calling arguments = above (first_registers arguments (function_of image function).regs)
 
-        fate_room : (b : Bool) → (if b then fate.Fails fault.Stack else fate.GoesOn) ≡ fate_by p.new (if b then fate.Fails fault.Stack else fate.GoesOn)
+        fate_room : (b : Bool) → (if b then fate.Fails fault.Stack else fate.Continues) ≡ fate_by p.new (if b then fate.Fails fault.Stack else fate.Continues)
         fate_room true = refl
         fate_room false = refl
 
@@ -131,7 +131,7 @@ module _ (p : Renaming) where
     -- ---- sections
 
     moved_activity : (w : Fate) (depth : ℕ) → activity_moved w depth there ≡ activity_by p.new (activity_moved w depth a)
-    moved_activity fate.GoesOn depth = refl
+    moved_activity fate.Continues depth = refl
     moved_activity (fate.Shows v) depth = refl
     moved_activity (fate.Ends v) depth = refl
     moved_activity (fate.Fails w) depth = refl
@@ -140,7 +140,7 @@ module _ (p : Renaming) where
     acquire_fate_by : (depth : ℕ) (free : Bool) → acquire_fate depth free ≡ fate_by p.new (acquire_fate depth free)
     acquire_fate_by depth free = by_tests (depth == 0) free (depth == 255)
       where
-        by_tests : (b f d : Bool) → (if b then (if f then fate.GoesOn else fate.Waits) else if d then fate.Fails fault.Deep else fate.GoesOn) ≡ fate_by p.new (if b then (if f then fate.GoesOn else fate.Waits) else if d then fate.Fails fault.Deep else fate.GoesOn)
+        by_tests : (b f d : Bool) → (if b then (if f then fate.Continues else fate.Waits) else if d then fate.Fails fault.Deep else fate.Continues) ≡ fate_by p.new (if b then (if f then fate.Continues else fate.Waits) else if d then fate.Fails fault.Deep else fate.Continues)
         by_tests true true d = refl
         by_tests true false d = refl
         by_tests false f true = refl
@@ -174,7 +174,7 @@ module _ (p : Renaming) where
       holding = holding_tests (a.depth == 1);
     }
       where
-        fate_tests : (b : Bool) → (if b then fate.Fails fault.NoSection else fate.GoesOn) ≡ fate_by p.new (if b then fate.Fails fault.NoSection else fate.GoesOn)
+        fate_tests : (b : Bool) → (if b then fate.Fails fault.NoSection else fate.Continues) ≡ fate_by p.new (if b then fate.Fails fault.NoSection else fate.Continues)
         fate_tests true = refl
         fate_tests false = refl
 
@@ -229,21 +229,21 @@ module _ (p : Renaming) where
   -- ---- turns and steps
 
   reply_fate : (w : Fate) → reply_of (fate_by p.new w) ≡ reply_by p.new (reply_of w)
-  reply_fate fate.GoesOn = refl
+  reply_fate fate.Continues = refl
   reply_fate (fate.Shows v) = refl
   reply_fate (fate.Ends v) = refl
   reply_fate (fate.Fails w) = refl
   reply_fate fate.Waits = refl
 
   thread_fate : (w : Fate) (a : Activity) → thread_after (fate_by p.new w) (activity_by p.new a) ≡ thread_by p.new (thread_after w a)
-  thread_fate fate.GoesOn a = refl
+  thread_fate fate.Continues a = refl
   thread_fate (fate.Shows v) a = refl
   thread_fate (fate.Ends v) a = refl
   thread_fate (fate.Fails w) a = refl
   thread_fate fate.Waits a = refl
 
   holding_fate : (w : Fate) (t : ℕ) (h g : Holding) → HoldingBy p.new h g → HoldingBy p.new (holding_after w t h) (holding_after (fate_by p.new w) t g)
-  holding_fate fate.GoesOn t h g k = k
+  holding_fate fate.Continues t h g k = k
   holding_fate (fate.Shows v) t h g k = k
   holding_fate (fate.Ends v) t h g k = k
   holding_fate (fate.Fails w) t h g k = release_by p h g k t

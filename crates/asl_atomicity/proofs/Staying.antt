@@ -85,7 +85,7 @@ loaded_of : (count : ℕ) (objects : List Object) (r : Result Cell Fault) → Re
 loaded_of count objects (Ok c) of = tt
 loaded_of count objects (Err w) of = of
 
-room_of : (count : ℕ) (w : Fault) (b : Bool) → FaultOf count w → FateOf count (if b then fate.Fails w else fate.GoesOn)
+room_of : (count : ℕ) (w : Fault) (b : Bool) → FaultOf count w → FateOf count (if b then fate.Fails w else fate.Continues)
 room_of count w true of = of
 room_of count w false of = tt
 
@@ -100,7 +100,7 @@ returned_of count a v (caller ∷ others) of = tt
 acquired_of : (count depth : ℕ) (free : Bool) → FateOf count (acquire_fate depth free)
 acquired_of count depth free = by_tests (depth == 0) free (depth == 255)
   where
-    by_tests : (b f d : Bool) → FateOf count (if b then (if f then fate.GoesOn else fate.Waits) else if d then fate.Fails fault.Deep else fate.GoesOn)
+    by_tests : (b f d : Bool) → FateOf count (if b then (if f then fate.Continues else fate.Waits) else if d then fate.Fails fault.Deep else fate.Continues)
     by_tests true true d = tt
     by_tests true false d = tt
     by_tests false f true = tt
@@ -132,7 +132,7 @@ module _ (image : Image) (t : ℕ) (a : Activity) (objects : List Object) (h : H
   left_of instr.Release = room_of (length objects) fault.NoSection (a.depth == 0) tt
 
 reply_fate : (count : ℕ) (w : Fate) → FateOf count w → ReplyOf count (reply_of w)
-reply_fate count fate.GoesOn of = tt
+reply_fate count fate.Continues of = tt
 reply_fate count (fate.Shows v) of = of
 reply_fate count (fate.Ends v) of = tt
 reply_fate count (fate.Fails w) of = of
@@ -145,7 +145,7 @@ EndedOf count (Done v) = ValueOf count v
 EndedOf count (Failed w) = FaultOf count w
 
 ended_fate : (count : ℕ) (w : Fate) (a : Activity) → FateOf count w → EndedOf count (thread_after w a)
-ended_fate count fate.GoesOn a of = tt
+ended_fate count fate.Continues a of = tt
 ended_fate count (fate.Shows v) a of = tt
 ended_fate count (fate.Ends v) a of = of
 ended_fate count (fate.Fails w) a of = of

@@ -132,7 +132,7 @@ uniform image t a (instr.New to cells class) objects h =
   where
     by_number : ℕ → Activity → ℕ → ℕ → ℕ → ℕ → List Object → Holding → ℕ → Left
     by_number version a t to cells class others g n =
-        record { fate = if n == 65536 then fate.Fails fault.Full else fate.GoesOn; activity = if n == 65536 then a else having_made version a to n; objects = made_objects others cells class; holding = g }
+        record { fate = if n == 65536 then fate.Fails fault.Full else fate.Continues; activity = if n == 65536 then a else having_made version a to n; objects = made_objects others cells class; holding = g }
 uniform image t a (instr.Acquire list) objects h = entering a.depth a.top a.below a.fresh
   where
     entering : (d : ℕ) (top : Frame) (below : List Frame) (fresh : List ℕ) → Uniform image t (record { depth = d; top = top; below = below; fresh = fresh }) (instr.Acquire list) objects h
@@ -165,7 +165,7 @@ uniform image t a (instr.Acquire list) objects h = entering a.depth a.top a.belo
 
         by_test : Activity → Bool → List Object → Holding → Bool → Request → Left
         by_test b outside others g free request =
-            let f : Fate = if outside then (if free then fate.GoesOn else fate.Waits) else if b.depth == 255 then fate.Fails fault.Deep else fate.GoesOn in
+            let f : Fate = if outside then (if free then fate.Continues else fate.Waits) else if b.depth == 255 then fate.Fails fault.Deep else fate.Continues in
             record { fate = f; activity = activity_moved f (b.depth + 1) b; objects = others; holding = if outside then (if free then grant g t request else g) else g }
 uniform image t a instr.Release objects h =
     let l = left_by image (place_at t a objects h) instr.Release in
@@ -196,7 +196,7 @@ uniform image t a (instr.Output from) objects h = quiet image t a (instr.Output 
 -- ---- what two threads do to the holding
 
 after_other : (f : Fate) (t : ℕ) (h : Holding) (q : Key) → q.thread ≢ t → map.get (holding_after f t h) q ≡ map.get h q
-after_other fate.GoesOn t h q apart = refl
+after_other fate.Continues t h q apart = refl
 after_other (fate.Shows v) t h q apart = refl
 after_other (fate.Ends v) t h q apart = refl
 after_other (fate.Fails f) t h q apart = get_release_other h t q apart
@@ -222,7 +222,7 @@ grant_alike h g t request n e =
     get_grant_own h t request n ∙ ap (λ z. if names request n then Some (asked request n) else z) e ∙ sym (get_grant_own g t request n)
 
 after_own : (f : Fate) (t : ℕ) (h g : Holding) (n : Node) → map.get h (key t n) ≡ map.get g (key t n) → map.get (holding_after f t h) (key t n) ≡ map.get (holding_after f t g) (key t n)
-after_own fate.GoesOn t h g n e = e
+after_own fate.Continues t h g n e = e
 after_own (fate.Shows v) t h g n e = e
 after_own (fate.Ends v) t h g n e = e
 after_own (fate.Fails f) t h g n e = get_release_own h t (key t n) refl ∙ sym (get_release_own g t (key t n) refl)

@@ -21,12 +21,12 @@ use Rattle.asl_lower.specs.Lowered.{Lowered}
 use Rattle.asl_lower.specs.Operands.{HasOperands}
 use Rattle.asl_lower.specs.Region.{InBody}
 use Rattle.asl_lower.specs.Regions.{Region, Body, Inside, IsIn, Between}
-use Rattle.asl_lower.specs.Kept.{IsKept}
+use Rattle.asl_lower.specs.LegalLowering.{IsLegalLowering}
 use Rattle.asl_lower.proofs.Layouts.{kept_layout}
 use Rattle.asl_points_to.specs.Classes.{Classed, to, AreClasses}
 use Rattle.asl_points_to.proofs.Uniques.{member_below, register_below, cell_below}
 use Rattle.asl_lock_expr.specs.ClassOf.{base_class, step_class, path_class, class_of}
-use Rattle.asl_lock_expr.specs.Links.{View, view, IsOne, on, class_lock, settled, settle, is_register, is_star, is_class, begins_with_star, hits, replaced, before, link, accesses, renamed, renamed_on, dereferenced, IsSettled}
+use Rattle.asl_lock_expr.specs.Links.{LinkContext, view, IsOne, on, class_lock, settled, settle, is_register, is_star, is_class, begins_with_star, hits, replaced, before, link, accesses, renamed, renamed_on, dereferenced, IsSettled}
 use Rattle.asl_lock_expr.proofs.Ones.{one_either}
 use Rattle.asl_lock_expr.proofs.Leaves.{settled_well, linked_well, prefix_is, no_root, no_class_lock, front_class}
 use Rattle.asl_backward_flow.specs.Needed.{Needed, Accessed, Linked, Entered, Before}
@@ -34,7 +34,7 @@ use Rattle.asl_backward_flow.specs.Based.{HasBase, IsLockOf}
 use Rattle.asl_backward_flow.proofs.Leasts.{needed_inside}
 use Rattle.asl_backward_flow.proofs.Sets.{some_same, at_front}
 
-accessed_well : (v : View) (i : Instr) (n : Lock) → IsOne (accesses v i) n → IsSettled v n
+accessed_well : (v : LinkContext) (i : Instr) (n : Lock) → IsOne (accesses v i) n → IsSettled v n
 accessed_well v (instr.Load a b) n o = settled_well v (on (Reg b) [] Read) n o
 accessed_well v (instr.Store a b) n o = settled_well v (on (Reg a) [] Write) n o
 accessed_well v i n o = absurd o
@@ -52,7 +52,7 @@ one_function l (Inside n) f g pc q a b = between_one a b
         function_at (Some s) = s.function
 
 -- and each of its points in that function's body
-in_body : (l : Lowered) → IsKept l → (r : Region) (f pc : ℕ) → IsIn l r f pc → InBody l f pc
+in_body : (l : Lowered) → IsLegalLowering l → (r : Region) (f pc : ℕ) → IsIn l r f pc → InBody l f pc
 in_body l kept (Body g) f pc isin = subst (λ h. InBody l h pc) (sym isin.0) isin.2
 in_body l kept (Inside n) f pc isin = between_body isin
   where
@@ -69,7 +69,7 @@ in_body l kept (Inside n) f pc isin = between_body isin
         let len = ap (λ (e : entry.Function). e.len) same in
         subst (λ h. InBody l h pc) here (record { function = section.first_inside.function; in_table = section.first_inside.in_table; start = omega (arith, start, behind); before_end = omega (arith, end, ahead, len) })
 
-module _ (l : Lowered) (c : Classed) (stores : ℕ → ℕ → Bool) (longest : ℕ) (kept : IsKept l) (classes : AreClasses l c) where
+module _ (l : Lowered) (c : Classed) (stores : ℕ → ℕ → Bool) (k_limit : ℕ) (kept : IsLegalLowering l) (classes : AreClasses l c) where
   -- a class that is there, if one is
   abbrev Bounded : Option ℕ → Type 0
   Bounded o = (x : ℕ) → o ≡ Some x → x < c.count
@@ -90,8 +90,8 @@ module _ (l : Lowered) (c : Classed) (stores : ℕ → ℕ → Bool) (longest : 
   class_bounded : (f : ℕ) (e : Expr) → Bounded (class_of c f e)
   class_bounded f e = path_bounded e.path (base_class c f e.base) (base_bounded f e.base)
 
-  abbrev seen : ℕ → View
-  seen f = view c stores longest f
+  abbrev seen : ℕ → LinkContext
+  seen f = view c stores k_limit f
 
   -- a class that is there, or an expression whose base is
   abbrev Rough : ℕ → Lock → Type 0
@@ -122,7 +122,7 @@ module _ (l : Lowered) (c : Classed) (stores : ℕ → ℕ → Bool) (longest : 
 
   settled_rough : (f : ℕ) (e : Expr) (effect : Effect) (o : Option ℕ) → Bounded o → HasBase l f e.base → AllRough f (settled (seen f) e effect o)
   settled_rough f e effect None below base = none_rough f
-  settled_rough f e effect (Some x) below base = one_rough f _ (by (nat_le (length e.path) longest))
+  settled_rough f e effect (Some x) below base = one_rough f _ (by (nat_le (length e.path) k_limit))
     where
       by : (b : Bool) → Rough f (cond b (lock.Expr e effect) (lock.Class x effect))
       by true = base
@@ -194,18 +194,18 @@ module _ (l : Lowered) (c : Classed) (stores : ℕ → ℕ → Bool) (longest : 
     renamed_rough g first params within (lock.Class x effect) rough = one_rough f (lock.Class x effect) rough
     renamed_rough g first params within (lock.Expr e effect) rough = renamed_on_rough g first params within e.base e.path effect rough
 
-  rough_of : (f : ℕ) (m : Lock) → IsLockOf l c longest f m → Rough f m
+  rough_of : (f : ℕ) (m : Lock) → IsLockOf l c k_limit f m → Rough f m
   rough_of f (lock.Root effect) is = is
   rough_of f (lock.Class x effect) is = is
   rough_of f (lock.Expr e effect) is = is.0
 
   -- what is settled besides
-  lock_of : (f : ℕ) (m : Lock) → Rough f m → IsSettled (seen f) m → IsLockOf l c longest f m
+  lock_of : (f : ℕ) (m : Lock) → Rough f m → IsSettled (seen f) m → IsLockOf l c k_limit f m
   lock_of f (lock.Root effect) rough well = rough
   lock_of f (lock.Class x effect) rough well = rough
-  lock_of f (lock.Expr e effect) rough well = (rough, leb-true (length e.path) longest well.0, (well.1.0, well.1.1, class_bounded f e well.1.0 well.1.1))
+  lock_of f (lock.Expr e effect) rough well = (rough, leb-true (length e.path) k_limit well.0, (well.1.0, well.1.1, class_bounded f e well.1.0 well.1.1))
 
-  prefix_of : (f : ℕ) (m n : Lock) → IsLockOf l c longest f m → IsOne (dereferenced m) n → IsLockOf l c longest f n
+  prefix_of : (f : ℕ) (m n : Lock) → IsLockOf l c k_limit f m → IsOne (dereferenced m) n → IsLockOf l c k_limit f n
   prefix_of f (lock.Root effect) n is o = absurd o
   prefix_of f (lock.Class x effect) n is o = absurd o
   prefix_of f (lock.Expr e effect) (lock.Root other) is o = absurd (no_root e.base [] e.path other o)
@@ -214,8 +214,8 @@ module _ (l : Lowered) (c : Classed) (stores : ℕ → ℕ → Bool) (longest : 
       let p = prefix_is e.base [] e.path k other o in
       let front : Expr = record { base = e.base; path = p.0 } in
       let class = front_class c p.0 (Deref ∷ p.1) (base_class c f e.base) is.2.0 (ap (λ ops. path_class c ops (base_class c f e.base)) (sym p.4) ∙ is.2.1) in
-      let short : length p.0 ≤ longest = (let s = ap length p.4 ∙ length-append p.0 (Deref ∷ p.1) in let within = is.1 in omega (arith, s, within)) in
-      subst (λ (y : Expr). IsLockOf l c longest f (lock.Expr y other)) (sym p.3) (is.0, short, (class.0, class.1, class_bounded f front class.0 class.1))
+      let short : length p.0 ≤ k_limit = (let s = ap length p.4 ∙ length-append p.0 (Deref ∷ p.1) in let within = is.1 in omega (arith, s, within)) in
+      subst (λ (y : Expr). IsLockOf l c k_limit f (lock.Expr y other)) (sym p.3) (is.0, short, (class.0, class.1, class_bounded f front class.0 class.1))
 
   abbrev Operands : ℕ → Instr → Type 0
   Operands f i = (fn : entry.Function) × (slice_get l.functions f ≡ Some fn) × HasOperands l fn.regs i
@@ -232,17 +232,17 @@ module _ (l : Lowered) (c : Classed) (stores : ℕ → ℕ → Bool) (longest : 
       let within : first + callee.params ≤ ops.0.regs = subst (λ (e : entry.Function). first + e.params ≤ ops.0.regs) same has.arguments in
       renamed_rough f ops.0 ops.1 g first callee.params within m rough
 
-  pub needed_of : (r : Region) (pc : ℕ) (n : Lock) → Needed l c stores longest r pc n → (f q : ℕ) → IsIn l r f q → IsLockOf l c longest f n
+  pub needed_of : (r : Region) (pc : ℕ) (n : Lock) → Needed l c stores k_limit r pc n → (f q : ℕ) → IsIn l r f q → IsLockOf l c k_limit f n
   needed_of _ _ _ (Accessed r f pc i n isin at o) g q in_g =
       let ops = operands_at r f pc i isin at in
-      subst (λ h. IsLockOf l c longest h n) (one_function l r f g pc q isin in_g) (lock_of f n (accesses_rough f ops.0 ops.1 i ops.2 n o) (accessed_well (seen f) i n o))
+      subst (λ h. IsLockOf l c k_limit h n) (one_function l r f g pc q isin in_g) (lock_of f n (accesses_rough f ops.0 ops.1 i ops.2 n o) (accessed_well (seen f) i n o))
   needed_of _ _ _ (Linked r f pc next i m n isin at goes k o) g q in_g =
       let ops = operands_at r f pc i isin at in
       let was = rough_of f m (needed_of r next m k f pc isin) in
-      subst (λ h. IsLockOf l c longest h n) (one_function l r f g pc q isin in_g) (lock_of f n (link_rough f ops.0 ops.1 i m ops.2 was n o) (linked_well (seen f) i m n o))
+      subst (λ h. IsLockOf l c k_limit h n) (one_function l r f g pc q isin in_g) (lock_of f n (link_rough f ops.0 ops.1 i m ops.2 was n o) (linked_well (seen f) i m n o))
   needed_of _ _ _ (Entered r f pc to first h callee m p n isin at there k o s) g q in_g =
-      let inside = needed_inside l c stores longest (Body h) _ m k in
-      let was = rough_of h m (subst (λ x. IsLockOf l c longest x m) inside.1.0 (needed_of (Body h) _ m k inside.0 _ inside.1)) in
+      let inside = needed_inside l c stores k_limit (Body h) _ m k in
+      let was = rough_of h m (subst (λ x. IsLockOf l c k_limit x m) inside.1.0 (needed_of (Body h) _ m k inside.0 _ inside.1)) in
       let passed = entered_rough f h to first callee (operands_at r f pc (instr.Call to first h) isin at) there m was p o in
-      subst (λ x. IsLockOf l c longest x n) (one_function l r f g pc q isin in_g) (lock_of f n (settle_rough f p passed n s) (settled_well (seen f) p n s))
+      subst (λ x. IsLockOf l c k_limit x n) (one_function l r f g pc q isin in_g) (lock_of f n (settle_rough f p passed n s) (settled_well (seen f) p n s))
   needed_of _ _ _ (Before r pc m n k o) g q in_g = prefix_of g m n (needed_of r pc m k g q in_g) o

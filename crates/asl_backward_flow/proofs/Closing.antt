@@ -7,7 +7,7 @@ use Rattle.std.specs.List.Sorted.{IsPermutation}
 use Rattle.std.proofs.lemmas.List.Sorted.{IsPermutation-sym, Contains-permutation, length_permutation}
 use Rattle.asl_lane_sets.specs.NumberSet.{IsIn}
 use Rattle.asl_code.specs.declared.lock.Lock.{Lock}
-use Rattle.asl_backward_flow.specs.declared.part.Part.{Part}
+use Rattle.asl_backward_flow.specs.declared.region_needs.RegionNeeds.{RegionNeeds}
 use Rattle.asl_backward_flow.specs.declared.found.AddFault.{AddFault}
 use Rattle.asl_backward_flow.specs.Found.{Table, table_of, list_at, Has, HasFact, IsAt, IsNamed, IsPut, locks_of, left}
 use Rattle.asl_backward_flow.specs.Follows.{Read, IsRead, IsAtPoint, IsBack, IsEntryOf, IsChosen, Follows, NeededAt, HasAll, Added, Stopped, IsFollowed, Overflows}
@@ -123,7 +123,7 @@ pub fact_point : (r : Read) → IsRead r → (t : Table) (waiting : List (ℕ ×
 fact_point r read t waiting so p q n here =
     let name = so.ready.whole.named p q n here in
     let need = so.sound p q name.0 (n, here, name.1) in
-    let inside = needed_inside r.lowered r.classes r.stores r.longest _ q name.0 need.2 in
+    let inside = needed_inside r.lowered r.classes r.stores r.k_limit _ q name.0 need.2 in
     let at = (read.spans.each p need.0 need.1).points inside.0 q inside.1 in
     (need.0, need.1, at.1, at.2)
 
@@ -156,7 +156,7 @@ put_push old new item b is p = record {
 }
 
 -- a point is taken off the list
-module _ (r : Read) (parts : List Part) (list rest : List (ℕ × ℕ)) (f : ℕ × ℕ) (is : IsPermutation list (f ∷ rest)) where
+module _ (r : Read) (parts : List RegionNeeds) (list rest : List (ℕ × ℕ)) (f : ℕ × ℕ) (is : IsPermutation list (f ∷ rest)) where
   back : (g : ℕ × ℕ) → IsAt (f ∷ rest) g → IsAt list g
   back g h = at_permuted (f ∷ rest) list g (IsPermutation-sym list (f ∷ rest) is) h
 
@@ -203,18 +203,18 @@ part_there (l ∷ ls) zero n m e = omega arith
 part_there (l ∷ ls) (suc p) n m e = let lt = part_there ls p n m e in omega (arith, lt)
 
 -- the lock that is read by the numbers of a fact
-pub lock_read : (parts : List Part) (list : List (ℕ × ℕ)) (p q : ℕ) (v : Part) (ks : List Lock) (n k : ℕ) (d m result : Lock)
+pub lock_read : (parts : List RegionNeeds) (list : List (ℕ × ℕ)) (p q : ℕ) (v : RegionNeeds) (ks : List Lock) (n k : ℕ) (d m result : Lock)
     → q ≡ p → p < length parts → v ≡ get_or parts q v → ks ≡ v.locks.keys → k ≡ n → result ≡ get_or ks k d → slice_get (locks_of (table_of parts list) p) n ≡ Some m → slice_get (locks_of (table_of parts list) p) n ≡ Some result
 lock_read parts list p q v ks n k d m result same there is made one read at =
     let here : locks_of (table_of parts list) p ≡ ks = locks_before parts p q v list same there is ∙ sym made in
     let mine : get_or ks n d ≡ m = get_or_from_slice_get ks n m d (ap (λ l. slice_get l n) (sym here) ∙ at) in
     at ∙ ap Some (sym mine ∙ ap (λ x. get_or ks x d) (sym one) ∙ sym read)
 
-pub name_within : (parts : List Part) (list : List (ℕ × ℕ)) (p q : ℕ) (v : Part) (ks : List Lock) (n k : ℕ) (m : Lock)
+pub name_within : (parts : List RegionNeeds) (list : List (ℕ × ℕ)) (p q : ℕ) (v : RegionNeeds) (ks : List Lock) (n k : ℕ) (m : Lock)
     → q ≡ p → p < length parts → v ≡ get_or parts q v → ks ≡ v.locks.keys → k ≡ n → slice_get (locks_of (table_of parts list) p) n ≡ Some m → k < length ks
 name_within parts list p q v ks n k m same there is made one at =
     let here : locks_of (table_of parts list) p ≡ ks = locks_before parts p q v list same there is ∙ sym made in
     let lt = slice_get_within ks n m (ap (λ l. slice_get l n) (sym here) ∙ at) in omega (arith, lt, one)
 
-pub parts_there : (parts : List Part) (list : List (ℕ × ℕ)) (p n : ℕ) (m : Lock) → slice_get (locks_of (table_of parts list) p) n ≡ Some m → p < length parts
-parts_there parts list p n m at = let lt = part_there (table_of parts list).locks p n m at in omega (arith, lt, length-map parts (λ (z : Part). z.locks.keys))
+pub parts_there : (parts : List RegionNeeds) (list : List (ℕ × ℕ)) (p n : ℕ) (m : Lock) → slice_get (locks_of (table_of parts list) p) n ≡ Some m → p < length parts
+parts_there parts list p n m at = let lt = part_there (table_of parts list).locks p n m at in omega (arith, lt, length-map parts (λ (z : RegionNeeds). z.locks.keys))

@@ -4,7 +4,7 @@ use Rattle.asl_code.specs.declared.image.Function as entry
 use Rattle.asl_code.specs.declared.instr.Instr.{Instr}
 use Rattle.asl_code.specs.declared.instr.Instr.TheVariants as instr
 use Rattle.asl_code.specs.declared.lock.Lock.{Lock}
-use Rattle.asl_lower.specs.Region.{GoesOn, start_of}
+use Rattle.asl_lower.specs.Region.{FlowsTo, start_of}
 use Rattle.asl_lower.specs.Regions.{Region, Body, Inside, IsIn}
 use Rattle.asl_lock_expr.specs.Links.{IsOne, link, accesses, settle, renamed, dereferenced}
 use Rattle.asl_backward_flow.specs.declared.region.Region as code
@@ -30,7 +30,7 @@ body_named (variant.Section n) g e = absurd cc
 
 module _ (r : Read) (read : IsRead r) (t : Table) (so : IsFollowed r t []) where
   abbrev Is : Region → ℕ → Lock → Type 0
-  Is region q m = Needed r.lowered r.classes r.stores r.longest region q m
+  Is region q m = Needed r.lowered r.classes r.stores r.k_limit region q m
 
   -- the lock is needed, and each span of the region has the fact
   abbrev FoundToo : Family
@@ -51,7 +51,7 @@ module _ (r : Read) (read : IsRead r) (t : Table) (so : IsFollowed r t []) where
       let here = point region f pc p s isin there e in
       so.seeds p pc n (here.1, inl (record { span = s; there = there; instruction = i; stands = at; one = subst (λ g. IsOne (accesses (seen r g) i) n) here.0 o }))
 
-  found_linked : (region : Region) (f pc next : ℕ) (i : Instr) (m n : Lock) → IsIn r.lowered region f pc → slice_get r.lowered.code pc ≡ Some i → GoesOn i pc next
+  found_linked : (region : Region) (f pc next : ℕ) (i : Instr) (m n : Lock) → IsIn r.lowered region f pc → slice_get r.lowered.code pc ≡ Some i → FlowsTo i pc next
       → FoundToo region next m → IsOne (link (seen r f) i m) n → (p : ℕ) (s : Span) → slice_get r.spans p ≡ Some s → region_of s.region ≡ region → HasFact t p pc n
   found_linked region f pc next i m n isin at goes k o p s there e =
       let here = point region f pc p s isin there e in
@@ -64,7 +64,7 @@ module _ (r : Read) (read : IsRead r) (t : Table) (so : IsFollowed r t []) where
       → (p : ℕ) (s : Span) → slice_get r.spans p ≡ Some s → region_of s.region ≡ region → HasFact t p pc n
   found_entered region f pc to first g callee m passed n isin at in_table k renames o p s there e =
       let here = point region f pc p s isin there e in
-      let inside = needed_inside r.lowered r.classes r.stores r.longest (Body g) (start_of r.lowered.functions g) m k.0 in
+      let inside = needed_inside r.lowered r.classes r.stores r.k_limit (Body g) (start_of r.lowered.functions g) m k.0 in
       let body = read.spans.all (Body g) inside.0 (start_of r.lowered.functions g) inside.1 in
       let named : body.1.region ≡ variant.Body g = body_named body.1.region g body.3 in
       follow body.0 (start_of r.lowered.functions g) m p pc n (k.1 body.0 body.1 body.2 body.3)
@@ -103,7 +103,7 @@ module _ (r : Read) (read : IsRead r) (t : Table) (so : IsFollowed r t []) where
   found_before : (region : Region) (pc : ℕ) (m n : Lock) → FoundToo region pc m → IsOne (dereferenced m) n → (p : ℕ) (s : Span) → slice_get r.spans p ≡ Some s → region_of s.region ≡ region → HasFact t p pc n
   found_before region pc m n k o p s there e = so.fronts p pc m n (k.1 p s there e) o
 
-  found_closed : IsClosed r.lowered r.classes r.stores r.longest FoundToo
+  found_closed : IsClosed r.lowered r.classes r.stores r.k_limit FoundToo
   found_closed = record {
     accessed = λ region f pc i n isin at o. (Accessed region f pc i n isin at o, found_accessed region f pc i n isin at o);
     linked = λ region f pc next i m n isin at goes k o. (Linked region f pc next i m n isin at goes k.0 o, found_linked region f pc next i m n isin at goes k o);
@@ -115,7 +115,7 @@ module _ (r : Read) (read : IsRead r) (t : Table) (so : IsFollowed r t []) where
   all_found = record {
     ready = so.ready;
     sound = so.sound;
-    full = λ p q m n. (needed_least r.lowered r.classes r.stores r.longest FoundToo found_closed (region_of n.0.region) q m n.2).1 p n.0 n.1 refl;
+    full = λ p q m n. (needed_least r.lowered r.classes r.stores r.k_limit FoundToo found_closed (region_of n.0.region) q m n.2).1 p n.0 n.1 refl;
   }
 
 no_name : (t : Table) (spans : List Span) → IsBlank t spans → (p : ℕ) (m : Lock) → IsName t p m → ⊥

@@ -5,7 +5,7 @@ use Rattle.std.proofs.lemmas.Option.{slice_get_within, slice_get-get_or, get_or_
 use Rattle.asl_code.specs.declared.instr.Instr.{Instr}
 use Rattle.asl_code.specs.declared.lock.Lock.{Lock}
 use Rattle.asl_lane_sets.specs.NumberSet.{IsIn}
-use Rattle.asl_lock_expr.specs.Links.{View, IsOne, link, dereferenced}
+use Rattle.asl_lock_expr.specs.Links.{LinkContext, IsOne, link, dereferenced}
 use Rattle.asl_lock_expr.specs.Touches.{Stays}
 use Rattle.asl_backward_flow.specs.declared.found.AddFault.{AddFault}
 use Rattle.asl_backward_flow.specs.declared.found.AddFault.TheVariants.{OutOfMemory}
@@ -208,7 +208,7 @@ masks_later r b c all these so (Ok u) x = masks_grow r b c all x.adds.grows so
 masks_later r b c all these so (Err e) x = tt
 
 -- what stays over an instruction that was read from the code
-pub stays_ok : {E : Type 0} (r : Read) (t : Table) (part pc : ℕ) (s : Span) (i : Instr) → slice_get r.spans part ≡ Some s → slice_get r.lowered.code pc ≡ Some i → (given : List Lock) → locks_of t part ≡ given → (v : View) → v ≡ seen r s.function
+pub stays_ok : {E : Type 0} (r : Read) (t : Table) (part pc : ℕ) (s : Span) (i : Instr) → slice_get r.spans part ≡ Some s → slice_get r.lowered.code pc ≡ Some i → (given : List Lock) → locks_of t part ≡ given → (v : LinkContext) → v ≡ seen r s.function
     → (stay : List Bool) (result : Result Unit E) → OnOk result ((n : ℕ) (m : Lock) → IsIn stay n → slice_get given n ≡ Some m → Stays v i m) → OnOk result ((m : Lock) → IsNamed (locks_of t part) stay m → StaysAt r part pc m)
 stays_ok r t part pc s i there stands given given_is v view_is stay (Ok u) told =
     λ m h. record { span = s; there = there; instruction = i; stands = stands; stays = subst (λ w. Stays w i m) view_is (told h.0 m h.1 (ap (λ (l : List Lock). slice_get l h.0) (sym given_is) ∙ h.2)) }

@@ -8,8 +8,8 @@ use Rattle.asl_lock_expr.specs.Links.{IsOne}
 use Rattle.asl_lock_expr.specs.Order.{AreInOrder}
 use Rattle.asl_backward_flow.specs.declared.region.Region as code
 use Rattle.asl_backward_flow.specs.declared.region.Region.TheVariants as variant
-use Rattle.asl_backward_flow.specs.declared.part.Part as code_part
-use Rattle.asl_backward_flow.specs.Needed.{Part, IsOfPart, IsTold, region_of}
+use Rattle.asl_backward_flow.specs.declared.region_needs.RegionNeeds as code_part
+use Rattle.asl_backward_flow.specs.Needed.{RegionNeeds, IsInNeeds, IsTold, region_of}
 use Rattle.asl_backward_flow.specs.Found.{IsAt, IsNamed, list_at}
 use Rattle.asl_backward_flow.specs.Parts.{part, needs_from, IsNumbered, IsToldAt, ListsBelow, AreAtTheirNumbers}
 use Rattle.asl_lane_sets.specs.NumberSet.{IsIn, members_from, members_of}
@@ -144,17 +144,17 @@ at_needs (set ∷ sets) first zero n q is h =
 at_needs (set ∷ sets) first (suc k) n q is h = at_right (map (λ j. (first, j)) (members_of set)) (needs_from (first + 1) sets) (q, n) (at_needs sets (first + 1) k n q (omega (arith, is)) h)
 
 -- what a region needs at a pc is what the set of the pc says
-pub of_part : (d : code_part.Part) (q : ℕ) (m : Lock) → IsOfPart (part d) q m → (k : ℕ) × (q ≡ d.first + k) × IsNamed d.locks.keys (list_at d.needs.items k) m
+pub of_part : (d : code_part.RegionNeeds) (q : ℕ) (m : Lock) → IsInNeeds (part d) q m → (k : ℕ) × (q ≡ d.first + k) × IsNamed d.locks.keys (list_at d.needs.items k) m
 of_part d q m h = let at = needs_at d.needs.items d.first q h.0 h.1 h.2 in (at.0, at.1, (h.0, at.2, h.3))
 
-pub part_of : (d : code_part.Part) (k : ℕ) (m : Lock) → IsNamed d.locks.keys (list_at d.needs.items k) m → IsOfPart (part d) (d.first + k) m
+pub part_of : (d : code_part.RegionNeeds) (k : ℕ) (m : Lock) → IsNamed d.locks.keys (list_at d.needs.items k) m → IsInNeeds (part d) (d.first + k) m
 part_of d k m h = let at = at_needs d.needs.items d.first k h.0 (d.first + k) refl h.1 in (h.0, at.0, at.1, h.2)
 
 -- the set of a pc, which may be empty
-pub part_locks : (d : code_part.Part) (q k : ℕ) (set : List Bool) (now new : List Lock) → q ≡ d.first + k → list_at d.needs.items k ≡ set → ((m : Lock) → IsOne new m ↔ (IsOne now m ⊎ IsNamed d.locks.keys set m))
-    → (m : Lock) → IsOne new m ↔ (IsOne now m ⊎ IsOfPart (part d) q m)
+pub part_locks : (d : code_part.RegionNeeds) (q k : ℕ) (set : List Bool) (now new : List Lock) → q ≡ d.first + k → list_at d.needs.items k ≡ set → ((m : Lock) → IsOne new m ↔ (IsOne now m ⊎ IsNamed d.locks.keys set m))
+    → (m : Lock) → IsOne new m ↔ (IsOne now m ⊎ IsInNeeds (part d) q m)
 part_locks d q k set now new at is step m = (
-  λ h. ⊎_elim (λ o. inl o) (λ e. inr (subst (λ x. IsOfPart (part d) x m) (sym at) (part_of d k m (subst (λ s. IsNamed d.locks.keys s m) (sym is) e)))) ((step m).0 h),
+  λ h. ⊎_elim (λ o. inl o) (λ e. inr (subst (λ x. IsInNeeds (part d) x m) (sym at) (part_of d k m (subst (λ s. IsNamed d.locks.keys s m) (sym is) e)))) ((step m).0 h),
   λ h.
       ⊎_elim
       (λ o. (step m).1 (inl o))
@@ -166,13 +166,13 @@ part_locks d q k set now new at is step m = (
       h,
 )
 
-pub part_locks_ok : {E : Type 0} (d : code_part.Part) (q k : ℕ) (set : List Bool) (now new : List Lock) → q ≡ d.first + k → list_at d.needs.items k ≡ set → (result : Result Unit E)
-    → OnOk result ((m : Lock) → IsOne new m ↔ (IsOne now m ⊎ IsNamed d.locks.keys set m)) → OnOk result ((m : Lock) → IsOne new m ↔ (IsOne now m ⊎ IsOfPart (part d) q m))
+pub part_locks_ok : {E : Type 0} (d : code_part.RegionNeeds) (q k : ℕ) (set : List Bool) (now new : List Lock) → q ≡ d.first + k → list_at d.needs.items k ≡ set → (result : Result Unit E)
+    → OnOk result ((m : Lock) → IsOne new m ↔ (IsOne now m ⊎ IsNamed d.locks.keys set m)) → OnOk result ((m : Lock) → IsOne new m ↔ (IsOne now m ⊎ IsInNeeds (part d) q m))
 part_locks_ok d q k set now new at is (Ok u) step = part_locks d q k set now new at is step
 part_locks_ok d q k set now new at is (Err e) step = tt
 
 -- whether the set of a pc, which may be empty, has a number
-module _ (d : code_part.Part) (q n : ℕ) where
+module _ (d : code_part.RegionNeeds) (q n : ℕ) where
   pub need_in : (b : Bool) (k : ℕ) (set : List Bool) → q ≡ d.first + k → list_at d.needs.items k ≡ set → (IsTrue b ↔ IsIn set n) → IsTrue b ↔ IsAt (needs_from d.first d.needs.items) (q, n)
   need_in b k set at is tells = (
     λ h. at_needs d.needs.items d.first k n q at (subst (λ s. IsIn s n) (sym is) (tells.0 h)),
@@ -193,7 +193,7 @@ module _ (d : code_part.Part) (q n : ℕ) where
       differ e = cc
 
 -- no set is at the pc
-pub part_none : (d : code_part.Part) (q : ℕ) (now : List Lock) → ((k : ℕ) → q ≡ d.first + k → list_at d.needs.items k ≡ []) → (m : Lock) → IsOne now m ↔ (IsOne now m ⊎ IsOfPart (part d) q m)
+pub part_none : (d : code_part.RegionNeeds) (q : ℕ) (now : List Lock) → ((k : ℕ) → q ≡ d.first + k → list_at d.needs.items k ≡ []) → (m : Lock) → IsOne now m ↔ (IsOne now m ⊎ IsInNeeds (part d) q m)
 part_none d q now none m = (
   λ h. inl h,
   λ h.
@@ -207,17 +207,17 @@ part_none d q now none m = (
     nothing i e = cc
 
 -- a part of the region
-pub part_here : (parts : List Part) (r : Region) (pc i : ℕ) (p : Part) → slice_get parts i ≡ Some p → p.region ≡ r → (now new : List Lock) → ((m : Lock) → IsOne new m ↔ (IsOne now m ⊎ IsOfPart p pc m))
+pub part_here : (parts : List RegionNeeds) (r : Region) (pc i : ℕ) (p : RegionNeeds) → slice_get parts i ≡ Some p → p.region ≡ r → (now new : List Lock) → ((m : Lock) → IsOne new m ↔ (IsOne now m ⊎ IsInNeeds p pc m))
     → (m : Lock) → IsOne new m ↔ (IsOne now m ⊎ IsToldAt parts r pc i m)
 part_here parts r pc i p at same now new step m = (
   λ h. ⊎_elim (λ o. inl o) (λ e. inr (p, at, same, e)) ((step m).0 h),
-  λ h. ⊎_elim (λ o. (step m).1 (inl o)) (λ (k : IsToldAt parts r pc i m). (step m).1 (inr (subst (λ (q : Part). IsOfPart q pc m) (some_same (sym k.1 ∙ at)) k.3))) h,
+  λ h. ⊎_elim (λ o. (step m).1 (inl o)) (λ (k : IsToldAt parts r pc i m). (step m).1 (inr (subst (λ (q : RegionNeeds). IsInNeeds q pc m) (some_same (sym k.1 ∙ at)) k.3))) h,
 )
 
-pub part_elsewhere : (parts : List Part) (r : Region) (pc i : ℕ) (p : Part) → slice_get parts i ≡ Some p → ¬ (p.region ≡ r) → (m : Lock) → IsToldAt parts r pc i m → ⊥
-part_elsewhere parts r pc i p at not m k = not (ap (λ (q : Part). q.region) (some_same (sym at ∙ k.1)) ∙ k.2)
+pub part_elsewhere : (parts : List RegionNeeds) (r : Region) (pc i : ℕ) (p : RegionNeeds) → slice_get parts i ≡ Some p → ¬ (p.region ≡ r) → (m : Lock) → IsToldAt parts r pc i m → ⊥
+part_elsewhere parts r pc i p at not m k = not (ap (λ (q : RegionNeeds). q.region) (some_same (sym at ∙ k.1)) ∙ k.2)
 
-pub parts_all : (parts : List Part) (r : Region) (pc end : ℕ) (locks : List Lock) → length parts ≤ end → ListsBelow (IsToldAt parts r pc) end [] locks → (m : Lock) → IsOne locks m ↔ IsTold parts r pc m
+pub parts_all : (parts : List RegionNeeds) (r : Region) (pc end : ℕ) (locks : List Lock) → length parts ≤ end → ListsBelow (IsToldAt parts r pc) end [] locks → (m : Lock) → IsOne locks m ↔ IsTold parts r pc m
 parts_all parts r pc end locks le so m = (
   λ h. ⊎_elim (λ o. absurd o) (λ k. (k.0, k.2.0, k.2.1, k.2.2, k.2.3)) ((so m).0 h),
   λ (k : IsTold parts r pc m).
@@ -226,7 +226,7 @@ parts_all parts r pc end locks le so m = (
 )
 
 -- where the part of a section stands at the section's number, that part alone says all that is said of the section
-pub placed_told : (xs : List code_part.Part) (r : Region) (n pc : ℕ) (m : Lock) → r ≡ Inside n → AreAtTheirNumbers (map part xs)
+pub placed_told : (xs : List code_part.RegionNeeds) (r : Region) (n pc : ℕ) (m : Lock) → r ≡ Inside n → AreAtTheirNumbers (map part xs)
     → IsTold (map part (take 1 (drop n xs))) r pc m ↔ IsTold (map part xs) r pc m
 placed_told xs r n pc m is placed = (
   λ (h : IsTold (map part (take 1 (drop n xs))) r pc m). (n, h.1, one_at n xs h.0 h.1 h.2, h.3, h.4),
@@ -235,14 +235,14 @@ placed_told xs r n pc m is placed = (
       (0, h.1, at_one n xs h.1 (ap (slice_get (map part xs)) (sym same) ∙ h.2), h.3, h.4),
 )
   where
-    one_at : (n : ℕ) (xs : List code_part.Part) (k : ℕ) (p : Part) → slice_get (map part (take 1 (drop n xs))) k ≡ Some p → slice_get (map part xs) n ≡ Some p
+    one_at : (n : ℕ) (xs : List code_part.RegionNeeds) (k : ℕ) (p : RegionNeeds) → slice_get (map part (take 1 (drop n xs))) k ≡ Some p → slice_get (map part xs) n ≡ Some p
     one_at zero [] k p e = absurd cc
     one_at zero (y ∷ ys) zero p e = e
     one_at zero (y ∷ ys) (suc k) p e = absurd cc
     one_at (suc n) [] k p e = absurd cc
     one_at (suc n) (y ∷ ys) k p e = one_at n ys k p e
 
-    at_one : (n : ℕ) (xs : List code_part.Part) (p : Part) → slice_get (map part xs) n ≡ Some p → slice_get (map part (take 1 (drop n xs))) 0 ≡ Some p
+    at_one : (n : ℕ) (xs : List code_part.RegionNeeds) (p : RegionNeeds) → slice_get (map part xs) n ≡ Some p → slice_get (map part (take 1 (drop n xs))) 0 ≡ Some p
     at_one zero [] p e = absurd cc
     at_one zero (y ∷ ys) p e = e
     at_one (suc n) [] p e = absurd cc

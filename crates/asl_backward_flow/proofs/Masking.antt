@@ -7,7 +7,7 @@ use Rattle.asl_code.specs.declared.lock.Lock.TheVariants as lock
 use Rattle.asl_lane_sets.specs.NumberSet.{IsIn}
 use Rattle.asl_lock_expr.specs.declared.touch.Touch.{Touch}
 use Rattle.asl_lock_expr.specs.declared.touch.Touch.TheVariants as touch
-use Rattle.asl_lock_expr.specs.Links.{View}
+use Rattle.asl_lock_expr.specs.Links.{LinkContext}
 use Rattle.asl_lock_expr.specs.Touches.{IsClear}
 use Rattle.asl_backward_flow.specs.declared.masks.Mask.{Mask}
 use Rattle.asl_backward_flow.specs.declared.span.Span.{Span}
@@ -25,7 +25,7 @@ at_set (z ∷ xs) zero y (suc k) x e = inl e
 at_set (z ∷ xs) (suc p) y zero x e = inl e
 at_set (z ∷ xs) (suc p) y (suc k) x e = ⊎_elim (λ o. inl o) (λ o. inr (ap suc o.0, o.1)) (at_set xs p y k x e)
 
-module _ (v : View) (locks : List Lock) where
+module _ (v : LinkContext) (locks : List Lock) where
   pub masks_push : (masks : List Mask) (x : Mask) → x.below ≡ 0 → AreMasks v locks masks → AreMasks v locks (masks ++ x ∷ [])
   masks_push masks x none so k y e =
       ⊎_elim (λ o. so k y o) (λ is. subst (IsMask v locks) (sym is) (λ n lt. absurd (omega (arith, none, lt)))) (at_push masks x k y e)
@@ -53,7 +53,7 @@ module _ (v : View) (locks : List Lock) where
       (below_or_at n x.below lt)
 
 -- a lock that something does not concern, nothing does not concern either
-pub clear_of_nothing : (v : View) (t : Touch) (m : Lock) → IsClear v t m → IsClear v touch.Nothing m
+pub clear_of_nothing : (v : LinkContext) (t : Touch) (m : Lock) → IsClear v t m → IsClear v touch.Nothing m
 clear_of_nothing v t (lock.Root effect) h = tt
 clear_of_nothing v t (lock.Class class effect) h = tt
 clear_of_nothing v t (lock.Expr e effect) h = (h.0, refl)
@@ -101,7 +101,7 @@ on_more (Ok v) P Q f p = f p
 on_more (Err e) P Q f p = tt
 
 -- the masks of a region, read by what a view and a list of locks say of it
-module _ (r : Read) (t : Table) (part : ℕ) (s : Span) (there : slice_get r.spans part ≡ Some s) (locks : List Lock) (locks_are : locks_of t part ≡ locks) (v : View) (view_is : v ≡ seen r s.function) where
+module _ (r : Read) (t : Table) (part : ℕ) (s : Span) (there : slice_get r.spans part ≡ Some s) (locks : List Lock) (locks_are : locks_of t part ≡ locks) (v : LinkContext) (view_is : v ≡ seen r s.function) where
   pub masks_of : (all : List (List Mask)) (masks : List Mask) → slice_get all part ≡ Some masks → AreAllMasks r t all → AreMasks v locks masks
   masks_of all masks at so = subst (λ w. AreMasks w locks masks) (sym view_is) (subst (λ l. AreMasks (seen r s.function) l masks) locks_are (so.each part s masks there at))
 

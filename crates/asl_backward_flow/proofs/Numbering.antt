@@ -3,11 +3,11 @@ use Rattle.std.proofs.Common.{◌≡◌, ℕ, ◌+◌, ◌<◌, Bool, List, Some
 use Rattle.std.proofs.lemmas.Option.{slice_get_within}
 use Rattle.asl_code.specs.declared.lock.Lock.{Lock}
 use Rattle.asl_lane_sets.specs.NumberSet.{IsIn}
-use Rattle.asl_backward_flow.specs.declared.part.Part.{Part}
+use Rattle.asl_backward_flow.specs.declared.region_needs.RegionNeeds.{RegionNeeds}
 use Rattle.asl_backward_flow.specs.Found.{Table, table_of, AreApart, HasFact, IsNamed, IsWhole, IsMarked, IsPut, Numbers, Adds, Lists, locks_of}
 use Rattle.asl_backward_flow.proofs.Tables.{locks_before, part_adds, mark_adds, mark_has, mark_whole, mark_lists}
 
-module _ (parts : List Part) (p q : ℕ) (x : Part) (list : List (ℕ × ℕ)) (same : q ≡ p) (there : p < length parts) (is : x ≡ get_or parts q x)
+module _ (parts : List RegionNeeds) (p q : ℕ) (x : RegionNeeds) (list : List (ℕ × ℕ)) (same : q ≡ p) (there : p < length parts) (is : x ≡ get_or parts q x)
     (whole : IsWhole (table_of parts list)) (set : List Bool) (named : (n : ℕ) → IsIn set n → (m : Lock) × (slice_get (locks_of (table_of parts list) p) n ≡ Some m)) where
   abbrev before : Table
   before = table_of parts list
@@ -32,7 +32,7 @@ module _ (parts : List Part) (p q : ℕ) (x : Part) (list : List (ℕ × ℕ)) (
       omega (arith, lt, few)
 
   module _ (needs : Vec (List Bool) Global) (more : List (ℕ × ℕ)) where
-    abbrev with : Part
+    abbrev with : RegionNeeds
     with = record { region = x.region; first = x.first; locks = x.locks; needs = needs }
 
     abbrev after : Table

@@ -7,10 +7,10 @@ use Rattle.asl_code.specs.declared.instr.Instr.{Instr}
 use Rattle.asl_code.specs.declared.instr.Instr.TheVariants as instr
 use Rattle.asl_code.specs.declared.lock.Lock.{Lock}
 use Rattle.asl_lower.specs.Lowered.{Lowered}
-use Rattle.asl_lower.specs.Kept.{IsKept}
+use Rattle.asl_lower.specs.LegalLowering.{IsLegalLowering}
 use Rattle.asl_lower.proofs.Layouts.{kept_layout}
 use Rattle.asl_lock_expr.proofs.Ones.{one_left, one_right, one_either}
-use Rattle.asl_lock_expr.specs.Links.{View, IsOne, link, settle, accesses, renamed}
+use Rattle.asl_lock_expr.specs.Links.{LinkContext, IsOne, link, settle, accesses, renamed}
 use Rattle.asl_backward_flow.specs.declared.span.Span.{Span}
 use Rattle.asl_backward_flow.specs.Follows.{Read, seen, IsAtPoint, IsAccessed, IsLinkedAlone, IsEntered}
 use Rattle.asl_backward_flow.specs.Found.{IsAt, list_at}
@@ -31,7 +31,7 @@ one_in locks more is m = (λ h. subst (λ l. IsOne l m) is h, λ h. subst (λ l.
 pub stands_at : {A : Type 0} (xs ys : List A) (n k : ℕ) (d : A) → ys ≡ xs → n ≡ k → k < length xs → slice_get xs k ≡ Some (get_or ys n d)
 stands_at xs ys n k d same is lt = slice_get-get_or xs k d lt ∙ ap Some (ap (λ j. get_or xs j d) (sym is) ∙ ap (λ zs. get_or zs n d) (sym same))
 
-module _ (r : Read) (part pc : ℕ) (s : Span) (i : Instr) (there : slice_get r.spans part ≡ Some s) (stands : slice_get r.lowered.code pc ≡ Some i) (v : View) (is : v ≡ seen r s.function) where
+module _ (r : Read) (part pc : ℕ) (s : Span) (i : Instr) (there : slice_get r.spans part ≡ Some s) (stands : slice_get r.lowered.code pc ≡ Some i) (v : LinkContext) (is : v ≡ seen r s.function) where
   pub accessed_list : (first locks : List Lock) → first ≡ [] → locks ≡ first ++ accesses v i → (m : Lock) → IsOne locks m ↔ IsAccessed r part pc m
   accessed_list first locks none made m = (
     λ h. record { span = s; there = there; instruction = i; stands = stands; one = subst (λ w. IsOne (accesses w i) m) is (subst (λ l. IsOne l m) all h) },
@@ -79,7 +79,7 @@ IsCallInstr i = ⊥
 
 module _ (r : Read) (part pc : ℕ) (s : Span) (there : slice_get r.spans part ≡ Some s) where
   pub entered_list : (to first g : ℕ) (callee : entry.Function) (lock : Lock) → slice_get r.lowered.code pc ≡ Some (instr.Call to first g) → slice_get r.lowered.functions g ≡ Some callee
-      → (v : View) → v ≡ seen r s.function → (none locks : List Lock) → none ≡ [] → locks ≡ none ++ flat_map (settle v) (renamed first callee.params lock)
+      → (v : LinkContext) → v ≡ seen r s.function → (none locks : List Lock) → none ≡ [] → locks ≡ none ++ flat_map (settle v) (renamed first callee.params lock)
       → (m : Lock) → IsOne locks m ↔ IsEntered r part pc lock m
   entered_list to first g callee lock stands in_table v is none locks empty made m = (
     λ h.
@@ -128,7 +128,7 @@ pub record IsCallThere (l : Lowered) (first g : ℕ) : Type 0 where
   pub in_table : slice_get l.functions g ≡ Some callee
   pub registers : first + callee.params ≤ 64
 
-pub call_there : (l : Lowered) → IsKept l → (pc to first g : ℕ) → slice_get l.code pc ≡ Some (instr.Call to first g) → IsCallThere l first g
+pub call_there : (l : Lowered) → IsLegalLowering l → (pc to first g : ℕ) → slice_get l.code pc ≡ Some (instr.Call to first g) → IsCallThere l first g
 call_there l kept pc to first g at =
     let layout = kept_layout l kept in
     let body = layout.parted.owned pc (slice_get_within l.code pc _ at) in

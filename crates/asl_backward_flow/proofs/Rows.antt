@@ -6,8 +6,8 @@ use Rattle.std.proofs.lemmas.Option.{get_or_from_slice_get, slice_get-get_or, sl
 use Rattle.asl_code.specs.declared.instr.Instr.{Instr}
 use Rattle.asl_code.specs.declared.instr.Instr.TheVariants as instr
 use Rattle.asl_lower.specs.Lowered.{Lowered}
-use Rattle.asl_lower.specs.Kept.{IsKept}
-use Rattle.asl_lower.specs.Region.{GoesOn}
+use Rattle.asl_lower.specs.LegalLowering.{IsLegalLowering}
+use Rattle.asl_lower.specs.Region.{FlowsTo}
 use Rattle.asl_lower.proofs.Layouts.{kept_layout}
 use Rattle.asl_backward_flow.specs.declared.span.Span.{Span}
 use Rattle.asl_backward_flow.specs.Found.{IsAt, list_at}
@@ -127,7 +127,7 @@ pub not_called : (l : Lowered) (code : List Instr) → code ≡ l.code → (pc :
 not_called l code same pc d not rows has =
     rows_skip rows (IsCall l) pc has (λ n c. not c.0 c.1 n (get_or_from_slice_get code pc (instr.Call c.0 c.1 n) d (ap (λ x. slice_get x pc) same ∙ c.2)))
 
-pub callee_there : (l : Lowered) → IsKept l → (code : List Instr) → code ≡ l.code → (pc : ℕ) → pc < length code → (d : Instr) (to first g : ℕ) → get_or code pc d ≡ instr.Call to first g → g < length l.functions
+pub callee_there : (l : Lowered) → IsLegalLowering l → (code : List Instr) → code ≡ l.code → (pc : ℕ) → pc < length code → (d : Instr) (to first g : ℕ) → get_or code pc d ≡ instr.Call to first g → g < length l.functions
 callee_there l kept code same pc lt d to first g at =
     let layout = kept_layout l kept in
     let here : slice_get l.code pc ≡ Some (instr.Call to first g) = ap (λ c. slice_get c pc) (sym same) ∙ slice_get-get_or code pc d lt ∙ ap Some at in
@@ -176,7 +176,7 @@ some_end rows related pc added has full = record {
 }
 
 -- where control goes on to is in the code
-pub edge_there : (l : Lowered) → IsKept l → (pc : ℕ) → pc < length l.code → (i : Instr) (to : ℕ) → slice_get l.code pc ≡ Some i → GoesOn i pc to → to < length l.code
+pub edge_there : (l : Lowered) → IsLegalLowering l → (pc : ℕ) → pc < length l.code → (i : Instr) (to : ℕ) → slice_get l.code pc ≡ Some i → FlowsTo i pc to → to < length l.code
 edge_there l kept pc lt i to at goes =
     let layout = kept_layout l kept in
     let body = layout.parted.owned pc lt in
@@ -190,7 +190,7 @@ contains_of_at xs x at = (at.0, slice_get_within xs at.0 x at.1, get_or_from_sli
 
 -- the pcs to which control goes on
 abbrev pub Tells : Lowered → ℕ → List ℕ → Type 0
-Tells l pc next = (i : Instr) → slice_get l.code pc ≡ Some i → (to : ℕ) → Contains next to ↔ GoesOn i pc to
+Tells l pc next = (i : Instr) → slice_get l.code pc ≡ Some i → (to : ℕ) → Contains next to ↔ FlowsTo i pc to
 
 pub next_edge : (l : Lowered) (pc : ℕ) → pc < length l.code → (next : List ℕ) → Tells l pc next → (k d : ℕ) → k < length next → IsEdge l (get_or next k d) pc
 next_edge l pc lt next tells k d there =

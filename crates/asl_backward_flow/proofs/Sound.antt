@@ -19,7 +19,7 @@ callee_of i = 0
 
 module _ (r : Read) (read : IsRead r) where
   abbrev Is : Span → ℕ → Lock → Type 0
-  Is s q m = Needed r.lowered r.classes r.stores r.longest (region_of s.region) q m
+  Is s q m = Needed r.lowered r.classes r.stores r.k_limit (region_of s.region) q m
 
   inside : (p q : ℕ) (s : Span) → slice_get r.spans p ≡ Some s → s.first ≤ q → q < s.end → IsIn r.lowered (region_of s.region) s.function q
   inside p q s there first end = (read.spans.each p s there).inside q first end
@@ -66,10 +66,10 @@ module _ (r : Read) (read : IsRead r) where
       let to_g : a.function ≡ g = ap callee_of call in
       let at_entry : Is body pc lock = needed_in part pc lock body there n in
       let first : pc ≡ start_of r.lowered.functions g = entry ∙ (read.spans.each part body there).entry g region in
-      let of_body : Needed r.lowered r.classes r.stores r.longest (Body g) (start_of r.lowered.functions g) lock =
-      subst (λ x. Needed r.lowered r.classes r.stores r.longest (Body g) x lock) first (subst (λ x. Needed r.lowered r.classes r.stores r.longest x pc lock) (ap region_of region) at_entry) in
-      let of_callee : Needed r.lowered r.classes r.stores r.longest (Body a.function) (start_of r.lowered.functions a.function) lock =
-      subst (λ k. Needed r.lowered r.classes r.stores r.longest (Body k) (start_of r.lowered.functions k) lock) (sym to_g) of_body in
+      let of_body : Needed r.lowered r.classes r.stores r.k_limit (Body g) (start_of r.lowered.functions g) lock =
+      subst (λ x. Needed r.lowered r.classes r.stores r.k_limit (Body g) x lock) first (subst (λ x. Needed r.lowered r.classes r.stores r.k_limit x pc lock) (ap region_of region) at_entry) in
+      let of_callee : Needed r.lowered r.classes r.stores r.k_limit (Body a.function) (start_of r.lowered.functions a.function) lock =
+      subst (λ k. Needed r.lowered r.classes r.stores r.k_limit (Body k) (start_of r.lowered.functions k) lock) (sym to_g) of_body in
       let one : IsOne (settle (seen r s.function) a.passed) m = subst (λ (t : Span). IsOne (settle (seen r t.function) a.passed) m) same a.one in
       (s, at.1, Entered (region_of s.region) s.function q a.to a.first a.function a.callee lock a.passed m (inside p q s at.1 at.2 at.3) a.stands a.in_table of_callee a.renames one)
 

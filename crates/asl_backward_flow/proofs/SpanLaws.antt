@@ -6,7 +6,7 @@ use Rattle.asl_lower.specs.declared.section.Section.{Section}
 use Rattle.asl_lower.specs.Lowered.{Lowered}
 use Rattle.asl_lower.specs.Region.{start_of, IsInner, InBody}
 use Rattle.asl_lower.specs.Regions.{Region, Body, Inside, IsIn, Between}
-use Rattle.asl_lower.specs.Kept.{IsKept}
+use Rattle.asl_lower.specs.LegalLowering.{IsLegalLowering}
 use Rattle.asl_lower.proofs.Layouts.{kept_layout}
 use Rattle.asl_lower.proofs.Reaching.{body_within}
 use Rattle.std.proofs.lemmas.Bool.{cases_lt}
@@ -23,7 +23,7 @@ pub record Bounds (l : Lowered) (n : ℕ) (s : Section) : Type 0 where
   pub acquire : s.acquire < s.release
   pub release : s.release < 65536
 
-pub section_bounds : (l : Lowered) → IsKept l → (n : ℕ) (d : Section) → n < length l.sections → Bounds l n (get_or l.sections n d)
+pub section_bounds : (l : Lowered) → IsLegalLowering l → (n : ℕ) (d : Section) → n < length l.sections → Bounds l n (get_or l.sections n d)
 section_bounds l kept n d lt =
     let layout = kept_layout l kept in
     let there = layout.sections.there n lt in
@@ -47,7 +47,7 @@ section_bounds l kept n d lt =
       release = omega arith;
     })
 
-pub section_of_list : (l : Lowered) → IsKept l → (sections : List Section) → sections ≡ l.sections → (n : ℕ) → n < length l.sections → (d : Section) → Bounds l n (get_or sections n d)
+pub section_of_list : (l : Lowered) → IsLegalLowering l → (sections : List Section) → sections ≡ l.sections → (n : ℕ) → n < length l.sections → (d : Section) → Bounds l n (get_or sections n d)
 section_of_list l kept sections same n lt d = subst (λ xs. Bounds l n (get_or xs n d)) (sym same) (section_bounds l kept n d lt)
 
 -- a body as its span, and its bounds
@@ -56,7 +56,7 @@ pub record BodyBounds (l : Lowered) (g : ℕ) (f : entry.Function) : Type 0 wher
   pub number : g < 256
   pub end : start_of l.functions g + f.len < 65536
 
-pub body_bounds : (l : Lowered) → IsKept l → (g : ℕ) (d : entry.Function) → g < length l.functions → BodyBounds l g (get_or l.functions g d)
+pub body_bounds : (l : Lowered) → IsLegalLowering l → (g : ℕ) (d : entry.Function) → g < length l.functions → BodyBounds l g (get_or l.functions g d)
 body_bounds l kept g d lt =
     let layout = kept_layout l kept in
     let few = layout.limits.few_functions in
@@ -85,7 +85,7 @@ body_bounds l kept g d lt =
     body_number : (a b : ℕ) → variant.Body a ≡ variant.Body b → a ≡ b
     body_number a b e = ap (number_in 0) e
 
-pub body_of_list : (l : Lowered) → IsKept l → (functions : List entry.Function) → functions ≡ l.functions → (g : ℕ) → g < length l.functions → (d : entry.Function) → BodyBounds l g (get_or functions g d)
+pub body_of_list : (l : Lowered) → IsLegalLowering l → (functions : List entry.Function) → functions ≡ l.functions → (g : ℕ) → g < length l.functions → (d : entry.Function) → BodyBounds l g (get_or functions g d)
 body_of_list l kept functions same g lt d = subst (λ xs. BodyBounds l g (get_or xs g d)) (sym same) (body_bounds l kept g d lt)
 
 -- one more span
@@ -155,7 +155,7 @@ bodies_skip l spans i so not = record {
   placed = so.placed;
 }
 
-pub all_spans : (l : Lowered) → IsKept l → (spans : List Span) → AreBodies l spans (length l.functions) → AreSpans l spans
+pub all_spans : (l : Lowered) → IsLegalLowering l → (spans : List Span) → AreBodies l spans (length l.functions) → AreSpans l spans
 all_spans l kept spans so =
     let layout = kept_layout l kept in
     record {

@@ -6,7 +6,7 @@ use Rattle.std.proofs.lemmas.List.{length-map}
 use Rattle.std.proofs.lemmas.List.Sums.{sum_by-set}
 use Rattle.asl_code.specs.declared.lock.Lock.{Lock}
 use Rattle.asl_lane_sets.specs.NumberSet.{IsIn}
-use Rattle.asl_backward_flow.specs.declared.part.Part.{Part}
+use Rattle.asl_backward_flow.specs.declared.region_needs.RegionNeeds.{RegionNeeds}
 use Rattle.asl_backward_flow.specs.Found.{Table, table_of, IsAt, AreApart, list_at, locks_of, first_of, sets_of, HasPoint, Has, HasFact, IsWhole, Adds, Lists, Numbers, IsMarked, IsPut, free_in}
 use Rattle.asl_backward_flow.proofs.Sets.{some_same}
 
@@ -55,21 +55,21 @@ pub record Step (old new : Table) (p : ℕ) (keys : List Lock) (sets : List (Lis
   pub locks_are : new.locks ≡ slice_set old.locks p keys
   pub sets_are : new.sets ≡ slice_set old.sets p sets
 
-pub step_of : (parts : List Part) (p q : ℕ) (x y : Part) (list more : List (ℕ × ℕ)) → q ≡ p → p < length parts → x ≡ get_or parts q x → y.region ≡ x.region → y.first ≡ x.first
+pub step_of : (parts : List RegionNeeds) (p q : ℕ) (x y : RegionNeeds) (list more : List (ℕ × ℕ)) → q ≡ p → p < length parts → x ≡ get_or parts q x → y.region ≡ x.region → y.first ≡ x.first
     → Step (table_of parts list) (table_of (slice_set parts q y) more) p y.locks.keys y.needs.items
 step_of parts p q x y list more same there is region first = record {
-  regions = map_same (λ (z : Part). z.region) parts q y (region ∙ ap (λ (z : Part). z.region) old);
-  firsts = map_same (λ (z : Part). z.first) parts q y (first ∙ ap (λ (z : Part). z.first) old);
-  there = subst (λ n. p < n) (sym (length-map parts (λ (z : Part). z.locks.keys))) there;
-  too = subst (λ n. p < n) (sym (length-map parts (λ (z : Part). z.needs.items))) there;
-  locks_are = map_set (λ (z : Part). z.locks.keys) parts q y ∙ ap (λ n. slice_set (map (λ (z : Part). z.locks.keys) parts) n y.locks.keys) same;
-  sets_are = map_set (λ (z : Part). z.needs.items) parts q y ∙ ap (λ n. slice_set (map (λ (z : Part). z.needs.items) parts) n y.needs.items) same;
+  regions = map_same (λ (z : RegionNeeds). z.region) parts q y (region ∙ ap (λ (z : RegionNeeds). z.region) old);
+  firsts = map_same (λ (z : RegionNeeds). z.first) parts q y (first ∙ ap (λ (z : RegionNeeds). z.first) old);
+  there = subst (λ n. p < n) (sym (length-map parts (λ (z : RegionNeeds). z.locks.keys))) there;
+  too = subst (λ n. p < n) (sym (length-map parts (λ (z : RegionNeeds). z.needs.items))) there;
+  locks_are = map_set (λ (z : RegionNeeds). z.locks.keys) parts q y ∙ ap (λ n. slice_set (map (λ (z : RegionNeeds). z.locks.keys) parts) n y.locks.keys) same;
+  sets_are = map_set (λ (z : RegionNeeds). z.needs.items) parts q y ∙ ap (λ n. slice_set (map (λ (z : RegionNeeds). z.needs.items) parts) n y.needs.items) same;
 }
   where
     within : q < length parts
     within = omega (arith, same, there)
 
-    one : (xs : List Part) (n : ℕ) (c d : Part) → n < length xs → get_or xs n c ≡ get_or xs n d
+    one : (xs : List RegionNeeds) (n : ℕ) (c d : RegionNeeds) → n < length xs → get_or xs n c ≡ get_or xs n d
     one [] n c d lt = absurd (omega arith)
     one (z ∷ xs) zero c d lt = refl
     one (z ∷ xs) (suc n) c d lt = one xs n c d (omega arith)
@@ -78,16 +78,16 @@ step_of parts p q x y list more same there is region first = record {
     old = is ∙ one parts q x y within
 
 -- the locks and the sets of a region before it is changed
-pub locks_before : (parts : List Part) (p q : ℕ) (x : Part) (list : List (ℕ × ℕ)) → q ≡ p → p < length parts → x ≡ get_or parts q x → locks_of (table_of parts list) p ≡ x.locks.keys
-locks_before parts p q x list same there is = list_of (λ (z : Part). z.locks.keys) parts p x there ∙ ap (λ (z : Part). z.locks.keys) (ap (λ n. get_or parts n x) (sym same) ∙ sym is)
+pub locks_before : (parts : List RegionNeeds) (p q : ℕ) (x : RegionNeeds) (list : List (ℕ × ℕ)) → q ≡ p → p < length parts → x ≡ get_or parts q x → locks_of (table_of parts list) p ≡ x.locks.keys
+locks_before parts p q x list same there is = list_of (λ (z : RegionNeeds). z.locks.keys) parts p x there ∙ ap (λ (z : RegionNeeds). z.locks.keys) (ap (λ n. get_or parts n x) (sym same) ∙ sym is)
 
-pub sets_before : (parts : List Part) (p q : ℕ) (x : Part) (list : List (ℕ × ℕ)) → q ≡ p → p < length parts → x ≡ get_or parts q x → sets_of (table_of parts list) p ≡ x.needs.items
-sets_before parts p q x list same there is = list_of (λ (z : Part). z.needs.items) parts p x there ∙ ap (λ (z : Part). z.needs.items) (ap (λ n. get_or parts n x) (sym same) ∙ sym is)
+pub sets_before : (parts : List RegionNeeds) (p q : ℕ) (x : RegionNeeds) (list : List (ℕ × ℕ)) → q ≡ p → p < length parts → x ≡ get_or parts q x → sets_of (table_of parts list) p ≡ x.needs.items
+sets_before parts p q x list same there is = list_of (λ (z : RegionNeeds). z.needs.items) parts p x there ∙ ap (λ (z : RegionNeeds). z.needs.items) (ap (λ n. get_or parts n x) (sym same) ∙ sym is)
 
-pub first_before : (parts : List Part) (p q : ℕ) (x : Part) (list : List (ℕ × ℕ)) → q ≡ p → p < length parts → x ≡ get_or parts q x → first_of (table_of parts list) p ≡ x.first
-first_before parts p q x list same there is = first_at parts p there ∙ ap (λ (z : Part). z.first) (ap (λ n. get_or parts n x) (sym same) ∙ sym is)
+pub first_before : (parts : List RegionNeeds) (p q : ℕ) (x : RegionNeeds) (list : List (ℕ × ℕ)) → q ≡ p → p < length parts → x ≡ get_or parts q x → first_of (table_of parts list) p ≡ x.first
+first_before parts p q x list same there is = first_at parts p there ∙ ap (λ (z : RegionNeeds). z.first) (ap (λ n. get_or parts n x) (sym same) ∙ sym is)
   where
-    first_at : (xs : List Part) (n : ℕ) → n < length xs → unwrap_or (slice_get (map (λ (z : Part). z.first) xs) n) 0 ≡ (get_or xs n x).first
+    first_at : (xs : List RegionNeeds) (n : ℕ) → n < length xs → unwrap_or (slice_get (map (λ (z : RegionNeeds). z.first) xs) n) 0 ≡ (get_or xs n x).first
     first_at [] n lt = absurd (omega arith)
     first_at (z ∷ xs) zero lt = refl
     first_at (z ∷ xs) (suc n) lt = first_at xs n (omega arith)
@@ -257,7 +257,7 @@ module _ (old new : Table) (p : ℕ) (keys : List Lock) (sets : List (List Bool)
         get_here (l ∷ ls) (suc n) lt = get_here ls n (omega arith)
 
 -- one region has one more lock, perhaps, and numbers in a set, perhaps
-module _ (parts : List Part) (p q : ℕ) (x y : Part) (list more : List (ℕ × ℕ)) (same : q ≡ p) (there : p < length parts) (is : x ≡ get_or parts q x) (region : y.region ≡ x.region) (first : y.first ≡ x.first)
+module _ (parts : List RegionNeeds) (p q : ℕ) (x y : RegionNeeds) (list more : List (ℕ × ℕ)) (same : q ≡ p) (there : p < length parts) (is : x ≡ get_or parts q x) (region : y.region ≡ x.region) (first : y.first ≡ x.first)
     (These : Lock → Type 0) (numbers : Numbers x.locks.keys y.locks.keys These) where
   abbrev before : Table
   before = table_of parts list

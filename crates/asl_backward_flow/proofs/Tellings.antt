@@ -12,12 +12,12 @@ use Rattle.asl_lock_expr.specs.ClassOf.{TellsStores}
 use Rattle.asl_backward_flow.specs.declared.fault.FlowFault.{FlowFault}
 use Rattle.asl_backward_flow.specs.Flows.{IsFlow}
 use Rattle.asl_backward_flow.specs.declared.span.Span.{Span}
-use Rattle.asl_backward_flow.specs.declared.part.Part as code
+use Rattle.asl_backward_flow.specs.declared.region_needs.RegionNeeds as code
 use Rattle.asl_backward_flow.specs.declared.region.Region.TheVariants as variant
 use Rattle.asl_lane_sets.specs.NumberSet.{IsIn}
 use Rattle.std.proofs.lemmas.List.{length-map}
 use Rattle.asl_backward_flow.specs.declared.found.AddFault.TheVariants.{Many}
-use Rattle.asl_backward_flow.specs.Needed.{Needed, Part, IsOfPart, IsTold, TellsNeeded, NeedsMany, region_of}
+use Rattle.asl_backward_flow.specs.Needed.{Needed, RegionNeeds, IsInNeeds, IsTold, TellsNeeded, NeedsMany, region_of}
 use Rattle.asl_backward_flow.specs.Found.{Table, table_of, list_at, AreApart, IsName, HasFact, locks_of, sets_of, first_of}
 use Rattle.asl_backward_flow.specs.Follows.{Read, IsRead, IsAll, Overflows}
 use Rattle.asl_backward_flow.specs.Parts.{part, AreAtTheirNumbers, TellsAll}
@@ -26,44 +26,44 @@ use Rattle.asl_backward_flow.proofs.Blanks.{mapped, unmapped, some_there}
 use Rattle.asl_backward_flow.proofs.Listing.{of_part, part_of, region_one}
 use Rattle.asl_backward_flow.proofs.Sets.{some_same}
 
-module _ (r : Read) (read : IsRead r) (items : List code.Part) (list : List (ℕ × ℕ)) (all : IsAll r (table_of items list)) where
+module _ (r : Read) (read : IsRead r) (items : List code.RegionNeeds) (list : List (ℕ × ℕ)) (all : IsAll r (table_of items list)) where
   abbrev t : Table
   t = table_of items list
 
   abbrev Is : Region → ℕ → Lock → Type 0
-  Is region q m = Needed r.lowered r.classes r.stores r.longest region q m
+  Is region q m = Needed r.lowered r.classes r.stores r.k_limit region q m
 
   -- what is needed is found under the number of the region
   found_at : (region : Region) (q : ℕ) (m : Lock) → Is region q m → (p : ℕ) × (s : Span) × (slice_get r.spans p ≡ Some s) × (region_of s.region ≡ region) × HasFact t p q m
   found_at region q m n =
-      let inside = needed_inside r.lowered r.classes r.stores r.longest region q m n in
+      let inside = needed_inside r.lowered r.classes r.stores r.k_limit region q m n in
       let span = read.spans.all region inside.0 q inside.1 in
       (span.0, span.1, span.2, span.3, all.full span.0 q m (span.1, span.2, subst (λ x. Is x q m) (sym span.3) n))
 
   -- the region with a number has the name of the span with this number
-  same_region : (k : ℕ) (d : code.Part) (s : Span) → slice_get items k ≡ Some d → slice_get r.spans k ≡ Some s → d.region ≡ s.region
+  same_region : (k : ℕ) (d : code.RegionNeeds) (s : Span) → slice_get items k ≡ Some d → slice_get r.spans k ≡ Some s → d.region ≡ s.region
   same_region k d s at there =
-      some_same (sym (mapped (λ (z : code.Part). z.region) items k d at) ∙ ap (λ l. slice_get l k) all.ready.regions ∙ mapped (λ (x : Span). x.region) r.spans k s there)
+      some_same (sym (mapped (λ (z : code.RegionNeeds). z.region) items k d at) ∙ ap (λ l. slice_get l k) all.ready.regions ∙ mapped (λ (x : Span). x.region) r.spans k s there)
 
-  first_at : (k : ℕ) (d : code.Part) → slice_get items k ≡ Some d → first_of t k ≡ d.first
-  first_at k d at = ap (λ o. unwrap_or o 0) (mapped (λ (z : code.Part). z.first) items k d at)
+  first_at : (k : ℕ) (d : code.RegionNeeds) → slice_get items k ≡ Some d → first_of t k ≡ d.first
+  first_at k d at = ap (λ o. unwrap_or o 0) (mapped (λ (z : code.RegionNeeds). z.first) items k d at)
 
-  sets_at : (k : ℕ) (d : code.Part) → slice_get items k ≡ Some d → sets_of t k ≡ d.needs.items
-  sets_at k d at = ap (λ o. unwrap_or o []) (mapped (λ (z : code.Part). z.needs.items) items k d at)
+  sets_at : (k : ℕ) (d : code.RegionNeeds) → slice_get items k ≡ Some d → sets_of t k ≡ d.needs.items
+  sets_at k d at = ap (λ o. unwrap_or o []) (mapped (λ (z : code.RegionNeeds). z.needs.items) items k d at)
 
-  locks_at : (k : ℕ) (d : code.Part) → slice_get items k ≡ Some d → locks_of t k ≡ d.locks.keys
-  locks_at k d at = ap (λ o. unwrap_or o []) (mapped (λ (z : code.Part). z.locks.keys) items k d at)
+  locks_at : (k : ℕ) (d : code.RegionNeeds) → slice_get items k ≡ Some d → locks_of t k ≡ d.locks.keys
+  locks_at k d at = ap (λ o. unwrap_or o []) (mapped (λ (z : code.RegionNeeds). z.locks.keys) items k d at)
 
   told_needed : (region : Region) (q : ℕ) (m : Lock) → IsTold (map part items) region q m → Is region q m
   told_needed region q m told =
       let k = told.0 in
       let d = unmapped part items k told.1 told.2 in
-      let of = of_part d.0 q m (subst (λ (x : Part). IsOfPart x q m) (sym d.2) told.4) in
+      let of = of_part d.0 q m (subst (λ (x : RegionNeeds). IsInNeeds x q m) (sym d.2) told.4) in
       let place : q ≡ first_of t k + of.0 = of.1 ∙ ap (λ n. n + of.0) (sym (first_at k d.0 d.1)) in
       let in_set : IsIn (list_at (sets_of t k) of.0) of.2.0 = subst (λ l. IsIn (list_at l of.0) of.2.0) (sym (sets_at k d.0 d.1)) of.2.1 in
       let named : slice_get (locks_of t k) of.2.0 ≡ Some m = ap (λ l. slice_get l of.2.0) (locks_at k d.0 d.1) ∙ of.2.2 in
       let need = all.sound k q m (of.2.0, (of.0, place, in_set), named) in
-      let name : region_of need.0.region ≡ region = ap region_of (sym (same_region k d.0 need.0 d.1 need.1)) ∙ ap (λ (x : Part). x.region) d.2 ∙ told.3 in
+      let name : region_of need.0.region ≡ region = ap region_of (sym (same_region k d.0 need.0 d.1 need.1)) ∙ ap (λ (x : RegionNeeds). x.region) d.2 ∙ told.3 in
       subst (λ x. Is x q m) name need.2
 
   needed_told : (region : Region) (q : ℕ) (m : Lock) → Is region q m → IsTold (map part items) region q m
@@ -73,19 +73,19 @@ module _ (r : Read) (read : IsRead r) (items : List code.Part) (list : List (ℕ
       let has = f.4 in
       let count = all.ready.count in
       let within = slice_get_within r.spans k f.1 f.2 in
-      let d = some_there items k (let same = length-map items (λ (z : code.Part). z.locks.keys) in omega (arith, count, within, same)) in
+      let d = some_there items k (let same = length-map items (λ (z : code.RegionNeeds). z.locks.keys) in omega (arith, count, within, same)) in
       let at = has.1 in
       let in_set : IsIn (list_at d.0.needs.items at.0) has.0 = subst (λ l. IsIn (list_at l at.0) has.0) (sets_at k d.0 d.1) at.2 in
       let named : slice_get d.0.locks.keys has.0 ≡ Some m = ap (λ l. slice_get l has.0) (sym (locks_at k d.0 d.1)) ∙ has.2 in
       let of = part_of d.0 at.0 m (has.0, in_set, named) in
       let place : d.0.first + at.0 ≡ q = sym (at.1 ∙ ap (λ i. i + at.0) (first_at k d.0 d.1)) in
-      (k, part d.0, mapped part items k d.0 d.1, ap region_of (same_region k d.0 f.1 d.1 f.2) ∙ f.3, subst (λ x. IsOfPart (part d.0) x m) place of)
+      (k, part d.0, mapped part items k d.0 d.1, ap region_of (same_region k d.0 f.1 d.1 f.2) ∙ f.3, subst (λ x. IsInNeeds (part d.0) x m) place of)
 
-  tells : TellsNeeded r.lowered r.classes r.stores r.longest (map part items)
+  tells : TellsNeeded r.lowered r.classes r.stores r.k_limit (map part items)
   tells region q m = (λ h. told_needed region q m h, λ h. needed_told region q m h)
 
   -- a region that needs locks has a number, under which all that it needs are found
-  module _ (region : Region) (many : NeedsMany r.lowered r.classes r.stores r.longest region) (d : Lock) where
+  module _ (region : Region) (many : NeedsMany r.lowered r.classes r.stores r.k_limit region) (d : Lock) where
     first : (p : ℕ) × (s : Span) × (slice_get r.spans p ≡ Some s) × (region_of s.region ≡ region)
     first =
         let there : slice_get many.locks 0 ≡ Some (get_or many.locks 0 d) = slice_get-get_or many.locks 0 d (let lt = many.many in omega (arith, lt)) in
@@ -125,8 +125,8 @@ module _ (r : Read) (read : IsRead r) (items : List code.Part) (list : List (ℕ
       let d = unmapped part items k p at in
       let count = all.ready.count in
       let within = slice_get_within items k d.0 d.1 in
-      let s = some_there r.spans k (let same = length-map items (λ (z : code.Part). z.locks.keys) in omega (arith, count, within, same)) in
-      let name : region_of s.0.region ≡ Inside n = ap region_of (sym (same_region k d.0 s.0 d.1 s.1)) ∙ ap (λ (x : Part). x.region) d.2 ∙ is in
+      let s = some_there r.spans k (let same = length-map items (λ (z : code.RegionNeeds). z.locks.keys) in omega (arith, count, within, same)) in
+      let name : region_of s.0.region ≡ Inside n = ap region_of (sym (same_region k d.0 s.0 d.1 s.1)) ∙ ap (λ (x : RegionNeeds). x.region) d.2 ∙ is in
       read.spans.placed k n s.0 s.1 (region_one s.0.region (variant.Section n) name)
 
   pub tells_all : TellsAll r (map part items)
@@ -150,7 +150,7 @@ module _ (r : Read) (t : Table) (p : ℕ) (x : Overflows r t (Many p)) where
   pub over_there : p < length r.spans
   over_there = let need = x.names p _ over_name in slice_get_within r.spans p need.1.0 need.1.1
 
-  pub over_many : (s : Span) → slice_get r.spans p ≡ Some s → NeedsMany r.lowered r.classes r.stores r.longest (region_of s.region)
+  pub over_many : (s : Span) → slice_get r.spans p ≡ Some s → NeedsMany r.lowered r.classes r.stores r.k_limit (region_of s.region)
   over_many s there = record {
     locks = locks_of t p;
     many = x.over.0;
@@ -158,11 +158,11 @@ module _ (r : Read) (t : Table) (p : ℕ) (x : Overflows r t (Many p)) where
     needed = λ n lock at.
         let need = x.names p lock (n, at) in
         let same : need.1.0 ≡ s = some_same (sym need.1.1 ∙ there) in
-        (need.0, subst (λ (k : Span). Needed r.lowered r.classes r.stores r.longest (region_of k.region) need.0 lock) same need.1.2);
+        (need.0, subst (λ (k : Span). Needed r.lowered r.classes r.stores r.k_limit (region_of k.region) need.0 lock) same need.1.2);
   }
 
 -- the answer, with the written classes for what functions may store to
 module _ (r : Read) (written : TellsStores r.lowered r.classes r.stores) where
-  pub flow_told : (result : Result (List Part) FlowFault) → IfOk result (TellsAll r) → IfOk result (IsFlow r.lowered r.classes r.longest)
+  pub flow_told : (result : Result (List RegionNeeds) FlowFault) → IfOk result (TellsAll r) → IfOk result (IsFlow r.lowered r.classes r.k_limit)
   flow_told (Ok parts) x = record { stores = r.stores; written = written; tells = x.tells; few = x.few }
   flow_told (Err fault) x = tt

@@ -17,7 +17,7 @@ HasBase l f (Global global) = global < l.globals
 -- the lock is on a class that is there, or on an expression of the function: its base is there, it is not too long, and it has
 -- a class
 abbrev pub IsLockOf : Lowered → Classed → ℕ → ℕ → Lock → Type 0
-IsLockOf l c longest f (lock.Root effect) = ⊥
-IsLockOf l c longest f (lock.Class class effect) = class < c.count
-IsLockOf l c longest f (lock.Expr e effect) =
-    HasBase l f e.base × (length e.path ≤ longest) × ((class : ℕ) × (class_of c f e ≡ Some class) × (class < c.count))
+IsLockOf l c k_limit f (lock.Root effect) = ⊥
+IsLockOf l c k_limit f (lock.Class class effect) = class < c.count
+IsLockOf l c k_limit f (lock.Expr e effect) =
+    HasBase l f e.base × (length e.path ≤ k_limit) × ((class : ℕ) × (class_of c f e ≡ Some class) × (class < c.count))

@@ -6,22 +6,22 @@ use Rattle.asl_points_to.specs.Classes.{Classed}
 use Rattle.asl_lock_expr.specs.ClassOf.{TellsStores}
 use Rattle.asl_backward_flow.specs.declared.fault.FlowFault.{FlowFault}
 use Rattle.asl_backward_flow.specs.declared.fault.FlowFault.TheVariants.{TooManyLocks, OutOfMemory}
-use Rattle.asl_backward_flow.specs.Needed.{Part, TellsNeeded, NeedsMany, region_of}
+use Rattle.asl_backward_flow.specs.Needed.{RegionNeeds, TellsNeeded, NeedsMany, region_of}
 
 -- the parts say exactly what is needed, where functions store to their written classes; and no region needs too many locks
-pub record IsFlow (l : Lowered) (c : Classed) (longest : ℕ) (parts : List Part) : Type 0 where
+pub record IsFlow (l : Lowered) (c : Classed) (k_limit : ℕ) (parts : List RegionNeeds) : Type 0 where
   pub stores : ℕ → ℕ → Bool
   pub written : TellsStores l c stores
-  pub tells : TellsNeeded l c stores longest parts
-  pub few : (r : Region) → ¬ NeedsMany l c stores longest r
+  pub tells : TellsNeeded l c stores k_limit parts
+  pub few : (r : Region) → ¬ NeedsMany l c stores k_limit r
 
 -- the region that is named needs too many locks
-pub record IsOverfull (l : Lowered) (c : Classed) (longest : ℕ) (r : Region) : Type 0 where
+pub record IsOverfull (l : Lowered) (c : Classed) (k_limit : ℕ) (r : Region) : Type 0 where
   pub stores : ℕ → ℕ → Bool
   pub written : TellsStores l c stores
-  pub many : NeedsMany l c stores longest r
+  pub many : NeedsMany l c stores k_limit r
 
 -- there is no flow for this reason
 abbrev pub IsRefused : Lowered → Classed → ℕ → FlowFault → Type 0
-IsRefused l c longest (TooManyLocks region) = IsOverfull l c longest (region_of region)
-IsRefused l c longest OutOfMemory = Unit {0}
+IsRefused l c k_limit (TooManyLocks region) = IsOverfull l c k_limit (region_of region)
+IsRefused l c k_limit OutOfMemory = Unit {0}

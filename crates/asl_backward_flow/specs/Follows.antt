@@ -6,9 +6,9 @@ use Rattle.asl_code.specs.declared.instr.Instr.TheVariants as instr
 use Rattle.asl_code.specs.declared.lock.Lock.{Lock}
 use Rattle.asl_lane_sets.specs.NumberSet.{IsIn}
 use Rattle.asl_lower.specs.Lowered.{Lowered}
-use Rattle.asl_lower.specs.Kept.{IsKept}
+use Rattle.asl_lower.specs.LegalLowering.{IsLegalLowering}
 use Rattle.asl_points_to.specs.Classes.{Classed}
-use Rattle.asl_lock_expr.specs.Links.{View, view, IsOne, link, settle, accesses, renamed, dereferenced}
+use Rattle.asl_lock_expr.specs.Links.{LinkContext, view, IsOne, link, settle, accesses, renamed, dereferenced}
 use Rattle.asl_lock_expr.specs.Stores.{stores}
 use Rattle.asl_lock_expr.specs.Touches.{Stays}
 use Rattle.asl_backward_flow.specs.declared.region.Region.TheVariants as variant
@@ -25,7 +25,7 @@ pub record Read : Type 0 where
   pub lowered : Lowered
   pub classes : Classed
   pub stores : ℕ → ℕ → Bool
-  pub longest : ℕ
+  pub k_limit : ℕ
   pub spans : List Span
   pub jumps : List (List ℕ)
   pub calls : List (List ℕ)
@@ -36,7 +36,7 @@ read p = record {
   lowered = p.lowering.now;
   classes = p.classes.now;
   stores = stores p.writes.now;
-  longest = p.longest;
+  k_limit = p.k_limit;
   spans = p.spans.now;
   jumps = map (λ r. r.items) p.jumps.now;
   calls = map (λ r. r.items) p.calls.now;
@@ -44,15 +44,15 @@ read p = record {
 }
 
 pub record IsRead (r : Read) : Type 0 where
-  pub short : r.longest ≤ 8
-  pub kept : IsKept r.lowered
+  pub short : r.k_limit ≤ 8
+  pub kept : IsLegalLowering r.lowered
   pub spans : AreSpans r.lowered r.spans
   pub jumps : HasRows r.jumps (IsJump r.lowered) (length r.lowered.code)
   pub calls : HasRows r.calls (IsCall r.lowered) (length r.lowered.code)
   pub regions : HasRows r.regions (HasCall r.lowered r.spans) (length r.spans)
 
-abbrev pub seen : Read → ℕ → View
-seen r function = view r.classes r.stores r.longest function
+abbrev pub seen : Read → ℕ → LinkContext
+seen r function = view r.classes r.stores r.k_limit function
 
 -- the region of this number has the pc
 abbrev pub IsAtPoint : Read → ℕ → ℕ → Type 0
@@ -164,7 +164,7 @@ pub record IsChosen (locks : List Lock) (set : List Bool) : Type 0 where
 
 -- the region needs the lock there
 abbrev pub NeededAt : Read → ℕ → ℕ → Lock → Type 0
-NeededAt r p q m = (s : Span) × (slice_get r.spans p ≡ Some s) × Needed r.lowered r.classes r.stores r.longest (region_of s.region) q m
+NeededAt r p q m = (s : Span) × (slice_get r.spans p ≡ Some s) × Needed r.lowered r.classes r.stores r.k_limit (region_of s.region) q m
 
 -- a whole table of all regions
 pub record IsReady (r : Read) (t : Table) : Type 0 where

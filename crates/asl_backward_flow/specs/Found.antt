@@ -1,4 +1,4 @@
--- Machinery of the proofs, not of the promise: what has been found so far (src/part.rt, src/found.rt).
+-- Machinery of the proofs, not of the promise: what has been found so far (src/region_needs.rt, src/found.rt).
 use Rattle.std.specs.Prelude.{◌≡◌, ◌≢◌, ◌⊎◌, ◌↔◌, ◌+◌, ◌-◌, ◌<◌, ◌≤◌, ℕ, zero, suc, Bool, true, false, if◌then◌else◌, List, [], Some, map, length, slice_get, unwrap_or, replicate, sum_by}
 use Rattle.asl_code.specs.declared.lock.Lock.{Lock}
 use Rattle.std.specs.BinaryHeap.{heap_items}
@@ -6,7 +6,7 @@ use Rattle.asl_lane_sets.specs.NumberSet.{IsIn}
 use Rattle.asl_lock_expr.specs.Links.{IsOne}
 use Rattle.asl_backward_flow.specs.declared.region.Region.{Region}
 use Rattle.asl_backward_flow.specs.declared.span.Span.{Span}
-use Rattle.asl_backward_flow.specs.declared.part.Part.{Part}
+use Rattle.asl_backward_flow.specs.declared.region_needs.RegionNeeds.{RegionNeeds}
 use Rattle.asl_backward_flow.specs.declared.found.Found.{Found}
 use Rattle.asl_backward_flow.specs.declared.found.AddFault.{AddFault}
 use Rattle.asl_backward_flow.specs.declared.found.AddFault.TheVariants.{Many, OutOfMemory}
@@ -20,12 +20,12 @@ pub record Table : Type 0 where
   pub sets : List (List (List Bool))
   pub list : List (ℕ × ℕ)
 
-abbrev pub table_of : List Part → List (ℕ × ℕ) → Table
+abbrev pub table_of : List RegionNeeds → List (ℕ × ℕ) → Table
 table_of parts list = record {
-  regions = map (λ (p : Part). p.region) parts;
-  firsts = map (λ (p : Part). p.first) parts;
-  locks = map (λ (p : Part). p.locks.keys) parts;
-  sets = map (λ (p : Part). p.needs.items) parts;
+  regions = map (λ (p : RegionNeeds). p.region) parts;
+  firsts = map (λ (p : RegionNeeds). p.first) parts;
+  locks = map (λ (p : RegionNeeds). p.locks.keys) parts;
+  sets = map (λ (p : RegionNeeds). p.needs.items) parts;
   list = list;
 }
 
@@ -87,7 +87,7 @@ IsOver t (Many part) = (4096 < length (locks_of t part)) × AreApart (locks_of t
 IsOver t OutOfMemory = Unit {0}
 
 -- a span's region, with nothing found yet
-pub record IsBlankPart (s : Span) (p : Part) : Type 0 where
+pub record IsBlankNeeds (s : Span) (p : RegionNeeds) : Type 0 where
   pub region : p.region ≡ s.region
   pub first : p.first ≡ s.first
   pub locks : p.locks.keys ≡ []

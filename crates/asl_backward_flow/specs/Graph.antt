@@ -3,7 +3,7 @@
 use Rattle.std.specs.Prelude.{◌≡◌, ◌≢◌, ◌+◌, ◌<◌, ◌≤◌, ℕ, List, Some, slice_get}
 use Rattle.asl_code.specs.declared.instr.Instr.{Instr}
 use Rattle.asl_lower.specs.Lowered.{Lowered}
-use Rattle.asl_lower.specs.Region.{CallsAt, GoesOn}
+use Rattle.asl_lower.specs.Region.{CallsAt, FlowsTo}
 use Rattle.asl_backward_flow.specs.declared.span.Span.{Span}
 use Rattle.asl_backward_flow.specs.Found.{IsAt, list_at}
 
@@ -13,7 +13,7 @@ HasPc spans pc part = (s : Span) × (slice_get spans part ≡ Some s) × (s.firs
 
 -- control goes on from the pc to another
 abbrev pub IsEdge : Lowered → ℕ → ℕ → Type 0
-IsEdge l to pc = (i : Instr) × (slice_get l.code pc ≡ Some i) × GoesOn i pc to
+IsEdge l to pc = (i : Instr) × (slice_get l.code pc ≡ Some i) × FlowsTo i pc to
 
 -- control goes on from the pc to another that is not the next
 abbrev pub IsJump : Lowered → ℕ → ℕ → Type 0

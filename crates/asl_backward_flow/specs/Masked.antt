@@ -3,7 +3,7 @@ use Rattle.std.specs.Prelude.{◌≡◌, ◌<◌, ◌⊎◌, ℕ, List, Some, le
 use Rattle.asl_code.specs.declared.lock.Lock.{Lock}
 use Rattle.asl_lane_sets.specs.NumberSet.{IsIn}
 use Rattle.asl_lock_expr.specs.declared.touch.Touch.{Touch}
-use Rattle.asl_lock_expr.specs.Links.{View}
+use Rattle.asl_lock_expr.specs.Links.{LinkContext}
 use Rattle.asl_lock_expr.specs.Touches.{IsClear}
 use Rattle.asl_backward_flow.specs.declared.span.Span.{Span}
 use Rattle.asl_backward_flow.specs.declared.masks.Mask.{Mask}
@@ -11,10 +11,10 @@ use Rattle.asl_backward_flow.specs.Found.{Table, locks_of}
 use Rattle.asl_backward_flow.specs.Follows.{Read, seen}
 
 -- each number below the mask's is that of a lock, which is one of the mask or is not concerned
-abbrev pub IsMask : View → List Lock → Mask → Type 0
+abbrev pub IsMask : LinkContext → List Lock → Mask → Type 0
 IsMask v locks x = (n : ℕ) → n < x.below → (m : Lock) × (slice_get locks n ≡ Some m) × (IsIn x.touched n ⊎ IsClear v x.touch m)
 
-abbrev pub AreMasks : View → List Lock → List Mask → Type 0
+abbrev pub AreMasks : LinkContext → List Lock → List Mask → Type 0
 AreMasks v locks masks = (k : ℕ) (x : Mask) → slice_get masks k ≡ Some x → IsMask v locks x
 
 -- at the place is the mask of what is touched

@@ -15,7 +15,7 @@ pub struct Analysis<'a> {
     /// The classes that its functions may store to.
     pub writes: &'a Writes,
     /// The most operations that a path keeps, at most eight.
-    pub longest: usize,
+    pub k_limit: usize,
     /// Where its regions lie.
     pub spans: &'a [Span],
     /// For each pc, the pcs from which control goes on to it, without the one before it.

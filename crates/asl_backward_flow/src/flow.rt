@@ -1,59 +1,137 @@
-//! What follows from the seeds, found point by point.
-ghost use Rattle.std.specs.Prelude.{◌≡◌, ◌≤◌, ◌∷◌, [], map, OnOk, IfErr};
-ghost use Rattle.asl_backward_flow.specs.Found.{table, Has, left};
-ghost use Rattle.asl_backward_flow.specs.Masked.{AreAllMasks};
-ghost use Rattle.asl_backward_flow.specs.Follows.{read, IsRead, IsFollowed, Overflows};
+//! What each region needs at each of its points, region by region.
+ghost use Rattle.std.specs.Prelude.{◌≡◌, ◌↔◌, ℕ, map, slice_get, IsTrue, IfOk, MatchOption};
+ghost use Rattle.asl_code.specs.declared.lock.Lock.{Lock};
+ghost use Rattle.asl_lock_expr.specs.Links.{IsOne};
+ghost use Rattle.asl_lock_expr.specs.Order.{AreInOrder};
+ghost use Rattle.asl_backward_flow.specs.Needed.{RegionNeeds as RegionNeedsValue, HasNoPart, IsTold, region_of};
+ghost use Rattle.asl_backward_flow.specs.Parts.{part, AreAtTheirNumbers};
 
-use crate::analysis::Analysis;
-use crate::found::{AddFault, Found};
-use crate::masks::{Mask, no_masks};
-use crate::step::{add_back, add_entry};
-use asl_lane_sets::Bits;
-use std::alloc::Global;
+use crate::region::Region;
+use crate::region_needs::RegionNeeds;
+use asl_code::Lock;
+use std::alloc::{AllocError, Global};
+use std::marker::Model;
 
-/// Adds what follows from all that is needed at a point that was taken off the list. The list and the two sets are for what is
-/// found on the way, so that none is made anew.
-fn follow(
-    alloc: Global,
-    analysis: &Analysis,
-    point: (u16, u16),
-    masks: &mut Vec<Vec<Mask>>,
-    pcs: &mut Vec<u16>,
-    set: &mut Bits,
-    stay: &mut Bits,
-    found: &mut Found,
-) -> Result<(), AddFault>
-    requires analysis { IsRead (read analysis.now) }
-    requires there { (n : _) × Has (table found.old) point.0 point.1 n }
-    requires followed { IsFollowed (read analysis.now) (table found.old) (point ∷ (table found.old).list) }
-    requires masks { AreAllMasks (read analysis.now) (table found.old) (map (λ v. v.items) masks.old.items) }
-    ensures masks { OnOk result (AreAllMasks (read analysis.now) (table found.new) (map (λ v. v.items) masks.new.items)) }
-    ensures ok { OnOk result (IsFollowed (read analysis.now) (table found.new) (table found.new).list) }
-    ensures less { OnOk result (left (table found.new) ≤ left (table found.old)) }
-    ensures err { IfErr result (Overflows (read analysis.now) (table found.new)) }
-{
-    found.needs(point.0, point.1, set)?;
-    add_back(
-        alloc, analysis, point.0, point.1, set, masks, pcs, stay, found,
-    )?;
-    add_entry(alloc, analysis, point.0, point.1, set, found)
+/// Which locks each region needs at each of its points (`docs/ANALYSIS.md`, "Needed locks").
+#[derive(Drop)]
+pub struct Flow {
+    parts: Vec<RegionNeeds>,
 }
 
-/// Adds what follows at each point on the list, also at those that are put on it on the way.
-pub fn follow_all(alloc: Global, analysis: &Analysis, found: &mut Found) -> Result<(), AddFault>
-    requires analysis { IsRead (read analysis.now) }
-    requires followed { IsFollowed (read analysis.now) (table found.old) (table found.old).list }
-    ensures ok { OnOk result (IsFollowed (read analysis.now) (table found.new) []) }
-    ensures err { IfErr result (Overflows (read analysis.now) (table found.new)) }
+impl Model for Flow {
+    ghost use Rattle.std.specs.Prelude.{List, map};
+    ghost use Rattle.asl_backward_flow.specs.Needed.{RegionNeeds as RegionNeedsValue};
+    ghost use Rattle.asl_backward_flow.specs.Parts.{part, AreAtTheirNumbers};
+
+    ghost Value = { List RegionNeedsValue };
+
+    ghost view = { λ f. map part f.parts.items };
+
+    ghost invariant = { λ f. AreAtTheirNumbers (map part f.parts.items) };
+}
+
+/// The flow of these regions, of which each section stands at its number.
+pub fn flow_of(parts: Vec<RegionNeeds>) -> Flow
+    requires { AreAtTheirNumbers (map part parts.items) }
+    ensures { result ≡ map part parts.items }
 {
-    let mut masks = no_masks(alloc, analysis.spans.len())?;
-    let mut pcs = Vec::new(alloc);
-    let mut set = Bits::with_len(alloc, 0)?;
-    let mut stay = Bits::with_len(alloc, 0)?;
-    while let Some(point) = found.list.pop() {
-        follow(
-            alloc, analysis, point, &mut masks, &mut pcs, &mut set, &mut stay, found,
-        )?;
+    Flow { parts }
+}
+
+impl Flow {
+    /// The locks that a region needs at a pc, each once, in order; of a flow that `needed` answered none where there is no such
+    /// region, or where the pc is none of the region's.
+    ///
+    /// # Errors
+    ///
+    /// A growth was refused.
+    pub fn at(&self, alloc: Global, region: Region, pc: u32) -> Result<Vec<Lock>, AllocError>
+        ensures order { IfOk result (λ v. AreInOrder v.items) }
+        ensures locks { IfOk result (λ v. (m : Lock) → IsOne v.items m ↔ IsTold self.now (region_of region) pc m) }
+    {
+        told(alloc, self.parts.as_slice(), region, pc)
     }
-    Ok(())
+
+    /// The place at which the flow has a region, and none where it has no such region.
+    pub fn place(&self, region: Region) -> Option<usize>
+        ensures { MatchOption result (HasNoPart self.now (region_of region)) (λ k. (p : RegionNeedsValue) × (slice_get self.now k ≡ Some p) × (p.region ≡ region_of region)) }
+    {
+        place_of(self.parts.as_slice(), region)
+    }
+
+    /// The locks that the region at a place needs at any of its points; the number of a lock is its place among them.
+    pub fn locks(&self, place: usize) -> &[Lock]
+        ensures { (p : RegionNeedsValue) → slice_get self.now place ≡ Some p → result.now ≡ p.locks }
+    {
+        match self.parts.get(place) {
+            Some(part) => part.locks.as_slice(),
+            None => &[],
+        }
+    }
+
+    /// The number of a lock among those of the region at a place, if it is one of them.
+    pub fn number(&self, place: usize, lock: &Lock) -> Option<usize>
+        ensures { (p : RegionNeedsValue) → slice_get self.now place ≡ Some p
+            → MatchOption result (¬ IsOne p.locks lock.now) (λ n. slice_get p.locks n ≡ Some lock.now) }
+    {
+        self.parts.get(place)?.locks.get_index_of(lock)
+    }
+
+    /// Whether the region at a place needs the lock of a number at the pc.
+    pub fn needs(&self, place: usize, pc: u32, number: usize) -> bool
+        ensures { (p : RegionNeedsValue) → slice_get self.now place ≡ Some p → IsTrue result ↔ ((k : ℕ) × (slice_get p.needs k ≡ Some (pc, number))) }
+    {
+        match self.parts.get(place) {
+            Some(part) => part.needs(pc, number),
+            None => false,
+        }
+    }
+}
+
+/// The place of a part of a region.
+fn place_of(parts: &[RegionNeeds], region: Region) -> Option<usize>
+    ensures { MatchOption result (HasNoPart (map part parts.now) (region_of region))
+        (λ k. (p : RegionNeedsValue) × (slice_get (map part parts.now) k ≡ Some p) × (p.region ≡ region_of region)) }
+{
+    for (place, part) in parts.iter().enumerate() {
+        if part.region == region {
+            return Some(place);
+        }
+    }
+    None
+}
+
+/// Parts among which those of a region are: for a section the one that stands at its number.
+fn candidates(parts: &[RegionNeeds], region: Region) -> &[RegionNeeds]
+    requires { AreAtTheirNumbers (map part parts.now) }
+    ensures { (pc : ℕ) (m : Lock) → IsTold (map part result.now) (region_of region) pc m ↔ IsTold (map part parts.now) (region_of region) pc m }
+{
+    match region {
+        Region::Section(number) if usize::from(number) < parts.len() => {
+            let place = usize::from(number);
+            &parts[place..place + 1]
+        }
+        _ => parts,
+    }
+}
+
+/// The locks that the parts of a region say to be needed at a pc.
+fn told(
+    alloc: Global,
+    parts: &[RegionNeeds],
+    region: Region,
+    pc: u32,
+) -> Result<Vec<Lock>, AllocError>
+    requires { AreAtTheirNumbers (map part parts.now) }
+    ensures order { IfOk result (λ v. AreInOrder v.items) }
+    ensures locks { IfOk result (λ v. (m : Lock) → IsOne v.items m ↔ IsTold (map part parts.now) (region_of region) pc m) }
+{
+    let mut locks = Vec::new(alloc);
+    let candidates = candidates(parts, region);
+    for part in candidates {
+        if part.region == region {
+            part.add_needed(alloc, pc, &mut locks)?;
+        }
+    }
+    Ok(locks)
 }

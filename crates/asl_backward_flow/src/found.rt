@@ -6,7 +6,7 @@ ghost use Rattle.asl_lane_sets.specs.NumberSet.{IsIn};
 ghost use Rattle.asl_lock_expr.specs.Links.{IsOne};
 ghost use Rattle.asl_backward_flow.specs.Found.{table, locks_of, IsAt, IsBlank, Has, HasPoint, HasFact, IsNamed, IsPut, IsWhole, IsOver, Adds, Lists};
 
-use crate::part::{Part, mark, merge, number};
+use crate::region_needs::{RegionNeeds, mark, merge, number};
 use crate::span::Span;
 use asl_code::Lock;
 use asl_lane_sets::Bits;
@@ -20,7 +20,7 @@ const MAX_LOCKS: usize = 4096;
 /// point as the place of its region among the spans, and the pc. The last is followed first, since locks flow backwards.
 #[derive(Drop)]
 pub struct Found {
-    pub parts: Vec<Part>,
+    pub parts: Vec<RegionNeeds>,
     pub list: BinaryHeap<(u16, u16)>,
 }
 
@@ -72,7 +72,7 @@ impl Found {
     {
         let mut parts = Vec::with_capacity(alloc, spans.len())?;
         for span in spans {
-            parts.push(Part::new(alloc, span)?)?;
+            parts.push(RegionNeeds::new(alloc, span)?)?;
         }
         Ok(Found {
             parts,

@@ -1,6 +1,6 @@
 //! The jumps to each pc, the calls of each function, and the regions that have each call.
 ghost use Rattle.std.specs.Prelude.{◌≡◌, ◌↔◌, IsTrue, ◌++◌, ◌∷◌, ◌+◌, [], ◌<◌, ◌≤◌, length, map, slice_set, vec_len, IfOk, OnOk, replicate};
-ghost use Rattle.asl_lower.specs.Kept.{IsKept};
+ghost use Rattle.asl_lower.specs.LegalLowering.{IsLegalLowering};
 ghost use Rattle.asl_backward_flow.specs.Found.{list_at};
 ghost use Rattle.asl_backward_flow.specs.Graph.{HasRows, HasCall, EndWithin, IsEdge, IsJump, IsCall};
 
@@ -41,7 +41,7 @@ pub fn goes_on(lowering: &Lowering, pc: u16, to: u16) -> bool
 
 /// For each pc, the pcs from which control goes on to it, without the one before it.
 pub fn jumps(alloc: Global, lowering: &Lowering) -> Result<Vec<Vec<u16>>, AllocError>
-    ensures kept { IsKept lowering.now }
+    ensures kept { IsLegalLowering lowering.now }
     ensures rows { IfOk result (λ rows. HasRows (map (λ r. r.items) rows.items) (IsJump lowering.now) (length lowering.now.code)) }
 {
     let count = lowering.code().len();
@@ -54,7 +54,7 @@ pub fn jumps(alloc: Global, lowering: &Lowering) -> Result<Vec<Vec<u16>>, AllocE
 
 /// Adds the pc to the rows of those to which control goes on from it, but for the next.
 fn add_jumps(lowering: &Lowering, pc: u16, rows: &mut Vec<Vec<u16>>) -> Result<(), AllocError>
-    requires kept { IsKept lowering.now }
+    requires kept { IsLegalLowering lowering.now }
     requires there { pc < length lowering.now.code }
     requires rows { length lowering.now.code ≡ vec_len rows.old }
     requires before { HasRows (map (λ r. r.items) rows.old.items) (IsJump lowering.now) pc }

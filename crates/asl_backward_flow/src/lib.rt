@@ -4,22 +4,22 @@
 mod analysis;
 mod fault;
 mod flow;
+mod following;
 mod found;
 mod graph;
 mod laws;
 mod masks;
-mod part;
-mod parts;
 mod region;
+mod region_needs;
 mod solve;
 mod span;
 mod step;
 
 pub use fault::FlowFault;
+pub use flow::Flow;
 pub use laws::{
     needed_locks_depend_on_written_classes_alone, nothing_is_needed_outside_a_region,
     the_needed_locks_are_the_least_closed_family, what_needed_locks_name_is_there,
 };
-pub use parts::Flow;
 pub use region::Region;
 pub use solve::needed;

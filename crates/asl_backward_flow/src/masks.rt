@@ -6,10 +6,10 @@ ghost use Rattle.asl_lock_expr.specs.LinksView.{seen as seen_by};
 ghost use Rattle.asl_lock_expr.specs.Touches.{IsClear, Stays};
 ghost use Rattle.asl_backward_flow.specs.Masked.{IsMask, AreMasks, IsMaskOf};
 
-use crate::part::{STEP, make_room};
+use crate::region_needs::{STEP, make_room};
 use asl_code::{Instr, Lock};
 use asl_lane_sets::Bits;
-use asl_lock_expr::{Touch, View, is_clear, set_by, stored_by};
+use asl_lock_expr::{LinkContext, Touch, is_clear, set_by, stored_by};
 use std::alloc::{AllocError, Global};
 
 /// The numbers of the locks of a region that what is touched may concern, so far as the locks have numbers below one.
@@ -34,7 +34,7 @@ pub fn no_masks(alloc: Global, count: usize) -> Result<Vec<Vec<Mask>>, AllocErro
 /// Makes a set that of the numbers of another whose locks stay as they are over an instruction, by the masks of their region.
 pub fn staying(
     alloc: Global,
-    view: &View,
+    view: &LinkContext,
     instr: Instr,
     locks: &[Lock],
     set: &Bits,
@@ -59,7 +59,7 @@ pub fn staying(
 /// Takes from a set the numbers of the locks that what is touched may concern.
 fn keep_clear(
     alloc: Global,
-    view: &View,
+    view: &LinkContext,
     touch: Touch,
     locks: &[Lock],
     set: &mut Bits,
@@ -81,7 +81,7 @@ fn keep_clear(
 /// The place of the mask of what is touched, where one is put if there is none.
 fn mask_of(
     alloc: Global,
-    view: &View,
+    view: &LinkContext,
     touch: Touch,
     locks: &[Lock],
     masks: &mut Vec<Mask>,
@@ -116,7 +116,7 @@ fn find(touch: Touch, masks: &[Mask]) -> Option<usize>
 }
 
 /// Extends a mask to all locks.
-fn extend(view: &View, locks: &[Lock], mask: &mut Mask) -> Result<(), AllocError>
+fn extend(view: &LinkContext, locks: &[Lock], mask: &mut Mask) -> Result<(), AllocError>
     requires { IsMask (seen_by view.now) locks.now mask.old }
     ensures mask { OnOk result (IsMask (seen_by view.now) locks.now mask.new) }
     ensures touch { OnOk result (mask.new.touch ≡ mask.old.touch) }

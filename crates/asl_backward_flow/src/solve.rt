@@ -7,10 +7,10 @@ ghost use Rattle.asl_backward_flow.specs.Parts.{TellsAll, HasMany};
 
 use crate::analysis::Analysis;
 use crate::fault::FlowFault;
-use crate::flow::follow_all;
+use crate::flow::{Flow, flow_of};
+use crate::following::follow_all;
 use crate::found::{AddFault, Found};
 use crate::graph::{calls, jumps, regions};
-use crate::parts::{Flow, flow_of};
 use crate::span::spans;
 use crate::step::add_seeds;
 use asl_lock_expr::writes;
@@ -43,7 +43,7 @@ pub fn needed(
         lowering,
         classes,
         writes: &writes,
-        longest: k as usize,
+        k_limit: k as usize,
         spans: spans.as_slice(),
         jumps: jumps.as_slice(),
         calls: calls.as_slice(),

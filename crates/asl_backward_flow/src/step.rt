@@ -15,17 +15,17 @@ use crate::masks::{Mask, staying};
 use crate::region::Region;
 use asl_code::{Instr, Lock};
 use asl_lane_sets::Bits;
-use asl_lock_expr::{View, add_accesses, add_entered, add_links, prefixes};
+use asl_lock_expr::{LinkContext, add_accesses, add_entered, add_links, prefixes};
 use std::alloc::{AllocError, Global};
 
 /// What links are read against in a function.
-fn view<'a>(analysis: &Analysis<'a>, function: u16) -> View<'a>
+fn view<'a>(analysis: &Analysis<'a>, function: u16) -> LinkContext<'a>
     ensures { seen_by result ≡ seen (read analysis.now) function }
 {
-    View {
+    LinkContext {
         classes: analysis.classes,
         writes: analysis.writes,
-        longest: analysis.longest,
+        k_limit: analysis.k_limit,
         function,
     }
 }

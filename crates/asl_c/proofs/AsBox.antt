@@ -8,14 +8,14 @@ use Rattle.std.specs.contracts.impls.GlobalAllocator.TheImpl.{ghosts, dict}
 use Rattle.std.proofs.alloc.Global.TheLaws as heap
 use Rattle.asl_lock_forest.specs.contracts.forest.Forest as Forest
 use Rattle.asl_lock_forest.proofs.forest.Forest.TheLaws as forest
-use Rattle.asl_foreign.specs.contracts.parts.Parts as Parts
+use Rattle.asl_foreign.specs.contracts.parts.OpenBox as OpenBox
 use Rattle.asl_c.specs.contracts.slot.Slot as Held
 
 abbrev pub E : Bx
 E = record { row = Forest.the_row; laws = forest.the_row_laws; al = record { row = Heap.the_row; laws = heap.the_row_laws; g = ghosts; d = dict; drops = impl [] tnil dnil } }
 
 abbrev pub FromParts : Slot 0
-FromParts = plain (λ _. Parts.the_row Forest.the_row Heap.the_row ghosts)
+FromParts = plain (λ _. OpenBox.the_row Forest.the_row Heap.the_row ghosts)
 
 abbrev pub FromSlot : Slot 0
 FromSlot = plain (λ _. Held.the_row)

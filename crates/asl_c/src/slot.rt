@@ -3,7 +3,7 @@ ghost use Rattle.std.specs.Prelude.{◌≡◌, Bool, true, false};
 ghost use Rattle.asl_lock_forest.specs.Held.{Held, coded_held};
 ghost use Rattle.std.specs.Coded.{coded_bool};
 
-use asl_foreign::Parts;
+use asl_foreign::OpenBox;
 use asl_lock_forest::Forest;
 use std::alloc::Global;
 use std::marker::Model;
@@ -43,11 +43,11 @@ impl Slot {
     }
 
     /// The forest of the box.
-    pub fn of_parts(parts: Parts<Forest, Global>) -> Slot
+    pub fn of_parts(parts: OpenBox<Forest, Global>) -> Slot
         ensures owned { result.owned ≡ true }
         ensures forest { result.forest ≡ parts.value }
     {
-        let Parts { ptr, alloc } = parts;
+        let OpenBox { ptr, alloc } = parts;
         Slot {
             at: ptr as *mut Opaque,
             alloc,
@@ -55,12 +55,12 @@ impl Slot {
     }
 
     /// The box of the forest.
-    pub fn into_parts(self) -> Parts<Forest, Global>
+    pub fn into_parts(self) -> OpenBox<Forest, Global>
         requires { self.owned ≡ true }
         ensures { result.value ≡ self.forest }
     {
         let Slot { at, alloc } = self;
-        Parts {
+        OpenBox {
             ptr: at as *mut Forest,
             alloc,
         }

@@ -8,7 +8,7 @@ use Rattle.asl_code.specs.declared.lock.Lock.TheVariants as lock
 use Rattle.asl_syntax.specs.Tree.{Item}
 use Rattle.asl_lower.specs.declared.section.Section.{Section}
 use Rattle.asl_lower.specs.Lowered.{Lowered, IsLowering}
-use Rattle.asl_lower.specs.Kept.{IsKept}
+use Rattle.asl_lower.specs.LegalLowering.{IsLegalLowering}
 use Rattle.asl_lower.specs.Regions.{Inside}
 use Rattle.asl_lower.proofs.Laid.{one_lowering}
 use Rattle.asl_points_to.specs.Classes.{Classed, AreClasses}
@@ -26,7 +26,7 @@ use Rattle.asl_emitter.proofs.Needing.{needed_class}
 use Rattle.asl_emitter.proofs.Outcomes.{accepted}
 use Rattle.asl_check.specs.declared.fault.CheckFault.{CheckFault}
 use Rattle.asl_check.specs.declared.fault.CheckFault.TheVariants.{Infer, OtherCode, Uncovered, Unguarded, OutOfMemory}
-use Rattle.asl_soundness.specs.Safe.{StandOver}
+use Rattle.asl_soundness.specs.Safe.{ListsCover}
 use Rattle.asl_check.specs.Checked.{IsUnderOne, reads_of, IsCodeOf, IsOtherCode, AreGuarded, IsFirstLacking, IsFirstOpen}
 use Rattle.asl_check.specs.Refused.{IsChecked, IsRefused, IsOutOfMemory}
 
@@ -46,21 +46,21 @@ one_got [] n a e = cc
 one_got (x ∷ xs) zero a e = inl (cc)
 one_got (x ∷ xs) (suc n) a e = inr (one_got xs n a e)
 
-module _ (l : Lowered) (c : Classed) (stores : ℕ → ℕ → Bool) (longest : ℕ) (image : Image) (kept : IsKept l) (are : AreClasses l c) (m : IsInferred l c stores longest image) where
-  under : (n : ℕ) (s : Section) (list : List Lock) (a : Lock) → slice_get l.sections n ≡ Some s → slice_get image.lists n ≡ Some list → Needed l c stores longest (Inside n) (suc s.acquire) a → IsUnderOne c s.function list a
+module _ (l : Lowered) (c : Classed) (stores : ℕ → ℕ → Bool) (k_limit : ℕ) (image : Image) (kept : IsLegalLowering l) (are : AreClasses l c) (m : IsInferred l c stores k_limit image) where
+  under : (n : ℕ) (s : Section) (list : List Lock) (a : Lock) → slice_get l.sections n ≡ Some s → slice_get image.lists n ≡ Some list → Needed l c stores k_limit (Inside n) (suc s.acquire) a → IsUnderOne c s.function list a
   under n s list a there at needed =
-      fitted_covers c s.function 256 (Needed l c stores longest (Inside n) (suc s.acquire)) list (m.lists n s list there at) a needed
-      (needed_class l c stores longest kept are n (suc s.acquire) s a there needed)
+      fitted_covers c s.function 256 (Needed l c stores k_limit (Inside n) (suc s.acquire)) list (m.lists n s list there at) a needed
+      (needed_class l c stores k_limit kept are n (suc s.acquire) s a there needed)
 
-  read_needed : (n : ℕ) (s : Section) (list : List Lock) → slice_get l.sections n ≡ Some s → slice_get image.lists n ≡ Some list → (b a : Lock) → IsOne list b → IsOne (dereferenced b) a → Needed l c stores longest (Inside n) (suc s.acquire) a
+  read_needed : (n : ℕ) (s : Section) (list : List Lock) → slice_get l.sections n ≡ Some s → slice_get image.lists n ≡ Some list → (b a : Lock) → IsOne list b → IsOne (dereferenced b) a → Needed l c stores k_limit (Inside n) (suc s.acquire) a
   read_needed n s list there at (lock.Expr e effect) a o d =
       Before (Inside n) (suc s.acquire) (lock.Expr e effect) a
-      (expression_given c s.function 256 (λ x. Needed l c stores longest (Inside n) (suc s.acquire) x) list (m.lists n s list there at) e effect o) d
+      (expression_given c s.function 256 (λ x. Needed l c stores k_limit (Inside n) (suc s.acquire) x) list (m.lists n s list there at) e effect o) d
   read_needed n s list there at (lock.Class class effect) a o d = absurd d
   read_needed n s list there at (lock.Root effect) a o d = absurd d
 
   -- so the inferred lists are enough
-  inferred_over : StandOver l c (Needed l c stores longest) image
+  inferred_over : ListsCover l c (Needed l c stores k_limit) image
   inferred_over n s list a there at needed = under n s list a there at needed
 
   inferred_guarded : AreGuarded l c image.lists (length l.sections)
@@ -70,17 +70,17 @@ module _ (l : Lowered) (c : Classed) (stores : ℕ → ℕ → Bool) (longest : 
   inferred_code =
       record { tables = record { version = m.version; classes = m.classes; globals = m.globals; functions = m.functions; start = m.start; count = m.count }; code = m.code }
 
-pub inferred_checked : (is : List Item) (k : Lowered) (longest : ℕ) (image : Image) → IsLowering is k → IsKept k → IsAccepted is longest → IsInferredFor is longest image → IsChecked is longest image
-inferred_checked is k longest image lowers kept accept h =
+pub inferred_checked : (is : List Item) (k : Lowered) (k_limit : ℕ) (image : Image) → IsLowering is k → IsLegalLowering k → IsAccepted is k_limit → IsInferredFor is k_limit image → IsChecked is k_limit image
+inferred_checked is k k_limit image lowers kept accept h =
     let a = h.analysis in
     let p = a.program in
-    let own : IsKept p.lowering = subst IsKept (one_lowering is k p.lowering lowers p.lowers) kept in
+    let own : IsLegalLowering p.lowering = subst IsLegalLowering (one_lowering is k p.lowering lowers p.lowers) kept in
     record {
       covered = record {
-        of_tree = record { accepted = accept; analysis = a; code = inferred_code p.lowering p.classes a.stores longest image own p.are_classes h.inferred };
-        over = inferred_over p.lowering p.classes a.stores longest image own p.are_classes h.inferred;
+        of_tree = record { accepted = accept; analysis = a; code = inferred_code p.lowering p.classes a.stores k_limit image own p.are_classes h.inferred };
+        over = inferred_over p.lowering p.classes a.stores k_limit image own p.are_classes h.inferred;
       };
-      guarded = inferred_guarded p.lowering p.classes a.stores longest image own p.are_classes h.inferred;
+      guarded = inferred_guarded p.lowering p.classes a.stores k_limit image own p.are_classes h.inferred;
     }
 
 -- ---- a program that is checked has no fault
@@ -89,29 +89,29 @@ pub not_other : (l : Lowered) (c : Classed) (image : Image) (pc : ℕ) → IsCod
 not_other l c image pc m (inl first) = first.differ (ap (λ (is : List Instr). slice_get is pc) m.code)
 not_other l c image pc m (inr tables) = tables.1 m.tables
 
-pub not_lacking : (l : Lowered) (c : Classed) (stores : ℕ → ℕ → Bool) (longest : ℕ) (image : Image) (section : ℕ) (a : Lock) → StandOver l c (Needed l c stores longest) image → IsFirstLacking l c (Needed l c stores longest) image.lists section a → ⊥
-not_lacking l c stores longest image section a over h =
+pub not_lacking : (l : Lowered) (c : Classed) (stores : ℕ → ℕ → Bool) (k_limit : ℕ) (image : Image) (section : ℕ) (a : Lock) → ListsCover l c (Needed l c stores k_limit) image → IsFirstLacking l c (Needed l c stores k_limit) image.lists section a → ⊥
+not_lacking l c stores k_limit image section a over h =
     h.first.bare (over section h.is h.list a h.in_table h.listed (h.reduced.kept a (one_got h.needed h.first.index a h.first.at)).0)
 
 pub not_open : (l : Lowered) (c : Classed) (lists : List (List Lock)) (section : ℕ) (a : Lock) → AreGuarded l c lists (length l.sections) → IsFirstOpen l c lists section a → ⊥
 not_open l c lists section a guarded h =
     h.first.bare (guarded section (slice_get_within l.sections section h.is h.in_table) h.is h.list h.in_table h.listed a (one_got (reads_of h.list) h.first.index a h.first.at))
 
-pub checked_only : (is : List Item) (longest : ℕ) (image : Image) (fault : CheckFault) → IsChecked is longest image → IsRefused is longest image fault → IsOutOfMemory fault
-checked_only is longest image (Infer fault) h r = accepted is longest fault h.covered.of_tree.accepted r
-checked_only is longest image (OtherCode pc) h r =
+pub checked_only : (is : List Item) (k_limit : ℕ) (image : Image) (fault : CheckFault) → IsChecked is k_limit image → IsRefused is k_limit image fault → IsOutOfMemory fault
+checked_only is k_limit image (Infer fault) h r = accepted is k_limit fault h.covered.of_tree.accepted r
+checked_only is k_limit image (OtherCode pc) h r =
     let a = h.covered.of_tree.analysis in let q = a.program in
     absurd (not_other q.lowering q.classes image pc h.covered.of_tree.code
     (same_analysis is q.lowering q.classes a.stores q.lowers q.are_classes a.tells (λ l c s. IsOtherCode l c image pc) r.analysis r.other))
-checked_only is longest image (Uncovered section x) h r =
+checked_only is k_limit image (Uncovered section x) h r =
     let a = h.covered.of_tree.analysis in let q = a.program in
-    absurd (not_lacking q.lowering q.classes a.stores longest image section x h.covered.over
-    (same_analysis is q.lowering q.classes a.stores q.lowers q.are_classes a.tells (λ l c s. IsFirstLacking l c (Needed l c s longest) image.lists section x) r.of_tree.analysis r.lacking))
-checked_only is longest image (Unguarded section x) h r =
+    absurd (not_lacking q.lowering q.classes a.stores k_limit image section x h.covered.over
+    (same_analysis is q.lowering q.classes a.stores q.lowers q.are_classes a.tells (λ l c s. IsFirstLacking l c (Needed l c s k_limit) image.lists section x) r.of_tree.analysis r.lacking))
+checked_only is k_limit image (Unguarded section x) h r =
     let a = h.covered.of_tree.analysis in let q = a.program in
     absurd (not_open q.lowering q.classes image.lists section x h.guarded
     (same_analysis is q.lowering q.classes a.stores q.lowers q.are_classes a.tells (λ l c s. IsFirstOpen l c image.lists section x) r.covered.of_tree.analysis r.open_at))
-checked_only is longest image OutOfMemory h r = tt
+checked_only is k_limit image OutOfMemory h r = tt
 
-pub only_memory : (is : List Item) (k : Lowered) (longest : ℕ) (image : Image) → IsLowering is k → IsKept k → IsAccepted is longest → IsInferredFor is longest image → (fault : CheckFault) → IsRefused is longest image fault → IsOutOfMemory fault
-only_memory is k longest image lowers kept accept h fault refused = checked_only is longest image fault (inferred_checked is k longest image lowers kept accept h) refused
+pub only_memory : (is : List Item) (k : Lowered) (k_limit : ℕ) (image : Image) → IsLowering is k → IsLegalLowering k → IsAccepted is k_limit → IsInferredFor is k_limit image → (fault : CheckFault) → IsRefused is k_limit image fault → IsOutOfMemory fault
+only_memory is k k_limit image lowers kept accept h fault refused = checked_only is k_limit image fault (inferred_checked is k k_limit image lowers kept accept h) refused

@@ -7,14 +7,14 @@ use Rattle.asl_code.specs.Verified.{IsVerified}
 use Rattle.asl_code.proofs.FitsLaws.{image_fits}
 use Rattle.asl_lower.specs.declared.section.Section.{Section}
 use Rattle.asl_lower.specs.Lowered.{Lowered}
-use Rattle.asl_lower.specs.Kept.{IsKept}
+use Rattle.asl_lower.specs.LegalLowering.{IsLegalLowering}
 use Rattle.asl_lower.specs.Regions.{Inside}
 use Rattle.asl_points_to.specs.Classes.{Classed, AreClasses}
 use Rattle.asl_lock_expr.specs.Links.{IsOne}
-use Rattle.asl_backward_flow.specs.Needed.{Part, Needed, IsTold, TellsNeeded}
+use Rattle.asl_backward_flow.specs.Needed.{RegionNeeds, Needed, IsTold, TellsNeeded}
 use Rattle.asl_backward_flow.specs.Flows.{IsFlow}
 use Rattle.asl_soundness.specs.Coded.{IsImageOf}
-use Rattle.asl_soundness.specs.Safe.{StandOver, NeverFaultsForLocks}
+use Rattle.asl_soundness.specs.Safe.{ListsCover, NeverFaultsForLocks}
 use Rattle.asl_soundness.proofs.Analysed.{IsAnalysed}
 use Rattle.asl_soundness.proofs.Soundness.{sound_program}
 use Rattle.asl_soundness.proofs.NeededLaws.{needed_analysed}
@@ -23,22 +23,22 @@ use Rattle.std.specs.Prelude.{IsTrue}
 use Rattle.asl_code.specs.Locks.{effect_of}
 use Rattle.asl_code.specs.declared.lock.Lock.TheVariants as lock
 use Rattle.asl_lock_expr.specs.ClassOf.{class_of}
-use Rattle.asl_soundness.specs.Over.{covers_effect, StandsOver}
-use Rattle.asl_emitter.specs.Lists.{DoesFor, IsReduced}
+use Rattle.asl_soundness.specs.Covering.{covers_effect, CoversLock}
+use Rattle.asl_emitter.specs.Lists.{SufficesFor, IsReduced}
 use Rattle.asl_emitter.proofs.Absorbing.{IsOver, effect_trans, reduced_covers}
 use Rattle.asl_emitter.proofs.Fits.{reduced_same}
 use Rattle.asl_emitter.proofs.Making.{told_needed}
-use Rattle.asl_check.specs.Checked.{AreUnder, IsFirstBare, reads_of, IsCodeOf, StandOverFirst, AreGuarded, IsFirstLacking, IsFirstOpen}
-use Rattle.asl_check.specs.Told.{AreCovered, IsBare}
+use Rattle.asl_check.specs.Checked.{AreUnder, IsFirstBare, reads_of, IsCodeOf, FirstListsCover, AreGuarded, IsFirstLacking, IsFirstOpen}
+use Rattle.asl_check.specs.KnownLists.{AreCovered, IsBare}
 
 -- a list that stands over what the flow says at an entry stands over what the parts tell there
-pub under_told : (c : Classed) (f : ℕ) (list given needed : List Lock) (parts : List Part) (n acquire entry : ℕ) → given ≡ needed → ((a : Lock) → IsOne needed a ↔ IsTold parts (Inside n) (entry + 1) a) → entry ≡ acquire →
+pub under_told : (c : Classed) (f : ℕ) (list given needed : List Lock) (parts : List RegionNeeds) (n acquire entry : ℕ) → given ≡ needed → ((a : Lock) → IsOne needed a ↔ IsTold parts (Inside n) (entry + 1) a) → entry ≡ acquire →
     AreUnder c f list (IsOne given) → AreUnder c f list (IsTold parts (Inside n) (acquire + 1))
 under_told c f list given needed parts n acquire entry is tells same under a told =
     under a (subst (λ (xs : List Lock). IsOne xs a) (sym is) ((tells a).1 (subst (λ q. IsTold parts (Inside n) (q + 1) a) (sym same) told)))
 
 -- what stands over a lock stands over all for which that one does
-does_effect : (c : Classed) (f : ℕ) (a b : Lock) → DoesFor c f a b → IsTrue (covers_effect (effect_of a) (effect_of b))
+does_effect : (c : Classed) (f : ℕ) (a b : Lock) → SufficesFor c f a b → IsTrue (covers_effect (effect_of a) (effect_of b))
 does_effect c f (lock.Class x e) (lock.Class y g) d = d.1
 does_effect c f (lock.Class x e) (lock.Expr b g) d = d.1
 does_effect c f (lock.Class x e) (lock.Root g) d = absurd d
@@ -47,7 +47,7 @@ does_effect c f (lock.Expr a e) (lock.Class x g) d = absurd d
 does_effect c f (lock.Expr a e) (lock.Root g) d = absurd d
 does_effect c f (lock.Root e) b d = absurd d
 
-stands_trans : (c : Classed) (f : ℕ) (m a b : Lock) → StandsOver c f m a → DoesFor c f a b → StandsOver c f m b
+stands_trans : (c : Classed) (f : ℕ) (m a b : Lock) → CoversLock c f m a → SufficesFor c f a b → CoversLock c f m b
 stands_trans c f (lock.Root e) a b p d = effect_trans e (effect_of a) (effect_of b) p (does_effect c f a b d)
 stands_trans c f (lock.Class x e) (lock.Class y g) (lock.Class z h) p q = (p.0 ∙ q.0, effect_trans e g h p.1 q.1)
 stands_trans c f (lock.Class x e) (lock.Class y g) (lock.Expr b h) p q = (q.0 ∙ ap (λ k. Some k) (sym p.0), effect_trans e g h p.1 q.1)
@@ -62,8 +62,8 @@ stands_trans c f (lock.Expr a e) (lock.Expr b g) (lock.Root h) p q = absurd q
 stands_trans c f (lock.Expr a e) (lock.Class b g) d p q = absurd p
 stands_trans c f (lock.Expr a e) (lock.Root g) d p q = absurd p
 
-stands_all : (c : Classed) (f : ℕ) (m a b : Lock) → StandsOver c f m a → IsOver c f a b → StandsOver c f m b
-stands_all c f m a b p (inl e) = subst (StandsOver c f m) e p
+stands_all : (c : Classed) (f : ℕ) (m a b : Lock) → CoversLock c f m a → IsOver c f a b → CoversLock c f m b
+stands_all c f m a b p (inl e) = subst (CoversLock c f m) e p
 stands_all c f m a b p (inr d) = stands_trans c f m a b p d
 
 -- so a list that stands over what is left of a set stands over the set
@@ -74,7 +74,7 @@ under_reduced c f list given reduced r under a o =
     (u.0, u.1, stands_all c f u.0 k.0 a u.2 k.2)
 
 -- one list more
-pub covered_more : (l : Lowered) (c : Classed) (parts : List Part) (lists : List (List Lock)) (n : ℕ) (s : Section) (listed list : List Lock) → AreCovered l c parts lists n →
+pub covered_more : (l : Lowered) (c : Classed) (parts : List RegionNeeds) (lists : List (List Lock)) (n : ℕ) (s : Section) (listed list : List Lock) → AreCovered l c parts lists n →
     slice_get l.sections n ≡ Some s → slice_get lists n ≡ Some listed → list ≡ listed → AreUnder c s.function list (IsTold parts (Inside n) (s.acquire + 1)) → AreCovered l c parts lists (n + 1)
 covered_more l c parts lists n s listed list old there at is under m lt t ls section own =
     elim (eqb_tells m n) [
@@ -124,13 +124,13 @@ open_lock l c lists n s listed list reads given lock copy earlier there at is sa
 }
 
 -- what the flow says at an entry is what its parts tell there
-entry_told : (parts : List Part) (n acquire entry : ℕ) (given all : List Lock) → given ≡ all → ((a : Lock) → IsOne all a ↔ IsTold parts (Inside n) (entry + 1) a) → entry ≡ acquire →
+entry_told : (parts : List RegionNeeds) (n acquire entry : ℕ) (given all : List Lock) → given ≡ all → ((a : Lock) → IsOne all a ↔ IsTold parts (Inside n) (entry + 1) a) → entry ≡ acquire →
     (a : Lock) → IsOne given a ↔ IsTold parts (Inside n) (acquire + 1) a
 entry_told parts n acquire entry given all have tells same a =
     subst (λ q. IsOne given a ↔ IsTold parts (Inside n) (q + 1) a) same (subst (λ (xs : List Lock). IsOne xs a ↔ IsTold parts (Inside n) (entry + 1) a) (sym have) (tells a))
 
 -- the first of the locks that are told over which no lock of the list stands
-pub bare_lock : (l : Lowered) (c : Classed) (parts : List Part) (lists : List (List Lock)) (n : ℕ) (s : Section) (listed list given all reduced handed : List Lock) (entry : ℕ) (lock copy : Lock) → AreCovered l c parts lists n →
+pub bare_lock : (l : Lowered) (c : Classed) (parts : List RegionNeeds) (lists : List (List Lock)) (n : ℕ) (s : Section) (listed list given all reduced handed : List Lock) (entry : ℕ) (lock copy : Lock) → AreCovered l c parts lists n →
     slice_get l.sections n ≡ Some s → slice_get lists n ≡ Some listed → list ≡ listed → given ≡ all → ((a : Lock) → IsOne all a ↔ IsTold parts (Inside n) (entry + 1) a) → entry ≡ s.acquire →
     IsReduced c s.function (IsOne given) reduced → handed ≡ reduced → copy ≡ lock → IsFirstBare c s.function list handed lock → IsBare l c parts lists n copy
 bare_lock l c parts lists n s listed list given all reduced handed entry lock copy earlier there at is have tells same r second copied first = record {
@@ -146,28 +146,28 @@ bare_lock l c parts lists n s listed list given all reduced handed entry lock co
 }
 
 -- lists that stand over what is told stand over what is needed
-pub over_first : (l : Lowered) (c : Classed) (stores : ℕ → ℕ → Bool) (longest : ℕ) (parts : List Part) (lists : List (List Lock)) (so_many : ℕ) → TellsNeeded l c stores longest parts →
-    AreCovered l c parts lists so_many → StandOverFirst l c (Needed l c stores longest) lists so_many
-over_first l c stores longest parts lists so_many tells covered n lt s list there at a needed =
-    covered n lt s list there at a ((told_needed l c stores longest parts tells (Inside n) s.acquire a).1 needed)
+pub over_first : (l : Lowered) (c : Classed) (stores : ℕ → ℕ → Bool) (k_limit : ℕ) (parts : List RegionNeeds) (lists : List (List Lock)) (so_many : ℕ) → TellsNeeded l c stores k_limit parts →
+    AreCovered l c parts lists so_many → FirstListsCover l c (Needed l c stores k_limit) lists so_many
+over_first l c stores k_limit parts lists so_many tells covered n lt s list there at a needed =
+    covered n lt s list there at a ((told_needed l c stores k_limit parts tells (Inside n) s.acquire a).1 needed)
 
-pub stand_over : (l : Lowered) (c : Classed) (stores : ℕ → ℕ → Bool) (longest : ℕ) (parts : List Part) (image : Image) → TellsNeeded l c stores longest parts →
-    AreCovered l c parts image.lists (length l.sections) → StandOver l c (Needed l c stores longest) image
-stand_over l c stores longest parts image tells covered n s list a there at needed =
-    over_first l c stores longest parts image.lists (length l.sections) tells covered n (slice_get_within l.sections n s there) s list there at a needed
+pub stand_over : (l : Lowered) (c : Classed) (stores : ℕ → ℕ → Bool) (k_limit : ℕ) (parts : List RegionNeeds) (image : Image) → TellsNeeded l c stores k_limit parts →
+    AreCovered l c parts image.lists (length l.sections) → ListsCover l c (Needed l c stores k_limit) image
+stand_over l c stores k_limit parts image tells covered n s list a there at needed =
+    over_first l c stores k_limit parts image.lists (length l.sections) tells covered n (slice_get_within l.sections n s there) s list there at a needed
 
 -- and the first lock that is told and lacking is the first that is needed and lacking
-pub bare_lacking : (l : Lowered) (c : Classed) (stores : ℕ → ℕ → Bool) (longest : ℕ) (parts : List Part) (lists : List (List Lock)) (n : ℕ) (lock : Lock) → TellsNeeded l c stores longest parts →
-    IsBare l c parts lists n lock → IsFirstLacking l c (Needed l c stores longest) lists n lock
-bare_lacking l c stores longest parts lists n lock tells h = record {
+pub bare_lacking : (l : Lowered) (c : Classed) (stores : ℕ → ℕ → Bool) (k_limit : ℕ) (parts : List RegionNeeds) (lists : List (List Lock)) (n : ℕ) (lock : Lock) → TellsNeeded l c stores k_limit parts →
+    IsBare l c parts lists n lock → IsFirstLacking l c (Needed l c stores k_limit) lists n lock
+bare_lacking l c stores k_limit parts lists n lock tells h = record {
   is = h.is;
   in_table = h.in_table;
   list = h.list;
   listed = h.listed;
-  earlier = over_first l c stores longest parts lists n tells h.earlier;
+  earlier = over_first l c stores k_limit parts lists n tells h.earlier;
   needed = h.needed;
-  reduced = reduced_same c h.is.function (IsTold parts (Inside n) (h.is.acquire + 1)) (Needed l c stores longest (Inside n) (suc h.is.acquire)) h.needed
-      (λ a. told_needed l c stores longest parts tells (Inside n) h.is.acquire a) h.reduced;
+  reduced = reduced_same c h.is.function (IsTold parts (Inside n) (h.is.acquire + 1)) (Needed l c stores k_limit (Inside n) (suc h.is.acquire)) h.needed
+      (λ a. told_needed l c stores k_limit parts tells (Inside n) h.is.acquire a) h.reduced;
   first = h.first;
 }
 
@@ -184,14 +184,14 @@ image_of l c image are verified m = record {
 }
 
 -- where its lists stand over what is told, it is analysed
-pub covered_analysed : (l : Lowered) (c : Classed) (longest : ℕ) (parts : List Part) (image : Image) → IsKept l → AreClasses l c → IsVerified image → (flow : IsFlow l c longest parts) → IsCodeOf l c image →
-    AreCovered l c parts image.lists (length l.sections) → IsAnalysed l c flow.stores longest (Needed l c flow.stores longest) image
-covered_analysed l c longest parts image kept are verified flow m covered =
-    needed_analysed l c flow.stores longest image kept (image_of l c image are verified m) (λ f x may. (flow.written f x).1 may)
-    (stand_over l c flow.stores longest parts image flow.tells covered)
+pub covered_analysed : (l : Lowered) (c : Classed) (k_limit : ℕ) (parts : List RegionNeeds) (image : Image) → IsLegalLowering l → AreClasses l c → IsVerified image → (flow : IsFlow l c k_limit parts) → IsCodeOf l c image →
+    AreCovered l c parts image.lists (length l.sections) → IsAnalysed l c flow.stores k_limit (Needed l c flow.stores k_limit) image
+covered_analysed l c k_limit parts image kept are verified flow m covered =
+    needed_analysed l c flow.stores k_limit image kept (image_of l c image are verified m) (λ f x may. (flow.written f x).1 may)
+    (stand_over l c flow.stores k_limit parts image flow.tells covered)
 
 -- and it never faults for want of a lock
-pub covered_sound : (l : Lowered) (c : Classed) (longest : ℕ) (parts : List Part) (image : Image) → IsKept l → AreClasses l c → IsVerified image → IsFlow l c longest parts → IsCodeOf l c image →
+pub covered_sound : (l : Lowered) (c : Classed) (k_limit : ℕ) (parts : List RegionNeeds) (image : Image) → IsLegalLowering l → AreClasses l c → IsVerified image → IsFlow l c k_limit parts → IsCodeOf l c image →
     AreCovered l c parts image.lists (length l.sections) → NeverFaultsForLocks image
-covered_sound l c longest parts image kept are verified flow m covered =
-    sound_program l c flow.stores longest (Needed l c flow.stores longest) image (covered_analysed l c longest parts image kept are verified flow m covered)
+covered_sound l c k_limit parts image kept are verified flow m covered =
+    sound_program l c flow.stores k_limit (Needed l c flow.stores k_limit) image (covered_analysed l c k_limit parts image kept are verified flow m covered)

@@ -28,7 +28,7 @@ use Rattle.asl_machine.specs.Request.{request_of}
 use Rattle.asl_machine.specs.Cover.{cover}
 use Rattle.asl_machine.proofs.Invariant.{here_of, outside_here}
 use Rattle.asl_soundness.proofs.Analysed.{IsAnalysed}
-use Rattle.asl_soundness.specs.Over.{StandsOver}
+use Rattle.asl_soundness.specs.Covering.{CoversLock}
 use Rattle.asl_soundness.specs.Protected.{Protected, BaseThere, LockThere}
 use Rattle.asl_soundness.proofs.Standing.{lowered_at}
 use Rattle.asl_soundness.proofs.Entering.{granted_protects}
@@ -65,23 +65,23 @@ one_place (x ∷ xs) m (inr o) = let p = one_place xs m o in let lt = p.1 in (su
 one_all : (P : Lock → Type 0) (xs : List Lock) → All P xs → (m : Lock) → IsOne xs m → P m
 one_all P xs all m o = let p = one_place xs m o in subst P p.2 (all p.0 m p.1)
 
-module _ (l : Lowered) (c : Classed) (stores : ℕ → ℕ → Bool) (longest : ℕ) (image : Image) (A : IsAnalysed l c stores longest (Needed l c stores longest) image) (G : AreGuarded l c image.lists (length l.sections)) where
-  module _ (s : State) (t list : ℕ) (a : Activity) (q : Ready l c stores longest (Needed l c stores longest) image s t a) (entry : IsAtEntry image s t list a) (section : Section) (there : slice_get l.sections list ≡ Some section) (starts : section.acquire ≡ a.top.pc) (locks : List Lock) (listed : slice_get image.lists list ≡ Some locks) where
+module _ (l : Lowered) (c : Classed) (stores : ℕ → ℕ → Bool) (k_limit : ℕ) (image : Image) (A : IsAnalysed l c stores k_limit (Needed l c stores k_limit) image) (G : AreGuarded l c image.lists (length l.sections)) where
+  module _ (s : State) (t list : ℕ) (a : Activity) (q : Ready l c stores k_limit (Needed l c stores k_limit) image s t a) (entry : IsAtEntry image s t list a) (section : Section) (there : slice_get l.sections list ≡ Some section) (starts : section.acquire ≡ a.top.pc) (locks : List Lock) (listed : slice_get image.lists list ≡ Some locks) where
     abbrev Granted : Holding
     Granted = grant s.holding t (request_of s.objects a.top.regs locks)
 
     function_here : section.function ≡ a.top.function
     function_here =
-        let lay = layout l c stores longest (Needed l c stores longest) image s t a q in
-        lay.parted.one_body a.top.pc section.function a.top.function (subst (InBody l section.function) starts (section_told l lay list section there).first_inside) (body l c stores longest (Needed l c stores longest) image s t a q)
+        let lay = layout l c stores k_limit (Needed l c stores k_limit) image s t a q in
+        lay.parted.one_body a.top.pc section.function a.top.function (subst (InBody l section.function) starts (section_told l lay list section there).first_inside) (body l c stores k_limit (Needed l c stores k_limit) image s t a q)
 
     read_protected : (n : Lock) → IsOne (reads_of locks) n → Protected (cover Granted []) t s.objects a.top.regs n
     read_protected n o =
         let over = G list (slice_get_within l.sections list section there) section locks there listed n o in
         let from = flat_from locks n o in
         let named = one_all (HasLock image) locks (A.made.fits.list_fits list locks listed) from.0 from.1 in
-        granted_protects (own_view l c stores longest (Needed l c stores longest) image s t a q) s.holding [] t s.objects a.top.regs locks (outside_here image s t a q.here entry.depth)
-        (stands l c stores longest (Needed l c stores longest) image s t a q) over.0 n over.1 (read_there c image A.made.globals from.0 n named from.2) (subst (λ f. StandsOver c f over.0 n) function_here over.2)
+        granted_protects (own_view l c stores k_limit (Needed l c stores k_limit) image s t a q) s.holding [] t s.objects a.top.regs locks (outside_here image s t a q.here entry.depth)
+        (stands l c stores k_limit (Needed l c stores k_limit) image s t a q) over.0 n over.1 (read_there c image A.made.globals from.0 n named from.2) (subst (λ f. CoversLock c f over.0 n) function_here over.2)
 
     list_covered : (ls : List Lock) → ((n : Lock) → IsOne ls n → IsOne locks n) → ListCovered Granted t s.objects a.top.regs ls
     list_covered [] within = tt
@@ -95,16 +95,16 @@ module _ (l : Lowered) (c : Classed) (stores : ℕ → ℕ → Bool) (longest : 
   is_guarded : (count : ℕ) → IsGuarded image count
   is_guarded count run s t list a led entry granted =
       let reached = end_reached image count run s A.made.fits led in
-      let good = reached_good l c stores longest (Needed l c stores longest) image A count s reached in
+      let good = reached_good l c stores k_limit (Needed l c stores k_limit) image A count s reached in
       let here = here_of image s t a good.structured.sound entry.runs in
-      let q : Ready l c stores longest (Needed l c stores longest) image s t a = record { program = A; structured = good.structured; here = here; has = good.has t a here.is } in
+      let q : Ready l c stores k_limit (Needed l c stores k_limit) image s t a = record { program = A; structured = good.structured; here = here; has = good.has t a here.is } in
       let i = lowered_at l c image A.made a.top.pc (instr.Acquire list) entry.at in
       let at : slice_get l.code a.top.pc ≡ Some (instr.Acquire list) = i.1 ∙ ap (λ (j : Instr). Some j) (is_acquire c i.0 list i.2) in
-      let lay = layout l c stores longest (Needed l c stores longest) image s t a q in
+      let lay = layout l c stores k_limit (Needed l c stores k_limit) image s t a q in
       let e = from_mapped (λ (z : Section). z.acquire) (slice_get l.sections list) a.top.pc (lay.sections.entered a.top.pc list at) in
       by_list s t list a q entry e.0 e.1 e.2 (slice_get image.lists list) refl
     where
-      by_list : (s : State) (t list : ℕ) (a : Activity) (q : Ready l c stores longest (Needed l c stores longest) image s t a) → IsAtEntry image s t list a → (section : Section) → slice_get l.sections list ≡ Some section → section.acquire ≡ a.top.pc →
+      by_list : (s : State) (t list : ℕ) (a : Activity) (q : Ready l c stores k_limit (Needed l c stores k_limit) image s t a) → IsAtEntry image s t list a → (section : Section) → slice_get l.sections list ≡ Some section → section.acquire ≡ a.top.pc →
           (o : Option (List Lock)) → slice_get image.lists list ≡ o → ListCovered (grant s.holding t (request_of s.objects a.top.regs (unwrap_or o []))) t s.objects a.top.regs (unwrap_or o [])
       by_list s t list a q entry section there starts None e = tt
       by_list s t list a q entry section there starts (Some locks) e = list_covered s t list a q entry section there starts locks e locks (λ n o. o)

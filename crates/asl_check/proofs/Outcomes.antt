@@ -97,49 +97,49 @@ one_open l c lists m n a b p q =
         (subst (λ (ys : List Lock). IsFirstBare c p.is.function ys (reads_of ys) b) xs
         (subst (λ (t : Section). IsFirstBare c t.function q.list (reads_of q.list) b) s q.first))
 
-pub one_refusal : (is : List Item) (longest : ℕ) (image : Image) (fault other : CheckFault) → IsOfProgram fault → IsOfProgram other → IsRefused is longest image fault → IsRefused is longest image other → fault ≡ other
-one_refusal is longest image (Infer f) other d e p q = absurd d
-one_refusal is longest image OutOfMemory other d e p q = absurd d
-one_refusal is longest image (OtherCode m) (Infer g) d e p q = absurd e
-one_refusal is longest image (OtherCode m) OutOfMemory d e p q = absurd e
-one_refusal is longest image (OtherCode m) (OtherCode n) d e p q =
+pub one_refusal : (is : List Item) (k_limit : ℕ) (image : Image) (fault other : CheckFault) → IsOfProgram fault → IsOfProgram other → IsRefused is k_limit image fault → IsRefused is k_limit image other → fault ≡ other
+one_refusal is k_limit image (Infer f) other d e p q = absurd d
+one_refusal is k_limit image OutOfMemory other d e p q = absurd d
+one_refusal is k_limit image (OtherCode m) (Infer g) d e p q = absurd e
+one_refusal is k_limit image (OtherCode m) OutOfMemory d e p q = absurd e
+one_refusal is k_limit image (OtherCode m) (OtherCode n) d e p q =
     let a = p.analysis in let k = a.program in
     ap OtherCode (one_code k.lowering k.classes image m n p.other
     (same_analysis is k.lowering k.classes a.stores k.lowers k.are_classes a.tells (λ l c s. IsOtherCode l c image n) q.analysis q.other))
-one_refusal is longest image (OtherCode m) (Uncovered n b) d e p q =
+one_refusal is k_limit image (OtherCode m) (Uncovered n b) d e p q =
     let a = p.analysis in let k = a.program in
     absurd (not_other k.lowering k.classes image m
     (same_analysis is k.lowering k.classes a.stores k.lowers k.are_classes a.tells (λ l c s. IsCodeOf l c image) q.of_tree.analysis q.of_tree.code) p.other)
-one_refusal is longest image (OtherCode m) (Unguarded n b) d e p q =
+one_refusal is k_limit image (OtherCode m) (Unguarded n b) d e p q =
     let a = p.analysis in let k = a.program in
     absurd (not_other k.lowering k.classes image m
     (same_analysis is k.lowering k.classes a.stores k.lowers k.are_classes a.tells (λ l c s. IsCodeOf l c image) q.covered.of_tree.analysis q.covered.of_tree.code) p.other)
-one_refusal is longest image (Uncovered m b) (Infer g) d e p q = absurd e
-one_refusal is longest image (Uncovered m b) OutOfMemory d e p q = absurd e
-one_refusal is longest image (Uncovered m b) (OtherCode n) d e p q =
+one_refusal is k_limit image (Uncovered m b) (Infer g) d e p q = absurd e
+one_refusal is k_limit image (Uncovered m b) OutOfMemory d e p q = absurd e
+one_refusal is k_limit image (Uncovered m b) (OtherCode n) d e p q =
     let a = q.analysis in let k = a.program in
     absurd (not_other k.lowering k.classes image n
     (same_analysis is k.lowering k.classes a.stores k.lowers k.are_classes a.tells (λ l c s. IsCodeOf l c image) p.of_tree.analysis p.of_tree.code) q.other)
-one_refusal is longest image (Uncovered m x) (Uncovered n y) d e p q =
+one_refusal is k_limit image (Uncovered m x) (Uncovered n y) d e p q =
     let a = p.of_tree.analysis in let k = a.program in
-    let same = one_lacking k.lowering k.classes (Needed k.lowering k.classes a.stores longest) image.lists m n x y p.lacking
-    (same_analysis is k.lowering k.classes a.stores k.lowers k.are_classes a.tells (λ l c s. IsFirstLacking l c (Needed l c s longest) image.lists n y) q.of_tree.analysis q.lacking) in
+    let same = one_lacking k.lowering k.classes (Needed k.lowering k.classes a.stores k_limit) image.lists m n x y p.lacking
+    (same_analysis is k.lowering k.classes a.stores k.lowers k.are_classes a.tells (λ l c s. IsFirstLacking l c (Needed l c s k_limit) image.lists n y) q.of_tree.analysis q.lacking) in
     ap₂ (λ (i : ℕ) (z : Lock). Uncovered i z) same.0 same.1
-one_refusal is longest image (Uncovered m x) (Unguarded n y) d e p q =
+one_refusal is k_limit image (Uncovered m x) (Unguarded n y) d e p q =
     let a = q.covered.of_tree.analysis in let k = a.program in
-    absurd (not_lacking k.lowering k.classes a.stores longest image m x q.covered.over
-    (same_analysis is k.lowering k.classes a.stores k.lowers k.are_classes a.tells (λ l c s. IsFirstLacking l c (Needed l c s longest) image.lists m x) p.of_tree.analysis p.lacking))
-one_refusal is longest image (Unguarded m b) (Infer g) d e p q = absurd e
-one_refusal is longest image (Unguarded m b) OutOfMemory d e p q = absurd e
-one_refusal is longest image (Unguarded m b) (OtherCode n) d e p q =
+    absurd (not_lacking k.lowering k.classes a.stores k_limit image m x q.covered.over
+    (same_analysis is k.lowering k.classes a.stores k.lowers k.are_classes a.tells (λ l c s. IsFirstLacking l c (Needed l c s k_limit) image.lists m x) p.of_tree.analysis p.lacking))
+one_refusal is k_limit image (Unguarded m b) (Infer g) d e p q = absurd e
+one_refusal is k_limit image (Unguarded m b) OutOfMemory d e p q = absurd e
+one_refusal is k_limit image (Unguarded m b) (OtherCode n) d e p q =
     let a = q.analysis in let k = a.program in
     absurd (not_other k.lowering k.classes image n
     (same_analysis is k.lowering k.classes a.stores k.lowers k.are_classes a.tells (λ l c s. IsCodeOf l c image) p.covered.of_tree.analysis p.covered.of_tree.code) q.other)
-one_refusal is longest image (Unguarded m x) (Uncovered n y) d e p q =
+one_refusal is k_limit image (Unguarded m x) (Uncovered n y) d e p q =
     let a = p.covered.of_tree.analysis in let k = a.program in
-    absurd (not_lacking k.lowering k.classes a.stores longest image n y p.covered.over
-    (same_analysis is k.lowering k.classes a.stores k.lowers k.are_classes a.tells (λ l c s. IsFirstLacking l c (Needed l c s longest) image.lists n y) q.of_tree.analysis q.lacking))
-one_refusal is longest image (Unguarded m x) (Unguarded n y) d e p q =
+    absurd (not_lacking k.lowering k.classes a.stores k_limit image n y p.covered.over
+    (same_analysis is k.lowering k.classes a.stores k.lowers k.are_classes a.tells (λ l c s. IsFirstLacking l c (Needed l c s k_limit) image.lists n y) q.of_tree.analysis q.lacking))
+one_refusal is k_limit image (Unguarded m x) (Unguarded n y) d e p q =
     let a = p.covered.of_tree.analysis in let k = a.program in
     let same = one_open k.lowering k.classes image.lists m n x y p.open_at
     (same_analysis is k.lowering k.classes a.stores k.lowers k.are_classes a.tells (λ l c s. IsFirstOpen l c image.lists n y) q.covered.of_tree.analysis q.open_at) in

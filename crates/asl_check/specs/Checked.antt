@@ -12,12 +12,12 @@ use Rattle.asl_points_to.specs.Classes.{Classed}
 use Rattle.asl_lock_expr.specs.Links.{IsOne, dereferenced}
 use Rattle.asl_backward_flow.specs.Closed.{Family}
 use Rattle.asl_soundness.specs.Coded.{classed}
-use Rattle.asl_soundness.specs.Over.{StandsOver}
+use Rattle.asl_soundness.specs.Covering.{CoversLock}
 use Rattle.asl_emitter.specs.Lists.{Locks, IsReduced}
 
 -- a lock of the list stands over this one
 abbrev pub IsUnderOne : Classed → ℕ → List Lock → Lock → Type 0
-IsUnderOne c f list n = (m : Lock) × IsOne list m × StandsOver c f m n
+IsUnderOne c f list n = (m : Lock) × IsOne list m × CoversLock c f m n
 
 -- so for each lock of the set
 abbrev pub AreUnder : Classed → ℕ → List Lock → Locks → Type 0
@@ -60,8 +60,8 @@ IsOtherCode l c image pc =
     ⊎ ((image.code ≡ map (classed c) l.code) × (¬ HasTables l c image) × (pc ≡ length image.code))
 
 -- of the first sections, so many of them, the lists stand over what the family has behind the `acq`
-abbrev pub StandOverFirst : Lowered → Classed → Family → List (List Lock) → ℕ → Type 0
-StandOverFirst l c K lists so_many =
+abbrev pub FirstListsCover : Lowered → Classed → Family → List (List Lock) → ℕ → Type 0
+FirstListsCover l c K lists so_many =
     (n : ℕ) → n < so_many → (s : Section) (list : List Lock) → slice_get l.sections n ≡ Some s → slice_get lists n ≡ Some list →
     AreUnder c s.function list (K (Inside n) (suc s.acquire))
 
@@ -78,7 +78,7 @@ pub record IsFirstLacking (l : Lowered) (c : Classed) (K : Family) (lists : List
   pub in_table : slice_get l.sections section ≡ Some is
   pub list : List Lock
   pub listed : slice_get lists section ≡ Some list
-  pub earlier : StandOverFirst l c K lists section
+  pub earlier : FirstListsCover l c K lists section
   pub needed : List Lock
   pub reduced : IsReduced c is.function (K (Inside section) (suc is.acquire)) needed
   pub first : IsFirstBare c is.function list needed lock

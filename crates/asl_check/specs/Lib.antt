@@ -1,4 +1,4 @@
 pub mod Checked
 pub mod Refused
 -- Machinery of the proofs, not of the promise:
-pub mod Told
+pub mod KnownLists

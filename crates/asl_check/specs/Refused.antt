@@ -7,57 +7,57 @@ use Rattle.asl_backward_flow.specs.Needed.{Needed}
 use Rattle.asl_emitter.specs.Inferred.{Analysis}
 use Rattle.asl_emitter.specs.Refused.{IsAccepted, IsRefused as IsNotInferred}
 use Rattle.asl_emitter.specs.declared.fault.InferFault.TheVariants as infer
-use Rattle.asl_soundness.specs.Safe.{StandOver}
+use Rattle.asl_soundness.specs.Safe.{ListsCover}
 use Rattle.asl_check.specs.declared.fault.CheckFault.{CheckFault}
 use Rattle.asl_check.specs.declared.fault.CheckFault.TheVariants.{Infer, OtherCode, Uncovered, Unguarded, OutOfMemory}
 use Rattle.asl_check.specs.Checked.{IsCodeOf, IsOtherCode, AreGuarded, IsFirstLacking, IsFirstOpen}
 
 -- the tree is accepted, and the image is its image but for its lists
-pub record IsOfTree (is : List Item) (longest : ℕ) (image : Image) : Type 0 where
-  pub accepted : IsAccepted is longest
+pub record IsOfTree (is : List Item) (k_limit : ℕ) (image : Image) : Type 0 where
+  pub accepted : IsAccepted is k_limit
   pub analysis : Analysis is
   pub code : IsCodeOf analysis.program.lowering analysis.program.classes image
 
 -- and its lists stand over what its sections need, with paths of at most so many operations
-pub record IsCovered (is : List Item) (longest : ℕ) (image : Image) : Type 0 where
-  pub of_tree : IsOfTree is longest image
+pub record IsCovered (is : List Item) (k_limit : ℕ) (image : Image) : Type 0 where
+  pub of_tree : IsOfTree is k_limit image
   pub over :
-      StandOver of_tree.analysis.program.lowering of_tree.analysis.program.classes
-      (Needed of_tree.analysis.program.lowering of_tree.analysis.program.classes of_tree.analysis.stores longest) image
+      ListsCover of_tree.analysis.program.lowering of_tree.analysis.program.classes
+      (Needed of_tree.analysis.program.lowering of_tree.analysis.program.classes of_tree.analysis.stores k_limit) image
 
 -- and over what their own expressions read
-pub record IsChecked (is : List Item) (longest : ℕ) (image : Image) : Type 0 where
-  pub covered : IsCovered is longest image
+pub record IsChecked (is : List Item) (k_limit : ℕ) (image : Image) : Type 0 where
+  pub covered : IsCovered is k_limit image
   pub guarded :
       AreGuarded covered.of_tree.analysis.program.lowering covered.of_tree.analysis.program.classes image.lists
       (length covered.of_tree.analysis.program.lowering.sections)
 
 -- the tree is accepted, and the image is not its image, whatever its lists are
-pub record IsOther (is : List Item) (longest : ℕ) (image : Image) (pc : ℕ) : Type 0 where
-  pub accepted : IsAccepted is longest
+pub record IsOther (is : List Item) (k_limit : ℕ) (image : Image) (pc : ℕ) : Type 0 where
+  pub accepted : IsAccepted is k_limit
   pub analysis : Analysis is
   pub other : IsOtherCode analysis.program.lowering analysis.program.classes image pc
 
 -- the section is the first whose list is not enough for what it needs, and the lock is the first that it lacks
-pub record Lacks (is : List Item) (longest : ℕ) (image : Image) (section : ℕ) (lock : Lock) : Type 0 where
-  pub of_tree : IsOfTree is longest image
+pub record Lacks (is : List Item) (k_limit : ℕ) (image : Image) (section : ℕ) (lock : Lock) : Type 0 where
+  pub of_tree : IsOfTree is k_limit image
   pub lacking :
       IsFirstLacking of_tree.analysis.program.lowering of_tree.analysis.program.classes
-      (Needed of_tree.analysis.program.lowering of_tree.analysis.program.classes of_tree.analysis.stores longest) image.lists section lock
+      (Needed of_tree.analysis.program.lowering of_tree.analysis.program.classes of_tree.analysis.stores k_limit) image.lists section lock
 
 -- the lists are enough for what sections need; the section is the first whose list is not enough for what its own expressions read,
 -- and the lock is the first that it lacks
-pub record Reads (is : List Item) (longest : ℕ) (image : Image) (section : ℕ) (lock : Lock) : Type 0 where
-  pub covered : IsCovered is longest image
+pub record Reads (is : List Item) (k_limit : ℕ) (image : Image) (section : ℕ) (lock : Lock) : Type 0 where
+  pub covered : IsCovered is k_limit image
   pub open_at : IsFirstOpen covered.of_tree.analysis.program.lowering covered.of_tree.analysis.program.classes image.lists section lock
 
 -- the program is not checked for this reason; out of memory hides no fault of the tree, and no code that is another's
 abbrev pub IsRefused : List Item → ℕ → Image → CheckFault → Type 0
-IsRefused is longest image (Infer fault) = IsNotInferred is longest fault
-IsRefused is longest image (OtherCode pc) = IsOther is longest image pc
-IsRefused is longest image (Uncovered section lock) = Lacks is longest image section lock
-IsRefused is longest image (Unguarded section lock) = Reads is longest image section lock
-IsRefused is longest image OutOfMemory = IsOfTree is longest image
+IsRefused is k_limit image (Infer fault) = IsNotInferred is k_limit fault
+IsRefused is k_limit image (OtherCode pc) = IsOther is k_limit image pc
+IsRefused is k_limit image (Uncovered section lock) = Lacks is k_limit image section lock
+IsRefused is k_limit image (Unguarded section lock) = Reads is k_limit image section lock
+IsRefused is k_limit image OutOfMemory = IsOfTree is k_limit image
 
 -- the memory ran out
 abbrev pub IsOutOfMemory : CheckFault → Type 0

@@ -1,7 +1,7 @@
 //! Whether a program is the image of a lowering with classes.
 ghost use Rattle.std.specs.Prelude.{◌≡◌, ◌↔◌, IsTrue, MatchOption, Some, length, map, slice_get};
 ghost use Rattle.asl_soundness.specs.Coded.{classed};
-ghost use Rattle.asl_emitter.specs.Parts.{HasSites};
+ghost use Rattle.asl_emitter.specs.BuiltImage.{HasSites};
 ghost use Rattle.asl_points_to.specs.Classes.{AreClasses};
 ghost use Rattle.asl_check.specs.Checked.{HasTables, IsCodeOf, IsFirstOther, IsOtherCode};
 

@@ -1,10 +1,10 @@
 //! Whether the list of each section stands over what the section needs, and over what its own expressions read.
 ghost use Rattle.std.specs.Prelude.{◌≡◌, IfOk, IfErr, length};
 ghost use Rattle.asl_check.specs.Checked.{AreGuarded, reads_of};
-ghost use Rattle.asl_check.specs.Told.{AreCovered, IsUncovered, IsUnguarded};
+ghost use Rattle.asl_check.specs.KnownLists.{AreCovered, IsUncovered, IsUnguarded};
 
+use crate::covers::first_bare;
 use crate::fault::CheckFault;
-use crate::over::first_bare;
 use asl_backward_flow::{Flow, Region};
 use asl_code::{Items, Lock};
 use asl_emitter::reduce;

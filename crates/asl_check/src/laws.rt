@@ -10,18 +10,18 @@ ghost use Rattle.asl_check.specs.Refused.{IsChecked, IsRefused, IsOutOfMemory, I
 
 /// The lists that are inferred for an accepted program are enough for it, with paths of as many operations.
 pub fn inferred_lists_are_enough()
-    ensures { (source : List ℕ) (tree : List Item) (longest : ℕ) (image : Image) → Parses source tree → IsAccepted tree longest
-        → IsInferredFor tree longest image → IsChecked tree longest image }
+    ensures { (source : List ℕ) (tree : List Item) (k_limit : ℕ) (image : Image) → Parses source tree → IsAccepted tree k_limit
+        → IsInferredFor tree k_limit image → IsChecked tree k_limit image }
 {}
 
 /// A program that is checked is refused only where the memory ran out.
 pub fn checked_programs_have_no_fault()
-    ensures { (tree : List Item) (longest : ℕ) (image : Image) (fault : CheckFault) → IsChecked tree longest image
-        → IsRefused tree longest image fault → IsOutOfMemory fault }
+    ensures { (tree : List Item) (k_limit : ℕ) (image : Image) (fault : CheckFault) → IsChecked tree k_limit image
+        → IsRefused tree k_limit image fault → IsOutOfMemory fault }
 {}
 
 /// A program has one refusal of its code and its lists at the most: the first.
 pub fn refusals_of_lists_are_one()
-    ensures { (tree : List Item) (longest : ℕ) (image : Image) (fault other : CheckFault) → IsOfProgram fault → IsOfProgram other
-        → IsRefused tree longest image fault → IsRefused tree longest image other → fault ≡ other }
+    ensures { (tree : List Item) (k_limit : ℕ) (image : Image) (fault other : CheckFault) → IsOfProgram fault → IsOfProgram other
+        → IsRefused tree k_limit image fault → IsRefused tree k_limit image other → fault ≡ other }
 {}

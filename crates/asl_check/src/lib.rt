@@ -5,9 +5,9 @@ mod analysis;
 mod checked;
 mod coded;
 mod covered;
+mod covers;
 mod fault;
 pub mod laws;
-mod over;
 mod spelled;
 
 pub use checked::check;

@@ -7,7 +7,7 @@ use Rattle.std.proofs.lemmas.Option.{slice_get_within}
 use Rattle.std.proofs.lemmas.Bool.{cases_Bool, and_parts, and_from, leb-true, ltb-true, le-leb, lt-ltb, eq-eqb, cond-true, cond-false}
 use Rattle.asl_code.specs.Bodies.{Body, bodies_from, first_of, is_inside, body_of}
 use Rattle.asl_code.specs.Fits.{LiesIn, FitsFunction, FitsInstr, FitsImage, FitsBase, FitsLock, HasBase, HasLock}
-use Rattle.asl_code.specs.Lines.{body_at}
+use Rattle.asl_code.specs.Rules.{body_at}
 use Rattle.asl_code.specs.Verified.{keeps_limits, keeps_counts, keeps_function_limits, keeps_list_limit, has_base, has_lock, has_tables, has_entry, has_range, has_ranges, has_end, has_ends, is_end, has_target, has_registers, has_operands, has_base_register, has_lock_base, has_list_bases, is_failure, fails_at, IsVerified}
 use Rattle.asl_code.specs.Versions.{most_locks}
 use Rattle.asl_code.specs.declared.image.Function.{Function}

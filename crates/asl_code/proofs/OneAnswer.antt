@@ -1,7 +1,7 @@
 -- The verifier has one answer: a fault is known by its line and its place, and the first line that applies is found.
 use Rattle.std.proofs.Common.{◌≡◌, ℕ, ◌+◌, ◌<◌, ◌≤◌, ◌⊎◌, ◌==◌, if◌then◌else◌, Bool, true, false, not, Option, Some, None, refl, ap, sym, ◌∙◌, inl, inr, arith, lit<}
 use Rattle.std.proofs.lemmas.Bool.{both_ways, cases_lt, cases_order}
-use Rattle.asl_code.specs.Lines.{IsLowestFailing}
+use Rattle.asl_code.specs.Rules.{IsLowestFailing}
 use Rattle.asl_code.specs.Verified.{keeps_limits, has_tables, has_entry, has_ranges, has_ends, has_target, has_registers, has_operands, has_list_bases, fails_at, applies, line_of, place_of, ComesFirst, IsAnswer, IsVerified}
 use Rattle.asl_code.proofs.Scanning.{first_failing}
 use Rattle.asl_code.proofs.Told.{lowest_from_scan}

@@ -4,7 +4,7 @@ use Rattle.std.specs.List.{list_all}
 use Rattle.std.proofs.lemmas.List.{at_drop_more}
 use Rattle.std.proofs.lemmas.List.Sums.{sum_by-drop_more}
 use Rattle.asl_code.specs.Bodies.{Body, bodies_from, total_len}
-use Rattle.asl_code.specs.Lines.{body_at}
+use Rattle.asl_code.specs.Rules.{body_at}
 use Rattle.std.specs.Option.{option_map_or}
 use Rattle.std.proofs.lemmas.Option.{slice_get-get_or}
 use Rattle.std.proofs.lemmas.Bool.{and_parts, and_left, ltb-true}

@@ -7,7 +7,7 @@ use Rattle.std.proofs.lemmas.List.Sums.{fails_before_first, sum_by-cons}
 use Rattle.std.proofs.lemmas.Option.{slice_get-get_or}
 use Rattle.std.proofs.lemmas.Bool.{both_ways, cases_lt, cases_Bool, ltb-false, le-leb, lt-ltb, le-ltb, and_from, and_parts, eqb-true, and_right, cond-true, cond-false}
 use Rattle.asl_code.specs.Bodies.{Body, bodies_from, total_len, is_inside}
-use Rattle.asl_code.specs.Lines.{body_at, IsLowestFailing}
+use Rattle.asl_code.specs.Rules.{body_at, IsLowestFailing}
 use Rattle.asl_code.proofs.Scanning.{first_inside, first_place, first_failing}
 use Rattle.asl_code.specs.Verified.{is_failure, fails_at, has_ranges}
 use Rattle.asl_code.specs.declared.image.Function.{Function}

@@ -5,6 +5,6 @@ pub mod Versions
 pub mod Verified
 pub mod Fits
 -- Machinery of the proofs, not of the promise:
-pub mod Lines
+pub mod Rules
 pub mod Reading
 pub mod ReadingValue

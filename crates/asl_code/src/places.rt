@@ -2,33 +2,33 @@
 
 ghost use Rattle.std.specs.Prelude.{◌≡◌, ◌+◌, ◌&&◌, nat_le, nat_lt, IsTrue, not, position};
 ghost use Rattle.std.specs.List.{list_all};
-ghost use Rattle.asl_code.specs.Lines.{test_of, body_at, IsLowestFailing};
+ghost use Rattle.asl_code.specs.Rules.{test_of, body_at, IsLowestFailing};
 ghost use Rattle.asl_code.specs.Verified.{keeps_limits, has_ranges, has_target, has_arguments, has_registers, has_operands, has_lock_base, has_list_bases};
 
 use crate::image::{Function, Image};
 use crate::instr::Instr;
 use crate::lock::{Base, Lock};
 
-/// The lines of the verifier's table that judge each instruction.
+/// The rules of the verifier's table that judge each instruction.
 #[derive(Clone, Copy)]
-pub enum Line {
+pub enum Rule {
     Target,
     Register,
     Operand,
     ListBase,
 }
 
-/// The lowest place of an instruction that does not pass the line.
-pub fn first_failing(image: &Image, line: Line) -> Option<u32>
+/// The lowest place of an instruction that does not pass the rule.
+pub fn first_failing(image: &Image, rule: Rule) -> Option<u32>
     requires limits { IsTrue (keeps_limits image.now) }
     requires ranges { IsTrue (has_ranges image.now) }
-    ensures { IsLowestFailing (test_of line image.now) image.now result }
+    ensures { IsLowestFailing (test_of rule image.now) image.now result }
 {
     let mut first = 0;
     let mut rest = image.code.as_slice();
     for function in image.functions.as_slice() {
         let (body, later) = rest.split_at(function.len as usize);
-        if let Some(place) = first_in_body(image, line, first, function, body) {
+        if let Some(place) = first_in_body(image, rule, first, function, body) {
             return Some((first + place) as u32);
         }
         first += body.len();
@@ -37,30 +37,30 @@ pub fn first_failing(image: &Image, line: Line) -> Option<u32>
     None
 }
 
-/// The lowest place in the body, which begins at `first`, of an instruction that does not pass the line.
+/// The lowest place in the body, which begins at `first`, of an instruction that does not pass the rule.
 fn first_in_body(
     image: &Image,
-    line: Line,
+    rule: Rule,
     first: usize,
     function: &Function,
     body: &[Instr],
 ) -> Option<usize>
     ensures { result
-        ≡ position (λ instr. not (test_of line image.now (body_at first function.now) instr)) body.now }
+        ≡ position (λ instr. not (test_of rule image.now (body_at first function.now) instr)) body.now }
 {
     body.iter()
-        .position(|instr| !passes(image, line, first, function, instr))
+        .position(|instr| !passes(image, rule, first, function, instr))
 }
 
-/// Whether the instruction of a function, whose body begins at `first`, passes the line.
-fn passes(image: &Image, line: Line, first: usize, function: &Function, instr: &Instr) -> bool
-    ensures { result ≡ test_of line image.now (body_at first function.now) instr.now }
+/// Whether the instruction of a function, whose body begins at `first`, passes the rule.
+fn passes(image: &Image, rule: Rule, first: usize, function: &Function, instr: &Instr) -> bool
+    ensures { result ≡ test_of rule image.now (body_at first function.now) instr.now }
 {
-    match line {
-        Line::Target => has_target(image, first, function, instr),
-        Line::Register => has_registers(image, function, instr),
-        Line::Operand => has_operands(image, instr),
-        Line::ListBase => has_list_bases(image, function, instr),
+    match rule {
+        Rule::Target => has_target(image, first, function, instr),
+        Rule::Register => has_registers(image, function, instr),
+        Rule::Operand => has_operands(image, instr),
+        Rule::ListBase => has_list_bases(image, function, instr),
     }
 }
 

@@ -11,7 +11,7 @@ use crate::instr::Instr;
 use crate::items::Items;
 use crate::limits::{self, Limits, limits_of};
 use crate::lock::{Base, Lock};
-use crate::places::{Line, first_failing};
+use crate::places::{Rule, first_failing};
 
 /// The fault of the earliest line that applies, at its lowest place; none where the image is verified.
 pub fn first_fault(image: &Image) -> Option<VerifyFault>
@@ -32,16 +32,16 @@ pub fn first_fault(image: &Image) -> Option<VerifyFault>
     if !has_ends(image) {
         return Some(VerifyFault::FallsOut);
     }
-    if let Some(pc) = first_failing(image, Line::Target) {
+    if let Some(pc) = first_failing(image, Rule::Target) {
         return Some(VerifyFault::Target(pc));
     }
-    if let Some(pc) = first_failing(image, Line::Register) {
+    if let Some(pc) = first_failing(image, Rule::Register) {
         return Some(VerifyFault::Register(pc));
     }
-    if let Some(pc) = first_failing(image, Line::Operand) {
+    if let Some(pc) = first_failing(image, Rule::Operand) {
         return Some(VerifyFault::Operand(pc));
     }
-    if let Some(pc) = first_failing(image, Line::ListBase) {
+    if let Some(pc) = first_failing(image, Rule::ListBase) {
         return Some(VerifyFault::ListBase(pc));
     }
     None

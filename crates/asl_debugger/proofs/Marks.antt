@@ -15,7 +15,7 @@ use Rattle.asl_debugger.specs.Opening.{IsOpenFault}
 use Rattle.asl_debugger.specs.Session.{machine_before, state_before}
 use Rattle.asl_debugger.proofs.Positions.{is_at}
 use Rattle.asl_debugger.specs.declared.trail.Mark.{Mark}
-use Rattle.asl_debugger.specs.Kept.{IsMark, AreCheckpoints, IsKept}
+use Rattle.asl_debugger.specs.Checkpoints.{IsMark, AreCheckpoints, IsDebuggerState}
 
 -- what is left of the machine at a position is a mark there
 pub mark_of : (image : Image) (log : Log) (k : ℕ) (machine : Configuration) (rest : Rest) → machine ≡ machine_before image log k → IsRestOf machine.image rest → rest.state ≡ machine.state → IsMark image log k rest
@@ -94,7 +94,7 @@ pub all_followed : (image : Image) (log : Log) → IsThreadCount image log.threa
 all_followed image log few is goes = record { counted = few; there = is.there; replies = subst (GoesBy image (start_of image log.threads)) (take_all (length log.events) log.events (omega arith)) goes }
 
 -- the number of the greatest checkpoint that is not past a position
-pub number_there : (image : Image) (log : Log) (spacing position k number : ℕ) (checkpoints : List Rest) (marks : List Mark) (machine : Configuration) → IsKept image log spacing checkpoints marks machine position → k ≤ length log.events → number * spacing ≤ k → number < length checkpoints
+pub number_there : (image : Image) (log : Log) (spacing position k number : ℕ) (checkpoints : List Rest) (marks : List Mark) (machine : Configuration) → IsDebuggerState image log spacing checkpoints marks machine position → k ≤ length log.events → number * spacing ≤ k → number < length checkpoints
 number_there image log spacing position k number checkpoints marks machine kept within le =
     let enough = kept.enough in
     let lt : number * spacing < length checkpoints * spacing = omega arith in

@@ -17,7 +17,7 @@ use Rattle.asl_journal.specs.Replay.{DiffersAt}
 use Rattle.asl_journal.proofs.Runs.{state_events, state_snoc, goes_append, goes_back, prefix_is_journal}
 use Rattle.asl_debugger.specs.Session.{MayWantMemoryAt, state_before, machine_before}
 use Rattle.asl_debugger.specs.declared.trail.Mark.{Mark}
-use Rattle.asl_debugger.specs.Kept.{IsKept, AreMarks}
+use Rattle.asl_debugger.specs.Checkpoints.{IsDebuggerState, AreMarks}
 
 -- a state of a run has the threads of its start
 pub count_at : (image : Image) (log : Log) (k : ℕ) → AreThere log.threads log.events → length (state_before image log k).threads ≡ log.threads
@@ -120,9 +120,9 @@ module _ (machine : Configuration) (log : Log) (k : ℕ) (d : Event) (t : ℕ) (
   wants_at thread wants = rw (slice_get-get_or log.events k d lt, ← thread, ← at) wants
 
 -- a debugger that shows another position of its journal keeps what it keeps, or other marks
-pub kept_at : (log : Log) (spacing : ℕ) (checkpoints : List Rest) (marks others : List Mark) (old new : Configuration) (position k : ℕ) → IsKept old.image log spacing checkpoints marks old position → AreMarks old.image log others → k ≤ length log.events →
-    new ≡ machine_before old.image log k → IsKept new.image log spacing checkpoints others new k
-kept_at log spacing checkpoints marks others old new position k kept marked within shown = subst (λ (m : Configuration). IsKept m.image log spacing checkpoints others m k) (sym shown) (record {
+pub kept_at : (log : Log) (spacing : ℕ) (checkpoints : List Rest) (marks others : List Mark) (old new : Configuration) (position k : ℕ) → IsDebuggerState old.image log spacing checkpoints marks old position → AreMarks old.image log others → k ≤ length log.events →
+    new ≡ machine_before old.image log k → IsDebuggerState new.image log spacing checkpoints others new k
+kept_at log spacing checkpoints marks others old new position k kept marked within shown = subst (λ (m : Configuration). IsDebuggerState m.image log spacing checkpoints others m k) (sym shown) (record {
   is_log = kept.is_log;
   journal = kept.journal;
   spaced = kept.spaced;

@@ -18,7 +18,7 @@ use Rattle.asl_journal.specs.Journal.{Log, IsLog, IsJournal, most_events, schedu
 use Rattle.asl_journal.proofs.Runs.{state_snoc, goes_snoc, prefix_is_journal}
 use Rattle.asl_debugger.specs.Session.{state_before, machine_before}
 use Rattle.asl_debugger.specs.declared.trail.Mark.{Mark}
-use Rattle.asl_debugger.specs.Kept.{IsMark, IsMarkOf, AreCheckpoints, AreMarks, IsKept}
+use Rattle.asl_debugger.specs.Checkpoints.{IsMark, IsMarkOf, AreCheckpoints, AreMarks, IsDebuggerState}
 use Rattle.asl_debugger.proofs.Marks.{each_pushed, longer, number_there}
 use Rattle.asl_debugger.proofs.Positions.{is_at}
 
@@ -31,7 +31,7 @@ stands_before length_of count spacing index none_past lt =
 
 -- one more event by thread t, and the machine behind it
 module _ (image : Image) (log : Log) (spacing position : ℕ) (checkpoints : List Rest) (marks : List Mark) (machine new : Configuration) (t : ℕ) (reply : Reply)
-    (kept : IsKept image log spacing checkpoints marks machine position) (end : position ≡ length log.events) (room : length log.events < most_events) (there : t < log.threads)
+    (kept : IsDebuggerState image log spacing checkpoints marks machine position) (end : position ≡ length log.events) (room : length log.events < most_events) (there : t < log.threads)
     (same : new.image ≡ machine.image) (said : reply ≡ (step_of machine.image machine.state t).reply) (steps : new.state ≡ (step_of machine.image machine.state t).state) where
   abbrev event : Event
   event = record { thread = t; reply = reply }
@@ -96,7 +96,7 @@ module _ (image : Image) (log : Log) (spacing position : ℕ) (checkpoints : Lis
   marked = All-weaker (IsMarkOf image log) (IsMarkOf image more)
       (λ mark old. record { is = stays mark.position mark.rest old.within old.is; within = omega (arith, one_more, old.within) }) marks kept.marked
 
-  kept_by : (cs : List Rest) → AreCheckpoints image more spacing cs → length more.events < length cs * spacing → length cs * spacing ≤ length more.events + spacing → IsKept image more spacing cs marks (machine_before image more (position + 1)) (position + 1)
+  kept_by : (cs : List Rest) → AreCheckpoints image more spacing cs → length more.events < length cs * spacing → length cs * spacing ≤ length more.events + spacing → IsDebuggerState image more spacing cs marks (machine_before image more (position + 1)) (position + 1)
   kept_by cs es enough none_past = record {
     is_log = is_log;
     journal = journal;
@@ -109,11 +109,11 @@ module _ (image : Image) (log : Log) (spacing position : ℕ) (checkpoints : Lis
     marked = marked;
   }
 
-  moved_to : (cs : List Rest) → IsKept image more spacing cs marks (machine_before image more (position + 1)) (position + 1) → IsKept new.image more spacing cs marks new (position + 1)
-  moved_to cs k = subst (λ (m : Configuration). IsKept m.image more spacing cs marks m (position + 1)) (sym shown) k
+  moved_to : (cs : List Rest) → IsDebuggerState image more spacing cs marks (machine_before image more (position + 1)) (position + 1) → IsDebuggerState new.image more spacing cs marks new (position + 1)
+  moved_to cs k = subst (λ (m : Configuration). IsDebuggerState m.image more spacing cs marks m (position + 1)) (sym shown) k
 
   -- no checkpoint is due behind it
-  pub kept_behind : (position + 1 ≡ length checkpoints * spacing → ⊥) → IsKept new.image more spacing checkpoints marks new (position + 1)
+  pub kept_behind : (position + 1 ≡ length checkpoints * spacing → ⊥) → IsDebuggerState new.image more spacing checkpoints marks new (position + 1)
   kept_behind none_due =
       let enough = kept.enough in
       let none_past = kept.none_past in
@@ -122,7 +122,7 @@ module _ (image : Image) (log : Log) (spacing position : ℕ) (checkpoints : Lis
 
   -- a checkpoint is due behind it, and this is left of the machine there
   pub kept_with : (rest : Rest) → position + 1 ≡ length checkpoints * spacing → IsRestOf machine.image rest → rest.state ≡ (step_of machine.image machine.state t).state
-      → IsKept new.image more spacing (checkpoints ++ rest ∷ []) marks new (position + 1)
+      → IsDebuggerState new.image more spacing (checkpoints ++ rest ∷ []) marks new (position + 1)
   kept_with rest due fits state =
       let mark : IsMark image more (position + 1) rest = record { fits = subst (λ (i : Image). IsRestOf i rest) of_image fits; state = state ∙ sym state_behind } in
       let size = longer spacing checkpoints rest in
@@ -138,9 +138,9 @@ took (suc n) (y ∷ ys) zero x e = e
 took (suc n) (y ∷ ys) (suc i) x e = took n ys i x e
 
 -- a journal cut at the position
-pub kept_cut : (image : Image) (log : Log) (spacing position : ℕ) (checkpoints : List Rest) (marks some_marks : List Mark) (machine : Configuration) → IsKept image log spacing checkpoints marks machine position
+pub kept_cut : (image : Image) (log : Log) (spacing position : ℕ) (checkpoints : List Rest) (marks some_marks : List Mark) (machine : Configuration) → IsDebuggerState image log spacing checkpoints marks machine position
     → AreMarks image log some_marks → All (λ (mark : Mark). mark.position ≤ position) some_marks
-    → IsKept image (record { threads = log.threads; events = take position log.events }) spacing (take (position / spacing + 1) checkpoints) some_marks machine position
+    → IsDebuggerState image (record { threads = log.threads; events = take position log.events }) spacing (take (position / spacing + 1) checkpoints) some_marks machine position
 kept_cut image log spacing position checkpoints marks some_marks machine kept left before =
     let within = kept.within in
     let some = kept.spaced in

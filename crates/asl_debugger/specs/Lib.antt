@@ -4,5 +4,5 @@ pub mod Paused
 pub mod Session
 -- Machinery of the proofs, not of the promise:
 pub mod Fault
-pub mod Kept
+pub mod Checkpoints
 pub mod Search

@@ -4,7 +4,7 @@ use Rattle.asl_code.specs.declared.image.Image.{Image}
 use Rattle.asl_machine.specs.Paused.{Rest, IsRestOf}
 use Rattle.asl_journal.specs.Journal.{Log}
 use Rattle.asl_debugger.specs.declared.trail.Mark.{Mark}
-use Rattle.asl_debugger.specs.Kept.{IsKept}
+use Rattle.asl_debugger.specs.Checkpoints.{IsDebuggerState}
 
 -- what is kept: the journal, the position in it, the breakpoints, what the machine there leaves, checkpoints at this spacing, and
 -- marks between them
@@ -20,4 +20,4 @@ pub record SessionRest : Type 0 where
 -- it is what is left of a debugger over this program; who pauses one gets it, and who lets it go on gives it
 pub record IsSessionRestOf (image : Image) (rest : SessionRest) : Type 0 where
   pub machine : IsRestOf image rest.machine
-  pub kept : IsKept image rest.log rest.spacing rest.checkpoints rest.marks (record { image = image; state = rest.machine.state }) rest.position
+  pub kept : IsDebuggerState image rest.log rest.spacing rest.checkpoints rest.marks (record { image = image; state = rest.machine.state }) rest.position

@@ -3,7 +3,7 @@ ghost use Rattle.std.specs.Prelude.{◌≡◌, ◌<◌, ◌≤◌, ◌+◌, ◌*
 ghost use Rattle.asl_machine.specs.Paused.{IsRestOf};
 ghost use Rattle.asl_machine.specs.Run.{IsThreadCount, start_of};
 ghost use Rattle.asl_journal.specs.Journal.{GoesBy, IsJournal, IsLog};
-ghost use Rattle.asl_debugger.specs.Kept.{AreCheckpoints, IsKept};
+ghost use Rattle.asl_debugger.specs.Checkpoints.{AreCheckpoints, IsDebuggerState};
 ghost use Rattle.asl_debugger.specs.Opening.{IsOpenFault};
 ghost use Rattle.asl_debugger.specs.Session.{MayWantMemoryAt, machine_before, state_before};
 
@@ -81,7 +81,7 @@ pub fn prepared<'p>(
     spacing: u32,
 ) -> Result<(Vec<Paused>, Machine<'p>), DebugFault>
     requires { 0 < spacing }
-    ensures kept { IfOk result (λ parts. IsKept program.now journal.now spacing parts.0.items [] parts.1 0) }
+    ensures kept { IfOk result (λ parts. IsDebuggerState program.now journal.now spacing parts.0.items [] parts.1 0) }
     ensures refused { IfErr result (λ fault. IsOpenFault program.now journal.now fault) }
 {
     let checkpoints = checkpoints_of(alloc, program, journal, spacing)?;

@@ -2,7 +2,7 @@
 ghost use Rattle.std.specs.Prelude.{◌≡◌, ◌<◌, ◌≤◌, ◌+◌, ◌-◌, ◌↔◌, ◌⊎◌, [], length, IfErr, IfOk, IsErrOf, IsOk, IsTrue, OnErr, OnOk};
 ghost use Rattle.asl_journal.specs.Journal.{IsJournal};
 ghost use Rattle.asl_debugger.specs.Breaks.{has_break, HasBreak, HasNoBreak};
-ghost use Rattle.asl_debugger.specs.Kept.{IsKept};
+ghost use Rattle.asl_debugger.specs.Checkpoints.{IsDebuggerState};
 ghost use Rattle.asl_debugger.specs.Opening.{IsOpenFault};
 
 mod moving;
@@ -37,7 +37,7 @@ pub struct Debugger<'p> {
 
 impl<'p> Model for Debugger<'p> {
     ghost use Rattle.asl_debugger.specs.Session.{Session};
-    ghost use Rattle.asl_debugger.specs.Kept.{IsKept};
+    ghost use Rattle.asl_debugger.specs.Checkpoints.{IsDebuggerState};
 
     ghost Value = { Session };
 
@@ -48,7 +48,7 @@ impl<'p> Model for Debugger<'p> {
       breakpoints = d.breakpoints.items;
     } };
 
-    ghost invariant = { λ d. IsKept d.machine.image d.journal d.spacing d.checkpoints.items d.marks.items d.machine d.position };
+    ghost invariant = { λ d. IsDebuggerState d.machine.image d.journal d.spacing d.checkpoints.items d.marks.items d.machine d.position };
 }
 
 impl<'p> Debugger<'p> {

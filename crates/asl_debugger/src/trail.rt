@@ -2,7 +2,7 @@
 ghost use Rattle.std.specs.Prelude.{◌≡◌, ◌<◌, ◌≤◌, All, length, IfErr, IfOk, IfSome, IsSomeAnd, slice_get};
 ghost use Rattle.asl_code.specs.declared.image.Image.{Image};
 ghost use Rattle.asl_journal.specs.Journal.{IsJournal, Log};
-ghost use Rattle.asl_debugger.specs.Kept.{AreMarks};
+ghost use Rattle.asl_debugger.specs.Checkpoints.{AreMarks};
 ghost use Rattle.asl_debugger.specs.Session.{machine_before, state_before};
 
 use crate::checkpoints::{machine_between, rest_of};

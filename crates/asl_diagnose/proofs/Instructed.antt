@@ -7,7 +7,7 @@ use Rattle.asl_assembler.specs.Words.{lines_of, with_first}
 use Rattle.asl_assembler.specs.Text.{IsBadLine}
 use Rattle.asl_diagnose.specs.Position.{is_feed, line_behind}
 use Rattle.asl_diagnose.specs.Instructions.{is_instruction, instructions_in, IsInstructionLine}
-use Rattle.asl_diagnose.specs.Rows.{row_of}
+use Rattle.asl_diagnose.specs.TextLines.{row_of}
 
 -- ---- there are no more lines than line feeds, and one
 

@@ -49,11 +49,11 @@ access_there text tree k function pc p h =
     star_there tree (tokens_of text) pc a.instruction p.spelled.spelled (subst P (code_is tree h.1.0 h.1.1) a.stands) a.access
 
 -- a region that needs many locks has a place
-region_inside : (l : Lowered) (c : Classed) (stores : ℕ → ℕ → Bool) (longest : ℕ) (r : Region) → NeedsMany l c stores longest r → (f : ℕ) × (pc : ℕ) × IsIn l r f pc
-region_inside l c stores longest r h =
+region_inside : (l : Lowered) (c : Classed) (stores : ℕ → ℕ → Bool) (k_limit : ℕ) (r : Region) → NeedsMany l c stores k_limit r → (f : ℕ) × (pc : ℕ) × IsIn l r f pc
+region_inside l c stores k_limit r h =
     let first : Lock = lock.Root effect.Read in
     let one = h.needed 0 _ (slice_get-get_or h.locks 0 first (omega (arith, h.many))) in
-    let k = needed_inside l c stores longest r one.0 _ one.1 in
+    let k = needed_inside l c stores k_limit r one.0 _ one.1 in
     (k.0, one.0, k.1)
 
 pub section_there : (text : List ℕ) (tree : List Item) (k number : ℕ) → Parses text tree → IsRefused tree k (infer.TooManyLocks (variant.Section number)) → number < words_in word.Atomic (tokens_of text)

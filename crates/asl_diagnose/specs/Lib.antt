@@ -1,4 +1,4 @@
-pub mod Told
+pub mod RefusalText
 pub mod Diagnosed
 pub mod Names
 pub mod Position
@@ -6,6 +6,6 @@ pub mod Expected
 pub mod Places
 pub mod Instructions
 -- Machinery of the proofs, not of the promise:
-pub mod Rows
+pub mod TextLines
 pub mod SeenView
 pub mod WalkView

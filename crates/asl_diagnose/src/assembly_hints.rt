@@ -2,7 +2,7 @@
 
 use crate::bytes::push_quoted;
 use crate::forms::{WORDS, form, may_stand, turn_at, turn_text};
-use crate::lines::{Rows, first_word};
+use crate::lines::{TextLines, first_word};
 use crate::listing::{end_of_body, listing_at, whole};
 use crate::near::Nearest;
 use asl_assembler::AsmFault;
@@ -11,7 +11,7 @@ use std::alloc::{AllocError, Global};
 
 /// The line of this number; empty where there is none.
 fn line_of(text: &[u8], number: usize) -> &[u8] {
-    let mut rows = Rows::new(text);
+    let mut rows = TextLines::new(text);
     'rows: while let Some(row) = rows.next() {
         if row.number == number {
             return row.line;

@@ -1,6 +1,6 @@
 //! What a line of an assembly text may be.
 
-use crate::lines::{Rows, first_word};
+use crate::lines::{TextLines, first_word};
 
 /// Which line comes next.
 #[derive(Clone, Copy, PartialEq, Eq)]
@@ -27,7 +27,7 @@ pub fn turn_behind(turn: Turn, word: &[u8]) -> Turn {
 
 /// Which line comes at the line of this number.
 pub fn turn_at(text: &[u8], number: usize) -> Turn {
-    let mut rows = Rows::new(text);
+    let mut rows = TextLines::new(text);
     let mut turn = Turn::Version;
     'rows: while let Some(row) = rows.next() {
         if row.number >= number {

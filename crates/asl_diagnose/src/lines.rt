@@ -4,19 +4,19 @@ ghost use Rattle.std.specs.Prelude.{◌≡◌, ◌+◌, ◌<◌, ◌≤◌, drop
 ghost use Rattle.std.specs.List.{prefix_len};
 ghost use Rattle.asl_assembler.specs.Words.{is_separator, words_of};
 ghost use Rattle.asl_diagnose.specs.Position.{line_behind, BeginsLine};
-ghost use Rattle.asl_diagnose.specs.Rows.{first_of};
+ghost use Rattle.asl_diagnose.specs.TextLines.{first_of};
 ghost use Rattle.asl_assembler.specs.Reading.{is_line_byte, is_word_byte};
 
 /// A line of a text: its number from 1, and its bytes.
 #[derive(Clone, Copy)]
-pub struct Row<'t> {
+pub struct TextLine<'t> {
     pub number: usize,
     pub line: &'t [u8],
 }
 
 /// The lines that are left.
 #[derive(Clone, Copy)]
-pub struct Rows<'t> {
+pub struct TextLines<'t> {
     rest: &'t [u8],
     number: usize,
 }
@@ -38,31 +38,31 @@ fn behind_first(bytes: &[u8]) -> &[u8]
     }
 }
 
-impl<'t> Rows<'t> {
+impl<'t> TextLines<'t> {
     ghost use Rattle.asl_assembler.specs.Words.{lines_of};
-    ghost use Rattle.asl_diagnose.specs.Rows.{lines_left, rows_left, IsNextRow};
+    ghost use Rattle.asl_diagnose.specs.TextLines.{lines_left, rows_left, IsNextLine};
 
     /// The lines of a text.
-    pub fn new(text: &'t [u8]) -> Rows<'t>
+    pub fn new(text: &'t [u8]) -> TextLines<'t>
         ensures lines { lines_left result ≡ lines_of text.now }
         ensures bytes { rows_left result ≡ length text.now }
     {
-        Rows {
+        TextLines {
             rest: text,
             number: 0,
         }
     }
 
     /// The next line.
-    pub fn next(&mut self) -> Option<Row<'t>>
-        ensures { IsNextRow self.old result self.new }
+    pub fn next(&mut self) -> Option<TextLine<'t>>
+        ensures { IsNextLine self.old result self.new }
     {
         if self.rest.is_empty() {
             return None;
         }
         let (line, rest) = self.rest.split_at(line_len(self.rest));
         self.number = self.number.saturating_add(1);
-        let row = Row {
+        let row = TextLine {
             number: self.number,
             line,
         };

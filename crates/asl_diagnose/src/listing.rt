@@ -2,11 +2,11 @@
 
 ghost use Rattle.std.specs.Prelude.{◌≡◌};
 ghost use Rattle.asl_assembler.specs.Words.{lines_of};
-ghost use Rattle.asl_diagnose.specs.Rows.{row_of};
+ghost use Rattle.asl_diagnose.specs.TextLines.{row_of};
 ghost use Rattle.asl_diagnose.specs.Instructions.{setters, others, is_one, is_instruction, is_instruction_word};
 
 use crate::forms::{Turn, turn_behind};
-use crate::lines::{Row, Rows, first_word, number_in, word};
+use crate::lines::{TextLine, TextLines, first_word, number_in, word};
 use asl_code::VerifyFault;
 
 /// What was read of the lines of a text so far.
@@ -82,7 +82,7 @@ impl Listing {
 
 /// What all lines of a text say.
 pub fn whole(text: &[u8]) -> Listing {
-    let mut rows = Rows::new(text);
+    let mut rows = TextLines::new(text);
     let mut listing = Listing::new();
     'rows: while let Some(row) = rows.next() {
         listing.pass(row.line);
@@ -104,7 +104,7 @@ pub fn fault_row(text: &[u8], cause: VerifyFault) -> Option<usize> {
 
 /// The first line that begins with this word.
 fn named_row(text: &[u8], name: &[u8]) -> Option<usize> {
-    let mut rows = Rows::new(text);
+    let mut rows = TextLines::new(text);
     'rows: while let Some(row) = rows.next() {
         let (first, _) = first_word(row.line);
         if first == name {
@@ -118,7 +118,7 @@ fn named_row(text: &[u8], name: &[u8]) -> Option<usize> {
 pub fn instruction_row(text: &[u8], pc: usize) -> Option<usize>
     ensures { result ≡ row_of pc 1 (lines_of text.now) }
 {
-    let mut rows = Rows::new(text);
+    let mut rows = TextLines::new(text);
     let mut left = pc;
     let mut number: usize = 1;
     'rows: while let Some(row) = rows.next() {
@@ -163,7 +163,7 @@ fn is_other(word: &[u8]) -> bool
 
 /// What was read up to the function of the instruction of this number, that function's line among it.
 pub fn listing_at(text: &[u8], pc: usize) -> Listing {
-    let mut rows = Rows::new(text);
+    let mut rows = TextLines::new(text);
     let mut listing = Listing::new();
     'rows: while let Some(row) = rows.next() {
         listing.pass(row.line);
@@ -176,7 +176,7 @@ pub fn listing_at(text: &[u8], pc: usize) -> Listing {
 
 /// Behind the last instruction of the function that begins at this instruction.
 pub fn end_of_body(text: &[u8], first: usize) -> usize {
-    let mut rows = Rows::new(text);
+    let mut rows = TextLines::new(text);
     let mut listing = Listing::new();
     'rows: while let Some(row) = rows.next() {
         let (name, _) = first_word(row.line);
@@ -190,7 +190,7 @@ pub fn end_of_body(text: &[u8], first: usize) -> usize {
 
 /// The first line with which a count is over its limit.
 fn limit_row(text: &[u8]) -> Option<usize> {
-    let mut rows = Rows::new(text);
+    let mut rows = TextLines::new(text);
     let mut listing = Listing::new();
     'rows: while let Some(row) = rows.next() {
         listing.pass(row.line);
@@ -217,7 +217,7 @@ pub fn is_over(listing: &Listing) -> bool {
 /// The first line that names a class or a global that is not there.
 fn table_row(text: &[u8]) -> Option<usize> {
     let all = whole(text);
-    let mut rows = Rows::new(text);
+    let mut rows = TextLines::new(text);
     'rows: while let Some(row) = rows.next() {
         if names_nothing(&all, &row) {
             return Some(row.number);
@@ -227,7 +227,7 @@ fn table_row(text: &[u8]) -> Option<usize> {
 }
 
 /// Whether a line names a class or a global that is not there.
-fn names_nothing(all: &Listing, row: &Row<'_>) -> bool {
+fn names_nothing(all: &Listing, row: &TextLine<'_>) -> bool {
     let (name, rest) = first_word(row.line);
     let operand = word(rest, 0);
     match name {
@@ -242,7 +242,7 @@ fn names_nothing(all: &Listing, row: &Row<'_>) -> bool {
 
 /// The first function without an instruction, or with more parameters than registers.
 fn range_row(text: &[u8]) -> Option<usize> {
-    let mut rows = Rows::new(text);
+    let mut rows = TextLines::new(text);
     let mut listing = Listing::new();
     let mut function = None;
     'rows: while let Some(row) = rows.next() {
@@ -266,7 +266,7 @@ fn range_row(text: &[u8]) -> Option<usize> {
 
 /// The last instruction of the first function whose last one neither returns nor jumps.
 fn falling_row(text: &[u8]) -> Option<usize> {
-    let mut rows = Rows::new(text);
+    let mut rows = TextLines::new(text);
     let mut last = None;
     let mut turn = Turn::Version;
     'rows: while let Some(row) = rows.next() {

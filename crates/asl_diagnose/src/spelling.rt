@@ -2,7 +2,7 @@
 
 ghost use Rattle.std.specs.Prelude.{◌≡◌, ◌≤◌, ◌++◌, IfOk, OnOk, string_bytes};
 ghost use Rattle.asl_diagnose.specs.Names.{head_text};
-ghost use Rattle.asl_diagnose.specs.Told.{IsHeaded, IsAnswer, IsSpelled, IsTold};
+ghost use Rattle.asl_diagnose.specs.RefusalText.{IsHeaded, IsAnswer, IsSpelled, IsTold};
 
 use crate::assembly::diagnose_assembly;
 use crate::assembly_hints;

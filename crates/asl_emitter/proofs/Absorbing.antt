@@ -13,8 +13,8 @@ use Rattle.asl_code.proofs.Same.{same_lock, itself_lock}
 use Rattle.asl_points_to.specs.Classes.{Classed}
 use Rattle.asl_lock_expr.specs.ClassOf.{class_of}
 use Rattle.asl_lock_expr.specs.Links.{IsOne}
-use Rattle.asl_emitter.specs.Lists.{DoesFor, Absorbs, Locks, IsReduced}
-use Rattle.asl_soundness.specs.Over.{covers_effect}
+use Rattle.asl_emitter.specs.Lists.{SufficesFor, Absorbs, Locks, IsReduced}
+use Rattle.asl_soundness.specs.Covering.{covers_effect}
 use Rattle.asl_emitter.proofs.Same.{same_expr, itself_expr}
 
 tell_expr : (a b : Expr) → (a ≡ b) ⊎ (a ≢ b)
@@ -49,7 +49,7 @@ tell_nat : (m n : ℕ) → (m ≡ n) ⊎ (m ≢ n)
 tell_nat m n = elim (eqb_tells m n) [ inl y ↦ inl y.1 | inr o ↦ inr o.1 ]
 
 -- whether a lock does in place of another can be told
-tell_does : (c : Classed) (f : ℕ) (a b : Lock) → DoesFor c f a b ⊎ (¬ DoesFor c f a b)
+tell_does : (c : Classed) (f : ℕ) (a b : Lock) → SufficesFor c f a b ⊎ (¬ SufficesFor c f a b)
 tell_does c f (lock.Class x e) (lock.Class y g) = tell_both (tell_nat x y) (tell_effect e g)
 tell_does c f (lock.Class x e) (lock.Expr b g) = tell_both (tell_class (class_of c f b) x) (tell_effect e g)
 tell_does c f (lock.Class x e) (lock.Root g) = inr (λ p. p)
@@ -63,7 +63,7 @@ effect_trans Write b d p q = refl
 effect_trans Read Read d p q = q
 effect_trans Read Write d p q = let f : false ≡ true = p in cc
 
-does_trans : (c : Classed) (f : ℕ) (a b d : Lock) → DoesFor c f a b → DoesFor c f b d → DoesFor c f a d
+does_trans : (c : Classed) (f : ℕ) (a b d : Lock) → SufficesFor c f a b → SufficesFor c f b d → SufficesFor c f a d
 does_trans c f (lock.Class x e) (lock.Class y g) (lock.Class z h) p q = (p.0 ∙ q.0, effect_trans e g h p.1 q.1)
 does_trans c f (lock.Class x e) (lock.Class y g) (lock.Expr b h) p q = (q.0 ∙ ap (λ k. Some k) (sym p.0), effect_trans e g h p.1 q.1)
 does_trans c f (lock.Class x e) (lock.Class y g) (lock.Root h) p q = absurd q
@@ -113,21 +113,21 @@ absorbs_trans c f a b d p q =
 
 -- the first lock is the second, or does in its place
 abbrev pub IsOver : Classed → ℕ → Lock → Lock → Type 0
-IsOver c f m a = (m ≡ a) ⊎ DoesFor c f m a
+IsOver c f m a = (m ≡ a) ⊎ SufficesFor c f m a
 
-find_for : (c : Classed) (f : ℕ) (list : List Lock) (a : Lock) → ((m : Lock) × IsOne list m × DoesFor c f m a) ⊎ ((m : Lock) → IsOne list m → ¬ DoesFor c f m a)
+find_for : (c : Classed) (f : ℕ) (list : List Lock) (a : Lock) → ((m : Lock) × IsOne list m × SufficesFor c f m a) ⊎ ((m : Lock) → IsOne list m → ¬ SufficesFor c f m a)
 find_for c f [] a = inr (λ m o. absurd o)
 find_for c f (n ∷ list) a =
     elim (tell_does c f n a) [
       | inl d ↦ inl (n, inl refl, d)
       | inr fails ↦ elim (find_for c f list a) [
         | inl r ↦ inl (r.0, inr r.1, r.2)
-        | inr none ↦ inr (λ m o. elim o [ inl is ↦ λ d. fails (subst (λ k. DoesFor c f k a) (sym is) d) | inr rest ↦ none m rest ])
+        | inr none ↦ inr (λ m o. elim o [ inl is ↦ λ d. fails (subst (λ k. SufficesFor c f k a) (sym is) d) | inr rest ↦ none m rest ])
       ]
     ]
 
-over_does : (c : Classed) (f : ℕ) (m b a : Lock) → IsOver c f m b → DoesFor c f b a → DoesFor c f m a
-over_does c f m b a (inl is) d = subst (λ k. DoesFor c f k a) (sym is) d
+over_does : (c : Classed) (f : ℕ) (m b a : Lock) → IsOver c f m b → SufficesFor c f b a → SufficesFor c f m a
+over_does c f m b a (inl is) d = subst (λ k. SufficesFor c f k a) (sym is) d
 over_does c f m b a (inr k) d = does_trans c f m b a k d
 
 pub over_trans : (c : Classed) (f : ℕ) (m b a : Lock) → IsOver c f m b → IsOver c f b a → IsOver c f m a

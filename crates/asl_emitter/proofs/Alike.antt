@@ -38,8 +38,8 @@ get_below [] n lt = absurd (omega (arith, lt))
 get_below (x ∷ xs) zero lt = (x, refl)
 get_below (x ∷ xs) (suc n) lt = get_below xs n (omega (arith, lt))
 
-one_inferred : (l : Lowered) (c : Classed) (stores : ℕ → ℕ → Bool) (longest : ℕ) (image other : Image) → IsInferred l c stores longest image → IsInferred l c stores longest other → image ≡ other
-one_inferred l c stores longest image other h k =
+one_inferred : (l : Lowered) (c : Classed) (stores : ℕ → ℕ → Bool) (k_limit : ℕ) (image other : Image) → IsInferred l c stores k_limit image → IsInferred l c stores k_limit other → image ≡ other
+one_inferred l c stores k_limit image other h k =
     let version = h.version ∙ sym k.version in
     let classes = h.classes ∙ sym k.classes in
     let globals = h.globals ∙ sym k.globals in
@@ -50,25 +50,25 @@ one_inferred l c stores longest image other h k =
     (let lt = slice_get_within image.lists n xs p in
     let count = h.count in
     let s = get_below l.sections n (omega (arith, lt, count)) in
-    fitted_one c s.0.function 256 (Needed l c stores longest (Inside n) (suc s.0.acquire)) (Needed l c stores longest (Inside n) (suc s.0.acquire)) xs ys
+    fitted_one c s.0.function 256 (Needed l c stores k_limit (Inside n) (suc s.0.acquire)) (Needed l c stores k_limit (Inside n) (suc s.0.acquire)) xs ys
     (λ a. (λ x. x, λ x. x)) (h.lists n s.0 xs s.1 p) (k.lists n s.0 ys s.1 q))) in
     λ i. record { version = version i; classes = classes i; globals = globals i; functions = functions i; start = start i; code = code i; lists = lists i }
 
-pub one_image : (is : List Item) (longest : ℕ) (image other : Image) → IsInferredFor is longest image → IsInferredFor is longest other → image ≡ other
-one_image is longest image other h k =
+pub one_image : (is : List Item) (k_limit : ℕ) (image other : Image) → IsInferredFor is k_limit image → IsInferredFor is k_limit other → image ≡ other
+one_image is k_limit image other h k =
     let p = h.analysis.program in
     let q = k.analysis.program in
     let lowering : q.lowering ≡ p.lowering = one_lowering is q.lowering p.lowering q.lowers p.lowers in
     by_lowering p.lowering p.classes h.analysis.stores q.lowering lowering q.classes k.analysis.stores p.are_classes h.analysis.tells h.inferred q.are_classes k.analysis.tells k.inferred
   where
-    by_stores : (l : Lowered) (c : Classed) (stores other_stores : ℕ → ℕ → Bool) → stores ≡ other_stores → IsInferred l c stores longest image → IsInferred l c other_stores longest other → image ≡ other
-    by_stores l c stores other_stores e a b = one_inferred l c stores longest image other a (subst (λ s. IsInferred l c s longest other) (sym e) b)
+    by_stores : (l : Lowered) (c : Classed) (stores other_stores : ℕ → ℕ → Bool) → stores ≡ other_stores → IsInferred l c stores k_limit image → IsInferred l c other_stores k_limit other → image ≡ other
+    by_stores l c stores other_stores e a b = one_inferred l c stores k_limit image other a (subst (λ s. IsInferred l c s k_limit other) (sym e) b)
 
-    by_classes : (l : Lowered) (c : Classed) (stores : ℕ → ℕ → Bool) (d : Classed) → d ≡ c → (other_stores : ℕ → ℕ → Bool) → TellsStores l c stores → IsInferred l c stores longest image → TellsStores l d other_stores → IsInferred l d other_stores longest other → image ≡ other
+    by_classes : (l : Lowered) (c : Classed) (stores : ℕ → ℕ → Bool) (d : Classed) → d ≡ c → (other_stores : ℕ → ℕ → Bool) → TellsStores l c stores → IsInferred l c stores k_limit image → TellsStores l d other_stores → IsInferred l d other_stores k_limit other → image ≡ other
     by_classes l c stores d e other_stores t a u b =
-        by_stores l c stores other_stores (one_test l c stores other_stores t (subst (λ k. TellsStores l k other_stores) e u)) a (subst (λ k. IsInferred l k other_stores longest other) e b)
+        by_stores l c stores other_stores (one_test l c stores other_stores t (subst (λ k. TellsStores l k other_stores) e u)) a (subst (λ k. IsInferred l k other_stores k_limit other) e b)
 
-    by_lowering : (l : Lowered) (c : Classed) (stores : ℕ → ℕ → Bool) (m : Lowered) → m ≡ l → (d : Classed) (other_stores : ℕ → ℕ → Bool) → AreClasses l c → TellsStores l c stores → IsInferred l c stores longest image → AreClasses m d → TellsStores m d other_stores → IsInferred m d other_stores longest other → image ≡ other
+    by_lowering : (l : Lowered) (c : Classed) (stores : ℕ → ℕ → Bool) (m : Lowered) → m ≡ l → (d : Classed) (other_stores : ℕ → ℕ → Bool) → AreClasses l c → TellsStores l c stores → IsInferred l c stores k_limit image → AreClasses m d → TellsStores m d other_stores → IsInferred m d other_stores k_limit other → image ≡ other
     by_lowering l c stores m e d other_stores ac t a ad u b =
         let are = subst (λ k. AreClasses k d) e ad in
-        by_classes l c stores d (one_classed l d c are ac) other_stores t a (subst (λ k. TellsStores k d other_stores) e u) (subst (λ k. IsInferred k d other_stores longest other) e b)
+        by_classes l c stores d (one_classed l d c are ac) other_stores t a (subst (λ k. TellsStores k d other_stores) e u) (subst (λ k. IsInferred k d other_stores k_limit other) e b)

@@ -9,8 +9,8 @@ use Rattle.asl_code.specs.declared.lock.Lock.TheVariants as lock
 use Rattle.asl_points_to.specs.Classes.{Classed}
 use Rattle.asl_lock_expr.specs.ClassOf.{class_of}
 use Rattle.asl_lock_expr.specs.Links.{IsOne, class_lock}
-use Rattle.asl_soundness.specs.Over.{covers_effect, StandsOver}
-use Rattle.asl_emitter.specs.Lists.{DoesFor, Locks, as_class, AsClasses, stronger, strongest, IsFitted, HasClass}
+use Rattle.asl_soundness.specs.Covering.{covers_effect, CoversLock}
+use Rattle.asl_emitter.specs.Lists.{SufficesFor, Locks, as_class, AsClasses, stronger, strongest, IsFitted, HasClass}
 use Rattle.asl_emitter.proofs.Absorbing.{IsOver, effect_trans, over_trans, reduced_covers}
 
 effect_refl : (e : Effect) → IsTrue (covers_effect e e)
@@ -27,13 +27,13 @@ over_root c f (lock.Expr a e) (lock.Class x g) (inr d) = absurd d
 over_root c f (lock.Expr a e) (lock.Root g) (inr d) = absurd d
 over_root c f (lock.Root e) b (inr d) = absurd d
 
-stands_itself : (c : Classed) (f : ℕ) (a : Lock) → StandsOver c f a a
+stands_itself : (c : Classed) (f : ℕ) (a : Lock) → CoversLock c f a a
 stands_itself c f (lock.Root e) = effect_refl e
 stands_itself c f (lock.Class x e) = (refl, effect_refl e)
 stands_itself c f (lock.Expr b e) = (refl, effect_refl e)
 
-stands : (c : Classed) (f : ℕ) (m a : Lock) → IsOver c f m a → StandsOver c f m a
-stands c f m a (inl is) = subst (StandsOver c f m) is (stands_itself c f m)
+stands : (c : Classed) (f : ℕ) (m a : Lock) → IsOver c f m a → CoversLock c f m a
+stands c f m a (inl is) = subst (CoversLock c f m) is (stands_itself c f m)
 stands c f (lock.Class x e) (lock.Class y g) (inr d) = d
 stands c f (lock.Class x e) (lock.Expr b g) (inr d) = d
 stands c f (lock.Expr a e) (lock.Expr b g) (inr d) = d
@@ -48,7 +48,7 @@ coarser c f (lock.Root e) a o k = (lock.Root e, inl refl, o)
 coarser c f (lock.Class x e) a o k = (lock.Class x e, inl refl, o)
 coarser c f (lock.Expr b e) a (inl is) k =
     let own : HasClass c f (lock.Expr b e) = subst (HasClass c f) (sym is) k in
-    (lock.Class own.0 e, subst (λ o. IsOne (class_lock e o) (lock.Class own.0 e)) (sym own.1) (inl refl), inr (subst (DoesFor c f (lock.Class own.0 e)) is (own.1, effect_refl e)))
+    (lock.Class own.0 e, subst (λ o. IsOne (class_lock e o) (lock.Class own.0 e)) (sym own.1) (inl refl), inr (subst (SufficesFor c f (lock.Class own.0 e)) is (own.1, effect_refl e)))
 coarser c f (lock.Expr b e) (lock.Expr d g) (inr o) k =
     let own : class_of c f b ≡ Some k.0 = ap (class_of c f) o.0 ∙ k.1 in
     (lock.Class k.0 e, subst (λ x. IsOne (class_lock e x) (lock.Class k.0 e)) (sym own) (inl refl), inr (k.1, o.1))
@@ -70,7 +70,7 @@ strongest_is (n ∷ list) m (inl is) = subst (λ k. IsTrue (covers_effect (stron
 strongest_is (n ∷ list) m (inr o) = effect_trans _ _ _ (stronger_right (effect_of n) (strongest list)) (strongest_is list m o)
 
 -- a fitted list has, for each lock of the set that has a class, one that stands over it
-pub fitted_covers : (c : Classed) (f most : ℕ) (given : Locks) (list : List Lock) → IsFitted c f most given list → (a : Lock) → given a → HasClass c f a → (m : Lock) × IsOne list m × StandsOver c f m a
+pub fitted_covers : (c : Classed) (f most : ℕ) (given : Locks) (list : List Lock) → IsFitted c f most given list → (a : Lock) → given a → HasClass c f a → (m : Lock) × IsOne list m × CoversLock c f m a
 fitted_covers c f most given list fit a g k =
     let first = reduced_covers c f given fit.fine fit.reduced a g in
     elim fit.is [

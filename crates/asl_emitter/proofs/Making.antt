@@ -7,20 +7,20 @@ use Rattle.asl_lower.specs.Lowered.{Lowered}
 use Rattle.asl_lower.specs.Regions.{Region, Inside}
 use Rattle.asl_points_to.specs.Classes.{Classed}
 use Rattle.asl_lock_expr.specs.Links.{IsOne}
-use Rattle.asl_backward_flow.specs.Needed.{Part, Needed, IsTold, TellsNeeded}
+use Rattle.asl_backward_flow.specs.Needed.{RegionNeeds, Needed, IsTold, TellsNeeded}
 use Rattle.asl_emitter.specs.Lists.{IsFitted}
 use Rattle.asl_emitter.specs.Inferred.{IsInferred}
-use Rattle.asl_emitter.specs.Parts.{AreFitted, IsMade}
+use Rattle.asl_emitter.specs.BuiltImage.{AreFitted, IsMade}
 use Rattle.asl_emitter.proofs.Fits.{fitted_same}
 
 -- what is told of the place behind an `acq` is what is needed there
-pub told_needed : (l : Lowered) (c : Classed) (stores : ℕ → ℕ → Bool) (longest : ℕ) (parts : List Part) → TellsNeeded l c stores longest parts → (r : Region) (pc : ℕ) (a : Lock) → IsTold parts r (pc + 1) a ↔ Needed l c stores longest r (suc pc) a
-told_needed l c stores longest parts tells r pc a =
+pub told_needed : (l : Lowered) (c : Classed) (stores : ℕ → ℕ → Bool) (k_limit : ℕ) (parts : List RegionNeeds) → TellsNeeded l c stores k_limit parts → (r : Region) (pc : ℕ) (a : Lock) → IsTold parts r (pc + 1) a ↔ Needed l c stores k_limit r (suc pc) a
+told_needed l c stores k_limit parts tells r pc a =
     let same : pc + 1 ≡ suc pc = omega arith in
-    subst (λ q. IsTold parts r (pc + 1) a ↔ Needed l c stores longest r q a) same (tells r (pc + 1) a)
+    subst (λ q. IsTold parts r (pc + 1) a ↔ Needed l c stores k_limit r q a) same (tells r (pc + 1) a)
 
-pub made_inferred : (l : Lowered) (c : Classed) (stores : ℕ → ℕ → Bool) (longest : ℕ) (parts : List Part) (image : Image) → TellsNeeded l c stores longest parts → IsMade l c parts image → IsInferred l c stores longest image
-made_inferred l c stores longest parts image tells m = record {
+pub made_inferred : (l : Lowered) (c : Classed) (stores : ℕ → ℕ → Bool) (k_limit : ℕ) (parts : List RegionNeeds) (image : Image) → TellsNeeded l c stores k_limit parts → IsMade l c parts image → IsInferred l c stores k_limit image
+made_inferred l c stores k_limit parts image tells m = record {
   version = m.version;
   classes = m.classes;
   globals = m.globals;
@@ -29,8 +29,8 @@ made_inferred l c stores longest parts image tells m = record {
   code = m.code;
   count = m.lists.count;
   lists = λ n s locks there at.
-      fitted_same c s.function 256 (IsTold parts (Inside n) (s.acquire + 1)) (Needed l c stores longest (Inside n) (suc s.acquire)) locks
-      (λ a. told_needed l c stores longest parts tells (Inside n) s.acquire a) (m.lists.each n s locks there at);
+      fitted_same c s.function 256 (IsTold parts (Inside n) (s.acquire + 1)) (Needed l c stores k_limit (Inside n) (suc s.acquire)) locks
+      (λ a. told_needed l c stores k_limit parts tells (Inside n) s.acquire a) (m.lists.each n s locks there at);
 }
 
 get_more : {X : Type 0} (xs : List X) (y : X) (n : ℕ) (x : X) → slice_get (xs ++ y ∷ []) n ≡ Some x → (slice_get xs n ≡ Some x) ⊎ ((n ≡ length xs) × (y ≡ x))
@@ -40,7 +40,7 @@ get_more (z ∷ xs) y zero x e = inl e
 get_more (z ∷ xs) y (suc n) x e = elim (get_more xs y n x e) [ inl h ↦ inl h | inr h ↦ (let same = h.0 in inr (omega (arith, same), h.1)) ]
 
 -- one list more
-pub fitted_more : (l : Lowered) (c : Classed) (parts : List Part) (count : ℕ) (lists : List (List Lock)) (s : Section) (locks : List Lock) → AreFitted l c parts count lists →
+pub fitted_more : (l : Lowered) (c : Classed) (parts : List RegionNeeds) (count : ℕ) (lists : List (List Lock)) (s : Section) (locks : List Lock) → AreFitted l c parts count lists →
     slice_get l.sections count ≡ Some s → IsFitted c s.function 256 (IsTold parts (Inside count) (s.acquire + 1)) locks → AreFitted l c parts (count + 1) (lists ++ locks ∷ [])
 fitted_more l c parts count lists s locks old there fits = record {
   count = longer lists old.count;
@@ -66,7 +66,7 @@ fitted_more l c parts count lists s locks old there fits = record {
         (subst (λ (xs : List Lock). IsFitted c s.function 256 (IsTold parts (Inside count) (s.acquire + 1)) xs) is fits))
 
 -- the list for what the flow tells at an entry
-pub list_fitted : (c : Classed) (f : ℕ) (parts : List Part) (n acquire entry : ℕ) (given needed list : List Lock) → given ≡ needed → ((a : Lock) → IsOne needed a ↔ IsTold parts (Inside n) (entry + 1) a) → entry ≡ acquire →
+pub list_fitted : (c : Classed) (f : ℕ) (parts : List RegionNeeds) (n acquire entry : ℕ) (given needed list : List Lock) → given ≡ needed → ((a : Lock) → IsOne needed a ↔ IsTold parts (Inside n) (entry + 1) a) → entry ≡ acquire →
     IsFitted c f 256 (IsOne given) list → IsFitted c f 256 (IsTold parts (Inside n) (acquire + 1)) list
 list_fitted c f parts n acquire entry given needed list is tells same fits =
     subst (λ q. IsFitted c f 256 (IsTold parts (Inside n) (q + 1)) list) same

@@ -19,9 +19,9 @@ use Rattle.asl_code.specs.declared.path.Op.{Op}
 use Rattle.asl_code.specs.declared.path.Op.TheVariants.{Deref, Off}
 use Rattle.asl_lower.specs.declared.section.Section.{Section}
 use Rattle.asl_lower.specs.Lowered.{Lowered}
-use Rattle.asl_lower.specs.Region.{InBody, GoesOn}
+use Rattle.asl_lower.specs.Region.{InBody, FlowsTo}
 use Rattle.asl_lower.specs.Regions.{Inside}
-use Rattle.asl_lower.specs.Kept.{IsKept}
+use Rattle.asl_lower.specs.LegalLowering.{IsLegalLowering}
 use Rattle.asl_lower.specs.Facts.{HasLayout}
 use Rattle.asl_lower.specs.Limits.{FitsTable}
 use Rattle.asl_lower.specs.Operands.{HasOperands}
@@ -34,7 +34,7 @@ use Rattle.asl_backward_flow.specs.Needed.{Needed}
 use Rattle.asl_soundness.specs.Coded.{classed}
 use Rattle.asl_emitter.specs.Lists.{as_class}
 use Rattle.asl_emitter.specs.Inferred.{IsInferred}
-use Rattle.asl_emitter.specs.Parts.{HasSites}
+use Rattle.asl_emitter.specs.BuiltImage.{HasSites}
 use Rattle.asl_emitter.proofs.There.{IsLockIn, IsBaseIn}
 use Rattle.asl_emitter.proofs.Needing.{needed_in}
 use Rattle.asl_emitter.proofs.Reducing.{one_at}
@@ -95,7 +95,7 @@ as_class_in l c are f regs (lock.Expr d e) b h o =
       | Some x ↦ λ k p. elim p [ inl s ↦ subst (IsLockIn c regs) s (class_below l c are f d.base d.path x k) | inr z ↦ absurd z ]
     ] refl o
 
-module _ (l : Lowered) (c : Classed) (stores : ℕ → ℕ → Bool) (longest : ℕ) (image : Image) (kept : IsKept l) (are : AreClasses l c) (few : c.count ≤ 1024) (m : IsInferred l c stores longest image) where
+module _ (l : Lowered) (c : Classed) (stores : ℕ → ℕ → Bool) (k_limit : ℕ) (image : Image) (kept : IsLegalLowering l) (are : AreClasses l c) (few : c.count ≤ 1024) (m : IsInferred l c stores k_limit image) where
   lay : HasLayout l
   lay = kept_layout l kept
 
@@ -112,11 +112,11 @@ module _ (l : Lowered) (c : Classed) (stores : ℕ → ℕ → Bool) (longest : 
   list_short : (n : ℕ) (locks : List Lock) → slice_get image.lists n ≡ Some locks → length locks ≤ 256
   list_short n locks at =
       let s = section_at n locks at in
-      fitted_short c s.0.function 256 (Needed l c stores longest (Inside n) (suc s.0.acquire)) locks (omega arith) (m.lists n s.0 locks s.1 at)
+      fitted_short c s.0.function 256 (Needed l c stores k_limit (Inside n) (suc s.0.acquire)) locks (omega arith) (m.lists n s.0 locks s.1 at)
 
   list_in : (n : ℕ) (s : Section) (locks : List Lock) (fn : entry.Function) → slice_get l.sections n ≡ Some s → slice_get image.lists n ≡ Some locks → slice_get l.functions s.function ≡ Some fn → (a : Lock) → IsOne locks a → IsLockIn c fn.regs a
   list_in n s locks fn there at function a o =
-      fitted_all (IsLockIn c fn.regs) c s.function 256 (Needed l c stores longest (Inside n) (suc s.acquire)) locks (λ b h. needed_in l c stores longest kept are n (suc s.acquire) s fn b there function h)
+      fitted_all (IsLockIn c fn.regs) c s.function 256 (Needed l c stores k_limit (Inside n) (suc s.acquire)) locks (λ b h. needed_in l c stores k_limit kept are n (suc s.acquire) s fn b there function h)
       (λ b d h k. as_class_in l c are s.function fn.regs b d h k) (λ e. tt) (m.lists n s locks there at) a o
 
   base_fits : (fn : entry.Function) (b : Base) → IsBaseIn c fn.regs b → FitsBase image fn b
@@ -189,7 +189,7 @@ module _ (l : Lowered) (c : Classed) (stores : ℕ → ℕ → Bool) (longest : 
       let function : slice_get l.functions k.section.function ≡ Some f = ap (slice_get l.functions) same ∙ ap (λ fs. slice_get fs n) (sym m.functions) ∙ lies.function in
       (locks.0, locks.1, λ j d small. lock_fits f (get_or locks.0 j d) (list_in section k.section locks.0 f k.in_table locks.1 function (get_or locks.0 j d) (one_at locks.0 j d small)))
 
-  target_in : (n pc target : ℕ) (f : entry.Function) (i : Instr) → LiesIn image n pc f → slice_get l.code pc ≡ Some i → GoesOn i pc target → LiesIn image n target f
+  target_in : (n pc target : ℕ) (f : entry.Function) (i : Instr) → LiesIn image n pc f → slice_get l.code pc ≡ Some i → FlowsTo i pc target → LiesIn image n target f
   target_in n pc target f i lies at goes = lies_in n target f lies.function (lay.inside.body pc target n i (in_body n pc f lies) at goes)
 
   instr_fits : (n pc : ℕ) (f : entry.Function) → LiesIn image n pc f → (i : Instr) → slice_get l.code pc ≡ Some i → HasOperands l f.regs i → FitsInstr image n f (classed c i)
@@ -213,7 +213,7 @@ module _ (l : Lowered) (c : Classed) (stores : ℕ → ℕ → Bool) (longest : 
   instr_fits n pc f lies (instr.Acquire section) at h = acquire_fits n pc section f lies at h
   instr_fits n pc f lies instr.Release at h = tt
 
-  after : (i : Instr) (pc : ℕ) → is_end (classed c i) ≡ false → GoesOn i pc (suc pc)
+  after : (i : Instr) (pc : ℕ) → is_end (classed c i) ≡ false → FlowsTo i pc (suc pc)
   after (instr.Jump target) pc e = cc
   after (instr.Return from) pc e = cc
   after (instr.JumpIfZero test target) pc e = inr refl
@@ -257,7 +257,7 @@ module _ (l : Lowered) (c : Classed) (stores : ℕ → ℕ → Bool) (longest : 
   }
 
 -- the sites of the code have classes
-pub has_sites : (l : Lowered) (c : Classed) → IsKept l → AreClasses l c → HasSites l.code c
+pub has_sites : (l : Lowered) (c : Classed) → IsLegalLowering l → AreClasses l c → HasSites l.code c
 has_sites l c kept are pc to cells site at =
     let lt = (kept_layout l kept).numbered.known_sites pc to cells site at in
     let same = are.least.legal.sites in

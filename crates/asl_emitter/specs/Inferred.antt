@@ -16,7 +16,7 @@ use Rattle.asl_emitter.specs.Lists.{IsFitted}
 
 -- the image of a lowering with these classes, of the newest version: its code with classes in place of sites, and for each section
 -- the fitted list, of as many locks as that version has at most, of what is needed behind its `acq`
-pub record IsInferred (l : Lowered) (c : Classed) (stores : ℕ → ℕ → Bool) (longest : ℕ) (image : Image) : Type 0 where
+pub record IsInferred (l : Lowered) (c : Classed) (stores : ℕ → ℕ → Bool) (k_limit : ℕ) (image : Image) : Type 0 where
   pub version : image.version ≡ newest
   pub classes : image.classes ≡ c.count
   pub globals : image.globals ≡ c.globals
@@ -25,7 +25,7 @@ pub record IsInferred (l : Lowered) (c : Classed) (stores : ℕ → ℕ → Bool
   pub code : image.code ≡ map (classed c) l.code
   pub count : length image.lists ≡ length l.sections
   pub lists : (n : ℕ) (s : Section) (locks : List Lock) → slice_get l.sections n ≡ Some s → slice_get image.lists n ≡ Some locks →
-      IsFitted c s.function newest_locks (λ lock. Needed l c stores longest (Inside n) (suc s.acquire) lock) locks
+      IsFitted c s.function newest_locks (λ lock. Needed l c stores k_limit (Inside n) (suc s.acquire) lock) locks
 
 -- a program with its lowering and its classes
 pub record ClassedProgram (is : List Item) : Type 0 where
@@ -41,6 +41,6 @@ pub record Analysis (is : List Item) : Type 0 where
   pub tells : TellsStores program.lowering program.classes stores
 
 -- the image that is inferred for a program, if it is accepted (Refused), with paths of at most so many operations
-pub record IsInferredFor (is : List Item) (longest : ℕ) (image : Image) : Type 0 where
+pub record IsInferredFor (is : List Item) (k_limit : ℕ) (image : Image) : Type 0 where
   pub analysis : Analysis is
-  pub inferred : IsInferred analysis.program.lowering analysis.program.classes analysis.stores longest image
+  pub inferred : IsInferred analysis.program.lowering analysis.program.classes analysis.stores k_limit image

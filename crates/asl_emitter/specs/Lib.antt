@@ -4,5 +4,5 @@ pub mod Refused
 pub mod Sources
 -- Machinery of the proofs, not of the promise:
 pub mod Faults
-pub mod Parts
+pub mod BuiltImage
 pub mod Above

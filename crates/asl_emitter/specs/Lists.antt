@@ -10,17 +10,17 @@ use Rattle.asl_points_to.specs.Classes.{Classed}
 use Rattle.asl_lock_expr.specs.ClassOf.{class_of}
 use Rattle.asl_lock_expr.specs.Links.{IsOne, class_lock}
 use Rattle.asl_lock_expr.specs.Order.{AreInOrder}
-use Rattle.asl_soundness.specs.Over.{StandsOver}
+use Rattle.asl_soundness.specs.Covering.{CoversLock}
 
 -- in a function the first lock does in place of the second: it stands over it, and is not on the root
-abbrev pub DoesFor : Classed → ℕ → Lock → Lock → Type 0
-DoesFor c f (lock.Root effect) b = ⊥
-DoesFor c f a b = StandsOver c f a b
+abbrev pub SufficesFor : Classed → ℕ → Lock → Lock → Type 0
+SufficesFor c f (lock.Root effect) b = ⊥
+SufficesFor c f a b = CoversLock c f a b
 
 -- a lock absorbs another, different one
 pub record Absorbs (c : Classed) (f : ℕ) (a b : Lock) : Type 0 where
   pub different : a ≢ b
-  pub does : DoesFor c f a b
+  pub does : SufficesFor c f a b
 
 -- a set of locks
 abbrev pub Locks : Type 1

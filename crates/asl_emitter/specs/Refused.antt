@@ -21,25 +21,25 @@ pub record HasManyClasses (is : List Item) : Type 0 where
   pub many : 1024 < program.classes.count
 
 -- it is lowered, has at most 1,024 classes, and the region needs more than 4,096 locks
-pub record HasManyLocks (is : List Item) (longest : ℕ) (r : Region) : Type 0 where
+pub record HasManyLocks (is : List Item) (k_limit : ℕ) (r : Region) : Type 0 where
   pub lowered : IsLowered is
   pub analysis : Analysis is
   pub few_classes : analysis.program.classes.count ≤ 1024
-  pub many : NeedsMany analysis.program.lowering analysis.program.classes analysis.stores longest r
+  pub many : NeedsMany analysis.program.lowering analysis.program.classes analysis.stores k_limit r
 
 -- it is lowered, has at most 1,024 classes, and no region needs more than 4,096 locks
-pub record IsAccepted (is : List Item) (longest : ℕ) : Type 0 where
+pub record IsAccepted (is : List Item) (k_limit : ℕ) : Type 0 where
   pub lowered : IsLowered is
   pub analysis : Analysis is
   pub few_classes : analysis.program.classes.count ≤ 1024
-  pub few_locks : (r : Region) → ¬ NeedsMany analysis.program.lowering analysis.program.classes analysis.stores longest r
+  pub few_locks : (r : Region) → ¬ NeedsMany analysis.program.lowering analysis.program.classes analysis.stores k_limit r
 
 -- the program has this fault, and none that is listed before it; want of memory hides no fault of the lowering, which needs no
 -- memory to be judged
 abbrev pub IsRefused : List Item → ℕ → InferFault → Type 0
-IsRefused is longest (Registers function) = IsNotLowered is (lower.Registers function)
-IsRefused is longest CodeSize = IsNotLowered is lower.CodeSize
-IsRefused is longest (AccessOutsideSection function pc) = IsNotLowered is (lower.AccessOutsideSection function pc)
-IsRefused is longest TooManyClasses = HasManyClasses is
-IsRefused is longest (TooManyLocks region) = HasManyLocks is longest (region_of region)
-IsRefused is longest OutOfMemory = IsLowered is
+IsRefused is k_limit (Registers function) = IsNotLowered is (lower.Registers function)
+IsRefused is k_limit CodeSize = IsNotLowered is lower.CodeSize
+IsRefused is k_limit (AccessOutsideSection function pc) = IsNotLowered is (lower.AccessOutsideSection function pc)
+IsRefused is k_limit TooManyClasses = HasManyClasses is
+IsRefused is k_limit (TooManyLocks region) = HasManyLocks is k_limit (region_of region)
+IsRefused is k_limit OutOfMemory = IsLowered is

@@ -6,13 +6,13 @@ use Rattle.asl_emitter.specs.declared.fault.InferFault.{InferFault}
 use Rattle.asl_emitter.specs.Refused.{IsAccepted, IsRefused}
 
 -- the source is a program's, for which an image is inferred
-pub record IsAcceptedSource (source : List ℕ) (longest : ℕ) : Type 0 where
+pub record IsAcceptedSource (source : List ℕ) (k_limit : ℕ) : Type 0 where
   pub tree : List Item
   pub parsed : Parses source tree
-  pub accepted : IsAccepted tree longest
+  pub accepted : IsAccepted tree k_limit
 
 -- the source is a program's, for which no image is inferred
-pub record HasRefusedTree (source : List ℕ) (longest : ℕ) (cause : InferFault) : Type 0 where
+pub record HasRefusedTree (source : List ℕ) (k_limit : ℕ) (cause : InferFault) : Type 0 where
   pub tree : List Item
   pub parsed : Parses source tree
-  pub refused : IsRefused tree longest cause
+  pub refused : IsRefused tree k_limit cause

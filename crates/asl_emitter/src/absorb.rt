@@ -3,8 +3,8 @@ ghost use Rattle.std.specs.Prelude.{◌≡◌, ◌↔◌, ◌++◌, IsTrue, IfOk
 ghost use Rattle.asl_code.specs.declared.lock.Lock.{Lock as AnyLock};
 ghost use Rattle.asl_lock_expr.specs.Order.{AreInOrder};
 ghost use Rattle.asl_lock_expr.specs.Links.{IsOne};
-ghost use Rattle.asl_soundness.specs.Over.{covers_effect};
-ghost use Rattle.asl_emitter.specs.Lists.{DoesFor, IsFree};
+ghost use Rattle.asl_soundness.specs.Covering.{covers_effect};
+ghost use Rattle.asl_emitter.specs.Lists.{SufficesFor, IsFree};
 ghost use Rattle.asl_emitter.specs.Above.{above, classes_above};
 
 use asl_code::{Effect, Expr, Lock};
@@ -30,8 +30,8 @@ fn are_same_expr(expr: &Expr, other: &Expr) -> bool
 }
 
 /// Whether the first lock does in place of the second.
-pub fn does_for(classes: &Classes, function: u16, lock: &Lock, other: &Lock) -> bool
-    ensures { IsTrue result ↔ DoesFor classes.now function lock.now other.now }
+pub fn suffices_for(classes: &Classes, function: u16, lock: &Lock, other: &Lock) -> bool
+    ensures { IsTrue result ↔ SufficesFor classes.now function lock.now other.now }
 {
     match (lock, other) {
         (Lock::Class(class, effect), Lock::Class(same, weaker)) => {

@@ -2,7 +2,7 @@
 ghost use Rattle.std.specs.Prelude.{◌≡◌, ◌<◌, ℕ, IfOk, length, map};
 ghost use Rattle.asl_code.specs.declared.instr.Instr.TheVariants.{New as NewInstr};
 ghost use Rattle.asl_soundness.specs.Coded.{classed};
-ghost use Rattle.asl_emitter.specs.Parts.{HasSites, AreFitted};
+ghost use Rattle.asl_emitter.specs.BuiltImage.{HasSites, AreFitted};
 
 use crate::fitted::fit_in_order;
 use asl_backward_flow::{Flow, Region};

@@ -1,7 +1,7 @@
 //! The program that is inferred for a tree.
 ghost use Rattle.std.specs.Prelude.{◌≤◌, ℕ, IfOk, IfErr, OnOk};
 ghost use Rattle.asl_syntax.specs.AstView.{tree_of};
-ghost use Rattle.asl_lower.specs.Kept.{IsKept};
+ghost use Rattle.asl_lower.specs.LegalLowering.{IsLegalLowering};
 ghost use Rattle.asl_points_to.specs.Classes.{AreClasses};
 ghost use Rattle.asl_backward_flow.specs.Flows.{IsFlow};
 ghost use Rattle.asl_soundness.specs.Safe.{NeverFaultsForLocks};
@@ -9,7 +9,7 @@ ghost use Rattle.asl_atomicity.specs.Serial.{HasSerialRuns};
 ghost use Rattle.asl_atomicity.specs.Renamed.{HasSerialRunsUpTo};
 ghost use Rattle.asl_emitter.specs.Inferred.{IsInferredFor};
 ghost use Rattle.asl_emitter.specs.Refused.{IsAccepted, IsRefused};
-ghost use Rattle.asl_emitter.specs.Parts.{IsMade};
+ghost use Rattle.asl_emitter.specs.BuiltImage.{IsMade};
 
 use crate::fault::InferFault;
 use crate::image::{code, copied, lists};
@@ -76,7 +76,7 @@ fn image(
 ) -> Result<Image, AllocError>
     requires { AreClasses lowering.now classes.now }
     ensures made { IfOk result (IsMade lowering.now classes.now flow.now) }
-    ensures kept { OnOk result (IsKept lowering.now) }
+    ensures kept { OnOk result (IsLegalLowering lowering.now) }
 {
     Ok(Image {
         version: NEWEST,

@@ -5,11 +5,11 @@ ghost use Rattle.asl_code.specs.Fits.{FitsImage};
 ghost use Rattle.asl_code.specs.declared.lock.Lock.{Lock as AnyLock};
 ghost use Rattle.asl_syntax.specs.Tree.{Item};
 ghost use Rattle.asl_lower.specs.Lowered.{Lowered};
-ghost use Rattle.asl_lower.specs.Kept.{IsKept};
+ghost use Rattle.asl_lower.specs.LegalLowering.{IsLegalLowering};
 ghost use Rattle.asl_points_to.specs.Classes.{Classed, AreClasses};
 ghost use Rattle.asl_lock_expr.specs.ClassOf.{TellsStores};
 ghost use Rattle.asl_lock_expr.specs.Links.{IsOne};
-ghost use Rattle.asl_soundness.specs.Over.{StandsOver};
+ghost use Rattle.asl_soundness.specs.Covering.{CoversLock};
 ghost use Rattle.asl_soundness.specs.Safe.{NeverFaultsForLocks};
 ghost use Rattle.asl_atomicity.specs.Serial.{HasSerialRuns};
 ghost use Rattle.asl_atomicity.specs.Renamed.{HasSerialRunsUpTo};
@@ -40,41 +40,41 @@ pub fn lists_depend_on_the_set_alone()
 /// expression, with an effect at least as strong.
 pub fn fitted_lists_stand_over_their_sets()
     ensures { (c : Classed) (f most : ℕ) (given list : List AnyLock) → IsFitted c f most (IsOne given) list → (a : AnyLock)
-        → IsOne given a → HasClass c f a → (m : AnyLock) × IsOne list m × StandsOver c f m a }
+        → IsOne given a → HasClass c f a → (m : AnyLock) × IsOne list m × CoversLock c f m a }
 {}
 
 /// The image that is inferred for a lowering is verified, no run of it ever faults for want of a lock, for a section that
 /// was not entered, or for one left open, and its sections are atomic: each run in which no section finds that there is no room
 /// for an object ends as a serial one up to the numbers of objects, and as the very same where no step inside a section is a `new`.
 pub fn inferred_images_are_sound()
-    ensures verified { (l : Lowered) (c : Classed) (stores : ℕ → ℕ → Bool) (longest : ℕ) (image : Image) → IsKept l → AreClasses l c → c.count ≤ 1024
-        → IsInferred l c stores longest image → FitsImage image }
-    ensures sound { (l : Lowered) (c : Classed) (stores : ℕ → ℕ → Bool) (longest : ℕ) (image : Image) → IsKept l → AreClasses l c → c.count ≤ 1024
-        → TellsStores l c stores → IsInferred l c stores longest image → NeverFaultsForLocks image }
-    ensures atomic { (l : Lowered) (c : Classed) (stores : ℕ → ℕ → Bool) (longest : ℕ) (image : Image) → IsKept l → AreClasses l c → c.count ≤ 1024
-        → TellsStores l c stores → IsInferred l c stores longest image → (count : ℕ) → HasSerialRuns image count }
-    ensures atomic_up_to_numbers { (l : Lowered) (c : Classed) (stores : ℕ → ℕ → Bool) (longest : ℕ) (image : Image) → IsKept l → AreClasses l c → c.count ≤ 1024
-        → TellsStores l c stores → IsInferred l c stores longest image → (count : ℕ) → HasSerialRunsUpTo image count }
+    ensures verified { (l : Lowered) (c : Classed) (stores : ℕ → ℕ → Bool) (k_limit : ℕ) (image : Image) → IsLegalLowering l → AreClasses l c → c.count ≤ 1024
+        → IsInferred l c stores k_limit image → FitsImage image }
+    ensures sound { (l : Lowered) (c : Classed) (stores : ℕ → ℕ → Bool) (k_limit : ℕ) (image : Image) → IsLegalLowering l → AreClasses l c → c.count ≤ 1024
+        → TellsStores l c stores → IsInferred l c stores k_limit image → NeverFaultsForLocks image }
+    ensures atomic { (l : Lowered) (c : Classed) (stores : ℕ → ℕ → Bool) (k_limit : ℕ) (image : Image) → IsLegalLowering l → AreClasses l c → c.count ≤ 1024
+        → TellsStores l c stores → IsInferred l c stores k_limit image → (count : ℕ) → HasSerialRuns image count }
+    ensures atomic_up_to_numbers { (l : Lowered) (c : Classed) (stores : ℕ → ℕ → Bool) (k_limit : ℕ) (image : Image) → IsLegalLowering l → AreClasses l c → c.count ≤ 1024
+        → TellsStores l c stores → IsInferred l c stores k_limit image → (count : ℕ) → HasSerialRunsUpTo image count }
 {}
 
 /// A program has one outcome at the most, want of memory aside: a fault of its lowering keeps out all else, too many classes
 /// keep out too many locks, and an accepted program has no fault. Of several regions with too many locks any is told.
 pub fn programs_have_one_outcome()
-    ensures registers { (is : List Item) (longest function : ℕ) (other : AnyFault) → IsRefused is longest (AnyFault.Registers function)
-        → IsRefused is longest other → other ≡ AnyFault.Registers function }
-    ensures code_size { (is : List Item) (longest : ℕ) (other : AnyFault) → IsRefused is longest AnyFault.CodeSize
-        → IsRefused is longest other → other ≡ AnyFault.CodeSize }
-    ensures access { (is : List Item) (longest function pc : ℕ) (other : AnyFault) → IsRefused is longest (AnyFault.AccessOutsideSection function pc)
-        → IsRefused is longest other → other ≡ AnyFault.AccessOutsideSection function pc }
-    ensures classes { (is : List Item) (longest : ℕ) (other : AnyFault) → IsRefused is longest AnyFault.TooManyClasses
-        → IsRefused is longest other → (other ≡ AnyFault.TooManyClasses) ⊎ (other ≡ AnyFault.OutOfMemory) }
-    ensures locks { (is : List Item) (longest : ℕ) (region : _) (other : AnyFault) → IsRefused is longest (AnyFault.TooManyLocks region)
-        → IsRefused is longest other → ((another : _) × (other ≡ AnyFault.TooManyLocks another)) ⊎ (other ≡ AnyFault.OutOfMemory) }
-    ensures accepted { (is : List Item) (longest : ℕ) (other : AnyFault) → IsAccepted is longest
-        → IsRefused is longest other → other ≡ AnyFault.OutOfMemory }
+    ensures registers { (is : List Item) (k_limit function : ℕ) (other : AnyFault) → IsRefused is k_limit (AnyFault.Registers function)
+        → IsRefused is k_limit other → other ≡ AnyFault.Registers function }
+    ensures code_size { (is : List Item) (k_limit : ℕ) (other : AnyFault) → IsRefused is k_limit AnyFault.CodeSize
+        → IsRefused is k_limit other → other ≡ AnyFault.CodeSize }
+    ensures access { (is : List Item) (k_limit function pc : ℕ) (other : AnyFault) → IsRefused is k_limit (AnyFault.AccessOutsideSection function pc)
+        → IsRefused is k_limit other → other ≡ AnyFault.AccessOutsideSection function pc }
+    ensures classes { (is : List Item) (k_limit : ℕ) (other : AnyFault) → IsRefused is k_limit AnyFault.TooManyClasses
+        → IsRefused is k_limit other → (other ≡ AnyFault.TooManyClasses) ⊎ (other ≡ AnyFault.OutOfMemory) }
+    ensures locks { (is : List Item) (k_limit : ℕ) (region : _) (other : AnyFault) → IsRefused is k_limit (AnyFault.TooManyLocks region)
+        → IsRefused is k_limit other → ((another : _) × (other ≡ AnyFault.TooManyLocks another)) ⊎ (other ≡ AnyFault.OutOfMemory) }
+    ensures accepted { (is : List Item) (k_limit : ℕ) (other : AnyFault) → IsAccepted is k_limit
+        → IsRefused is k_limit other → other ≡ AnyFault.OutOfMemory }
 {}
 
 /// A program has one inferred image for each longest path, at the most.
 pub fn inferred_images_are_one()
-    ensures { (is : List Item) (longest : ℕ) (image other : Image) → IsInferredFor is longest image → IsInferredFor is longest other → image ≡ other }
+    ensures { (is : List Item) (k_limit : ℕ) (image other : Image) → IsInferredFor is k_limit image → IsInferredFor is k_limit other → image ≡ other }
 {}

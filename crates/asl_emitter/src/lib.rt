@@ -9,7 +9,7 @@ mod inferred;
 mod laws;
 mod reduced;
 
-pub use absorb::{covers, does_for};
+pub use absorb::{covers, suffices_for};
 pub use fault::InferFault;
 pub use fitted::{MAX_LOCKS, fit};
 pub use image::{classed, lists};

@@ -8,7 +8,7 @@ use Rattle.asl_code.specs.declared.lock.Lock.{Lock}
 use Rattle.asl_code.specs.declared.lock.Lock.TheVariants.{Root, Class, Expr}
 use Rattle.asl_lower.specs.declared.section.Section.{Section}
 use Rattle.asl_lower.specs.Regions.{Inside}
-use Rattle.asl_lock_expr.specs.Links.{View, view, IsOne, is_register, settle, link}
+use Rattle.asl_lock_expr.specs.Links.{LinkContext, view, IsOne, is_register, settle, link}
 use Rattle.asl_lock_expr.specs.Stores.{stores}
 use Rattle.asl_lock_expr.specs.Order.{AreInOrder}
 use Rattle.asl_backward_flow.specs.Needed.{IsTold}
@@ -84,7 +84,7 @@ module _ (register : ℕ) where
 -- ---- where locks end
 
 -- a lock on the register of a `new` becomes none
-none_of : (v : View) (to cells site : ℕ) (l : Lock) → IsOn to l → link v (New to cells site) l ≡ []
+none_of : (v : LinkContext) (to cells site : ℕ) (l : Lock) → IsOn to l → link v (New to cells site) l ≡ []
 none_of v to cells site (Expr e effect) on =
     let same : is_register to e.base ≡ true = subst (λ (b : Base). is_register to b ≡ true) (sym on) (eq-eqb to to refl) in
     ap (λ (b : Bool). flat_map (settle v) (if b then [] else Expr e effect ∷ [])) same
@@ -104,7 +104,7 @@ module _ (a : Analysis) (number : ℕ) (s : Section) (there : slice_get a.loweri
     at = record { inside = record { is = s; in_table = there; function = refl; behind = made.behind; ahead = made.ahead }; stands = made.stands };
     needed = needed;
     begins = on;
-    none = none_of (view a.classes (stores a.writes) a.longest s.function) to made.cells made.site l on;
+    none = none_of (view a.classes (stores a.writes) a.k_limit s.function) to made.cells made.site l on;
   }
 
   -- where a lock ends, a `new` is inside the section

@@ -6,10 +6,10 @@ use Rattle.asl_code.specs.Versions.{newest}
 use Rattle.asl_lower.specs.Lowered.{Lowered}
 use Rattle.asl_points_to.specs.Classes.{Classed}
 use Rattle.asl_lock_expr.specs.Stores.{stores}
-use Rattle.asl_backward_flow.specs.Needed.{Part, TellsNeeded}
+use Rattle.asl_backward_flow.specs.Needed.{RegionNeeds, TellsNeeded}
 use Rattle.asl_soundness.specs.Coded.{classed}
 use Rattle.asl_emitter.specs.Inferred.{IsInferred}
-use Rattle.asl_emitter.specs.Parts.{AreFitted}
+use Rattle.asl_emitter.specs.BuiltImage.{AreFitted}
 use Rattle.asl_emitter.proofs.Making.{made_inferred}
 use Rattle.asl_explain.specs.declared.analysis.Analysis.{Analysis}
 use Rattle.asl_explain.specs.declared.value.Listed.{Listed}
@@ -34,9 +34,9 @@ image_with l c lists = record {
   lists = lists;
 }
 
-with_lists : (l : Lowered) (c : Classed) (tests : ℕ → ℕ → Bool) (longest : ℕ) (parts : List Part) (lists : List (List Lock)) → TellsNeeded l c tests longest parts → AreFitted l c parts (length l.sections) lists → IsInferred l c tests longest (image_with l c lists)
-with_lists l c tests longest parts lists tells fitted =
-    made_inferred l c tests longest parts (image_with l c lists) tells (record { version = refl; classes = refl; globals = refl; functions = refl; start = refl; code = refl; lists = fitted })
+with_lists : (l : Lowered) (c : Classed) (tests : ℕ → ℕ → Bool) (k_limit : ℕ) (parts : List RegionNeeds) (lists : List (List Lock)) → TellsNeeded l c tests k_limit parts → AreFitted l c parts (length l.sections) lists → IsInferred l c tests k_limit (image_with l c lists)
+with_lists l c tests k_limit parts lists tells fitted =
+    made_inferred l c tests k_limit parts (image_with l c lists) tells (record { version = refl; classes = refl; globals = refl; functions = refl; start = refl; code = refl; lists = fitted })
 
 abbrev lock_of : Listed → Lock
 lock_of d = d.lock
@@ -65,8 +65,8 @@ explained_lists x lists sections many all image is = record {
 }
 
 module _ (source : List ℕ) (k : ℕ) (a : Analysis) (of : IsOfSource source k a) where
-  lists_at : (longest : ℕ) (l : Lists) → AreFittedAt a.lowering a.classes longest l → AreListsAt of.tree longest l
-  lists_at longest (Inferred lists) fitted =
+  lists_at : (k_limit : ℕ) (l : Lists) → AreFittedAt a.lowering a.classes k_limit l → AreListsAt of.tree k_limit l
+  lists_at k_limit (Inferred lists) fitted =
       let flow = fitted.1 in (
         image_with a.lowering a.classes lists,
         record {
@@ -75,11 +75,11 @@ module _ (source : List ℕ) (k : ℕ) (a : Analysis) (of : IsOfSource source k 
             stores = flow.stores;
             tells = flow.written;
           };
-          inferred = with_lists a.lowering a.classes flow.stores longest fitted.0 lists flow.tells fitted.2;
+          inferred = with_lists a.lowering a.classes flow.stores k_limit fitted.0 lists flow.tells fitted.2;
         },
         refl,
       )
-  lists_at longest (TooManyLocks region) over = record {
+  lists_at k_limit (TooManyLocks region) over = record {
     lowered = of.accepted.lowered;
     analysis = record {
       program = record { lowering = a.lowering; lowers = of.lowers; classes = a.classes; are_classes = of.classes };
@@ -90,7 +90,7 @@ module _ (source : List ℕ) (k : ℕ) (a : Analysis) (of : IsOfSource source k 
     many = over.many;
   }
 
-  made_at : (e : Explanation) → IsMade a e → IsExplained of.tree a.longest e
+  made_at : (e : Explanation) → IsMade a e → IsExplained of.tree a.k_limit e
   made_at e made = record {
     analysis = record {
       program = record { lowering = a.lowering; lowers = of.lowers; classes = a.classes; are_classes = of.classes };
@@ -104,11 +104,11 @@ module _ (source : List ℕ) (k : ℕ) (a : Analysis) (of : IsOfSource source k 
         stores = stores a.writes;
         tells = of.analysed.written;
       };
-      inferred = with_lists a.lowering a.classes (stores a.writes) a.longest a.flow made.lists of.analysed.tells made.fitted;
+      inferred = with_lists a.lowering a.classes (stores a.writes) a.k_limit a.flow made.lists of.analysed.tells made.fitted;
     };
     sections = explained_lists (read a) made.lists e.sections made.fitted.count made.sections (image_with a.lowering a.classes made.lists) refl;
     ended = made.ended;
-    by_length = record { count = made.count; each = λ longest l at. lists_at longest l (made.each longest l at) };
+    by_length = record { count = made.count; each = λ k_limit l at. lists_at k_limit l (made.each k_limit l at) };
   }
 
   pub made_explained : (e : Explanation) → IsMade a e → IsExplanation source k e

@@ -14,9 +14,9 @@ use Rattle.asl_lock_expr.specs.Stores.{stores}
 use Rattle.asl_lock_expr.specs.ClassOf.{TellsStores}
 use Rattle.asl_backward_flow.specs.Needed.{TellsNeeded, region_of}
 use Rattle.asl_explain.specs.declared.analysis.Analysis.{Analysis}
-use Rattle.asl_backward_flow.specs.Needed.{Part}
+use Rattle.asl_backward_flow.specs.Needed.{RegionNeeds}
 use Rattle.asl_backward_flow.specs.Flows.{IsFlow, IsOverfull}
-use Rattle.asl_emitter.specs.Parts.{AreFitted}
+use Rattle.asl_emitter.specs.BuiltImage.{AreFitted}
 use Rattle.asl_explain.specs.declared.value.Listed.{Listed}
 use Rattle.asl_explain.specs.declared.value.Ended.{Ended}
 use Rattle.asl_explain.specs.declared.value.Lists.{Lists}
@@ -27,14 +27,14 @@ use Rattle.asl_explain.specs.Explained.{IsListed, IsEnding, AreEnded, AreAllEnde
 
 -- what the needs of an analysis are read against
 abbrev pub read : Analysis → Read
-read a = record { lowered = a.lowering; classes = a.classes; stores = stores a.writes; longest = a.longest }
+read a = record { lowered = a.lowering; classes = a.classes; stores = stores a.writes; k_limit = a.k_limit }
 
 -- its flow tells what is needed, and is that of its length; its sets tell where functions store to
 pub record IsAnalysed (a : Analysis) : Type 0 where
-  pub short : a.longest ≤ 8
+  pub short : a.k_limit ≤ 8
   pub written : TellsStores a.lowering a.classes (stores a.writes)
-  pub tells : TellsNeeded a.lowering a.classes (stores a.writes) a.longest a.flow
-  pub flow : IsFlow a.lowering a.classes a.longest a.flow
+  pub tells : TellsNeeded a.lowering a.classes (stores a.writes) a.k_limit a.flow
+  pub flow : IsFlow a.lowering a.classes a.k_limit a.flow
 
 -- the locks of a section's list, in their order, with what each stands over
 pub record AreListed (x : Read) (section : ℕ) (is : Section) (list : List Lock) (ls : List Listed) : Type 0 where
@@ -72,8 +72,8 @@ pub record HasAdded (Holds : Lock → Type 0) (old new : List Lock) : Type 0 whe
 
 -- the lists are fitted to a flow with paths of at most so many operations, or a region needs too many locks
 abbrev pub AreFittedAt : Lowered → Classed → ℕ → Lists → Type 0
-AreFittedAt l c longest (Inferred lists) = (parts : List Part) × IsFlow l c longest parts × AreFitted l c parts (length l.sections) lists
-AreFittedAt l c longest (TooManyLocks region) = IsOverfull l c longest (region_of region)
+AreFittedAt l c k_limit (Inferred lists) = (parts : List RegionNeeds) × IsFlow l c k_limit parts × AreFitted l c parts (length l.sections) lists
+AreFittedAt l c k_limit (TooManyLocks region) = IsOverfull l c k_limit (region_of region)
 
 -- the explanation that is made of an analysis
 pub record IsMade (a : Analysis) (e : Explanation) : Type 0 where
@@ -82,15 +82,15 @@ pub record IsMade (a : Analysis) (e : Explanation) : Type 0 where
   pub sections : AreSections (read a) lists (length a.lowering.sections) e.sections
   pub ended : AreAllEnded (read a) e.ended
   pub count : length e.by_length ≡ 9
-  pub each : (longest : ℕ) (l : Lists) → slice_get e.by_length longest ≡ Some l → AreFittedAt a.lowering a.classes longest l
+  pub each : (k_limit : ℕ) (l : Lists) → slice_get e.by_length k_limit ≡ Some l → AreFittedAt a.lowering a.classes k_limit l
 
 -- it is the analysis of the source's tree
-pub record IsOfSource (source : List ℕ) (longest : ℕ) (a : Analysis) : Type 0 where
+pub record IsOfSource (source : List ℕ) (k_limit : ℕ) (a : Analysis) : Type 0 where
   pub tree : List Item
   pub parsed : Parses source tree
   pub lowers : IsLowering tree a.lowering
   pub classes : AreClasses a.lowering a.classes
   pub few : a.classes.count ≤ 1024
   pub analysed : IsAnalysed a
-  pub same : a.longest ≡ longest
-  pub accepted : IsAccepted tree longest
+  pub same : a.k_limit ≡ k_limit
+  pub accepted : IsAccepted tree k_limit

@@ -7,7 +7,7 @@ use Rattle.asl_code.specs.declared.lock.Base.TheVariants.{Reg}
 use Rattle.asl_code.specs.declared.lock.Lock.{Lock}
 use Rattle.asl_code.specs.declared.lock.Lock.TheVariants.{Root, Class, Expr}
 use Rattle.asl_lower.specs.Lowered.{Lowered}
-use Rattle.asl_lower.specs.Region.{GoesOn, start_of}
+use Rattle.asl_lower.specs.Region.{FlowsTo, start_of}
 use Rattle.asl_lower.specs.Regions.{Region, Body, Inside, IsIn}
 use Rattle.asl_points_to.specs.Classes.{Classed}
 use Rattle.asl_lock_expr.specs.Links.{view, IsOne, link, settle, accesses, renamed, dereferenced}
@@ -21,11 +21,11 @@ pub record Read : Type 0 where
   pub lowered : Lowered
   pub classes : Classed
   pub stores : ℕ → ℕ → Bool
-  pub longest : ℕ
+  pub k_limit : ℕ
 
 -- the region needs the lock at the pc
 abbrev pub Needs : Read → Region → ℕ → Lock → Type 0
-Needs x r pc lock = Needed x.lowered x.classes x.stores x.longest r pc lock
+Needs x r pc lock = Needed x.lowered x.classes x.stores x.k_limit r pc lock
 
 -- the instruction at the pc of the region, of function `f`
 pub record StandsAt (x : Read) (r : Region) (pc f : ℕ) (i : Instr) : Type 0 where
@@ -37,7 +37,7 @@ pub record IsAccess (x : Read) (s : Step) : Type 0 where
   pub function : ℕ
   pub instruction : Instr
   pub at : StandsAt x (region_of s.region) s.pc function instruction
-  pub accesses : IsOne (accesses (view x.classes x.stores x.longest function) instruction) s.lock
+  pub accesses : IsOne (accesses (view x.classes x.stores x.k_limit function) instruction) s.lock
 
 -- the lock of the step before is needed after the step's instruction, and becomes the step's lock before it
 pub record IsLink (x : Read) (before s : Step) : Type 0 where
@@ -46,9 +46,9 @@ pub record IsLink (x : Read) (before s : Step) : Type 0 where
   pub instruction : Instr
   pub at : StandsAt x (region_of s.region) s.pc function instruction
   pub next : ℕ
-  pub goes_on : GoesOn instruction s.pc next
+  pub goes_on : FlowsTo instruction s.pc next
   pub needed : Needs x (region_of s.region) next before.lock
-  pub links : IsOne (link (view x.classes x.stores x.longest function) instruction before.lock) s.lock
+  pub links : IsOne (link (view x.classes x.stores x.k_limit function) instruction before.lock) s.lock
 
 -- the step's instruction is a call; the lock of the step before is needed at the callee's entry, and becomes the step's lock at
 -- the call: registers are renamed, and what has too long a path becomes its class
@@ -64,7 +64,7 @@ pub record IsEntry (x : Read) (before s : Step) : Type 0 where
   pub needed : Needs x (Body callee) (start_of x.lowered.functions callee) before.lock
   pub lock : Lock
   pub renames : IsOne (renamed first called.params before.lock) lock
-  pub settles : IsOne (settle (view x.classes x.stores x.longest function) lock) s.lock
+  pub settles : IsOne (settle (view x.classes x.stores x.k_limit function) lock) s.lock
 
 -- the lock of the step before is needed at the same pc, and evaluating it reads the cell of the step's lock
 pub record IsFront (x : Read) (before s : Step) : Type 0 where
@@ -118,4 +118,4 @@ pub record IsDropped (x : Read) (section pc : ℕ) (lock : Lock) : Type 0 where
   pub at : StandsAt x (Inside section) pc function (instr.New to cells site)
   pub needed : Needs x (Inside section) (suc pc) lock
   pub begins : IsOn to lock
-  pub none : link (view x.classes x.stores x.longest function) (instr.New to cells site) lock ≡ []
+  pub none : link (view x.classes x.stores x.k_limit function) (instr.New to cells site) lock ≡ []

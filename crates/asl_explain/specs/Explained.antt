@@ -8,7 +8,7 @@ use Rattle.asl_syntax.specs.Fault as syntax
 use Rattle.asl_lower.specs.declared.section.Section.{Section}
 use Rattle.asl_lower.specs.Regions.{Inside}
 use Rattle.asl_lock_expr.specs.Order.{AreInOrder}
-use Rattle.asl_soundness.specs.Over.{StandsOver}
+use Rattle.asl_soundness.specs.Covering.{CoversLock}
 use Rattle.asl_emitter.specs.declared.fault.InferFault.TheVariants as infer
 use Rattle.asl_emitter.specs.Inferred.{Analysis, IsInferredFor}
 use Rattle.asl_emitter.specs.Refused.{IsAccepted, IsRefused as IsNotInferred}
@@ -44,7 +44,7 @@ IsOneOf needs lock = (n : ℕ) × (d : Need) × (slice_get needs n ≡ Some d) �
 -- under the lock stand the needs that it stands over, and no others
 pub record IsListed (x : Read) (section : ℕ) (is : Section) (d : Listed) : Type 0 where
   pub needs : AreNeeds x section is d.needs
-  pub under : (lock : Lock) → IsOneOf d.needs lock ↔ (Needs x (Inside section) (suc is.acquire) lock × StandsOver x.classes is.function d.lock lock)
+  pub under : (lock : Lock) → IsOneOf d.needs lock ↔ (Needs x (Inside section) (suc is.acquire) lock × CoversLock x.classes is.function d.lock lock)
 
 -- the lists of the image, and under each lock what it stands over
 pub record AreExplained (x : Read) (image : Image) (sections : List (List Listed)) : Type 0 where
@@ -75,35 +75,35 @@ pub record AreAllEnded (x : Read) (sections : List (List Ended)) : Type 0 where
 
 -- what the lists are with paths of at most so many operations: those of the inferred image, or a region needs too many locks
 abbrev pub AreListsAt : List Item → ℕ → Lists → Type 0
-AreListsAt tree longest (Inferred lists) = (image : Image) × IsInferredFor tree longest image × (image.lists ≡ lists)
-AreListsAt tree longest (TooManyLocks region) = IsNotInferred tree longest (infer.TooManyLocks region)
+AreListsAt tree k_limit (Inferred lists) = (image : Image) × IsInferredFor tree k_limit image × (image.lists ≡ lists)
+AreListsAt tree k_limit (TooManyLocks region) = IsNotInferred tree k_limit (infer.TooManyLocks region)
 
 -- so for each length from 0 to 8
 pub record AreByLength (tree : List Item) (lists : List Lists) : Type 0 where
   pub count : length lists ≡ 9
-  pub each : (longest : ℕ) (l : Lists) → slice_get lists longest ≡ Some l → AreListsAt tree longest l
+  pub each : (k_limit : ℕ) (l : Lists) → slice_get lists k_limit ≡ Some l → AreListsAt tree k_limit l
 
 -- what the needs of an analysed tree are read against
 abbrev pub read_of : {tree : List Item} → Analysis tree → ℕ → Read
-read_of analysis longest = record { lowered = analysis.program.lowering; classes = analysis.program.classes; stores = analysis.stores; longest = longest }
+read_of analysis k_limit = record { lowered = analysis.program.lowering; classes = analysis.program.classes; stores = analysis.stores; k_limit = k_limit }
 
 -- the explanation of a tree
-pub record IsExplained (tree : List Item) (longest : ℕ) (e : Explanation) : Type 0 where
+pub record IsExplained (tree : List Item) (k_limit : ℕ) (e : Explanation) : Type 0 where
   pub analysis : Analysis tree
   pub image : Image
-  pub inferred : IsInferredFor tree longest image
-  pub sections : AreExplained (read_of analysis longest) image e.sections
-  pub ended : AreAllEnded (read_of analysis longest) e.ended
+  pub inferred : IsInferredFor tree k_limit image
+  pub sections : AreExplained (read_of analysis k_limit) image e.sections
+  pub ended : AreAllEnded (read_of analysis k_limit) e.ended
   pub by_length : AreByLength tree e.by_length
 
 -- the source spells a tree, for which lists are inferred, and this is its explanation
-pub record IsExplanation (source : List ℕ) (longest : ℕ) (e : Explanation) : Type 0 where
+pub record IsExplanation (source : List ℕ) (k_limit : ℕ) (e : Explanation) : Type 0 where
   pub tree : List Item
   pub parsed : Parses source tree
-  pub accepted : IsAccepted tree longest
-  pub explained : IsExplained tree longest e
+  pub accepted : IsAccepted tree k_limit
+  pub explained : IsExplained tree k_limit e
 
 -- what each refusal says of the source
 abbrev pub IsRefused : List ℕ → ℕ → ExplainFault → Type 0
-IsRefused source longest (Source cause) = syntax.IsFault source cause
-IsRefused source longest (Infer cause) = HasRefusedTree source longest cause
+IsRefused source k_limit (Source cause) = syntax.IsFault source cause
+IsRefused source k_limit (Infer cause) = HasRefusedTree source k_limit cause

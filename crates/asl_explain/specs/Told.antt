@@ -59,7 +59,7 @@ told_from section [] = []
 told_from section (listed ∷ rest) = told_of section listed ++ told_from (suc section) rest
 
 -- the text is that of an explanation of the source: it tells the number of each section and its locks, in their order
-pub record IsText (source : List ℕ) (longest : ℕ) (text : List ℕ) : Type 0 where
+pub record IsText (source : List ℕ) (k_limit : ℕ) (text : List ℕ) : Type 0 where
   pub explanation : Explanation
-  pub explains : IsExplanation source longest explanation
+  pub explains : IsExplanation source k_limit explanation
   pub tells : StandIn (told_from zero explanation.sections) text

@@ -8,7 +8,7 @@ ghost use Rattle.asl_explain.specs.Analysed.{IsAnalysed};
 
 use asl_backward_flow::{Flow, needed};
 use asl_emitter::InferFault;
-use asl_lock_expr::{View, Writes, writes};
+use asl_lock_expr::{LinkContext, Writes, writes};
 use asl_lower::{Lowering, lower};
 use asl_points_to::{Classes, classes};
 use asl_syntax::Ast;
@@ -22,7 +22,7 @@ pub struct Analysis {
     pub writes: Writes,
     pub flow: Flow,
     /// The most operations that a path keeps, at most eight.
-    pub longest: u32,
+    pub k_limit: u32,
 }
 
 /// What is known of a tree, with paths of at most `k` operations.
@@ -32,7 +32,7 @@ pub fn analyse(alloc: Global, ast: &Ast, k: u32) -> Result<Analysis, InferFault>
     ensures classes { IfOk result (λ a. AreClasses a.lowering a.classes) }
     ensures few { IfOk result (λ a. a.classes.count ≤ 1024) }
     ensures analysed { IfOk result IsAnalysed }
-    ensures longest { IfOk result (λ a. a.longest ≡ k) }
+    ensures k_limit { IfOk result (λ a. a.k_limit ≡ k) }
     ensures accepted { IfOk result (λ _. IsAccepted (tree_of ast.now) k) }
     ensures refused { IfErr result (IsRefused (tree_of ast.now) k) }
 {
@@ -45,7 +45,7 @@ pub fn analyse(alloc: Global, ast: &Ast, k: u32) -> Result<Analysis, InferFault>
         classes,
         writes,
         flow,
-        longest: k,
+        k_limit: k,
     })
 }
 
@@ -56,13 +56,13 @@ impl Analysis {
     ghost use Rattle.asl_lock_expr.specs.Stores.{stores};
 
     /// What links of a function are read against.
-    pub fn view(&self, function: u16) -> View<'_>
-        ensures { seen result ≡ view self.now.classes (stores self.now.writes) self.now.longest function }
+    pub fn view(&self, function: u16) -> LinkContext<'_>
+        ensures { seen result ≡ view self.now.classes (stores self.now.writes) self.now.k_limit function }
     {
-        View {
+        LinkContext {
             classes: &self.classes,
             writes: &self.writes,
-            longest: self.longest as usize,
+            k_limit: self.k_limit as usize,
             function,
         }
     }

@@ -4,7 +4,7 @@ ghost use Rattle.std.specs.Prelude.{◌≡◌, ◌≤◌, ◌<◌, ◌↔◌, �
 ghost use Rattle.asl_code.specs.declared.image.Function.{Function};
 ghost use Rattle.asl_code.specs.declared.instr.Instr.{Instr};
 ghost use Rattle.asl_code.specs.declared.instr.Instr.TheVariants.{New};
-ghost use Rattle.asl_lower.specs.Region.{GoesOn, start_of};
+ghost use Rattle.asl_lower.specs.Region.{FlowsTo, start_of};
 ghost use Rattle.asl_lower.specs.Regions.{Body, IsIn};
 ghost use Rattle.asl_backward_flow.specs.Needed.{region_of};
 ghost use Rattle.asl_explain.specs.declared.value.Step.{Step as StepValue};
@@ -83,7 +83,7 @@ fn is_needed_after(analysis: &Analysis, region: Region, pc: u16, lock: &Lock) ->
     requires analysed { IsAnalysed analysis.now }
     requires there { pc < length analysis.now.lowering.code }
     ensures { IsTrue result → (i : Instr) → slice_get analysis.now.lowering.code pc ≡ Some i
-        → (next : ℕ) × GoesOn i pc next × Needs (read analysis.now) (region_of region) next lock.now }
+        → (next : ℕ) × FlowsTo i pc next × Needs (read analysis.now) (region_of region) next lock.now }
 {
     let successors = analysis.lowering.successors(pc);
     for next in successors.as_slice() {

@@ -5,7 +5,7 @@ ghost use Rattle.asl_lock_expr.specs.Links.{IsOne, accesses, link, settle, renam
 ghost use Rattle.asl_lock_expr.specs.LinksView.{seen};
 
 use asl_code::{Base, Effect, Expr, Instr, Lock, Op, Path};
-use asl_lock_expr::{View, add_accesses, add_dereferenced, add_entered, add_links, stays};
+use asl_lock_expr::{LinkContext, add_accesses, add_dereferenced, add_entered, add_links, stays};
 use std::alloc::{AllocError, Global};
 
 /// The lock on a base with an operation in front of the rest of a path, as far as a path has room for it.
@@ -57,11 +57,11 @@ pub fn copied(lock: &Lock) -> Result<Lock, AllocError>
 /// Whether the lock is one that the instruction needs itself.
 pub fn is_accessed(
     alloc: Global,
-    view: &View,
+    view: &LinkContext,
     instr: &Instr,
     lock: &Lock,
 ) -> Result<bool, AllocError>
-    requires { view.now.longest ≤ 8 }
+    requires { view.now.k_limit ≤ 8 }
     ensures { IfOk result (λ b. IsTrue b → IsOne (accesses (seen view.now) instr.now) lock.now) }
 {
     let mut locks = Vec::new(alloc);
@@ -72,12 +72,12 @@ pub fn is_accessed(
 /// Whether the first lock, after the instruction, becomes the second before it.
 pub fn is_link(
     alloc: Global,
-    view: &View,
+    view: &LinkContext,
     instr: &Instr,
     after: &Lock,
     before: &Lock,
 ) -> Result<bool, AllocError>
-    requires { view.now.longest ≤ 8 }
+    requires { view.now.k_limit ≤ 8 }
     ensures { IfOk result (λ b. IsTrue b → IsOne (link (seen view.now) instr.now after.now) before.now) }
 {
     let mut locks = Vec::new(alloc);
@@ -89,13 +89,13 @@ pub fn is_link(
 /// the registers from `first` on.
 pub fn is_entered(
     alloc: Global,
-    view: &View,
+    view: &LinkContext,
     first: u8,
     params: u8,
     entered: &Lock,
     called: &Lock,
 ) -> Result<bool, AllocError>
-    requires { view.now.longest ≤ 8 }
+    requires { view.now.k_limit ≤ 8 }
     ensures { IfOk result (λ b. IsTrue b → IsOne (flat_map (settle (seen view.now)) (renamed first params entered.now)) called.now) }
 {
     if u16::from(first) + u16::from(params) > 256 {
@@ -116,8 +116,13 @@ pub fn is_dereferenced(alloc: Global, lock: &Lock, front: &Lock) -> Result<bool,
 }
 
 /// Whether the lock stays over the instruction, perhaps besides others that it becomes.
-pub fn is_kept(alloc: Global, view: &View, instr: &Instr, lock: &Lock) -> Result<bool, AllocError>
-    requires { view.now.longest ≤ 8 }
+pub fn is_kept(
+    alloc: Global,
+    view: &LinkContext,
+    instr: &Instr,
+    lock: &Lock,
+) -> Result<bool, AllocError>
+    requires { view.now.k_limit ≤ 8 }
 {
     if stays(view, instr, lock) {
         return Ok(true);

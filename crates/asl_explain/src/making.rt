@@ -3,7 +3,7 @@ ghost use Rattle.std.specs.Prelude.{◌≡◌, ◌≤◌, ◌↔◌, ℕ, suc, S
 ghost use Rattle.asl_code.specs.declared.lock.Lock.{Lock as AnyLock};
 ghost use Rattle.asl_lower.specs.Regions.{Inside};
 ghost use Rattle.asl_lock_expr.specs.Links.{IsOne};
-ghost use Rattle.asl_soundness.specs.Over.{StandsOver};
+ghost use Rattle.asl_soundness.specs.Covering.{CoversLock};
 ghost use Rattle.asl_explain.specs.declared.value.Lists.{Lists as AnyLists};
 ghost use Rattle.asl_explain.specs.Chains.{Needs};
 ghost use Rattle.asl_explain.specs.Explained.{AreChains, AreNeeds, IsListed, IsOneOf};
@@ -17,7 +17,7 @@ use crate::search::Searcher;
 use crate::value::{Chain, Explanation, Listed, Lists, Need};
 use asl_backward_flow::{FlowFault, Region, needed};
 use asl_code::{Items, Lock};
-use asl_emitter::{covers, does_for, lists};
+use asl_emitter::{covers, lists, suffices_for};
 use asl_lower::Section;
 use asl_points_to::Classes;
 use std::alloc::{AllocError, Global};
@@ -43,12 +43,12 @@ fn confirmed(
 }
 
 /// Whether the first lock stands over the second in a function.
-fn stands_over(classes: &Classes, function: u16, lock: &Lock, other: &Lock) -> bool
-    ensures { IsTrue result ↔ StandsOver classes.now function lock.now other.now }
+fn covers_lock(classes: &Classes, function: u16, lock: &Lock, other: &Lock) -> bool
+    ensures { IsTrue result ↔ CoversLock classes.now function lock.now other.now }
 {
     match lock {
         Lock::Root(effect) => covers(*effect, other.effect()),
-        _ => does_for(classes, function, lock, other),
+        _ => suffices_for(classes, function, lock, other),
     }
 }
 
@@ -60,11 +60,11 @@ fn under(
     lock: &Lock,
     all: &[Lock],
 ) -> Result<Vec<Lock>, AllocError>
-    ensures { IfOk result (λ v. (n : AnyLock) → IsOne v.items n ↔ (IsOne all.now n × StandsOver classes.now function lock.now n)) }
+    ensures { IfOk result (λ v. (n : AnyLock) → IsOne v.items n ↔ (IsOne all.now n × CoversLock classes.now function lock.now n)) }
 {
     let mut under = Vec::new(alloc);
     for other in all {
-        if stands_over(classes, function, lock, other) {
+        if covers_lock(classes, function, lock, other) {
             under.push(copied(other)?)?;
         }
     }
@@ -193,16 +193,16 @@ fn explained_sections(
 }
 
 /// The lists with paths of at most so many operations; for as many as the analysis has, its own flow is at hand.
-fn lists_at(alloc: Global, analysis: &Analysis, longest: u32) -> Result<Lists, AllocError>
+fn lists_at(alloc: Global, analysis: &Analysis, k_limit: u32) -> Result<Lists, AllocError>
     requires analysed { IsAnalysed analysis.now }
-    requires short { longest ≤ 8 }
-    ensures { IfOk result (AreFittedAt analysis.now.lowering analysis.now.classes longest) }
+    requires short { k_limit ≤ 8 }
+    ensures { IfOk result (AreFittedAt analysis.now.lowering analysis.now.classes k_limit) }
 {
     let (lowering, classes) = (&analysis.lowering, &analysis.classes);
-    if longest == analysis.longest {
+    if k_limit == analysis.k_limit {
         return Ok(Lists::Inferred(lists(alloc, lowering, classes, &analysis.flow)?));
     }
-    match needed(alloc, lowering, classes, longest) {
+    match needed(alloc, lowering, classes, k_limit) {
         Ok(flow) => Ok(Lists::Inferred(lists(alloc, lowering, classes, &flow)?)),
         Err(FlowFault::TooManyLocks(region)) => Ok(Lists::TooManyLocks(region)),
         Err(FlowFault::OutOfMemory) => Err(AllocError),
@@ -213,12 +213,12 @@ fn lists_at(alloc: Global, analysis: &Analysis, longest: u32) -> Result<Lists, A
 fn by_length(alloc: Global, analysis: &Analysis) -> Result<Items<Lists>, AllocError>
     requires { IsAnalysed analysis.now }
     ensures count { IfOk result (λ lists. length lists ≡ 9) }
-    ensures each { IfOk result (λ lists. (longest : ℕ) (l : AnyLists) → slice_get lists longest ≡ Some l
-        → AreFittedAt analysis.now.lowering analysis.now.classes longest l) }
+    ensures each { IfOk result (λ lists. (k_limit : ℕ) (l : AnyLists) → slice_get lists k_limit ≡ Some l
+        → AreFittedAt analysis.now.lowering analysis.now.classes k_limit l) }
 {
     let mut by_length = Vec::new(alloc);
-    for longest in 0..9 {
-        by_length.push(lists_at(alloc, analysis, longest)?)?;
+    for k_limit in 0..9 {
+        by_length.push(lists_at(alloc, analysis, k_limit)?)?;
     }
     Ok(Items::from_vec(by_length))
 }

@@ -164,7 +164,7 @@ impl Teller<'_> {
         let cell = self.name_of(earlier.region, base, &ops)?;
         let count = ops.len();
         let s = if count == 1 { "" } else { "s" };
-        let k = self.analysis.longest;
+        let k = self.analysis.k_limit;
         format!(in alloc; "`{cell}` has {count} operation{s}, k is {k}")
     }
 }

@@ -225,7 +225,7 @@ impl Searcher {
             self.alloc,
             &analysis.classes,
             &analysis.flow,
-            analysis.longest,
+            analysis.k_limit,
             usize::from(place),
             region,
             function,

@@ -30,7 +30,7 @@ pub fn make_table(
     alloc: Global,
     classes: &Classes,
     flow: &Flow,
-    longest: u32,
+    k_limit: u32,
     place: usize,
     region: Region,
     function: u16,
@@ -49,7 +49,7 @@ pub fn make_table(
     }
     let mut number = 0;
     for lock in locks {
-        table.add(classes, longest as usize, number, lock)?;
+        table.add(classes, k_limit as usize, number, lock)?;
         table.add_fronts(flow, place, number, lock)?;
         number = number.saturating_add(1);
     }
@@ -61,7 +61,7 @@ impl Table {
     fn add(
         &mut self,
         classes: &Classes,
-        longest: usize,
+        k_limit: usize,
         number: u16,
         lock: &Lock,
     ) -> Result<(), AllocError> {
@@ -73,7 +73,7 @@ impl Table {
         if has_star(lock) {
             self.starred.push(number)?;
         }
-        if is_register(expr) && expr.path.len() >= longest {
+        if is_register(expr) && expr.path.len() >= k_limit {
             self.full.push(number)?;
         }
         Ok(())

@@ -88,7 +88,7 @@ impl Teller<'_> {
     pub fn place_of_section(&self, section: Section) -> Result<String, AllocError> {
         let line = self.places.line(section.acquire);
         let name = self.places.function(section.function)?;
-        let k = self.analysis.longest;
+        let k = self.analysis.k_limit;
         let never = if self.places.is_reached(section.function) {
             ""
         } else {

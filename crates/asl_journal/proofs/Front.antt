@@ -5,12 +5,12 @@ use Rattle.std.proofs.lemmas.Bool.{eqb-true, eq-eqb, ltb-true, lt-ltb, leb-true,
 use Rattle.asl_code.specs.Versions.{IsVersion, version_for}
 use Rattle.asl_code.proofs.Versions.{version_of_few, version_of_many}
 use Rattle.asl_loader.specs.Bytes.{one}
-use Rattle.asl_loader.specs.Parts.{byte_at, number_at}
+use Rattle.asl_loader.specs.SharedFields.{byte_at, number_at}
 use Rattle.asl_loader.proofs.Reader.{Reads}
 use Rattle.asl_loader.proofs.Fields.{reads_as, reads_number, reads_tested, byte_number, four_number}
 use Rattle.asl_journal.specs.Journal.{IsCount, most_events}
 use Rattle.asl_journal.specs.Bytes.{four}
-use Rattle.asl_journal.specs.Reading.{is_count, threads_at, count_at}
+use Rattle.asl_journal.specs.JournalFields.{is_count, threads_at, count_at}
 
 pub four_reads : Reads ℕ (λ n. n < 2 ^ 32) (λ n. four n ∷ []) (number_at w32)
 four_reads = reads_number (λ n. n < 2 ^ 32) (λ n. to_be_bytes w32 n) 4 (number_at w32) four_number 0 (lit< tt)

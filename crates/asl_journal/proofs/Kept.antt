@@ -1,7 +1,7 @@
 -- What was kept of a journal's events, as a journal with its threads.
 use Rattle.std.proofs.Common.{◌≡◌, ℕ, List, Option, None, Some, sym, ap, subst}
 use Rattle.std.specs.Option.{option_map}
-use Rattle.asl_loader.specs.Parts.{IsKept}
+use Rattle.asl_loader.specs.SharedFields.{IsKept}
 use Rattle.asl_journal.specs.declared.event.Event.{Event}
 use Rattle.asl_journal.specs.Journal.{Log}
 

@@ -4,7 +4,7 @@ pub mod Logs
 pub mod Kept
 mod Lengths
 pub mod Outcomes
-pub mod Parts
+pub mod SharedFields
 pub mod Recordings
 pub mod Replays
 pub mod RunFiles

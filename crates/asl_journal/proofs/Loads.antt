@@ -5,7 +5,7 @@ use Rattle.std.proofs.lemmas.Bool.{eqb-true}
 use Rattle.asl_journal.specs.Journal.{Log}
 use Rattle.asl_journal.specs.Bytes.{log_fields, HasBytes, SpellsLog}
 use Rattle.asl_journal.specs.Faults.{IsBadLogByte, IsBytesFault}
-use Rattle.asl_journal.specs.Reading.{log_at, bad_fault, whole_of}
+use Rattle.asl_journal.specs.JournalFields.{log_at, bad_fault, whole_of}
 use Rattle.asl_journal.specs.declared.fault.JournalFault.{JournalFault}
 use Rattle.asl_journal.specs.declared.fault.JournalFault.TheVariants.{Truncated, Trailing, OutOfMemory}
 use Rattle.asl_code.proofs.Values.{AreBytes}

@@ -6,7 +6,7 @@ use Rattle.asl_journal.specs.declared.fault.JournalFault.{JournalFault}
 use Rattle.asl_journal.specs.declared.fault.JournalFault.TheVariants.{JournalFull, BadCount, BadThread, Differs, Magic, Version, Truncated, BadField, Trailing, OutOfMemory}
 use Rattle.asl_journal.specs.Journal.{Log}
 use Rattle.asl_journal.specs.Faults.{IsBytesFault, IsOutcome, BytesHaveAnOutcome, OutcomeIsOne}
-use Rattle.asl_journal.specs.Reading.{bad_fault, whole_of}
+use Rattle.asl_journal.specs.JournalFields.{bad_fault, whole_of}
 use Rattle.asl_journal.proofs.Loads.{whole_found, whole_again, whole_refused, refused_again}
 use Rattle.asl_loader.proofs.Whole.{are_bytes, ends_within, has_bad, goes_on}
 

@@ -13,10 +13,10 @@ use Rattle.asl_code.specs.ReadingValue as code
 use Rattle.asl_code.proofs.Values.{AreBytes, value_found, short_begins, begins_short}
 use Rattle.asl_loader.specs.Bytes.{text_of}
 use Rattle.asl_loader.specs.declared.fault.Stop.TheVariants.{Short, Bad}
-use Rattle.asl_loader.specs.Parts.{byte_at, below_at}
+use Rattle.asl_loader.specs.SharedFields.{byte_at, below_at}
 use Rattle.asl_journal.specs.Bytes.{value_fields}
-use Rattle.asl_journal.specs.Reading.{value_of, value_at}
-use Rattle.asl_journal.proofs.Parts.{value_reads}
+use Rattle.asl_journal.specs.JournalFields.{value_of, value_at}
+use Rattle.asl_journal.proofs.SharedFields.{value_reads}
 
 -- the fields of a value are its bytes
 pub value_text : (v : Value) → text_of (value_fields v) ≡ value_bytes v

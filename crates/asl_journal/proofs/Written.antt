@@ -4,7 +4,7 @@ use Rattle.std.specs.List.{flat_map, AllByRecursion}
 use Rattle.std.proofs.lemmas.List.Elements.{All-tail, All-head}
 use Rattle.asl_code.specs.Versions.{version_for}
 use Rattle.asl_loader.specs.Bytes.{Field, text_of, one, two}
-use Rattle.asl_loader.specs.Parts.{Writes}
+use Rattle.asl_loader.specs.SharedFields.{Writes}
 use Rattle.asl_loader.specs.Writing.{WritesEach}
 use Rattle.asl_loader.proofs.Reader.{text_of-append}
 use Rattle.asl_journal.specs.declared.event.Event.{Event}

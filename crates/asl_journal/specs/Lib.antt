@@ -7,4 +7,4 @@ pub mod Replay
 pub mod RunFile
 -- Machinery of the proofs, not of the promise:
 pub mod Fault
-pub mod Reading
+pub mod JournalFields

@@ -9,7 +9,7 @@ ghost use Rattle.asl_journal.specs.RunFile.{HasParts, HasNoParts, SpellsRun, IsF
 
 use crate::fault::JournalFault;
 use crate::journal::Journal;
-use crate::loading::get;
+use crate::journal_bytes::get;
 use crate::writing::put;
 use asl_code::Program;
 use asl_loader::{LoadFault, load, store};

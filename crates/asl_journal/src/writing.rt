@@ -4,7 +4,7 @@ ghost use Rattle.asl_code.specs.Spelling.{IsValue};
 ghost use Rattle.asl_code.specs.declared.value.Value.{Value};
 ghost use Rattle.asl_machine.specs.declared.fault.Fault.{Fault};
 ghost use Rattle.asl_machine.specs.declared.reply.Reply.{Reply};
-ghost use Rattle.asl_loader.specs.Parts.{Writes};
+ghost use Rattle.asl_loader.specs.SharedFields.{Writes};
 ghost use Rattle.asl_loader.specs.Writing.{WritesEach};
 ghost use Rattle.asl_journal.specs.declared.event.Event.{Event};
 ghost use Rattle.asl_journal.specs.Bytes.{four, value_fields, fault_fields, reply_fields, event_fields, IsFault, IsReply, SpellsLog};
@@ -12,7 +12,7 @@ ghost use Rattle.asl_journal.specs.Bytes.{four, value_fields, fault_fields, repl
 use crate::event::Event;
 use crate::journal::Journal;
 use asl_code::{Value, put_value, version_for};
-use asl_loader::parts::{put_byte, put_effect, put_two};
+use asl_loader::shared_fields::{put_byte, put_effect, put_two};
 use asl_machine::{Fault, Reply};
 use std::alloc::{AllocError, Global};
 

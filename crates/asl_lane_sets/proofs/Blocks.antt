@@ -12,8 +12,8 @@ use Rattle.std.proofs.lemmas.Simd.{get_or-chunk, length-chunk}
 use lib.Lanes.{chunk}
 use Rattle.asl_lane_sets.specs.Packed.{has_bit, IsCleared, AreCleared, ClearedBelow, AreJoined, Differ, JoinsAt, JoinedBelow}
 
-pub same_words : (a b : List ℕ) → ¬ Differ a b → (k : ℕ) → get_or a k 0 ≡ get_or b k 0
-same_words a b never k = elim (eqb_tells (get_or a k 0) (get_or b k 0)) [
+pub same_lanes : (a b : List ℕ) → ¬ Differ a b → (k : ℕ) → get_or a k 0 ≡ get_or b k 0
+same_lanes a b never k = elim (eqb_tells (get_or a k 0) (get_or b k 0)) [
   | inl same ↦ same.1
   | inr other ↦ absurd (never (record { place = k; different = other.1 }))
 ]
@@ -43,8 +43,8 @@ module _ (old from now new : List ℕ) (block at : ℕ) (is_at : at ≡ block * 
 
 pub grew_before : (old now new : List ℕ) → ¬ Differ now new → Differ old now ↔ Differ old new
 grew_before old now new never = (
-  λ d. record { place = d.place; different = λ e. d.different (e ∙ sym (same_words now new never d.place)) },
-  λ d. record { place = d.place; different = λ e. d.different (e ∙ same_words now new never d.place) },
+  λ d. record { place = d.place; different = λ e. d.different (e ∙ sym (same_lanes now new never d.place)) },
+  λ d. record { place = d.place; different = λ e. d.different (e ∙ same_lanes now new never d.place) },
 )
 
 pub joined_all : (old from new : List ℕ) (block : ℕ) → length from ≤ length old → length from % 4 ≡ 0 → length from / 4 ≤ block → JoinedBelow (4 * block) old from new → AreJoined old from new
@@ -58,23 +58,23 @@ joined_all old from new block le whole end so = (
   ],
 )
 
--- words whose bits are taken away, one after the other
+-- lanes whose bits are taken away, one after the other
 pub begin_clear : (old from : List ℕ) → ClearedBelow 0 old from old
 begin_clear old from = record { count = refl; below = λ k lt. absurd (omega arith); above = λ k le. refl }
 
-pub more_clear : (old from now new : List ℕ) (place word : ℕ) → length now ≡ length old → new ≡ slice_set now place word → place < length now
-    → IsCleared (get_or now place 0) (get_or from place 0) word → ClearedBelow place old from now → ClearedBelow (place + 1) old from new
-more_clear old from now new place word long is there cleared so = subst (ClearedBelow (place + 1) old from) (sym is) (record {
-  count = length-set now place word ∙ so.count;
+pub more_clear : (old from now new : List ℕ) (place lane : ℕ) → length now ≡ length old → new ≡ slice_set now place lane → place < length now
+    → IsCleared (get_or now place 0) (get_or from place 0) lane → ClearedBelow place old from now → ClearedBelow (place + 1) old from new
+more_clear old from now new place lane long is there cleared so = subst (ClearedBelow (place + 1) old from) (sym is) (record {
+  count = length-set now place lane ∙ so.count;
   below = λ k lt. elim (cases_lt k place) [
-    | inl low ↦ subst (IsCleared (get_or old k 0) (get_or from k 0)) (sym (get_or-set_other now place k word 0 (omega arith))) (so.below k low)
+    | inl low ↦ subst (IsCleared (get_or old k 0) (get_or from k 0)) (sym (get_or-set_other now place k lane 0 (omega arith))) (so.below k low)
     | inr high ↦
         let same : k ≡ place = omega (arith, lt, high) in
-        let here : get_or (slice_set now place word) k 0 ≡ word = ap (λ n. get_or (slice_set now place word) n 0) same ∙ get_or-set_same now place word 0 there in
+        let here : get_or (slice_set now place lane) k 0 ≡ lane = ap (λ n. get_or (slice_set now place lane) n 0) same ∙ get_or-set_same now place lane 0 there in
         let was : get_or now place 0 ≡ get_or old k 0 = so.above place (omega arith) ∙ ap (λ n. get_or old n 0) (sym same) in
-        subst (IsCleared (get_or old k 0) (get_or from k 0)) (sym here) (subst (λ w. IsCleared w (get_or from k 0) word) was (subst (λ n. IsCleared (get_or now place 0) (get_or from n 0) word) (sym same) cleared))
+        subst (IsCleared (get_or old k 0) (get_or from k 0)) (sym here) (subst (λ w. IsCleared w (get_or from k 0) lane) was (subst (λ n. IsCleared (get_or now place 0) (get_or from n 0) lane) (sym same) cleared))
   ];
-  above = λ k le. get_or-set_other now place k word 0 (omega arith) ∙ so.above k (omega arith);
+  above = λ k le. get_or-set_other now place k lane 0 (omega arith) ∙ so.above k (omega arith);
 })
 
 nothing_cleared : (a b : ℕ) → a ≡ 0 ⊎ b ≡ 0 → IsCleared a b a
@@ -96,7 +96,7 @@ cleared_all old from new place end so = (
   ],
 )
 
--- a word without the bits of another, as the code makes it
+-- a lane without the bits of another, as the code makes it
 pub word_cleared : (a b : ℕ) → a < 2 ^ 64 → b < 2 ^ 64 → IsCleared a b (bit_and a (bit_not w64 b))
 word_cleared a b fits_a fits_b bit = elim (cases_lt bit 64) [
   | inl below ↦
@@ -115,7 +115,7 @@ word_cleared a b fits_a fits_b bit = elim (cases_lt bit 64) [
       )
 ]
 
--- a comparison of four words of each
+-- a comparison of four lanes of each
 pub none_added : (high low four : List ℕ) (block at : ℕ) → at ≡ block * 4 → at + 4 ≤ length high → at + 4 ≤ length low → AreJoined (chunk at 4 high) (chunk at 4 low) four → ¬ Differ (chunk at 4 high) four
     → ((k : ℕ) → k < 4 * block → get_or high k 0 ≡ bit_or (get_or high k 0) (get_or low k 0)) → (k : ℕ) → k < 4 * (block + 1) → get_or high k 0 ≡ bit_or (get_or high k 0) (get_or low k 0)
 none_added high low four block at is_at room also joins never so k lt = elim (cases_lt k at) [
@@ -124,7 +124,7 @@ none_added high low four block at is_at room also joins never so k lt = elim (ca
       let j : (j : ℕ) × (at + j ≡ k) × (j < 4) = (k - at, omega arith, omega arith) in
       let of_high : get_or (chunk at 4 high) j.0 0 ≡ get_or high k 0 = get_or-chunk at 4 high j.0 0 j.2 ∙ ap (λ n. get_or high n 0) j.1 in
       let of_low : get_or (chunk at 4 low) j.0 0 ≡ get_or low k 0 = get_or-chunk at 4 low j.0 0 j.2 ∙ ap (λ n. get_or low n 0) j.1 in
-      sym of_high ∙ same_words (chunk at 4 high) four never j.0 ∙ joins.1 j.0 ∙ ap (λ n. bit_or n (get_or (chunk at 4 low) j.0 0)) of_high ∙ ap (λ n. bit_or (get_or high k 0) n) of_low
+      sym of_high ∙ same_lanes (chunk at 4 high) four never j.0 ∙ joins.1 j.0 ∙ ap (λ n. bit_or n (get_or (chunk at 4 low) j.0 0)) of_high ∙ ap (λ n. bit_or (get_or high k 0) n) of_low
 ]
 
 pub some_added : (high low four : List ℕ) (at : ℕ) → at + 4 ≤ length high → at + 4 ≤ length low → AreJoined (chunk at 4 high) (chunk at 4 low) four → Differ (chunk at 4 high) four → ¬ AreJoined high low high

@@ -1,4 +1,4 @@
-pub mod Lanes
+pub mod ComparedLanes
 pub mod Blocks
 pub mod Numbers
 pub mod Members

@@ -22,23 +22,23 @@ range_split a (suc m) n =
     let from : a + 1 + m ≡ a + suc m = omega arith in
     ap (λ k. range_with_len a k) count ∙ ap (λ xs. a ∷ xs) (range_split (a + 1) m n ∙ ap (λ k. range_with_len (a + 1) m ++ range_with_len k n) from)
 
-pub one_more : (word first bit : ℕ) → ones word first (bit + 1) ≡ ones word first bit ++ cond (has_bit word bit) ((first + bit) ∷ []) []
-one_more word first bit =
-    ap (λ xs. map (λ b. first + b) (filter (has_bit word) xs)) (range_split 0 bit 1)
-    ∙ ap (map (λ b. first + b)) (filter-append (has_bit word) (range_with_len 0 bit) ((0 + bit) ∷ []))
-    ∙ map-append (λ b. first + b) (filter (has_bit word) (range_with_len 0 bit)) (filter (has_bit word) ((0 + bit) ∷ []))
-    ∙ ap (λ xs. ones word first bit ++ xs) (last (0 + bit) (omega arith))
+pub one_more : (lane first bit : ℕ) → ones lane first (bit + 1) ≡ ones lane first bit ++ cond (has_bit lane bit) ((first + bit) ∷ []) []
+one_more lane first bit =
+    ap (λ xs. map (λ b. first + b) (filter (has_bit lane) xs)) (range_split 0 bit 1)
+    ∙ ap (map (λ b. first + b)) (filter-append (has_bit lane) (range_with_len 0 bit) ((0 + bit) ∷ []))
+    ∙ map-append (λ b. first + b) (filter (has_bit lane) (range_with_len 0 bit)) (filter (has_bit lane) ((0 + bit) ∷ []))
+    ∙ ap (λ xs. ones lane first bit ++ xs) (last (0 + bit) (omega arith))
   where
-    last : (b : ℕ) → b ≡ bit → map (λ n. first + n) (filter (has_bit word) (b ∷ [])) ≡ cond (has_bit word bit) ((first + bit) ∷ []) []
-    last b e = ap (λ n. map (λ k. first + k) (filter (has_bit word) (n ∷ []))) e ∙ one (has_bit word bit)
+    last : (b : ℕ) → b ≡ bit → map (λ n. first + n) (filter (has_bit lane) (b ∷ [])) ≡ cond (has_bit lane bit) ((first + bit) ∷ []) []
+    last b e = ap (λ n. map (λ k. first + k) (filter (has_bit lane) (n ∷ []))) e ∙ one (has_bit lane bit)
       where
         one : (t : Bool) → map (λ n. first + n) (cond t (bit ∷ []) []) ≡ cond t ((first + bit) ∷ []) []
         one true = refl
         one false = refl
 
--- the numbers whose bits are 1 in the first words
+-- the numbers whose bits are 1 in the first lanes
 abbrev pub first_ones : List ℕ → ℕ → List ℕ
-first_ones words count = filter (is_set words) (range_with_len 0 count)
+first_ones lanes count = filter (is_set lanes) (range_with_len 0 count)
 
 -- a filter of places is the places of another test
 shifted : (p q : ℕ → Bool) (first c n : ℕ) → ((b : ℕ) → c ≤ b → b < c + n → p (first + b) ≡ q b) → filter p (range_with_len (first + c) n) ≡ map (λ b. first + b) (filter q (range_with_len c n))
@@ -54,19 +54,19 @@ shifted p q first c (suc n) same =
     pushed true = refl
     pushed false = refl
 
--- a word more
-pub word_more : (words : List ℕ) (place word : ℕ) → word ≡ get_or words place 0 → first_ones words (64 * (place + 1)) ≡ first_ones words (64 * place) ++ ones word (place * 64) 64
-word_more words place word is =
+-- a lane more
+pub word_more : (lanes : List ℕ) (place lane : ℕ) → lane ≡ get_or lanes place 0 → first_ones lanes (64 * (place + 1)) ≡ first_ones lanes (64 * place) ++ ones lane (place * 64) 64
+word_more lanes place lane is =
     let count : 64 * (place + 1) ≡ 64 * place + 64 = omega arith in
     let first : 0 + 64 * place ≡ place * 64 + 0 = omega arith in
-    ap (first_ones words) count
-    ∙ ap (filter (is_set words)) (range_split 0 (64 * place) 64)
-    ∙ filter-append (is_set words) (range_with_len 0 (64 * place)) (range_with_len (0 + 64 * place) 64)
-    ∙ ap (λ n. first_ones words (64 * place) ++ filter (is_set words) (range_with_len n 64)) first
-    ∙ ap (λ xs. first_ones words (64 * place) ++ xs) (shifted (is_set words) (has_bit word) (place * 64) 0 64 (λ b low high.
+    ap (first_ones lanes) count
+    ∙ ap (filter (is_set lanes)) (range_split 0 (64 * place) 64)
+    ∙ filter-append (is_set lanes) (range_with_len 0 (64 * place)) (range_with_len (0 + 64 * place) 64)
+    ∙ ap (λ n. first_ones lanes (64 * place) ++ filter (is_set lanes) (range_with_len n 64)) first
+    ∙ ap (λ xs. first_ones lanes (64 * place) ++ xs) (shifted (is_set lanes) (has_bit lane) (place * 64) 0 64 (λ b low high.
     let at : (place * 64 + b) / 64 ≡ place = omega arith in
     let bit : (place * 64 + b) % 64 ≡ b = omega arith in
-    ap (λ n. has_bit (get_or words n 0) ((place * 64 + b) % 64)) at ∙ ap (has_bit (get_or words place 0)) bit ∙ ap (λ w. has_bit w b) (sym is)))
+    ap (λ n. has_bit (get_or lanes n 0) ((place * 64 + b) % 64)) at ∙ ap (has_bit (get_or lanes place 0)) bit ∙ ap (λ w. has_bit w b) (sym is)))
 
 -- no number passes a test
 none_pass : (p : ℕ → Bool) (a n : ℕ) → ((k : ℕ) → a ≤ k → p k ≡ false) → filter p (range_with_len a n) ≡ []
@@ -85,16 +85,16 @@ members_filter p a (suc n) = head (p a) (members_filter p (a + 1) n)
     head true e = ap (λ xs. a ∷ xs) e
     head false e = e
 
--- the numbers of all words are those of the set
-pub words_members : (len : ℕ) (words : List ℕ) → IsPacked len words → first_ones words (64 * length words) ≡ members_of (told len words)
-words_members len words packed =
+-- the numbers of all lanes are those of the set
+pub lanes_members : (len : ℕ) (lanes : List ℕ) → IsPacked len lanes → first_ones lanes (64 * length lanes) ≡ members_of (told len lanes)
+lanes_members len lanes packed =
     let count = packed.count in
-    let all : 64 * length words ≡ len + (64 * length words - len) = omega (arith, count) in
-    ap (first_ones words) all
-    ∙ ap (filter (is_set words)) (range_split 0 len (64 * length words - len))
-    ∙ filter-append (is_set words) (range_with_len 0 len) (range_with_len (0 + len) (64 * length words - len))
-    ∙ ap (λ xs. first_ones words len ++ xs) (none_pass (is_set words) (0 + len) (64 * length words - len) (λ k le. packed.clear k (omega arith)))
-    ∙ nothing_more (first_ones words len) ∙ sym (members_filter (is_set words) 0 len)
+    let all : 64 * length lanes ≡ len + (64 * length lanes - len) = omega (arith, count) in
+    ap (first_ones lanes) all
+    ∙ ap (filter (is_set lanes)) (range_split 0 len (64 * length lanes - len))
+    ∙ filter-append (is_set lanes) (range_with_len 0 len) (range_with_len (0 + len) (64 * length lanes - len))
+    ∙ ap (λ xs. first_ones lanes len ++ xs) (none_pass (is_set lanes) (0 + len) (64 * length lanes - len) (λ k le. packed.clear k (omega arith)))
+    ∙ nothing_more (first_ones lanes len) ∙ sym (members_filter (is_set lanes) 0 len)
   where
     nothing_more : (xs : List ℕ) → xs ++ [] ≡ xs
     nothing_more [] = refl
@@ -107,8 +107,8 @@ range_rises a n k lt =
     let two = get_or-range_with_len a n (k + 1) 0 (omega arith) in
     omega (arith, one, two)
 
-pub ones_rise : (words : List ℕ) (n : ℕ) → IsRising (first_ones words n)
-ones_rise words n = AllPairs-from_increasing (first_ones words n) (IsStrictlyIncreasing-filter (is_set words) (range_with_len 0 n) (range_rises 0 n))
+pub ones_rise : (lanes : List ℕ) (n : ℕ) → IsRising (first_ones lanes n)
+ones_rise lanes n = AllPairs-from_increasing (first_ones lanes n) (IsStrictlyIncreasing-filter (is_set lanes) (range_with_len 0 n) (range_rises 0 n))
 
 -- what stands in the list of members
 contains_here : (x : ℕ) (xs : List ℕ) → Contains (x ∷ xs) x
@@ -147,54 +147,54 @@ members_tell set k = (
 )
 
 -- the test of a bit, as the code makes it
-pub bit_told : (word bit : ℕ) → (bit_and (word / 2 ^ bit) 1 ≡ 1) ↔ (has_bit word bit ≡ true)
-bit_told word bit = (λ e. eq-eqb _ _ (sym (shr_and_one word bit) ∙ e), λ e. shr_and_one word bit ∙ eqb-true _ _ e)
+pub bit_told : (lane bit : ℕ) → (bit_and (lane / 2 ^ bit) 1 ≡ 1) ↔ (has_bit lane bit ≡ true)
+bit_told lane bit = (λ e. eq-eqb _ _ (sym (shr_and_one lane bit) ∙ e), λ e. shr_and_one lane bit ∙ eqb-true _ _ e)
 
--- the bits of a word that is shifted
-shifted_bit : (word from bit : ℕ) → bit_at (word / 2 ^ from) bit ≡ bit_at word (from + bit)
-shifted_bit word from bit = ap (λ n. n % 2) (shr-shr word from bit)
+-- the bits of a lane that is shifted
+shifted_bit : (lane from bit : ℕ) → bit_at (lane / 2 ^ from) bit ≡ bit_at lane (from + bit)
+shifted_bit lane from bit = ap (λ n. n % 2) (shr-shr lane from bit)
 
-module _ (word from : ℕ) where
-  pub zero_shifted : (k : ℕ) → word / 2 ^ from ≡ 0 → from ≤ k → has_bit word k ≡ false
+module _ (lane from : ℕ) where
+  pub zero_shifted : (k : ℕ) → lane / 2 ^ from ≡ 0 → from ≤ k → has_bit lane k ≡ false
   zero_shifted k none le =
       let at : from + (k - from) ≡ k = omega arith in
-      ap (λ n. eqb n 1) (ap (bit_at word) (sym at) ∙ sym (shifted_bit word from (k - from)) ∙ ap (λ w. bit_at w (k - from)) none ∙ bit_at-zero (k - from))
+      ap (λ n. eqb n 1) (ap (bit_at lane) (sym at) ∙ sym (shifted_bit lane from (k - from)) ∙ ap (λ w. bit_at w (k - from)) none ∙ bit_at-zero (k - from))
 
-  module _ (fits : word < 2 ^ 64) where
-    small : word / 2 ^ from < 2 ^ 64
-    small = let le = shr_le word from in omega (arith, le, fits)
+  module _ (fits : lane < 2 ^ 64) where
+    small : lane / 2 ^ from < 2 ^ 64
+    small = let le = shr_le lane from in omega (arith, le, fits)
 
-    pub none_shifted : (word / 2 ^ from ≡ 0 → ⊥) → (k : ℕ) → from ≤ k → k < from + trailing_zeros w64 (word / 2 ^ from) → has_bit word k ≡ false
+    pub none_shifted : (lane / 2 ^ from ≡ 0 → ⊥) → (k : ℕ) → from ≤ k → k < from + trailing_zeros w64 (lane / 2 ^ from) → has_bit lane k ≡ false
     none_shifted some k le lt =
         let at : from + (k - from) ≡ k = omega arith in
-        let low = bit_at-trailing_zeros w64 (word / 2 ^ from) (omega (arith, some)) small in
-        ap (λ n. eqb n 1) (ap (bit_at word) (sym at) ∙ sym (shifted_bit word from (k - from)) ∙ low.2 (k - from) (omega (arith, lt, le)))
+        let low = bit_at-trailing_zeros w64 (lane / 2 ^ from) (omega (arith, some)) small in
+        ap (λ n. eqb n 1) (ap (bit_at lane) (sym at) ∙ sym (shifted_bit lane from (k - from)) ∙ low.2 (k - from) (omega (arith, lt, le)))
 
-    pub one_shifted : from < 64 → (word / 2 ^ from ≡ 0 → ⊥) → (from + trailing_zeros w64 (word / 2 ^ from) ≤ 64) × (from + trailing_zeros w64 (word / 2 ^ from) < 64 → has_bit word (from + trailing_zeros w64 (word / 2 ^ from)) ≡ true)
+    pub one_shifted : from < 64 → (lane / 2 ^ from ≡ 0 → ⊥) → (from + trailing_zeros w64 (lane / 2 ^ from) ≤ 64) × (from + trailing_zeros w64 (lane / 2 ^ from) < 64 → has_bit lane (from + trailing_zeros w64 (lane / 2 ^ from)) ≡ true)
     one_shifted below some =
-        let low = bit_at-trailing_zeros w64 (word / 2 ^ from) (omega (arith, some)) small in
-        let one : bit_at word (from + trailing_zeros w64 (word / 2 ^ from)) ≡ 1 = sym (shifted_bit word from (trailing_zeros w64 (word / 2 ^ from))) ∙ low.1 in
+        let low = bit_at-trailing_zeros w64 (lane / 2 ^ from) (omega (arith, some)) small in
+        let one : bit_at lane (from + trailing_zeros w64 (lane / 2 ^ from)) ≡ 1 = sym (shifted_bit lane from (trailing_zeros w64 (lane / 2 ^ from))) ∙ low.1 in
         (inside one, λ lt. eq-eqb _ _ one)
       where
-        inside : bit_at word (from + trailing_zeros w64 (word / 2 ^ from)) ≡ 1 → from + trailing_zeros w64 (word / 2 ^ from) ≤ 64
-        inside one = elim (cases_lt (from + trailing_zeros w64 (word / 2 ^ from)) 64) [
+        inside : bit_at lane (from + trailing_zeros w64 (lane / 2 ^ from)) ≡ 1 → from + trailing_zeros w64 (lane / 2 ^ from) ≤ 64
+        inside one = elim (cases_lt (from + trailing_zeros w64 (lane / 2 ^ from)) 64) [
           | inl lt ↦ omega (arith, lt)
-          | inr past ↦ (let none = bit_at_above word 64 _ fits past in absurd (omega (arith, none, one)))
+          | inr past ↦ (let none = bit_at_above lane 64 _ fits past in absurd (omega (arith, none, one)))
         ]
 
 -- no bit between two places
-pub none_between : (word first low high : ℕ) → low ≤ high → ((k : ℕ) → low ≤ k → k < high → has_bit word k ≡ false) → ones word first high ≡ ones word first low
-none_between word first low high le none =
+pub none_between : (lane first low high : ℕ) → low ≤ high → ((k : ℕ) → low ≤ k → k < high → has_bit lane k ≡ false) → ones lane first high ≡ ones lane first low
+none_between lane first low high le none =
     let split : high ≡ low + (high - low) = omega (arith, le) in
-    ap (ones word first) split
-    ∙ ap (λ xs. map (λ b. first + b) (filter (has_bit word) xs)) (range_split 0 low (high - low))
-    ∙ ap (map (λ b. first + b)) (filter-append (has_bit word) (range_with_len 0 low) (range_with_len (0 + low) (high - low)) ∙ ap (λ xs. filter (has_bit word) (range_with_len 0 low) ++ xs) (none_in (0 + low) (high - low) (λ k l h. none k (omega (arith, l)) (omega (arith, h, le)))))
-    ∙ ap (map (λ b. first + b)) (nothing_more (filter (has_bit word) (range_with_len 0 low)))
+    ap (ones lane first) split
+    ∙ ap (λ xs. map (λ b. first + b) (filter (has_bit lane) xs)) (range_split 0 low (high - low))
+    ∙ ap (map (λ b. first + b)) (filter-append (has_bit lane) (range_with_len 0 low) (range_with_len (0 + low) (high - low)) ∙ ap (λ xs. filter (has_bit lane) (range_with_len 0 low) ++ xs) (none_in (0 + low) (high - low) (λ k l h. none k (omega (arith, l)) (omega (arith, h, le)))))
+    ∙ ap (map (λ b. first + b)) (nothing_more (filter (has_bit lane) (range_with_len 0 low)))
   where
     nothing_more : (xs : List ℕ) → xs ++ [] ≡ xs
     nothing_more [] = refl
     nothing_more (x ∷ xs) = ap (λ ys. x ∷ ys) (nothing_more xs)
 
-    none_in : (a n : ℕ) → ((k : ℕ) → a ≤ k → k < a + n → has_bit word k ≡ false) → filter (has_bit word) (range_with_len a n) ≡ []
+    none_in : (a n : ℕ) → ((k : ℕ) → a ≤ k → k < a + n → has_bit lane k ≡ false) → filter (has_bit lane) (range_with_len a n) ≡ []
     none_in a zero h = refl
-    none_in a (suc n) h = ap (λ t. cond t (a ∷ filter (has_bit word) (range_with_len (a + 1) n)) (filter (has_bit word) (range_with_len (a + 1) n))) (h a (omega arith) (omega arith)) ∙ none_in (a + 1) n (λ k l lt. h k (omega (arith, l)) (omega (arith, lt)))
+    none_in a (suc n) h = ap (λ t. cond t (a ∷ filter (has_bit lane) (range_with_len (a + 1) n)) (filter (has_bit lane) (range_with_len (a + 1) n))) (h a (omega arith) (omega arith)) ∙ none_in (a + 1) n (λ k l lt. h k (omega (arith, l)) (omega (arith, lt)))

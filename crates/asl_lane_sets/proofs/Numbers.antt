@@ -1,4 +1,4 @@
--- The numbers of a set, by the bits of its words.
+-- The numbers of a set, by the bits of its lanes.
 use Rattle.std.proofs.Common.{IsTrue, subst, ◌++◌, take, drop, bit_and, ◌≡◌, ◌⊎◌, ⊎_elim, ◌↔◌, ℕ, zero, suc, ◌+◌, ◌*◌, ◌/◌, ◌%◌, ◌^◌, ◌<◌, ◌≤◌, Bool, true, false, List, [], ◌∷◌, Some, map, length, get_or, replicate, slice_set, bit_or, refl, sym, ap, ◌∙◌, inl, inr, arith, w64, eqb, eqb-true, eq-eqb, length-set}
 use Rattle.std.specs.Int.{bit_at}
 use Rattle.std.specs.List.{range_with_len}
@@ -11,34 +11,34 @@ use Rattle.std.proofs.lemmas.Grind.{get_or_default_zero}
 use Rattle.std.proofs.lemmas.Nat.Bits.{shr_and_one, bit_at-zero, bit_at_or, bit_at-lt, bit_at_above, bit_at_set_same, bit_at_set_other, same_from_bits}
 use Rattle.std.proofs.Math.Seq.{take-append_seam}
 use Rattle.asl_lane_sets.specs.NumberSet.{IsIn}
-use Rattle.asl_lane_sets.specs.Packed.{AreWords, has_bit, is_set, told, IsPacked, AreJoined, AreCleared, Differ}
+use Rattle.asl_lane_sets.specs.Packed.{AreLanes, has_bit, is_set, told, IsPacked, AreJoined, AreCleared, Differ}
 
-pub has_tells : (word bit : ℕ) → (has_bit word bit ≡ true) ↔ (bit_at word bit ≡ 1)
-has_tells word bit = (λ e. eqb-true _ _ e, λ e. eq-eqb _ _ e)
+pub has_tells : (lane bit : ℕ) → (has_bit lane bit ≡ true) ↔ (bit_at lane bit ≡ 1)
+has_tells lane bit = (λ e. eqb-true _ _ e, λ e. eq-eqb _ _ e)
 
-pub length_told : (len : ℕ) (words : List ℕ) → length (told len words) ≡ len
-length_told len words = length-map-range_with_len (is_set words) 0 len
+pub length_told : (len : ℕ) (lanes : List ℕ) → length (told len lanes) ≡ len
+length_told len lanes = length-map-range_with_len (is_set lanes) 0 len
 
--- which numbers are in the set that words tell
-pub in_told : (len : ℕ) (words : List ℕ) → IsPacked len words → (k : ℕ) → IsIn (told len words) k ↔ (is_set words k ≡ true)
-in_told len words packed k = (
+-- which numbers are in the set that lanes tell
+pub in_told : (len : ℕ) (lanes : List ℕ) → IsPacked len lanes → (k : ℕ) → IsIn (told len lanes) k ↔ (is_set lanes k ≡ true)
+in_told len lanes packed k = (
   λ is.
-      let below : k < len = omega (arith, slice_get_within (told len words) k true is, length_told len words) in
-      sym (get_or-map-range_with_len (is_set words) 0 len k k false below (omega arith)) ∙ same_Some _ _ (sym (slice_get-get_or (told len words) k false (omega (arith, length_told len words))) ∙ is),
+      let below : k < len = omega (arith, slice_get_within (told len lanes) k true is, length_told len lanes) in
+      sym (get_or-map-range_with_len (is_set lanes) 0 len k k false below (omega arith)) ∙ same_Some _ _ (sym (slice_get-get_or (told len lanes) k false (omega (arith, length_told len lanes))) ∙ is),
   λ set. elim (cases_lt k len) [
-    | inl below ↦ slice_get-get_or (told len words) k false (omega (arith, length_told len words)) ∙ ap Some (get_or-map-range_with_len (is_set words) 0 len k k false below (omega arith) ∙ set)
+    | inl below ↦ slice_get-get_or (told len lanes) k false (omega (arith, length_told len lanes)) ∙ ap Some (get_or-map-range_with_len (is_set lanes) 0 len k k false below (omega arith) ∙ set)
     | inr past ↦ let clear = packed.clear k past in let never : false ≡ true = sym clear ∙ set in cc
   ],
 )
 
--- no word has a bit at first
+-- no lane has a bit at first
 pub none_set : (count k : ℕ) → is_set (replicate count 0) k ≡ false
 none_set count k =
-    let word : get_or (replicate count 0) (k / 64) 0 ≡ 0 = elim (cases_lt (k / 64) count) [
+    let lane : get_or (replicate count 0) (k / 64) 0 ≡ 0 = elim (cases_lt (k / 64) count) [
       | inl below ↦ get_or-replicate count (k / 64) 0 0 below
       | inr past ↦ get_or_past (replicate count 0) (k / 64) 0 (omega (arith, length_zeros count))
     ] in
-    ap (λ w. has_bit w (k % 64)) word ∙ ap (λ b. eqb b 1) (bit_at-zero (k % 64))
+    ap (λ w. has_bit w (k % 64)) lane ∙ ap (λ b. eqb b 1) (bit_at-zero (k % 64))
   where
     length_zeros : (n : ℕ) → length (replicate {A = ℕ} n 0) ≡ n
     length_zeros zero = refl
@@ -52,49 +52,49 @@ told_none len count = from 0 len
     from a (suc n) = rw (none_set count a) (ap (λ xs. false ∷ xs) (from (a + 1) n))
 
 -- one bit more
-module _ (words : List ℕ) (number : ℕ) (there : number / 64 < length words) where
+module _ (lanes : List ℕ) (number : ℕ) (there : number / 64 < length lanes) where
   abbrev added : List ℕ
-  added = slice_set words (number / 64) (bit_or (get_or words (number / 64) 0) (1 * 2 ^ (number % 64) % 2 ^ 64))
+  added = slice_set lanes (number / 64) (bit_or (get_or lanes (number / 64) 0) (1 * 2 ^ (number % 64) % 2 ^ 64))
 
-  pub set_added : (k : ℕ) → (is_set added k ≡ true) ↔ ((is_set words k ≡ true) ⊎ (k ≡ number))
+  pub set_added : (k : ℕ) → (is_set added k ≡ true) ↔ ((is_set lanes k ≡ true) ⊎ (k ≡ number))
   set_added k = elim (eqb_tells (k / 64) (number / 64)) [
     | inl same ↦
         let place = same.1 in
-        let word : get_or added (k / 64) 0 ≡ bit_or (get_or words (number / 64) 0) (1 * 2 ^ (number % 64) % 2 ^ 64) =
-        ap (λ n. get_or added n 0) place ∙ get_or-set_same words (number / 64) _ 0 there in
+        let lane : get_or added (k / 64) 0 ≡ bit_or (get_or lanes (number / 64) 0) (1 * 2 ^ (number % 64) % 2 ^ 64) =
+        ap (λ n. get_or added n 0) place ∙ get_or-set_same lanes (number / 64) _ 0 there in
         elim (eqb_tells (k % 64) (number % 64)) [
           | inl bit ↦
               let at = bit.1 in
               let one : bit_at (get_or added (k / 64) 0) (k % 64) ≡ 1 =
-              ap (λ n. bit_at (get_or added (k / 64) 0) n) at ∙ ap (λ w. bit_at w (number % 64)) word ∙ bit_at_set_same w64 (get_or words (number / 64) 0) (number % 64) (omega arith) in
+              ap (λ n. bit_at (get_or added (k / 64) 0) n) at ∙ ap (λ w. bit_at w (number % 64)) lane ∙ bit_at_set_same w64 (get_or lanes (number / 64) 0) (number % 64) (omega arith) in
               (λ _. inr (omega arith), λ _. (has_tells _ (k % 64)).1 one)
           | inr bit ↦
-              let still : bit_at (get_or added (k / 64) 0) (k % 64) ≡ bit_at (get_or words (k / 64) 0) (k % 64) =
-              ap (λ w. bit_at w (k % 64)) word ∙ bit_at_set_other w64 (get_or words (number / 64) 0) (number % 64) (omega arith) (k % 64) bit.1 ∙ ap (λ n. bit_at (get_or words n 0) (k % 64)) (sym place) in
+              let still : bit_at (get_or added (k / 64) 0) (k % 64) ≡ bit_at (get_or lanes (k / 64) 0) (k % 64) =
+              ap (λ w. bit_at w (k % 64)) lane ∙ bit_at_set_other w64 (get_or lanes (number / 64) 0) (number % 64) (omega arith) (k % 64) bit.1 ∙ ap (λ n. bit_at (get_or lanes n 0) (k % 64)) (sym place) in
               (λ e. inl (ap (λ b. eqb b 1) (sym still) ∙ e), λ h. ⊎_elim (λ e. ap (λ b. eqb b 1) still ∙ e) (λ e. absurd (bit.1 (ap (λ n. n % 64) e))) h)
         ]
     | inr other ↦
-        let still : get_or added (k / 64) 0 ≡ get_or words (k / 64) 0 = get_or-set_other words (number / 64) (k / 64) _ 0 other.1 in
+        let still : get_or added (k / 64) 0 ≡ get_or lanes (k / 64) 0 = get_or-set_other lanes (number / 64) (k / 64) _ 0 other.1 in
         (λ e. inl (ap (λ w. has_bit w (k % 64)) (sym still) ∙ e), λ h. ⊎_elim (λ e. ap (λ w. has_bit w (k % 64)) still ∙ e) (λ e. absurd (other.1 (ap (λ n. n / 64) e))) h)
   ]
 
-  pub packed_added : (len : ℕ) → number < len → IsPacked len words → IsPacked len added
+  pub packed_added : (len : ℕ) → number < len → IsPacked len lanes → IsPacked len added
   packed_added len within packed = record {
     fits = packed.fits;
-    count = length-set words (number / 64) _ ∙ packed.count;
+    count = length-set lanes (number / 64) _ ∙ packed.count;
     clear = λ k past. false_from_ne_true _ (λ e.
-        ⊎_elim (λ (old : is_set words k ≡ true). let clear = packed.clear k past in let never : false ≡ true = sym clear ∙ old in cc) (λ (same : k ≡ number). absurd (omega arith)) ((set_added k).0 e));
+        ⊎_elim (λ (old : is_set lanes k ≡ true). let clear = packed.clear k past in let never : false ≡ true = sym clear ∙ old in cc) (λ (same : k ≡ number). absurd (omega arith)) ((set_added k).0 e));
   }
 
-  pub in_added : (len : ℕ) → number < len → IsPacked len words → (k : ℕ) → IsIn (told len added) k ↔ (IsIn (told len words) k ⊎ (k ≡ number))
+  pub in_added : (len : ℕ) → number < len → IsPacked len lanes → (k : ℕ) → IsIn (told len added) k ↔ (IsIn (told len lanes) k ⊎ (k ≡ number))
   in_added len within packed k =
       let now = in_told len added (packed_added len within packed) k in
-      let before = in_told len words packed k in (
+      let before = in_told len lanes packed k in (
         λ is. ⊎_elim (λ old. inl (before.1 old)) (λ same. inr same) ((set_added k).0 (now.0 is)),
         λ is. now.1 ((set_added k).1 (⊎_elim (λ old. inl (before.0 old)) (λ same. inr same) is)),
       )
 
--- the bits of either word
+-- the bits of either lane
 pub bit_of_either : (a b i : ℕ) → (has_bit (bit_or a b) i ≡ true) ↔ ((has_bit a i ≡ true) ⊎ (has_bit b i ≡ true))
 bit_of_either a b i =
     let of_either = bit_at_or a b i in
@@ -132,7 +132,7 @@ module _ (a b c : List ℕ) (joins : AreJoined a b c) where
           λ is. now.1 ((set_joined k).1 (⊎_elim (λ x. inl (of_a.0 x)) (λ x. inr (of_b.0 x)) is)),
         )
 
--- words whose bits are all those of others add nothing
+-- lanes whose bits are all those of others add nothing
 module _ (a b : List ℕ) (fits_a : (i : ℕ) → get_or a i 0 < 2 ^ 64) (fits_b : (i : ℕ) → get_or b i 0 < 2 ^ 64) where
   pub nothing_added : ((k : ℕ) → is_set b k ≡ true → is_set a k ≡ true) → (place : ℕ) → get_or a place 0 ≡ bit_or (get_or a place 0) (get_or b place 0)
   nothing_added within place = sym (same_from_bits _ _ (λ i. elim (cases_lt i 64) [
@@ -181,20 +181,20 @@ new_or_none (false ∷ old) (false ∷ from) = ⊎_elim
     (new_or_none old from)
 
 module _ (len other : ℕ) (le : other ≤ len) (a b : List ℕ) (fits_a : (i : ℕ) → get_or a i 0 < 2 ^ 64) (fits_b : (i : ℕ) → get_or b i 0 < 2 ^ 64) (pa : IsPacked len a) (pb : IsPacked other b) where
-  within_words : ((k : ℕ) → IsIn (told other b) k → IsIn (told len a) k) → (place : ℕ) → get_or a place 0 ≡ bit_or (get_or a place 0) (get_or b place 0)
-  within_words all = nothing_added a b fits_a fits_b (λ k is. (in_told len a pa k).0 (all k ((in_told other b pb k).1 is)))
+  within_lanes : ((k : ℕ) → IsIn (told other b) k → IsIn (told len a) k) → (place : ℕ) → get_or a place 0 ≡ bit_or (get_or a place 0) (get_or b place 0)
+  within_lanes all = nothing_added a b fits_a fits_b (λ k is. (in_told len a pa k).0 (all k ((in_told other b pb k).1 is)))
 
-  -- one set is within another where joining adds nothing to its words
+  -- one set is within another where joining adds nothing to its lanes
   pub within_told : AreJoined a b a ↔ ((k : ℕ) → IsIn (told other b) k → IsIn (told len a) k)
   within_told = (
     λ joins k is. (in_joined a b a joins len other le pa pb k).1 (inr is),
-    λ all. (refl, within_words all),
+    λ all. (refl, within_lanes all),
   )
 
-  -- words that change gain a number
+  -- lanes that change gain a number
   pub grown_told : (c : List ℕ) → AreJoined a b c → Differ a c ↔ ((k : ℕ) × IsIn (told other b) k × ¬ IsIn (told len a) k)
   grown_told c joins = (
-    λ d. ⊎_elim (λ all. absurd (d.different (within_words all d.place ∙ sym (joins.1 d.place)))) (λ some. some) (new_or_none (told len a) (told other b)),
+    λ d. ⊎_elim (λ all. absurd (d.different (within_lanes all d.place ∙ sym (joins.1 d.place)))) (λ some. some) (new_or_none (told len a) (told other b)),
     λ some. record {
       place = some.0 / 64;
       different = λ e.
@@ -204,23 +204,23 @@ module _ (len other : ℕ) (le : other ≤ len) (a b : List ℕ) (fits_a : (i : 
   )
 
 -- the test of a bit
-pub has_told : (words : List ℕ) (number word : ℕ) → word ≡ get_or words (number / 64) 0 → eqb (bit_and (word / 2 ^ (number % 64)) 1) 1 ≡ is_set words number
-has_told words number word is = ap (λ b. eqb b 1) (shr_and_one word (number % 64)) ∙ ap (λ w. has_bit w (number % 64)) is
+pub has_told : (lanes : List ℕ) (number lane : ℕ) → lane ≡ get_or lanes (number / 64) 0 → eqb (bit_and (lane / 2 ^ (number % 64)) 1) 1 ≡ is_set lanes number
+has_told lanes number lane is = ap (λ b. eqb b 1) (shr_and_one lane (number % 64)) ∙ ap (λ w. has_bit w (number % 64)) is
 
-pub word_read : (words : List ℕ) (place word : ℕ) → place < length words → word ≡ get_or words place word → word ≡ get_or words place 0
-word_read words place word there is = is ∙ get_or_default_zero words place word there
+pub word_read : (lanes : List ℕ) (place lane : ℕ) → place < length lanes → lane ≡ get_or lanes place lane → lane ≡ get_or lanes place 0
+word_read lanes place lane there is = is ∙ get_or_default_zero lanes place lane there
 
--- the word of a number that is below the length
-pub word_there : (len : ℕ) (words : List ℕ) (number : ℕ) → IsPacked len words → number < len → number / 64 < length words
-word_there len words number packed below = let count = packed.count in omega (arith, count, below)
+-- the lane of a number that is below the length
+pub word_there : (len : ℕ) (lanes : List ℕ) (number : ℕ) → IsPacked len lanes → number < len → number / 64 < length lanes
+word_there len lanes number packed below = let count = packed.count in omega (arith, count, below)
 
--- words that are written back
+-- lanes that are written back
 pub written_back : (new old : List ℕ) (n : ℕ) → length new ≡ n → take n (new ++ drop (length new) old) ≡ new
 written_back new old n long = ap (λ k. take k (new ++ drop (length new) old)) (sym long) ∙ take-append_seam new (drop (length new) old)
 
--- the same of two sets by their fields, where a and b are the words that calls were given, and xs and ys the values
+-- the same of two sets by their fields, where a and b are the lanes that calls were given, and xs and ys the values
 module _ (len other : ℕ) (same : len ≡ other) (va vb a b : List ℕ) where
-  pub within_told_by : (xs ys : List Bool) → IsPacked len va → IsPacked other vb → a ≡ va → b ≡ vb → told len va ≡ xs → told other vb ≡ ys → AreWords a → AreWords b
+  pub within_told_by : (xs ys : List Bool) → IsPacked len va → IsPacked other vb → a ≡ va → b ≡ vb → told len va ≡ xs → told other vb ≡ ys → AreLanes a → AreLanes b
       → (result : Bool) → (IsTrue result ↔ AreJoined b a b) → IsTrue result ↔ ((k : ℕ) → IsIn xs k → IsIn ys k)
   within_told_by xs ys pa pb is_a is_b xs_is ys_is fits_a fits_b result tells =
       let qa : IsPacked len a = subst (IsPacked len) (sym is_a) pa in
@@ -254,7 +254,7 @@ module _ (len other : ℕ) (le : other ≤ len) (va vb a b c : List ℕ) where
     pub merged_in : (k : ℕ) → IsIn (told len c) k ↔ (IsIn xs k ⊎ IsIn ys k)
     merged_in k = subst (λ s. IsIn (told len c) k ↔ (IsIn s k ⊎ IsIn ys k)) of_a (subst (λ s. IsIn (told len c) k ↔ (IsIn (told len a) k ⊎ IsIn s k)) of_b (in_joined a b c joins len other le qa qb k))
 
-    pub merged_grew : AreWords a → AreWords b → (result : Bool) → (IsTrue result ↔ Differ a c) → IsTrue result ↔ ((k : ℕ) × IsIn ys k × ¬ IsIn xs k)
+    pub merged_grew : AreLanes a → AreLanes b → (result : Bool) → (IsTrue result ↔ Differ a c) → IsTrue result ↔ ((k : ℕ) × IsIn ys k × ¬ IsIn xs k)
     merged_grew fits_a fits_b result tells =
         let grown = grown_told len other le a b fits_a fits_b qa qb c joins in (
           λ e. let some = grown.0 (tells.0 e) in (some.0, subst (λ s. IsIn s some.0) of_b some.1, λ is. some.2 (subst (λ s. IsIn s some.0) (sym of_a) is)),
@@ -292,9 +292,9 @@ removed_in len other va vb a b c xs ys pa pb is_a is_b cleared xs_is ys_is k =
     (subst (λ s. IsIn (told len c) k ↔ (IsIn (told len a) k × ¬ IsIn s k)) (ap (told other) is_b ∙ ys_is)
     (in_cleared a b c cleared len other (subst (IsPacked len) (sym is_a) pa) (subst (IsPacked other) (sym is_b) pb) k))
 
--- words with none behind them
-pub set_longer : (words : List ℕ) (more k : ℕ) → is_set (words ++ replicate more 0) k ≡ is_set words k
-set_longer words more k = ap (λ w. has_bit w (k % 64)) (same words more (k / 64))
+-- lanes with none behind them
+pub set_longer : (lanes : List ℕ) (more k : ℕ) → is_set (lanes ++ replicate more 0) k ≡ is_set lanes k
+set_longer lanes more k = ap (λ w. has_bit w (k % 64)) (same lanes more (k / 64))
   where
     zeros : (n i : ℕ) → get_or (replicate {A = ℕ} n 0) i 0 ≡ 0
     zeros zero i = refl
@@ -306,30 +306,30 @@ set_longer words more k = ap (λ w. has_bit w (k % 64)) (same words more (k / 64
     same (w ∷ ws) n zero = refl
     same (w ∷ ws) n (suc i) = same ws n i
 
--- the words that a longer set has
-longer_words : (len more : ℕ) (words : List ℕ) (n : ℕ) → IsPacked len words → len ≤ more → n ≡ 4 * ((more + 255) / 256) → length words ≤ n
-longer_words len more words n packed le is = let count = packed.count in omega (arith, count, le, is)
+-- the lanes that a longer set has
+longer_lanes : (len more : ℕ) (lanes : List ℕ) (n : ℕ) → IsPacked len lanes → len ≤ more → n ≡ 4 * ((more + 255) / 256) → length lanes ≤ n
+longer_lanes len more lanes n packed le is = let count = packed.count in omega (arith, count, le, is)
 
-take_long : (words : List ℕ) (n : ℕ) → length words ≤ n → take n words ≡ words
+take_long : (lanes : List ℕ) (n : ℕ) → length lanes ≤ n → take n lanes ≡ lanes
 take_long [] zero le = refl
 take_long [] (suc n) le = refl
-take_long (w ∷ words) zero le = absurd (omega (arith, le))
-take_long (w ∷ words) (suc n) le = ap (λ ws. w ∷ ws) (take_long words n (omega (arith, le)))
+take_long (w ∷ lanes) zero le = absurd (omega (arith, le))
+take_long (w ∷ lanes) (suc n) le = ap (λ ws. w ∷ ws) (take_long lanes n (omega (arith, le)))
 
-module _ (len more : ℕ) (words new : List ℕ) (n m : ℕ) (packed : IsPacked len words) (le : len ≤ more) (n_is : n ≡ 4 * ((more + 255) / 256)) (is : new ≡ take n words ++ replicate m 0) where
-  words_are : new ≡ words ++ replicate m 0
-  words_are = is ∙ ap (λ ws. ws ++ replicate m 0) (take_long words n (longer_words len more words n packed le n_is))
+module _ (len more : ℕ) (lanes new : List ℕ) (n m : ℕ) (packed : IsPacked len lanes) (le : len ≤ more) (n_is : n ≡ 4 * ((more + 255) / 256)) (is : new ≡ take n lanes ++ replicate m 0) where
+  lanes_are : new ≡ lanes ++ replicate m 0
+  lanes_are = is ∙ ap (λ ws. ws ++ replicate m 0) (take_long lanes n (longer_lanes len more lanes n packed le n_is))
 
   pub packed_longer : more < 2 ^ 64 → length new ≡ n → IsPacked more new
   packed_longer fits count = record {
     fits = fits;
     count = count ∙ n_is;
-    clear = λ k past. ap (λ ws. is_set ws k) words_are ∙ set_longer words m k ∙ packed.clear k (omega (arith, le, past));
+    clear = λ k past. ap (λ ws. is_set ws k) lanes_are ∙ set_longer lanes m k ∙ packed.clear k (omega (arith, le, past));
   }
 
-  pub in_longer : IsPacked more new → (set : List Bool) → told len words ≡ set → (k : ℕ) → IsIn (told more new) k ↔ IsIn set k
+  pub in_longer : IsPacked more new → (set : List Bool) → told len lanes ≡ set → (k : ℕ) → IsIn (told more new) k ↔ IsIn set k
   in_longer now set set_is k =
       let one = in_told more new now k in
-      let two = in_told len words packed k in
-      let same : is_set new k ≡ is_set words k = ap (λ ws. is_set ws k) words_are ∙ set_longer words m k in
+      let two = in_told len lanes packed k in
+      let same : is_set new k ≡ is_set lanes k = ap (λ ws. is_set ws k) lanes_are ∙ set_longer lanes m k in
       (λ h. subst (λ s. IsIn s k) set_is (two.1 (sym same ∙ one.0 h)), λ h. one.1 (same ∙ two.0 (subst (λ s. IsIn s k) (sym set_is) h)))

@@ -4,7 +4,7 @@ ghost use Rattle.std.specs.List.{Contains};
 ghost use Rattle.asl_lane_sets.specs.NumberSet.{IsIn, IsRising, members_of};
 ghost use Rattle.asl_lane_sets.specs.Packed.{has_bit, ones};
 
-use crate::words::{BLOCK, LANES, WORD, are_within, clear_words, merge_words};
+use crate::lanes::{BLOCK, LANE, LANES_OF_BLOCK, are_within, clear_lanes, merge_lanes};
 use std::alloc::{AllocError, Global};
 use std::marker::Model;
 
@@ -14,7 +14,7 @@ use std::marker::Model;
 #[derive(Drop)]
 pub struct Bits {
     len: usize,
-    words: Vec<u64>,
+    lanes: Vec<u64>,
 }
 
 impl Model for Bits {
@@ -23,9 +23,9 @@ impl Model for Bits {
 
     ghost Value = { List Bool };
 
-    ghost view = { λ b. told b.len b.words.items };
+    ghost view = { λ b. told b.len b.lanes.items };
 
-    ghost invariant = { λ b. IsPacked b.len b.words.items };
+    ghost invariant = { λ b. IsPacked b.len b.lanes.items };
 }
 
 impl Bits {
@@ -37,8 +37,8 @@ impl Bits {
     pub fn with_len(alloc: Global, len: usize) -> Result<Bits, AllocError>
         ensures { IfOk result (λ set. set ≡ replicate len false) }
     {
-        let words = vec![in alloc; 0; len.div_ceil(BLOCK) * LANES]?;
-        Ok(Bits { len, words })
+        let lanes = vec![in alloc; 0; len.div_ceil(BLOCK) * LANES_OF_BLOCK]?;
+        Ok(Bits { len, lanes })
     }
 
     /// The length, below which the set's numbers are.
@@ -54,7 +54,7 @@ impl Bits {
         ensures length { length self.new ≡ length self.old }
         ensures numbers { (k : ℕ) → IsIn self.new k ↔ (IsIn self.old k ⊎ (k ≡ number)) }
     {
-        self.words[number / WORD] |= 1 << (number % WORD);
+        self.lanes[number / LANE] |= 1 << (number % LANE);
     }
 
     /// Whether a number is one of the set.
@@ -62,7 +62,7 @@ impl Bits {
         requires { number < length self.now }
         ensures { IsTrue result ↔ IsIn self.now number }
     {
-        self.words[number / WORD] >> (number % WORD) & 1 == 1
+        self.lanes[number / LANE] >> (number % LANE) & 1 == 1
     }
 
     /// Makes the set one of numbers below a greater length.
@@ -76,7 +76,7 @@ impl Bits {
         ensures numbers { OnOk result ((k : ℕ) → IsIn self.new k ↔ IsIn self.old k) }
         ensures err { OnErr result (self.new ≡ self.old) }
     {
-        self.words.resize(len.div_ceil(BLOCK) * LANES, 0)?;
+        self.lanes.resize(len.div_ceil(BLOCK) * LANES_OF_BLOCK, 0)?;
         self.len = len;
         Ok(())
     }
@@ -88,7 +88,7 @@ impl Bits {
         ensures numbers { (k : ℕ) → IsIn self.new k ↔ (IsIn self.old k ⊎ IsIn other.now k) }
         ensures grew { IsTrue result ↔ ((k : ℕ) × IsIn other.now k × ¬ IsIn self.old k) }
     {
-        merge_words(&mut self.words, &other.words)
+        merge_lanes(&mut self.lanes, &other.lanes)
     }
 
     /// Takes away the numbers of another set.
@@ -96,7 +96,7 @@ impl Bits {
         ensures length { length self.new ≡ length self.old }
         ensures numbers { (k : ℕ) → IsIn self.new k ↔ (IsIn self.old k × ¬ IsIn other.now k) }
     {
-        clear_words(&mut self.words, &other.words)
+        clear_lanes(&mut self.lanes, &other.lanes)
     }
 
     /// The same set.
@@ -107,10 +107,10 @@ impl Bits {
     pub fn copy(&self) -> Result<Bits, AllocError>
         ensures { IfOk result (λ set. set ≡ self.now) }
     {
-        let words = self.words.clone()?;
+        let lanes = self.lanes.clone()?;
         Ok(Bits {
             len: self.len,
-            words,
+            lanes,
         })
     }
 
@@ -124,8 +124,8 @@ impl Bits {
         ensures err { OnErr result (self.new ≡ []) }
     {
         self.len = 0;
-        self.words.clear();
-        self.words.extend_from_slice(&other.words)?;
+        self.lanes.clear();
+        self.lanes.extend_from_slice(&other.lanes)?;
         self.len = other.len;
         Ok(())
     }
@@ -151,7 +151,7 @@ impl Bits {
         ensures numbers { (k : ℕ) → IsIn self.new k ↔ (IsIn self.old k ⊎ IsIn other.now k) }
         ensures grew { IsTrue result ↔ ((k : ℕ) × IsIn other.now k × ¬ IsIn self.old k) }
     {
-        merge_words(&mut self.words, &other.words)
+        merge_lanes(&mut self.lanes, &other.lanes)
     }
 
     /// Whether each number of the set is one of another.
@@ -159,7 +159,7 @@ impl Bits {
         requires { length self.now ≡ length other.now }
         ensures { IsTrue result ↔ ((k : ℕ) → IsIn self.now k → IsIn other.now k) }
     {
-        are_within(&self.words, &other.words)
+        are_within(&self.lanes, &other.lanes)
     }
 
     /// The numbers of the set, rising.
@@ -173,42 +173,42 @@ impl Bits {
         ensures listed { IfOk result (λ members. members.items ≡ members_of self.now) }
     {
         let mut members = Vec::new(alloc);
-        for (place, word) in self.words.iter().enumerate() {
-            if *word != 0 {
-                add_members(*word, place * WORD, &mut members)?;
+        for (place, lane) in self.lanes.iter().enumerate() {
+            if *lane != 0 {
+                add_members(*lane, place * LANE, &mut members)?;
             }
         }
         Ok(members)
     }
 }
 
-/// Adds the numbers that the bits of a word stand for, where the lowest bit stands for `first`.
-fn add_members(word: u64, first: usize, members: &mut Vec<usize>) -> Result<(), AllocError>
+/// Adds the numbers that the bits of a lane stand for, where the lowest bit stands for `first`.
+fn add_members(lane: u64, first: usize, members: &mut Vec<usize>) -> Result<(), AllocError>
     requires { first + 64 ≤ 2 ^ 64 }
-    ensures { OnOk result (members.new.items ≡ members.old.items ++ ones word first 64) }
+    ensures { OnOk result (members.new.items ≡ members.old.items ++ ones lane first 64) }
 {
-    let mut bit = next_one(word, 0);
-    while bit < WORD {
+    let mut bit = next_one(lane, 0);
+    while bit < LANE {
         members.push(first + bit)?;
-        bit = next_one(word, bit + 1);
+        bit = next_one(lane, bit + 1);
     }
     Ok(())
 }
 
-/// The lowest bit from a place on that is 1; the bits of a word where none is.
-fn next_one(word: u64, from: usize) -> usize
+/// The lowest bit from a place on that is 1; the bits of a lane where none is.
+fn next_one(lane: u64, from: usize) -> usize
     requires { from ≤ 64 }
     ensures low { from ≤ result }
     ensures high { result ≤ 64 }
-    ensures none { (k : ℕ) → from ≤ k → k < result → has_bit word k ≡ false }
-    ensures one { result < 64 → has_bit word result ≡ true }
+    ensures none { (k : ℕ) → from ≤ k → k < result → has_bit lane k ≡ false }
+    ensures one { result < 64 → has_bit lane result ≡ true }
 {
-    if from == WORD {
-        return WORD;
+    if from == LANE {
+        return LANE;
     }
-    let rest = word >> from;
+    let rest = lane >> from;
     if rest == 0 {
-        return WORD;
+        return LANE;
     }
     from + rest.trailing_zeros() as usize
 }

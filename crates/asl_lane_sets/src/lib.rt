@@ -2,6 +2,6 @@
 #![tactic(auto)]
 
 mod bits;
-mod words;
+mod lanes;
 
 pub use bits::Bits;

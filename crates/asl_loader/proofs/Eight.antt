@@ -9,7 +9,7 @@ use Rattle.asl_code.specs.Spelling.{SpellsInstr, IsFirstBadField}
 use Rattle.asl_code.proofs.Instrs.{AreEight, answer_is}
 use Rattle.asl_code.proofs.Values.{AreBytes}
 use Rattle.asl_loader.specs.declared.fault.Stop.TheVariants.{Short, Bad}
-use Rattle.asl_loader.specs.Reading.{instr_at, judged}
+use Rattle.asl_loader.specs.ImageFields.{instr_at, judged}
 
 pub AreBytes-take : (n : ℕ) (bytes : List ℕ) → AreBytes bytes → AreBytes (take n bytes)
 AreBytes-take n bytes h i =

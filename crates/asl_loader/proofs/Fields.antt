@@ -12,8 +12,8 @@ use Rattle.asl_code.proofs.Instrs.{instr_of-found, instr_of-again, instr_of-refu
 use Rattle.asl_loader.specs.Bytes.{Field, Plain, Eight, bytes_of, text_of, one, two, instr_fields, EndsWithin, IsLike, IsBadByte}
 use Rattle.asl_loader.specs.declared.fault.Stop.{Stop}
 use Rattle.asl_loader.specs.declared.fault.Stop.TheVariants.{Short, Bad}
-use Rattle.asl_loader.specs.Parts.{◌>>=◌, passed, byte_at, number_at, below_at, letters_at, version_at}
-use Rattle.asl_loader.specs.Reading.{instr_at, judged}
+use Rattle.asl_loader.specs.SharedFields.{◌>>=◌, passed, byte_at, number_at, below_at, letters_at, version_at}
+use Rattle.asl_loader.specs.ImageFields.{instr_at, judged}
 use Rattle.asl_code.specs.Versions.{IsVersion, is_version}
 use Rattle.asl_code.proofs.Values.{AreBytes}
 use Rattle.asl_code.proofs.Versions.{is_version-true, IsVersion-is_version, small_version}

@@ -18,8 +18,8 @@ use Rattle.asl_code.specs.declared.value.Effect.TheVariants.{Read, Write}
 use Rattle.asl_code.specs.Spelling.{IsInstr}
 use Rattle.asl_code.specs.Versions.{IsVersion}
 use Rattle.asl_loader.specs.Bytes.{Field, Plain, one, two, counted, class_fields, function_fields, instr_fields, effect_field, op_fields, path_fields, expr_fields, lock_fields, list_fields, image_fields, IsFunction, IsOp, IsBase, IsPath, IsLock, AreItems, IsList, IsImage, ImageOfSpellingIsOne}
-use Rattle.asl_loader.specs.Parts.{◌>>=◌, byte_at, number_at, below_at, letters_at, version_at, effect_of, effect_at}
-use Rattle.asl_loader.specs.Reading.{instr_at, function_at, op_of, op_at, items_at, counted_at, path_at, expr_at, lock_of, lock_at, list_at, image_at}
+use Rattle.asl_loader.specs.SharedFields.{◌>>=◌, byte_at, number_at, below_at, letters_at, version_at, effect_of, effect_at}
+use Rattle.asl_loader.specs.ImageFields.{instr_at, function_at, op_of, op_at, items_at, counted_at, path_at, expr_at, lock_of, lock_at, list_at, image_at}
 use Rattle.asl_loader.proofs.Fields.{reads_as, byte_reads, two_reads, below_reads, version_reads, letters_reads, instr_reads}
 use Rattle.asl_loader.proofs.Items.{AreSoMany, items_reads, counted_reads}
 use Rattle.asl_loader.proofs.Reader.{Reads, reads_both, reads_key, reads_nothing, done, ok_is}

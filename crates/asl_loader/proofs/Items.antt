@@ -5,8 +5,8 @@ use Rattle.std.specs.Int.{w16}
 use Rattle.std.proofs.lemmas.List.{append-nil, length-replicate}
 use Rattle.asl_loader.specs.Bytes.{Field, two, counted, AreItems}
 use Rattle.asl_loader.specs.declared.fault.Stop.{Stop}
-use Rattle.asl_loader.specs.Parts.{◌>>=◌, number_at}
-use Rattle.asl_loader.specs.Reading.{items_at, counted_at}
+use Rattle.asl_loader.specs.SharedFields.{◌>>=◌, number_at}
+use Rattle.asl_loader.specs.ImageFields.{items_at, counted_at}
 use Rattle.asl_loader.proofs.Fields.{reads_as, two_reads}
 use Rattle.asl_loader.proofs.Reader.{Reads, reads_both, reads_nothing}
 

@@ -12,7 +12,7 @@ use Rattle.asl_code.specs.Versions.{newest_locks, limits_of}
 use Rattle.asl_code.proofs.OneAnswer.{limit_answer, no_answer}
 use Rattle.asl_code.proofs.Versions.{locks_set, few_locks, newest_lists}
 use Rattle.asl_loader.specs.Faults.{is_short, are_short}
-use Rattle.asl_loader.specs.Reading.{IsHeld, items_at, list_at, lock_at}
+use Rattle.asl_loader.specs.ImageFields.{IsHeld, items_at, list_at, lock_at}
 use Rattle.asl_loader.specs.declared.fault.Lost.{Lost}
 use Rattle.asl_loader.proofs.Loop.{Kept, so_many, kept_all}
 

@@ -7,7 +7,7 @@ use Rattle.asl_code.specs.declared.image.Image.{Image}
 use Rattle.asl_code.specs.Verified.{applies, IsAnswer, IsVerified}
 use Rattle.asl_loader.specs.Bytes.{image_fields, IsImage, SpellsImage}
 use Rattle.asl_loader.specs.Faults.{are_short, IsBadImageByte, IsFault}
-use Rattle.asl_loader.specs.Reading.{Answers, image_at, bad_fault, whole_of}
+use Rattle.asl_loader.specs.ImageFields.{Answers, image_at, bad_fault, whole_of}
 use Rattle.asl_loader.specs.declared.fault.LoadFault.{LoadFault}
 use Rattle.asl_loader.specs.declared.fault.LoadFault.TheVariants.{Truncated, Trailing, Verify, OutOfMemory}
 use Rattle.asl_code.proofs.Values.{AreBytes}

@@ -2,8 +2,8 @@
 use Rattle.std.proofs.Common.{◌≡◌, ℕ, zero, suc, ◌-◌, ◌+◌, ◌≤◌, ◌<◌, List, [], ◌∷◌, ◌++◌, length, Result, Ok, Err, refl, sym, ap, ◌∙◌, append_assoc, arith}
 use Rattle.std.proofs.lemmas.List.{append-nil}
 use Rattle.asl_loader.specs.declared.fault.Stop.{Stop}
-use Rattle.asl_loader.specs.Parts.{◌>>=◌}
-use Rattle.asl_loader.specs.Reading.{items_at}
+use Rattle.asl_loader.specs.SharedFields.{◌>>=◌}
+use Rattle.asl_loader.specs.ImageFields.{items_at}
 use Rattle.asl_loader.proofs.Reader.{bind_ok, ok_is}
 
 -- what was read before, and what is still read

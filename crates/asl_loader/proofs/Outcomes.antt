@@ -8,7 +8,7 @@ use Rattle.asl_code.proofs.OneAnswer.{one_answer, some_answer}
 use Rattle.asl_code.proofs.Values.{AreBytes}
 use Rattle.asl_loader.specs.Bytes.{SpellsImage}
 use Rattle.asl_loader.specs.Faults.{IsFault, IsOutcome, BytesHaveAnOutcome, OutcomeIsOne}
-use Rattle.asl_loader.specs.Reading.{bad_fault, whole_of}
+use Rattle.asl_loader.specs.ImageFields.{bad_fault, whole_of}
 use Rattle.asl_loader.specs.declared.fault.LoadFault.{LoadFault}
 use Rattle.asl_loader.specs.declared.fault.LoadFault.TheVariants.{Magic, Version, Truncated, BadField, Trailing, Verify, OutOfMemory}
 use Rattle.asl_loader.proofs.Loads.{whole_found, whole_again, whole_refused, refused_again, not_both}

@@ -5,7 +5,7 @@ use Rattle.std.proofs.lemmas.List.Concat.{flat_map-append}
 use Rattle.asl_loader.specs.Bytes.{Field, bytes_of, text_of, EndsWithin, HasBadByte}
 use Rattle.asl_loader.specs.declared.fault.Stop.{Stop}
 use Rattle.asl_loader.specs.declared.fault.Stop.TheVariants.{Short, Bad}
-use Rattle.asl_loader.specs.Parts.{◌>>=◌}
+use Rattle.asl_loader.specs.SharedFields.{◌>>=◌}
 use Rattle.asl_code.proofs.Values.{AreBytes}
 
 -- the bad byte is so many bytes from the end

@@ -12,7 +12,7 @@ use Rattle.asl_code.specs.Versions.{IsVersion}
 use Rattle.asl_code.proofs.FitsLaws.{image_fits, body_within}
 use Rattle.asl_code.proofs.Versions.{few_locks}
 use Rattle.asl_loader.specs.Bytes.{Field, text_of, two, magic, counted, class_fields, function_fields, instr_fields, list_fields, IsFunction, IsList, AreItems, SpellsImage}
-use Rattle.asl_loader.specs.Parts.{Writes}
+use Rattle.asl_loader.specs.SharedFields.{Writes}
 use Rattle.asl_loader.specs.Writing.{HasFields}
 use Rattle.asl_loader.proofs.Reader.{text_of-append}
 

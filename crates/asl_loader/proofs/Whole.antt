@@ -9,7 +9,7 @@ use Rattle.asl_code.specs.Spelling.{instr_bytes}
 use Rattle.asl_code.proofs.Instrs.{instr_bytes-eight}
 use Rattle.asl_code.proofs.Values.{AreBytes}
 use Rattle.asl_loader.specs.Bytes.{Field, Plain, Eight, bytes_of, text_of, EndsWithin, HasBadByte, IsBadByte}
-use Rattle.asl_loader.specs.Reading.{ended, whole_from}
+use Rattle.asl_loader.specs.ImageFields.{ended, whole_from}
 use Rattle.asl_loader.specs.declared.fault.Stop.{Stop}
 use Rattle.asl_loader.specs.declared.fault.Stop.TheVariants.{Short, Bad}
 use Rattle.asl_loader.proofs.Reader.{Reads}

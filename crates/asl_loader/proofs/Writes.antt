@@ -4,7 +4,7 @@ use Rattle.std.specs.List.{flat_map, AllByRecursion}
 use Rattle.std.proofs.lemmas.List.{append-nil, take_more, take_all}
 use Rattle.std.proofs.lemmas.List.Concat.{flat_map-append}
 use Rattle.asl_loader.specs.Bytes.{Field, text_of}
-use Rattle.asl_loader.specs.Parts.{Writes}
+use Rattle.asl_loader.specs.SharedFields.{Writes}
 use Rattle.asl_loader.specs.Writing.{WritesEach}
 use Rattle.asl_loader.proofs.Reader.{text_of-append}
 

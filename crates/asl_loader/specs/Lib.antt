@@ -1,6 +1,6 @@
 pub mod Bytes
-pub mod Parts
+pub mod SharedFields
 pub mod Faults
 -- Machinery of the proofs, not of the promise to users:
-pub mod Reading
+pub mod ImageFields
 pub mod Writing

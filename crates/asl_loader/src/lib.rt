@@ -2,12 +2,12 @@
 #![tactic(auto)]
 
 mod fault;
+mod image_bytes;
+mod image_fields;
 pub mod laws;
-mod loading;
-pub mod parts;
-mod reading;
+pub mod shared_fields;
 mod writing;
 
 pub use fault::{LoadFault, Stop};
-pub use loading::load;
+pub use image_bytes::load;
 pub use writing::store;

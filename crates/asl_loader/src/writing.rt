@@ -10,10 +10,10 @@ ghost use Rattle.asl_code.specs.Spelling.{IsInstr};
 ghost use Rattle.asl_loader.specs.Bytes.{counted, class_fields, function_fields, instr_fields};
 ghost use Rattle.asl_loader.specs.Bytes.{op_fields, path_fields, lock_fields, list_fields};
 ghost use Rattle.asl_loader.specs.Bytes.{IsFunction, IsOp, IsPath, IsLock, IsList, AreItems, SpellsImage};
-ghost use Rattle.asl_loader.specs.Parts.{Writes};
+ghost use Rattle.asl_loader.specs.SharedFields.{Writes};
 ghost use Rattle.asl_loader.specs.Writing.{WritesEach, HasFields};
 
-use crate::parts::{put_byte, put_effect, put_two};
+use crate::shared_fields::{put_byte, put_effect, put_two};
 use asl_code::{Base, Function, Image, Instr, Items, Lock, Op, Path, Program, put_instr};
 use std::alloc::{AllocError, Global};
 

@@ -18,7 +18,7 @@ use Rattle.asl_code.specs.declared.path.Op.TheVariants.{Deref, Off}
 use Rattle.asl_points_to.specs.Classes.{Classed}
 use Rattle.asl_lock_expr.specs.Expression.{Seen, base_cell, moved, walked, path_cell, cell_denoted}
 use Rattle.asl_lock_expr.specs.ClassOf.{base_class, step_class, path_class, class_of}
-use Rattle.asl_lock_expr.specs.Links.{View, IsOne, class_lock, settled, settle, is_register, is_star, is_stored_to, goes_through, before, link, IsSettled, prefixes, dereferenced}
+use Rattle.asl_lock_expr.specs.Links.{LinkContext, IsOne, class_lock, settled, settle, is_register, is_star, is_stored_to, goes_through, before, link, IsSettled, prefixes, dereferenced}
 use Rattle.asl_lock_expr.specs.Agrees.{IsWrite}
 use Rattle.asl_lock_expr.proofs.Paths.{no_cell_from_none}
 use Rattle.asl_lock_expr.proofs.Steps.{class_append}
@@ -26,44 +26,44 @@ use Rattle.asl_lock_expr.proofs.Ones.{one_either}
 use Rattle.asl_lock_expr.proofs.Walks.{path_append, moved_same, walked_same}
 
 -- the expressions that a call leaves: whose base is not its register, and which go through no class that it may store to
-abbrev pub is_lost : View → ℕ → ℕ → Expr → Bool
+abbrev pub is_lost : LinkContext → ℕ → ℕ → Expr → Bool
 is_lost v a g e = is_register a e.base || goes_through v.classes (v.stores g) (base_class v.classes v.function e.base) e.path
 
-not_class : (v : View) (effect : Effect) (o : Option ℕ) (e : Expr) (other : Effect) → IsOne (flat_map (settle v) (class_lock effect o)) (lock.Expr e other) → ⊥
+not_class : (v : LinkContext) (effect : Effect) (o : Option ℕ) (e : Expr) (other : Effect) → IsOne (flat_map (settle v) (class_lock effect o)) (lock.Expr e other) → ⊥
 not_class v effect None e other o = o
 not_class v effect (Some x) e other (inl is) = cc
 not_class v effect (Some x) e other (inr o) = o
 
 -- what settles to an expression is that expression, has a class and is short enough
-pub settled_expr : (v : View) (d : Expr) (effect : Effect) (o : Option ℕ) (e : Expr) (other : Effect) → class_of v.classes v.function d ≡ o → IsOne (settled v d effect o ++ []) (lock.Expr e other) →
-    (lock.Expr d effect ≡ lock.Expr e other) × ((x : ℕ) × (class_of v.classes v.function d ≡ Some x)) × (nat_le (length d.path) v.longest ≡ true)
+pub settled_expr : (v : LinkContext) (d : Expr) (effect : Effect) (o : Option ℕ) (e : Expr) (other : Effect) → class_of v.classes v.function d ≡ o → IsOne (settled v d effect o ++ []) (lock.Expr e other) →
+    (lock.Expr d effect ≡ lock.Expr e other) × ((x : ℕ) × (class_of v.classes v.function d ≡ Some x)) × (nat_le (length d.path) v.k_limit ≡ true)
 settled_expr v d effect None e other is o = absurd o
 settled_expr v d effect (Some x) e other is o =
-    elim (nat_le (length d.path) v.longest) as (λ b. nat_le (length d.path) v.longest ≡ b → IsOne (cond b (lock.Expr d effect) (lock.Class x effect) ∷ []) (lock.Expr e other) →
-    (lock.Expr d effect ≡ lock.Expr e other) × ((y : ℕ) × (class_of v.classes v.function d ≡ Some y)) × (nat_le (length d.path) v.longest ≡ true)) [
+    elim (nat_le (length d.path) v.k_limit) as (λ b. nat_le (length d.path) v.k_limit ≡ b → IsOne (cond b (lock.Expr d effect) (lock.Class x effect) ∷ []) (lock.Expr e other) →
+    (lock.Expr d effect ≡ lock.Expr e other) × ((y : ℕ) × (class_of v.classes v.function d ≡ Some y)) × (nat_le (length d.path) v.k_limit ≡ true)) [
       | true ↦ λ short k. elim k [ inl same ↦ (same, (x, is), short) | inr f ↦ absurd f ]
       | false ↦ λ short k. elim k [ inl same ↦ (let f : lock.Class x effect ≡ lock.Expr e other = same in cc) | inr f ↦ absurd f ]
     ] refl o
 
 -- an expression that is left over a call was there, and is not lost; it has a class and is short enough
-pub call_leaves : (v : View) (a first g : ℕ) (m : Lock) (e : Expr) (effect : Effect) → IsOne (link v (instr.Call a first g) m) (lock.Expr e effect) →
-    (m ≡ lock.Expr e effect) × (is_lost v a g e ≡ false) × ((x : ℕ) × (class_of v.classes v.function e ≡ Some x)) × (nat_le (length e.path) v.longest ≡ true)
+pub call_leaves : (v : LinkContext) (a first g : ℕ) (m : Lock) (e : Expr) (effect : Effect) → IsOne (link v (instr.Call a first g) m) (lock.Expr e effect) →
+    (m ≡ lock.Expr e effect) × (is_lost v a g e ≡ false) × ((x : ℕ) × (class_of v.classes v.function e ≡ Some x)) × (nat_le (length e.path) v.k_limit ≡ true)
 call_leaves v a first g (lock.Root other) e effect (inl is) = cc
 call_leaves v a first g (lock.Root other) e effect (inr o) = absurd o
 call_leaves v a first g (lock.Class x other) e effect (inl is) = cc
 call_leaves v a first g (lock.Class x other) e effect (inr o) = absurd o
 call_leaves v a first g (lock.Expr d other) e effect o =
     elim (is_lost v a g d) as (λ b. is_lost v a g d ≡ b → IsOne (flat_map (settle v) (cond b (class_lock other (class_of v.classes v.function d)) (lock.Expr d other ∷ []))) (lock.Expr e effect) →
-    (lock.Expr d other ≡ lock.Expr e effect) × (is_lost v a g e ≡ false) × ((x : ℕ) × (class_of v.classes v.function e ≡ Some x)) × (nat_le (length e.path) v.longest ≡ true)) [
+    (lock.Expr d other ≡ lock.Expr e effect) × (is_lost v a g e ≡ false) × ((x : ℕ) × (class_of v.classes v.function e ≡ Some x)) × (nat_le (length e.path) v.k_limit ≡ true)) [
       | true ↦ λ is k. absurd (not_class v other (class_of v.classes v.function d) e effect k)
       | false ↦ λ is k.
           let s = settled_expr v d other (class_of v.classes v.function d) e effect refl k in
           let same : d ≡ e = (let f = s.0 in cc) in
-          (s.0, subst (λ (y : Expr). is_lost v a g y ≡ false) same is, subst (λ (y : Expr). (x : ℕ) × (class_of v.classes v.function y ≡ Some x)) same s.1, subst (λ (y : Expr). nat_le (length y.path) v.longest ≡ true) same s.2)
+          (s.0, subst (λ (y : Expr). is_lost v a g y ≡ false) same is, subst (λ (y : Expr). (x : ℕ) × (class_of v.classes v.function y ≡ Some x)) same s.1, subst (λ (y : Expr). nat_le (length y.path) v.k_limit ≡ true) same s.2)
     ] refl o
 
 -- and back
-pub call_keeps : (v : View) (a first g : ℕ) (e : Expr) (effect : Effect) (x : ℕ) → is_lost v a g e ≡ false → class_of v.classes v.function e ≡ Some x → nat_le (length e.path) v.longest ≡ true →
+pub call_keeps : (v : LinkContext) (a first g : ℕ) (e : Expr) (effect : Effect) (x : ℕ) → is_lost v a g e ≡ false → class_of v.classes v.function e ≡ Some x → nat_le (length e.path) v.k_limit ≡ true →
     IsOne (link v (instr.Call a first g) (lock.Expr e effect)) (lock.Expr e effect)
 call_keeps v a first g e effect x kept of short =
     subst (λ (b : Bool). IsOne (flat_map (settle v) (cond b (class_lock effect (class_of v.classes v.function e)) (lock.Expr e effect ∷ []))) (lock.Expr e effect)) (sym kept)
@@ -116,7 +116,7 @@ pub shorter : (m n k : ℕ) → m ≤ n → nat_le n k ≡ true → nat_le m k �
 shorter m n k le e = search (rules, arith, le, e)
 
 -- the dereferenced prefixes of what a call leaves are left too
-pub prefix_left : (v : View) (a first g : ℕ) (m : Lock) (e k : Expr) (effect other : Effect) → IsOne (link v (instr.Call a first g) m) (lock.Expr e effect) → IsOne (dereferenced (lock.Expr e effect)) (lock.Expr k other) →
+pub prefix_left : (v : LinkContext) (a first g : ℕ) (m : Lock) (e k : Expr) (effect other : Effect) → IsOne (link v (instr.Call a first g) m) (lock.Expr e effect) → IsOne (dereferenced (lock.Expr e effect)) (lock.Expr k other) →
     IsOne (link v (instr.Call a first g) (lock.Expr k other)) (lock.Expr k other)
 prefix_left v a first g m e k effect other o p =
     let left = call_leaves v a first g m e effect o in
@@ -129,7 +129,7 @@ prefix_left v a first g m e k effect other o p =
     let class = front_class v.classes f.0 (Deref ∷ f.1) (base_class v.classes v.function e.base) left.2.0 (ap (λ ops. path_class v.classes ops (base_class v.classes v.function e.base)) (sym f.4) ∙ left.2.1) in
     let len : length f.0 ≤ length e.path = (let s = ap length f.4 ∙ length-append f.0 (Deref ∷ f.1) in omega (arith, s)) in
     subst (λ (y : Expr). IsOne (link v (instr.Call a first g) (lock.Expr y other)) (lock.Expr y other)) (sym f.3)
-    (call_keeps v a first g front other class.0 kept class.1 (shorter (length f.0) (length e.path) v.longest len left.3))
+    (call_keeps v a first g front other class.0 kept class.1 (shorter (length f.0) (length e.path) v.k_limit len left.3))
 
 pub no_root : (base : Base) (done ops : List Op) (effect : Effect) → IsOne (prefixes base done ops) (lock.Root effect) → ⊥
 no_root base done [] effect o = o
@@ -157,7 +157,7 @@ not_crossed h new c0 value w regs base done (Deref ∷ ops) (Some cell) at apart
     ∙ not_crossed h new c0 value w regs base (done ++ Deref ∷ []) ops (walked h Deref cell) (path_append h done (Deref ∷ []) (base_cell regs base) ∙ ap (path_cell h (Deref ∷ [])) at) (λ e o. apart e (inr o))
 
 -- what settles is short and has a class, where it is an expression
-pub settled_well : (v : View) (n m : Lock) → IsOne (settle v n) m → IsSettled v m
+pub settled_well : (v : LinkContext) (n m : Lock) → IsOne (settle v n) m → IsSettled v m
 settled_well v (lock.Root effect) m (inl is) = subst (IsSettled v) is tt
 settled_well v (lock.Root effect) m (inr o) = absurd o
 settled_well v (lock.Class x effect) m (inl is) = subst (IsSettled v) is tt
@@ -167,7 +167,7 @@ settled_well v (lock.Expr e effect) m o =
       | None ↦ λ is k. absurd k
       | Some x ↦ λ is k. elim k [
         | inl same ↦ subst (IsSettled v) same
-            (elim (nat_le (length e.path) v.longest) as (λ b. nat_le (length e.path) v.longest ≡ b → IsSettled v (cond b (lock.Expr e effect) (lock.Class x effect))) [
+            (elim (nat_le (length e.path) v.k_limit) as (λ b. nat_le (length e.path) v.k_limit ≡ b → IsSettled v (cond b (lock.Expr e effect) (lock.Class x effect))) [
               | true ↦ λ short. (short, (x, is))
               | false ↦ λ short. tt
             ] refl)
@@ -175,11 +175,11 @@ settled_well v (lock.Expr e effect) m o =
       ]
     ] refl o
 
-pub all_settled : (v : View) (ms : List Lock) (m : Lock) → IsOne (flat_map (settle v) ms) m → IsSettled v m
+pub all_settled : (v : LinkContext) (ms : List Lock) (m : Lock) → IsOne (flat_map (settle v) ms) m → IsSettled v m
 all_settled v [] m o = absurd o
 all_settled v (n ∷ ms) m o = elim (one_either (settle v n) (flat_map (settle v) ms) m o) [ inl p ↦ settled_well v n m p | inr q ↦ all_settled v ms m q ]
 
-pub linked_well : (v : View) (i : Instr) (l m : Lock) → IsOne (link v i l) m → IsSettled v m
+pub linked_well : (v : LinkContext) (i : Instr) (l m : Lock) → IsOne (link v i l) m → IsSettled v m
 linked_well v i (lock.Root effect) m (inl is) = subst (IsSettled v) is tt
 linked_well v i (lock.Root effect) m (inr o) = absurd o
 linked_well v i (lock.Class x effect) m (inl is) = subst (IsSettled v) is tt

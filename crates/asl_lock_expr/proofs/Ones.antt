@@ -6,7 +6,7 @@ use Rattle.asl_code.specs.declared.instr.Instr.{Instr}
 use Rattle.std.proofs.lemmas.Option.{get_or_from_slice_get}
 use Rattle.asl_points_to.specs.Classes.{Classed}
 use Rattle.asl_lock_expr.specs.Stores.{stores}
-use Rattle.asl_lock_expr.specs.Links.{IsOne, IsLinked, HasGrown, View, view, link, dereferenced}
+use Rattle.asl_lock_expr.specs.Links.{IsOne, IsLinked, HasGrown, LinkContext, view, link, dereferenced}
 
 -- a list has grown where locks were added, and where it grew twice
 pub grown_more : (old new more : List Lock) → new ≡ old ++ more → HasGrown old new
@@ -45,7 +45,7 @@ flat_of (l ∷ ms) m n (inl e) p = one_left _ _ n (subst (λ (x : Lock). IsOne (
 flat_of (l ∷ ms) m n (inr o) p = one_right (dereferenced l) _ n (flat_of ms m n o p)
 
 -- a list with what it dereferences is what a lock is linked to
-pub linked_is : (v : View) (i : Instr) (l : Lock) (ms list : List Lock) → ms ≡ link v i l → ((n : Lock) → IsOne list n ↔ (IsOne ms n ⊎ IsOne (flat_map dereferenced ms) n)) →
+pub linked_is : (v : LinkContext) (i : Instr) (l : Lock) (ms list : List Lock) → ms ≡ link v i l → ((n : Lock) → IsOne list n ↔ (IsOne ms n ⊎ IsOne (flat_map dereferenced ms) n)) →
     (n : Lock) → IsOne list n ↔ IsLinked v i l n
 linked_is v i l ms list is same n = (
   λ o. elim ((same n).0 o) [

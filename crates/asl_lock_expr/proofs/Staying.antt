@@ -13,15 +13,15 @@ use Rattle.asl_code.specs.declared.path.Op.{Op}
 use Rattle.asl_code.specs.declared.path.Op.TheVariants.{Deref, Off}
 use Rattle.asl_points_to.specs.Classes.{Classed}
 use Rattle.asl_lock_expr.specs.ClassOf.{step_class}
-use Rattle.asl_lock_expr.specs.Links.{View, IsSettled, on, settle, settled, is_star, is_class, is_stored_to, is_register, hits, replaced, before, link}
+use Rattle.asl_lock_expr.specs.Links.{LinkContext, IsSettled, on, settle, settled, is_star, is_class, is_stored_to, is_register, hits, replaced, before, link}
 use Rattle.asl_lock_expr.specs.Meeting.{meets}
 
-settled_stays : (v : View) (e : Expr) (effect : Effect) → IsSettled v (lock.Expr e effect) → settle v (lock.Expr e effect) ≡ lock.Expr e effect ∷ []
+settled_stays : (v : LinkContext) (e : Expr) (effect : Effect) → IsSettled v (lock.Expr e effect) → settle v (lock.Expr e effect) ≡ lock.Expr e effect ∷ []
 settled_stays v e effect h =
     ap (settled v e effect) h.1.1 ∙ ap (λ t. cond t (lock.Expr e effect) (lock.Class h.1.0 effect) ∷ []) h.0
 
 -- a settled expression that is left as it is stays
-pub link_stays : (v : View) (i : Instr) (e : Expr) (effect : Effect) → IsSettled v (lock.Expr e effect) → before v i e effect ≡ lock.Expr e effect ∷ []
+pub link_stays : (v : LinkContext) (i : Instr) (e : Expr) (effect : Effect) → IsSettled v (lock.Expr e effect) → before v i e effect ≡ lock.Expr e effect ∷ []
     → link v i (lock.Expr e effect) ≡ lock.Expr e effect ∷ []
 link_stays v i e effect is same = ap (flat_map (settle v)) same ∙ ap (λ l. l ++ []) (settled_stays v e effect is)
 
@@ -50,11 +50,11 @@ store_past c hit b e effect class over h =
     ap (λ t. cond t [] (lock.Expr e effect ∷ []) ++ hits c hit b effect class e.path) both.0 ∙ ap (λ l. lock.Expr e effect ∷ l) (no_hits c hit b effect class e.path both.1)
 
 -- what a lock becomes, before that is settled
-abbrev before_lock : View → Instr → Lock → List Lock
+abbrev before_lock : LinkContext → Instr → Lock → List Lock
 before_lock v i (lock.Expr e effect) = before v i e effect
 before_lock v i l = l ∷ []
 
-pub same_before : (v : View) (i : Instr) (l : Lock) (e f : Expr) (effect other : Effect) → l ≡ lock.Expr e effect → l ≡ lock.Expr f other → before v i e effect ≡ l ∷ [] → before v i f other ≡ lock.Expr f other ∷ []
+pub same_before : (v : LinkContext) (i : Instr) (l : Lock) (e f : Expr) (effect other : Effect) → l ≡ lock.Expr e effect → l ≡ lock.Expr f other → before v i e effect ≡ l ∷ [] → before v i f other ≡ lock.Expr f other ∷ []
 same_before v i l e f effect other p q s =
     ap (before_lock v i) (sym q) ∙ ap (before_lock v i) p ∙ s ∙ ap (λ (m : Lock). m ∷ []) q
 
@@ -91,7 +91,7 @@ not_longer : (b : ℕ) (op : Op) (e : Expr) (effect : Effect) → on (Reg b) (op
 not_longer b op e effect h = longer op e.path cc
 
 -- an expression on the register that is set does not stay
-pub set_changes : (v : View) (i : Instr) (e : Expr) (effect : Effect) (a : ℕ) → set_by i ≡ Some a → is_register a e.base ≡ true → before v i e effect ≡ lock.Expr e effect ∷ [] → ⊥
+pub set_changes : (v : LinkContext) (i : Instr) (e : Expr) (effect : Effect) (a : ℕ) → set_by i ≡ Some a → is_register a e.base ≡ true → before v i e effect ≡ lock.Expr e effect ∷ [] → ⊥
 set_changes v (instr.GlobalAddress x g) e effect a s r h =
     not_global a g e effect r (changed x a e effect (on (Global g) e.path effect ∷ []) s r h)
 set_changes v (instr.FieldAddress x b d) e effect a s r h =

@@ -8,7 +8,7 @@ use Rattle.asl_code.specs.declared.lock.Lock.TheVariants as lock
 use Rattle.asl_code.specs.declared.path.Op.{Op}
 use Rattle.asl_points_to.specs.Classes.{Classed}
 use Rattle.asl_lock_expr.specs.ClassOf.{base_class, path_class, step_class}
-use Rattle.asl_lock_expr.specs.Links.{View, on, settled, settle}
+use Rattle.asl_lock_expr.specs.Links.{LinkContext, on, settled, settle}
 
 -- one operation more
 pub class_more : (c : Classed) (ops : List Op) (i : ℕ) (d : Op) (class next : Option ℕ) → i < length ops → next ≡ option_and_then (step_class c (get_or ops i d)) class →
@@ -22,7 +22,7 @@ class_append c [] q start = refl
 class_append c (op ∷ p) q start = class_append c p q (option_and_then (step_class c op) start)
 
 -- what an expression becomes, by the class behind the parts of its path
-pub settle_by : (v : View) (base : Base) (front rest : List Op) (effect : Effect) (start middle end : Option ℕ) → start ≡ base_class v.classes v.function base →
+pub settle_by : (v : LinkContext) (base : Base) (front rest : List Op) (effect : Effect) (start middle end : Option ℕ) → start ≡ base_class v.classes v.function base →
     middle ≡ path_class v.classes front start → end ≡ path_class v.classes rest middle →
     settle v (on base (front ++ rest) effect) ≡ settled v (record { base = base; path = front ++ rest }) effect end
 settle_by v base front rest effect start middle end s m e =
@@ -33,16 +33,16 @@ settle_by v base front rest effect start middle end s m e =
     ∙ sym e in
     ap (settled v (record { base = base; path = front ++ rest }) effect) whole
 
-pub settled_short : (v : View) (base : Base) (front rest : List Op) (effect : Effect) (class : ℕ) → length front + length rest ≤ v.longest →
+pub settled_short : (v : LinkContext) (base : Base) (front rest : List Op) (effect : Effect) (class : ℕ) → length front + length rest ≤ v.k_limit →
     settled v (record { base = base; path = front ++ rest }) effect (Some class) ≡ on base (front ++ rest) effect ∷ []
 settled_short v base front rest effect class le =
-    let fits : length (front ++ rest) ≤ v.longest = omega (arith, length-append front rest) in
-    let is : nat_le (length (front ++ rest)) v.longest ≡ true = search (rules, arith) in
+    let fits : length (front ++ rest) ≤ v.k_limit = omega (arith, length-append front rest) in
+    let is : nat_le (length (front ++ rest)) v.k_limit ≡ true = search (rules, arith) in
     ap (λ t. cond t (on base (front ++ rest) effect) (lock.Class class effect) ∷ []) is
 
-pub settled_long : (v : View) (base : Base) (front rest : List Op) (effect : Effect) (class : ℕ) → v.longest < length front + length rest →
+pub settled_long : (v : LinkContext) (base : Base) (front rest : List Op) (effect : Effect) (class : ℕ) → v.k_limit < length front + length rest →
     settled v (record { base = base; path = front ++ rest }) effect (Some class) ≡ lock.Class class effect ∷ []
 settled_long v base front rest effect class lt =
-    let past : v.longest < length (front ++ rest) = omega (arith, length-append front rest) in
-    let is : nat_le (length (front ++ rest)) v.longest ≡ false = search (rules, arith) in
+    let past : v.k_limit < length (front ++ rest) = omega (arith, length-append front rest) in
+    let is : nat_le (length (front ++ rest)) v.k_limit ≡ false = search (rules, arith) in
     ap (λ t. cond t (on base (front ++ rest) effect) (lock.Class class effect) ∷ []) is

@@ -10,7 +10,7 @@ use Rattle.asl_code.specs.declared.instr.Instr.{Instr}
 use Rattle.asl_code.specs.declared.instr.Instr.TheVariants as instr
 use Rattle.asl_lower.specs.Lowered.{Lowered}
 use Rattle.asl_lower.specs.Region.{InBody, owner_of}
-use Rattle.asl_lower.specs.Kept.{IsKept}
+use Rattle.asl_lower.specs.LegalLowering.{IsLegalLowering}
 use Rattle.asl_lower.proofs.Owner.{owner_is}
 use Rattle.asl_lower.proofs.Layouts.{kept_layout}
 use Rattle.asl_points_to.specs.Classes.{Classed, to}
@@ -267,7 +267,7 @@ called_from : (g : ℕ) (i : Instr) → called i ≡ Some g → (to first : ℕ)
 called_from g (instr.Call to first h) e = (let same : h ≡ g = cc in (to, first, ap (instr.Call to first) same))
 called_from g i e = cc
 
-in_body : (l : Lowered) (f pc : ℕ) → IsKept l → pc < length l.code → owner_of l.functions pc ≡ f → InBody l f pc
+in_body : (l : Lowered) (f pc : ℕ) → IsLegalLowering l → pc < length l.code → owner_of l.functions pc ≡ f → InBody l f pc
 in_body l f pc kept lt e = subst (λ n. InBody l n pc) e ((kept_layout l kept).parted.owned pc lt)
 
 body_owner : (l : Lowered) (f pc : ℕ) → InBody l f pc → owner_of l.functions pc ≡ f
@@ -280,7 +280,7 @@ there (y ∷ xs) (suc n) x e = let h = there xs n x e in omega arith
 
 -- the rows that are found for a program
 pub record AreRows (l : Lowered) (c : Classed) (own callers : List (List ℕ)) : Type 0 where
-  pub kept : IsKept l
+  pub kept : IsLegalLowering l
   pub stores : AreListed (stored_class c) l (length l.code) own
   pub calls : AreListed (λ _. called) l (length l.code) callers
 

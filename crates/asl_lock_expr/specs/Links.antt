@@ -18,14 +18,14 @@ use Rattle.asl_lock_expr.specs.ClassOf.{class_of, base_class, step_class}
 
 -- what links are read against: the classes, whether a function may store to a class, how long a path may be, and the
 -- function of the instruction
-pub record View : Type 0 where
+pub record LinkContext : Type 0 where
   pub classes : Classed
   pub stores : ℕ → ℕ → Bool
-  pub longest : ℕ
+  pub k_limit : ℕ
   pub function : ℕ
 
-abbrev pub view : Classed → (ℕ → ℕ → Bool) → ℕ → ℕ → View
-view c stores longest function = record { classes = c; stores = stores; longest = longest; function = function }
+abbrev pub view : Classed → (ℕ → ℕ → Bool) → ℕ → ℕ → LinkContext
+view c stores k_limit function = record { classes = c; stores = stores; k_limit = k_limit; function = function }
 
 -- one of a list of locks
 abbrev pub IsOne : List Lock → Lock → Type 0
@@ -46,11 +46,11 @@ class_lock effect None = []
 class_lock effect (Some class) = lock.Class class effect ∷ []
 
 -- what becomes of an expression of this class: with too long a path it becomes its class, without a class it is dropped
-abbrev pub settled : View → Expr → Effect → Option ℕ → List Lock
+abbrev pub settled : LinkContext → Expr → Effect → Option ℕ → List Lock
 settled v e effect None = []
-settled v e effect (Some class) = (if nat_le (length e.path) v.longest then lock.Expr e effect else lock.Class class effect) ∷ []
+settled v e effect (Some class) = (if nat_le (length e.path) v.k_limit then lock.Expr e effect else lock.Class class effect) ∷ []
 
-abbrev pub settle : View → Lock → List Lock
+abbrev pub settle : LinkContext → Lock → List Lock
 settle v (lock.Expr e effect) = settled v e effect (class_of v.classes v.function e)
 settle v (lock.Class class effect) = lock.Class class effect ∷ []
 settle v (lock.Root effect) = lock.Root effect ∷ []
@@ -96,7 +96,7 @@ abbrev pub replaced : ℕ → Expr → Effect → List Lock → List Lock
 replaced a e effect locks = if is_register a e.base then locks else lock.Expr e effect ∷ []
 
 -- what an expression behind the instruction becomes before it, before that is settled
-abbrev pub before : View → Instr → Expr → Effect → List Lock
+abbrev pub before : LinkContext → Instr → Expr → Effect → List Lock
 before v (instr.Move a b) e effect = replaced a e effect (on (Reg b) e.path effect ∷ [])
 before v (instr.GlobalAddress a g) e effect = replaced a e effect (on (Global g) e.path effect ∷ [])
 before v (instr.FieldAddress a b d) e effect = replaced a e effect (on (Reg b) (Off d ∷ e.path) effect ∷ [])
@@ -118,19 +118,19 @@ before v (instr.Call a b g) e effect =
 before v i e effect = lock.Expr e effect ∷ []
 
 -- the locks before an instruction that a lock behind it becomes
-abbrev pub link : View → Instr → Lock → List Lock
+abbrev pub link : LinkContext → Instr → Lock → List Lock
 link v i (lock.Expr e effect) = flat_map (settle v) (before v i e effect)
 link v i (lock.Class class effect) = lock.Class class effect ∷ []
 link v i (lock.Root effect) = lock.Root effect ∷ []
 
 -- an expression that is not too long, and has a class; any class or root lock
-abbrev pub IsSettled : View → Lock → Type 0
-IsSettled v (lock.Expr e effect) = (nat_le (length e.path) v.longest ≡ true) × ((x : ℕ) × (class_of v.classes v.function e ≡ Some x))
+abbrev pub IsSettled : LinkContext → Lock → Type 0
+IsSettled v (lock.Expr e effect) = (nat_le (length e.path) v.k_limit ≡ true) × ((x : ℕ) × (class_of v.classes v.function e ≡ Some x))
 IsSettled v (lock.Class class effect) = Unit {0}
 IsSettled v (lock.Root effect) = Unit {0}
 
 -- the lock that a load or a store itself needs
-abbrev pub accesses : View → Instr → List Lock
+abbrev pub accesses : LinkContext → Instr → List Lock
 accesses v (instr.Load a b) = settle v (on (Reg b) [] Read)
 accesses v (instr.Store a b) = settle v (on (Reg a) [] Write)
 accesses v i = []
@@ -158,5 +158,5 @@ dereferenced (lock.Class class effect) = []
 dereferenced (lock.Root effect) = []
 
 -- the locks before an instruction that a lock behind it becomes, with their dereferenced prefixes
-abbrev pub IsLinked : View → Instr → Lock → Lock → Type 0
+abbrev pub IsLinked : LinkContext → Instr → Lock → Lock → Type 0
 IsLinked v i l n = (m : Lock) × IsOne (link v i l) m × ((m ≡ n) ⊎ IsOne (dereferenced m) n)

@@ -9,7 +9,7 @@ use Rattle.asl_points_to.specs.Classes.{to}
 use Rattle.asl_lock_expr.specs.declared.touch.Touch.{Touch}
 use Rattle.asl_lock_expr.specs.declared.touch.Touch.TheVariants as touch
 use Rattle.asl_lock_expr.specs.ClassOf.{base_class}
-use Rattle.asl_lock_expr.specs.Links.{View, IsOne, IsSettled, is_register, begins_with_star, goes_through, link, dereferenced}
+use Rattle.asl_lock_expr.specs.Links.{LinkContext, IsOne, IsSettled, is_register, begins_with_star, goes_through, link, dereferenced}
 use Rattle.asl_lock_expr.specs.Meeting.{meets}
 
 -- the register that an instruction sets, and what it stores to
@@ -34,7 +34,7 @@ stored_by (instr.Call a b g) = touch.Call g
 stored_by i = touch.Nothing
 
 -- whether a part of an expression is touched
-abbrev pub is_concerned : View → Touch → Expr → Bool
+abbrev pub is_concerned : LinkContext → Touch → Expr → Bool
 is_concerned v touch.Nothing e = false
 is_concerned v (touch.Register a) e = is_register a e.base
 is_concerned v (touch.Store a) e =
@@ -43,13 +43,13 @@ is_concerned v (touch.Store a) e =
 is_concerned v (touch.Call g) e = goes_through v.classes (v.stores g) (base_class v.classes v.function e.base) e.path
 
 -- what is touched does not concern the lock
-abbrev pub IsClear : View → Touch → Lock → Type 0
+abbrev pub IsClear : LinkContext → Touch → Lock → Type 0
 IsClear v t (lock.Expr e effect) = IsSettled v (lock.Expr e effect) × (is_concerned v t e ≡ false)
 IsClear v t (lock.Class class effect) = Unit {0}
 IsClear v t (lock.Root effect) = Unit {0}
 
 -- the lock stays as it is over the instruction, and its dereferenced prefixes too
-pub record Stays (v : View) (i : Instr) (m : Lock) : Type 0 where
+pub record Stays (v : LinkContext) (i : Instr) (m : Lock) : Type 0 where
   pub itself : (n : Lock) → IsOne (link v i m) n → m ≡ n
   pub there : IsOne (link v i m) m
   pub fronts : (d : Lock) → IsOne (dereferenced m) d → IsOne (link v i d) d

@@ -17,7 +17,7 @@ ghost use Rattle.asl_lower.specs.Region.{InBody, CallsAt};
 ghost use Rattle.asl_points_to.specs.Classes.{Classed};
 ghost use Rattle.asl_lock_expr.specs.Expression.{Seen, pointed, base_cell, path_cell, cell_denoted};
 ghost use Rattle.asl_lock_expr.specs.ClassOf.{path_class, class_of, MayStore};
-ghost use Rattle.asl_lock_expr.specs.Links.{View, IsOne, IsSettled, on, hits, begins_with_star, goes_through, link, settle, prefixes, dereferenced};
+ghost use Rattle.asl_lock_expr.specs.Links.{LinkContext, IsOne, IsSettled, on, hits, begins_with_star, goes_through, link, settle, prefixes, dereferenced};
 ghost use Rattle.asl_lock_expr.specs.Partings.{PartsAtStar};
 ghost use Rattle.asl_lock_expr.specs.Agrees.{HeapAgrees, IsWrite};
 ghost use Rattle.asl_lock_expr.specs.Order.{AreInOrder};
@@ -73,18 +73,18 @@ pub fn links_ask_at_each_star()
 
 /// What is linked is no longer than it may be, and has a class.
 pub fn links_are_settled()
-    ensures { (v : View) (i : Instr) (l n : Lock) → IsOne (link v i l) n → IsSettled v n }
+    ensures { (v : LinkContext) (i : Instr) (l n : Lock) → IsOne (link v i l) n → IsSettled v n }
 {}
 
 /// Settling never drops an expression that has a class: it stays, or its class comes in its place.
 pub fn expressions_with_a_class_are_left()
-    ensures { (v : View) (e : Expr) (effect : Effect) (x : ℕ) → class_of v.classes v.function e ≡ Some x
+    ensures { (v : LinkContext) (e : Expr) (effect : Effect) (x : ℕ) → class_of v.classes v.function e ≡ Some x
         → IsOne (settle v (on e.base e.path effect)) (on e.base e.path effect) ⊎ IsOne (settle v (on e.base e.path effect)) (ClassLock x effect) }
 {}
 
 /// The dereferenced prefixes of what a call leaves are left too.
 pub fn prefixes_of_what_a_call_leaves_are_left()
-    ensures { (v : View) (a first g : ℕ) (m : Lock) (e k : Expr) (effect other : Effect)
+    ensures { (v : LinkContext) (a first g : ℕ) (m : Lock) (e k : Expr) (effect other : Effect)
         → IsOne (link v (Call a first g) m) (on e.base e.path effect) → IsOne (dereferenced (on e.base e.path effect)) (on k.base k.path other)
         → IsOne (link v (Call a first g) (on k.base k.path other)) (on k.base k.path other) }
 {}

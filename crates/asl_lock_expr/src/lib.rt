@@ -20,7 +20,7 @@ pub use laws::{
     prefixes_of_what_a_call_leaves_are_left, stores_elsewhere_move_no_path,
     stores_move_paths_as_links_say, written_classes_pass_on,
 };
-pub use link::{View, add_accesses, add_dereferenced, add_entered, add_links};
+pub use link::{LinkContext, add_accesses, add_dereferenced, add_entered, add_links};
 pub use linked::{links, prefixes};
 pub use order::{add_in_order, is_one};
 pub use stay::stays;

@@ -16,13 +16,13 @@ use std::alloc::AllocError;
 
 /// What links are read against.
 #[derive(Clone, Copy)]
-pub struct View<'a> {
+pub struct LinkContext<'a> {
     /// The classes of the program.
     pub classes: &'a Classes,
     /// The classes that its functions may store to.
     pub writes: &'a Writes,
     /// The most operations that a path keeps, at most eight.
-    pub longest: usize,
+    pub k_limit: usize,
     /// The function of the instruction.
     pub function: u16,
 }
@@ -34,12 +34,12 @@ pub struct View<'a> {
 ///
 /// A growth was refused.
 pub fn add_links(
-    view: &View,
+    view: &LinkContext,
     instr: &Instr,
     lock: &Lock,
     into: &mut Vec<Lock>,
 ) -> Result<(), AllocError>
-    requires { view.now.longest ≤ 8 }
+    requires { view.now.k_limit ≤ 8 }
     ensures ok { OnOk result (into.new.items ≡ into.old.items ++ link (seen view.now) instr.now lock.now) }
     ensures err { OnErr result (HasGrown into.old.items into.new.items) }
 {
@@ -55,8 +55,12 @@ pub fn add_links(
 /// # Errors
 ///
 /// A growth was refused.
-pub fn add_accesses(view: &View, instr: &Instr, into: &mut Vec<Lock>) -> Result<(), AllocError>
-    requires { view.now.longest ≤ 8 }
+pub fn add_accesses(
+    view: &LinkContext,
+    instr: &Instr,
+    into: &mut Vec<Lock>,
+) -> Result<(), AllocError>
+    requires { view.now.k_limit ≤ 8 }
     ensures ok { OnOk result (into.new.items ≡ into.old.items ++ accesses (seen view.now) instr.now) }
     ensures err { OnErr result (HasGrown into.old.items into.new.items) }
 {
@@ -78,13 +82,13 @@ pub fn add_accesses(view: &View, instr: &Instr, into: &mut Vec<Lock>) -> Result<
 ///
 /// A growth was refused.
 pub fn add_entered(
-    view: &View,
+    view: &LinkContext,
     first: u8,
     params: u8,
     lock: &Lock,
     into: &mut Vec<Lock>,
 ) -> Result<(), AllocError>
-    requires short { view.now.longest ≤ 8 }
+    requires short { view.now.k_limit ≤ 8 }
     requires registers { first + params ≤ 256 }
     ensures ok { OnOk result (into.new.items ≡ into.old.items ++ flat_map (settle (seen view.now)) (renamed first params lock.now)) }
     ensures err { OnErr result (HasGrown into.old.items into.new.items) }
@@ -134,13 +138,13 @@ fn add_prefixes(expr: &Expr, into: &mut Vec<Lock>) -> Result<(), AllocError>
 
 /// Adds what an expression behind the instruction becomes before it.
 fn add_before(
-    view: &View,
+    view: &LinkContext,
     instr: &Instr,
     expr: &Expr,
     effect: Effect,
     into: &mut Vec<Lock>,
 ) -> Result<(), AllocError>
-    requires { view.now.longest ≤ 8 }
+    requires { view.now.k_limit ≤ 8 }
     ensures ok { OnOk result (into.new.items
         ≡ into.old.items ++ flat_map (settle (seen view.now)) (before (seen view.now) instr.now expr.now effect)) }
     ensures err { OnErr result (HasGrown into.old.items into.new.items) }
@@ -179,7 +183,7 @@ fn add_before(
 
 /// An expression on register `to` becomes one on register `from`, with the operation before its path; every other stays.
 fn add_gone_on(
-    view: &View,
+    view: &LinkContext,
     to: u8,
     from: u8,
     op: Op,
@@ -187,7 +191,7 @@ fn add_gone_on(
     effect: Effect,
     into: &mut Vec<Lock>,
 ) -> Result<(), AllocError>
-    requires { view.now.longest ≤ 8 }
+    requires { view.now.k_limit ≤ 8 }
     ensures ok { OnOk result (into.new.items
         ≡ into.old.items ++ flat_map (settle (seen view.now)) (replaced to expr.now effect (on (Base.Reg from) (op ∷ expr.now.path) effect ∷ []))) }
     ensures err { OnErr result (HasGrown into.old.items into.new.items) }
@@ -197,7 +201,7 @@ fn add_gone_on(
 
 /// An expression on register `to` becomes one on `base`, with `front` before its path; every other stays.
 fn add_replaced(
-    view: &View,
+    view: &LinkContext,
     to: u8,
     base: Base,
     front: &[Op],
@@ -205,7 +209,7 @@ fn add_replaced(
     effect: Effect,
     into: &mut Vec<Lock>,
 ) -> Result<(), AllocError>
-    requires short { view.now.longest ≤ 8 }
+    requires short { view.now.k_limit ≤ 8 }
     requires front { length front.now ≤ 1 }
     ensures ok { OnOk result (into.new.items
         ≡ into.old.items ++ flat_map (settle (seen view.now)) (replaced to expr.now effect (on base (front.now ++ expr.now.path) effect ∷ []))) }
@@ -221,13 +225,13 @@ fn add_replaced(
 
 /// An expression on register `to` is dropped; every other stays.
 fn add_other(
-    view: &View,
+    view: &LinkContext,
     to: u8,
     expr: &Expr,
     effect: Effect,
     into: &mut Vec<Lock>,
 ) -> Result<(), AllocError>
-    requires { view.now.longest ≤ 8 }
+    requires { view.now.k_limit ≤ 8 }
     ensures ok { OnOk result (into.new.items
         ≡ into.old.items ++ flat_map (settle (seen view.now)) (replaced to expr.now effect [])) }
     ensures err { OnErr result (HasGrown into.old.items into.new.items) }
@@ -242,14 +246,14 @@ fn add_other(
 /// The expression stays, except where its path begins with `*` on the register of the address; and for each `*` whose
 /// address has the class that is stored to, it may go on from the stored value.
 fn add_stored(
-    view: &View,
+    view: &LinkContext,
     address: u8,
     from: u8,
     expr: &Expr,
     effect: Effect,
     into: &mut Vec<Lock>,
 ) -> Result<(), AllocError>
-    requires { view.now.longest ≤ 8 }
+    requires { view.now.k_limit ≤ 8 }
     ensures ok { OnOk result (into.new.items
         ≡ into.old.items ++ flat_map (settle (seen view.now)) (before (seen view.now) (Instr.Store address from) expr.now effect)) }
     ensures err { OnErr result (HasGrown into.old.items into.new.items) }
@@ -262,14 +266,14 @@ fn add_stored(
 }
 
 fn add_hits(
-    view: &View,
+    view: &LinkContext,
     address: u8,
     from: u8,
     expr: &Expr,
     effect: Effect,
     into: &mut Vec<Lock>,
 ) -> Result<(), AllocError>
-    requires { view.now.longest ≤ 8 }
+    requires { view.now.k_limit ≤ 8 }
     ensures ok { OnOk result (into.new.items
         ≡ into.old.items ++ flat_map (settle (seen view.now))
         (hits view.now.classes.now (to view.now.classes.now view.now.function address) from effect
@@ -291,14 +295,14 @@ fn add_hits(
 /// An expression on the register of the result, or one that goes through a class that the callee may store to, becomes
 /// its class; every other stays.
 fn add_called(
-    view: &View,
+    view: &LinkContext,
     to: u8,
     callee: u16,
     expr: &Expr,
     effect: Effect,
     into: &mut Vec<Lock>,
 ) -> Result<(), AllocError>
-    requires { view.now.longest ≤ 8 }
+    requires { view.now.k_limit ≤ 8 }
     ensures ok { OnOk result (into.new.items
         ≡ into.old.items ++ flat_map (settle (seen view.now))
         (if is_register to expr.now.base
@@ -316,7 +320,7 @@ fn add_called(
 }
 
 /// Whether a `*` of the path is at an address of a class that the function may store to.
-pub fn goes_through(view: &View, callee: u16, expr: &Expr) -> bool
+pub fn goes_through(view: &LinkContext, callee: u16, expr: &Expr) -> bool
     ensures { result ≡ goes_through view.now.classes.now ((seen view.now).stores callee)
         (base_class view.now.classes.now view.now.function expr.now.base) expr.now.path }
 {
@@ -356,7 +360,7 @@ fn is_stored_to(writes: &Writes, function: u16, class: Option<u16>) -> bool
 
 /// Adds the class of the expression.
 fn add_class(
-    view: &View,
+    view: &LinkContext,
     expr: &Expr,
     effect: Effect,
     into: &mut Vec<Lock>,
@@ -373,14 +377,14 @@ fn add_class(
 
 /// Adds what becomes of the expression on the base, with the path of `front` and then `rest`.
 fn add_on(
-    view: &View,
+    view: &LinkContext,
     base: Base,
     front: &[Op],
     rest: &[Op],
     effect: Effect,
     into: &mut Vec<Lock>,
 ) -> Result<(), AllocError>
-    requires short { view.now.longest ≤ 8 }
+    requires short { view.now.k_limit ≤ 8 }
     requires room { length front.now + length rest.now ≤ 9 }
     ensures ok { OnOk result (into.new.items
         ≡ into.old.items ++ settle (seen view.now) (on base (front.now ++ rest.now) effect)) }
@@ -393,14 +397,20 @@ fn add_on(
 }
 
 /// The lock on the expression; with too long a path that on its class; without a class none.
-fn settled(view: &View, base: Base, front: &[Op], rest: &[Op], effect: Effect) -> Option<Lock>
-    requires short { view.now.longest ≤ 8 }
+fn settled(
+    view: &LinkContext,
+    base: Base,
+    front: &[Op],
+    rest: &[Op],
+    effect: Effect,
+) -> Option<Lock>
+    requires short { view.now.k_limit ≤ 8 }
     requires room { length front.now + length rest.now ≤ 9 }
     ensures { option_to_list result ≡ settle (seen view.now) (on base (front.now ++ rest.now) effect) }
 {
     let start = base_class(view.classes, view.function, base);
     let class = path_class(view.classes, path_class(view.classes, start, front), rest)?;
-    if front.len() + rest.len() <= view.longest {
+    if front.len() + rest.len() <= view.k_limit {
         Some(lock_on(base, front, rest, effect))
     } else {
         Some(Lock::Class(class, effect))

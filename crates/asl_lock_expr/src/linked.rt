@@ -7,7 +7,7 @@ ghost use Rattle.asl_lock_expr.specs.Links.{view, IsOne, IsLinked, dereferenced}
 ghost use Rattle.asl_lock_expr.specs.Order.{AreInOrder};
 ghost use Rattle.asl_lock_expr.specs.Stores.{stores};
 
-use crate::link::{View, add_dereferenced, add_links};
+use crate::link::{LinkContext, add_dereferenced, add_links};
 use crate::order::add_in_order;
 use crate::written::Writes;
 use asl_code::Lock;
@@ -37,10 +37,10 @@ pub fn links(
         → IfOk result (λ v. (n : _) → IsOne v.items n ↔ IsLinked (view classes.now (stores writes.now) k function) i lock.now n) }
 {
     let code = lowering.code();
-    let view = View {
+    let view = LinkContext {
         classes,
         writes,
-        longest: k as usize,
+        k_limit: k as usize,
         function: lowering.owner(pc as u16),
     };
     let mut linked = Vec::new(alloc);

@@ -9,12 +9,12 @@ ghost use Rattle.asl_lock_expr.specs.LinksView.{seen};
 ghost use Rattle.asl_lock_expr.specs.Meeting.{meets};
 
 use crate::class::{base_class, class_of, next_class};
-use crate::link::{View, begins_with_star, goes_through, is_hit, is_register};
+use crate::link::{LinkContext, begins_with_star, goes_through, is_hit, is_register};
 use asl_code::{Expr, Instr, Lock};
 
 /// Whether the lock behind the instruction stays as it is before it, and becomes no other: a lock on the root or a class does,
 /// and so does an expression that has a class and no path that is too long, where the instruction does not touch it.
-pub fn stays(view: &View, instr: &Instr, lock: &Lock) -> bool
+pub fn stays(view: &LinkContext, instr: &Instr, lock: &Lock) -> bool
     ensures stays { IsTrue result → link (seen view.now) instr.now lock.now ≡ lock.now ∷ [] }
     ensures untouched { (e : AnyExpr) (effect : AnyEffect) → lock.now ≡ Lock.Expr e effect → IsSettled (seen view.now) lock.now
         → before (seen view.now) instr.now e effect ≡ lock.now ∷ [] → IsTrue result }
@@ -27,15 +27,15 @@ pub fn stays(view: &View, instr: &Instr, lock: &Lock) -> bool
 }
 
 /// Whether the expression is not too long, and has a class.
-pub fn is_settled(view: &View, expr: &Expr) -> bool
+pub fn is_settled(view: &LinkContext, expr: &Expr) -> bool
     ensures { (effect : AnyEffect) → IsTrue result ↔ IsSettled (seen view.now) (Lock.Expr expr.now effect) }
 {
-    expr.path.len() <= view.longest && class_of(view.classes, view.function, expr).is_some()
+    expr.path.len() <= view.k_limit && class_of(view.classes, view.function, expr).is_some()
 }
 
 /// Whether the instruction leaves the expression as it is: it sets another register, and it stores to no cell that the
 /// expression reads.
-fn is_untouched(view: &View, instr: &Instr, expr: &Expr) -> bool
+fn is_untouched(view: &LinkContext, instr: &Instr, expr: &Expr) -> bool
     ensures { (effect : AnyEffect) → IsTrue result ↔ (before (seen view.now) instr.now expr.now effect ≡ Lock.Expr expr.now effect ∷ []) }
 {
     match *instr {
@@ -64,7 +64,7 @@ fn is_untouched(view: &View, instr: &Instr, expr: &Expr) -> bool
 }
 
 /// Whether a store at the address may write a cell that the expression reads.
-pub fn is_stored_over(view: &View, address: u8, expr: &Expr) -> bool
+pub fn is_stored_over(view: &LinkContext, address: u8, expr: &Expr) -> bool
     ensures { result ≡ ((is_register address expr.now.base && begins_with_star expr.now.path)
         || meets view.now.classes.now (to view.now.classes.now view.now.function address)
         (base_class view.now.classes.now view.now.function expr.now.base) expr.now.path) }
@@ -74,7 +74,7 @@ pub fn is_stored_over(view: &View, address: u8, expr: &Expr) -> bool
 }
 
 /// Whether a `*` of the path is at an address of the class that the register points to.
-fn meets(view: &View, address: u8, expr: &Expr) -> bool
+fn meets(view: &LinkContext, address: u8, expr: &Expr) -> bool
     ensures { result ≡ meets view.now.classes.now (to view.now.classes.now view.now.function address)
         (base_class view.now.classes.now view.now.function expr.now.base) expr.now.path }
 {

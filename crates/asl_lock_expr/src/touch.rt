@@ -5,7 +5,7 @@ ghost use Rattle.asl_lock_expr.specs.ClassOf.{base_class};
 ghost use Rattle.asl_lock_expr.specs.LinksView.{seen};
 ghost use Rattle.asl_lock_expr.specs.Touches.{IsClear, set_by, stored_by, is_concerned};
 
-use crate::link::{View, goes_through, is_register};
+use crate::link::{LinkContext, goes_through, is_register};
 use crate::stay::{is_settled, is_stored_over};
 use asl_code::{Expr, Instr, Lock};
 
@@ -78,7 +78,7 @@ pub fn stored_by(instr: Instr) -> Touch
 /// Whether what is touched does not concern the lock: a lock on the root or a class, and an expression that has a class and no
 /// path that is too long, none of whose parts is touched. An instruction neither of whose two touches concerns a lock leaves
 /// it, and its dereferenced prefixes, as they are.
-pub fn is_clear(view: &View, touch: Touch, lock: &Lock) -> bool
+pub fn is_clear(view: &LinkContext, touch: Touch, lock: &Lock) -> bool
     ensures { IsTrue result → IsClear (seen view.now) touch lock.now }
 {
     match lock {
@@ -88,7 +88,7 @@ pub fn is_clear(view: &View, touch: Touch, lock: &Lock) -> bool
 }
 
 /// Whether a part of the expression is touched.
-fn is_concerned(view: &View, touch: Touch, expr: &Expr) -> bool
+fn is_concerned(view: &LinkContext, touch: Touch, expr: &Expr) -> bool
     ensures { result ≡ is_concerned (seen view.now) touch expr.now }
 {
     match touch {

@@ -17,7 +17,7 @@ use Rattle.asl_lower.specs.Region.{IsBareAccess}
 use Rattle.asl_lower.specs.Layout.{functions_code, functions_sections, functions_table, lowering_of}
 use Rattle.asl_lower.specs.OutputView.{Adds, place_of}
 use Rattle.asl_lower.specs.Refused.{first_crowded}
-use Rattle.asl_lower.specs.Kept.{IsKept, lowered_of}
+use Rattle.asl_lower.specs.LegalLowering.{IsLegalLowering, lowered_of}
 use Rattle.asl_lower.proofs.Laid.{lowering_of_is_lowering}
 use Rattle.asl_lower.proofs.Emits.{place_same}
 use Rattle.asl_lower.proofs.Listed.{none_crowded}
@@ -58,7 +58,7 @@ pub emitted_lowering : (is : List Item) (l : Lowered) → l ≡ lowering_of is �
 emitted_lowering is l e =
     let P : Lowered → Type 0 = IsLowering is in subst P (sym e) (lowering_of_is_lowering is)
 
-pub emitted_kept : (is : List Item) (l : Lowered) → l ≡ lowering_of is → ∥ IsParsed is ∥₁ → first_crowded 0 (functions_of is) ≡ None → length l.code ≤ 65535 → ((function pc : ℕ) → ¬ IsBareAccess l function pc) → IsKept l
+pub emitted_kept : (is : List Item) (l : Lowered) → l ≡ lowering_of is → ∥ IsParsed is ∥₁ → first_crowded 0 (functions_of is) ≡ None → length l.code ≤ 65535 → ((function pc : ℕ) → ¬ IsBareAccess l function pc) → IsLegalLowering l
 emitted_kept is l e parsed few size inside =
     let P : List entry.Function → Type 0 = All (λ (f : entry.Function). f.regs ≤ 64) in
     record {

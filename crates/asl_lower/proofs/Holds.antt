@@ -13,7 +13,7 @@ use Rattle.std.proofs.lemmas.List.{take-take, take_all}
 use Rattle.std.proofs.lemmas.List.Sums.{sum_by-take-le}
 use Rattle.asl_lower.specs.Place.{Place, origin, past_function, past_functions}
 use Rattle.asl_lower.specs.Lowered.{Lowered, IsLowering, AreLoweredFunctions, end_of, entry_of}
-use Rattle.asl_lower.specs.Region.{open_at, open_behind, sites_before, sections_before, start_of, returned, returned_by, release_of, InBody, InSection, GoesOn}
+use Rattle.asl_lower.specs.Region.{open_at, open_behind, sites_before, sections_before, start_of, returned, returned_by, release_of, InBody, InSection, FlowsTo}
 use Rattle.asl_lower.specs.Facts.{IsParted, IsNested, HasSections, ReturnsLast, StaysInside, IsNumbered}
 use Rattle.asl_lower.proofs.Grows.{Precedes, by_function}
 use Rattle.asl_lower.proofs.Counts.{sum_more}
@@ -38,7 +38,7 @@ body_in_code : (is : List Item) (l : Lowered) → IsLowering is l → (n pc : �
 body_in_code is l h n pc b = omega (arith, b.high, b.placed.after.pc, h.code)
 
 -- the steps inside a body
-nested_steps : (is : List Item) (l : Lowered) → IsLowering is l → (pc to : ℕ) (i : Instr) → slice_get l.code pc ≡ Some i → GoesOn i pc to → open_at l.code to ≡ open_behind (Some i) (open_at l.code pc)
+nested_steps : (is : List Item) (l : Lowered) → IsLowering is l → (pc to : ℕ) (i : Instr) → slice_get l.code pc ≡ Some i → FlowsTo i pc to → open_at l.code to ≡ open_behind (Some i) (open_at l.code pc)
 nested_steps is l h pc to i e g =
     let b = body_at is l h pc (slice_get_within l.code pc i e) in
     (body_moves is l b.0 pc to i b.1 e g).opened
@@ -207,7 +207,7 @@ lowering_returns is l h =
     }
 
 -- a section that is open stays open where control continues, but for its `rel`
-section_stays : (is : List Item) (l : Lowered) → IsLowering is l → (pc to number : ℕ) (i : Instr) (s : Section) → slice_get l.sections number ≡ Some s → InSection l number pc → pc ≢ s.release → slice_get l.code pc ≡ Some i → GoesOn i pc to → InSection l number to
+section_stays : (is : List Item) (l : Lowered) → IsLowering is l → (pc to number : ℕ) (i : Instr) (s : Section) → slice_get l.sections number ≡ Some s → InSection l number pc → pc ≢ s.release → slice_get l.code pc ≡ Some i → FlowsTo i pc to → InSection l number to
 section_stays is l h pc to number i s e x other f g =
     let low : pc < length l.code = slice_get_within l.code pc i f in
     let b = body_at is l h pc low in

@@ -6,7 +6,7 @@ use Rattle.asl_code.specs.declared.instr.Instr.{Instr}
 use Rattle.asl_code.specs.declared.instr.Instr.TheVariants as instr
 use Rattle.asl_lower.specs.declared.section.Section.{Section}
 use Rattle.asl_lower.specs.Lowered.{Lowered}
-use Rattle.asl_lower.specs.Region.{open_at, open_behind, without_innermost, is_among, release_of, InBody, InSection, GoesOn}
+use Rattle.asl_lower.specs.Region.{open_at, open_behind, without_innermost, is_among, release_of, InBody, InSection, FlowsTo}
 use Rattle.asl_lower.specs.Facts.{HasLayout}
 use Rattle.asl_lower.specs.Regions.{Region, Body, Inside, IsIn, IsEnd, outermost, AreDistinct}
 use Rattle.asl_lower.proofs.Owner.{from_mapped}
@@ -106,7 +106,7 @@ region_body l lay (Inside n) f pc h =
     subst P h.function (section_body l lay n pc s)
 
 -- where control continues from a region is a point of it, or its end
-pub region_goes_on : (l : Lowered) → HasLayout l → (r : Region) (f pc to : ℕ) (i : Instr) → IsIn l r f pc → slice_get l.code pc ≡ Some i → GoesOn i pc to → IsIn l r f to ⊎ IsEnd l r to
+pub region_goes_on : (l : Lowered) → HasLayout l → (r : Region) (f pc to : ℕ) (i : Instr) → IsIn l r f pc → slice_get l.code pc ≡ Some i → FlowsTo i pc to → IsIn l r f to ⊎ IsEnd l r to
 region_goes_on l lay (Body g) f pc to i h e goes = inl (h.0, h.1, lay.inside.body pc to g i h.2 e goes)
 region_goes_on l lay (Inside n) f pc to i h e goes =
     let s : InSection l n pc = (h.is, h.in_table, record { behind = h.behind; within = omega (arith, h.ahead) }) in
@@ -173,6 +173,6 @@ outermost_behind l lay pc n instr.Release e out other =
     outermost_released l lay pc n (open_at l.code pc) e refl out other
 outermost_behind l lay pc n i e out other = out
 
-pub outermost_stays : (l : Lowered) → HasLayout l → (pc to n : ℕ) (i : Instr) → slice_get l.code pc ≡ Some i → GoesOn i pc to → outermost (open_at l.code pc) ≡ Some n → (release_of l n ≡ Some pc → ⊥) → outermost (open_at l.code to) ≡ Some n
+pub outermost_stays : (l : Lowered) → HasLayout l → (pc to n : ℕ) (i : Instr) → slice_get l.code pc ≡ Some i → FlowsTo i pc to → outermost (open_at l.code pc) ≡ Some n → (release_of l n ≡ Some pc → ⊥) → outermost (open_at l.code to) ≡ Some n
 outermost_stays l lay pc to n i e goes out other =
     ap outermost (lay.nested.steps pc to i e goes) ∙ outermost_behind l lay pc n i e out other

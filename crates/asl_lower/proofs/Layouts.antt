@@ -5,7 +5,7 @@ use Rattle.asl_syntax.specs.Parsed.{IsParsed}
 use Rattle.std.proofs.Common.{List}
 use Rattle.asl_lower.specs.Lowered.{Lowered, IsLowering}
 use Rattle.asl_lower.specs.Facts.{HasLayout}
-use Rattle.asl_lower.specs.Kept.{IsKept}
+use Rattle.asl_lower.specs.LegalLowering.{IsLegalLowering}
 use Rattle.asl_lower.proofs.Holds.{lowering_parted, lowering_nested, lowering_sections, lowering_returns, lowering_stays, lowering_numbered}
 use Rattle.asl_lower.proofs.Ruled.{lowering_operands}
 use Rattle.asl_lower.proofs.Limited.{lowering_limits, lowering_main}
@@ -25,7 +25,7 @@ lowering_layout is l parsed h =
       main = lowering_main is l parsed h;
     }
 
-pub kept_layout : (l : Lowered) → IsKept l → HasLayout l
+pub kept_layout : (l : Lowered) → IsLegalLowering l → HasLayout l
 kept_layout l k = ∥∥₁_elim k.program (HasLayout-prop l) (λ p. lowering_layout p.0 l p.1 p.2)
 
 -- also where the text that spells the program is not at hand

@@ -7,12 +7,12 @@ use Rattle.asl_syntax.specs.Tree.{Function, Item}
 use Rattle.asl_lower.specs.Names.{Scope, scope_of, register}
 use Rattle.asl_lower.specs.Place.{Place, past_block}
 use Rattle.asl_lower.specs.Lowered.{Lowered}
-use Rattle.asl_lower.specs.Region.{open_at, open_behind, GoesOn}
+use Rattle.asl_lower.specs.Region.{open_at, open_behind, FlowsTo}
 use Rattle.asl_lower.proofs.Stands.{is_plain, Stands, Plainly, Makes, Invokes, Jumps, Tests, Enters, Leaves, block_stands}
 use Rattle.asl_lower.proofs.Bodies.{Body}
 
 -- a plain instruction continues to the next and keeps what is open
-pub plain_goes : (i : Instr) (pc to : ℕ) → IsTrue (is_plain i) → GoesOn i pc to → to ≡ suc pc
+pub plain_goes : (i : Instr) (pc to : ℕ) → IsTrue (is_plain i) → FlowsTo i pc to → to ≡ suc pc
 plain_goes (instr.New r c n) pc to t g = absurd (false≢true t)
 plain_goes (instr.Jump n) pc to t g = absurd (false≢true t)
 plain_goes (instr.JumpIfZero r n) pc to t g = absurd (false≢true t)
@@ -49,7 +49,7 @@ leap l lo hi pc to target i k low high o e =
     record { low = omega arith; high = omega arith; opened = ap (λ (n : ℕ). open_at l.code n) e ∙ o ∙ sym (k (open_at l.code pc)) }
 
 -- where control continues from what stands at a pc
-moves_at : (sc : Scope) (l : Lowered) (lo hi : Place) (pc to : ℕ) → lo.pc ≤ pc → pc < hi.pc → Stands sc l lo hi pc → (i : Instr) × (slice_get l.code pc ≡ Some i) × (GoesOn i pc to → Motion l lo hi pc to i)
+moves_at : (sc : Scope) (l : Lowered) (lo hi : Place) (pc to : ℕ) → lo.pc ≤ pc → pc < hi.pc → Stands sc l lo hi pc → (i : Instr) × (slice_get l.code pc ≡ Some i) × (FlowsTo i pc to → Motion l lo hi pc to i)
 moves_at sc l lo hi pc to low high (Plainly i e t) =
     (i, e, λ g. onward l lo hi pc to i low high e (plain_goes i pc to t g))
 moves_at sc l lo hi pc to low high (Makes r c n e f g k) =
@@ -87,11 +87,11 @@ body_stands is l n pc b =
     ]
 
 -- control stays in the body, before or at its `ret`
-pub body_moves : (is : List Item) (l : Lowered) (n pc to : ℕ) (i : Instr) → (b : Body is l n pc) → slice_get l.code pc ≡ Some i → GoesOn i pc to → Motion l b.placed.place (last_of b.placed.function b.placed.place) pc to i
+pub body_moves : (is : List Item) (l : Lowered) (n pc to : ℕ) (i : Instr) → (b : Body is l n pc) → slice_get l.code pc ≡ Some i → FlowsTo i pc to → Motion l b.placed.place (last_of b.placed.function b.placed.place) pc to i
 body_moves is l n pc to i b e g =
     let w = b.placed in
     let Goal : Instr → Type 0 = λ j. Motion l w.place (last_of w.function w.place) pc to j in
-    let Goes : Instr → Type 0 = λ j. GoesOn j pc to in
+    let Goes : Instr → Type 0 = λ j. FlowsTo j pc to in
     elim (body_stands is l n pc b) [
       | inl s ↦ elim (cases_lt pc (last_of w.function w.place).pc) [
         | inl inside ↦ (let m = moves_at (scope_of is n w.function) l w.place (last_of w.function w.place) pc to b.low inside s in

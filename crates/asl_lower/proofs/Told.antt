@@ -8,7 +8,7 @@ use Rattle.asl_code.specs.declared.image.Function as entry
 use Rattle.asl_code.specs.declared.instr.Instr.{Instr}
 use Rattle.asl_code.specs.declared.instr.Instr.TheVariants as instr
 use Rattle.asl_lower.specs.Lowered.{Lowered}
-use Rattle.asl_lower.specs.Region.{start_of, owner_of, returned, InBody, GoesOn, successors}
+use Rattle.asl_lower.specs.Region.{start_of, owner_of, returned, InBody, FlowsTo, successors}
 use Rattle.asl_lower.specs.Facts.{HasLayout}
 use Rattle.std.proofs.lemmas.Option.{slice_get_within, slice_get-get_or}
 use Rattle.asl_lower.proofs.Reaching.{body_within}
@@ -67,7 +67,7 @@ returned_each l lay number pc from b e =
     cc
 
 -- where control continues is what is listed
-pub listed_goes : (i : Instr) (pc to : ℕ) → Contains (successors i pc) to → GoesOn i pc to
+pub listed_goes : (i : Instr) (pc to : ℕ) → Contains (successors i pc) to → FlowsTo i pc to
 listed_goes (instr.Jump target) pc to c =
     elim (member_cases to target [] c) [ inl e ↦ sym e | inr old ↦ absurd (no_member to old) ]
 listed_goes (instr.JumpIfZero test target) pc to c =
@@ -82,7 +82,7 @@ listed_goes i pc to c =
 member : (x y : ℕ) (xs : List ℕ) → y ≡ x → Contains (y ∷ xs) x
 member x y xs e = let P : ℕ → Type 0 = λ n. Contains (n ∷ xs) x in subst P (sym e) (here x xs)
 
-pub goes_listed : (i : Instr) (pc to : ℕ) → GoesOn i pc to → Contains (successors i pc) to
+pub goes_listed : (i : Instr) (pc to : ℕ) → FlowsTo i pc to → Contains (successors i pc) to
 goes_listed (instr.Jump target) pc to g = member to target [] (sym g)
 goes_listed (instr.JumpIfZero test target) pc to g =
     elim g [

@@ -6,7 +6,7 @@ use Rattle.asl_code.specs.declared.instr.Instr.{Instr}
 use Rattle.asl_code.specs.declared.instr.Instr.TheVariants as instr
 use Rattle.asl_lower.specs.declared.section.Section.{Section}
 use Rattle.asl_lower.specs.Lowered.{Lowered}
-use Rattle.asl_lower.specs.Region.{open_at, open_behind, is_among, sites_before, sections_before, start_of, owner_of, returned, acquire_of, release_of, InBody, InSection, IsSection, GoesOn}
+use Rattle.asl_lower.specs.Region.{open_at, open_behind, is_among, sites_before, sections_before, start_of, owner_of, returned, acquire_of, release_of, InBody, InSection, IsSection, FlowsTo}
 use Rattle.asl_lower.specs.Operands.{AreOperandsThere}
 use Rattle.asl_lower.specs.Limits.{HasMain, KeepsLimits}
 
@@ -20,7 +20,7 @@ pub record IsParted (l : Lowered) : Type 0 where
 -- what is open where control continues is what the instruction leaves open: an `acq` opens its section, a `rel` closes
 -- the innermost, and all others change nothing; nothing is open where a body begins and at a `ret`
 pub record IsNested (l : Lowered) : Type 0 where
-  pub steps : (pc to : ℕ) (i : Instr) → slice_get l.code pc ≡ Some i → GoesOn i pc to → open_at l.code to ≡ open_behind (Some i) (open_at l.code pc)
+  pub steps : (pc to : ℕ) (i : Instr) → slice_get l.code pc ≡ Some i → FlowsTo i pc to → open_at l.code to ≡ open_behind (Some i) (open_at l.code pc)
   pub leaves : (pc : ℕ) → slice_get l.code pc ≡ Some instr.Release → open_at l.code pc ≢ []
   pub starts : (number : ℕ) (f : entry.Function) → slice_get l.functions number ≡ Some f → open_at l.code (start_of l.functions number) ≡ []
   pub returns : (pc from : ℕ) → slice_get l.code pc ≡ Some (instr.Return from) → open_at l.code pc ≡ []
@@ -40,8 +40,8 @@ pub record ReturnsLast (l : Lowered) : Type 0 where
 
 -- control stays in the body, and in a section until its `rel`
 pub record StaysInside (l : Lowered) : Type 0 where
-  pub body : (pc to number : ℕ) (i : Instr) → InBody l number pc → slice_get l.code pc ≡ Some i → GoesOn i pc to → InBody l number to
-  pub section : (pc to number : ℕ) (i : Instr) (s : Section) → slice_get l.sections number ≡ Some s → InSection l number pc → pc ≢ s.release → slice_get l.code pc ≡ Some i → GoesOn i pc to → InSection l number to
+  pub body : (pc to number : ℕ) (i : Instr) → InBody l number pc → slice_get l.code pc ≡ Some i → FlowsTo i pc to → InBody l number to
+  pub section : (pc to number : ℕ) (i : Instr) (s : Section) → slice_get l.sections number ≡ Some s → InSection l number pc → pc ≢ s.release → slice_get l.code pc ≡ Some i → FlowsTo i pc to → InSection l number to
 
 -- sites and sections are numbered in the order of the code, with no gap
 pub record IsNumbered (l : Lowered) : Type 0 where

@@ -3,7 +3,7 @@ pub mod Place
 pub mod Lowered
 pub mod Region
 pub mod Refused
-pub mod Kept
+pub mod LegalLowering
 pub mod Operands
 pub mod Limits
 pub mod Facts

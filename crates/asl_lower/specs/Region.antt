@@ -100,11 +100,11 @@ abbrev pub returned : Lowered → ℕ → ℕ
 returned l number = returned_by (slice_get l.code (start_of l.functions (suc number) - 1))
 
 -- where control may continue in the same body, from an instruction at a pc
-abbrev pub GoesOn : Instr → ℕ → ℕ → Type 0
-GoesOn (instr.Jump target) pc to = to ≡ target
-GoesOn (instr.JumpIfZero test target) pc to = (to ≡ target) ⊎ (to ≡ suc pc)
-GoesOn (instr.Return from) pc to = ⊥
-GoesOn i pc to = to ≡ suc pc
+abbrev pub FlowsTo : Instr → ℕ → ℕ → Type 0
+FlowsTo (instr.Jump target) pc to = to ≡ target
+FlowsTo (instr.JumpIfZero test target) pc to = (to ≡ target) ⊎ (to ≡ suc pc)
+FlowsTo (instr.Return from) pc to = ⊥
+FlowsTo i pc to = to ≡ suc pc
 
 -- these pcs as a list, the target of a branch first; a branch to the next pc has it twice
 abbrev pub successors : Instr → ℕ → List ℕ

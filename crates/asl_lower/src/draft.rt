@@ -6,7 +6,7 @@ ghost use Rattle.asl_syntax.specs.Tree.{globals_of, functions_of};
 ghost use Rattle.asl_lower.specs.Names.{function_names, number_of};
 ghost use Rattle.asl_lower.specs.Layout.{lowering_of};
 ghost use Rattle.asl_lower.specs.Refused.{HasRoom};
-ghost use Rattle.asl_lower.specs.Kept.{lowered_of};
+ghost use Rattle.asl_lower.specs.LegalLowering.{lowered_of};
 ghost use Rattle.asl_lower.specs.Numbered.{AreNumbered};
 
 use crate::functions::emit_functions;
@@ -31,7 +31,7 @@ impl Draft {
     ghost use Rattle.std.specs.Prelude.{◌≡◌, ◌≤◌, length};
     ghost use Rattle.asl_lower.specs.Region.{start_of};
     ghost use Rattle.asl_lower.specs.Facts.{HasLayout};
-    ghost use Rattle.asl_lower.specs.Kept.{lowered_of};
+    ghost use Rattle.asl_lower.specs.LegalLowering.{lowered_of};
 
     /// The first pc of a function.
     pub fn start(&self, number: usize) -> usize

@@ -3,8 +3,8 @@
 ghost use Rattle.std.specs.Prelude.{◌≡◌, ℕ, ◌<◌, ◌↔◌, true, Some, length, slice_get};
 ghost use Rattle.std.specs.List.{Contains};
 ghost use Rattle.asl_code.specs.declared.instr.Instr.{Instr};
-ghost use Rattle.asl_lower.specs.Region.{start_of, owner_of, returned, InBody, IsInner, GoesOn, successors};
-ghost use Rattle.asl_lower.specs.Kept.{IsKept, lowered_of};
+ghost use Rattle.asl_lower.specs.Region.{start_of, owner_of, returned, InBody, IsInner, FlowsTo, successors};
+ghost use Rattle.asl_lower.specs.LegalLowering.{IsLegalLowering, lowered_of};
 
 use crate::draft::Draft;
 use crate::reach::{Marks, inner_functions};
@@ -25,17 +25,17 @@ impl Model for Lowering {
 
     ghost Value = { Lowered };
 
-    ghost use Rattle.asl_lower.specs.Kept.{IsKept, lowered_of};
+    ghost use Rattle.asl_lower.specs.LegalLowering.{IsLegalLowering, lowered_of};
 
     ghost view = { λ l. lowered_of l.draft };
 
-    ghost invariant = { λ l. IsKept (lowered_of l.draft) };
+    ghost invariant = { λ l. IsLegalLowering (lowered_of l.draft) };
 }
 
 impl Lowering {
     /// What has been emitted for a program.
     pub(crate) fn new(draft: Draft) -> Lowering
-        requires { IsKept (lowered_of draft) }
+        requires { IsLegalLowering (lowered_of draft) }
         ensures { result ≡ lowered_of draft }
     {
         Lowering { draft }
@@ -44,7 +44,7 @@ impl Lowering {
     /// How many globals the program has.
     pub fn globals(&self) -> u16
         ensures globals { result ≡ self.now.globals }
-        ensures kept { IsKept self.now }
+        ensures kept { IsLegalLowering self.now }
     {
         self.draft.globals
     }
@@ -52,7 +52,7 @@ impl Lowering {
     /// The functions in the order of the text; their bodies lie one after the other in the code.
     pub fn functions(&self) -> &[Function]
         ensures functions { result.now ≡ self.now.functions }
-        ensures kept { IsKept self.now }
+        ensures kept { IsLegalLowering self.now }
     {
         self.draft.functions.as_slice()
     }
@@ -60,7 +60,7 @@ impl Lowering {
     /// The number of the function `main`.
     pub fn main(&self) -> u16
         ensures main { result ≡ self.now.main }
-        ensures kept { IsKept self.now }
+        ensures kept { IsLegalLowering self.now }
     {
         self.draft.main
     }
@@ -68,7 +68,7 @@ impl Lowering {
     /// The instructions.
     pub fn code(&self) -> &[Instr]
         ensures code { result.now ≡ self.now.code }
-        ensures kept { IsKept self.now }
+        ensures kept { IsLegalLowering self.now }
     {
         self.draft.out.code.as_slice()
     }
@@ -76,7 +76,7 @@ impl Lowering {
     /// How many `new` there are.
     pub fn sites(&self) -> u16
         ensures sites { result ≡ self.now.sites }
-        ensures kept { IsKept self.now }
+        ensures kept { IsLegalLowering self.now }
     {
         self.draft.out.sites
     }
@@ -84,7 +84,7 @@ impl Lowering {
     /// The sections in the order of their `acq`.
     pub fn sections(&self) -> &[Section]
         ensures sections { result.now ≡ self.now.sections }
-        ensures kept { IsKept self.now }
+        ensures kept { IsLegalLowering self.now }
     {
         self.draft.out.sections.as_slice()
     }
@@ -132,7 +132,7 @@ impl Lowering {
     /// Where control may continue from a pc, in the same body.
     pub fn successors(&self, pc: u16) -> ArrayVec<u16, 2>
         requires { pc < length self.now.code }
-        ensures goes_on { (i : Instr) → slice_get self.now.code pc ≡ Some i → (to : ℕ) → Contains result.items to ↔ GoesOn i pc to }
+        ensures goes_on { (i : Instr) → slice_get self.now.code pc ≡ Some i → (to : ℕ) → Contains result.items to ↔ FlowsTo i pc to }
         ensures listed { (i : Instr) → slice_get self.now.code pc ≡ Some i → result.items ≡ successors i pc }
     {
         successors(&self.draft.out.code[usize::from(pc)], pc)

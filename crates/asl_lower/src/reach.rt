@@ -3,7 +3,7 @@
 ghost use Rattle.std.specs.Prelude.{◌≡◌, ℕ, ◌+◌, ◌<◌, ◌≤◌, ◌⊎◌, ◌^◌, ◌↔◌, [], true, false, Some, slice_get, vec_len, IsTrue, MatchOption};
 ghost use Rattle.asl_lower.specs.Region.{open_at, IsInner};
 ghost use Rattle.asl_lower.specs.Facts.{HasLayout};
-ghost use Rattle.asl_lower.specs.Kept.{lowered_of};
+ghost use Rattle.asl_lower.specs.LegalLowering.{lowered_of};
 ghost use Rattle.asl_lower.specs.Reach.{depth_behind, where_of, AreAtDepth, IsCalled, IsMarked, KeepsMarks, AreFollowed, Reached};
 
 use crate::draft::Draft;

@@ -31,12 +31,12 @@ use Rattle.asl_machine.specs.StepFunction.{Place, left_at, turn_by, reply_of, ac
 abbrev pub answer : Bool → Reply
 answer free = cond free reply.Ran reply.Blocked
 
-free_reply : (free : Bool) → reply_of (cond free fate.GoesOn fate.Waits) ≡ answer free
+free_reply : (free : Bool) → reply_of (cond free fate.Continues fate.Waits) ≡ answer free
 free_reply true = refl
 free_reply false = refl
 
 outermost_reply : (outside deep : Bool) (h : Holding) (t : ℕ) (r request : Request) → cond outside (Some r) None ≡ Some request
-    → reply_of (cond outside (cond (can_grant h t r) fate.GoesOn fate.Waits) (cond deep (fate.Fails fault.Deep) fate.GoesOn)) ≡ answer (can_grant h t request)
+    → reply_of (cond outside (cond (can_grant h t r) fate.Continues fate.Waits) (cond deep (fate.Fails fault.Deep) fate.Continues)) ≡ answer (can_grant h t request)
 outermost_reply true deep h t r request e = free_reply (can_grant h t r) ∙ ap (λ x. answer (can_grant h t x)) (same_Some r request e)
 outermost_reply false deep h t r request e = cc
 

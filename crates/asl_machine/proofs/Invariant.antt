@@ -319,7 +319,7 @@ follows_make image s t a h lies to cells class lt some =
     let few : length s.objects ≤ 65536 = h.sound.formed.objects.few in
     elim (length s.objects == 65536) as (λ b. (length s.objects == 65536) ≡ b →
     Follows image s t (record {
-      fate = cond b (fate.Fails fault.Full) fate.GoesOn;
+      fate = cond b (fate.Fails fault.Full) fate.Continues;
       activity = cond b a (having_made image.version a to (length s.objects));
       objects = cond b s.objects more;
       holding = s.holding;
@@ -423,7 +423,7 @@ follows_call : (image : Image) (s : State) (t : ℕ) (a : Activity) (h : Here im
 follows_call image s t a h to first n callee at there enough next =
     let few : length a.below < 256 = h.placed.few in
     elim (frame_count a == 256) as (λ b. (frame_count a == 256) ≡ b →
-    Follows image s t (record { fate = cond b (fate.Fails fault.Stack) fate.GoesOn; activity = cond b a (called image a to first n); objects = s.objects; holding = s.holding })) [
+    Follows image s t (record { fate = cond b (fate.Fails fault.Stack) fate.Continues; activity = cond b a (called image a to first n); objects = s.objects; holding = s.holding })) [
       | true ↦ λ e. follows_fail image s t a fault.Stack h
       | false ↦ λ e.
           let not_most : frame_count a ≢ 256 = λ z. let f = eq-eqb (frame_count a) 256 z in cc in
@@ -473,7 +473,7 @@ follows_leave image s t a h lies =
     by : (image : Image) (s : State) (t : ℕ) (a : Activity) (h : Here image s t a) → LiesIn image a.top.function (a.top.pc + 1) h.placed.function →
         (z m : Bool) → ((a.depth == 0) ≡ z) → ((a.depth == 1) ≡ m) →
         Follows image s t (record {
-          fate = cond z (fate.Fails fault.NoSection) fate.GoesOn;
+          fate = cond z (fate.Fails fault.NoSection) fate.Continues;
           activity = cond z a (cond m (left_last a) (going_on a (a.depth - 1) (advanced a.top)));
           objects = s.objects;
           holding = cond m (release s.holding t) s.holding;
@@ -509,7 +509,7 @@ follows_enter image s t a h lies locks fit has =
     by : (image : Image) (s : State) (t : ℕ) (a : Activity) (h : Here image s t a) → LiesIn image a.top.function (a.top.pc + 1) h.placed.function → (request : Request) →
         (a.depth ≡ 0 → can_grant s.holding t request ≡ true → Granted image s t request) →
         (z m free : Bool) → ((a.depth == 0) ≡ z) → ((a.depth == 255) ≡ m) → (can_grant s.holding t request ≡ free) →
-        (let f = cond z (cond free fate.GoesOn fate.Waits) (cond m (fate.Fails fault.Deep) fate.GoesOn) in
+        (let f = cond z (cond free fate.Continues fate.Waits) (cond m (fate.Fails fault.Deep) fate.Continues) in
         Follows image s t (record { fate = f; activity = activity_moved f (a.depth + 1) a; objects = s.objects; holding = cond z (cond free (grant s.holding t request) s.holding) s.holding }))
     by image s t a h lies request laws true m true e k g =
         let none : a.depth ≡ 0 = eqb-true _ _ e in

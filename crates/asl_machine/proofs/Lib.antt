@@ -8,7 +8,7 @@ pub mod Frames
 pub mod Codes
 pub mod Nodes
 pub mod Invariant
-pub mod Words
+pub mod PackedValues
 pub mod Table
 pub mod Unique
 pub mod Reached
@@ -19,6 +19,6 @@ pub mod Freshness
 pub mod Rising
 pub mod Apart
 pub mod ReachedApart
-pub mod Made
+pub mod MadeBy
 pub mod Machines
 pub mod Granted

@@ -23,11 +23,11 @@ use Rattle.asl_machine.specs.Cover.{cover}
 use Rattle.asl_machine.specs.Access.{Points}
 use Rattle.asl_machine.specs.Calls.{frame_count, with_result, IsAwaited}
 use Rattle.asl_machine.specs.Request.{locks_of, request_of}
-use Rattle.asl_machine.specs.Step.{At, advanced, advanced_with, going_on, called, returned, having_made, left_last, after, Reads, is_allowed, GoesOn, is_zero, FailsOperands, Asks, Line, StepOf, Step}
+use Rattle.asl_machine.specs.Step.{At, advanced, advanced_with, going_on, called, returned, having_made, left_last, after, Reads, is_allowed, ContinuesAt, is_zero, FailsOperands, Asks, Line, StepOf, Step}
 use Rattle.asl_machine.specs.StepFunction.{Left, set_left, computed, added, subtracted, compared, truth, same_value, jump_left, address_or_bounds, address_moved, make_left, allowed_cell, loaded, accessed, store_left, left_alone, call_left, return_left, activity_moved, release_left, left_by, left_at, turn_by, step_at, step_of, register_of}
 use Rattle.asl_machine.specs.WellFormed.{SatisfiesInvariant}
 use Rattle.asl_lock_forest.proofs.Grantable.{can_grant-tells, CanGrant-tested}
-use Rattle.asl_machine.proofs.Words.{same_is, same_self}
+use Rattle.asl_machine.proofs.PackedValues.{same_is, same_self}
 use Rattle.asl_machine.proofs.Invariant.{Here, here_of, here_place, instr_here, after_same, awaited_below}
 
 -- the line that a step by what an instruction leaves would be
@@ -142,7 +142,7 @@ make_line at to cells class few =
     let objects = at.state.objects in
     elim (length objects == 65536) as (λ b. (length objects == 65536) ≡ b →
     IsLine at (instr.New to cells class) (record {
-      fate = cond b (fate.Fails fault.Full) fate.GoesOn;
+      fate = cond b (fate.Fails fault.Full) fate.Continues;
       activity = cond b at.activity (having_made at.image.version at.activity to (length objects));
       objects = cond b objects (objects ++ new_object class cells ∷ []);
       holding = at.state.holding;
@@ -194,7 +194,7 @@ call_line : (at : At) (to first n : ℕ) (callee : Function) → slice_get at.im
 call_line at to first n callee there few =
     let a = at.activity in
     elim (frame_count a == 256) as (λ b. (frame_count a == 256) ≡ b →
-    IsLine at (instr.Call to first n) (record { fate = cond b (fate.Fails fault.Stack) fate.GoesOn; activity = cond b a (called at.image a to first n); objects = at.state.objects; holding = at.state.holding })) [
+    IsLine at (instr.Call to first n) (record { fate = cond b (fate.Fails fault.Stack) fate.Continues; activity = cond b a (called at.image a to first n); objects = at.state.objects; holding = at.state.holding })) [
       | true ↦ λ e. (eqb-true _ _ e, refl)
       | false ↦ λ e.
           let not_most : frame_count a ≢ 256 = λ z. let f = eq-eqb (frame_count a) 256 z in cc in
@@ -203,12 +203,12 @@ call_line at to first n callee there few =
 
 -- going on in a number of sections is going on in an equal number
 same_depth : (at : At) (d e : ℕ) (objects : List Object) (holding : Holding) → d ≡ e →
-    GoesOn at e objects holding (after at.state at.thread (Running (going_on at.activity d (advanced at.activity.top))) objects holding)
+    ContinuesAt at e objects holding (after at.state at.thread (Running (going_on at.activity d (advanced at.activity.top))) objects holding)
 same_depth at d e objects holding is = ap (λ n. after at.state at.thread (Running (going_on at.activity n (advanced at.activity.top))) objects holding) is
 
 release_lines : (at : At) (z m : Bool) → ((at.activity.depth == 0) ≡ z) → ((at.activity.depth == 1) ≡ m) →
     IsLine at instr.Release (record {
-      fate = cond z (fate.Fails fault.NoSection) fate.GoesOn;
+      fate = cond z (fate.Fails fault.NoSection) fate.Continues;
       activity = cond z at.activity (cond m (left_last at.activity) (going_on at.activity (at.activity.depth - 1) (advanced at.activity.top)));
       objects = at.state.objects;
       holding = cond m (release at.state.holding at.thread) at.state.holding;
@@ -228,7 +228,7 @@ release_line at = release_lines at (at.activity.depth == 0) (at.activity.depth =
 acquire_lines : (at : At) (list : ℕ) (request : Request) (z m free : Bool) → ((at.activity.depth == 0) ≡ z) → ((at.activity.depth == 255) ≡ m) →
     at.activity.depth ≤ 255 → (at.activity.depth ≡ 0 → Asks at list request) → (free ≡ true → CanGrant at.state.holding at.thread request) → (free ≡ false → ¬ CanGrant at.state.holding at.thread request) →
     slice_get at.state.threads at.thread ≡ Some (Running at.activity) →
-    (let f = cond z (cond free fate.GoesOn fate.Waits) (cond m (fate.Fails fault.Deep) fate.GoesOn) in
+    (let f = cond z (cond free fate.Continues fate.Waits) (cond m (fate.Fails fault.Deep) fate.Continues) in
     IsLine at (instr.Acquire list) (record {
       fate = f;
       activity = activity_moved f (at.activity.depth + 1) at.activity;

@@ -23,13 +23,13 @@ use Rattle.asl_machine.specs.Calls.{frame_count, with_register, with_result}
 use Rattle.asl_machine.specs.Cover.{cover}
 use Rattle.asl_lock_expr.specs.Expression.{cell_of}
 use Rattle.asl_machine.specs.Request.{locks_of, request_of}
-use Rattle.asl_machine.specs.Step.{At, advanced, going_on, called, returned, having_made, left_last, after, Reads, ReadsAddress, is_allowed, Sets, GoesOn, GoesTo, Fails, are_integers, FailsOperands, is_zero, ReturnsTo, Asks, Line, StepOf, Step}
+use Rattle.asl_machine.specs.Step.{At, advanced, going_on, called, returned, having_made, left_last, after, Reads, ReadsAddress, is_allowed, Sets, ContinuesAt, GoesTo, Fails, are_integers, FailsOperands, is_zero, ReturnsTo, Asks, Line, StepOf, Step}
 use Rattle.asl_machine.specs.StepFunction.{Left, set_left, computed, added, subtracted, compared, truth, same_value, jump_left, address_or_bounds, address_moved, make_left, allowed_cell, loaded, accessed, accessed_by, store_left, left_alone, return_fate, call_left, return_left, activity_moved, acquire_left, release_left, left_by, left_at, turn_by, step_at, step_of, register_of}
 use Rattle.asl_machine.specs.WellFormed.{SatisfiesInvariant}
 use Rattle.asl_lock_forest.proofs.Grantable.{can_grant-tells, CanGrant-tested}
 use Rattle.asl_machine.proofs.Invariant.{here_place, after_same}
 use Rattle.asl_machine.proofs.Table.{at_of}
-use Rattle.asl_machine.proofs.Words.{same_is, same_self}
+use Rattle.asl_machine.proofs.PackedValues.{same_is, same_self}
 
 -- the reply and the state are those that an instruction leaves
 abbrev pub IsLeft : At → Left → Reply → State → Type 0
@@ -109,7 +109,7 @@ moved_tested at places from size c b e sized tested =
 abbrev made_by : At → ℕ → ℕ → ℕ → Bool → Left
 made_by at to cells class b =
     record {
-      fate = cond b (fate.Fails fault.Full) fate.GoesOn;
+      fate = cond b (fate.Fails fault.Full) fate.Continues;
       activity = cond b at.activity (having_made at.image.version at.activity to (length at.state.objects));
       objects = cond b at.state.objects (at.state.objects ++ new_object class cells ∷ []);
       holding = at.state.holding;
@@ -166,7 +166,7 @@ only_returned at from n h =
 abbrev called_by : At → ℕ → ℕ → ℕ → Bool → Left
 called_by at to first n b =
     record {
-      fate = cond b (fate.Fails fault.Stack) fate.GoesOn;
+      fate = cond b (fate.Fails fault.Stack) fate.Continues;
       activity = cond b at.activity (called at.image at.activity to first n);
       objects = at.state.objects;
       holding = at.state.holding;
@@ -180,7 +180,7 @@ only_call at to first n b r new e h = subst (λ x. IsLeft at (called_by at to fi
 abbrev released_by : At → Bool → Bool → Left
 released_by at z m =
     record {
-      fate = cond z (fate.Fails fault.NoSection) fate.GoesOn;
+      fate = cond z (fate.Fails fault.NoSection) fate.Continues;
       activity = cond z at.activity (cond m (left_last at.activity) (going_on at.activity (at.activity.depth - 1) (advanced at.activity.top)));
       objects = at.state.objects;
       holding = cond m (release at.state.holding at.thread) at.state.holding;
@@ -194,7 +194,7 @@ only_release at z m r n e k h =
 -- what an `acq` leaves, by the tests of the depth and of the request
 abbrev acquired_by : At → Request → Bool → Bool → Bool → Left
 acquired_by at request z m free =
-    let f = cond z (cond free fate.GoesOn fate.Waits) (cond m (fate.Fails fault.Deep) fate.GoesOn) in
+    let f = cond z (cond free fate.Continues fate.Waits) (cond m (fate.Fails fault.Deep) fate.Continues) in
     record {
       fate = f;
       activity = activity_moved f (at.activity.depth + 1) at.activity;
@@ -209,8 +209,8 @@ only_acquire at request z m free test r n e k g h =
     (subst (λ x. IsLeft at (acquired_by at request z x test) r n) (sym k) (subst (λ x. IsLeft at (acquired_by at request z m x) r n) (sym g) h))
 
 -- going on in as many sections
-goes_same : (at : At) (d e : ℕ) (objects : List Object) (holding : Holding) (n : State) → d ≡ e → GoesOn at d objects holding n → GoesOn at e objects holding n
-goes_same at d e objects holding n is h = subst (λ k. GoesOn at k objects holding n) is h
+goes_same : (at : At) (d e : ℕ) (objects : List Object) (holding : Holding) (n : State) → d ≡ e → ContinuesAt at d objects holding n → ContinuesAt at e objects holding n
+goes_same at d e objects holding n is h = subst (λ k. ContinuesAt at k objects holding n) is h
 
 request_same : (at : At) (list : ℕ) (request : Request) → Asks at list request → request_of at.state.objects at.activity.top.regs (locks_of at.image list) ≡ request
 request_same at list request asks = ap (λ o. request_of at.state.objects at.activity.top.regs (unwrap_or o [])) asks.listed ∙ sym asks.is
@@ -320,7 +320,7 @@ only_line image s t a sound here (instr.Acquire list) reply.Ran n h =
           let none = enters.asks.outside in
           let free : CanGrant s.holding t (request_of s.objects a.top.regs (locks_of image list)) = subst (CanGrant s.holding t) (sym is) enters.free in
           only_acquire at _ true (a.depth == 255) true test reply.Ran n (zero_test _ none) refl (CanGrant-tested s.holding t _ free)
-          (refl, goes_same at 1 (a.depth + 1) s.objects _ n (omega arith) (subst (λ q. GoesOn at 1 s.objects (grant s.holding t q) n) (sym is) enters.goes_on))
+          (refl, goes_same at 1 (a.depth + 1) s.objects _ n (omega arith) (subst (λ q. ContinuesAt at 1 s.objects (grant s.holding t q) n) (sym is) enters.goes_on))
     ]
 only_line image s t a sound here (instr.Acquire list) reply.Blocked n h =
     let at = at_of image s t a in

@@ -8,7 +8,7 @@ pub mod StepFunction
 pub mod Run
 pub mod Nodes
 pub mod Fresh
-pub mod Made
+pub mod MadeBy
 pub mod WellFormed
 pub mod View
 pub mod World
@@ -18,4 +18,4 @@ pub mod Paused
 -- Machinery of the proofs, not of the promise:
 pub mod Ready
 pub mod Asking
-pub mod Word
+pub mod PackedValue

@@ -104,8 +104,8 @@ Sets at register value new =
     new ≡ after at.state at.thread (Running (going_on at.activity at.activity.depth (advanced_with register value at.activity.top))) at.state.objects at.state.holding
 
 -- the thread goes on at its next instruction, in so many sections, over these objects and under this holding
-abbrev pub GoesOn : At → ℕ → List Object → Holding → State → Type 0
-GoesOn at depth objects holding new =
+abbrev pub ContinuesAt : At → ℕ → List Object → Holding → State → Type 0
+ContinuesAt at depth objects holding new =
     new ≡ after at.state at.thread (Running (going_on at.activity depth (advanced at.activity.top))) objects holding
 
 -- the thread goes on at this place of the code
@@ -188,12 +188,12 @@ pub record PassesBy (at : At) (test : ℕ) (new : State) : Type 0 where
   pub value : Value
   pub reads_value : Reads at test value
   pub is_not : is_zero value ≡ false
-  pub goes_on : GoesOn at at.activity.depth at.state.objects at.state.holding new
+  pub goes_on : ContinuesAt at at.activity.depth at.state.objects at.state.holding new
 
 -- `out` of the register's value
 pub record Shows (at : At) (from : ℕ) (value : Value) (new : State) : Type 0 where
   pub reads_value : Reads at from value
-  pub goes_on : GoesOn at at.activity.depth at.state.objects at.state.holding new
+  pub goes_on : ContinuesAt at at.activity.depth at.state.objects at.state.holding new
 
 -- `add`, `sub` or `lt` of values that are not both integers
 pub record FailsOperands (at : At) (left right : ℕ) (new : State) : Type 0 where
@@ -244,7 +244,7 @@ pub record Stores (at : At) (address from : ℕ) (new : State) : Type 0 where
   pub reads_address : ReadsAddress at address cell
   pub reads_value : Reads at from value
   pub allowed : is_allowed at Write cell ≡ true
-  pub goes_on : GoesOn at at.activity.depth (written at.state.objects cell value) at.state.holding new
+  pub goes_on : ContinuesAt at at.activity.depth (written at.state.objects cell value) at.state.holding new
 
 -- an access by a register that holds null
 abbrev pub FailsNull : At → ℕ → State → Type 0
@@ -299,7 +299,7 @@ pub record FailsOpen (at : At) (new : State) : Type 0 where
 pub record Nests (at : At) (new : State) : Type 0 where
   pub inside : 0 < at.activity.depth
   pub room : at.activity.depth < 255
-  pub goes_on : GoesOn at (at.activity.depth + 1) at.state.objects at.state.holding new
+  pub goes_on : ContinuesAt at (at.activity.depth + 1) at.state.objects at.state.holding new
 
 -- what `acq` asks for outside all sections: the request of its list in the registers and the objects of this state
 pub record Asks (at : At) (list : ℕ) (request : Request) : Type 0 where
@@ -313,7 +313,7 @@ pub record Enters (at : At) (list : ℕ) (new : State) : Type 0 where
   pub request : Request
   pub asks : Asks at list request
   pub free : CanGrant at.state.holding at.thread request
-  pub goes_on : GoesOn at 1 at.state.objects (grant at.state.holding at.thread request) new
+  pub goes_on : ContinuesAt at 1 at.state.objects (grant at.state.holding at.thread request) new
 
 -- `acq` outside all sections, where some of what it asks does not: nothing changes
 pub record Waits (at : At) (list : ℕ) (new : State) : Type 0 where
@@ -325,7 +325,7 @@ pub record Waits (at : At) (list : ℕ) (new : State) : Type 0 where
 -- `rel` inside an inner section counts it off
 pub record Unnests (at : At) (new : State) : Type 0 where
   pub inner : 1 < at.activity.depth
-  pub goes_on : GoesOn at (at.activity.depth - 1) at.state.objects at.state.holding new
+  pub goes_on : ContinuesAt at (at.activity.depth - 1) at.state.objects at.state.holding new
 
 -- `rel` of the outermost section gives all back, and no object is fresh any more
 pub record Leaves (at : At) (new : State) : Type 0 where

@@ -59,7 +59,7 @@ register_of f register = unwrap_or (slice_get f.regs register) Null
 
 -- what becomes of a thread that goes on with this, or fails
 abbrev pub fate_of : {T : Type 0} → Result T Fault → Fate
-fate_of (Ok x) = fate.GoesOn
+fate_of (Ok x) = fate.Continues
 fate_of (Err f) = fate.Fails f
 
 -- where the thread is then: at its next instruction, with the value in the register
@@ -113,7 +113,7 @@ address_moved objects places (Addr object offset) = address_or_bounds (moved (he
 
 -- what becomes of a thread that makes an object: there are at most 65,536
 abbrev pub make_fate : List Object → Fate
-make_fate objects = if length objects == 65536 then fate.Fails fault.Full else fate.GoesOn
+make_fate objects = if length objects == 65536 then fate.Fails fault.Full else fate.Continues
 
 -- where a thread is that makes an object, whose address goes to the register, or has no room for one
 abbrev pub activity_made : ℕ → List Object → Activity → ℕ → Activity
@@ -171,7 +171,7 @@ store_left p value target =
 -- the thread goes on at this place of the code
 abbrev pub jump_left : Place → ℕ → Left
 jump_left p target =
-    record { fate = fate.GoesOn; activity = going_on p.activity p.activity.depth (placed_at target p.activity.top); objects = p.objects; holding = p.holding }
+    record { fate = fate.Continues; activity = going_on p.activity p.activity.depth (placed_at target p.activity.top); objects = p.objects; holding = p.holding }
 
 -- the thread goes on, and shows the value
 abbrev pub show_left : Place → Value → Left
@@ -180,7 +180,7 @@ show_left p value =
 
 -- what becomes of a thread that calls: there are at most 256 frames
 abbrev pub call_fate : Activity → Fate
-call_fate a = if frame_count a == 256 then fate.Fails fault.Stack else fate.GoesOn
+call_fate a = if frame_count a == 256 then fate.Fails fault.Stack else fate.Continues
 
 -- where a thread is that calls the function, or has no room for a frame more
 abbrev pub activity_called : Image → Activity → ℕ → ℕ → ℕ → Activity
@@ -203,7 +203,7 @@ return_fate depth value = if depth == 0 then fate.Ends value else fate.Fails fau
 -- what becomes of a thread whose top frame returns the value to the frames below
 abbrev pub fate_returned : Activity → Value → List Frame → Fate
 fate_returned a value [] = return_fate a.depth value
-fate_returned a value (caller ∷ others) = fate.GoesOn
+fate_returned a value (caller ∷ others) = fate.Continues
 
 -- where a thread is whose top frame returns the value to the frames below
 abbrev pub activity_returned : Activity → Value → List Frame → Activity
@@ -223,11 +223,11 @@ return_left p value below =
 -- what becomes of a thread at an `acq`, in so many sections, where its locks are free or not
 abbrev pub acquire_fate : ℕ → Bool → Fate
 acquire_fate depth free =
-    if depth == 0 then (if free then fate.GoesOn else fate.Waits) else if depth == 255 then fate.Fails fault.Deep else fate.GoesOn
+    if depth == 0 then (if free then fate.Continues else fate.Waits) else if depth == 255 then fate.Fails fault.Deep else fate.Continues
 
 -- where a thread is that goes on in another number of sections, or does not go on
 abbrev pub activity_moved : Fate → ℕ → Activity → Activity
-activity_moved fate.GoesOn depth a = going_on a depth (advanced a.top)
+activity_moved fate.Continues depth a = going_on a depth (advanced a.top)
 activity_moved (fate.Shows value) depth a = a
 activity_moved (fate.Ends value) depth a = a
 activity_moved (fate.Fails f) depth a = a
@@ -250,7 +250,7 @@ acquire_left p free request =
 
 -- what becomes of a thread at a `rel`, in so many sections
 abbrev pub release_fate : ℕ → Fate
-release_fate depth = if depth == 0 then fate.Fails fault.NoSection else fate.GoesOn
+release_fate depth = if depth == 0 then fate.Fails fault.NoSection else fate.Continues
 
 -- where a thread is that leaves a section, if it is in one: the last one, or an inner one
 abbrev pub activity_left : Activity → Activity
@@ -306,7 +306,7 @@ left_at image p (Some i) = left_by image p i
 
 -- the answer to a step, by what becomes of the thread
 abbrev pub reply_of : Fate → Reply
-reply_of fate.GoesOn = reply.Ran
+reply_of fate.Continues = reply.Ran
 reply_of (fate.Shows value) = reply.Out value
 reply_of (fate.Ends value) = reply.Ran
 reply_of (fate.Fails f) = reply.Fault f
@@ -314,7 +314,7 @@ reply_of fate.Waits = reply.Blocked
 
 -- the thread after a step
 abbrev pub thread_after : Fate → Activity → Thread
-thread_after fate.GoesOn activity = Running activity
+thread_after fate.Continues activity = Running activity
 thread_after (fate.Shows value) activity = Running activity
 thread_after (fate.Ends value) activity = Done value
 thread_after (fate.Fails f) activity = Failed f
@@ -322,7 +322,7 @@ thread_after fate.Waits activity = Running activity
 
 -- the holding after a step: one that fails gives all back
 abbrev pub holding_after : Fate → ℕ → Holding → Holding
-holding_after fate.GoesOn t holding = holding
+holding_after fate.Continues t holding = holding
 holding_after (fate.Shows value) t holding = holding
 holding_after (fate.Ends value) t holding = holding
 holding_after (fate.Fails f) t holding = release holding t

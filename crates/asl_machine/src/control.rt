@@ -9,8 +9,8 @@ use crate::code::Code;
 use crate::fate::Fate;
 use crate::fault::Fault;
 use crate::frame::Activity;
+use crate::packed_value::PackedValue;
 use crate::values::is_zero;
-use crate::word::Word;
 use asl_code::Value;
 use std::alloc::{AllocError, Global};
 
@@ -19,18 +19,18 @@ const MAX_FRAMES: usize = 256;
 
 /// Goes to this place of the code.
 pub fn jump(activity: &mut Activity, target: u16) -> Fate
-    ensures fate { result ≡ Fate.GoesOn }
+    ensures fate { result ≡ Fate.Continues }
     ensures activity { activity.new ≡ going_on activity.old activity.old.depth (placed_at target activity.old.top) }
 {
     activity.jump(target);
-    Fate::GoesOn
+    Fate::Continues
 }
 
 /// Goes to this place of the code where the register has the integer 0 or null, else to the next instruction.
 pub fn jump_if_zero(activity: &mut Activity, test: u8, target: u16) -> Fate
     requires there { test < length activity.old.top.regs }
     requires room { activity.old.top.pc + 1 < 2 ^ 16 }
-    ensures fate { result ≡ Fate.GoesOn }
+    ensures fate { result ≡ Fate.Continues }
     ensures activity { activity.new ≡ going_on activity.old activity.old.depth
         (placed_at (if is_zero (register_of activity.old.top test) then target else activity.old.top.pc + 1) activity.old.top) }
 {
@@ -39,7 +39,7 @@ pub fn jump_if_zero(activity: &mut Activity, test: u8, target: u16) -> Fate
     } else {
         activity.advance();
     }
-    Fate::GoesOn
+    Fate::Continues
 }
 
 /// Shows the value.
@@ -75,18 +75,18 @@ pub fn call(
         return Ok(Fate::Fails(Fault::Stack));
     }
     activity.call(alloc, code, to, first, function)?;
-    Ok(Fate::GoesOn)
+    Ok(Fate::Continues)
 }
 
 /// Returns the value to the frame below. The last frame ends the thread with it, or fails inside a section.
 #[inline(always)]
-pub fn give(activity: &mut Activity, value: Word) -> Fate
+pub fn give(activity: &mut Activity, value: PackedValue) -> Fate
     requires { IsAwaited activity.old.top.result activity.old.below }
     ensures fate { result ≡ fate_returned activity.old value activity.old.below }
     ensures activity { activity.new ≡ activity_returned activity.old value activity.old.below }
 {
     if activity.give(value) {
-        Fate::GoesOn
+        Fate::Continues
     } else if activity.depth() == 0 {
         Fate::Ends(value.value())
     } else {

@@ -7,7 +7,7 @@ use asl_code::Value;
 #[derive(Clone, Copy)]
 pub enum Fate {
     /// It goes on.
-    GoesOn,
+    Continues,
     /// It goes on, and shows this value.
     Shows(Value),
     /// It has ended with this value.

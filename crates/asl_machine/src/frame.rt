@@ -5,7 +5,7 @@ ghost use Rattle.asl_code.specs.Versions.{newest_threads};
 ghost use Rattle.asl_machine.specs.Calls.{function_of, first_registers};
 
 use crate::code::Code;
-use crate::word::Word;
+use crate::packed_value::PackedValue;
 use asl_code::Value;
 use std::alloc::{AllocError, Global};
 use std::marker::Model;
@@ -17,7 +17,7 @@ use std::mem;
 pub struct Frame {
     function: u16,
     pc: u16,
-    regs: Vec<Word>,
+    regs: Vec<PackedValue>,
     result: Option<u8>,
 }
 
@@ -43,7 +43,7 @@ impl Frame {
         ensures { IfOk result (λ frame. frame ≡ first_frame code.now code.now.start (Int (pos t) ∷ []) None) }
     {
         let function = code.program().start();
-        let parameter = [Word::of(Value::Int(t as i32))];
+        let parameter = [PackedValue::of(Value::Int(t as i32))];
         Ok(Frame {
             function,
             pc: code.first(function),
@@ -114,14 +114,14 @@ impl Frame {
     }
 
     /// The registers.
-    pub fn regs(&self) -> &[Word]
+    pub fn regs(&self) -> &[PackedValue]
         ensures { result.now ≡ self.now.regs }
     {
         self.regs.as_slice()
     }
 
     /// The value of a register.
-    pub fn read(&self, register: u8) -> Word
+    pub fn read(&self, register: u8) -> PackedValue
         requires { register < length self.now.regs }
         ensures { slice_get self.now.regs register ≡ Some result }
     {
@@ -144,7 +144,7 @@ impl Frame {
     }
 
     /// Puts the value into the register and goes to the next instruction.
-    pub fn advance_with(&mut self, register: u8, value: Word)
+    pub fn advance_with(&mut self, register: u8, value: PackedValue)
         requires there { register < length self.old.regs }
         requires room { self.old.pc + 1 < 2 ^ 16 }
         ensures { self.new ≡ advanced_with register value self.old }
@@ -154,7 +154,7 @@ impl Frame {
     }
 
     /// Takes the value of the frame above into the register that awaits it.
-    fn receive(&mut self, awaiting: Option<u8>, value: Word)
+    fn receive(&mut self, awaiting: Option<u8>, value: PackedValue)
         requires { IfSome awaiting (λ register. register < length self.old.regs) }
         ensures { self.new ≡ with_result awaiting value self.old }
     {
@@ -165,7 +165,11 @@ impl Frame {
 }
 
 /// So many registers, of which the first are the parameters.
-fn registers(alloc: Global, arguments: &[Word], count: u8) -> Result<Vec<Word>, AllocError>
+fn registers(
+    alloc: Global,
+    arguments: &[PackedValue],
+    count: u8,
+) -> Result<Vec<PackedValue>, AllocError>
     requires { length arguments.now ≤ count }
     ensures { IfOk result (λ regs. regs.items ≡ first_registers arguments.now count) }
 {
@@ -175,14 +179,14 @@ fn registers(alloc: Global, arguments: &[Word], count: u8) -> Result<Vec<Word>, 
 }
 
 /// Puts so many registers, of which the first are the parameters, in place of what is there.
-fn fill(regs: &mut Vec<Word>, arguments: &[Word], count: u8) -> Result<(), AllocError>
+fn fill(regs: &mut Vec<PackedValue>, arguments: &[PackedValue], count: u8) -> Result<(), AllocError>
     requires { length arguments.now ≤ count }
     ensures { OnOk result (regs.new.items ≡ first_registers arguments.now count) }
 {
     regs.clear();
     regs.reserve_exact(usize::from(count))?;
     regs.extend_from_slice(arguments)?;
-    regs.resize(usize::from(count), Word::of(Value::Int(0)))
+    regs.resize(usize::from(count), PackedValue::of(Value::Int(0)))
 }
 
 /// Equal frames.
@@ -296,14 +300,14 @@ impl Activity {
     }
 
     /// The registers of the top frame.
-    pub fn regs(&self) -> &[Word]
+    pub fn regs(&self) -> &[PackedValue]
         ensures { result.now ≡ self.now.top.regs }
     {
         self.top.regs()
     }
 
     /// The value of a register of the top frame.
-    pub fn read(&self, register: u8) -> Word
+    pub fn read(&self, register: u8) -> PackedValue
         requires { register < length self.now.top.regs }
         ensures there { slice_get self.now.top.regs register ≡ Some result }
         ensures value { result ≡ register_of self.now.top register }
@@ -327,7 +331,7 @@ impl Activity {
     }
 
     /// Puts the value into the register and goes to the next instruction.
-    pub fn advance_with(&mut self, register: u8, value: Word)
+    pub fn advance_with(&mut self, register: u8, value: PackedValue)
         requires there { register < length self.old.top.regs }
         requires room { self.old.top.pc + 1 < 2 ^ 16 }
         ensures { self.new ≡ going_on self.old self.old.depth (advanced_with register value self.old.top) }
@@ -418,7 +422,7 @@ impl Activity {
 
     /// Ends the top frame, if one is below, which gets the value: whether one is below.
     #[inline(always)]
-    pub fn give(&mut self, value: Word) -> bool
+    pub fn give(&mut self, value: PackedValue) -> bool
         requires { IsAwaited self.old.top.result self.old.below }
         ensures below { IsTrue result ↔ (self.old.below ≢ []) }
         ensures activity { self.new ≡ activity_returned self.old value self.old.below }

@@ -8,7 +8,7 @@ ghost use Rattle.asl_machine.specs.State.{State};
 ghost use Rattle.asl_machine.specs.Run.{IsReached, RunsBy, start_of};
 ghost use Rattle.asl_machine.specs.WellFormed.{SatisfiesInvariant};
 ghost use Rattle.asl_machine.specs.Fresh.{AreApart, IsFreshFor};
-ghost use Rattle.asl_machine.specs.Made.{HasMadeInside};
+ghost use Rattle.asl_machine.specs.MadeBy.{HasMadeInside};
 ghost use Rattle.asl_machine.specs.Step.{Step};
 
 /// No frame of another thread has an address in an object that is fresh for a thread, and no cell has one but those of the

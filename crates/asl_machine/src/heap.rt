@@ -1,7 +1,7 @@
 //! The objects of a machine and what their cells hold.
 ghost use Rattle.std.specs.Prelude.{◌≡◌, ◌<◌, ◌++◌, ◌∷◌, [], IfOk, OnOk, OnErr, Some, length, slice_get, map, replicate, pos, IsSome};
 
-use crate::word::Word;
+use crate::packed_value::PackedValue;
 use asl_code::{Cell, Value};
 use asl_lock_expr::HeapView;
 use std::alloc::{AllocError, Global};
@@ -11,7 +11,7 @@ use std::marker::Model;
 #[derive(Drop)]
 struct Object {
     class: u16,
-    cells: Vec<Word>,
+    cells: Vec<PackedValue>,
 }
 
 impl Model for Object {
@@ -69,13 +69,13 @@ impl Object {
         self.cells.len() as u8
     }
 
-    fn cell(&self, offset: usize) -> Option<Word>
+    fn cell(&self, offset: usize) -> Option<PackedValue>
         ensures { result ≡ slice_get self.now.cells offset }
     {
         self.cells.get(offset).copied()
     }
 
-    fn write(&mut self, offset: usize, value: Word)
+    fn write(&mut self, offset: usize, value: PackedValue)
         requires { offset < length self.old.cells }
         ensures { self.new ≡ with_cell self.old offset value }
     {
@@ -84,11 +84,11 @@ impl Object {
 }
 
 /// So many cells that hold 0.
-fn zeros(alloc: Global, count: u8) -> Result<Vec<Word>, AllocError>
+fn zeros(alloc: Global, count: u8) -> Result<Vec<PackedValue>, AllocError>
     ensures { IfOk result (λ cells. cells.items ≡ replicate count (Value.Int (pos 0))) }
 {
     let mut cells = Vec::with_capacity(alloc, usize::from(count))?;
-    cells.resize(usize::from(count), Word::of(Value::Int(0)))?;
+    cells.resize(usize::from(count), PackedValue::of(Value::Int(0)))?;
     Ok(cells)
 }
 
@@ -155,7 +155,7 @@ impl Heap {
     }
 
     /// What the cell holds, if it is there.
-    pub fn cell(&self, cell: Cell) -> Option<Word>
+    pub fn cell(&self, cell: Cell) -> Option<PackedValue>
         ensures { result ≡ cell_at self.now cell }
     {
         let object = self.objects.get(usize::from(cell.object))?;
@@ -163,7 +163,7 @@ impl Heap {
     }
 
     /// What a cell that is there holds.
-    pub fn read(&self, cell: Cell) -> Word
+    pub fn read(&self, cell: Cell) -> PackedValue
         requires { IsSome (cell_at self.now cell) }
         ensures { cell_at self.now cell ≡ Some result }
     {
@@ -184,7 +184,7 @@ impl Heap {
     }
 
     /// Puts the value into the cell.
-    pub fn write(&mut self, cell: Cell, value: Word)
+    pub fn write(&mut self, cell: Cell, value: PackedValue)
         requires { IsSome (cell_at self.old cell) }
         ensures { self.new ≡ written self.old cell value }
     {

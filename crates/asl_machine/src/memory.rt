@@ -12,7 +12,7 @@ use crate::fate::Fate;
 use crate::fault::Fault;
 use crate::frame::Activity;
 use crate::heap::Heap;
-use crate::word::Word;
+use crate::packed_value::PackedValue;
 use asl_code::{Cell, Effect, Value, has_fresh};
 use asl_lock_forest::Forest;
 use std::alloc::{AllocError, Global};
@@ -27,7 +27,7 @@ pub fn load(
     t: u32,
     activity: &Activity,
     register: u8,
-) -> Result<Word, Fault>
+) -> Result<PackedValue, Fault>
     requires there { register < length activity.now.top.regs }
     requires thread { t < forest.now.threads }
     requires classes { AreOfClasses forest.now.classes heap.now }
@@ -63,7 +63,7 @@ pub fn store(
         Ok(cell) => {
             heap.write(cell, activity.read(from));
             activity.advance();
-            Fate::GoesOn
+            Fate::Continues
         }
         Err(fault) => Fate::Fails(fault),
     }
@@ -99,8 +99,8 @@ pub fn make(
     } else {
         heap.make(alloc, cells, class)?
     };
-    activity.advance_with(to, Word::of(Value::Addr(number, 0)));
-    Ok(Fate::GoesOn)
+    activity.advance_with(to, PackedValue::of(Value::Addr(number, 0)));
+    Ok(Fate::Continues)
 }
 
 /// Makes an object that is fresh for the thread, and answers its number.
@@ -155,7 +155,7 @@ fn access(
     t: u32,
     activity: &Activity,
     effect: Effect,
-    value: Word,
+    value: PackedValue,
 ) -> Result<Cell, Fault>
     requires thread { t < forest.now.threads }
     requires classes { AreOfClasses forest.now.classes heap.now }

@@ -8,7 +8,7 @@ ghost use Rattle.asl_machine.specs.Request.{LockOfClass, heap_of, asks_of, upper
 ghost use Rattle.asl_machine.specs.Asking.{leaf_of, node_of, asks_at, AreFree, IsHeldUp};
 
 use crate::heap::Heap;
-use crate::word::Word;
+use crate::packed_value::PackedValue;
 use asl_code::{Base, Cell, Effect, Expr, Lock};
 use asl_lock_expr::{follow, pointed};
 use asl_lock_forest::{Forest, Node};
@@ -24,7 +24,7 @@ use std::alloc::{AllocError, Global};
 pub fn request(
     asks: &mut Vec<(Node, Mode)>,
     locks: &[Lock],
-    regs: &[Word],
+    regs: &[PackedValue],
     heap: &Heap,
     forest: &Forest,
     t: u32,
@@ -48,7 +48,7 @@ pub fn request(
 pub fn whole_request(
     alloc: Global,
     locks: &[Lock],
-    regs: &[Word],
+    regs: &[PackedValue],
     heap: &Heap,
 ) -> Result<Vec<(Node, Mode)>, AllocError>
     ensures { IfOk result (λ asks. asks.items ≡ request_of heap.now regs.now locks.now) }
@@ -64,7 +64,7 @@ pub fn whole_request(
 fn add_asks(
     request: &mut Vec<(Node, Mode)>,
     lock: &Lock,
-    regs: &[Word],
+    regs: &[PackedValue],
     heap: &Heap,
 ) -> Result<(), AllocError>
     ensures { OnOk result (request.new.items ≡ joined_all request.old.items (asks_of heap.now regs.now lock.now)) }
@@ -79,7 +79,7 @@ fn add_asks(
 fn add_lock(
     request: &mut Vec<(Node, Mode)>,
     lock: &Lock,
-    regs: &[Word],
+    regs: &[PackedValue],
     heap: &Heap,
     forest: &Forest,
     t: u32,
@@ -103,7 +103,7 @@ fn add_lock(
 }
 
 /// The lock's own node, if it has one.
-fn node_of(lock: &Lock, regs: &[Word], heap: &Heap) -> Option<Node>
+fn node_of(lock: &Lock, regs: &[PackedValue], heap: &Heap) -> Option<Node>
     ensures { result ≡ node_of heap.now regs.now lock.now }
 {
     match lock {
@@ -115,14 +115,14 @@ fn node_of(lock: &Lock, regs: &[Word], heap: &Heap) -> Option<Node>
 
 /// The cell that the expression denotes, if it denotes one.
 #[tactic(auto, using(asl_lock_expr::proofs::Paths::no_cell_from_none))]
-fn denoted(expr: &Expr, regs: &[Word], heap: &Heap) -> Option<Cell>
+fn denoted(expr: &Expr, regs: &[PackedValue], heap: &Heap) -> Option<Cell>
     ensures { result ≡ cell_denoted (heap_of heap.now) regs.now expr.now }
 {
     follow(expr.path.as_slice(), base_cell(expr.base, regs)?, heap)
 }
 
 /// The cell at which the evaluation of an expression on the base begins.
-fn base_cell(base: Base, regs: &[Word]) -> Option<Cell>
+fn base_cell(base: Base, regs: &[PackedValue]) -> Option<Cell>
     ensures { result ≡ base_cell regs.now base }
 {
     match base {

@@ -55,7 +55,7 @@ pub fn acquire(
         MAX_DEPTH => Ok(Fate::Fails(Fault::Deep)),
         _ => {
             activity.enter();
-            Ok(Fate::GoesOn)
+            Ok(Fate::Continues)
         }
     }
 }
@@ -75,11 +75,11 @@ pub fn leave(forest: &mut Forest, t: u32, activity: &mut Activity) -> Fate
         1 => {
             forest.release(t);
             activity.leave_last();
-            Fate::GoesOn
+            Fate::Continues
         }
         _ => {
             activity.leave();
-            Fate::GoesOn
+            Fate::Continues
         }
     }
 }
@@ -122,7 +122,7 @@ fn enter(
     if request(asks, locks, activity.regs(), heap, forest, t)? {
         forest.grant(t, asks.as_slice())?;
         activity.enter();
-        Ok(Fate::GoesOn)
+        Ok(Fate::Continues)
     } else {
         Ok(Fate::Waits)
     }

@@ -13,8 +13,8 @@ use crate::code::Code;
 use crate::fate::Fate;
 use crate::fault::Fault;
 use crate::frame::Activity;
+use crate::frame_only::try_local;
 use crate::heap::Heap;
-use crate::local::try_local;
 use crate::perform::perform;
 use crate::reply::{Reply, Status};
 use asl_code::Value;
@@ -122,7 +122,7 @@ impl Thread {
         ensures holding { IsTrue result → forest.now.holding ≡ (turn_of code.now t self.old heap.now forest.now.holding).holding }
         ensures otherwise { result ≡ false → self.new ≡ self.old }
         ensures tried { result ≡ false → (a : AnyActivity) (i : AnyInstr) → self.old ≡ Running a → slice_get code.now.code a.top.pc ≡ Some i
-            → IsTrue (is_local i) → (left_by code.now (place t a heap.now forest.now) i).fate ≢ Fate.GoesOn }
+            → IsTrue (is_local i) → (left_by code.now (place t a heap.now forest.now) i).fate ≢ Fate.Continues }
     {
         let Stage::Running(activity) = &mut self.stage else {
             return false;
@@ -160,7 +160,7 @@ impl Thread {
         match fate {
             Fate::Ends(value) => self.stage = Stage::Done(value),
             Fate::Fails(fault) => self.stage = Stage::Failed(fault),
-            Fate::GoesOn | Fate::Shows(_) | Fate::Waits => {}
+            Fate::Continues | Fate::Shows(_) | Fate::Waits => {}
         }
         give_back(forest, t, fate);
         Ok(reply(fate))
@@ -173,12 +173,12 @@ fn try_local_instruction(code: &Code<'_>, heap: &Heap, activity: &mut Activity) 
     requires fits { IsSomeAnd (slice_get code.now.code activity.old.top.pc) (CanDo code.now activity.old.top) }
     requires room { activity.old.top.pc + 1 < 2 ^ 16 }
     requires awaited { IsAwaited activity.old.top.result activity.old.below }
-    ensures done { IsTrue result → (t : ℕ) (forest : Held) → left_with Fate.GoesOn activity.new heap.now forest
+    ensures done { IsTrue result → (t : ℕ) (forest : Held) → left_with Fate.Continues activity.new heap.now forest
         ≡ left_at code.now (place t activity.old heap.now forest)
         (slice_get code.now.code activity.old.top.pc) }
     ensures otherwise { result ≡ false → activity.new ≡ activity.old }
     ensures tried { result ≡ false → (i : AnyInstr) → slice_get code.now.code activity.old.top.pc ≡ Some i → IsTrue (is_local i)
-        → (t : ℕ) (forest : Held) → (left_by code.now (place t activity.old heap.now forest) i).fate ≢ Fate.GoesOn }
+        → (t : ℕ) (forest : Held) → (left_by code.now (place t activity.old heap.now forest) i).fate ≢ Fate.Continues }
 {
     let instr = code.fetch(activity.pc());
     try_local(code, heap, activity, instr)
@@ -215,7 +215,7 @@ fn reply(fate: Fate) -> Reply
     ensures { result ≡ reply_of fate }
 {
     match fate {
-        Fate::GoesOn | Fate::Ends(_) => Reply::Ran,
+        Fate::Continues | Fate::Ends(_) => Reply::Ran,
         Fate::Shows(value) => Reply::Out(value),
         Fate::Fails(fault) => Reply::Fault(fault),
         Fate::Waits => Reply::Blocked,

@@ -7,7 +7,7 @@ ghost use Rattle.asl_machine.specs.StepFunction.{register_of, address_moved, com
 use crate::fault::Fault;
 use crate::frame::Activity;
 use crate::heap::Heap;
-use crate::word::Word;
+use crate::packed_value::PackedValue;
 use asl_code::{Cell, Value};
 use asl_lock_expr::go_on;
 
@@ -35,27 +35,27 @@ fn integers(activity: &Activity, left: u8, right: u8) -> Result<(i32, i32), Faul
 }
 
 /// The sum of the integers in two registers, which wraps at 32 bits.
-pub fn sum(activity: &Activity, left: u8, right: u8) -> Result<Word, Fault>
+pub fn sum(activity: &Activity, left: u8, right: u8) -> Result<PackedValue, Fault>
     requires left_there { left < length activity.now.top.regs }
     requires right_there { right < length activity.now.top.regs }
     ensures { result ≡ computed added (register_of activity.now.top left) (register_of activity.now.top right) }
 {
     let (x, y) = integers(activity, left, right)?;
-    Ok(Word::of(Value::Int(x.wrapping_add(y))))
+    Ok(PackedValue::of(Value::Int(x.wrapping_add(y))))
 }
 
 /// The difference of the integers in two registers, which wraps at 32 bits.
-pub fn difference(activity: &Activity, left: u8, right: u8) -> Result<Word, Fault>
+pub fn difference(activity: &Activity, left: u8, right: u8) -> Result<PackedValue, Fault>
     requires left_there { left < length activity.now.top.regs }
     requires right_there { right < length activity.now.top.regs }
     ensures { result ≡ computed subtracted (register_of activity.now.top left) (register_of activity.now.top right) }
 {
     let (x, y) = integers(activity, left, right)?;
-    Ok(Word::of(Value::Int(x.wrapping_sub(y))))
+    Ok(PackedValue::of(Value::Int(x.wrapping_sub(y))))
 }
 
 /// Whether the integer in one register is below that in another: 1 or 0.
-pub fn comparison(activity: &Activity, left: u8, right: u8) -> Result<Word, Fault>
+pub fn comparison(activity: &Activity, left: u8, right: u8) -> Result<PackedValue, Fault>
     requires left_there { left < length activity.now.top.regs }
     requires right_there { right < length activity.now.top.regs }
     ensures { result ≡ computed compared (register_of activity.now.top left) (register_of activity.now.top right) }
@@ -66,7 +66,7 @@ pub fn comparison(activity: &Activity, left: u8, right: u8) -> Result<Word, Faul
 
 /// Whether two registers have the same value: 1 or 0.
 #[inline(always)]
-pub fn equality(activity: &Activity, left: u8, right: u8) -> Word
+pub fn equality(activity: &Activity, left: u8, right: u8) -> PackedValue
     requires left_there { left < length activity.now.top.regs }
     requires right_there { right < length activity.now.top.regs }
     ensures { result ≡ truth (same_value (register_of activity.now.top left) (register_of activity.now.top right)) }
@@ -76,15 +76,15 @@ pub fn equality(activity: &Activity, left: u8, right: u8) -> Word
 
 /// 1 where the test holds, else 0.
 #[inline(always)]
-fn integer_for(holds: bool) -> Word
+fn integer_for(holds: bool) -> PackedValue
     ensures { result ≡ truth holds }
 {
-    Word::of(Value::Int(i32::from(holds)))
+    PackedValue::of(Value::Int(i32::from(holds)))
 }
 
 /// Whether a jump that asks for zero goes to its target.
 #[inline(always)]
-pub fn is_zero(value: Word) -> bool
+pub fn is_zero(value: PackedValue) -> bool
     ensures { result ≡ is_zero value }
 {
     match value.value() {
@@ -96,12 +96,12 @@ pub fn is_zero(value: Word) -> bool
 
 /// The address so many cells on, in the same object.
 #[inline(always)]
-pub fn moved_on(heap: &Heap, places: u8, value: Word) -> Result<Word, Fault>
+pub fn moved_on(heap: &Heap, places: u8, value: PackedValue) -> Result<PackedValue, Fault>
     ensures { result ≡ address_moved heap.now places value }
 {
     match value.value() {
         Value::Addr(object, offset) => match go_on(heap, places, Cell { object, offset }) {
-            Some(cell) => Ok(Word::of(Value::Addr(cell.object, cell.offset))),
+            Some(cell) => Ok(PackedValue::of(Value::Addr(cell.object, cell.offset))),
             None => Err(Fault::Bounds),
         },
         Value::Null => Err(Fault::Null),

@@ -23,7 +23,7 @@ use Rattle.asl_map.specs.Pieces.{first_place, piece, behind}
 use Rattle.asl_map.specs.Taken.{past_end, piece_of}
 use Rattle.asl_map.specs.Placed.{head_of, IsPlacedBlock, IsPlacedFunction, ArePlaced}
 use Rattle.asl_map.specs.Walked.{block_pieces, return_rest, function_rest, function_pieces, named_of, items_pieces, items_named}
-use Rattle.asl_map.specs.Made.{IsMade}
+use Rattle.asl_map.specs.BuiltMap.{IsMade}
 use Rattle.asl_map.specs.Mapped.{IsMapped}
 use Rattle.asl_map.proofs.Standing.{Ends, Left, ends, names_on_append, names_none, block_count, block_left, drop_one, left_end, left_more}
 use Rattle.asl_map.proofs.Placing.{block_many, piece_is, block_placed}

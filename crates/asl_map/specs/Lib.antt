@@ -9,4 +9,4 @@ pub mod Mapped
 -- Machinery of the proofs, not of the promise:
 pub mod Taken
 pub mod Walked
-pub mod Made
+pub mod BuiltMap

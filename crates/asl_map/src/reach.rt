@@ -1,7 +1,7 @@
 //! Which functions `main` calls, itself or through others.
 
 ghost use Rattle.std.specs.Prelude.{◌≡◌, ℕ, ◌<◌, ◌≤◌, ◌⊎◌, ◌↔◌, false, true, Some, slice_get, length, MatchOption};
-ghost use Rattle.asl_lower.specs.Kept.{IsKept};
+ghost use Rattle.asl_lower.specs.LegalLowering.{IsLegalLowering};
 ghost use Rattle.asl_lower.specs.Reach.{Anywhere, IsCalled, IsMarked, KeepsMarks, AreFollowed, Reached};
 ghost use Rattle.asl_map.specs.Reached.{IsReached};
 
@@ -55,7 +55,7 @@ fn next_function(functions: usize, marks: &Marks, followed: &Marks) -> Option<us
 fn count_functions(lowering: &Lowering) -> usize
     ensures count { result ≡ length lowering.now.functions }
     ensures few { result ≤ 256 }
-    ensures kept { IsKept lowering.now }
+    ensures kept { IsLegalLowering lowering.now }
 {
     lowering.functions().len()
 }

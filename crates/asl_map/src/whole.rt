@@ -5,7 +5,7 @@ ghost use Rattle.asl_syntax.specs.AstView.{tree_of};
 ghost use Rattle.asl_syntax.specs.Parsed.{Parses};
 ghost use Rattle.asl_lower.specs.Lowered.{IsLowering};
 ghost use Rattle.asl_points_to.specs.Classes.{AreClasses};
-ghost use Rattle.asl_map.specs.Made.{IsMade};
+ghost use Rattle.asl_map.specs.BuiltMap.{IsMade};
 ghost use Rattle.asl_map.specs.Mapped.{IsMapped, IsMapText, IsRefused};
 
 use crate::areas::{section_areas, site_areas};

@@ -12,7 +12,7 @@ use Rattle.asl_lower.specs.Region.{InBody}
 use Rattle.asl_lower.specs.Operands.{HasOperands}
 use Rattle.asl_lower.specs.Limits.{FitsTable}
 use Rattle.asl_lower.specs.Facts.{HasLayout}
-use Rattle.asl_lower.specs.Kept.{IsKept}
+use Rattle.asl_lower.specs.LegalLowering.{IsLegalLowering}
 use Rattle.asl_lower.proofs.Layouts.{kept_layout}
 use Rattle.asl_points_to.specs.declared.draft.Draft.{Draft}
 use Rattle.asl_points_to.specs.Classes.{Classed, some_at, to, members, Gives, IsLegalAt, IsLegal, GoInto, AreNumbered, AreClasses}
@@ -114,7 +114,7 @@ legal_at l h c w n f fn (instr.Call a first g) at o k = record {
 }
 legal_at l h c w n f fn i at o k = tt
 
-pub narrow_legal : (l : Lowered) → IsKept l → (c w : Classed) → IsNarrow l c w → IsLegal l w → IsLegal l c
+pub narrow_legal : (l : Lowered) → IsLegalLowering l → (c w : Classed) → IsNarrow l c w → IsLegal l w → IsLegal l c
 narrow_legal l kept c w n legal =
     let h = kept_layout l kept in
     record {
@@ -135,7 +135,7 @@ narrow_goes l c w d n g = record {
   cells_go = λ x y e. g.cells_go x y (ap (λ (xs : List (Option ℕ)). some_at xs x) (sym n.cells) ∙ e);
 }
 
-pub are_classes : (l : Lowered) (s : Draft) (numbers firsts : List ℕ) (c : Classed) → IsKept l → IsSettled l s → AreNumbers s.sets numbers firsts → IsNumbering l s numbers firsts c → AreClasses l c
+pub are_classes : (l : Lowered) (s : Draft) (numbers firsts : List ℕ) (c : Classed) → IsLegalLowering l → IsSettled l s → AreNumbers s.sets numbers firsts → IsNumbering l s numbers firsts c → AreClasses l c
 are_classes l s numbers firsts c kept se n is =
     let w = wide l s numbers firsts in
     let narrow = is_narrow l s numbers firsts c is in
@@ -178,7 +178,7 @@ rows_at (g ∷ fs) numbers rows n (suc k) f e =
     rows_at fs numbers rows (suc n) k f e
     ∙ ap (λ (m : ℕ). Some (numbered_row numbers (get_or rows m []) f.regs)) (let s : suc n + k ≡ n + suc k = omega arith in s)
 
-pub some_classes : (l : Lowered) (s : Draft) (numbers firsts : List ℕ) → IsKept l → IsSettled l s → AreNumbers s.sets numbers firsts → (c : Classed) × AreClasses l c × (c.count ≡ length firsts)
+pub some_classes : (l : Lowered) (s : Draft) (numbers firsts : List ℕ) → IsLegalLowering l → IsSettled l s → AreNumbers s.sets numbers firsts → (c : Classed) × AreClasses l c × (c.count ≡ length firsts)
 some_classes l s numbers firsts kept se n =
     let c : Classed = record { count = length firsts; globals = take l.globals numbers; sites = drop l.globals numbers; registers = rows_of l.functions numbers s.registers.items 0; cells = numbered_cells numbers s.cells.items firsts } in (
       c,

@@ -14,7 +14,7 @@ use Rattle.asl_lower.specs.Region.{start_of, returned, returned_by, InBody}
 use Rattle.asl_lower.specs.Operands.{HasOperands}
 use Rattle.asl_lower.specs.Limits.{FitsTable}
 use Rattle.asl_lower.specs.Facts.{HasLayout}
-use Rattle.asl_lower.specs.Kept.{IsKept}
+use Rattle.asl_lower.specs.LegalLowering.{IsLegalLowering}
 use Rattle.asl_lower.proofs.Layouts.{kept_layout}
 use Rattle.asl_points_to.specs.declared.flow.Flow.{Flow}
 use Rattle.asl_points_to.specs.declared.flow.Flow.TheVariants as flow
@@ -187,7 +187,7 @@ pub record HasFacts (l : Lowered) (f : ℕ) (i : Instr) : Type 0 where
   pub few : function.regs ≤ 64
   pub operands : HasOperands l function.regs i
 
-pub facts : (l : Lowered) (f : ℕ) (i : Instr) → IsKept l → Stands l f i → HasFacts l f i
+pub facts : (l : Lowered) (f : ℕ) (i : Instr) → IsLegalLowering l → Stands l f i → HasFacts l f i
 facts l f i k s =
     let h = kept_layout l k in
     let b = s.inside in
@@ -212,7 +212,7 @@ pub record HasCalled (l : Lowered) (first callee : ℕ) (fn : entry.Function) : 
   pub low : callee < length l.functions
   pub arguments : first + fn.params < 256
 
-pub called : (l : Lowered) (f : ℕ) (i : Instr) (a first callee n : ℕ) (fs : List entry.Function) (d : entry.Function) → IsKept l → Stands l f i → i ≡ instr.Call a first callee → fs ≡ l.functions → n ≡ callee → HasCalled l first callee (get_or fs n d)
+pub called : (l : Lowered) (f : ℕ) (i : Instr) (a first callee n : ℕ) (fs : List entry.Function) (d : entry.Function) → IsLegalLowering l → Stands l f i → i ≡ instr.Call a first callee → fs ≡ l.functions → n ≡ callee → HasCalled l first callee (get_or fs n d)
 called l f i a first callee n fs d k s is same e =
     let h = facts l f i k s in
     let Has : Instr → Type 0 = λ x. HasOperands l h.function.regs x in
@@ -234,7 +234,7 @@ pub record HasBody (l : Lowered) (n : ℕ) (fn : entry.Function) : Type 0 where
   pub size : length l.code ≤ 65535
   pub number : n < 256
 
-pub body_at : (l : Lowered) (fs : List entry.Function) (n : ℕ) (d : entry.Function) → IsKept l → fs ≡ l.functions → n < length fs → HasBody l n (get_or fs n d)
+pub body_at : (l : Lowered) (fs : List entry.Function) (n : ℕ) (d : entry.Function) → IsLegalLowering l → fs ≡ l.functions → n < length fs → HasBody l n (get_or fs n d)
 body_at l fs n d k same lt =
     let h = kept_layout l k in
     let low : n < length l.functions = omega (arith, ap (λ (xs : List entry.Function). length xs) same) in
@@ -277,6 +277,6 @@ registers_more l registers n r len so is g lt =
     ]
 
 -- the flows of all instructions of a program, for those of all its bodies
-pub start_of_all : (l : Lowered) (n : ℕ) → IsKept l → length l.functions ≤ n → start_of l.functions n ≡ length l.code
+pub start_of_all : (l : Lowered) (n : ℕ) → IsLegalLowering l → length l.functions ≤ n → start_of l.functions n ≡ length l.code
 start_of_all l n k le =
     ap (λ (xs : List entry.Function). sum_by (λ (f : entry.Function). f.len) xs) (take_all n l.functions le) ∙ (kept_layout l k).parted.total

@@ -4,7 +4,7 @@ use Rattle.std.proofs.lemmas.List.{take-append-drop, length-take, length-drop, l
 use Rattle.std.proofs.lemmas.List.Elements.{Contains-get_or}
 use Rattle.std.proofs.lemmas.Option.{slice_get-get_or, slice_get_within, get_or_from_slice_get}
 use Rattle.asl_lower.specs.Lowered.{Lowered}
-use Rattle.asl_lower.specs.Kept.{IsKept}
+use Rattle.asl_lower.specs.LegalLowering.{IsLegalLowering}
 use Rattle.asl_lower.proofs.Layouts.{kept_layout}
 use Rattle.asl_points_to.specs.declared.draft.Draft.{Draft}
 use Rattle.asl_points_to.specs.declared.flow.Place.{Place}
@@ -140,7 +140,7 @@ flow_holds l s numbers firsts se n fs (flow.Store a b) t (inr (inr h)) = λ x y 
     let no : None ≡ Some k.0 = sym h ∙ k.1 in
     absurd cc)
 
-pub wide_legal : (l : Lowered) (s : Draft) (numbers firsts : List ℕ) → IsKept l → IsSettled l s → AreNumbers s.sets numbers firsts → IsLegal l (wide l s numbers firsts)
+pub wide_legal : (l : Lowered) (s : Draft) (numbers firsts : List ℕ) → IsLegalLowering l → IsSettled l s → AreNumbers s.sets numbers firsts → IsLegal l (wide l s numbers firsts)
 wide_legal l s numbers firsts kept se n =
     let len : length numbers ≡ l.globals + l.sites = n.len ∙ se.members in
     let globals : length (take l.globals numbers) ≡ l.globals = length-take l.globals numbers ∙ omega arith in

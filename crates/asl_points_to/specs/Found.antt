@@ -1,4 +1,4 @@
--- Machinery of the proofs, not of the promise: what src/analysis.rt finds of a program, before and after the
+-- Machinery of the proofs, not of the promise: what src/points_to.rt finds of a program, before and after the
 -- classes have their numbers.
 use Rattle.std.specs.Prelude.{◌≡◌, ◌+◌, ◌⊎◌, ℕ, List, [], length, take, drop, Option, Some, slice_get, slice_index_or}
 use Rattle.std.specs.List.{Contains}

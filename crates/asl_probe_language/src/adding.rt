@@ -4,7 +4,7 @@
 ghost use Rattle.std.specs.Prelude.{◌≤◌};
 
 use asl_code::Lock;
-use asl_lock_expr::{View, Writes, add_accesses, add_entered, add_links, stays};
+use asl_lock_expr::{LinkContext, Writes, add_accesses, add_entered, add_links, stays};
 use asl_points_to::Classes;
 use asl_probe_text::{instr, lock, put_bad, put_bool, put_locks};
 use std::alloc::AllocError;
@@ -18,15 +18,15 @@ pub fn answer(
 ) -> Result<(), AllocError> {
     let mut words = line.splitn(4, ' ');
     let call = words.next().unwrap_or("");
-    let longest = words.next().and_then(|word| word.parse::<u8>().ok());
+    let k_limit = words.next().and_then(|word| word.parse::<u8>().ok());
     let function = words.next().and_then(|word| word.parse::<u16>().ok());
     let rest = words.next().unwrap_or("");
-    match (longest, function) {
-        (Some(longest), Some(function)) if longest <= 8 => {
-            let view = View {
+    match (k_limit, function) {
+        (Some(k_limit), Some(function)) if k_limit <= 8 => {
+            let view = LinkContext {
                 classes,
                 writes,
-                longest: usize::from(longest),
+                k_limit: usize::from(k_limit),
                 function,
             };
             answer_call(&view, call, rest, locks, out)
@@ -36,13 +36,13 @@ pub fn answer(
 }
 
 fn answer_call(
-    view: &View,
+    view: &LinkContext,
     call: &str,
     rest: &str,
     locks: &mut Vec<Lock>,
     out: &mut String,
 ) -> Result<(), AllocError>
-    requires { view.now.longest ≤ 8 }
+    requires { view.now.k_limit ≤ 8 }
 {
     if call == "add_entered" {
         return enter(view, rest, locks, out);
@@ -59,8 +59,13 @@ fn answer_call(
     put_locks(locks, out)
 }
 
-fn enter(view: &View, rest: &str, locks: &mut Vec<Lock>, out: &mut String) -> Result<(), AllocError>
-    requires { view.now.longest ≤ 8 }
+fn enter(
+    view: &LinkContext,
+    rest: &str,
+    locks: &mut Vec<Lock>,
+    out: &mut String,
+) -> Result<(), AllocError>
+    requires { view.now.k_limit ≤ 8 }
 {
     let mut words = rest.splitn(3, ' ');
     let first = words.next().and_then(|word| word.parse::<u8>().ok());

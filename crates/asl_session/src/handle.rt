@@ -3,7 +3,7 @@ ghost use Rattle.std.specs.Prelude.{◌≡◌, true, false, IfSome, IfNone};
 
 use crate::session::Session;
 use crate::slot::Slot;
-use asl_foreign::Parts;
+use asl_foreign::OpenBox;
 use std::alloc::Global;
 
 /// A session that C keeps, or none.
@@ -33,7 +33,7 @@ impl Handle {
     {
         Handle {
             live: true,
-            slot: Slot::of_parts(Parts::of(session)),
+            slot: Slot::of_parts(OpenBox::of(session)),
         }
     }
 

@@ -4,7 +4,7 @@ ghost use Rattle.std.specs.Coded.{coded_bool};
 ghost use Rattle.asl_session.specs.Owned.{Kept, coded_kept};
 
 use crate::session::Session;
-use asl_foreign::Parts;
+use asl_foreign::OpenBox;
 use std::alloc::Global;
 use std::marker::Model;
 
@@ -43,11 +43,11 @@ impl Slot {
     }
 
     /// The session of the box.
-    pub fn of_parts(parts: Parts<Session, Global>) -> Slot
+    pub fn of_parts(parts: OpenBox<Session, Global>) -> Slot
         ensures owned { result.owned ≡ true }
         ensures session { result.session ≡ parts.value }
     {
-        let Parts { ptr, alloc } = parts;
+        let OpenBox { ptr, alloc } = parts;
         Slot {
             at: ptr as *mut Opaque,
             alloc,
@@ -55,12 +55,12 @@ impl Slot {
     }
 
     /// The box of the session.
-    pub fn into_parts(self) -> Parts<Session, Global>
+    pub fn into_parts(self) -> OpenBox<Session, Global>
         requires { self.owned ≡ true }
         ensures { result.value ≡ self.session }
     {
         let Slot { at, alloc } = self;
-        Parts {
+        OpenBox {
             ptr: at as *mut Session,
             alloc,
         }

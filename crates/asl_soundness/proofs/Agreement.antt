@@ -18,7 +18,7 @@ use Rattle.asl_machine.specs.declared.reply.Reply.TheVariants as reply
 use Rattle.asl_machine.specs.State.{Frame, Activity, Thread, Running, Done, Failed, State, cell_at, class_of, written, new_object, activity_of}
 use Rattle.asl_machine.specs.Calls.{first_registers, values_from, with_register}
 use Rattle.asl_machine.specs.WellFormed.{AreSuspended}
-use Rattle.asl_machine.specs.Step.{Line, Sets, GoesOn, after, returned}
+use Rattle.asl_machine.specs.Step.{Line, Sets, ContinuesAt, after, returned}
 use Rattle.asl_machine.proofs.Heaps.{class_of-written}
 use Rattle.asl_machine.proofs.Invariant.{Here, function_is}
 use Rattle.asl_machine.proofs.Table.{at_of}
@@ -50,7 +50,7 @@ module _ (l : Lowered) (c : Classed) (image : Image) (made : IsImageOf l c image
 
   -- `store`
   stores : (r from : ℕ) (cell : Cell) (v : Value) (new : State) → IsLegalAt l c a.top.function (instr.Store r from) → slice_get a.top.regs r ≡ Some (Addr cell.object cell.offset) → slice_get a.top.regs from ≡ Some v →
-      GoesOn (at_of image s t a) a.depth (written s.objects cell v) s.holding new → Agrees c new
+      ContinuesAt (at_of image s t a) a.depth (written s.objects cell v) s.holding new → Agrees c new
   stores r from cell v new legal reads_r reads_v e =
       let target = own.0 r (Addr cell.object cell.offset) reads_r in
       let points = points_given (class_of s.objects) (to c a.top.function from) (inside c target.0) v (λ z k. legal target.0 z target.1 k) (own.0 from v reads_v) in

@@ -5,19 +5,19 @@ use Rattle.asl_code.specs.declared.image.Image.{Image}
 use Rattle.asl_code.specs.declared.lock.Lock.{Lock}
 use Rattle.asl_lower.specs.Lowered.{Lowered}
 use Rattle.asl_lower.specs.Regions.{Region}
-use Rattle.asl_lower.specs.Kept.{IsKept}
+use Rattle.asl_lower.specs.LegalLowering.{IsLegalLowering}
 use Rattle.asl_points_to.specs.Classes.{Classed}
 use Rattle.asl_backward_flow.specs.Closed.{Family, IsClosed}
 use Rattle.asl_soundness.specs.Coded.{IsImageOf}
 use Rattle.asl_soundness.specs.Protected.{LockThere}
-use Rattle.asl_soundness.specs.Safe.{StandOver, TellsAllStores}
+use Rattle.asl_soundness.specs.Safe.{ListsCover, TellsAllStores}
 
 -- the image of a lowering, with legal classes, whose lists cover a closed family of locks; each of these begins on a
 -- register, or on a global that is there
-pub record IsAnalysed (l : Lowered) (c : Classed) (stores : ℕ → ℕ → Bool) (longest : ℕ) (K : Family) (image : Image) : Type 0 where
-  pub kept : IsKept l
+pub record IsAnalysed (l : Lowered) (c : Classed) (stores : ℕ → ℕ → Bool) (k_limit : ℕ) (K : Family) (image : Image) : Type 0 where
+  pub kept : IsLegalLowering l
   pub made : IsImageOf l c image
-  pub closed : IsClosed l c stores longest K
+  pub closed : IsClosed l c stores k_limit K
   pub based : (r : Region) (pc : ℕ) (n : Lock) → K r pc n → LockThere c n
   pub told : TellsAllStores l c stores
-  pub lists : StandOver l c K image
+  pub lists : ListsCover l c K image

@@ -16,13 +16,13 @@ use Rattle.asl_lower.specs.Operands.{HasOperands}
 use Rattle.asl_lower.specs.Facts.{HasLayout}
 use Rattle.asl_lower.proofs.Inside.{region_body}
 use Rattle.asl_points_to.specs.Classes.{Classed, IsLegal}
-use Rattle.asl_lock_expr.specs.Links.{View, view, on, is_star, accesses, renamed, renamed_on, prefixes, dereferenced}
+use Rattle.asl_lock_expr.specs.Links.{LinkContext, view, on, is_star, accesses, renamed, renamed_on, prefixes, dereferenced}
 use Rattle.asl_backward_flow.specs.Needed.{Needed, Accessed, Linked, Entered, Before}
 use Rattle.asl_soundness.specs.Protected.{BaseThere, LockThere}
 use Rattle.asl_soundness.proofs.Protecting.{AllThere}
 use Rattle.asl_soundness.proofs.Links.{GlobalsThere, none_there, alone_there, either_there, both_there, settle_there, link_there}
 
-accesses_there : (v : View) (i : Instr) → AllThere v.classes (accesses v i)
+accesses_there : (v : LinkContext) (i : Instr) → AllThere v.classes (accesses v i)
 accesses_there v (instr.Load a b) = settle_there v (on (Reg b) [] Read) tt
 accesses_there v (instr.Store a b) = settle_there v (on (Reg a) [] Write) tt
 accesses_there v i = none_there v.classes
@@ -50,15 +50,15 @@ named : (l : Lowered) (c : Classed) (registers : ℕ) (i : Instr) → length c.g
 named l c registers (instr.GlobalAddress a g) same has = subst (λ n. g < n) (sym same) has.1
 named l c registers i same has = tt
 
-module _ (l : Lowered) (c : Classed) (stores : ℕ → ℕ → Bool) (longest : ℕ) (lay : HasLayout l) (legal : IsLegal l c) where
+module _ (l : Lowered) (c : Classed) (stores : ℕ → ℕ → Bool) (k_limit : ℕ) (lay : HasLayout l) (legal : IsLegal l c) where
   -- the global that an instruction of a region names is there
   globals_there : (r : Region) (f pc : ℕ) (i : Instr) → IsIn l r f pc → slice_get l.code pc ≡ Some i → GlobalsThere c i
   globals_there r f pc i isin at =
       let body = region_body l lay r f pc isin in
       named l c body.function.regs i legal.globals (lay.operands pc f body.function i body body.in_table at)
 
-  pub needed_there : (r : Region) (pc : ℕ) (n : Lock) → Needed l c stores longest r pc n → LockThere c n
-  needed_there _ _ _ (Accessed r f pc i n isin at o) = accesses_there (view c stores longest f) i n o
-  needed_there _ _ _ (Linked r f pc next i m n isin at goes k o) = link_there (view c stores longest f) i m (globals_there r f pc i isin at) (needed_there r next m k) n o
-  needed_there _ _ _ (Entered r f pc to first g callee m p n isin at there k o q) = settle_there (view c stores longest f) p (renamed_there c first callee.params m (needed_there _ _ m k) p o) n q
+  pub needed_there : (r : Region) (pc : ℕ) (n : Lock) → Needed l c stores k_limit r pc n → LockThere c n
+  needed_there _ _ _ (Accessed r f pc i n isin at o) = accesses_there (view c stores k_limit f) i n o
+  needed_there _ _ _ (Linked r f pc next i m n isin at goes k o) = link_there (view c stores k_limit f) i m (globals_there r f pc i isin at) (needed_there r next m k) n o
+  needed_there _ _ _ (Entered r f pc to first g callee m p n isin at there k o q) = settle_there (view c stores k_limit f) p (renamed_there c first callee.params m (needed_there _ _ m k) p o) n q
   needed_there _ _ _ (Before r pc m n k o) = dereferenced_there c m (needed_there r pc m k) n o

@@ -47,15 +47,15 @@ use Rattle.asl_soundness.proofs.Sections.{Ready, own_view, stands, layout, body,
 
 -- ---- a store of the top frame, for the frames that wait
 
-module _ (l : Lowered) (c : Classed) (stores : ℕ → ℕ → Bool) (longest : ℕ) (K : Family) (image : Image) (A : IsAnalysed l c stores longest K image) (k : Cover) (t : ℕ) (objects : List Object)
+module _ (l : Lowered) (c : Classed) (stores : ℕ → ℕ → Bool) (k_limit : ℕ) (K : Family) (image : Image) (A : IsAnalysed l c stores k_limit K image) (k : Cover) (t : ℕ) (objects : List Object)
     (cell : Cell) (value old : Value) (there : cell_at objects cell ≡ Some old) (hit : ℕ) (of : class_of objects cell.object ≡ Some hit) (cells : CellsAgree c objects) (globals : GlobalsAgree c objects) (agrees : CellsAgree c (written objects cell value)) where
   -- of one of them: what the call leaves goes through no class that is written
-  one_stored : (f : Frame) (above : ℕ) (result : Option ℕ) → IsSuspended image objects above result f → FrameAgrees c objects f.function f.regs → MayStore l c above hit → (r : Region) (n : Lock) → IsLeft l c stores longest K f r n →
+  one_stored : (f : Frame) (above : ℕ) (result : Option ℕ) → IsSuspended image objects above result f → FrameAgrees c objects f.function f.regs → MayStore l c above hit → (r : Region) (n : Lock) → IsLeft l c stores k_limit K f r n →
       Protected k t objects f.regs n → Protected k t (written objects cell value) f.regs n
   one_stored f above result u frame may r (lock.Root effect) w p = p
   one_stored f above result u frame may r (lock.Class x effect) w p = p
   one_stored f above result u frame may r (lock.Expr e effect) w p =
-      let v = view c stores longest f.function in
+      let v = view c stores k_limit f.function in
       let left = call_leaves v w.to w.first w.callee w.behind e effect w.left in
       let same : w.call ≡ u.call = (let a = w.waits in let b = u.behind in omega (arith, a, b)) in
       let calls : instr.Call w.to w.first w.callee ≡ instr.Call u.to u.first above = same_Some _ _ (sym w.calls ∙ ap (slice_get l.code) same ∙ call_at l c image A.made objects above result f u) in
@@ -63,11 +63,11 @@ module _ (l : Lowered) (c : Classed) (stores : ℕ → ℕ → Bool) (longest : 
       let writes : stores w.callee hit ≡ true = ap (λ g. stores g hit) callee ∙ A.told above hit may in
       let past = (or_parts (is_register w.to e.base) (goes_through c (stores w.callee) (base_class c f.function e.base) e.path) left.1).1 in
       store_below k t objects cell value old there v f.regs (record { cells = cells; frame = frame; globals = globals }) agrees e effect
-      ((left_whole l c stores longest K A.closed A.based f r).there (lock.Expr e effect) w) (stores w.callee) hit of writes past p
+      ((left_whole l c stores k_limit K A.closed A.based f r).there (lock.Expr e effect) w) (stores w.callee) hit of writes past p
 
   -- of all: a caller may store to what its callee may store to
   pub waiting_stored : (above : ℕ) (result : Option ℕ) (fs : List Frame) → AreSuspended image objects above result fs → FramesAgree c objects fs → MayStore l c above hit →
-      WaitingHave l c stores longest K k t objects fs → WaitingHave l c stores longest K k t (written objects cell value) fs
+      WaitingHave l c stores k_limit K k t objects fs → WaitingHave l c stores k_limit K k t (written objects cell value) fs
   waiting_stored above result [] susp frames may have = tt
   waiting_stored above result (f ∷ fs) susp frames may have =
       let u = susp.0 in (
@@ -78,20 +78,20 @@ module _ (l : Lowered) (c : Classed) (stores : ℕ → ℕ → Bool) (longest : 
 
 -- ---- calls and returns
 
-module _ (l : Lowered) (c : Classed) (stores : ℕ → ℕ → Bool) (longest : ℕ) (K : Family) (image : Image) (s : State) (t : ℕ) (a : Activity) (q : Ready l c stores longest K image s t a) where
+module _ (l : Lowered) (c : Classed) (stores : ℕ → ℕ → Bool) (k_limit : ℕ) (K : Family) (image : Image) (s : State) (t : ℕ) (a : Activity) (q : Ready l c stores k_limit K image s t a) where
   module _ (x first g : ℕ) (callee : Function) (at : slice_get l.code a.top.pc ≡ Some (instr.Call x first g)) (listed : slice_get l.functions g ≡ Some callee) where
     -- where the call waits in a region, it was in it
     waits_in : (next : ℕ) → next ≡ suc a.top.pc → (r : Region) → region_of l (placed_at next a.top) a.below ≡ Some r → (region_of l a.top a.below ≡ Some r) × IsIn l r a.top.function a.top.pc
     waits_in next goes r e =
-        region_goes l (layout l c stores longest K image s t a q) a.top a.below (body l c stores longest K image s t a q) (nested l c stores longest K image s t a q).kinds.0 (placed_at next a.top) (instr.Call x first g) at goes refl
-        (stays_closed l c stores longest K image s t a q (instr.Call x first g) next at goes refl) r e
+        region_goes l (layout l c stores k_limit K image s t a q) a.top a.below (body l c stores k_limit K image s t a q) (nested l c stores k_limit K image s t a q).kinds.0 (placed_at next a.top) (instr.Call x first g) at goes refl
+        (stays_closed l c stores k_limit K image s t a q (instr.Call x first g) next at goes refl) r e
 
     -- what is wanted at the callee's entry, in its first frame: a parameter is its argument, other registers point nowhere
     callee_has : (regs : List Value) (r : Region) → region_of l a.top a.below ≡ Some r → IsIn l r a.top.function a.top.pc →
         ((n : ℕ) → n < callee.params → slice_get regs n ≡ slice_get a.top.regs (first + n)) → ((n : ℕ) → callee.params ≤ n → option_and_then pointed (slice_get regs n) ≡ None) →
         (m : Lock) → K (Body g) (start_of l.functions g) m → Protected (cover s.holding a.fresh) t s.objects regs m
     callee_has regs r region isin args others m w =
-        by_lock m (λ p o known. settle_protects (own_view l c stores longest K image s t a q) (cover s.holding a.fresh) t s.objects a.top.regs (stands l c stores longest K image s t a q) p known
+        by_lock m (λ p o known. settle_protects (own_view l c stores k_limit K image s t a q) (cover s.holding a.fresh) t s.objects a.top.regs (stands l c stores k_limit K image s t a q) p known
         (λ n z. q.has.top r region n (q.program.closed.entered r a.top.function a.top.pc x first g callee m p n isin at listed w o z))) (q.program.based (Body g) (start_of l.functions g) m w)
       where
         by_base : (base : Base) (path : List Op) (effect : Effect) → ((p : Lock) → IsOne (renamed_on first callee.params base path effect) p → LockThere c p → Protected (cover s.holding a.fresh) t s.objects a.top.regs p) → BaseThere c base →
@@ -113,10 +113,10 @@ module _ (l : Lowered) (c : Classed) (stores : ℕ → ℕ → Bool) (longest : 
 
     pub calls : (next : ℕ) (new : Frame) → next ≡ suc a.top.pc → new.function ≡ g → new.pc ≡ start_of l.functions g →
         ((n : ℕ) → n < callee.params → slice_get new.regs n ≡ slice_get a.top.regs (first + n)) → ((n : ℕ) → callee.params ≤ n → option_and_then pointed (slice_get new.regs n) ≡ None) →
-        HasWanted l c stores longest K (cover s.holding a.fresh) t s.objects (record { depth = a.depth; top = new; below = placed_at next a.top ∷ a.below; fresh = a.fresh })
+        HasWanted l c stores k_limit K (cover s.holding a.fresh) t s.objects (record { depth = a.depth; top = new; below = placed_at next a.top ∷ a.below; fresh = a.fresh })
     calls next new goes is begins args others =
         let frames = placed_at next a.top ∷ a.below in
-        let empty : open_at l.code new.pc ≡ [] = ap (open_at l.code) begins ∙ (layout l c stores longest K image s t a q).nested.starts g callee listed in
+        let empty : open_at l.code new.pc ≡ [] = ap (open_at l.code) begins ∙ (layout l c stores k_limit K image s t a q).nested.starts g callee listed in
         record {
           top = λ r e n w.
               elim (is_inside l frames) as (λ b. is_inside l frames ≡ b → Protected (cover s.holding a.fresh) t s.objects new.regs n) [
@@ -138,22 +138,22 @@ module _ (l : Lowered) (c : Classed) (stores : ℕ → ℕ → Bool) (longest : 
 
   -- `ret` to the frame below
   pub returns : (x : ℕ) (caller : Frame) (others : List Frame) (value : Value) → a.below ≡ caller ∷ others → a.top.result ≡ Some x → ThreadAgrees c s.objects (returned a (with_register x value caller) others) → x < length caller.regs →
-      HasWanted l c stores longest K (cover s.holding a.fresh) t s.objects (returned a (with_register x value caller) others)
+      HasWanted l c stores k_limit K (cover s.holding a.fresh) t s.objects (returned a (with_register x value caller) others)
   returns x caller others value below awaits agrees lt =
       let susp : AreSuspended image s.objects a.top.function a.top.result (caller ∷ others) = subst (AreSuspended image s.objects a.top.function a.top.result) below q.here.placed.below in
       let u = susp.0 in
       let same : u.to ≡ x = same_Some u.to x (sym u.awaits ∙ awaits) in
       let calls : slice_get l.code u.call ≡ Some (instr.Call x u.first a.top.function) = call_at l c image q.program.made s.objects a.top.function a.top.result caller u ∙ ap (λ n. Some (instr.Call n u.first a.top.function)) same in
       let frames : FramesAgree c s.objects (caller ∷ others) = subst (FramesAgree c s.objects) below (q.structured.agrees.threads t a q.here.is).1 in
-      let waiting : WaitingHave l c stores longest K (cover s.holding a.fresh) t s.objects (caller ∷ others) = subst (WaitingHave l c stores longest K (cover s.holding a.fresh) t s.objects) below q.has.waiting in
+      let waiting : WaitingHave l c stores k_limit K (cover s.holding a.fresh) t s.objects (caller ∷ others) = subst (WaitingHave l c stores k_limit K (cover s.holding a.fresh) t s.objects) below q.has.waiting in
       let globals = globals_agree l c image q.program.made s q.structured.sound in
       let cells = q.structured.agrees.cells in
-      let old : Stands (view c stores longest caller.function) s.objects caller.regs = record { cells = cells; frame = frames.0; globals = globals } in
-      let now : Stands (view c stores longest caller.function) s.objects (set caller.regs x value) = record { cells = cells; frame = agrees.0; globals = globals } in
+      let old : Stands (view c stores k_limit caller.function) s.objects caller.regs = record { cells = cells; frame = frames.0; globals = globals } in
+      let now : Stands (view c stores k_limit caller.function) s.objects (set caller.regs x value) = record { cells = cells; frame = agrees.0; globals = globals } in
       record {
         top = λ r e n w.
-            link_protects (view c stores longest caller.function) (cover s.holding a.fresh) t s.objects s.objects caller.regs (set caller.regs x value) (instr.Call x u.first a.top.function) old tt
-            (λ d effect there all. return_row (view c stores longest caller.function) (cover s.holding a.fresh) t s.objects caller.regs x value (stores a.top.function) now lt d effect there all)
+            link_protects (view c stores k_limit caller.function) (cover s.holding a.fresh) t s.objects s.objects caller.regs (set caller.regs x value) (instr.Call x u.first a.top.function) old tt
+            (λ d effect there all. return_row (view c stores k_limit caller.function) (cover s.holding a.fresh) t s.objects caller.regs x value (stores a.top.function) now lt d effect there all)
             n (q.program.based r caller.pc n w)
             (λ m o. waiting.0 r e m (record { call = u.call; to = x; first = u.first; callee = a.top.function; behind = n; waits = (let b = u.behind in omega (arith, b)); calls = calls; wanted = w; left = o }));
         waiting = waiting.1;

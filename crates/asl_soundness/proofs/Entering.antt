@@ -16,12 +16,12 @@ use Rattle.asl_lock_forest.specs.declared.node.Node.TheVariants.{Root, Class}
 use Rattle.asl_lock_forest.specs.Holding.{Holding, HoldsNothing, held, grant, covering_mode, Covers}
 use Rattle.asl_lock_forest.proofs.NinePairs.{covered_at, covers_at}
 use Rattle.asl_lock_expr.specs.Expression.{cell_denoted}
-use Rattle.asl_lock_expr.specs.Links.{View, IsOne}
+use Rattle.asl_lock_expr.specs.Links.{LinkContext, IsOne}
 use Rattle.asl_machine.specs.State.{Object}
 use Rattle.asl_machine.specs.Request.{heap_of, asks_of, request_of, IsAsk}
 use Rattle.asl_machine.specs.Cover.{is_fresh, Cover, cover}
 use Rattle.asl_machine.proofs.Asks.{asked_held, lock_covers}
-use Rattle.asl_soundness.specs.Over.{covers_effect, StandsOver}
+use Rattle.asl_soundness.specs.Covering.{covers_effect, CoversLock}
 use Rattle.asl_soundness.specs.Protected.{is_class_covered, Protected, LockThere}
 use Rattle.asl_soundness.proofs.Protecting.{Stands, denoted_class, protect, class_protects}
 
@@ -43,7 +43,7 @@ root_protects k t objects regs (lock.Root effect) e = e
 root_protects k t objects regs (lock.Class x effect) e = or_right (is_at_most (covering_mode effect) (held k.holding t (Class x))) (is_at_most (covering_mode effect) (held k.holding t Root)) e
 root_protects k t objects regs (lock.Expr d effect) e = protect k t objects effect (cell_denoted (heap_of objects) regs d) (λ cell at y of. or_right (is_fresh k.fresh cell.object) _ (or_right _ (is_at_most (covering_mode effect) (held k.holding t Root)) e))
 
-module _ (v : View) (h : Holding) (fresh : List ℕ) (t : ℕ) (objects : List Object) (regs : List Value) (locks : List Lock) (none : HoldsNothing h t) where
+module _ (v : LinkContext) (h : Holding) (fresh : List ℕ) (t : ℕ) (objects : List Object) (regs : List Value) (locks : List Lock) (none : HoldsNothing h t) where
   -- the holding after the grant
   abbrev Granted : Holding
   Granted = grant h t (request_of objects regs locks)
@@ -58,7 +58,7 @@ module _ (v : View) (h : Holding) (fresh : List ℕ) (t : ℕ) (objects : List O
   class_held x effect need o enough =
       or_left (is_at_most (covering_mode need) (held Granted t (Class x))) _ (node_held (lock.Class x effect) effect need (Class x) o (inr (inl (refl, refl))) enough)
 
-  pub granted_protects : Stands v objects regs → (m n : Lock) → IsOne locks m → LockThere v.classes n → StandsOver v.classes v.function m n → Protected (cover Granted fresh) t objects regs n
+  pub granted_protects : Stands v objects regs → (m n : Lock) → IsOne locks m → LockThere v.classes n → CoversLock v.classes v.function m n → Protected (cover Granted fresh) t objects regs n
   granted_protects stands (lock.Root effect) n o there over =
       root_protects (cover Granted fresh) t objects regs n (node_held (lock.Root effect) effect (effect_of n) Root o (inl (refl, refl)) over)
   granted_protects stands (lock.Class x effect) (lock.Class y need) o there over =

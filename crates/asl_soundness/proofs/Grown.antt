@@ -15,7 +15,7 @@ use Rattle.asl_code.specs.declared.path.Op.{Op}
 use Rattle.asl_code.specs.declared.path.Op.TheVariants.{Deref, Off}
 use Rattle.asl_points_to.specs.Classes.{Classed}
 use Rattle.asl_lock_expr.specs.Expression.{cell_of, pointed, moved, path_cell, base_cell, cell_denoted}
-use Rattle.asl_lock_expr.specs.Links.{View, is_register, replaced}
+use Rattle.asl_lock_expr.specs.Links.{LinkContext, is_register, replaced}
 use Rattle.asl_lock_expr.proofs.Walks.{start_there, first_step, star_reads, moved_stays}
 use Rattle.asl_machine.specs.State.{Object, cell_at, class_of, new_object}
 use Rattle.asl_machine.specs.Access.{Points, AllPoint}
@@ -132,7 +132,7 @@ path_stays objects class n (Deref ∷ ops) cell end at e =
     cc
 
 -- `new`: an expression on the register ends in the new object, which is fresh; every other is as before
-pub new_row : (v : View) (k : Cover) (t : ℕ) (objects : List Object) (regs : List Value) (a n class : ℕ) → a < length regs → IsTrue (is_fresh k.fresh (length objects)) → AllPoint objects regs →
+pub new_row : (v : LinkContext) (k : Cover) (t : ℕ) (objects : List Object) (regs : List Value) (a n class : ℕ) → a < length regs → IsTrue (is_fresh k.fresh (length objects)) → AllPoint objects regs →
     GlobalsPoint v.classes objects → ((cell : Cell) (w : Value) → cell_at objects cell ≡ Some w → Points objects w) →
     (e : Expr) (effect : Effect) → BaseThere v.classes e.base → AllProtected k t objects regs (replaced a e effect []) →
     Protected k t (objects ++ new_object class n ∷ []) (set regs a (Addr (length objects) 0)) (lock.Expr e effect)

@@ -114,18 +114,18 @@ made_keeps c t k objects more globals cells regs W points away whole all n wante
 
 -- ---- what frames want is whole
 
-module _ (l : Lowered) (c : Classed) (stores : ℕ → ℕ → Bool) (longest : ℕ) (K : Family) (closed : IsClosed l c stores longest K) (based : (r : Region) (pc : ℕ) (n : Lock) → K r pc n → LockThere c n) where
+module _ (l : Lowered) (c : Classed) (stores : ℕ → ℕ → Bool) (k_limit : ℕ) (K : Family) (closed : IsClosed l c stores k_limit K) (based : (r : Region) (pc : ℕ) (n : Lock) → K r pc n → LockThere c n) where
   family_whole : (r : Region) (pc : ℕ) → IsWhole c (K r pc)
   family_whole r pc = record {
     there = based r pc;
     prefixes = λ e d effect w o. closed.before r pc (lock.Expr e effect) (lock.Expr d Read) w o;
   }
 
-  pub left_whole : (f : Frame) (r : Region) → IsWhole c (IsLeft l c stores longest K f r)
+  pub left_whole : (f : Frame) (r : Region) → IsWhole c (IsLeft l c stores k_limit K f r)
   left_whole f r = record {
     there = λ n w. left_there n w;
     prefixes = λ e d effect w o.
-        let left = call_leaves (view c stores longest f.function) w.to w.first w.callee w.behind e effect w.left in
+        let left = call_leaves (view c stores k_limit f.function) w.to w.first w.callee w.behind e effect w.left in
         record {
           call = w.call;
           to = w.to;
@@ -135,28 +135,28 @@ module _ (l : Lowered) (c : Classed) (stores : ℕ → ℕ → Bool) (longest : 
           waits = w.waits;
           calls = w.calls;
           wanted = closed.before r f.pc (lock.Expr e effect) (lock.Expr d Read) (subst (K r f.pc) left.0 w.wanted) o;
-          left = prefix_left (view c stores longest f.function) w.to w.first w.callee w.behind e d effect Read w.left o;
+          left = prefix_left (view c stores k_limit f.function) w.to w.first w.callee w.behind e d effect Read w.left o;
         };
   }
     where
-      left_there : (n : Lock) → IsLeft l c stores longest K f r n → LockThere c n
+      left_there : (n : Lock) → IsLeft l c stores k_limit K f r n → LockThere c n
       left_there (lock.Root effect) w = tt
       left_there (lock.Class x effect) w = tt
       left_there (lock.Expr e effect) w =
-          based r f.pc (lock.Expr e effect) (subst (K r f.pc) (call_leaves (view c stores longest f.function) w.to w.first w.callee w.behind e effect w.left).0 w.wanted)
+          based r f.pc (lock.Expr e effect) (subst (K r f.pc) (call_leaves (view c stores k_limit f.function) w.to w.first w.callee w.behind e effect w.left).0 w.wanted)
 
   -- ---- so all frames keep what they want
 
   pub waiting_keep : (t : ℕ) (shunned : ℕ → Type 0) (k after : Cover) (objects new : List Object) → Keeps c t shunned k objects after new → (image : Image) (above : ℕ) (result : Option ℕ) (fs : List Frame) → AreSuspended image objects above result fs →
-      ((o : ℕ) → shunned o → AllElsewhere o fs) → WaitingHave l c stores longest K k t objects fs → WaitingHave l c stores longest K after t new fs
+      ((o : ℕ) → shunned o → AllElsewhere o fs) → WaitingHave l c stores k_limit K k t objects fs → WaitingHave l c stores k_limit K after t new fs
   waiting_keep t shunned k after objects new keeps image above result [] susp away have = tt
   waiting_keep t shunned k after objects new keeps image above result (f ∷ fs) susp away have = (
-    λ r e. keeps f.regs (IsLeft l c stores longest K f r) susp.0.points (λ o out. (away o out).0) (left_whole f r) (have.0 r e),
+    λ r e. keeps f.regs (IsLeft l c stores k_limit K f r) susp.0.points (λ o out. (away o out).0) (left_whole f r) (have.0 r e),
     waiting_keep t shunned k after objects new keeps image f.function f.result fs susp.1 (λ o out. (away o out).1) have.1,
   )
 
   pub thread_keeps : (t : ℕ) (shunned : ℕ → Type 0) (k after : Cover) (objects new : List Object) → Keeps c t shunned k objects after new → (image : Image) (a : Activity) → IsPlaced image objects a →
-      ((o : ℕ) → shunned o → AllElsewhere o (a.top ∷ a.below)) → HasWanted l c stores longest K k t objects a → HasWanted l c stores longest K after t new a
+      ((o : ℕ) → shunned o → AllElsewhere o (a.top ∷ a.below)) → HasWanted l c stores k_limit K k t objects a → HasWanted l c stores k_limit K after t new a
   thread_keeps t shunned k after objects new keeps image a placed away has = record {
     top = λ r e. keeps a.top.regs (K r a.top.pc) placed.points (λ o out. (away o out).0) (family_whole r a.top.pc) (has.top r e);
     waiting = waiting_keep t shunned k after objects new keeps image a.top.function a.top.result a.below placed.below (λ o out. (away o out).1) has.waiting;

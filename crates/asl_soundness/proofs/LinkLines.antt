@@ -19,7 +19,7 @@ use Rattle.asl_lock_forest.specs.Holding.{Holding, held}
 use Rattle.asl_lower.specs.Lowered.{Lowered}
 use Rattle.asl_points_to.specs.Classes.{Classed}
 use Rattle.asl_lock_expr.specs.Expression.{pointed}
-use Rattle.asl_lock_expr.specs.Links.{View, view, replaced, before, link}
+use Rattle.asl_lock_expr.specs.Links.{LinkContext, view, replaced, before, link}
 use Rattle.asl_machine.specs.declared.reply.Reply.{Reply}
 use Rattle.asl_machine.specs.declared.reply.Reply.TheVariants as reply
 use Rattle.asl_machine.specs.State.{Object, Frame, Activity, Thread, Running, Done, Failed, State, cell_at, written, new_object, activity_of, activity_at}
@@ -48,9 +48,9 @@ use Rattle.asl_soundness.proofs.Structure.{IsStructured}
 one_more_frame : (f : Frame) (fs : List Frame) → f ∷ fs ≢ fs
 one_more_frame f fs e = let z : suc (length fs) ≡ length fs = ap (length {A = Frame}) e in omega (arith, z)
 
-module _ (l : Lowered) (c : Classed) (stores : ℕ → ℕ → Bool) (longest : ℕ) (image : Image) (made : IsImageOf l c image) (s : State) (t : ℕ) (a : Activity) (q : IsStructured l c image s) (h : Here image s t a) (inside : 0 < a.depth) (n : Lock) (there : LockThere c n) where
-  abbrev v : View
-  v = view c stores longest a.top.function
+module _ (l : Lowered) (c : Classed) (stores : ℕ → ℕ → Bool) (k_limit : ℕ) (image : Image) (made : IsImageOf l c image) (s : State) (t : ℕ) (a : Activity) (q : IsStructured l c image s) (h : Here image s t a) (inside : 0 < a.depth) (n : Lock) (there : LockThere c n) where
+  abbrev v : LinkContext
+  v = view c stores k_limit a.top.function
 
   abbrev k : Cover
   k = cover s.holding a.fresh
@@ -153,13 +153,13 @@ module _ (l : Lowered) (c : Classed) (stores : ℕ → ℕ → Bool) (longest : 
   line_links i r new fits agrees all e = absurd e
 
 -- so it is of the step of a thread that is at the instruction
-pub step_links : (l : Lowered) (c : Classed) (stores : ℕ → ℕ → Bool) (longest : ℕ) (image : Image) → IsImageOf l c image → (s : State) (t : ℕ) (a b : Activity) (i : Instr) (n : Lock) → IsStructured l c image s → Agrees c (step_of image s t).state →
+pub step_links : (l : Lowered) (c : Classed) (stores : ℕ → ℕ → Bool) (k_limit : ℕ) (image : Image) → IsImageOf l c image → (s : State) (t : ℕ) (a b : Activity) (i : Instr) (n : Lock) → IsStructured l c image s → Agrees c (step_of image s t).state →
     activity_at s.threads t ≡ Some a → slice_get l.code a.top.pc ≡ Some i → activity_at (step_of image s t).state.threads t ≡ Some b → 0 < a.depth → 0 < b.depth → b.below ≡ a.below → LockThere c n →
-    AllProtected (cover s.holding a.fresh) t s.objects a.top.regs (link (view c stores longest a.top.function) i n) →
+    AllProtected (cover s.holding a.fresh) t s.objects a.top.regs (link (view c stores k_limit a.top.function) i n) →
     Protected (cover (step_of image s t).state.holding b.fresh) t (step_of image s t).state.objects b.top.regs n
-step_links l c stores longest image made s t a b i n q agrees is at now inside deep same there all =
+step_links l c stores k_limit image made s t a b i n q agrees is at now inside deep same there all =
     let own = own_step l c image made s t a q.sound is in
     let d = own.1.1 in
     let one : i ≡ own.1.0 = same_Some i own.1.0 (sym at ∙ d.at) in
-    line_links l c stores longest image made s t a q own.0 inside n there own.1.0 _ _ d.fits agrees
-    (subst (λ j. AllProtected (cover s.holding a.fresh) t s.objects a.top.regs (link (view c stores longest a.top.function) j n)) one all) d.line b now deep same
+    line_links l c stores k_limit image made s t a q own.0 inside n there own.1.0 _ _ d.fits agrees
+    (subst (λ j. AllProtected (cover s.holding a.fresh) t s.objects a.top.regs (link (view c stores k_limit a.top.function) j n)) one all) d.line b now deep same

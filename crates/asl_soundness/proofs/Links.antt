@@ -14,7 +14,7 @@ use Rattle.asl_code.specs.declared.instr.Instr.{Instr}
 use Rattle.asl_code.specs.declared.instr.Instr.TheVariants as instr
 use Rattle.asl_points_to.specs.Classes.{Classed, to}
 use Rattle.asl_lock_expr.specs.ClassOf.{class_of as expr_class, base_class, step_class}
-use Rattle.asl_lock_expr.specs.Links.{View, on, class_lock, settled, settle, is_register, is_class, is_star, begins_with_star, hits, replaced, before, link}
+use Rattle.asl_lock_expr.specs.Links.{LinkContext, on, class_lock, settled, settle, is_register, is_class, is_star, begins_with_star, hits, replaced, before, link}
 use Rattle.asl_lock_expr.proofs.Ones.{one_either}
 use Rattle.asl_machine.specs.State.{Object}
 use Rattle.asl_machine.specs.Cover.{Cover}
@@ -55,7 +55,7 @@ hits_there c hit b effect class (op ∷ ops) =
 replaced_there : (c : Classed) (a : ℕ) (e : Expr) (effect : Effect) (locks : List Lock) → BaseThere c e.base → AllThere c locks → AllThere c (replaced a e effect locks)
 replaced_there c a e effect locks there all = either_there c (is_register a e.base) locks (lock.Expr e effect ∷ []) all (alone_there c (lock.Expr e effect) there)
 
-before_there : (v : View) (i : Instr) (e : Expr) (effect : Effect) → GlobalsThere v.classes i → BaseThere v.classes e.base → AllThere v.classes (before v i e effect)
+before_there : (v : LinkContext) (i : Instr) (e : Expr) (effect : Effect) → GlobalsThere v.classes i → BaseThere v.classes e.base → AllThere v.classes (before v i e effect)
 before_there v (instr.Move a b) e effect g there = replaced_there v.classes a e effect _ there (alone_there v.classes (on (Reg b) e.path effect) tt)
 before_there v (instr.GlobalAddress a n) e effect g there = replaced_there v.classes a e effect _ there (alone_there v.classes (on (Global n) e.path effect) g)
 before_there v (instr.FieldAddress a b d) e effect g there = replaced_there v.classes a e effect _ there (alone_there v.classes (on (Reg b) (Off d ∷ e.path) effect) tt)
@@ -74,24 +74,24 @@ before_there v (instr.Call a b f) e effect g there =
     either_there v.classes _ (class_lock effect (expr_class v.classes v.function e)) (lock.Expr e effect ∷ []) (class_there v.classes effect (expr_class v.classes v.function e)) (alone_there v.classes (lock.Expr e effect) there)
 before_there v i e effect g there = alone_there v.classes (lock.Expr e effect) there
 
-pub settle_there : (v : View) (m : Lock) → LockThere v.classes m → AllThere v.classes (settle v m)
+pub settle_there : (v : LinkContext) (m : Lock) → LockThere v.classes m → AllThere v.classes (settle v m)
 settle_there v (lock.Root effect) there = alone_there v.classes (lock.Root effect) tt
 settle_there v (lock.Class x effect) there = alone_there v.classes (lock.Class x effect) tt
 settle_there v (lock.Expr e effect) there =
     elim (expr_class v.classes v.function e) as (λ o. AllThere v.classes (settled v e effect o)) [
       | None ↦ none_there v.classes
-      | Some x ↦ elim (nat_le (length e.path) v.longest) as (λ b. AllThere v.classes (cond b (lock.Expr e effect) (lock.Class x effect) ∷ [])) [
+      | Some x ↦ elim (nat_le (length e.path) v.k_limit) as (λ b. AllThere v.classes (cond b (lock.Expr e effect) (lock.Class x effect) ∷ [])) [
         | true ↦ alone_there v.classes (lock.Expr e effect) there
         | false ↦ alone_there v.classes (lock.Class x effect) tt
       ]
     ]
 
-all_settle_there : (v : View) (ms : List Lock) → AllThere v.classes ms → AllThere v.classes (flat_map (settle v) ms)
+all_settle_there : (v : LinkContext) (ms : List Lock) → AllThere v.classes ms → AllThere v.classes (flat_map (settle v) ms)
 all_settle_there v [] all = none_there v.classes
 all_settle_there v (m ∷ ms) all = both_there v.classes (settle v m) (flat_map (settle v) ms) (settle_there v m (all m (inl refl))) (all_settle_there v ms (λ k p. all k (inr p)))
 
 -- a lock that is linked begins on what is there
-pub link_there : (v : View) (i : Instr) (m : Lock) → GlobalsThere v.classes i → LockThere v.classes m → AllThere v.classes (link v i m)
+pub link_there : (v : LinkContext) (i : Instr) (m : Lock) → GlobalsThere v.classes i → LockThere v.classes m → AllThere v.classes (link v i m)
 link_there v i (lock.Root effect) g there = alone_there v.classes (lock.Root effect) tt
 link_there v i (lock.Class x effect) g there = alone_there v.classes (lock.Class x effect) tt
 link_there v i (lock.Expr e effect) g there = all_settle_there v (before v i e effect) (before_there v i e effect g there)
@@ -99,7 +99,7 @@ link_there v i (lock.Expr e effect) g there = all_settle_there v (before v i e e
 -- ---- one instruction
 
 -- for an instruction that keeps the holding: where all to which a lock is linked is protected before it, the lock is after it
-pub link_protects : (v : View) (k : Cover) (t : ℕ) (objects new : List Object) (regs after : List Value) (i : Instr) → Stands v objects regs → GlobalsThere v.classes i →
+pub link_protects : (v : LinkContext) (k : Cover) (t : ℕ) (objects new : List Object) (regs after : List Value) (i : Instr) → Stands v objects regs → GlobalsThere v.classes i →
     ((e : Expr) (effect : Effect) → BaseThere v.classes e.base → AllProtected k t objects regs (before v i e effect) → Protected k t new after (lock.Expr e effect)) →
     (n : Lock) → LockThere v.classes n → AllProtected k t objects regs (link v i n) → Protected k t new after n
 link_protects v k t objects new regs after i stands g row (lock.Root effect) there all = all (lock.Root effect) (inl refl)

@@ -7,7 +7,7 @@ use Rattle.asl_code.specs.declared.image.Function as entry
 use Rattle.asl_code.specs.declared.instr.Instr.{Instr}
 use Rattle.asl_code.specs.declared.instr.Instr.TheVariants as instr
 use Rattle.asl_lower.specs.Lowered.{Lowered}
-use Rattle.asl_lower.specs.Region.{open_at, open_behind, without_innermost, is_acquire, CalledOutside, CalledInside, CalledByInner, InBody, CallsAt, GoesOn, start_of, IsBareAccess, is_access}
+use Rattle.asl_lower.specs.Region.{open_at, open_behind, without_innermost, is_acquire, CalledOutside, CalledInside, CalledByInner, InBody, CallsAt, FlowsTo, start_of, IsBareAccess, is_access}
 use Rattle.asl_lower.specs.Facts.{IsNested}
 use Rattle.asl_machine.specs.State.{Frame, Activity}
 use Rattle.asl_machine.specs.Step.{placed_at, going_on, returned}
@@ -66,7 +66,7 @@ module _ (l : Lowered) (nests : IsNested l) (a : Activity) (nested : IsNestedAt 
       record { depth = omega (arith, d, e); kinds = (subst (IsOfKind l (is_inside l a.below)) (sym same) nested.kinds.0, nested.kinds.1) }
 
   -- neither `acq` nor `rel`
-  pub plain : (i : Instr) (top : Frame) → top.function ≡ a.top.function → slice_get l.code a.top.pc ≡ Some i → GoesOn i a.top.pc top.pc → ((xs : List ℕ) → open_behind (Some i) xs ≡ xs) → IsNestedAt l (going_on a a.depth top)
+  pub plain : (i : Instr) (top : Frame) → top.function ≡ a.top.function → slice_get l.code a.top.pc ≡ Some i → FlowsTo i a.top.pc top.pc → ((xs : List ℕ) → open_behind (Some i) xs ≡ xs) → IsNestedAt l (going_on a a.depth top)
   plain i top same at goes keeps =
       goes_on a.depth top same (ap (λ xs. a.depth + length {A = ℕ} xs) (sym (nests.steps a.top.pc top.pc i at goes ∙ keeps (open_at l.code a.top.pc))))
 

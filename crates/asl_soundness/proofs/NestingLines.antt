@@ -6,7 +6,7 @@ use Rattle.asl_code.specs.declared.value.Value.TheVariants.{Addr}
 use Rattle.asl_code.specs.declared.instr.Instr.{Instr}
 use Rattle.asl_code.specs.declared.instr.Instr.TheVariants as instr
 use Rattle.asl_lower.specs.Lowered.{Lowered}
-use Rattle.asl_lower.specs.Region.{open_behind, GoesOn, start_of}
+use Rattle.asl_lower.specs.Region.{open_behind, FlowsTo, start_of}
 use Rattle.asl_lower.specs.Facts.{IsNested}
 use Rattle.asl_points_to.specs.Classes.{Classed}
 use Rattle.asl_lock_forest.specs.Holding.{Holding}
@@ -43,7 +43,7 @@ module _ (l : Lowered) (nests : IsNested l) (c : Classed) (image : Image) (made 
   ends thread holding new none e = ends_on (λ s b. IsNestedAt l b) s t h.there s.objects holding new thread none e
 
   -- in the same frame, at its next instruction
-  on : (i : Instr) (top : Frame) (objects : List Object) (new : State) → slice_get l.code a.top.pc ≡ Some i → top.function ≡ a.top.function → GoesOn i a.top.pc top.pc → ((xs : List ℕ) → open_behind (Some i) xs ≡ xs) →
+  on : (i : Instr) (top : Frame) (objects : List Object) (new : State) → slice_get l.code a.top.pc ≡ Some i → top.function ≡ a.top.function → FlowsTo i a.top.pc top.pc → ((xs : List ℕ) → open_behind (Some i) xs ≡ xs) →
       new ≡ after s t (Running (going_on a a.depth top)) objects s.holding → IsOwnNested l t new
   on i top objects new at same goes keeps e = runs (going_on a a.depth top) objects s.holding new (plain l nests a nested i top same at goes keeps) e
 

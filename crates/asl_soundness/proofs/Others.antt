@@ -86,27 +86,27 @@ module _ (c : Classed) (image : Image) (s : State) (t : ℕ) (a : Activity) (h :
   line_changes i r new e = absurd e
 
 -- each other thread keeps what it wants
-module _ (l : Lowered) (c : Classed) (stores : ℕ → ℕ → Bool) (longest : ℕ) (K : Family) (image : Image) (A : IsAnalysed l c stores longest K image) (s : State) (t : ℕ) (h : IsStructured l c image s) (fr : AreApart image s) where
+module _ (l : Lowered) (c : Classed) (stores : ℕ → ℕ → Bool) (k_limit : ℕ) (K : Family) (image : Image) (A : IsAnalysed l c stores k_limit K image) (s : State) (t : ℕ) (h : IsStructured l c image s) (fr : AreApart image s) where
   -- over the changed objects, under the old holding
-  changed : (new : List Object) → Change s t new → (u : ℕ) (b : Activity) → u ≢ t → activity_at s.threads u ≡ Some b → HasWanted l c stores longest K (cover s.holding b.fresh) u s.objects b → HasWanted l c stores longest K (cover s.holding b.fresh) u new b
-  changed new (Same e) u b apart is has = subst (λ objects. HasWanted l c stores longest K (cover s.holding b.fresh) u objects b) (sym e) has
+  changed : (new : List Object) → Change s t new → (u : ℕ) (b : Activity) → u ≢ t → activity_at s.threads u ≡ Some b → HasWanted l c stores k_limit K (cover s.holding b.fresh) u s.objects b → HasWanted l c stores k_limit K (cover s.holding b.fresh) u new b
+  changed new (Same e) u b apart is has = subst (λ objects. HasWanted l c stores k_limit K (cover s.holding b.fresh) u objects b) (sym e) has
   changed new (Writes cell value w e) u b apart is has =
-      subst (λ objects. HasWanted l c stores longest K (cover s.holding b.fresh) u objects b) (sym e)
-      (thread_keeps l c stores longest K A.closed A.based u (IsFreshFor s t) (cover s.holding b.fresh) (cover s.holding b.fresh) s.objects (written s.objects cell value)
+      subst (λ objects. HasWanted l c stores k_limit K (cover s.holding b.fresh) u objects b) (sym e)
+      (thread_keeps l c stores k_limit K A.closed A.based u (IsFreshFor s t) (cover s.holding b.fresh) (cover s.holding b.fresh) s.objects (written s.objects cell value)
       (stored_keeps c image s h.sound fr A.made.globals u t b apart is cell value w) image b (h.sound.formed.placed u b is) (λ o f. fr.registers u t o b apart f is) has)
   changed new (Adds more e) u b apart is has =
-      subst (λ objects. HasWanted l c stores longest K (cover s.holding b.fresh) u objects b) (sym e)
-      (thread_keeps l c stores longest K A.closed A.based u NoneShunned (cover s.holding b.fresh) (cover s.holding b.fresh) s.objects (s.objects ++ more)
+      subst (λ objects. HasWanted l c stores k_limit K (cover s.holding b.fresh) u objects b) (sym e)
+      (thread_keeps l c stores k_limit K A.closed A.based u NoneShunned (cover s.holding b.fresh) (cover s.holding b.fresh) s.objects (s.objects ++ more)
       (made_keeps c u (cover s.holding b.fresh) s.objects more (globals_point l c image A.made s h.sound) h.sound.formed.objects.points) image b (h.sound.formed.placed u b is) (λ o f. absurd f) has)
 
   -- and under the new one, of which its own part is the same
   pub others_keep : Change s t (step_of image s t).state.objects → (u : ℕ) (b : Activity) → u ≢ t → activity_at s.threads u ≡ Some b → IsPlaced image (step_of image s t).state.objects b →
-      HasWanted l c stores longest K (cover s.holding b.fresh) u s.objects b → HasWanted l c stores longest K (cover (step_of image s t).state.holding b.fresh) u (step_of image s t).state.objects b
+      HasWanted l c stores k_limit K (cover s.holding b.fresh) u s.objects b → HasWanted l c stores k_limit K (cover (step_of image s t).state.holding b.fresh) u (step_of image s t).state.objects b
   others_keep change u b apart is now has =
       let new = (step_of image s t).state in
       let more : IsAtLeast (cover s.holding b.fresh) (cover new.holding b.fresh) u = record {
         holds = λ node. subst (AtMost (held s.holding u node)) (sym (step_leaves_held image s t u node apart)) (at_most_refl (held s.holding u node));
         fresh = λ o f. f;
       } in
-      thread_keeps l c stores longest K A.closed A.based u NoneShunned (cover s.holding b.fresh) (cover new.holding b.fresh) new.objects new.objects (more_keeps c u (cover s.holding b.fresh) (cover new.holding b.fresh) new.objects more) image b now (λ o f. absurd f)
+      thread_keeps l c stores k_limit K A.closed A.based u NoneShunned (cover s.holding b.fresh) (cover new.holding b.fresh) new.objects new.objects (more_keeps c u (cover s.holding b.fresh) (cover new.holding b.fresh) new.objects more) image b now (λ o f. absurd f)
       (changed new.objects change u b apart is has)

@@ -18,7 +18,7 @@ use Rattle.asl_lock_forest.specs.Holding.{held, covering_mode}
 use Rattle.asl_points_to.specs.Classes.{Classed, to}
 use Rattle.asl_lock_expr.specs.Expression.{cell_of, pointed, path_cell, base_cell, cell_denoted}
 use Rattle.asl_lock_expr.specs.ClassOf.{class_of as expr_class, base_class, path_class}
-use Rattle.asl_lock_expr.specs.Links.{View, IsOne, settled, settle}
+use Rattle.asl_lock_expr.specs.Links.{LinkContext, IsOne, settled, settle}
 use Rattle.asl_lock_expr.proofs.Ones.{one_left, one_right}
 use Rattle.asl_lock_expr.proofs.Walks.{class_along, value_class, start_there}
 use Rattle.asl_machine.specs.State.{Object, class_of}
@@ -45,13 +45,13 @@ abbrev pub GlobalsAgree : Classed → List Object → Type 0
 GlobalsAgree c objects = (g x : ℕ) → slice_get c.globals g ≡ Some x → class_of objects g ≡ Some x
 
 -- what a lock is read against: objects that agree with the classes, and a frame of the function that does
-pub record Stands (v : View) (objects : List Object) (regs : List Value) : Type 0 where
+pub record Stands (v : LinkContext) (objects : List Object) (regs : List Value) : Type 0 where
   pub cells : CellsAgree v.classes objects
   pub frame : FrameAgrees v.classes objects v.function regs
   pub globals : GlobalsAgree v.classes objects
 
 -- the cell at a base is of the class of the base
-pub base_agrees : (v : View) (objects : List Object) (regs : List Value) → Stands v objects regs → (base : Base) (cell : Cell) → BaseThere v.classes base →
+pub base_agrees : (v : LinkContext) (objects : List Object) (regs : List Value) → Stands v objects regs → (base : Base) (cell : Cell) → BaseThere v.classes base →
     base_cell regs base ≡ Some cell → (x : ℕ) × (base_class v.classes v.function base ≡ Some x) × (class_of objects cell.object ≡ Some x)
 base_agrees v objects regs on (Reg r) cell there e =
     elim (slice_get regs r) as (λ o. slice_get regs r ≡ o → option_and_then pointed o ≡ Some cell → (x : ℕ) × (to v.classes v.function r ≡ Some x) × (class_of objects cell.object ≡ Some x)) [
@@ -64,7 +64,7 @@ base_agrees v objects regs on (Global g) cell there e =
     (x.0, x.1, ap (λ (k : Cell). class_of objects k.object) (sym is) ∙ on.globals g x.0 x.1)
 
 -- an expression denotes a cell of its class
-pub denoted_class : (v : View) (objects : List Object) (regs : List Value) → Stands v objects regs → (e : Expr) (end : Cell) → BaseThere v.classes e.base →
+pub denoted_class : (v : LinkContext) (objects : List Object) (regs : List Value) → Stands v objects regs → (e : Expr) (end : Cell) → BaseThere v.classes e.base →
     cell_denoted (heap_of objects) regs e ≡ Some end → (y : ℕ) × (expr_class v.classes v.function e ≡ Some y) × (class_of objects end.object ≡ Some y)
 denoted_class v objects regs on e end there d =
     let s = start_there (heap_of objects) e.path (base_cell regs e.base) end d in
@@ -97,7 +97,7 @@ abbrev pub AllProtected : Cover → ℕ → List Object → List Value → List 
 AllProtected k t objects regs locks = (m : Lock) → IsOne locks m → Protected k t objects regs m
 
 -- where what a lock settles to is protected, the lock is
-pub settle_protects : (v : View) (k : Cover) (t : ℕ) (objects : List Object) (regs : List Value) → Stands v objects regs → (n : Lock) → LockThere v.classes n →
+pub settle_protects : (v : LinkContext) (k : Cover) (t : ℕ) (objects : List Object) (regs : List Value) → Stands v objects regs → (n : Lock) → LockThere v.classes n →
     AllProtected k t objects regs (settle v n) → Protected k t objects regs n
 settle_protects v k t objects regs on (lock.Root effect) there all = all (lock.Root effect) (inl refl)
 settle_protects v k t objects regs on (lock.Class class effect) there all = all (lock.Class class effect) (inl refl)
@@ -105,7 +105,7 @@ settle_protects v k t objects regs on (lock.Expr e effect) there all =
     protect k t objects effect _ (λ cell d.
     let y = denoted_class v objects regs on e cell there d in
     let now : AllProtected k t objects regs (settled v e effect (Some y.0)) = subst (λ o. AllProtected k t objects regs (settled v e effect o)) y.1 all in
-    elim (nat_le (length e.path) v.longest) as (λ b. AllProtected k t objects regs (cond b (lock.Expr e effect) (lock.Class y.0 effect) ∷ []) → CellProtected k t objects effect (Some cell)) [
+    elim (nat_le (length e.path) v.k_limit) as (λ b. AllProtected k t objects regs (cond b (lock.Expr e effect) (lock.Class y.0 effect) ∷ []) → CellProtected k t objects effect (Some cell)) [
       | true ↦ λ p. protected_at k t objects effect _ cell d (p (lock.Expr e effect) (inl refl))
       | false ↦ λ p. class_protects k t objects effect cell y.0 y.2 (p (lock.Class y.0 effect) (inl refl))
     ] now)
@@ -115,7 +115,7 @@ abbrev pub AllThere : Classed → List Lock → Type 0
 AllThere c locks = (m : Lock) → IsOne locks m → LockThere c m
 
 -- where what a list of locks settles to is protected, each of the list is
-pub settled_all : (v : View) (k : Cover) (t : ℕ) (objects : List Object) (regs : List Value) → Stands v objects regs → (ms : List Lock) → AllThere v.classes ms →
+pub settled_all : (v : LinkContext) (k : Cover) (t : ℕ) (objects : List Object) (regs : List Value) → Stands v objects regs → (ms : List Lock) → AllThere v.classes ms →
     AllProtected k t objects regs (flat_map (settle v) ms) → AllProtected k t objects regs ms
 settled_all v k t objects regs on [] there all m o = absurd o
 settled_all v k t objects regs on (n ∷ ms) there all m (inl is) =

@@ -6,7 +6,7 @@ use Rattle.asl_code.specs.declared.instr.Instr.{Instr}
 use Rattle.asl_code.specs.declared.instr.Instr.TheVariants as instr
 use Rattle.asl_lower.specs.declared.section.Section.{Section}
 use Rattle.asl_lower.specs.Lowered.{Lowered}
-use Rattle.asl_lower.specs.Region.{open_at, release_of, InBody, GoesOn}
+use Rattle.asl_lower.specs.Region.{open_at, release_of, InBody, FlowsTo}
 use Rattle.asl_lower.specs.Regions.{Region, Body, Inside, IsIn, outermost}
 use Rattle.asl_lower.specs.Facts.{HasLayout}
 use Rattle.asl_lower.proofs.Inside.{outermost_inside, outermost_stays, outermost_left, end_stands}
@@ -44,14 +44,14 @@ no_region l f below r none out e =
 
 module _ (l : Lowered) (lay : HasLayout l) (f : Frame) (below : List Frame) (body : InBody l f.function f.pc) (kind : IsOfKind l (is_inside l below) f.function) where
   -- the `rel` at which the outermost section ends is followed by nothing that is open
-  ends : (i : Instr) (to n : ℕ) → slice_get l.code f.pc ≡ Some i → GoesOn i f.pc to → release_of l n ≡ Some f.pc → outermost (open_at l.code f.pc) ≡ Some n → open_at l.code to ≡ []
+  ends : (i : Instr) (to n : ℕ) → slice_get l.code f.pc ≡ Some i → FlowsTo i f.pc to → release_of l n ≡ Some f.pc → outermost (open_at l.code f.pc) ≡ Some n → open_at l.code to ≡ []
   ends i to n at goes end out =
       let is : i ≡ instr.Release = same_Some i instr.Release (sym at ∙ end_stands l lay f.pc n end) in
-      let next : to ≡ suc f.pc = subst (λ j. GoesOn j f.pc to) is goes in
+      let next : to ≡ suc f.pc = subst (λ j. FlowsTo j f.pc to) is goes in
       ap (open_at l.code) next ∙ outermost_left l lay f.pc n end out
 
   -- where control continues in a region, it was in it: at an instruction that enters none
-  pub region_goes : (g : Frame) (i : Instr) → slice_get l.code f.pc ≡ Some i → GoesOn i f.pc g.pc → g.function ≡ f.function → (is_inside l below ≡ false → open_at l.code f.pc ≡ [] → open_at l.code g.pc ≡ []) →
+  pub region_goes : (g : Frame) (i : Instr) → slice_get l.code f.pc ≡ Some i → FlowsTo i f.pc g.pc → g.function ≡ f.function → (is_inside l below ≡ false → open_at l.code f.pc ≡ [] → open_at l.code g.pc ≡ []) →
       (r : Region) → region_of l g below ≡ Some r → (region_of l f below ≡ Some r) × IsIn l r f.function f.pc
   region_goes g i at goes same none r e =
       elim (is_inside l below) as (λ b. is_inside l below ≡ b → IsOfKind l b f.function → cond b (Some (Body g.function)) (option_map Inside (outermost (open_at l.code g.pc))) ≡ Some r →

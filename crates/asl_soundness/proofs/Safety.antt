@@ -12,7 +12,7 @@ use Rattle.asl_code.specs.declared.lock.Lock.TheVariants as lock
 use Rattle.asl_code.specs.declared.instr.Instr.{Instr}
 use Rattle.asl_code.specs.declared.instr.Instr.TheVariants as instr
 use Rattle.asl_lower.specs.Lowered.{Lowered}
-use Rattle.asl_lower.specs.Region.{open_at, open_behind, is_access, is_acquire, GoesOn}
+use Rattle.asl_lower.specs.Region.{open_at, open_behind, is_access, is_acquire, FlowsTo}
 use Rattle.asl_points_to.specs.Classes.{Classed}
 use Rattle.asl_lock_expr.specs.Expression.{pointed}
 use Rattle.asl_lock_expr.specs.Links.{IsOne, on, settle, settled, accesses}
@@ -34,21 +34,21 @@ use Rattle.asl_soundness.proofs.StructureLaws.{access_in_section}
 use Rattle.asl_soundness.proofs.Structure.{line_entered}
 use Rattle.asl_soundness.proofs.Sections.{Ready, own_view, stands, layout, body, nested, stays_closed}
 
-module _ (l : Lowered) (c : Classed) (stores : ℕ → ℕ → Bool) (longest : ℕ) (K : Family) (image : Image) (s : State) (t : ℕ) (a : Activity) (q : Ready l c stores longest K image s t a) where
+module _ (l : Lowered) (c : Classed) (stores : ℕ → ℕ → Bool) (k_limit : ℕ) (K : Family) (image : Image) (s : State) (t : ℕ) (a : Activity) (q : Ready l c stores k_limit K image s t a) where
   -- an access is allowed through a register whose lock it needs
-  access_allowed : (i : Instr) (x : ℕ) (effect : Effect) (cell : Cell) → slice_get l.code a.top.pc ≡ Some i → IsTrue (is_access i) → GoesOn i a.top.pc (suc a.top.pc) → is_acquire i ≡ false → ((xs : List ℕ) → open_behind (Some i) xs ≡ xs) →
-      accesses (own_view l c stores longest K image s t a q) i ≡ settle (own_view l c stores longest K image s t a q) (on (Reg x) [] effect) → slice_get a.top.regs x ≡ Some (Addr cell.object cell.offset) → is_allowed (at_of image s t a) effect cell ≡ true
+  access_allowed : (i : Instr) (x : ℕ) (effect : Effect) (cell : Cell) → slice_get l.code a.top.pc ≡ Some i → IsTrue (is_access i) → FlowsTo i a.top.pc (suc a.top.pc) → is_acquire i ≡ false → ((xs : List ℕ) → open_behind (Some i) xs ≡ xs) →
+      accesses (own_view l c stores k_limit K image s t a q) i ≡ settle (own_view l c stores k_limit K image s t a q) (on (Reg x) [] effect) → slice_get a.top.regs x ≡ Some (Addr cell.object cell.offset) → is_allowed (at_of image s t a) effect cell ≡ true
   access_allowed i x effect cell at access goes plain keeps needs reads =
-      let v = own_view l c stores longest K image s t a q in
+      let v = own_view l c stores k_limit K image s t a q in
       let need = on (Reg x) [] effect in
       let deep = access_in_section l c image s t a i q.program.kept q.program.made q.structured q.here.is at access in
-      let same : open_at l.code (suc a.top.pc) ≡ open_at l.code a.top.pc = (layout l c stores longest K image s t a q).nested.steps a.top.pc (suc a.top.pc) i at goes ∙ keeps (open_at l.code a.top.pc) in
-      let inside : is_inside l (placed_at (suc a.top.pc) a.top ∷ a.below) ≡ true = ap (λ xs. is_some_open xs || is_inside l a.below) same ∙ some_inside l a (nested l c stores longest K image s t a q) deep in
+      let same : open_at l.code (suc a.top.pc) ≡ open_at l.code a.top.pc = (layout l c stores k_limit K image s t a q).nested.steps a.top.pc (suc a.top.pc) i at goes ∙ keeps (open_at l.code a.top.pc) in
+      let inside : is_inside l (placed_at (suc a.top.pc) a.top ∷ a.below) ≡ true = ap (λ xs. is_some_open xs || is_inside l a.below) same ∙ some_inside l a (nested l c stores k_limit K image s t a q) deep in
       let r = region_there l (placed_at (suc a.top.pc) a.top) a.below inside in
-      let was = region_goes l (layout l c stores longest K image s t a q) a.top a.below (body l c stores longest K image s t a q) (nested l c stores longest K image s t a q).kinds.0 (placed_at (suc a.top.pc) a.top) i at goes refl
-      (stays_closed l c stores longest K image s t a q i (suc a.top.pc) at goes plain) r.0 r.1 in
-      let target = (stands l c stores longest K image s t a q).frame x (Addr cell.object cell.offset) reads in
-      let short : nat_le 0 longest ≡ true = search (rules, arith) in
+      let was = region_goes l (layout l c stores k_limit K image s t a q) a.top a.below (body l c stores k_limit K image s t a q) (nested l c stores k_limit K image s t a q).kinds.0 (placed_at (suc a.top.pc) a.top) i at goes refl
+      (stays_closed l c stores k_limit K image s t a q i (suc a.top.pc) at goes plain) r.0 r.1 in
+      let target = (stands l c stores k_limit K image s t a q).frame x (Addr cell.object cell.offset) reads in
+      let short : nat_le 0 k_limit ≡ true = search (rules, arith) in
       let one : IsOne (settle v need) need =
       subst (λ o. IsOne (settled v (record { base = Reg x; path = [] }) effect o) need) (sym target.1) (subst (λ (b : Bool). IsOne (cond b need (lock.Class target.0 effect) ∷ []) need) (sym short) (inl refl)) in
       let p = q.has.top r.0 was.0 need (q.program.closed.accessed r.0 a.top.function a.top.pc i need was.1 at (subst (λ ms. IsOne ms need) (sym needs) one)) in
@@ -69,7 +69,7 @@ module _ (l : Lowered) (c : Classed) (stores : ℕ → ℕ → Bool) (longest : 
   pub line_safe : (i : Instr) (r : Reply) (new : State) → slice_get l.code a.top.pc ≡ Some i → Line (at_of image s t a) (classed c i) r new → IsSafe r
   line_safe i (reply.Fault (fault.Unprotected cell effect)) new at e = no_want i cell effect new at e
   line_safe i (reply.Fault fault.NoSection) new at e =
-      (line_entered l c image q.program.made (layout l c stores longest K image s t a q) (at_of image s t a) i (reply.Fault fault.NoSection) new (nested l c stores longest K image s t a q) at e).0 refl
+      (line_entered l c image q.program.made (layout l c stores k_limit K image s t a q) (at_of image s t a) i (reply.Fault fault.NoSection) new (nested l c stores k_limit K image s t a q) at e).0 refl
   line_safe i (reply.Fault fault.Open) new at e =
-      (line_entered l c image q.program.made (layout l c stores longest K image s t a q) (at_of image s t a) i (reply.Fault fault.Open) new (nested l c stores longest K image s t a q) at e).1 refl
+      (line_entered l c image q.program.made (layout l c stores k_limit K image s t a q) (at_of image s t a) i (reply.Fault fault.Open) new (nested l c stores k_limit K image s t a q) at e).1 refl
   line_safe i r new at e = tt

@@ -13,14 +13,14 @@ use Rattle.asl_code.specs.declared.instr.Instr.TheVariants as instr
 use Rattle.asl_lock_forest.specs.Holding.{grant}
 use Rattle.asl_lower.specs.declared.section.Section.{Section}
 use Rattle.asl_lower.specs.Lowered.{Lowered}
-use Rattle.asl_lower.specs.Region.{open_at, open_behind, is_acquire, InBody, GoesOn}
+use Rattle.asl_lower.specs.Region.{open_at, open_behind, is_acquire, InBody, FlowsTo}
 use Rattle.asl_lower.specs.Regions.{Body, Inside, outermost}
 use Rattle.asl_lower.specs.Facts.{HasLayout}
 use Rattle.asl_lower.proofs.Layouts.{kept_layout}
 use Rattle.asl_lower.proofs.Owner.{from_mapped}
 use Rattle.asl_lower.proofs.Inside.{told}
 use Rattle.asl_points_to.specs.Classes.{Classed}
-use Rattle.asl_lock_expr.specs.Links.{View, view, before}
+use Rattle.asl_lock_expr.specs.Links.{LinkContext, view, before}
 use Rattle.asl_backward_flow.specs.Closed.{Family}
 use Rattle.asl_machine.specs.State.{Object, Frame, Activity, State}
 use Rattle.asl_machine.specs.Step.{placed_at, going_on}
@@ -29,7 +29,7 @@ use Rattle.asl_machine.specs.Cover.{Cover, cover}
 use Rattle.asl_machine.proofs.Invariant.{Here, outside_here}
 use Rattle.asl_soundness.proofs.Analysed.{IsAnalysed}
 use Rattle.asl_soundness.specs.Nested.{is_inside, opened, IsNestedAt, region_of}
-use Rattle.asl_soundness.specs.Over.{StandsOver}
+use Rattle.asl_soundness.specs.Covering.{CoversLock}
 use Rattle.asl_soundness.specs.Protected.{Protected, BaseThere}
 use Rattle.asl_soundness.specs.Wanted.{WaitingHave}
 use Rattle.asl_soundness.proofs.Having.{HasWanted}
@@ -42,15 +42,15 @@ use Rattle.asl_soundness.proofs.Entering.{granted_protects}
 use Rattle.asl_soundness.proofs.Structure.{IsStructured}
 
 -- a thread of an analysed program that is about to step, with all that it wants
-pub record Ready (l : Lowered) (c : Classed) (stores : ℕ → ℕ → Bool) (longest : ℕ) (K : Family) (image : Image) (s : State) (t : ℕ) (a : Activity) : Type 0 where
-  pub program : IsAnalysed l c stores longest K image
+pub record Ready (l : Lowered) (c : Classed) (stores : ℕ → ℕ → Bool) (k_limit : ℕ) (K : Family) (image : Image) (s : State) (t : ℕ) (a : Activity) : Type 0 where
+  pub program : IsAnalysed l c stores k_limit K image
   pub structured : IsStructured l c image s
   pub here : Here image s t a
-  pub has : HasWanted l c stores longest K (cover s.holding a.fresh) t s.objects a
+  pub has : HasWanted l c stores k_limit K (cover s.holding a.fresh) t s.objects a
 
-module _ (l : Lowered) (c : Classed) (stores : ℕ → ℕ → Bool) (longest : ℕ) (K : Family) (image : Image) (s : State) (t : ℕ) (a : Activity) (q : Ready l c stores longest K image s t a) where
-  abbrev pub own_view : View
-  own_view = view c stores longest a.top.function
+module _ (l : Lowered) (c : Classed) (stores : ℕ → ℕ → Bool) (k_limit : ℕ) (K : Family) (image : Image) (s : State) (t : ℕ) (a : Activity) (q : Ready l c stores k_limit K image s t a) where
+  abbrev pub own_view : LinkContext
+  own_view = view c stores k_limit a.top.function
 
   pub stands : Stands own_view s.objects a.top.regs
   stands = record {
@@ -69,10 +69,10 @@ module _ (l : Lowered) (c : Classed) (stores : ℕ → ℕ → Bool) (longest : 
   nested = q.structured.nested t a q.here.is
 
   -- an instruction with such a law that continues in the frame, and enters no outermost section
-  pub goes_on : (k : Cover) → HasWanted l c stores longest K k t s.objects a → (i : Instr) (depth : ℕ) (g : Frame) (new : List Object) → slice_get l.code a.top.pc ≡ Some i → GoesOn i a.top.pc g.pc → g.function ≡ a.top.function →
+  pub goes_on : (k : Cover) → HasWanted l c stores k_limit K k t s.objects a → (i : Instr) (depth : ℕ) (g : Frame) (new : List Object) → slice_get l.code a.top.pc ≡ Some i → FlowsTo i a.top.pc g.pc → g.function ≡ a.top.function →
       (is_inside l a.below ≡ false → open_at l.code a.top.pc ≡ [] → open_at l.code g.pc ≡ []) → GlobalsThere c i →
       ((e : Expr) (effect : Effect) → BaseThere c e.base → AllProtected k t s.objects a.top.regs (before own_view i e effect) → Protected k t new g.regs (lock.Expr e effect)) →
-      WaitingHave l c stores longest K k t new a.below → HasWanted l c stores longest K k t new (going_on a depth g)
+      WaitingHave l c stores k_limit K k t new a.below → HasWanted l c stores k_limit K k t new (going_on a depth g)
   goes_on k has i depth g new at goes same none globals row waiting = record {
     top = λ r e n w.
         (let was = region_goes l layout a.top a.below body nested.kinds.0 g i at goes same none r e in
@@ -82,29 +82,29 @@ module _ (l : Lowered) (c : Classed) (stores : ℕ → ℕ → Bool) (longest : 
   }
 
   -- no `acq`: what is closed stays so
-  pub stays_closed : (i : Instr) (to : ℕ) → slice_get l.code a.top.pc ≡ Some i → GoesOn i a.top.pc to → is_acquire i ≡ false → is_inside l a.below ≡ false → open_at l.code a.top.pc ≡ [] → open_at l.code to ≡ []
+  pub stays_closed : (i : Instr) (to : ℕ) → slice_get l.code a.top.pc ≡ Some i → FlowsTo i a.top.pc to → is_acquire i ≡ false → is_inside l a.below ≡ false → open_at l.code a.top.pc ≡ [] → open_at l.code to ≡ []
   stays_closed i to at goes plain out none = layout.nested.steps a.top.pc to i at goes ∙ ap (open_behind (Some i)) none ∙ closed_behind i plain
 
   -- an instruction that leaves registers and objects, and every expression
-  pub passes : (i : Instr) (depth next : ℕ) → slice_get l.code a.top.pc ≡ Some i → GoesOn i a.top.pc next → (is_inside l a.below ≡ false → open_at l.code a.top.pc ≡ [] → open_at l.code next ≡ []) → GlobalsThere c i →
-      ((e : Expr) (effect : Effect) → before own_view i e effect ≡ lock.Expr e effect ∷ []) → HasWanted l c stores longest K (cover s.holding a.fresh) t s.objects (going_on a depth (placed_at next a.top))
+  pub passes : (i : Instr) (depth next : ℕ) → slice_get l.code a.top.pc ≡ Some i → FlowsTo i a.top.pc next → (is_inside l a.below ≡ false → open_at l.code a.top.pc ≡ [] → open_at l.code next ≡ []) → GlobalsThere c i →
+      ((e : Expr) (effect : Effect) → before own_view i e effect ≡ lock.Expr e effect ∷ []) → HasWanted l c stores k_limit K (cover s.holding a.fresh) t s.objects (going_on a depth (placed_at next a.top))
   passes i depth next at goes none globals same =
       goes_on (cover s.holding a.fresh) q.has i depth (placed_at next a.top) s.objects at goes refl none globals
       (λ e effect there all. subst (AllProtected (cover s.holding a.fresh) t s.objects a.top.regs) (same e effect) all (lock.Expr e effect) (inl refl)) q.has.waiting
 
   -- `acq` inside a section
-  pub nests : (list next : ℕ) → slice_get l.code a.top.pc ≡ Some (instr.Acquire list) → next ≡ suc a.top.pc → 0 < a.depth → HasWanted l c stores longest K (cover s.holding a.fresh) t s.objects (going_on a (a.depth + 1) (placed_at next a.top))
+  pub nests : (list next : ℕ) → slice_get l.code a.top.pc ≡ Some (instr.Acquire list) → next ≡ suc a.top.pc → 0 < a.depth → HasWanted l c stores k_limit K (cover s.holding a.fresh) t s.objects (going_on a (a.depth + 1) (placed_at next a.top))
   nests list next at goes deep =
       let d = nested.depth in
       passes (instr.Acquire list) (a.depth + 1) next at goes
       (λ out none. absurd (let z = none_inside l a.below out in let y = ap (length {A = ℕ}) none in omega (arith, z, y, d, deep))) tt (λ e effect. refl)
 
   -- `rel` of an inner section
-  pub unnests : (next : ℕ) → slice_get l.code a.top.pc ≡ Some instr.Release → next ≡ suc a.top.pc → HasWanted l c stores longest K (cover s.holding a.fresh) t s.objects (going_on a (a.depth - 1) (placed_at next a.top))
+  pub unnests : (next : ℕ) → slice_get l.code a.top.pc ≡ Some instr.Release → next ≡ suc a.top.pc → HasWanted l c stores k_limit K (cover s.holding a.fresh) t s.objects (going_on a (a.depth - 1) (placed_at next a.top))
   unnests next at goes = passes instr.Release (a.depth - 1) next at goes (stays_closed instr.Release next at goes refl) tt (λ e effect. refl)
 
   -- where no section is open no frame wants anything
-  pub none_wait : (k : Cover) (objects : List Object) (fs : List Frame) → opened l fs ≡ 0 → WaitingHave l c stores longest K k t objects fs
+  pub none_wait : (k : Cover) (objects : List Object) (fs : List Frame) → opened l fs ≡ 0 → WaitingHave l c stores k_limit K k t objects fs
   none_wait k objects [] z = tt
   none_wait k objects (f ∷ fs) z =
       let here : length (open_at l.code f.pc) ≡ 0 = omega (arith, z) in
@@ -112,7 +112,7 @@ module _ (l : Lowered) (c : Classed) (stores : ℕ → ℕ → Bool) (longest : 
       (λ r e n w. absurd (no_region l f fs r (nil_from_length (open_at l.code f.pc) here) (none_opened l fs rest) e), none_wait k objects fs rest)
 
   -- a thread in no section wants nothing
-  pub wants_none : (k : Cover) (objects : List Object) (b : Activity) → IsNestedAt l b → b.depth ≡ 0 → HasWanted l c stores longest K k t objects b
+  pub wants_none : (k : Cover) (objects : List Object) (b : Activity) → IsNestedAt l b → b.depth ≡ 0 → HasWanted l c stores k_limit K k t objects b
   wants_none k objects b now outside =
       let d = now.depth in
       let here : length (open_at l.code b.top.pc) ≡ 0 = omega (arith, d, outside) in
@@ -124,7 +124,7 @@ module _ (l : Lowered) (c : Classed) (stores : ℕ → ℕ → Bool) (longest : 
 
   -- `acq` outside all sections, granted
   pub enters : (list next : ℕ) (locks : List Lock) → slice_get l.code a.top.pc ≡ Some (instr.Acquire list) → next ≡ suc a.top.pc → slice_get image.lists list ≡ Some locks → a.depth ≡ 0 →
-      HasWanted l c stores longest K (cover (grant s.holding t (request_of s.objects a.top.regs locks)) a.fresh) t s.objects (going_on a 1 (placed_at next a.top))
+      HasWanted l c stores k_limit K (cover (grant s.holding t (request_of s.objects a.top.regs locks)) a.fresh) t s.objects (going_on a 1 (placed_at next a.top))
   enters list next locks at goes listed outside =
       let d = nested.depth in
       let here : length (open_at l.code a.top.pc) ≡ 0 = omega (arith, d, outside) in
@@ -140,6 +140,6 @@ module _ (l : Lowered) (c : Classed) (stores : ℕ → ℕ → Bool) (longest : 
             let there : K (Inside list) (suc e.0.acquire) n = subst (λ pc. K (Inside list) pc n) (goes ∙ ap suc (sym e.2)) (subst (λ x. K x next n) (sym is) w) in
             let m = q.program.lists list e.0 locks n e.1 listed there in
             granted_protects own_view s.holding a.fresh t s.objects a.top.regs locks (outside_here image s t a q.here outside) stands m.0 n m.1 (q.program.based (Inside list) (suc e.0.acquire) n there)
-            (subst (λ f. StandsOver c f m.0 n) function m.2));
+            (subst (λ f. CoversLock c f m.0 n) function m.2));
         waiting = none_wait (cover (grant s.holding t (request_of s.objects a.top.regs locks)) a.fresh) s.objects a.below below;
       }

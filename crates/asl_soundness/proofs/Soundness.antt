@@ -26,7 +26,7 @@ use Rattle.asl_soundness.proofs.OwnLines.{line_owned}
 use Rattle.asl_soundness.proofs.Others.{Change, Same, line_changes, others_keep}
 use Rattle.asl_soundness.proofs.Safety.{line_safe}
 
-module _ (l : Lowered) (c : Classed) (stores : ℕ → ℕ → Bool) (longest : ℕ) (K : Family) (image : Image) (A : IsAnalysed l c stores longest K image) where
+module _ (l : Lowered) (c : Classed) (stores : ℕ → ℕ → Bool) (k_limit : ℕ) (K : Family) (image : Image) (A : IsAnalysed l c stores k_limit K image) where
   lay : HasLayout l
   lay = kept_layout l A.kept
 
@@ -34,7 +34,7 @@ module _ (l : Lowered) (c : Classed) (stores : ℕ → ℕ → Bool) (longest : 
   pub record IsGood (s : State) : Type 0 where
     pub structured : IsStructured l c image s
     pub apart : AreApart image s
-    pub has : HaveWanted l c stores longest K s
+    pub has : HaveWanted l c stores k_limit K s
 
   start_good : (count : ℕ) → IsGood (start_of image count)
   start_good count = record {
@@ -42,11 +42,11 @@ module _ (l : Lowered) (c : Classed) (stores : ℕ → ℕ → Bool) (longest : 
     apart = start_apart image count;
     has = λ u a e.
         (let first = first_at image count u a e in
-        subst (HasWanted l c stores longest K _ u _) first.1
+        subst (HasWanted l c stores k_limit K _ u _) first.1
         (record { top = λ r g n w. absurd (no_region l (first_activity image first.0).top [] r (start_outside l c image A.made lay first.0) refl g); waiting = tt }));
   }
 
-  abbrev ready : (s : State) (t : ℕ) (a : Activity) → IsGood s → Here image s t a → Ready l c stores longest K image s t a
+  abbrev ready : (s : State) (t : ℕ) (a : Activity) → IsGood s → Here image s t a → Ready l c stores k_limit K image s t a
   ready s t a h here = record { program = A; structured = h.structured; here = here; has = h.has t a here.is }
 
   step_good : (s : State) (t : ℕ) → IsGood s → IsGood (step_of image s t).state
@@ -57,15 +57,15 @@ module _ (l : Lowered) (c : Classed) (stores : ℕ → ℕ → Bool) (longest : 
       record {
         structured = now;
         apart = step_of_apart image s t h.structured.sound h.apart;
-        has = each_thread image s t (λ u b. HasWanted l c stores longest K (cover new.holding b.fresh) u new.objects b)
-            (each_step l c image A.made s t (λ r u. (b : Activity) → activity_at u.threads t ≡ Some b → HasWanted l c stores longest K (cover u.holding b.fresh) t u.objects b) h.structured.sound
-            (λ a here i d. line_owned l c stores longest K image s t a (ready s t a h here) i _ _ d.at d.fits now.agrees (now.nested t) d.line) (h.has t))
-            (λ u b apart is. others_keep l c stores longest K image A s t h.structured h.apart change u b apart is
+        has = each_thread image s t (λ u b. HasWanted l c stores k_limit K (cover new.holding b.fresh) u new.objects b)
+            (each_step l c image A.made s t (λ r u. (b : Activity) → activity_at u.threads t ≡ Some b → HasWanted l c stores k_limit K (cover u.holding b.fresh) t u.objects b) h.structured.sound
+            (λ a here i d. line_owned l c stores k_limit K image s t a (ready s t a h here) i _ _ d.at d.fits now.agrees (now.nested t) d.line) (h.has t))
+            (λ u b apart is. others_keep l c stores k_limit K image A s t h.structured h.apart change u b apart is
             (now.sound.formed.placed u b (still image s t u b apart is)) (h.has u b is));
       }
 
   step_safe : (s : State) (t : ℕ) → IsGood s → IsSafe (step_of image s t).reply
-  step_safe s t h = each_step l c image A.made s t (λ r u. IsSafe r) h.structured.sound (λ a here i d. line_safe l c stores longest K image s t a (ready s t a h here) i _ _ d.at d.line) tt
+  step_safe s t h = each_step l c image A.made s t (λ r u. IsSafe r) h.structured.sound (λ a here i d. line_safe l c stores k_limit K image s t a (ready s t a h here) i _ _ d.at d.line) tt
 
   pub reached_good : (count : ℕ) (s : State) → IsReached image count s → IsGood s
   reached_good count s r = reached_keeps image count IsGood (start_good count) step_good s r

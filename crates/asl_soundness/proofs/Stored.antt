@@ -17,7 +17,7 @@ use Rattle.asl_code.specs.declared.lock.Lock.TheVariants as lock
 use Rattle.asl_points_to.specs.Classes.{to}
 use Rattle.asl_lock_expr.specs.Expression.{pointed, path_cell, base_cell, cell_denoted}
 use Rattle.asl_lock_expr.specs.ClassOf.{class_of as expr_class, base_class}
-use Rattle.asl_lock_expr.specs.Links.{View, IsOne, on, class_lock, is_register, begins_with_star, hits, goes_through, prefixes}
+use Rattle.asl_lock_expr.specs.Links.{LinkContext, IsOne, on, class_lock, is_register, begins_with_star, hits, goes_through, prefixes}
 use Rattle.asl_lock_expr.specs.Agrees.{IsWrite}
 use Rattle.asl_lock_expr.proofs.Ones.{one_right}
 use Rattle.asl_lock_expr.proofs.Walks.{start_there, last_hit, not_through}
@@ -44,7 +44,7 @@ on_base a (Reg r) e = elim (eqb_tells r a) [ inl same ↦ ap (λ n. Reg n) same.
 on_base a (Global g) e = cc
 
 -- what an expression becomes before a `store`
-abbrev pub before_store : View → ℕ → ℕ → Expr → Effect → List Lock
+abbrev pub before_store : LinkContext → ℕ → ℕ → Expr → Effect → List Lock
 before_store v a b e effect =
     cond (is_register a e.base && begins_with_star e.path) [] (lock.Expr e effect ∷ [])
     ++ hits v.classes (to v.classes v.function a) b effect (base_class v.classes v.function e.base) e.path
@@ -64,7 +64,7 @@ module _ (k : Cover) (t : ℕ) (objects : List Object) (c0 : Cell) (value old : 
   recast : (effect : Effect) (cell : Cell) → CellProtected k t objects effect (Some cell) → CellProtected k t new effect (Some cell)
   recast effect cell p x e = p x (sym (same cell.object) ∙ e)
 
-  module _ (v : View) (regs : List Value) (stands : Stands v objects regs) (agrees : CellsAgree v.classes new) (e : Expr) (effect : Effect) (there : BaseThere v.classes e.base) where
+  module _ (v : LinkContext) (regs : List Value) (stands : Stands v objects regs) (agrees : CellsAgree v.classes new) (e : Expr) (effect : Effect) (there : BaseThere v.classes e.base) where
     -- a thread's own store
     pub store_row : (a b : ℕ) → slice_get regs a ≡ Some (Addr c0.object c0.offset) → slice_get regs b ≡ Some value → AllProtected k t objects regs (before_store v a b e effect) → Protected k t new regs (lock.Expr e effect)
     store_row a b reads_a reads_b all =
@@ -114,7 +114,7 @@ module _ (k : Cover) (t : ℕ) (objects : List Object) (c0 : Cell) (value old : 
       protect k t new effect (path_cell (heap_of new) e.path (base_cell regs e.base)) (λ end d. recast effect end (protected_at k t objects effect _ end (sym unmoved ∙ d) p))
 
 -- `ret`: what stayed over the call, in the caller's frame with its result
-pub return_row : (v : View) (k : Cover) (t : ℕ) (objects : List Object) (regs : List Value) (a : ℕ) (value : Value) (stores : ℕ → Bool) → Stands v objects (set regs a value) → a < length regs →
+pub return_row : (v : LinkContext) (k : Cover) (t : ℕ) (objects : List Object) (regs : List Value) (a : ℕ) (value : Value) (stores : ℕ → Bool) → Stands v objects (set regs a value) → a < length regs →
     (e : Expr) (effect : Effect) → BaseThere v.classes e.base →
     AllProtected k t objects regs (cond (is_register a e.base || goes_through v.classes stores (base_class v.classes v.function e.base) e.path) (class_lock effect (expr_class v.classes v.function e)) (lock.Expr e effect ∷ [])) →
     Protected k t objects (set regs a value) (lock.Expr e effect)

@@ -1,5 +1,5 @@
 pub mod Coded
-pub mod Over
+pub mod Covering
 pub mod Safe
 pub mod Agrees
 pub mod Nested

@@ -14,7 +14,7 @@ use Rattle.asl_machine.specs.declared.reply.Reply.{Reply}
 use Rattle.asl_machine.specs.declared.reply.Reply.TheVariants as reply
 use Rattle.asl_machine.specs.State.{State}
 use Rattle.asl_machine.specs.Run.{start_of, RunsBy}
-use Rattle.asl_soundness.specs.Over.{StandsOver}
+use Rattle.asl_soundness.specs.Covering.{CoversLock}
 
 -- a reply that is not a fault for a missing lock, for leaving a section that was not entered, or for one that was left open
 abbrev pub IsSafe : Reply → Type 0
@@ -29,10 +29,10 @@ NeverFaultsForLocks image =
     (count : ℕ) (schedule : List ℕ) (replies : List Reply) (end : State) → RunsBy image (start_of image count) schedule replies end → All IsSafe replies
 
 -- for each lock that the family has after the `acq` of a section, a lock of the section's list covers it
-abbrev pub StandOver : Lowered → Classed → Family → Image → Type 0
-StandOver l c K image =
+abbrev pub ListsCover : Lowered → Classed → Family → Image → Type 0
+ListsCover l c K image =
     (section : ℕ) (s : Section) (list : List Lock) (n : Lock) → slice_get l.sections section ≡ Some s → slice_get image.lists section ≡ Some list →
-    K (Inside section) (suc s.acquire) n → (m : Lock) × IsOne list m × StandsOver c s.function m n
+    K (Inside section) (suc s.acquire) n → (m : Lock) × IsOne list m × CoversLock c s.function m n
 
 -- the test tells of each class that the function may store to, and perhaps of more
 abbrev pub TellsAllStores : Lowered → Classed → (ℕ → ℕ → Bool) → Type 0

@@ -19,7 +19,7 @@ abbrev pub AreProtected : Cover → ℕ → List Object → List Value → (Lock
 AreProtected k t objects regs Wanted = (n : Lock) → Wanted n → Protected k t objects regs n
 
 -- the lock is one that the call, after which the frame waits, leaves of what the family has after it
-pub record IsLeft (l : Lowered) (c : Classed) (stores : ℕ → ℕ → Bool) (longest : ℕ) (K : Family) (f : Frame) (r : Region) (n : Lock) : Type 0 where
+pub record IsLeft (l : Lowered) (c : Classed) (stores : ℕ → ℕ → Bool) (k_limit : ℕ) (K : Family) (f : Frame) (r : Region) (n : Lock) : Type 0 where
   pub call : ℕ
   pub to : ℕ
   pub first : ℕ
@@ -28,7 +28,7 @@ pub record IsLeft (l : Lowered) (c : Classed) (stores : ℕ → ℕ → Bool) (l
   pub waits : f.pc ≡ suc call
   pub calls : slice_get l.code call ≡ Some (instr.Call to first callee)
   pub wanted : K r f.pc behind
-  pub left : IsOne (link (view c stores longest f.function) (instr.Call to first callee) behind) n
+  pub left : IsOne (link (view c stores k_limit f.function) (instr.Call to first callee) behind) n
 
 -- in the region of the top frame: all that the family has where the frame stands
 abbrev pub TopHas : Lowered → Family → Cover → ℕ → List Object → Frame → List Frame → Type 0
@@ -37,7 +37,7 @@ TopHas l K k t objects f below =
 
 -- in the region of each frame that waits: all that its call leaves
 abbrev pub WaitingHave : Lowered → Classed → (ℕ → ℕ → Bool) → ℕ → Family → Cover → ℕ → List Object → List Frame → Type 0
-WaitingHave l c stores longest K k t objects [] = Unit {0}
-WaitingHave l c stores longest K k t objects (f ∷ below) =
-    ((r : Region) → region_of l f below ≡ Some r → AreProtected k t objects f.regs (IsLeft l c stores longest K f r))
-    × WaitingHave l c stores longest K k t objects below
+WaitingHave l c stores k_limit K k t objects [] = Unit {0}
+WaitingHave l c stores k_limit K k t objects (f ∷ below) =
+    ((r : Region) → region_of l f below ≡ Some r → AreProtected k t objects f.regs (IsLeft l c stores k_limit K f r))
+    × WaitingHave l c stores k_limit K k t objects below

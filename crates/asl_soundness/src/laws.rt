@@ -5,7 +5,7 @@ ghost use Rattle.asl_code.specs.declared.image.Image.{Image};
 ghost use Rattle.asl_code.specs.declared.instr.Instr.{Instr};
 ghost use Rattle.asl_code.specs.declared.lock.Lock.{Lock};
 ghost use Rattle.asl_lower.specs.Lowered.{Lowered};
-ghost use Rattle.asl_lower.specs.Kept.{IsKept};
+ghost use Rattle.asl_lower.specs.LegalLowering.{IsLegalLowering};
 ghost use Rattle.asl_points_to.specs.Classes.{Classed};
 ghost use Rattle.asl_lock_expr.specs.Links.{view, IsOne, link, dereferenced};
 ghost use Rattle.asl_backward_flow.specs.Needed.{Needed};
@@ -15,7 +15,7 @@ ghost use Rattle.asl_machine.specs.Cover.{cover};
 ghost use Rattle.asl_machine.specs.StepFunction.{step_of};
 ghost use Rattle.asl_soundness.specs.Coded.{IsImageOf};
 ghost use Rattle.asl_soundness.specs.Protected.{Protected, LockThere};
-ghost use Rattle.asl_soundness.specs.Safe.{StandOver, TellsAllStores, NeverFaultsForLocks};
+ghost use Rattle.asl_soundness.specs.Safe.{ListsCover, TellsAllStores, NeverFaultsForLocks};
 ghost use Rattle.asl_soundness.specs.Wanted.{AreProtected, TopHas, WaitingHave};
 
 /// One step from a reached state, for any one lock. Of the thread's own step, in a section before and after it and in the same
@@ -23,15 +23,15 @@ ghost use Rattle.asl_soundness.specs.Wanted.{AreProtected, TopHas, WaitingHave};
 /// protected before it, the lock is protected after it. Of another thread's step: a lock that is protected for a frame with
 /// its dereferenced prefixes stays protected. Neither asks more of the lists than that the verifier takes them.
 pub fn links_keep_locks_protected()
-    ensures own { (l : Lowered) (c : Classed) (stores : ℕ → ℕ → Bool) (longest : ℕ) (image : Image) (count : ℕ) (s : State) (t : ℕ) (a b : Activity) (i : Instr) (n : Lock)
-        → IsKept l → IsImageOf l c image → IsReached image count s
+    ensures own { (l : Lowered) (c : Classed) (stores : ℕ → ℕ → Bool) (k_limit : ℕ) (image : Image) (count : ℕ) (s : State) (t : ℕ) (a b : Activity) (i : Instr) (n : Lock)
+        → IsLegalLowering l → IsImageOf l c image → IsReached image count s
         → activity_at s.threads t ≡ Some a → slice_get l.code a.top.pc ≡ Some i
         → activity_at (step_of image s t).state.threads t ≡ Some b → 0 < a.depth → 0 < b.depth → b.below ≡ a.below
         → LockThere c n
-        → AreProtected (cover s.holding a.fresh) t s.objects a.top.regs (IsOne (link (view c stores longest a.top.function) i n))
+        → AreProtected (cover s.holding a.fresh) t s.objects a.top.regs (IsOne (link (view c stores k_limit a.top.function) i n))
         → Protected (cover (step_of image s t).state.holding b.fresh) t (step_of image s t).state.objects b.top.regs n }
     ensures others { (l : Lowered) (c : Classed) (image : Image) (count : ℕ) (s : State) (t u : ℕ) (a : Activity) (place : ℕ) (f : Frame) (n : Lock)
-        → IsKept l → IsImageOf l c image → IsReached image count s
+        → IsLegalLowering l → IsImageOf l c image → IsReached image count s
         → activity_at s.threads t ≡ Some a → slice_get (a.top ∷ a.below) place ≡ Some f → t ≢ u
         → LockThere c n
         → AreProtected (cover s.holding a.fresh) t s.objects f.regs (IsOne (dereferenced n))
@@ -42,24 +42,24 @@ pub fn links_keep_locks_protected()
 /// In each reached state all locks that the region of a thread's top frame needs where the frame stands are protected: over
 /// the frame's own steps, its loops, and the steps of other threads.
 pub fn needed_locks_are_protected()
-    ensures { (l : Lowered) (c : Classed) (stores : ℕ → ℕ → Bool) (longest : ℕ) (image : Image) (count : ℕ) (s : State) (t : ℕ) (a : Activity)
-        → IsKept l → IsImageOf l c image → TellsAllStores l c stores → StandOver l c (Needed l c stores longest) image
+    ensures { (l : Lowered) (c : Classed) (stores : ℕ → ℕ → Bool) (k_limit : ℕ) (image : Image) (count : ℕ) (s : State) (t : ℕ) (a : Activity)
+        → IsLegalLowering l → IsImageOf l c image → TellsAllStores l c stores → ListsCover l c (Needed l c stores k_limit) image
         → IsReached image count s → activity_at s.threads t ≡ Some a
-        → TopHas l (Needed l c stores longest) (cover s.holding a.fresh) t s.objects a.top a.below }
+        → TopHas l (Needed l c stores k_limit) (cover s.holding a.fresh) t s.objects a.top a.below }
 {}
 
 /// In each reached state, for each frame that waits after a call, all locks that the call leaves of what the frame's region
 /// needs after it are protected: over all that the callee does, and the steps of other threads.
 pub fn locks_of_waiting_frames_are_protected()
-    ensures { (l : Lowered) (c : Classed) (stores : ℕ → ℕ → Bool) (longest : ℕ) (image : Image) (count : ℕ) (s : State) (t : ℕ) (a : Activity)
-        → IsKept l → IsImageOf l c image → TellsAllStores l c stores → StandOver l c (Needed l c stores longest) image
+    ensures { (l : Lowered) (c : Classed) (stores : ℕ → ℕ → Bool) (k_limit : ℕ) (image : Image) (count : ℕ) (s : State) (t : ℕ) (a : Activity)
+        → IsLegalLowering l → IsImageOf l c image → TellsAllStores l c stores → ListsCover l c (Needed l c stores k_limit) image
         → IsReached image count s → activity_at s.threads t ≡ Some a
-        → WaitingHave l c stores longest (Needed l c stores longest) (cover s.holding a.fresh) t s.objects a.below }
+        → WaitingHave l c stores k_limit (Needed l c stores k_limit) (cover s.holding a.fresh) t s.objects a.below }
 {}
 
 /// No run of such a program ever faults for a missing lock, for a section that was not entered, or for one left open.
 pub fn never_unprotected()
-    ensures { (l : Lowered) (c : Classed) (stores : ℕ → ℕ → Bool) (longest : ℕ) (image : Image)
-        → IsKept l → IsImageOf l c image → TellsAllStores l c stores → StandOver l c (Needed l c stores longest) image
+    ensures { (l : Lowered) (c : Classed) (stores : ℕ → ℕ → Bool) (k_limit : ℕ) (image : Image)
+        → IsLegalLowering l → IsImageOf l c image → TellsAllStores l c stores → ListsCover l c (Needed l c stores k_limit) image
         → NeverFaultsForLocks image }
 {}

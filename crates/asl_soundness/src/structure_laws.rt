@@ -5,7 +5,7 @@ ghost use Rattle.asl_code.specs.declared.image.Image.{Image};
 ghost use Rattle.asl_code.specs.declared.instr.Instr.{Instr};
 ghost use Rattle.asl_lower.specs.Lowered.{Lowered};
 ghost use Rattle.asl_lower.specs.Region.{is_access};
-ghost use Rattle.asl_lower.specs.Kept.{IsKept};
+ghost use Rattle.asl_lower.specs.LegalLowering.{IsLegalLowering};
 ghost use Rattle.asl_points_to.specs.Classes.{Classed};
 ghost use Rattle.asl_machine.specs.declared.fault.Fault.TheVariants.{NoSection, Open};
 ghost use Rattle.asl_machine.specs.declared.reply.Reply.TheVariants as reply;
@@ -19,25 +19,25 @@ ghost use Rattle.asl_soundness.specs.Nested.{AreNested};
 /// In each reached state every address, in a cell or in a register of any frame, is that of an object of the class that the
 /// classes name there.
 pub fn states_agree_with_classes()
-    ensures { (l : Lowered) (c : Classed) (image : Image) (count : ℕ) (s : State) → IsKept l → IsImageOf l c image
+    ensures { (l : Lowered) (c : Classed) (image : Image) (count : ℕ) (s : State) → IsLegalLowering l → IsImageOf l c image
         → IsReached image count s → Agrees c s }
 {}
 
 /// In each reached state the depth of a thread is the number of the sections that are open at its frames; functions above a
 /// frame in a section are inner, the others are bare.
 pub fn depths_count_open_sections()
-    ensures { (l : Lowered) (c : Classed) (image : Image) (count : ℕ) (s : State) → IsKept l → IsImageOf l c image
+    ensures { (l : Lowered) (c : Classed) (image : Image) (count : ℕ) (s : State) → IsLegalLowering l → IsImageOf l c image
         → IsReached image count s → AreNested l s }
 {}
 
 /// No step leaves a section that was not entered, and no thread returns from its last frame in one.
 pub fn sections_are_entered_and_left()
-    ensures { (l : Lowered) (c : Classed) (image : Image) (count : ℕ) (s : State) (t : ℕ) → IsKept l → IsImageOf l c image
+    ensures { (l : Lowered) (c : Classed) (image : Image) (count : ℕ) (s : State) (t : ℕ) → IsLegalLowering l → IsImageOf l c image
         → IsReached image count s → ((step_of image s t).reply ≢ reply.Fault NoSection) × ((step_of image s t).reply ≢ reply.Fault Open) }
 {}
 
 /// Who stands at an access is in a section.
 pub fn accesses_are_in_sections()
-    ensures { (l : Lowered) (c : Classed) (image : Image) (count : ℕ) (s : State) (t : ℕ) (a : Activity) (i : Instr) → IsKept l → IsImageOf l c image
+    ensures { (l : Lowered) (c : Classed) (image : Image) (count : ℕ) (s : State) (t : ℕ) (a : Activity) (i : Instr) → IsLegalLowering l → IsImageOf l c image
         → IsReached image count s → activity_at s.threads t ≡ Some a → slice_get l.code a.top.pc ≡ Some i → IsTrue (is_access i) → 0 < a.depth }
 {}

@@ -42,15 +42,15 @@ one_got (x ∷ xs) zero a e = inl (cc)
 one_got (x ∷ xs) (suc n) a e = inr (one_got xs n a e)
 
 -- more than 4,096 different locks, each needed at one place of the region
-many_needed : (l : Lowered) (c : Classed) (stores : ℕ → ℕ → Bool) (longest : ℕ) (r : Region) (pc : ℕ) → Different (Needed l c stores longest r pc) 4097 → NeedsMany l c stores longest r
-many_needed l c stores longest r pc d = record {
+many_needed : (l : Lowered) (c : Classed) (stores : ℕ → ℕ → Bool) (k_limit : ℕ) (r : Region) (pc : ℕ) → Different (Needed l c stores k_limit r pc) 4097 → NeedsMany l c stores k_limit r
+many_needed l c stores k_limit r pc d = record {
   locks = d.locks;
   many = (let count = d.count in omega (arith, count));
   different = d.apart;
   needed = λ n lock at. (pc, d.each lock (one_got d.locks n lock at));
 }
 
-module _ (is : List Item) (longest : ℕ) (a : IsAccepted is longest) where
+module _ (is : List Item) (k_limit : ℕ) (a : IsAccepted is k_limit) where
   abbrev l : Lowered
   l = a.analysis.program.lowering
 
@@ -58,19 +58,19 @@ module _ (is : List Item) (longest : ℕ) (a : IsAccepted is longest) where
   c = a.analysis.program.classes
 
   abbrev IsList : ℕ → List Lock → Type 0
-  IsList n locks = (s : Section) → slice_get l.sections n ≡ Some s → IsFitted c s.function newest_locks (λ lock. Needed l c a.analysis.stores longest (Inside n) (suc s.acquire) lock) locks
+  IsList n locks = (s : Section) → slice_get l.sections n ≡ Some s → IsFitted c s.function newest_locks (λ lock. Needed l c a.analysis.stores k_limit (Inside n) (suc s.acquire) lock) locks
 
   a_list : (n : ℕ) → n < length l.sections → Surely ((locks : List Lock) × IsList n locks)
   a_list n lt =
       let s = get_below l.sections n lt in
-      then (surely_listed (λ lock. Needed l c a.analysis.stores longest (Inside n) (suc s.0.acquire) lock) 4097 (λ d. a.few_locks (Inside n) (many_needed l c a.analysis.stores longest (Inside n) (suc s.0.acquire) d))) (λ xs.
-      mapped (surely_fitted c s.0.function newest_locks (λ lock. Needed l c a.analysis.stores longest (Inside n) (suc s.0.acquire) lock) xs.0 xs.1) (λ list. (
+      then (surely_listed (λ lock. Needed l c a.analysis.stores k_limit (Inside n) (suc s.0.acquire) lock) 4097 (λ d. a.few_locks (Inside n) (many_needed l c a.analysis.stores k_limit (Inside n) (suc s.0.acquire) d))) (λ xs.
+      mapped (surely_fitted c s.0.function newest_locks (λ lock. Needed l c a.analysis.stores k_limit (Inside n) (suc s.0.acquire) lock) xs.0 xs.1) (λ list. (
         list.0,
         λ t there. (let same : s.0 ≡ t = (let e : Some s.0 ≡ Some t = sym s.1 ∙ there in cc) in
-            subst (λ (u : Section). IsFitted c u.function newest_locks (λ lock. Needed l c a.analysis.stores longest (Inside n) (suc u.acquire) lock) list.0) same list.1),
+            subst (λ (u : Section). IsFitted c u.function newest_locks (λ lock. Needed l c a.analysis.stores k_limit (Inside n) (suc u.acquire) lock) list.0) same list.1),
       )))
 
-  pub surely_image : Surely ((image : Image) × IsInferredFor is longest image)
+  pub surely_image : Surely ((image : Image) × IsInferredFor is k_limit image)
   surely_image =
       mapped (table IsList (length l.sections) a_list) (λ t. (
         record { version = newest; classes = c.count; globals = c.globals; functions = l.functions; start = l.main; code = map (classed c) l.code; lists = t.entries },
@@ -98,7 +98,7 @@ code_region (Inside s) = (variant.Section s, refl)
 few_or_more : (m n : ℕ) → (m ≤ n) ⊎ (n < m)
 few_or_more m n = grind arith
 
-module _ (source : List ℕ) (is : List Item) (longest : ℕ) (parses : Parses source is) (no_image : IsAccepted is longest → ⊥) (no_fault : (fault : InferFault) → fault ≢ OutOfMemory → IsRefused is longest fault → ⊥) where
+module _ (source : List ℕ) (is : List Item) (k_limit : ℕ) (parses : Parses source is) (no_image : IsAccepted is k_limit → ⊥) (no_fault : (fault : InferFault) → fault ≢ OutOfMemory → IsRefused is k_limit fault → ⊥) where
   abbrev low : Lowered
   low = lowering_of is
 
@@ -156,7 +156,7 @@ module _ (source : List ℕ) (is : List Item) (longest : ℕ) (parses : Parses s
               lowered = lowered;
               analysis = record { program = record { lowering = low; lowers = lowers; classes = c; are_classes = are }; stores = told.0; tells = told.1 };
               few_classes = few;
-              many = subst (NeedsMany low c told.0 longest) (sym k.1) many;
+              many = subst (NeedsMany low c told.0 k_limit) (sym k.1) many;
             }));
       })
 

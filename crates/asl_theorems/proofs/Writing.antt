@@ -23,7 +23,7 @@ use Rattle.asl_machine.specs.declared.reply.Reply.TheVariants as reply
 use Rattle.asl_machine.specs.State.{Object, Frame, Activity, Thread, Running, Done, Failed, State, new_object, cell_at, size_of, with_cell, written}
 use Rattle.asl_machine.specs.Calls.{function_of, first_registers, first_frame, values_from, with_register}
 use Rattle.asl_machine.specs.Access.{Points, AllPoint}
-use Rattle.asl_machine.specs.Step.{At, Reads, ReadsAddress, after, Sets, GoesOn, GoesTo, Fails, FailsNull, FailsType, FailsUnprotected, Line, StepOf, Step, going_on, advanced, advanced_with, placed_at, called, returned, having_made, left_last}
+use Rattle.asl_machine.specs.Step.{At, Reads, ReadsAddress, after, Sets, ContinuesAt, GoesTo, Fails, FailsNull, FailsType, FailsUnprotected, Line, StepOf, Step, going_on, advanced, advanced_with, placed_at, called, returned, having_made, left_last}
 use Rattle.asl_machine.specs.Run.{global_object, first_activity, first_threads, start_of}
 use Rattle.asl_machine.specs.StepFunction.{step_of}
 use Rattle.asl_machine.specs.State.{activity_of}
@@ -141,7 +141,7 @@ module _ (at : At) (v : StateFits at.state) (a : ActivityFits at.activity) where
       subst StateFits (sym e) (thread_set at.state at.thread _ at.state.objects at.state.holding v v.objects
       (record { top = set_fits at.activity.top.regs register value a.top fits; below = a.below }))
 
-  on_state : (depth : ℕ) (objects : List Object) (holding : Holding) (new : State) → ObjectsFit objects → GoesOn at depth objects holding new → StateFits new
+  on_state : (depth : ℕ) (objects : List Object) (holding : Holding) (new : State) → ObjectsFit objects → ContinuesAt at depth objects holding new → StateFits new
   on_state depth objects holding new all e =
       subst StateFits (sym e) (thread_set at.state at.thread _ objects holding v all (record { top = a.top; below = a.below }))
 

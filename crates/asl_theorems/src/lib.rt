@@ -11,7 +11,7 @@ ghost use Rattle.asl_syntax.specs.Parsed.{Parses};
 ghost use Rattle.asl_syntax.specs.Printed.{printed};
 ghost use Rattle.asl_lower.specs.declared.section.Section.{Section};
 ghost use Rattle.asl_lower.specs.Lowered.{Lowered, IsLowering};
-ghost use Rattle.asl_lower.specs.Kept.{IsKept};
+ghost use Rattle.asl_lower.specs.LegalLowering.{IsLegalLowering};
 ghost use Rattle.asl_lower.specs.Regions.{Inside};
 ghost use Rattle.asl_points_to.specs.Classes.{Classed, AreClasses};
 ghost use Rattle.asl_lock_expr.specs.ClassOf.{TellsStores};
@@ -45,8 +45,8 @@ use asl_syntax::laws::{a_printed_tree_is_read_back, a_text_has_one_tree};
 /// The headline. No reply in any journal of a compiled program is a fault for a missing lock, for a section that was not
 /// entered, or for one that was left open: with any number of threads, in any order of their steps.
 pub fn no_compiled_program_faults_for_a_missing_lock()
-    ensures { (source : List ℕ) (longest : ℕ) (image : Image) (count : ℕ) (events : List Event) (end : State)
-        → Compiles source longest image → LeadsTo image count events end → All IsSafe (replies_in events) }
+    ensures { (source : List ℕ) (k_limit : ℕ) (image : Image) (count : ℕ) (events : List Event) (end : State)
+        → Compiles source k_limit image → LeadsTo image count events end → All IsSafe (replies_in events) }
 {}
 
 /// 1. Files and texts. Reading undoes writing: what is spelled belongs to one value, and an image and a journal have one spelling.
@@ -87,7 +87,7 @@ pub fn every_schedule_has_one_journal()
         → (events : List Event) × IsJournal image count events × (schedule_of events ≡ schedule) }
     ensures one { (image : Image) (count : ℕ) (events others : List Event) → IsJournal image count events
         → IsJournal image count others → schedule_of events ≡ schedule_of others → events ≡ others }
-    ensures verified { (source : List ℕ) (longest : ℕ) (image : Image) → Compiles source longest image → IsVerified image }
+    ensures verified { (source : List ℕ) (k_limit : ℕ) (image : Image) → Compiles source k_limit image → IsVerified image }
 {}
 
 /// Each journal of a program that bytes spell, if it is not too long for any, has bytes. So it can be kept as a run file.
@@ -109,24 +109,24 @@ pub fn no_journal_is_stuck()
 /// source's tree, the program is the image that is inferred of these. Its tables and its code are the lowering's, with classes in
 /// place of sites; each section's list is the fitted one of what it needs, and none is empty that needs a lock.
 pub fn a_compiled_program_is_its_sources()
-    ensures inferred { (source : List ℕ) (longest : ℕ) (image : Image) (tree : List Item) (l : Lowered) (c : Classed) (stores : ℕ → ℕ → Bool)
-        → Compiles source longest image → Parses source tree → IsLowering tree l → AreClasses l c → TellsStores l c stores
-        → IsInferred l c stores longest image }
-    ensures some { (source : List ℕ) (longest : ℕ) (image : Image) (tree : List Item) (l : Lowered) (c : Classed) (stores : ℕ → ℕ → Bool)
+    ensures inferred { (source : List ℕ) (k_limit : ℕ) (image : Image) (tree : List Item) (l : Lowered) (c : Classed) (stores : ℕ → ℕ → Bool)
+        → Compiles source k_limit image → Parses source tree → IsLowering tree l → AreClasses l c → TellsStores l c stores
+        → IsInferred l c stores k_limit image }
+    ensures some { (source : List ℕ) (k_limit : ℕ) (image : Image) (tree : List Item) (l : Lowered) (c : Classed) (stores : ℕ → ℕ → Bool)
         (n : ℕ) (section : Section) (list : List Lock) (lock : Lock)
-        → Compiles source longest image → Parses source tree → IsLowering tree l → AreClasses l c → TellsStores l c stores
+        → Compiles source k_limit image → Parses source tree → IsLowering tree l → AreClasses l c → TellsStores l c stores
         → slice_get l.sections n ≡ Some section → slice_get image.lists n ≡ Some list
-        → Needed l c stores longest (Inside n) (suc section.acquire) lock → list ≢ [] }
-    ensures kept { (source : List ℕ) (longest : ℕ) (tree : List Item) (l : Lowered)
-        → Parses source tree → IsAccepted tree longest → IsLowering tree l → IsKept l }
+        → Needed l c stores k_limit (Inside n) (suc section.acquire) lock → list ≢ [] }
+    ensures kept { (source : List ℕ) (k_limit : ℕ) (tree : List Item) (l : Lowered)
+        → Parses source tree → IsAccepted tree k_limit → IsLowering tree l → IsLegalLowering l }
 {
     a_text_has_one_tree();
 }
 
 /// A source has one compiled program at the most for each longest path.
 pub fn a_source_has_one_program()
-    ensures { (source : List ℕ) (longest : ℕ) (image other : Image)
-        → Compiles source longest image → Compiles source longest other → image ≡ other }
+    ensures { (source : List ℕ) (k_limit : ℕ) (image other : Image)
+        → Compiles source k_limit image → Compiles source k_limit other → image ≡ other }
 {
     a_text_has_one_tree();
 }
@@ -135,11 +135,11 @@ pub fn a_source_has_one_program()
 /// is none; it has no fault but that memory ran out, and one image. A program that is not accepted has a fault, for it cannot be
 /// that it has none. The finest classes of a program's lowering cannot be missing.
 pub fn every_program_has_one_outcome()
-    ensures image { (tree : List Item) (longest : ℕ) → IsAccepted tree longest → ¬ (¬ ((image : Image) × IsInferredFor tree longest image)) }
-    ensures one { (tree : List Item) (longest : ℕ) (image other : Image) → IsInferredFor tree longest image → IsInferredFor tree longest other → image ≡ other }
-    ensures both { (tree : List Item) (longest : ℕ) (fault : InferFault) → IsAccepted tree longest → IsRefused tree longest fault → fault ≡ OutOfMemory }
-    ensures neither { (source : List ℕ) (tree : List Item) (longest : ℕ) → Parses source tree → ¬ (IsAccepted tree longest)
-        → ¬ ((fault : InferFault) → fault ≢ OutOfMemory → ¬ (IsRefused tree longest fault)) }
+    ensures image { (tree : List Item) (k_limit : ℕ) → IsAccepted tree k_limit → ¬ (¬ ((image : Image) × IsInferredFor tree k_limit image)) }
+    ensures one { (tree : List Item) (k_limit : ℕ) (image other : Image) → IsInferredFor tree k_limit image → IsInferredFor tree k_limit other → image ≡ other }
+    ensures both { (tree : List Item) (k_limit : ℕ) (fault : InferFault) → IsAccepted tree k_limit → IsRefused tree k_limit fault → fault ≡ OutOfMemory }
+    ensures neither { (source : List ℕ) (tree : List Item) (k_limit : ℕ) → Parses source tree → ¬ (IsAccepted tree k_limit)
+        → ¬ ((fault : InferFault) → fault ≢ OutOfMemory → ¬ (IsRefused tree k_limit fault)) }
     ensures classes { (source : List ℕ) (tree : List Item) (l : Lowered) → Parses source tree → IsLowering tree l → ¬ (¬ ((c : Classed) × AreClasses l c)) }
 {}
 
@@ -154,10 +154,10 @@ pub fn positions_go_by_the_table()
 /// same replies for each thread, the same order outside sections, and sections one at a time. It is the very same state where no
 /// step inside a section is a `new`; where none finds that there is no room for an object, the same up to the numbers of objects.
 pub fn compiled_programs_are_atomic()
-    ensures serial { (source : List ℕ) (longest : ℕ) (image : Image) (count : ℕ) (steps : List TakenStep) (end : State)
-        → Compiles source longest image → IsRun image (start_of image count) steps end
+    ensures serial { (source : List ℕ) (k_limit : ℕ) (image : Image) (count : ℕ) (steps : List TakenStep) (end : State)
+        → Compiles source k_limit image → IsRun image (start_of image count) steps end
         → All (MakesNoneInside image) steps → HasSerial image count steps end }
-    ensures up_to_numbers { (source : List ℕ) (longest : ℕ) (image : Image) (count : ℕ) (steps : List TakenStep) (end : State)
-        → Compiles source longest image → IsRun image (start_of image count) steps end
+    ensures up_to_numbers { (source : List ℕ) (k_limit : ℕ) (image : Image) (count : ℕ) (steps : List TakenStep) (end : State)
+        → Compiles source k_limit image → IsRun image (start_of image count) steps end
         → All FindsRoomInside steps → HasSerialUpTo image count steps end }
 {}

@@ -13,7 +13,7 @@ use Rattle.asl_machine.specs.declared.reply.Reply.TheVariants as reply
 use Rattle.asl_machine.specs.State.{State}
 use Rattle.asl_machine.specs.StepFunction.{same_value}
 use Rattle.asl_machine.specs.StepFunction.{step_of}
-use Rattle.asl_machine.proofs.Words.{same_is, same_self}
+use Rattle.asl_machine.proofs.PackedValues.{same_is, same_self}
 use Rattle.asl_journal.specs.declared.event.Event.{Event}
 use Rattle.asl_journal.specs.Journal.{GoesBy}
 use Rattle.asl_journal.specs.Replay.{DiffersAt}

@@ -313,11 +313,11 @@ one_outcome texts bytes command.Assemble input o p settled all x y =
     text_one texts input o p (text_is input o (cases command.Assemble input o x)) (text_is input p (cases command.Assemble input p y))
 one_outcome texts bytes command.Disassemble input o p settled all x y =
     image_one bytes input o p all (image_is input o (cases command.Disassemble input o x)) (image_is input p (cases command.Disassemble input p y))
-one_outcome texts bytes (command.Compile longest as_text) input o p settled all x y = absurd settled
-one_outcome texts bytes (command.Check longest) input o p settled all x y = absurd settled
+one_outcome texts bytes (command.Compile k_limit as_text) input o p settled all x y = absurd settled
+one_outcome texts bytes (command.Check k_limit) input o p settled all x y = absurd settled
 one_outcome texts bytes command.Map input o p settled all x y = absurd settled
-one_outcome texts bytes (command.Explain longest all) input o p settled all_ x y = absurd settled
-one_outcome texts bytes (command.Diagnose assembly longest) input o p settled all x y = absurd settled
+one_outcome texts bytes (command.Explain k_limit all) input o p settled all_ x y = absurd settled
+one_outcome texts bytes (command.Diagnose assembly k_limit) input o p settled all x y = absurd settled
 one_outcome texts bytes command.Replay input o p settled all x y =
     replays_one same_of input o p all (replay_is same_of input o (cases command.Replay input o x)) (replay_is same_of input p (cases command.Replay input p y))
 one_outcome texts bytes (command.Log trace) input o p settled all x y =
@@ -445,11 +445,11 @@ some_outcome texts bytes (command.Debug words) input settled all =
     let q = files_have_an_outcome input all in
     let o = some_debug words.items input q.0 q.1 in
     (o.0, uncased (command.Debug words) input o.0 o.1)
-some_outcome texts bytes (command.Compile longest as_text) input settled all = absurd settled
-some_outcome texts bytes (command.Check longest) input settled all = absurd settled
+some_outcome texts bytes (command.Compile k_limit as_text) input settled all = absurd settled
+some_outcome texts bytes (command.Check k_limit) input settled all = absurd settled
 some_outcome texts bytes command.Map input settled all = absurd settled
-some_outcome texts bytes (command.Explain longest all) input settled all_ = absurd settled
-some_outcome texts bytes (command.Diagnose assembly longest) input settled all = absurd settled
+some_outcome texts bytes (command.Explain k_limit all) input settled all_ = absurd settled
+some_outcome texts bytes (command.Diagnose assembly k_limit) input settled all = absurd settled
 
 -- ---- `log` after `step --record`
 

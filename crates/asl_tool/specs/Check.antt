@@ -32,12 +32,12 @@ pub record HasSides (input source program : List ℕ) : Type 0 where
 -- the first side is a source, the second a program with so many lists. The program is the source's but for its lists, and these are
 -- enough for what its sections need, with paths of at most so many operations; no run of it faults for want of a lock, and its
 -- sections are atomic
-pub record AreEnough (source program : List ℕ) (longest sections : ℕ) : Type 0 where
+pub record AreEnough (source program : List ℕ) (k_limit sections : ℕ) : Type 0 where
   pub tree : List Item
   pub image : Image
   pub parsed : Parses source tree
   pub read : IsProgram program image
-  pub checked : lists.IsChecked tree longest image
+  pub checked : lists.IsChecked tree k_limit image
   pub safe : NeverFaultsForLocks image
   pub atomic : (count : ℕ) → HasSerialRuns image count
   pub atomic_up_to_numbers : (count : ℕ) → HasSerialRunsUpTo image count
@@ -48,12 +48,12 @@ abbrev pub checked_line : ℕ → List ℕ
 checked_line sections = codes "checked " ++ decimal sections ++ codes " sections\n"
 
 -- the lists of the input's program are enough for its source, and the output says how many there are
-pub record IsChecked (input : List ℕ) (longest : ℕ) (output : List ℕ) : Type 0 where
+pub record IsChecked (input : List ℕ) (k_limit : ℕ) (output : List ℕ) : Type 0 where
   pub source : List ℕ
   pub program : List ℕ
   pub sections : ℕ
   pub sides : HasSides input source program
-  pub enough : AreEnough source program longest sections
+  pub enough : AreEnough source program k_limit sections
   pub output_is : output ≡ checked_line sections
 
 -- ---- why an input is refused
@@ -65,29 +65,29 @@ pub record HasNoProgram (source program : List ℕ) (cause : ProgramFault) : Typ
   pub refused : IsNoProgram program cause
 
 -- both sides are what they should be, and the check refuses the two
-pub record HasOtherLists (source program : List ℕ) (longest : ℕ) (cause : CheckFault) : Type 0 where
+pub record HasOtherLists (source program : List ℕ) (k_limit : ℕ) (cause : CheckFault) : Type 0 where
   pub tree : List Item
   pub image : Image
   pub parsed : Parses source tree
   pub read : IsProgram program image
-  pub refused : lists.IsRefused tree longest image cause
+  pub refused : lists.IsRefused tree k_limit image cause
 
 -- what each refusal says of the two sides; want of memory for the line comes only where the lists are enough
 abbrev pub IsRefusedPair : List ℕ → List ℕ → ℕ → CommandFault → Type 0
-IsRefusedPair source program longest (fault.Source cause) = syntax.IsFault source cause
-IsRefusedPair source program longest (fault.Program cause) = HasNoProgram source program cause
-IsRefusedPair source program longest (fault.Check cause) = HasOtherLists source program longest cause
-IsRefusedPair source program longest fault.OutOfMemory = (sections : ℕ) × AreEnough source program longest sections
-IsRefusedPair source program longest f = ⊥
+IsRefusedPair source program k_limit (fault.Source cause) = syntax.IsFault source cause
+IsRefusedPair source program k_limit (fault.Program cause) = HasNoProgram source program cause
+IsRefusedPair source program k_limit (fault.Check cause) = HasOtherLists source program k_limit cause
+IsRefusedPair source program k_limit fault.OutOfMemory = (sections : ℕ) × AreEnough source program k_limit sections
+IsRefusedPair source program k_limit f = ⊥
 
 -- the input has two sides, and they are refused
-pub record HasRefusedPair (input : List ℕ) (longest : ℕ) (f : CommandFault) : Type 0 where
+pub record HasRefusedPair (input : List ℕ) (k_limit : ℕ) (f : CommandFault) : Type 0 where
   pub source : List ℕ
   pub program : List ℕ
   pub sides : HasSides input source program
-  pub refused : IsRefusedPair source program longest f
+  pub refused : IsRefusedPair source program k_limit f
 
 -- what each refusal of `check` says of the input
 abbrev pub IsRefusedCheck : List ℕ → ℕ → CommandFault → Type 0
-IsRefusedCheck input longest fault.NoProgram = HasNoSides input
-IsRefusedCheck input longest f = HasRefusedPair input longest f
+IsRefusedCheck input k_limit fault.NoProgram = HasNoSides input
+IsRefusedCheck input k_limit f = HasRefusedPair input k_limit f

@@ -13,7 +13,7 @@ use Rattle.asl_words.specs.declared.command.Command.TheVariants as command
 use Rattle.asl_tool.specs.declared.command.CommandFault.{CommandFault}
 use Rattle.asl_tool.specs.declared.command.CommandFault.TheVariants as fault
 use Rattle.asl_tool.specs.Program.{IsNoProgram}
-use Rattle.asl_diagnose.specs.Told.{IsTold}
+use Rattle.asl_diagnose.specs.RefusalText.{IsTold}
 use Rattle.asl_explain.specs.Told.{IsText}
 use Rattle.asl_explain.specs.Explained as explain
 use Rattle.asl_explain.specs.declared.fault.ExplainFault.TheVariants as why
@@ -44,11 +44,11 @@ abbrev pub IsOutput : Command → List ℕ → List ℕ → Type 0
 IsOutput (command.Step threads schedule record_it) input output = IsStepped input threads schedule.items record_it output
 IsOutput command.Assemble input image = IsAssembled input image
 IsOutput command.Disassemble input text = IsDisassembled input text
-IsOutput (command.Compile longest as_text) input output = IsCompiled input longest as_text output
-IsOutput (command.Check longest) input text = IsChecked input longest text
+IsOutput (command.Compile k_limit as_text) input output = IsCompiled input k_limit as_text output
+IsOutput (command.Check k_limit) input text = IsChecked input k_limit text
 IsOutput command.Map input text = IsMapText input text
-IsOutput (command.Explain longest all) input text = IsText input longest text
-IsOutput (command.Diagnose assembly longest) input text = IsTold input assembly longest text
+IsOutput (command.Explain k_limit all) input text = IsText input k_limit text
+IsOutput (command.Diagnose assembly k_limit) input text = IsTold input assembly k_limit text
 IsOutput command.Replay input text = IsReplayed input text
 IsOutput (command.Log trace) input text = IsLogged input trace text
 IsOutput (command.Debug words) input text = IsDebugged input words.items text
@@ -85,9 +85,9 @@ IsRefusedMap input f = ⊥
 
 -- what each refusal of `explain` says of the source
 abbrev pub IsRefusedExplain : List ℕ → ℕ → CommandFault → Type 0
-IsRefusedExplain input longest (fault.Source cause) = explain.IsRefused input longest (why.Source cause)
-IsRefusedExplain input longest (fault.Infer cause) = explain.IsRefused input longest (why.Infer cause)
-IsRefusedExplain input longest f = ⊥
+IsRefusedExplain input k_limit (fault.Source cause) = explain.IsRefused input k_limit (why.Source cause)
+IsRefusedExplain input k_limit (fault.Infer cause) = explain.IsRefused input k_limit (why.Infer cause)
+IsRefusedExplain input k_limit f = ⊥
 
 -- `diagnose` refuses no input: memory may run out, and that is all
 abbrev pub IsRefusedDiagnose : CommandFault → Type 0
@@ -106,11 +106,11 @@ abbrev pub IsRefused : Command → List ℕ → CommandFault → Type 0
 IsRefused (command.Step threads schedule record_it) input f = IsRefusedStep input threads schedule.items f
 IsRefused command.Assemble input f = IsRefusedText input f
 IsRefused command.Disassemble input f = IsRefusedImage input f
-IsRefused (command.Compile longest as_text) input f = IsRefusedSource input longest f
-IsRefused (command.Check longest) input f = IsRefusedCheck input longest f
+IsRefused (command.Compile k_limit as_text) input f = IsRefusedSource input k_limit f
+IsRefused (command.Check k_limit) input f = IsRefusedCheck input k_limit f
 IsRefused command.Map input f = IsRefusedMap input f
-IsRefused (command.Explain longest all) input f = IsRefusedExplain input longest f
-IsRefused (command.Diagnose assembly longest) input f = IsRefusedDiagnose f
+IsRefused (command.Explain k_limit all) input f = IsRefusedExplain input k_limit f
+IsRefused (command.Diagnose assembly k_limit) input f = IsRefusedDiagnose f
 IsRefused command.Replay input f = IsRefusedReplay input f
 IsRefused (command.Log trace) input f = IsRefusedReplay input f
 IsRefused (command.Debug words) input f = IsRefusedReplay input f

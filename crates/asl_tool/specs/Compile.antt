@@ -18,11 +18,11 @@ use Rattle.asl_tool.specs.declared.command.CommandFault.TheVariants as fault
 
 -- the source is a program's, and this image is inferred for it, with paths of at most so many operations; no run of the
 -- image faults for want of a lock, and its sections are atomic
-pub record IsProgramFor (source : List ℕ) (longest : ℕ) (image : Image) : Type 0 where
+pub record IsProgramFor (source : List ℕ) (k_limit : ℕ) (image : Image) : Type 0 where
   pub tree : List Item
   pub parsed : Parses source tree
-  pub accepted : IsAccepted tree longest
-  pub inferred : IsInferredFor tree longest image
+  pub accepted : IsAccepted tree k_limit
+  pub inferred : IsInferredFor tree k_limit image
   pub safe : NeverFaultsForLocks image
   pub atomic : (count : ℕ) → HasSerialRuns image count
   pub atomic_up_to_numbers : (count : ℕ) → HasSerialRunsUpTo image count
@@ -33,15 +33,15 @@ IsProgramWritten false image output = IsVerified image × SpellsImage image outp
 IsProgramWritten true image output = IsVerified image × (output ≡ canonical_text image)
 
 -- the output is what is written of the program that is inferred for the source
-pub record IsCompiled (source : List ℕ) (longest : ℕ) (as_text : Bool) (output : List ℕ) : Type 0 where
+pub record IsCompiled (source : List ℕ) (k_limit : ℕ) (as_text : Bool) (output : List ℕ) : Type 0 where
   pub image : Image
-  pub program : IsProgramFor source longest image
+  pub program : IsProgramFor source k_limit image
   pub written : IsProgramWritten as_text image output
 
 -- what each refusal of `compile` says of the source; want of memory for the output comes only where a program is inferred for
 -- the source
 abbrev pub IsRefusedSource : List ℕ → ℕ → CommandFault → Type 0
-IsRefusedSource source longest (fault.Source cause) = syntax.IsFault source cause
-IsRefusedSource source longest (fault.Infer cause) = HasRefusedTree source longest cause
-IsRefusedSource source longest fault.OutOfMemory = (image : Image) × IsProgramFor source longest image
-IsRefusedSource source longest f = ⊥
+IsRefusedSource source k_limit (fault.Source cause) = syntax.IsFault source cause
+IsRefusedSource source k_limit (fault.Infer cause) = HasRefusedTree source k_limit cause
+IsRefusedSource source k_limit fault.OutOfMemory = (image : Image) × IsProgramFor source k_limit image
+IsRefusedSource source k_limit f = ⊥

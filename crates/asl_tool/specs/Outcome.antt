@@ -44,9 +44,9 @@ IsOutcome command input (Err f) = IsRefused command input f × (IsWantOfMemory f
 -- the input alone settles the command's outcome: not that of `compile` and of `check`, which name any one of the regions that need
 -- too many locks; of `map`, `explain` and `diagnose` it is not said
 abbrev pub IsSettled : Command → Type 0
-IsSettled (command.Compile longest as_text) = ⊥
-IsSettled (command.Check longest) = ⊥
+IsSettled (command.Compile k_limit as_text) = ⊥
+IsSettled (command.Check k_limit) = ⊥
 IsSettled command.Map = ⊥
-IsSettled (command.Explain longest all) = ⊥
-IsSettled (command.Diagnose assembly longest) = ⊥
+IsSettled (command.Explain k_limit all) = ⊥
+IsSettled (command.Diagnose assembly k_limit) = ⊥
 IsSettled c = Unit {0}

@@ -5,7 +5,7 @@
 use Rattle.std.specs.Prelude.{◌≡◌, ◌≤◌, ◌⊎◌, ℕ, List, Option, None, Some, IfSome, codes, length}
 use Rattle.std.specs.Io.KnownBytes.{Appends}
 use Rattle.asl_words.specs.declared.command.Command.{Command}
-use Rattle.asl_words.specs.declared.command.Team.{Team}
+use Rattle.asl_words.specs.declared.command.RunArguments.{RunArguments}
 use Rattle.asl_words.specs.declared.command.Invocation.{Invocation}
 use Rattle.asl_words.specs.declared.command.Invocation.TheVariants.{Alone, Run, Help, Version, WrongUsage}
 use Rattle.asl_words.specs.Words.{AsksFor}
@@ -27,7 +27,7 @@ abbrev pub of_command : Command → Promise
 of_command command = record { output = λ input output. IsOutput command input output × IsRunFile command input output; refusal = IsRefused command }
 
 -- the promise of the command `run`
-abbrev pub of_team : Team → Promise
+abbrev pub of_team : RunArguments → Promise
 of_team team = record { output = IsWorkOutput team; refusal = IsRefusedWork team }
 
 -- the input is all that the reader had, where that is known, and no longer than an input may be
@@ -114,4 +114,4 @@ pub record EndsAlone (words : List (List ℕ)) (unread unwritten : Type 0) (know
 
 -- the words ask for `run`
 abbrev pub AsksForWork : List (List ℕ) → Type 0
-AsksForWork words = (team : Team) × AsksFor words (Run team)
+AsksForWork words = (team : RunArguments) × AsksFor words (Run team)

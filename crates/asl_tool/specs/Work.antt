@@ -6,7 +6,7 @@ use Rattle.asl_runner.specs.History.{HaveEnded, IsAsked, WasRunning}
 use Rattle.asl_runner.specs.Refused.{IsRefusal}
 use Rattle.asl_runner.specs.declared.fault.RunFault.{RunFault}
 use Rattle.asl_runner.specs.declared.report.Report.{Report}
-use Rattle.asl_words.specs.declared.command.Team.{Team}
+use Rattle.asl_words.specs.declared.command.RunArguments.{RunArguments}
 use Rattle.asl_tool.specs.declared.command.CommandFault.{CommandFault}
 use Rattle.asl_tool.specs.declared.command.CommandFault.TheVariants as fault
 use Rattle.asl_tool.specs.Program.{IsProgram, IsNoProgram}
@@ -14,7 +14,7 @@ use Rattle.asl_tool.specs.Step.{written}
 
 -- the journal is one that the workers may leave of the program: no step of it is of a thread that had ended before, it has at
 -- most so many events as the limit says, and either each thread has ended or there are exactly so many
-pub record IsWorked (image : Image) (team : Team) (log : Log) : Type 0 where
+pub record IsWorked (image : Image) (team : RunArguments) (log : Log) : Type 0 where
   pub threads_are : log.threads ≡ team.threads
   pub journal : IsJournal image team.threads log.events
   pub running : All (λ event. WasRunning event.reply) log.events
@@ -22,7 +22,7 @@ pub record IsWorked (image : Image) (team : Team) (log : Log) : Type 0 where
   pub end : HaveEnded (state_at image team.threads log.events) team.threads ⊎ (length log.events ≡ team.limit)
 
 -- the input is a program, and the output is what is written of a journal that the workers may leave of it
-pub record IsWorkOutput (team : Team) (input output : List ℕ) : Type 0 where
+pub record IsWorkOutput (team : RunArguments) (input output : List ℕ) : Type 0 where
   pub image : Image
   pub log : Log
   pub program : IsProgram input image
@@ -31,24 +31,24 @@ pub record IsWorkOutput (team : Team) (input output : List ℕ) : Type 0 where
   pub output_is : output ≡ written team.record image log
 
 -- the input is a program that so many workers may run
-pub record IsWorkable (team : Team) (input : List ℕ) : Type 0 where
+pub record IsWorkable (team : RunArguments) (input : List ℕ) : Type 0 where
   pub image : Image
   pub program : IsProgram input image
   pub asked : IsAsked image team.threads team.workers team.limit
 
 -- the workers' run of the program is refused
-abbrev pub IsRefusedRunOf : Image → Team → RunFault → Type 0
+abbrev pub IsRefusedRunOf : Image → RunArguments → RunFault → Type 0
 IsRefusedRunOf image team cause = (report : Option Report) × IsRefusal image team.threads team.workers team.limit cause report
 
 -- the input is a program, whose run by the workers is refused
-pub record HasRefusedWork (team : Team) (input : List ℕ) (cause : RunFault) : Type 0 where
+pub record HasRefusedWork (team : RunArguments) (input : List ℕ) (cause : RunFault) : Type 0 where
   pub image : Image
   pub program : IsProgram input image
   pub refused : IsRefusedRunOf image team cause
 
 -- what each refusal of `run` says of the input; want of memory for the output comes only where the input is a program that the
 -- workers may run
-abbrev pub IsRefusedWork : Team → List ℕ → CommandFault → Type 0
+abbrev pub IsRefusedWork : RunArguments → List ℕ → CommandFault → Type 0
 IsRefusedWork team input (fault.Program cause) = IsNoProgram input cause
 IsRefusedWork team input (fault.Run cause) = HasRefusedWork team input cause
 IsRefusedWork team input fault.OutOfMemory = IsWorkable team input

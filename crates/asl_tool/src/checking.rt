@@ -6,17 +6,21 @@ use crate::command::CommandFault;
 use crate::program::read_program;
 use asl_check::check;
 use asl_syntax::parse;
-use asl_words::Longest;
+use asl_words::PathLimit;
 use std::alloc::{AllocError, Global};
 
 /// The line that says how many sections were checked, where the input is a source, one byte 0, and a program that is the source's
 /// but for its lists, each of which is enough.
-pub fn checked_text(alloc: Global, longest: &Longest, input: &[u8]) -> Result<String, CommandFault>
-    ensures ok { IfOk result (λ text. IsChecked input.now longest.now (string_bytes text)) }
-    ensures err { IfErr result (λ fault. IsRefusedCheck input.now longest.now fault) }
+pub fn checked_text(
+    alloc: Global,
+    k_limit: &PathLimit,
+    input: &[u8],
+) -> Result<String, CommandFault>
+    ensures ok { IfOk result (λ text. IsChecked input.now k_limit.now (string_bytes text)) }
+    ensures err { IfErr result (λ fault. IsRefusedCheck input.now k_limit.now fault) }
 {
     match sides_of(input) {
-        Some((source, program)) => told(alloc, longest, input, source, program),
+        Some((source, program)) => told(alloc, k_limit, input, source, program),
         None => Err(CommandFault::NoProgram),
     }
 }
@@ -24,16 +28,16 @@ pub fn checked_text(alloc: Global, longest: &Longest, input: &[u8]) -> Result<St
 /// The line of the two sides of the input.
 fn told(
     alloc: Global,
-    longest: &Longest,
+    k_limit: &PathLimit,
     input: &[u8],
     source: &[u8],
     program: &[u8],
 ) -> Result<String, CommandFault>
     requires { HasSides input.now source.now program.now }
-    ensures ok { IfOk result (λ text. IsChecked input.now longest.now (string_bytes text)) }
-    ensures err { IfErr result (λ fault. IsRefusedCheck input.now longest.now fault) }
+    ensures ok { IfOk result (λ text. IsChecked input.now k_limit.now (string_bytes text)) }
+    ensures err { IfErr result (λ fault. IsRefusedCheck input.now k_limit.now fault) }
 {
-    let sections = match sections_of(alloc, longest, source, program) {
+    let sections = match sections_of(alloc, k_limit, source, program) {
         Ok(sections) => sections,
         Err(fault) => return Err(fault),
     };
@@ -46,12 +50,12 @@ fn told(
 /// How many sections the source has, where the program's lists are enough for them.
 fn sections_of(
     alloc: Global,
-    longest: &Longest,
+    k_limit: &PathLimit,
     source: &[u8],
     program: &[u8],
 ) -> Result<usize, CommandFault>
-    ensures ok { IfOk result (λ sections. AreEnough source.now program.now longest.now sections) }
-    ensures err { IfErr result (λ fault. IsRefusedPair source.now program.now longest.now fault) }
+    ensures ok { IfOk result (λ sections. AreEnough source.now program.now k_limit.now sections) }
+    ensures err { IfErr result (λ fault. IsRefusedPair source.now program.now k_limit.now fault) }
 {
     let ast = match parse(alloc, source) {
         Ok(ast) => ast,
@@ -61,7 +65,7 @@ fn sections_of(
         Ok(program) => program,
         Err(fault) => return Err(CommandFault::Program(fault)),
     };
-    match check(alloc, &ast, &program, longest.operations()) {
+    match check(alloc, &ast, &program, k_limit.operations()) {
         Ok(()) => Ok(program.lists().len()),
         Err(fault) => Err(CommandFault::Check(fault)),
     }

@@ -1,6 +1,6 @@
 //! The commands: from the bytes of an input to those of the output.
 ghost use Rattle.std.specs.Prelude.{◌≡◌, true, IfOk, IfErr};
-ghost use Rattle.asl_diagnose.specs.Told.{IsTold};
+ghost use Rattle.asl_diagnose.specs.RefusalText.{IsTold};
 ghost use Rattle.asl_explain.specs.Told.{IsText};
 ghost use Rattle.asl_journal.specs.RunFile.{SpellsRun};
 ghost use Rattle.asl_map.specs.Mapped.{IsMapText};
@@ -29,7 +29,7 @@ use asl_loader::{load, store};
 use asl_map::{MapFault, mapped};
 use asl_runner::RunFault;
 use asl_syntax::SyntaxFault;
-use asl_words::{Command, DebugWord, Longest};
+use asl_words::{Command, DebugWord, PathLimit};
 use std::alloc::{AllocError, Global};
 use thiserror::Error;
 
@@ -87,12 +87,12 @@ pub fn output_of(alloc: Global, command: &Command, input: &[u8]) -> Result<Vec<u
         } => stepped(alloc, *threads, schedule.as_slice(), *record, input),
         Command::Assemble => assembled(alloc, input),
         Command::Disassemble => disassembled(alloc, input),
-        Command::Compile { longest, text } => compiled(alloc, longest, *text, input),
-        Command::Check { longest } => checked(alloc, longest, input),
+        Command::Compile { k_limit, text } => compiled(alloc, k_limit, *text, input),
+        Command::Check { k_limit } => checked(alloc, k_limit, input),
         Command::Map => mapped_source(alloc, input),
-        Command::Explain { longest, all } => explained_source(alloc, longest, *all, input),
-        Command::Diagnose { assembly, longest } => diagnosed_input(
-            alloc, *assembly, longest, input,
+        Command::Explain { k_limit, all } => explained_source(alloc, k_limit, *all, input),
+        Command::Diagnose { assembly, k_limit } => diagnosed_input(
+            alloc, *assembly, k_limit, input,
         ),
         Command::Replay => replayed(alloc, input),
         Command::Log { trace } => logged(alloc, *trace, input),
@@ -175,11 +175,11 @@ fn disassembled(alloc: Global, image: &[u8]) -> Result<Vec<u8>, CommandFault>
 }
 
 /// Whether the lists of the input's program are enough for its source.
-fn checked(alloc: Global, longest: &Longest, input: &[u8]) -> Result<Vec<u8>, CommandFault>
-    ensures ok { IfOk result (λ text. IsChecked input.now longest.now text.items) }
-    ensures err { IfErr result (λ fault. IsRefusedCheck input.now longest.now fault) }
+fn checked(alloc: Global, k_limit: &PathLimit, input: &[u8]) -> Result<Vec<u8>, CommandFault>
+    ensures ok { IfOk result (λ text. IsChecked input.now k_limit.now text.items) }
+    ensures err { IfErr result (λ fault. IsRefusedCheck input.now k_limit.now fault) }
 {
-    match checked_text(alloc, longest, input) {
+    match checked_text(alloc, k_limit, input) {
         Ok(text) => Ok(text.into_bytes()),
         Err(fault) => Err(fault),
     }
@@ -199,14 +199,14 @@ fn mapped_source(alloc: Global, source: &[u8]) -> Result<Vec<u8>, CommandFault>
 /// The lists of the source, and why their locks are there.
 fn explained_source(
     alloc: Global,
-    longest: &Longest,
+    k_limit: &PathLimit,
     all: bool,
     source: &[u8],
 ) -> Result<Vec<u8>, CommandFault>
-    ensures ok { IfOk result (λ text. IsText source.now longest.now text.items) }
-    ensures err { IfErr result (λ fault. IsRefusedExplain source.now longest.now fault) }
+    ensures ok { IfOk result (λ text. IsText source.now k_limit.now text.items) }
+    ensures err { IfErr result (λ fault. IsRefusedExplain source.now k_limit.now fault) }
 {
-    match explained(alloc, source, longest.operations(), all) {
+    match explained(alloc, source, k_limit.operations(), all) {
         Ok(text) => Ok(text.into_bytes()),
         Err(ExplainFault::Source(fault)) => Err(CommandFault::Source(fault)),
         Err(ExplainFault::Infer(fault)) => Err(CommandFault::Infer(fault)),
@@ -217,13 +217,13 @@ fn explained_source(
 fn diagnosed_input(
     alloc: Global,
     assembly: bool,
-    longest: &Longest,
+    k_limit: &PathLimit,
     input: &[u8],
 ) -> Result<Vec<u8>, CommandFault>
-    ensures ok { IfOk result (λ text. IsTold input.now assembly longest.now text.items) }
+    ensures ok { IfOk result (λ text. IsTold input.now assembly k_limit.now text.items) }
     ensures err { IfErr result IsRefusedDiagnose }
 {
-    match diagnosed(alloc, input, assembly, longest.operations()) {
+    match diagnosed(alloc, input, assembly, k_limit.operations()) {
         Ok(text) => Ok(text.into_bytes()),
         Err(_) => Err(CommandFault::OutOfMemory),
     }

@@ -8,20 +8,20 @@ use asl_code::Program;
 use asl_emitter::infer;
 use asl_loader::store;
 use asl_syntax::parse;
-use asl_words::Longest;
+use asl_words::PathLimit;
 use std::alloc::{AllocError, Global};
 
 /// The program that is inferred for the source, as its image or as its text.
 pub fn compiled(
     alloc: Global,
-    longest: &Longest,
+    k_limit: &PathLimit,
     as_text: bool,
     source: &[u8],
 ) -> Result<Vec<u8>, CommandFault>
-    ensures ok { IfOk result (λ bytes. IsCompiled source.now longest.now as_text bytes.items) }
-    ensures err { IfErr result (λ fault. IsRefusedSource source.now longest.now fault) }
+    ensures ok { IfOk result (λ bytes. IsCompiled source.now k_limit.now as_text bytes.items) }
+    ensures err { IfErr result (λ fault. IsRefusedSource source.now k_limit.now fault) }
 {
-    let program = program_of(alloc, longest, source)?;
+    let program = program_of(alloc, k_limit, source)?;
     match program_bytes(alloc, &program, as_text) {
         Ok(bytes) => Ok(bytes),
         Err(_) => Err(CommandFault::OutOfMemory),
@@ -29,15 +29,15 @@ pub fn compiled(
 }
 
 /// The program that is inferred for the source.
-fn program_of(alloc: Global, longest: &Longest, source: &[u8]) -> Result<Program, CommandFault>
-    ensures ok { IfOk result (λ program. IsProgramFor source.now longest.now program) }
-    ensures err { IfErr result (λ fault. IsRefusedSource source.now longest.now fault) }
+fn program_of(alloc: Global, k_limit: &PathLimit, source: &[u8]) -> Result<Program, CommandFault>
+    ensures ok { IfOk result (λ program. IsProgramFor source.now k_limit.now program) }
+    ensures err { IfErr result (λ fault. IsRefusedSource source.now k_limit.now fault) }
 {
     let ast = match parse(alloc, source) {
         Ok(ast) => ast,
         Err(fault) => return Err(CommandFault::Source(fault)),
     };
-    match infer(alloc, &ast, longest.operations()) {
+    match infer(alloc, &ast, k_limit.operations()) {
         Ok(program) => Ok(program),
         Err(fault) => Err(CommandFault::Infer(fault)),
     }

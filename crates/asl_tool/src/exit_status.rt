@@ -6,7 +6,7 @@ ghost use Rattle.asl_tool.specs.Tool.{AsksForWork, EndsAlone, EndsWith, IsComman
 use crate::command::{CommandFault, output_of};
 use crate::run::run_output;
 use crate::streams::{ReadFault, WriteFault, read_whole, write_whole};
-use asl_words::{Command, Invocation, Team, read_words};
+use asl_words::{Command, Invocation, RunArguments, read_words};
 use std::alloc::Global;
 use std::io::{Read, Write};
 use std::sync::Wait;
@@ -111,7 +111,7 @@ fn alone_status<R: Read, W: Write, E: Write>(
 fn run_status<H: Threads + Wait + Sync, R: Read, W: Write, E: Write>(
     rt: &H,
     alloc: Global,
-    team: Team,
+    team: RunArguments,
     reader: &mut R,
     writer: &mut W,
     errors: &mut E,
@@ -166,7 +166,7 @@ pub fn perform<R: Read, W: Write>(
 pub fn perform_run<H: Threads + Wait + Sync, R: Read, W: Write>(
     rt: &H,
     alloc: Global,
-    team: Team,
+    team: RunArguments,
     reader: &mut R,
     writer: &mut W,
 ) -> Result<(), ToolFault>
@@ -209,7 +209,7 @@ fn answer<W: Write>(
 fn answer_run<H: Threads + Wait + Sync, W: Write>(
     rt: &H,
     alloc: Global,
-    team: Team,
+    team: RunArguments,
     input: &[u8],
     writer: &mut W,
 ) -> Result<(), ToolFault>

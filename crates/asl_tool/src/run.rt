@@ -8,7 +8,7 @@ use crate::program::read_program;
 use asl_code::Program;
 use asl_journal::{Journal, Receipt};
 use asl_runner::{Gate, RunFault, run};
-use asl_words::Team;
+use asl_words::RunArguments;
 use std::alloc::Global;
 use std::sync::Wait;
 use std::thread::Threads;
@@ -26,7 +26,7 @@ impl Gate for Open {
 pub fn run_output<H: Threads + Wait + Sync>(
     rt: &H,
     alloc: Global,
-    team: Team,
+    team: RunArguments,
     input: &[u8],
 ) -> Result<Vec<u8>, CommandFault>
     ensures ok { IfOk result (λ bytes. IsWorkOutput team input.now bytes.items) }
@@ -50,7 +50,7 @@ pub fn run_output<H: Threads + Wait + Sync>(
 fn run_journal<H: Threads + Wait + Sync>(
     rt: &H,
     alloc: Global,
-    team: Team,
+    team: RunArguments,
     program: &Program,
 ) -> Result<Journal, RunFault>
     ensures asked { OnOk result (IsAsked program.now team.threads team.workers team.limit) }

@@ -1,6 +1,6 @@
 //! Which words parse, and as what.
 use crate::outcomes::split;
-use asl_words::{Command, DebugWord, Invocation, Move, Team, read_words};
+use asl_words::{Command, DebugWord, Invocation, Move, RunArguments, read_words};
 use std::alloc::Global;
 use std::process::Abort;
 
@@ -40,17 +40,17 @@ fn is_command(got: &Command, wanted: &Wanted) -> bool {
         }
         Command::Replay => matches!(wanted, Wanted::Replay),
         Command::Log { trace } => matches!(wanted, Wanted::Log(is_trace) if trace == is_trace),
-        Command::Compile { longest, text } => {
-            matches!(wanted, Wanted::Compile(k, is_text) if longest.operations() == *k && text == is_text)
+        Command::Compile { k_limit, text } => {
+            matches!(wanted, Wanted::Compile(k, is_text) if k_limit.operations() == *k && text == is_text)
         }
-        Command::Check { longest } =>
-            matches!(wanted, Wanted::Check(k) if longest.operations() == *k),
+        Command::Check { k_limit } =>
+            matches!(wanted, Wanted::Check(k) if k_limit.operations() == *k),
         Command::Map => matches!(wanted, Wanted::Map),
-        Command::Explain { longest, all } => {
-            matches!(wanted, Wanted::Explain(k, flag) if longest.operations() == *k && all == flag)
+        Command::Explain { k_limit, all } => {
+            matches!(wanted, Wanted::Explain(k, flag) if k_limit.operations() == *k && all == flag)
         }
-        Command::Diagnose { assembly, longest } => {
-            matches!(wanted, Wanted::Diagnose(is_assembly, k) if assembly == is_assembly && longest.operations() == *k)
+        Command::Diagnose { assembly, k_limit } => {
+            matches!(wanted, Wanted::Diagnose(is_assembly, k) if assembly == is_assembly && k_limit.operations() == *k)
         }
         Command::Debug { words } =>
             matches!(wanted, Wanted::Debug(all) if words.as_slice() == *all),
@@ -60,7 +60,7 @@ fn is_command(got: &Command, wanted: &Wanted) -> bool {
 }
 
 /// Whether the run by workers is the one that is wanted.
-fn is_team(team: &Team, wanted: &Wanted) -> bool {
+fn is_team(team: &RunArguments, wanted: &Wanted) -> bool {
     if let Wanted::Work(threads, workers, limit, record) = wanted {
         team.threads == *threads
             && team.workers == *workers

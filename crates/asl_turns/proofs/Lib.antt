@@ -1,4 +1,4 @@
 mod Totals
 mod Moves
 mod Counting
-mod Ends
+mod LastSeat

@@ -9,10 +9,10 @@ use Rattle.asl_words.specs.declared.debug_word.DebugWord.{DebugWord}
 use Rattle.asl_words.specs.declared.debug_word.DebugWord.TheVariants as word
 use Rattle.asl_words.specs.declared.debug_word.Move.TheVariants as move
 use Rattle.asl_words.specs.Words.{AreDebugWords, IsDebugWord}
-use Rattle.asl_words.specs.declared.talk.TalkFault.{TalkFault}
-use Rattle.asl_words.specs.declared.talk.TalkFault.TheVariants as talk
+use Rattle.asl_words.specs.declared.debug_words.DebugWordsFault.{DebugWordsFault}
+use Rattle.asl_words.specs.declared.debug_words.DebugWordsFault.TheVariants as talk
 use Rattle.asl_words.specs.Number.{IsNumber}
-use Rattle.asl_words.specs.Reading.{IsNoBareWord, IsNoNumberedWord, IsTalkFault}
+use Rattle.asl_words.specs.Reading.{IsNoBareWord, IsNoNumberedWord, IsDebugWordsFault}
 
 -- one more
 pub more_words : (all more : List Text) (words : List DebugWord) (word : DebugWord) → AreDebugWords all words → IsDebugWord more word
@@ -188,14 +188,14 @@ rest_asks all done count word within few is before words are =
     (next.0, subst (λ (xs : List Text). AreDebugWords xs next.0) same next.1)
 
 fault_of_list : (all rest : List Text) → ((words : List DebugWord) → AreDebugWords all words → (more : List DebugWord) × AreDebugWords rest more)
-    → (fault : TalkFault) → IsTalkFault rest fault → IsTalkFault all fault
+    → (fault : DebugWordsFault) → IsDebugWordsFault rest fault → IsDebugWordsFault all fault
 fault_of_list all rest asks (talk.NoWord name) none = λ words are. let left = asks words are in none left.0 left.1
 fault_of_list all rest asks (talk.NoNumber name) none = λ words are. let left = asks words are in none left.0 left.1
 fault_of_list all rest asks talk.NumberMissing none = λ words are. let left = asks words are in none left.0 left.1
 fault_of_list all rest asks talk.OutOfMemory none = tt
 
 -- so what asks for nothing in the rest asks for nothing in the whole
-pub fault_of_all : (all : List (Bor Text)) (done : ℕ) (fault : TalkFault) → IsTalkFault (texts (take (length all - done) (drop done all))) fault
-    → ((words : List DebugWord) → AreDebugWords (texts all) words → (more : List DebugWord) × AreDebugWords (texts (drop done all)) more) → IsTalkFault (texts all) fault
+pub fault_of_all : (all : List (Bor Text)) (done : ℕ) (fault : DebugWordsFault) → IsDebugWordsFault (texts (take (length all - done) (drop done all))) fault
+    → ((words : List DebugWord) → AreDebugWords (texts all) words → (more : List DebugWord) × AreDebugWords (texts (drop done all)) more) → IsDebugWordsFault (texts all) fault
 fault_of_all all done fault is asks = fault_of_list (texts all) (texts (drop done all)) asks fault
-    (subst (λ (xs : List (Bor Text)). IsTalkFault (texts xs) fault) (ap (λ (n : ℕ). take n (drop done all)) (sym (length-drop done all)) ∙ take-length (drop done all)) is)
+    (subst (λ (xs : List (Bor Text)). IsDebugWordsFault (texts xs) fault) (ap (λ (n : ℕ). take n (drop done all)) (sym (length-drop done all)) ∙ take-length (drop done all)) is)

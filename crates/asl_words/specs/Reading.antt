@@ -8,8 +8,8 @@ use Rattle.asl_words.specs.declared.command.Invocation.TheVariants.{Help, Versio
 use Rattle.asl_words.specs.declared.number.NumbersFault.{NumbersFault}
 use Rattle.asl_words.specs.declared.number.NumbersFault.TheVariants as fault
 use Rattle.asl_words.specs.declared.debug_word.DebugWord.{DebugWord}
-use Rattle.asl_words.specs.declared.talk.TalkFault.{TalkFault}
-use Rattle.asl_words.specs.declared.talk.TalkFault.TheVariants as talk
+use Rattle.asl_words.specs.declared.debug_words.DebugWordsFault.{DebugWordsFault}
+use Rattle.asl_words.specs.declared.debug_words.DebugWordsFault.TheVariants as talk
 use Rattle.asl_words.specs.Number.{AreNumbers}
 use Rattle.asl_words.specs.Words.{AreDebugWords, IsDebugWord}
 
@@ -39,8 +39,8 @@ abbrev pub IsNoNumberedWord : Text → Type 0
 IsNoNumberedWord name = (asked : DebugWord) (text : Text) → IsDebugWord (name ∷ text ∷ []) asked → ⊥
 
 -- why texts ask the debugger for nothing; of want of memory nothing is said
-abbrev pub IsTalkFault : List Text → TalkFault → Type 0
-IsTalkFault texts (talk.NoWord word) = (words : List DebugWord) → AreDebugWords texts words → ⊥
-IsTalkFault texts (talk.NoNumber word) = (words : List DebugWord) → AreDebugWords texts words → ⊥
-IsTalkFault texts talk.NumberMissing = (words : List DebugWord) → AreDebugWords texts words → ⊥
-IsTalkFault texts talk.OutOfMemory = Unit {0}
+abbrev pub IsDebugWordsFault : List Text → DebugWordsFault → Type 0
+IsDebugWordsFault texts (talk.NoWord word) = (words : List DebugWord) → AreDebugWords texts words → ⊥
+IsDebugWordsFault texts (talk.NoNumber word) = (words : List DebugWord) → AreDebugWords texts words → ⊥
+IsDebugWordsFault texts talk.NumberMissing = (words : List DebugWord) → AreDebugWords texts words → ⊥
+IsDebugWordsFault texts talk.OutOfMemory = Unit {0}

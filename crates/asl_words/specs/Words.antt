@@ -8,7 +8,7 @@ use Rattle.clap.specs.declared.error.kind.ErrorKind.{ErrorKind}
 use Rattle.clap.specs.declared.error.kind.ErrorKind.TheVariants.{DisplayHelp, DisplayVersion}
 use Rattle.asl_words.specs.declared.command.Command.{Command}
 use Rattle.asl_words.specs.declared.command.Command.TheVariants as command
-use Rattle.asl_words.specs.declared.command.Team.{Team}
+use Rattle.asl_words.specs.declared.command.RunArguments.{RunArguments}
 use Rattle.asl_words.specs.declared.command.Invocation.{Invocation}
 use Rattle.asl_words.specs.declared.command.Invocation.TheVariants.{Alone, Run, Help, Version, WrongUsage}
 use Rattle.asl_words.specs.declared.debug_word.DebugWord.{DebugWord}
@@ -35,7 +35,7 @@ pub record IsFlagAt (name : Text) (rows : List Row) (given : Bool) : Type 0 wher
 
 -- how long paths may be: as `--k` says, and else 3
 abbrev pub IsLengthAt : List Row → ℕ → Type 0
-IsLengthAt rows longest = MatchOption (first_of (codes "k") rows) (longest ≡ 3) (λ text. IsNumber text longest)
+IsLengthAt rows k_limit = MatchOption (first_of (codes "k") rows) (k_limit ≡ 3) (λ text. IsNumber text k_limit)
 
 -- the words ask the debugger for this
 abbrev pub IsDebugWord : List Text → DebugWord → Type 0
@@ -65,20 +65,20 @@ IsCommand name rows (command.Step threads schedule record_it) =
     × IsFlagAt (codes "record") rows record_it
 IsCommand name rows command.Assemble = name ≡ codes "asm"
 IsCommand name rows command.Disassemble = name ≡ codes "dis"
-IsCommand name rows (command.Compile longest text) =
-    (name ≡ codes "compile") × IsLengthAt rows longest × IsFlagAt (codes "text") rows text
-IsCommand name rows (command.Check longest) = (name ≡ codes "check") × IsLengthAt rows longest
+IsCommand name rows (command.Compile k_limit text) =
+    (name ≡ codes "compile") × IsLengthAt rows k_limit × IsFlagAt (codes "text") rows text
+IsCommand name rows (command.Check k_limit) = (name ≡ codes "check") × IsLengthAt rows k_limit
 IsCommand name rows command.Map = name ≡ codes "map"
-IsCommand name rows (command.Explain longest all) =
-    (name ≡ codes "explain") × IsLengthAt rows longest × IsFlagAt (codes "all") rows all
-IsCommand name rows (command.Diagnose assembly longest) =
-    (name ≡ codes "diagnose") × IsFlagAt (codes "asm") rows assembly × IsLengthAt rows longest
+IsCommand name rows (command.Explain k_limit all) =
+    (name ≡ codes "explain") × IsLengthAt rows k_limit × IsFlagAt (codes "all") rows all
+IsCommand name rows (command.Diagnose assembly k_limit) =
+    (name ≡ codes "diagnose") × IsFlagAt (codes "asm") rows assembly × IsLengthAt rows k_limit
 IsCommand name rows command.Replay = name ≡ codes "replay"
 IsCommand name rows (command.Log trace) = (name ≡ codes "log") × IsFlagAt (codes "trace") rows trace
 IsCommand name rows (command.Debug words) = (name ≡ codes "debug") × AreDebugWords (words_at (codes "words") rows) words.items
 
 -- the command is `run` with these values
-pub record IsTeam (name : Text) (rows : List Row) (team : Team) : Type 0 where
+pub record IsTeam (name : Text) (rows : List Row) (team : RunArguments) : Type 0 where
   pub name_is : name ≡ codes "run"
   pub threads : IsNumberAt (codes "threads") rows team.threads
   pub workers : IsNumberAt (codes "workers") rows team.workers
@@ -97,7 +97,7 @@ AreNoNumbersAt name rows = (numbers : List ℕ) → AreNumbers (words_at name ro
 
 -- `--k` has no number, or one above 8
 abbrev pub IsNoLengthAt : List Row → Type 0
-IsNoLengthAt rows = (longest : ℕ) → longest ≤ 8 → IsLengthAt rows longest → ⊥
+IsNoLengthAt rows = (k_limit : ℕ) → k_limit ≤ 8 → IsLengthAt rows k_limit → ⊥
 
 -- the words ask the debugger for nothing
 abbrev pub AskNothing : List Row → Type 0

@@ -1,6 +1,6 @@
 //! What the words of a command line ask for.
 use crate::debug_word::DebugWord;
-use crate::longest::Longest;
+use crate::path_limit::PathLimit;
 
 /// What is made of an input by one thread.
 #[derive(Drop)]
@@ -21,21 +21,21 @@ pub enum Command {
     /// `compile`: the program that is inferred for the input, which is a source.
     Compile {
         /// How many operations a path of an inferred lock has at most.
-        longest: Longest,
+        k_limit: PathLimit,
         /// Whether the canonical text is written, in place of the image.
         text: bool,
     },
     /// `check`: whether the lists of a program are enough for its source. The input is the source, one byte 0, and the program.
     Check {
         /// How many operations a path of a needed lock has at most.
-        longest: Longest,
+        k_limit: PathLimit,
     },
     /// `map`: what the numbers in the code of the input, a source, stand for, and where it comes from in the text.
     Map,
     /// `explain`: the lists of the input, a source, and for each lock why it is there.
     Explain {
         /// How many operations a lock's path has at most.
-        longest: Longest,
+        k_limit: PathLimit,
         /// Whether all chains of links are told.
         all: bool,
     },
@@ -44,7 +44,7 @@ pub enum Command {
         /// Whether the input is an assembly text.
         assembly: bool,
         /// How many operations a path of a needed lock has at most.
-        longest: Longest,
+        k_limit: PathLimit,
     },
     /// `replay`: whether the input, a run file, is a run of its program.
     Replay,
@@ -62,7 +62,7 @@ pub enum Command {
 
 /// What the command `run` is asked for: workers that step the input's program.
 #[derive(Clone, Copy)]
-pub struct Team {
+pub struct RunArguments {
     /// How many threads the machine has.
     pub threads: u32,
     /// How many workers step them.
@@ -79,7 +79,7 @@ pub enum Invocation {
     /// The words name a command that waits for nobody.
     Alone(Command),
     /// The words are those of the command `run`.
-    Run(Team),
+    Run(RunArguments),
     /// The words ask for help: the text to show.
     Help(String),
     /// The words ask which version of the program this is.

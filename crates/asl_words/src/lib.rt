@@ -5,13 +5,13 @@ mod apart;
 mod arguments;
 mod command;
 mod debug_word;
+mod debug_words;
 mod help;
-mod longest;
 mod number;
+mod path_limit;
 mod reading;
-mod talk;
 
-pub use command::{Command, Invocation, Team};
+pub use command::{Command, Invocation, RunArguments};
 pub use debug_word::{DebugWord, Move};
-pub use longest::Longest;
+pub use path_limit::PathLimit;
 pub use reading::read_words;

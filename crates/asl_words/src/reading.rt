@@ -3,15 +3,15 @@ ghost use Rattle.std.specs.Prelude.{◌≤◌, ◌≢◌, ℕ, map, IfOk, IfErr,
 ghost use Rattle.clap.specs.Words.{found_of, kind_of, rows_of, subcommand_rows_of};
 ghost use Rattle.asl_words.specs.Words.{AreDebugWords, AsksFor, IsFlagAt, IsLengthAt, IsNoLengthAt, IsNoNumberAt, IsNumberAt, IsReading, IsTaken, words_at};
 ghost use Rattle.asl_words.specs.Number.{AreNumbers, IsNumber};
-ghost use Rattle.asl_words.specs.Reading.{IsNumbersFault, IsRefusal, IsTalkFault, IsWrongUsage};
+ghost use Rattle.asl_words.specs.Reading.{IsNumbersFault, IsRefusal, IsDebugWordsFault, IsWrongUsage};
 
 use crate::apart::read_apart;
 use crate::arguments::program;
-use crate::command::{Command, Invocation, Team};
+use crate::command::{Command, Invocation, RunArguments};
 use crate::debug_word::DebugWord;
-use crate::longest::Longest;
+use crate::debug_words::{DebugWordsFault, debug_words};
 use crate::number::{NumbersFault, number, numbers};
-use crate::talk::{TalkFault, debug_words};
+use crate::path_limit::PathLimit;
 use clap::error::ErrorKind;
 use clap::{ArgMatches, Error};
 use std::alloc::{AllocError, Global};
@@ -120,7 +120,7 @@ fn read_run(alloc: Global, values: &ArgMatches<'_>) -> Result<Invocation, AllocE
         Err(word) => return invalid(alloc, word, "--limit <L>", A_NUMBER),
     };
     let record = flag_at(values, "record");
-    Ok(Invocation::Run(Team {
+    Ok(Invocation::Run(RunArguments {
         threads,
         workers,
         limit,
@@ -131,10 +131,10 @@ fn read_run(alloc: Global, values: &ArgMatches<'_>) -> Result<Invocation, AllocE
 fn read_compile(alloc: Global, values: &ArgMatches<'_>) -> Result<Invocation, AllocError>
     ensures { IfOk result (IsReading (codes "compile") (rows_of (found_of values.now))) }
 {
-    match longest_at(values) {
-        Ok(longest) => {
+    match k_limit_at(values) {
+        Ok(k_limit) => {
             let text = flag_at(values, "text");
-            Ok(Invocation::Alone(Command::Compile { longest, text }))
+            Ok(Invocation::Alone(Command::Compile { k_limit, text }))
         }
         Err(word) => invalid(alloc, word, "--k <K>", A_PATH_LIMIT),
     }
@@ -143,8 +143,8 @@ fn read_compile(alloc: Global, values: &ArgMatches<'_>) -> Result<Invocation, Al
 fn read_check(alloc: Global, values: &ArgMatches<'_>) -> Result<Invocation, AllocError>
     ensures { IfOk result (IsReading (codes "check") (rows_of (found_of values.now))) }
 {
-    match longest_at(values) {
-        Ok(longest) => Ok(Invocation::Alone(Command::Check { longest })),
+    match k_limit_at(values) {
+        Ok(k_limit) => Ok(Invocation::Alone(Command::Check { k_limit })),
         Err(word) => invalid(alloc, word, "--k <K>", A_PATH_LIMIT),
     }
 }
@@ -152,10 +152,10 @@ fn read_check(alloc: Global, values: &ArgMatches<'_>) -> Result<Invocation, Allo
 fn read_explain(alloc: Global, values: &ArgMatches<'_>) -> Result<Invocation, AllocError>
     ensures { IfOk result (IsReading (codes "explain") (rows_of (found_of values.now))) }
 {
-    match longest_at(values) {
-        Ok(longest) => {
+    match k_limit_at(values) {
+        Ok(k_limit) => {
             let all = flag_at(values, "all");
-            Ok(Invocation::Alone(Command::Explain { longest, all }))
+            Ok(Invocation::Alone(Command::Explain { k_limit, all }))
         }
         Err(word) => invalid(alloc, word, "--k <K>", A_PATH_LIMIT),
     }
@@ -164,10 +164,10 @@ fn read_explain(alloc: Global, values: &ArgMatches<'_>) -> Result<Invocation, Al
 fn read_diagnose(alloc: Global, values: &ArgMatches<'_>) -> Result<Invocation, AllocError>
     ensures { IfOk result (IsReading (codes "diagnose") (rows_of (found_of values.now))) }
 {
-    match longest_at(values) {
-        Ok(longest) => {
+    match k_limit_at(values) {
+        Ok(k_limit) => {
             let assembly = flag_at(values, "asm");
-            Ok(Invocation::Alone(Command::Diagnose { assembly, longest }))
+            Ok(Invocation::Alone(Command::Diagnose { assembly, k_limit }))
         }
         Err(word) => invalid(alloc, word, "--k <K>", A_PATH_LIMIT),
     }
@@ -202,25 +202,25 @@ fn number_at<'a>(values: &ArgMatches<'a>, name: &str) -> Result<u32, &'a str>
 }
 
 /// The value of `--k`, or the value that is none.
-fn longest_at<'a>(values: &ArgMatches<'a>) -> Result<Longest, &'a str>
-    ensures ok { IfOk result (λ longest. IsLengthAt (rows_of (found_of values.now)) longest) }
+fn k_limit_at<'a>(values: &ArgMatches<'a>) -> Result<PathLimit, &'a str>
+    ensures ok { IfOk result (λ k_limit. IsLengthAt (rows_of (found_of values.now)) k_limit) }
     ensures err { IfErr result (λ _. IsNoLengthAt (rows_of (found_of values.now))) }
 {
     match values.get_str("k") {
         Some(word) => match length(word) {
-            Some(longest) => Ok(longest),
+            Some(k_limit) => Ok(k_limit),
             None => Err(word),
         },
-        None => Ok(Longest::usual()),
+        None => Ok(PathLimit::usual()),
     }
 }
 
 /// The length of paths that the word is, if it is one.
-fn length(word: &str) -> Option<Longest>
-    ensures { MatchOption result ((n : ℕ) → n ≤ 8 → IsNumber word.now n → ⊥) (λ longest. IsNumber word.now longest) }
+fn length(word: &str) -> Option<PathLimit>
+    ensures { MatchOption result ((n : ℕ) → n ≤ 8 → IsNumber word.now n → ⊥) (λ k_limit. IsNumber word.now k_limit) }
 {
     match number(word) {
-        Some(number) => Longest::of(number),
+        Some(number) => PathLimit::of(number),
         None => None,
     }
 }
@@ -245,12 +245,12 @@ fn read_debug(alloc: Global, values: &ArgMatches<'_>) -> Result<Invocation, Allo
 {
     match debug_words_at(alloc, values) {
         Ok(words) => Ok(Invocation::Alone(Command::Debug { words })),
-        Err(TalkFault::NoWord(word)) => invalid(alloc, word, "<WORD>...", A_WORD),
-        Err(TalkFault::NoNumber(word)) => invalid(alloc, word, "<WORD>...", A_NUMBER),
-        Err(TalkFault::NumberMissing) => {
+        Err(DebugWordsFault::NoWord(word)) => invalid(alloc, word, "<WORD>...", A_WORD),
+        Err(DebugWordsFault::NoNumber(word)) => invalid(alloc, word, "<WORD>...", A_NUMBER),
+        Err(DebugWordsFault::NumberMissing) => {
             wrong_usage(alloc, "a number is required behind the last '<WORD>...'")
         }
-        Err(TalkFault::OutOfMemory) => Err(AllocError),
+        Err(DebugWordsFault::OutOfMemory) => Err(AllocError),
     }
 }
 
@@ -258,9 +258,9 @@ fn read_debug(alloc: Global, values: &ArgMatches<'_>) -> Result<Invocation, Allo
 fn debug_words_at<'a>(
     alloc: Global,
     values: &ArgMatches<'a>,
-) -> Result<Vec<DebugWord>, TalkFault<'a>>
+) -> Result<Vec<DebugWord>, DebugWordsFault<'a>>
     ensures ok { IfOk result (λ words. AreDebugWords (words_at (codes "words") (rows_of (found_of values.now))) words.items) }
-    ensures err { IfErr result (IsTalkFault (words_at (codes "words") (rows_of (found_of values.now)))) }
+    ensures err { IfErr result (IsDebugWordsFault (words_at (codes "words") (rows_of (found_of values.now)))) }
 {
     match values.get_strs("words") {
         Some(words) => debug_words(alloc, words),

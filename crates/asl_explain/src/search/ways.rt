@@ -11,7 +11,7 @@ use crate::table::Table;
 use crate::value::Why;
 use asl_backward_flow::Region;
 use asl_code::{Base, Instr, Lock};
-use asl_lock_expr::View;
+use asl_lock_expr::LinkContext;
 use std::alloc::AllocError;
 
 /// A way on from a point: where it comes to, and why the lock there makes that of the point needed, if it is another.
@@ -122,7 +122,7 @@ impl Searcher {
     pub(crate) fn add_linked(
         &self,
         analysis: &Analysis,
-        view: &View,
+        view: &LinkContext,
         instr: &Instr,
         table: &Table,
         point: Point,
@@ -130,7 +130,7 @@ impl Searcher {
         next: u16,
         ways: &mut Vec<Way>,
     ) -> Result<(), AllocError>
-        requires { view.now.longest ≤ 8 }
+        requires { view.now.k_limit ≤ 8 }
     {
         if let Some(to) = point_of(analysis, point.place, next, usize::from(point.number)) {
             if is_kept(self.alloc, view, instr, lock)? {
@@ -171,7 +171,7 @@ impl Searcher {
     pub(crate) fn add_changed(
         &self,
         analysis: &Analysis,
-        view: &View,
+        view: &LinkContext,
         instr: &Instr,
         point: Point,
         lock: &Lock,
@@ -179,7 +179,7 @@ impl Searcher {
         number: usize,
         ways: &mut Vec<Way>,
     ) -> Result<(), AllocError>
-        requires { view.now.longest ≤ 8 }
+        requires { view.now.k_limit ≤ 8 }
     {
         if number == usize::from(point.number) {
             return Ok(());

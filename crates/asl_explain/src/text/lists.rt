@@ -61,7 +61,7 @@ impl Teller<'_> {
         first: usize,
         last: usize,
     ) -> Result<(), AllocError> {
-        let k = self.analysis.longest as usize;
+        let k = self.analysis.k_limit as usize;
         let end = if first <= k && k <= last {
             "   (this list)\n"
         } else {

@@ -13,10 +13,10 @@ pub returns-clause-one : goal.returns-clause-one
 returns-clause-one c = one_image
 
 pub returns-clause-both : goal.returns-clause-both
-returns-clause-both c tree longest fault p r = accepted tree longest fault p r
+returns-clause-both c tree k_limit fault p r = accepted tree k_limit fault p r
 
 pub returns-clause-neither : goal.returns-clause-neither
-returns-clause-neither c source tree longest parses no_image no_fault = some_outcome source tree longest parses no_image no_fault
+returns-clause-neither c source tree k_limit parses no_image no_fault = some_outcome source tree k_limit parses no_image no_fault
 
 pub returns-clause-classes : goal.returns-clause-classes
 returns-clause-classes c source tree l parses lowers =

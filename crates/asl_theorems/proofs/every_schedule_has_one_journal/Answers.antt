@@ -12,4 +12,4 @@ pub returns-clause-one : goal.returns-clause-one
 returns-clause-one c = one_journal
 
 pub returns-clause-verified : goal.returns-clause-verified
-returns-clause-verified c source longest image p = verified_from_facts image (compiled_fits source longest image p)
+returns-clause-verified c source k_limit image p = verified_from_facts image (compiled_fits source k_limit image p)

@@ -2,7 +2,7 @@ use Rattle.std.proofs.Common.{Vec, Global, List, ◌↔◌, ◌+◌, ◌∙◌, 
 use Rattle.std.specs.List.{Contains}
 use Rattle.std.proofs.lemmas.List.{length-map}
 use Rattle.std.proofs.lemmas.Option.{slice_get-get_or}
-use Rattle.asl_lower.specs.Region.{GoesOn}
+use Rattle.asl_lower.specs.Region.{FlowsTo}
 use Rattle.asl_backward_flow.specs.Graph.{IsEdge}
 use Rattle.asl_backward_flow.proofs.graph.add_jumps.Goals.{then-to-from+in_ok-add_to_row, else-to-from}
 use Rattle.asl_backward_flow.proofs.Rows.{HasTargets, targets_begin, targets_more, targets_skip, targets_end, edge_there, next_edge}
@@ -16,7 +16,7 @@ loop-to-init c = (targets_begin c.args.lowering.now c.args.pc c.as_slice-to-item
 
 pub add_to_row-requires : goal.add_to_row-requires
 add_to_row-requires c =
-    let edge = next_edge c.args.lowering.now c.args.pc c.requires.there c.as_slice-to-items.result.now (λ i at to. subst (λ xs. Contains xs to ↔ GoesOn i c.args.pc to) (sym c.as_slice-to-items.ensures.value) (c.successors-next.ensures.goes_on i at to)) c.loop-to.to-index 0 c.loop-to-test.true in
+    let edge = next_edge c.args.lowering.now c.args.pc c.requires.there c.as_slice-to-items.result.now (λ i at to. subst (λ xs. Contains xs to ↔ FlowsTo i c.args.pc to) (sym c.as_slice-to-items.ensures.value) (c.successors-next.ensures.goes_on i at to)) c.loop-to.to-index 0 c.loop-to-test.true in
     let there = edge_there c.args.lowering.now c.requires.kept c.args.pc c.requires.there edge.0 _ edge.1 edge.2 in
     let same = c.from-to.ensures in
     let rows = c.requires.rows in
@@ -25,7 +25,7 @@ add_to_row-requires c =
 
 pub loop-to-preserved : goal.loop-to-preserved
 loop-to-preserved c =
-    let edge = next_edge c.args.lowering.now c.args.pc c.requires.there c.as_slice-to-items.result.now (λ i at to. subst (λ xs. Contains xs to ↔ GoesOn i c.args.pc to) (sym c.as_slice-to-items.ensures.value) (c.successors-next.ensures.goes_on i at to)) c.loop-to.to-index 0 c.loop-to-test.true in
+    let edge = next_edge c.args.lowering.now c.args.pc c.requires.there c.as_slice-to-items.result.now (λ i at to. subst (λ xs. Contains xs to ↔ FlowsTo i c.args.pc to) (sym c.as_slice-to-items.ensures.value) (c.successors-next.ensures.goes_on i at to)) c.loop-to.to-index 0 c.loop-to-test.true in
     let there = edge_there c.args.lowering.now c.requires.kept c.args.pc c.requires.there edge.0 _ edge.1 edge.2 in
     let at = slice_get-get_or c.as_slice-to-items.result.now c.loop-to.to-index 0 c.loop-to-test.true in
     let same = c.from-to.ensures in
@@ -53,4 +53,4 @@ loop-to-preserved c =
 pub returns-clause-rows : goal.returns-clause-rows
 returns-clause-rows c =
     targets_end c.args.lowering.now c.args.pc c.as_slice-to-items.result.now (map (λ r. r.items) c.loop-to.rows.items) c.loop-to.to-index c.loop-to-test.false
-    (λ i at to. subst (λ xs. Contains xs to ↔ GoesOn i c.args.pc to) (sym c.as_slice-to-items.ensures.value) (c.successors-next.ensures.goes_on i at to)) c.loop-to.invariant.0
+    (λ i at to. subst (λ xs. Contains xs to ↔ FlowsTo i c.args.pc to) (sym c.as_slice-to-items.ensures.value) (c.successors-next.ensures.goes_on i at to)) c.loop-to.invariant.0

@@ -2,7 +2,7 @@ use Rattle.std.proofs.Common.{◌<◌, List, Vec, Global, Some, length, map, sli
 use Rattle.std.specs.BinaryHeap.{heap_items}
 use Rattle.std.proofs.lemmas.List.{length-map}
 use Rattle.asl_lock_expr.specs.LinksView.{seen as seen_by}
-use Rattle.asl_backward_flow.specs.declared.part.Part.{Part}
+use Rattle.asl_backward_flow.specs.declared.region_needs.RegionNeeds.{RegionNeeds}
 use Rattle.asl_backward_flow.specs.declared.masks.Mask.{Mask}
 use Rattle.asl_backward_flow.specs.Found.{table}
 use Rattle.asl_backward_flow.specs.Follows.{read}
@@ -22,7 +22,7 @@ pub staying-requires : goal.staying-requires
 staying-requires c =
     let there = stands_at c.args.analysis.now.spans.now c.args.analysis.now.spans.now c.from.result c.args.part no_span refl c.from.ensures c.requires.there in
     let parts = c.requires.ready.count in
-    let within : c.args.part < length c.args.found.now.parts.items = omega (arith, parts, c.requires.there, length-map c.args.found.now.parts.items (λ (z : Part). z.locks.keys)) in
+    let within : c.args.part < length c.args.found.now.parts.items = omega (arith, parts, c.requires.there, length-map c.args.found.now.parts.items (λ (z : RegionNeeds). z.locks.keys)) in
     let locks_are = locks_before c.args.found.now.parts.items c.args.part c.from-3.result c.index.result.now (heap_items c.args.found.now.list) c.from-3.ensures within c.index.ensures ∙ sym c.as_slice-locks.ensures.keys in
     let count = c.requires.masks.count in
     let room : c.args.part < length c.args.masks.now.items = omega (arith, count, c.requires.there, length-map c.args.masks.now.items items_of) in
@@ -34,7 +34,7 @@ pub returns-clause-masks : goal.returns-clause-masks
 returns-clause-masks c =
     let there = stands_at c.args.analysis.now.spans.now c.args.analysis.now.spans.now c.from.result c.args.part no_span refl c.from.ensures c.requires.there in
     let parts = c.requires.ready.count in
-    let within : c.args.part < length c.args.found.now.parts.items = omega (arith, parts, c.requires.there, length-map c.args.found.now.parts.items (λ (z : Part). z.locks.keys)) in
+    let within : c.args.part < length c.args.found.now.parts.items = omega (arith, parts, c.requires.there, length-map c.args.found.now.parts.items (λ (z : RegionNeeds). z.locks.keys)) in
     let locks_are = locks_before c.args.found.now.parts.items c.args.part c.from-3.result c.index.result.now (heap_items c.args.found.now.list) c.from-3.ensures within c.index.ensures ∙ sym c.as_slice-locks.ensures.keys in
     on_more c.staying.result _ _
     (λ is.
@@ -47,7 +47,7 @@ pub returns-clause-stays : goal.returns-clause-stays
 returns-clause-stays c =
     let there = stands_at c.args.analysis.now.spans.now c.args.analysis.now.spans.now c.from.result c.args.part no_span refl c.from.ensures c.requires.there in
     let parts = c.requires.ready.count in
-    let within : c.args.part < length c.args.found.now.parts.items = omega (arith, parts, c.requires.there, length-map c.args.found.now.parts.items (λ (z : Part). z.locks.keys)) in
+    let within : c.args.part < length c.args.found.now.parts.items = omega (arith, parts, c.requires.there, length-map c.args.found.now.parts.items (λ (z : RegionNeeds). z.locks.keys)) in
     let locks_are = locks_before c.args.found.now.parts.items c.args.part c.from-3.result c.index.result.now (heap_items c.args.found.now.list) c.from-3.ensures within c.index.ensures ∙ sym c.as_slice-locks.ensures.keys in
     stays_ok (read c.args.analysis.now) (table c.args.found.now) c.args.part c.args.pc _ _ there
     (stands_at c.args.analysis.now.lowering.now.code c.code.result.now c.from-2.result c.args.pc _ c.code.ensures.code c.from-2.ensures c.requires.code)

@@ -7,7 +7,7 @@ use Rattle.asl_atomicity.specs.Serial.{HasSerialRuns}
 use Rattle.asl_atomicity.specs.Renamed.{HasSerialRunsUpTo}
 use Rattle.asl_check.specs.declared.fault.CheckFault.TheVariants.{OtherCode}
 use Rattle.asl_check.specs.Checked.{AreGuarded}
-use Rattle.asl_check.specs.Told.{AreCovered, IsUncovered, IsUnguarded}
+use Rattle.asl_check.specs.KnownLists.{AreCovered, IsUncovered, IsUnguarded}
 use Rattle.asl_check.specs.Refused.{IsChecked, IsRefused, IsOutOfMemory}
 use Rattle.asl_check.proofs.Covering.{covered_analysed, covered_sound}
 use Rattle.asl_check.proofs.Guarding.{guarded_serial, guarded_serial_up_to}

@@ -1,4 +1,4 @@
-use Rattle.asl_check.specs.Told.{AreCovered}
+use Rattle.asl_check.specs.KnownLists.{AreCovered}
 use Rattle.asl_check.proofs.covered.cover.Given as goal
 
 abbrev pub invariant-loop-number : goal.invariant-loop-number

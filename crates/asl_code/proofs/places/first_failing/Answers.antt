@@ -1,6 +1,6 @@
 use Rattle.std.proofs.Common.{◌≤◌, ap, sym, ◌∙◌, length, arith}
 use Rattle.std.proofs.lemmas.List.{at_drop_all}
-use Rattle.asl_code.specs.Lines.{test_of}
+use Rattle.asl_code.specs.Rules.{test_of}
 use Rattle.asl_code.specs.declared.image.Function.{Function}
 use Rattle.asl_code.proofs.Scanning.{first_failing, scan_found, scan_passed, total_more}
 use Rattle.asl_code.proofs.Told.{lowest_from_scan}
@@ -12,7 +12,7 @@ past = record { params = 0; regs = 0; len = 0 }
 
 pub returns-in-Some : goal.returns-in-Some
 returns-in-Some c =
-    let test = test_of c.args.line c.args.image.now in
+    let test = test_of c.args.rule c.args.image.now in
     let fs = c.as_slice-function-items.result.now in
     let found = scan_found test c.loop-function.first fs c.loop-function.rest.now c.split_at.result.0.now c.loop-function.function-index past _ c.in-Some.place c.loop-function-test.true c.split_at.ensures.front c.first_in_body.ensures c.in-Some.is in
     lowest_from_scan test c.args.image.now _ c.requires.ranges
@@ -20,7 +20,7 @@ returns-in-Some c =
 
 pub returns : goal.returns
 returns c =
-    let test = test_of c.args.line c.args.image.now in
+    let test = test_of c.args.rule c.args.image.now in
     let fs = c.as_slice-function-items.result.now in
     let past_end : length fs ≤ c.loop-function.function-index = omega arith in
     let none = at_drop_all (λ gs. first_failing test c.loop-function.first gs c.loop-function.rest.now) fs c.loop-function.function-index past_end in
@@ -29,7 +29,7 @@ returns c =
 
 pub loop-function-preserved : goal.loop-function-preserved
 loop-function-preserved c =
-    let test = test_of c.args.line c.args.image.now in
+    let test = test_of c.args.rule c.args.image.now in
     let fs = c.as_slice-function-items.result.now in
     let k = c.loop-function.function-index in
     let total = total_more fs k past c.loop-function-test.true in

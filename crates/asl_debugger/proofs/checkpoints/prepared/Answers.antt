@@ -1,7 +1,7 @@
 use Rattle.std.proofs.Common.{refl, arith, length}
 use Rattle.std.proofs.lemmas.List.Elements.{All-nil}
 use Rattle.std.proofs.lemmas.Option.{slice_get_read}
-use Rattle.asl_debugger.specs.Kept.{IsMarkOf}
+use Rattle.asl_debugger.specs.Checkpoints.{IsMarkOf}
 use Rattle.asl_debugger.proofs.Marks.{first_there, first_is, marked}
 use Rattle.asl_debugger.proofs.checkpoints.prepared.Goals as goal
 

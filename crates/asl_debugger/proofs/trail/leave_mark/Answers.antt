@@ -1,6 +1,6 @@
 use Rattle.std.proofs.Common.{sym, subst, is_ok, List}
 use Rattle.asl_debugger.specs.declared.trail.Mark.{Mark}
-use Rattle.asl_debugger.specs.Kept.{AreMarks}
+use Rattle.asl_debugger.specs.Checkpoints.{AreMarks}
 use Rattle.asl_debugger.proofs.Marking.{left_or_not}
 use Rattle.asl_debugger.proofs.trail.leave_mark.Goals as goal
 

@@ -1,5 +1,5 @@
 use Rattle.std.proofs.Common.{◌≡◌, ◌≤◌, ◌-◌}
-use Rattle.asl_debugger.specs.Kept.{AreMarks}
+use Rattle.asl_debugger.specs.Checkpoints.{AreMarks}
 use Rattle.asl_debugger.specs.Session.{machine_before}
 use Rattle.asl_debugger.proofs.trail.machine_by_marks.Given as goal
 

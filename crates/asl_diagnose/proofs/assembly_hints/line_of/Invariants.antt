@@ -1,4 +1,4 @@
-use Rattle.asl_diagnose.specs.Rows.{rows_left}
+use Rattle.asl_diagnose.specs.TextLines.{rows_left}
 use Rattle.asl_diagnose.proofs.assembly_hints.line_of.Given as goal
 
 abbrev pub decreases-rows : goal.decreases-rows

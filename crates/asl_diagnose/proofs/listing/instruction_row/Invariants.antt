@@ -1,6 +1,6 @@
 use Rattle.std.proofs.Common.{◌≡◌, ◌+◌, ◌≤◌, length}
 use Rattle.asl_assembler.specs.Words.{lines_of}
-use Rattle.asl_diagnose.specs.Rows.{rows_left, lines_left, row_of}
+use Rattle.asl_diagnose.specs.TextLines.{rows_left, lines_left, row_of}
 use Rattle.asl_diagnose.proofs.listing.instruction_row.Given as goal
 
 abbrev pub invariant-rows : goal.invariant-rows

@@ -1,4 +1,4 @@
-use Rattle.asl_diagnose.specs.Rows.{rows_left}
+use Rattle.asl_diagnose.specs.TextLines.{rows_left}
 use Rattle.asl_diagnose.proofs.listing.table_row.Given as goal
 
 abbrev pub decreases-rows : goal.decreases-rows

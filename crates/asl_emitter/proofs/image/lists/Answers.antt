@@ -3,7 +3,7 @@ use Rattle.std.proofs.lemmas.Option.{slice_get-get_or}
 use Rattle.asl_code.specs.declared.lock.Lock.{Lock}
 use Rattle.asl_lower.specs.declared.section.Section.{Section}
 use Rattle.asl_lower.proofs.Layouts.{kept_layout}
-use Rattle.asl_emitter.specs.Parts.{AreFitted}
+use Rattle.asl_emitter.specs.BuiltImage.{AreFitted}
 use Rattle.asl_emitter.proofs.Making.{fitted_more, list_fitted}
 use Rattle.asl_emitter.proofs.image.lists.Goals as goal
 

@@ -1,4 +1,4 @@
-use Rattle.asl_emitter.specs.Parts.{AreFitted}
+use Rattle.asl_emitter.specs.BuiltImage.{AreFitted}
 use Rattle.asl_emitter.proofs.image.lists.Given as goal
 
 abbrev pub invariant-loop-number : goal.invariant-loop-number

@@ -1,6 +1,6 @@
 use Rattle.std.proofs.Common.{List, sym, subst}
 use Rattle.asl_code.specs.declared.instr.Instr.{Instr}
-use Rattle.asl_emitter.specs.Parts.{HasSites}
+use Rattle.asl_emitter.specs.BuiltImage.{HasSites}
 use Rattle.asl_emitter.proofs.Verifying.{has_sites}
 use Rattle.asl_emitter.proofs.inferred.image.Goals as goal
 

@@ -7,7 +7,7 @@ use Rattle.asl_lock_expr.proofs.laws.expressions_with_a_class_are_left.Goals as 
 pub returns : goal.returns
 returns c = λ v e effect x is.
     subst (λ o. IsOne (settled v e effect o) (lock.Expr e effect) ⊎ IsOne (settled v e effect o) (lock.Class x effect)) (sym is)
-    (elim (nat_le (length e.path) v.longest) as (λ (b : Bool). IsOne (cond b (lock.Expr e effect) (lock.Class x effect) ∷ []) (lock.Expr e effect) ⊎ IsOne (cond b (lock.Expr e effect) (lock.Class x effect) ∷ []) (lock.Class x effect)) [
+    (elim (nat_le (length e.path) v.k_limit) as (λ (b : Bool). IsOne (cond b (lock.Expr e effect) (lock.Class x effect) ∷ []) (lock.Expr e effect) ⊎ IsOne (cond b (lock.Expr e effect) (lock.Class x effect) ∷ []) (lock.Class x effect)) [
       | true ↦ inl (inl refl)
       | false ↦ inr (inl refl)
     ])

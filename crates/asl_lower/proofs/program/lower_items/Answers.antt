@@ -8,7 +8,7 @@ use Rattle.asl_lower.specs.Lowered.{Lowered, IsLowering}
 use Rattle.asl_lower.specs.Region.{IsBareAccess}
 use Rattle.asl_lower.specs.Layout.{lowering_of}
 use Rattle.asl_lower.specs.Refused.{IsRefused, first_crowded}
-use Rattle.asl_lower.specs.Kept.{lowered_of}
+use Rattle.asl_lower.specs.LegalLowering.{lowered_of}
 use Rattle.asl_lower.proofs.Laid.{lowering_of_is_lowering, one_lowering}
 use Rattle.asl_lower.proofs.Emitted.{emitted_lowering, emitted_kept}
 use Rattle.asl_lower.proofs.Layouts.{emitted_layout}

@@ -1,5 +1,5 @@
 -- the functions that were followed so far
-use Rattle.asl_lower.specs.Kept.{lowered_of}
+use Rattle.asl_lower.specs.LegalLowering.{lowered_of}
 use Rattle.asl_lower.specs.Reach.{where_of}
 use Rattle.asl_lower.specs.Reach.{unmarked}
 use Rattle.asl_lower.proofs.Reaching.{AreDone}

@@ -1,5 +1,5 @@
 use Rattle.std.proofs.Common.{◌≡◌, ℕ, inl, inr, length, sym, subst, arith}
-use Rattle.asl_lower.specs.Kept.{lowered_of}
+use Rattle.asl_lower.specs.LegalLowering.{lowered_of}
 use Rattle.asl_lower.specs.Reach.{Inside, IsMarked, IsCalled}
 use Rattle.asl_lower.proofs.Marks.{none_marked}
 use Rattle.asl_lower.proofs.Reaching.{inner_from_reached, inner_marked}

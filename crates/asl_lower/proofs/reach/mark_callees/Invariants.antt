@@ -1,5 +1,5 @@
 -- the calls so far
-use Rattle.asl_lower.specs.Kept.{lowered_of}
+use Rattle.asl_lower.specs.LegalLowering.{lowered_of}
 use Rattle.asl_lower.specs.Reach.{where_of}
 use Rattle.asl_lower.proofs.Depths.{IsDepth}
 use Rattle.asl_lower.proofs.Reaching.{AreCallees}

@@ -1,5 +1,5 @@
 use Rattle.asl_code.proofs.FitsLaws.{image_fits}
-use Rattle.asl_machine.proofs.Made.{made_is_fresh, fresh_was_made}
+use Rattle.asl_machine.proofs.MadeBy.{made_is_fresh, fresh_was_made}
 use Rattle.asl_machine.specs.Run.{start_of}
 use Rattle.asl_machine.proofs.fresh_laws.fresh_objects_are_made_in_the_section.Goals as goal
 

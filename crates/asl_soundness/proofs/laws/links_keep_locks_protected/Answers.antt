@@ -8,9 +8,9 @@ use Rattle.asl_soundness.proofs.laws.links_keep_locks_protected.Goals as goal
 
 pub returns : goal.returns
 returns c = record {
-  own = λ l d stores longest image count s t a b i n kept made r is at now inside deep same there all.
+  own = λ l d stores k_limit image count s t a b i n kept made r is at now inside deep same there all.
       (let q = kept_structured l d image count s kept made r in
-      step_links l d stores longest image made s t a b i n q (step_structured l d image made (kept_layout l kept) s t q).agrees is at now inside deep same there all);
+      step_links l d stores k_limit image made s t a b i n q (step_structured l d image made (kept_layout l kept) s t q).agrees is at now inside deep same there all);
   others = λ l d image count s t u a place f n kept made r is at apart there read p.
       others_leave l d image made s (kept_structured l d image count s kept made r) (reached_apart image count s made.fits r) t u a apart is place f n at there read p;
 }

@@ -4,5 +4,5 @@ use Rattle.asl_soundness.proofs.NeededLaws.{needed_analysed}
 use Rattle.asl_soundness.proofs.laws.needed_locks_are_protected.Goals as goal
 
 pub returns : goal.returns
-returns c = λ l d stores longest image count s t a kept made told lists r is.
-    ((reached_good l d stores longest (Needed l d stores longest) image (needed_analysed l d stores longest image kept made told lists) count s r).has t a is).top
+returns c = λ l d stores k_limit image count s t a kept made told lists r is.
+    ((reached_good l d stores k_limit (Needed l d stores k_limit) image (needed_analysed l d stores k_limit image kept made told lists) count s r).has t a is).top

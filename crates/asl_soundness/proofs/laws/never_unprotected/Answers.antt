@@ -4,5 +4,5 @@ use Rattle.asl_soundness.proofs.NeededLaws.{needed_analysed}
 use Rattle.asl_soundness.proofs.laws.never_unprotected.Goals as goal
 
 pub returns : goal.returns
-returns c = λ l d stores longest image kept made told lists.
-    sound_program l d stores longest (Needed l d stores longest) image (needed_analysed l d stores longest image kept made told lists)
+returns c = λ l d stores k_limit image kept made told lists.
+    sound_program l d stores k_limit (Needed l d stores k_limit) image (needed_analysed l d stores k_limit image kept made told lists)

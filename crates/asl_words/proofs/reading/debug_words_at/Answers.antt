@@ -4,7 +4,7 @@ use Rattle.clap.specs.Words.{Text, found_of, rows_of}
 use Rattle.clap.specs.Walk.{texts}
 use Rattle.asl_words.specs.declared.debug_word.DebugWord.{DebugWord}
 use Rattle.asl_words.specs.Words.{AreDebugWords, words_at}
-use Rattle.asl_words.specs.Reading.{IsTalkFault}
+use Rattle.asl_words.specs.Reading.{IsDebugWordsFault}
 use Rattle.asl_words.proofs.Values.{some_words, none_words}
 use Rattle.asl_words.proofs.reading.debug_words_at.Goals as goal
 
@@ -15,7 +15,7 @@ returns-in-Some-clause-ok c =
 
 pub returns-in-Some-clause-err : goal.returns-in-Some-clause-err
 returns-in-Some-clause-err c =
-    subst (λ (ws : List Text). IfErr c.debug_words.result (IsTalkFault ws))
+    subst (λ (ws : List Text). IfErr c.debug_words.result (IsDebugWordsFault ws))
     (sym (some_words (found_of c.args.values.now) (codes "words") (texts c.in-Some.words.now) c.in-Some.ensures)) c.debug_words.ensures.err
 
 pub returns-in-None-clause-ok : goal.returns-in-None-clause-ok

@@ -1,6 +1,6 @@
 use Rattle.std.proofs.Common.{rules, arith}
 use Rattle.std.proofs.lemmas.List.{length-map}
-use Rattle.asl_backward_flow.specs.declared.part.Part.{Part}
+use Rattle.asl_backward_flow.specs.declared.region_needs.RegionNeeds.{RegionNeeds}
 use Rattle.asl_backward_flow.specs.Found.{table}
 use Rattle.asl_backward_flow.proofs.Steps.{adds_some_begin, adds_some_more, adds_some_refused, adds_some_all}
 use Rattle.asl_backward_flow.proofs.found.Found.add_all.Goals as goal
@@ -8,7 +8,7 @@ use Rattle.asl_backward_flow.proofs.found.Found.add_all.Goals as goal
 pub loop-lock-init : goal.loop-lock-init
 loop-lock-init c =
     adds_some_begin (table c.args.self.now) c.args.part c.args.pc c.args.locks.items
-    (omega (arith, length-map c.args.self.now.parts.items (λ (z : Part). z.locks.keys), c.requires.there)) c.requires.point c.requires.whole
+    (omega (arith, length-map c.args.self.now.parts.items (λ (z : RegionNeeds). z.locks.keys), c.requires.there)) c.requires.point c.requires.whole
 
 pub loop-lock-preserved : goal.loop-lock-preserved
 loop-lock-preserved c =

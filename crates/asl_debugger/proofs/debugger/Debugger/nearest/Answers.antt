@@ -3,7 +3,7 @@ use Rattle.std.specs.Prelude.{slice_get}
 use Rattle.std.proofs.lemmas.List.Elements.{All-get_or}
 use Rattle.std.proofs.lemmas.Option.{slice_get_read}
 use Rattle.asl_debugger.specs.declared.trail.Mark.{Mark}
-use Rattle.asl_debugger.specs.Kept.{IsMarkOf}
+use Rattle.asl_debugger.specs.Checkpoints.{IsMarkOf}
 use Rattle.asl_debugger.proofs.Marking.{found}
 use Rattle.asl_debugger.proofs.Marks.{number_there, marked}
 use Rattle.asl_debugger.proofs.debugger.Debugger.nearest.Goals as goal

@@ -6,13 +6,13 @@ use Rattle.asl_lane_sets.proofs.bits.Bits.has.Goals as goal
 pub index-requires : goal.index-requires
 index-requires c =
     let len = ap length c.self.view_is in
-    let there = word_there c.self.inside.len c.self.inside.words.items c.args.number c.self.invariant (omega (arith, len, length_told c.self.inside.len c.self.inside.words.items, c.requires)) in
+    let there = word_there c.self.inside.len c.self.inside.lanes.items c.args.number c.self.invariant (omega (arith, len, length_told c.self.inside.len c.self.inside.lanes.items, c.requires)) in
     omega (arith, there)
 
 pub returns : goal.returns
 returns c =
     let len = ap length c.self.view_is in
-    let there = word_there c.self.inside.len c.self.inside.words.items c.args.number c.self.invariant (omega (arith, len, length_told c.self.inside.len c.self.inside.words.items, c.requires)) in
-    let is = has_told c.self.inside.words.items c.args.number c.index.result.now (word_read c.self.inside.words.items _ _ there c.index.ensures) in
-    let told = in_told c.self.inside.len c.self.inside.words.items c.self.invariant c.args.number in
+    let there = word_there c.self.inside.len c.self.inside.lanes.items c.args.number c.self.invariant (omega (arith, len, length_told c.self.inside.len c.self.inside.lanes.items, c.requires)) in
+    let is = has_told c.self.inside.lanes.items c.args.number c.index.result.now (word_read c.self.inside.lanes.items _ _ there c.index.ensures) in
+    let told = in_told c.self.inside.len c.self.inside.lanes.items c.self.invariant c.args.number in
     (λ e. subst (λ s. IsIn s c.args.number) c.self.view_is (told.1 (sym is ∙ e)), λ e. is ∙ told.0 (subst (λ s. IsIn s c.args.number) (sym c.self.view_is) e))

@@ -2,6 +2,6 @@ use Rattle.std.proofs.Common.{◌≡◌, ◌*◌}
 use Rattle.asl_lane_sets.proofs.Members.{first_ones}
 use Rattle.asl_lane_sets.proofs.bits.Bits.members.Given as goal
 
--- the numbers of the words so far are listed
+-- the numbers of the lanes so far are listed
 abbrev pub invariant-loop-place : goal.invariant-loop-place
-invariant-loop-place l = l.members.items ≡ first_ones l.word-items (64 * l.place)
+invariant-loop-place l = l.members.items ≡ first_ones l.lane-items (64 * l.place)

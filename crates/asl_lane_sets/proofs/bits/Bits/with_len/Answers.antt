@@ -5,5 +5,5 @@ use Rattle.asl_lane_sets.proofs.bits.Bits.with_len.Goals as goal
 
 pub returns : goal.returns
 returns c =
-    let zeros : c.in_ok-words.words.items ≡ replicate (c.div_ceil.result * 4) 0 = search rules in
+    let zeros : c.in_ok-lanes.lanes.items ≡ replicate (c.div_ceil.result * 4) 0 = search rules in
     ap (told c.args.len) zeros ∙ told_none c.args.len _

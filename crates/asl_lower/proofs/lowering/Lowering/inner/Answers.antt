@@ -1,4 +1,4 @@
-use Rattle.asl_lower.specs.Kept.{lowered_of}
+use Rattle.asl_lower.specs.LegalLowering.{lowered_of}
 use Rattle.asl_lower.proofs.Layouts.{kept_layout}
 use Rattle.asl_lower.proofs.lowering.Lowering.inner.Goals as goal
 

@@ -1,6 +1,6 @@
 use Rattle.std.proofs.Common.{length, ap, arith}
 use Rattle.asl_code.specs.declared.image.Function as entry
-use Rattle.asl_lower.specs.Kept.{lowered_of}
+use Rattle.asl_lower.specs.LegalLowering.{lowered_of}
 use Rattle.asl_lower.proofs.Layouts.{kept_layout}
 use Rattle.asl_lower.proofs.Told.{owner_found, owner_behind, owner_body}
 use Rattle.asl_lower.proofs.lowering.Lowering.owner.Goals as goal

@@ -3,7 +3,7 @@ use Rattle.std.specs.List.{Contains}
 use Rattle.asl_code.specs.declared.instr.Instr.{Instr}
 use Rattle.asl_lower.specs.Lowered.{Lowered}
 use Rattle.asl_lower.specs.Region.{successors}
-use Rattle.asl_lower.specs.Kept.{lowered_of}
+use Rattle.asl_lower.specs.LegalLowering.{lowered_of}
 use Rattle.asl_lower.proofs.Reaching.{read_at}
 use Rattle.asl_lower.proofs.Told.{listed_goes, goes_listed}
 use Rattle.asl_lower.proofs.lowering.Lowering.successors.Goals as goal

@@ -1,7 +1,7 @@
 use Rattle.std.proofs.Common.{◌∙◌, ap}
 use Rattle.asl_turns.specs.Turn.{Word}
 use Rattle.asl_turns.proofs.Counting.{counted}
-use Rattle.asl_turns.proofs.Ends.{KnowsCount, finished}
+use Rattle.asl_turns.proofs.LastSeat.{KnowsCount, finished}
 use Rattle.asl_turns.proofs.turns.Turns.finish.Goals as goal
 
 knows : (c : goal.After-min) → KnowsCount c.self.inside.limit c.min.result c.args.seat

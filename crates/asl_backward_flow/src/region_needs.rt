@@ -1,0 +1,197 @@
+//! A region with the locks that it needs, and the points at which it needs them.
+ghost use Rattle.std.specs.Prelude.{◌≡◌, ◌<◌, ◌≤◌, ◌↔◌, ◌⊎◌, ℕ, Some, [], length, replicate, slice_get, IsTrue, IfOk, OnOk, OnErr};
+ghost use Rattle.std.specs.List.{Contains};
+ghost use Rattle.asl_code.specs.declared.lock.Lock.{Lock};
+ghost use Rattle.asl_lane_sets.specs.NumberSet.{IsIn};
+ghost use Rattle.asl_lock_expr.specs.Links.{IsOne};
+ghost use Rattle.asl_lock_expr.specs.Order.{AreInOrder};
+ghost use Rattle.asl_backward_flow.specs.Needed.{IsInNeeds};
+ghost use Rattle.asl_backward_flow.specs.Found.{Numbers, IsMarked, IsNamed, IsBlankNeeds};
+ghost use Rattle.asl_backward_flow.specs.Parts.{part};
+
+use crate::region::Region;
+use crate::span::Span;
+use asl_code::Lock;
+use asl_lane_sets::Bits;
+use asl_lock_expr::add_in_order;
+use indexmap::IndexSet;
+use std::alloc::{AllocError, Global};
+use std::cmp::Ordering;
+
+/// By how many numbers a set grows at least, where numbers come one by one.
+pub const STEP: usize = 256;
+
+/// So many numbers stay as they are.
+const FEW: usize = 16;
+
+/// A region with its locks in the order in which they were found. For each of its points, from the first pc on, a set has the
+/// numbers of the locks that are needed there; a set is as long as its numbers made it.
+#[derive(Drop)]
+pub struct RegionNeeds {
+    pub region: Region,
+    pub first: u16,
+    pub locks: IndexSet<Lock>,
+    pub needs: Vec<Bits>,
+}
+
+/// The number of a lock among those found, at which it is put in if it is new.
+pub fn number(locks: &mut IndexSet<Lock>, lock: Lock) -> Result<usize, AllocError>
+    ensures stored { IfOk result (λ n. slice_get locks.new.keys n ≡ Some lock) }
+    ensures numbers { Numbers locks.old.keys locks.new.keys (λ m. m ≡ lock) }
+    ensures within { IfOk result (λ n. n < length locks.new.keys) }
+{
+    let (number, _is_new) = locks.insert_full(lock)?;
+    Ok(number)
+}
+
+/// Puts a number into the set at a place, and tells whether it is new there.
+pub fn mark(sets: &mut Vec<Bits>, place: usize, number: usize) -> Result<bool, AllocError>
+    requires there { place < length sets.old.items }
+    requires small { number < 4096 }
+    ensures marked { IfOk result (IsMarked sets.old.items sets.new.items place (λ n. n ≡ number)) }
+    ensures err { OnErr result (sets.new.items ≡ sets.old.items) }
+{
+    let set = &mut sets[place];
+    make_room(set, (number / STEP + 1) * STEP)?;
+    if set.has(number) {
+        return Ok(false);
+    }
+    set.add(number);
+    Ok(true)
+}
+
+/// Puts numbers into the set at a place, and tells whether some are new there.
+pub fn merge(sets: &mut Vec<Bits>, place: usize, numbers: &Bits) -> Result<bool, AllocError>
+    requires there { place < length sets.old.items }
+    requires small { (n : ℕ) → IsIn numbers.now n → n < 4096 }
+    ensures marked { IfOk result (IsMarked sets.old.items sets.new.items place (IsIn numbers.now)) }
+    ensures err { OnErr result (sets.new.items ≡ sets.old.items) }
+{
+    let set = &mut sets[place];
+    make_room(set, numbers.len())?;
+    Ok(set.add_all(numbers))
+}
+
+/// Makes the set at least so long.
+pub fn make_room(set: &mut Bits, len: usize) -> Result<(), AllocError>
+    ensures room { OnOk result (len ≤ length set.new) }
+    ensures same { OnOk result ((k : ℕ) → IsIn set.new k ↔ IsIn set.old k) }
+    ensures err { OnErr result (set.new ≡ set.old) }
+{
+    if set.len() < len {
+        set.grow(len)?;
+    }
+    Ok(())
+}
+
+/// Whether the set has the number; it has none from its length on.
+fn has_number(set: &Bits, number: usize) -> bool
+    ensures { IsTrue result ↔ IsIn set.now number }
+{
+    number < set.len() && set.has(number)
+}
+
+/// So many sets without numbers.
+fn empty_sets(alloc: Global, count: usize) -> Result<Vec<Bits>, AllocError>
+    ensures { IfOk result (λ sets. sets.items ≡ replicate count []) }
+{
+    let mut sets = Vec::with_capacity(alloc, count)?;
+    for _ in 0..count {
+        sets.push(Bits::with_len(alloc, 0)?)?;
+    }
+    Ok(sets)
+}
+
+/// Puts many numbers in the order of their locks, so that few locks are moved where they are put at their places one by one.
+fn arrange(locks: &[Lock], numbers: &mut Vec<usize>)
+    ensures { (k : ℕ) → Contains numbers.new.items k ↔ Contains numbers.old.items k }
+{
+    if numbers.len() <= FEW {
+        return;
+    }
+    numbers.sort_unstable_by(|a, b| compare(locks, *a, *b));
+}
+
+/// Which of two numbers has the lock that comes first.
+fn compare(locks: &[Lock], a: usize, b: usize) -> Ordering {
+    match (locks.get(a), locks.get(b)) {
+        (Some(first), Some(second)) => first.cmp(second),
+        _ => Ordering::Equal,
+    }
+}
+
+impl RegionNeeds {
+    /// The region of a span, with nothing found yet.
+    pub fn new(alloc: Global, span: &Span) -> Result<RegionNeeds, AllocError>
+        ensures { IfOk result (IsBlankNeeds span.now) }
+    {
+        let count = span.end.saturating_sub(span.first);
+        Ok(RegionNeeds {
+            region: span.region,
+            first: span.first,
+            locks: IndexSet::new(alloc),
+            needs: empty_sets(alloc, usize::from(count))?,
+        })
+    }
+
+    /// Whether the lock of a number is needed at the pc.
+    pub fn needs(&self, pc: u32, number: usize) -> bool
+        ensures { IsTrue result ↔ ((k : ℕ) × (slice_get (part self.now).needs k ≡ Some (pc, number))) }
+    {
+        let first = u32::from(self.first);
+        if pc < first {
+            return false;
+        }
+        match self.needs.get((pc - first) as usize) {
+            Some(set) => has_number(set, number),
+            None => false,
+        }
+    }
+
+    /// Adds the locks that are needed at the pc.
+    pub fn add_needed(
+        &self,
+        alloc: Global,
+        pc: u32,
+        locks: &mut Vec<Lock>,
+    ) -> Result<(), AllocError>
+        requires { AreInOrder locks.old.items }
+        ensures order { OnOk result (AreInOrder locks.new.items) }
+        ensures locks { OnOk result ((m : Lock) → IsOne locks.new.items m ↔ (IsOne locks.old.items m ⊎ IsInNeeds (part self.now) pc m)) }
+    {
+        let first = u32::from(self.first);
+        if pc < first {
+            return Ok(());
+        }
+        match self.needs.get((pc - first) as usize) {
+            Some(set) => self.add_set(alloc, set, locks),
+            None => Ok(()),
+        }
+    }
+
+    /// Adds the locks whose numbers are in the set.
+    fn add_set(&self, alloc: Global, set: &Bits, locks: &mut Vec<Lock>) -> Result<(), AllocError>
+        requires { AreInOrder locks.old.items }
+        ensures order { OnOk result (AreInOrder locks.new.items) }
+        ensures locks { OnOk result ((m : Lock) → IsOne locks.new.items m ↔ (IsOne locks.old.items m ⊎ IsNamed self.now.locks.keys set.now m)) }
+    {
+        let mut numbers = set.members(alloc)?;
+        arrange(self.locks.as_slice(), &mut numbers);
+        for number in numbers.as_slice() {
+            self.add_lock(*number, locks)?;
+        }
+        Ok(())
+    }
+
+    /// Adds the lock of this number.
+    fn add_lock(&self, number: usize, locks: &mut Vec<Lock>) -> Result<(), AllocError>
+        requires { AreInOrder locks.old.items }
+        ensures order { OnOk result (AreInOrder locks.new.items) }
+        ensures locks { OnOk result ((m : Lock) → IsOne locks.new.items m ↔ (IsOne locks.old.items m ⊎ (slice_get self.now.locks.keys number ≡ Some m))) }
+    {
+        match self.locks.as_slice().get(number) {
+            Some(lock) => add_in_order(locks, lock.clone()?),
+            None => Ok(()),
+        }
+    }
+}

@@ -1,0 +1,30 @@
+-- Machinery of the proofs, not of the promise: how much a reader of the lines of an assembly text has left, and which line has the
+-- instruction of a number.
+use Rattle.std.specs.Prelude.{◌≡◌, ◌<◌, ℕ, suc, ◌-◌, ◌==◌, List, [], ◌∷◌, length, Option, Some, None, if◌then◌else◌}
+use Rattle.asl_assembler.specs.Words.{lines_of}
+use Rattle.asl_diagnose.specs.declared.lines.TextLines as rows
+use Rattle.asl_diagnose.specs.declared.lines.TextLine as row
+use Rattle.asl_diagnose.specs.Instructions.{is_instruction}
+
+abbrev pub rows_left : rows.TextLines → ℕ
+rows_left r = length r.rest.now
+
+-- the lines that are left
+abbrev pub lines_left : rows.TextLines → List (List ℕ)
+lines_left r = lines_of r.rest.now
+
+-- the next line is taken, if there is one
+abbrev pub IsNextLine : rows.TextLines → Option row.TextLine → rows.TextLines → Type 0
+IsNextLine old None new = lines_left old ≡ []
+IsNextLine old (Some r) new = (lines_left old ≡ r.line.now ∷ lines_left new) × (rows_left new < rows_left old)
+
+-- the first word, which is empty where there is none
+abbrev pub first_of : List (List ℕ) → List ℕ
+first_of [] = []
+first_of (word ∷ words) = word
+
+-- the number of the line of the instruction that has so many before it, where the first of the lines has this number
+abbrev pub row_of : ℕ → ℕ → List (List ℕ) → Option ℕ
+row_of pc number [] = None
+row_of pc number (l ∷ ls) =
+    if is_instruction l then (if pc == 0 then Some number else row_of (pc - 1) (suc number) ls) else row_of pc (suc number) ls
