@@ -12,9 +12,10 @@ const WORST = times(16, n => `global g${n};\n`) + 'fn main(t) {\n' + times(16, n
   + times(100, () => 'x = t; '.repeat(100) + '\n') + times(2000, n => `f = &p${n % 16}[${n >> 4}]; x = *f; ` + (n % 20 ? '' : '\n')) + '}'.repeat(50) + '\nreturn t; }\n';
 const COUNTER = readFileSync(EXAMPLES + 'counter.asl', 'utf8');
 
-// Types a text, and answers as soon as the toolchain has been asked.
+// Types a text, and answers as soon as the toolchain has been asked; what takes a moment only may have been answered by then.
 const begin = text => run(`(async () => { const t = document.getElementById('text'); t.value = ${JSON.stringify(text)};
-  t.dispatchEvent(new Event('input')); while (!workbench.isBusy()) await new Promise(done => setTimeout(done, 5)); })()`);
+  t.dispatchEvent(new Event('input'));
+  for (let i = 0; i < 80 && !workbench.isBusy(); i++) await new Promise(done => setTimeout(done, 5)); })()`);
 // Steps thread 0 by a click; answers after how many milliseconds that is painted, and whether the toolchain was at work all the time.
 const CLICK = `(async () => { const { bench } = workbench, { length } = bench.run, began = performance.now(), busy = workbench.isBusy();
   document.querySelector('[data-step="0"]').click();
