@@ -8,7 +8,7 @@ use Rattle.std.specs.contracts.impls.GlobalAllocator.TheImpl.{ghosts, dict}
 use Rattle.std.proofs.alloc.Global.TheLaws as heap
 use Rattle.asl_lock_forest.specs.contracts.forest.Forest as Forest
 use Rattle.asl_lock_forest.proofs.forest.Forest.TheLaws as forest
-use Rattle.asl_foreign.specs.contracts.parts.OpenBox as OpenBox
+use Rattle.asl_foreign.specs.contracts.open_box.OpenBox as OpenBox
 use Rattle.asl_c.specs.contracts.slot.Slot as Held
 
 abbrev pub E : Bx

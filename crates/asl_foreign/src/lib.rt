@@ -2,7 +2,7 @@
 #![tactic(auto)]
 
 mod buffer;
-mod parts;
+mod open_box;
 
 pub use buffer::put_front;
-pub use parts::Parts;
+pub use open_box::OpenBox;

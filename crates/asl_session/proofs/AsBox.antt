@@ -8,7 +8,7 @@ use Rattle.std.specs.contracts.impls.GlobalAllocator.TheImpl.{ghosts, dict}
 use Rattle.std.proofs.alloc.Global.TheLaws as heap
 use Rattle.asl_session.specs.contracts.session.Session as Session
 use Rattle.asl_session.proofs.session.Session.TheLaws as session
-use Rattle.asl_foreign.specs.contracts.parts.OpenBox as OpenBox
+use Rattle.asl_foreign.specs.contracts.open_box.OpenBox as OpenBox
 use Rattle.asl_session.specs.contracts.slot.Slot as Held
 
 abbrev pub E : Bx
