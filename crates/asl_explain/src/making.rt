@@ -1,13 +1,14 @@
 //! Why the lists of a program are as they are.
-ghost use Rattle.std.specs.Prelude.{◌≡◌, ◌≤◌, ◌↔◌, ℕ, suc, Some, IfOk, IsTrue, length, slice_get};
+ghost use Rattle.std.specs.Prelude.{◌≡◌, ◌≤◌, ◌↔◌, ℕ, suc, Some, IfOk, OnOk, IsTrue, length, slice_get};
 ghost use Rattle.asl_code.specs.declared.lock.Lock.{Lock as AnyLock};
 ghost use Rattle.asl_lower.specs.Regions.{Inside};
 ghost use Rattle.asl_lock_expr.specs.Links.{IsOne};
 ghost use Rattle.asl_soundness.specs.Covering.{CoversLock};
 ghost use Rattle.asl_explain.specs.declared.value.Lists.{Lists as AnyLists};
+ghost use Rattle.asl_explain.specs.declared.value.Lists.TheVariants.{Inferred};
 ghost use Rattle.asl_explain.specs.Chains.{Needs};
 ghost use Rattle.asl_explain.specs.Explained.{AreChains, AreNeeds, IsListed, IsOneOf};
-ghost use Rattle.asl_explain.specs.Analysed.{read, IsAnalysed, AreListed, AreSections, AreFittedAt, IsMade};
+ghost use Rattle.asl_explain.specs.Analysed.{read, IsAnalysed, AreListed, AreSections, AreEachFitted, AreFittedAt, IsMade};
 
 use crate::analysis::Analysis;
 use crate::confirm::is_chain;
@@ -192,16 +193,13 @@ fn explained_sections(
     Ok(Items::from_vec(sections))
 }
 
-/// The lists with paths of at most so many operations; for as many as the analysis has, its own flow is at hand.
+/// The lists with paths of at most so many operations.
 fn lists_at(alloc: Global, analysis: &Analysis, k_limit: u32) -> Result<Lists, AllocError>
     requires analysed { IsAnalysed analysis.now }
     requires short { k_limit ≤ 8 }
     ensures { IfOk result (AreFittedAt analysis.now.lowering analysis.now.classes k_limit) }
 {
     let (lowering, classes) = (&analysis.lowering, &analysis.classes);
-    if k_limit == analysis.k_limit {
-        return Ok(Lists::Inferred(lists(alloc, lowering, classes, &analysis.flow)?));
-    }
     match needed(alloc, lowering, classes, k_limit) {
         Ok(flow) => Ok(Lists::Inferred(lists(alloc, lowering, classes, &flow)?)),
         Err(FlowFault::TooManyLocks(region)) => Ok(Lists::TooManyLocks(region)),
@@ -209,17 +207,43 @@ fn lists_at(alloc: Global, analysis: &Analysis, k_limit: u32) -> Result<Lists, A
     }
 }
 
-/// The lists with paths of at most 0 to 8 operations.
-fn by_length(alloc: Global, analysis: &Analysis) -> Result<Items<Lists>, AllocError>
-    requires { IsAnalysed analysis.now }
-    ensures count { IfOk result (λ lists. length lists ≡ 9) }
-    ensures each { IfOk result (λ lists. (k_limit : ℕ) (l : AnyLists) → slice_get lists k_limit ≡ Some l
-        → AreFittedAt analysis.now.lowering analysis.now.classes k_limit l) }
+/// Adds the lists with paths of at most so many operations, for each number from the first up to the last, which is left out.
+fn add_lists(
+    alloc: Global,
+    analysis: &Analysis,
+    first: u32,
+    last: u32,
+    by_length: &mut Vec<Lists>,
+) -> Result<(), AllocError>
+    requires analysed { IsAnalysed analysis.now }
+    requires order { first ≤ last }
+    requires short { last ≤ 9 }
+    requires count { length by_length.old.items ≡ first }
+    requires each { AreEachFitted analysis.now.lowering analysis.now.classes by_length.old.items }
+    ensures count { OnOk result (length by_length.new.items ≡ last) }
+    ensures each { OnOk result (AreEachFitted analysis.now.lowering analysis.now.classes by_length.new.items) }
 {
-    let mut by_length = Vec::new(alloc);
-    for k_limit in 0..9 {
+    for k_limit in first..last {
         by_length.push(lists_at(alloc, analysis, k_limit)?)?;
     }
+    Ok(())
+}
+
+/// The lists with paths of at most 0 to 8 operations; those of as many as the analysis has are at hand.
+fn by_length(
+    alloc: Global,
+    analysis: &Analysis,
+    own: Items<Items<Lock>>,
+) -> Result<Items<Lists>, AllocError>
+    requires analysed { IsAnalysed analysis.now }
+    requires own { AreFittedAt analysis.now.lowering analysis.now.classes analysis.now.k_limit (Inferred own) }
+    ensures count { IfOk result (λ lists. length lists ≡ 9) }
+    ensures each { IfOk result (AreEachFitted analysis.now.lowering analysis.now.classes) }
+{
+    let mut by_length = Vec::new(alloc);
+    add_lists(alloc, analysis, 0, analysis.k_limit, &mut by_length)?;
+    by_length.push(Lists::Inferred(own))?;
+    add_lists(alloc, analysis, analysis.k_limit + 1, 9, &mut by_length)?;
     Ok(Items::from_vec(by_length))
 }
 
@@ -233,6 +257,6 @@ pub fn explanation_of(alloc: Global, analysis: &Analysis) -> Result<Explanation,
     Ok(Explanation {
         sections: explained_sections(alloc, analysis, &mut searcher, own.as_slice())?,
         ended: ended_of_sections(alloc, analysis, &mut searcher)?,
-        by_length: by_length(alloc, analysis)?,
+        by_length: by_length(alloc, analysis, own)?,
     })
 }
