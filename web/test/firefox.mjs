@@ -5,6 +5,8 @@ import { mkdtempSync, rmSync, writeFileSync } from 'node:fs';
 import { tmpdir } from 'node:os';
 import { join } from 'node:path';
 
+// How many ms an answer may take.
+const PATIENCE = 60_000;
 const sleep = ms => new Promise(done => setTimeout(done, ms));
 const KEYS = { Tab: '\uE004', Enter: '\uE006', '\n': '\uE006', Escape: '\uE00C', End: '\uE010', Home: '\uE011', ArrowLeft: '\uE012',
   ArrowUp: '\uE013', ArrowRight: '\uE014', ArrowDown: '\uE015', Delete: '\uE017' };
@@ -29,9 +31,10 @@ async function connect(url, heard) {
     const told = JSON.parse(message.data);
     if (waiting.has(told.id)) { waiting.get(told.id)(told); waiting.delete(told.id); } else heard(told);
   };
-  const send = (method, params) => new Promise(done => {
-    waiting.set(++last, done);
-    socket.send(JSON.stringify({ id: last, method, params }));
+  const send = (method, params) => new Promise((done, fail) => {
+    const id = ++last, late = setTimeout(() => { waiting.delete(id); fail(new Error('Firefox gives no answer to ' + method)); }, PATIENCE);
+    waiting.set(id, told => { clearTimeout(late); done(told); });
+    socket.send(JSON.stringify({ id, method, params }));
   });
   return { socket, send };
 }
@@ -62,7 +65,7 @@ export async function openFirefox(binary = process.env.FIREFOX || 'firefox-esr')
     if (result.type === 'exception') throw new Error(result.exceptionDetails.text);
     return plain(result.result);
   };
-  const frames = () => run('new Promise(done => requestAnimationFrame(() => requestAnimationFrame(() => setTimeout(done))))');
+  const frames = () => run(`new Promise(done => { requestAnimationFrame(() => requestAnimationFrame(() => setTimeout(done))); setTimeout(done, 2000); })`);
   const press = (type, actions) => send('input.performActions', { context, actions: [{ type, id: type, actions }] });
   return {
     name: 'Firefox ' + capabilities.browserVersion, errors, requests, run, sleep, frames,

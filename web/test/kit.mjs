@@ -18,9 +18,11 @@ const byModule = call => (words, input) => Buffer.from(call(words.map(String), i
 export const asl = ASL.endsWith('.wasm') ? byModule(await loadAsl(readFileSync(ASL))) : native;
 export const browser = await (options.includes('--firefox') ? openFirefox : openChromium)();
 export const { run } = browser;
-// Until what was asked of the toolchain is answered, and painted.
-export const calm = () => run(`(async () => { do await new Promise(done => requestAnimationFrame(() => setTimeout(done)));
-  while (window.workbench?.isBusy()); await new Promise(done => requestAnimationFrame(() => setTimeout(done))); })()`);
+// Until what was asked of the toolchain is answered, and painted. (A window without a screen may be given no frame for a while.)
+export const calm = () => run(`(async () => {
+  const frame = () => new Promise(done => { requestAnimationFrame(() => setTimeout(done)); setTimeout(done, 2000); });
+  do await frame(); while (window.workbench?.isBusy());
+  await frame(); })()`);
 export async function key(name, shift) { await browser.strike(name, shift); await calm(); }
 
 export function check(is, words) { if (is) passed++; else if (++failed <= 12) console.log('FAILED', words); }
