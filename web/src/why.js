@@ -15,6 +15,7 @@ export async function whyText(bench, section) {
   if (answer.refusal) return answer.refusal;
   const parts = answer.text.split(/^(?=section \d+, )/m);
   const own = parts.find(part => part.startsWith(`section ${section}, `));
-  if (!own) throw new Error('explain: no section ' + section);
+  // (a button that is not drawn anew yet may be of the program before)
+  if (!own) return `The program has changed meanwhile: it has no section ${section} now.`;
   return own.trimEnd();
 }
