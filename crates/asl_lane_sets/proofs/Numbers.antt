@@ -292,7 +292,7 @@ removed_in len other va vb a b c xs ys pa pb is_a is_b cleared xs_is ys_is k =
     (subst (λ s. IsIn (told len c) k ↔ (IsIn (told len a) k × ¬ IsIn s k)) (ap (told other) is_b ∙ ys_is)
     (in_cleared a b c cleared len other (subst (IsPacked len) (sym is_a) pa) (subst (IsPacked other) (sym is_b) pb) k))
 
--- lanes with none behind them
+-- lanes with none after them
 pub set_longer : (lanes : List ℕ) (more k : ℕ) → is_set (lanes ++ replicate more 0) k ≡ is_set lanes k
 set_longer lanes more k = ap (λ w. has_bit w (k % 64)) (same lanes more (k / 64))
   where

@@ -33,7 +33,7 @@ impl Bits {
     ///
     /// # Errors
     ///
-    /// A growth was refused.
+    /// An allocation failed.
     pub fn with_len(alloc: Global, len: usize) -> Result<Bits, AllocError>
         ensures { IfOk result (λ set. set ≡ replicate len false) }
     {
@@ -69,7 +69,7 @@ impl Bits {
     ///
     /// # Errors
     ///
-    /// A growth was refused; the set is as it was.
+    /// An allocation failed; the set is as it was.
     pub fn grow(&mut self, len: usize) -> Result<(), AllocError>
         requires { length self.old ≤ len }
         ensures length { OnOk result (length self.new ≡ len) }
@@ -103,7 +103,7 @@ impl Bits {
     ///
     /// # Errors
     ///
-    /// A growth was refused.
+    /// An allocation failed.
     pub fn copy(&self) -> Result<Bits, AllocError>
         ensures { IfOk result (λ set. set ≡ self.now) }
     {
@@ -114,11 +114,11 @@ impl Bits {
         })
     }
 
-    /// Makes the set the same as another, in the room that it has.
+    /// Makes the set the same as another, within its capacity.
     ///
     /// # Errors
     ///
-    /// A growth was refused; the set then has no numbers, and length 0.
+    /// An allocation failed; the set then has no numbers, and length 0.
     pub fn copy_from(&mut self, other: &Bits) -> Result<(), AllocError>
         ensures ok { OnOk result (self.new ≡ other.now) }
         ensures err { OnErr result (self.new ≡ []) }
@@ -134,7 +134,7 @@ impl Bits {
     ///
     /// # Errors
     ///
-    /// A growth was refused.
+    /// An allocation failed.
     pub fn without(&self, other: &Bits) -> Result<Bits, AllocError>
         ensures length { IfOk result (λ set. length set ≡ length self.now) }
         ensures numbers { IfOk result (λ set. (k : ℕ) → IsIn set k ↔ (IsIn self.now k × ¬ IsIn other.now k)) }
@@ -166,7 +166,7 @@ impl Bits {
     ///
     /// # Errors
     ///
-    /// A growth was refused.
+    /// An allocation failed.
     pub fn members(&self, alloc: Global) -> Result<Vec<usize>, AllocError>
         ensures numbers { IfOk result (λ members. (k : ℕ) → Contains members.items k ↔ IsIn self.now k) }
         ensures rising { IfOk result (λ members. IsRising members.items) }

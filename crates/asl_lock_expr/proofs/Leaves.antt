@@ -16,14 +16,15 @@ use Rattle.asl_code.specs.declared.lock.Lock.TheVariants as lock
 use Rattle.asl_code.specs.declared.path.Op.{Op}
 use Rattle.asl_code.specs.declared.path.Op.TheVariants.{Deref, Off}
 use Rattle.asl_points_to.specs.Classes.{Classed}
-use Rattle.asl_lock_expr.specs.Expression.{Seen, base_cell, moved, walked, path_cell, cell_denoted}
+use Rattle.asl_expression.specs.Expression.{Seen, base_cell, moved, walked, path_cell, cell_denoted}
 use Rattle.asl_lock_expr.specs.ClassOf.{base_class, step_class, path_class, class_of}
 use Rattle.asl_lock_expr.specs.Links.{LinkContext, IsOne, class_lock, settled, settle, is_register, is_star, is_stored_to, goes_through, before, link, IsSettled, prefixes, dereferenced}
 use Rattle.asl_lock_expr.specs.Agrees.{IsWrite}
-use Rattle.asl_lock_expr.proofs.Paths.{no_cell_from_none}
+use Rattle.asl_expression.proofs.Paths.{no_cell_from_none}
 use Rattle.asl_lock_expr.proofs.Steps.{class_append}
 use Rattle.asl_lock_expr.proofs.Ones.{one_either}
-use Rattle.asl_lock_expr.proofs.Walks.{path_append, moved_same, walked_same}
+use Rattle.asl_expression.proofs.Paths.{path_append, moved_same}
+use Rattle.asl_lock_expr.proofs.Walks.{walked_same}
 
 -- the expressions that a call leaves: whose base is not its register, and which go through no class that it may store to
 abbrev pub is_lost : LinkContext → ℕ → ℕ → Expr → Bool

@@ -1,4 +1,3 @@
-pub mod Paths
 pub mod Ones
 pub mod Steps
 pub mod Staying

@@ -24,7 +24,7 @@ pub one_right : (ms ns : List Lock) (a : Lock) → IsOne ns a → IsOne (ms ++ n
 one_right [] ns a e = e
 one_right (m ∷ ms) ns a e = inr (one_right ms ns a e)
 
--- one of two lists, one behind the other, is one of the first or of the second
+-- one of two lists, one after the other, is one of the first or of the second
 pub one_either : (ms ns : List Lock) (a : Lock) → IsOne (ms ++ ns) a → IsOne ms a ⊎ IsOne ns a
 one_either [] ns a e = inr e
 one_either (m ∷ ms) ns a (inl e) = inl (inl e)

@@ -163,7 +163,7 @@ placed_at (m ∷ ms) n (suc i) d le low high =
     ap (λ t. placed_by t m ms n (placed ms n)) (low 0 (omega arith))
     ∙ ap (λ (xs : List Lock). m ∷ xs) (placed_at ms n i d (omega (arith, le)) (λ k lt. low (suc k) (omega (arith, lt))) (λ k ge lt. high (suc k) (omega (arith, ge)) (omega (arith, lt))))
 
--- the locks before one that comes before another come before that too, and those behind one that comes behind it, behind it
+-- the locks before one that comes before another come before that too, and those after one that comes after it, after it
 one_at : (ms : List Lock) (k : ℕ) (d : Lock) → k < length ms → IsOne ms (get_or ms k d)
 one_at [] k d lt = absurd (omega (arith, lt))
 one_at (m ∷ ms) zero d lt = inl refl

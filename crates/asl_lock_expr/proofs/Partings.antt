@@ -26,7 +26,7 @@ no_part : (p q : List Op) → [] ≡ p ++ Deref ∷ q → ⊥
 no_part [] q e = cc
 no_part (o ∷ p) q e = cc
 
--- a path parts at its first operation or behind it
+-- a path parts at its first operation or after it
 part_where : (Such : List Op → List Op → Type 0) (op : Op) (ops p q : List Op) → op ∷ ops ≡ p ++ Deref ∷ q → Such p q →
     ((op ≡ Deref) × Such [] ops) ⊎ PartsAtStar ops (λ p q. Such (op ∷ p) q)
 part_where Such op ops [] q e h =
@@ -123,7 +123,7 @@ through_of c stores class (op ∷ ops) r =
 pub through_is : (c : Classed) (stores : ℕ → Bool) (class : Option ℕ) (ops : List Op) → (goes_through c stores class ops ≡ true) ↔ PartsAtStar ops (StoredAt c stores class)
 through_is c stores class ops = (through_from c stores class ops, through_of c stores class ops)
 
--- the prefixes behind the operations that are done
+-- the prefixes after the operations that are done
 abbrev PrefixAt : Base → List Op → Lock → List Op → List Op → Type 0
 PrefixAt base done l p q = l ≡ on base (done ++ p) Read
 

@@ -16,12 +16,12 @@ pub class_more : (c : Classed) (ops : List Op) (i : ℕ) (d : Op) (class next : 
 class_more c ops i d class next lt e =
     at_drop_more (λ (rest : List Op). path_class c rest class) ops i d lt ∙ ap (path_class c (drop (i + 1) ops)) (sym e)
 
--- a path behind a path
+-- a path after a path
 pub class_append : (c : Classed) (p q : List Op) (start : Option ℕ) → path_class c (p ++ q) start ≡ path_class c q (path_class c p start)
 class_append c [] q start = refl
 class_append c (op ∷ p) q start = class_append c p q (option_and_then (step_class c op) start)
 
--- what an expression becomes, by the class behind the parts of its path
+-- what an expression becomes, by the class after the parts of its path
 pub settle_by : (v : LinkContext) (base : Base) (front rest : List Op) (effect : Effect) (start middle end : Option ℕ) → start ≡ base_class v.classes v.function base →
     middle ≡ path_class v.classes front start → end ≡ path_class v.classes rest middle →
     settle v (on base (front ++ rest) effect) ≡ settled v (record { base = base; path = front ++ rest }) effect end

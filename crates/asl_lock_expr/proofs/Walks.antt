@@ -10,52 +10,12 @@ use Rattle.asl_code.specs.declared.lock.Base.TheVariants.{Reg}
 use Rattle.asl_code.specs.declared.path.Op.{Op}
 use Rattle.asl_code.specs.declared.path.Op.TheVariants.{Deref, Off}
 use Rattle.asl_points_to.specs.Classes.{Classed, inside}
-use Rattle.asl_lock_expr.specs.Expression.{Seen, cell_of, pointed, moved, walked, path_cell}
+use Rattle.asl_expression.specs.Expression.{Seen, cell_of, pointed, moved, walked, path_cell}
 use Rattle.asl_lock_expr.specs.ClassOf.{step_class, path_class}
 use Rattle.asl_lock_expr.specs.Links.{IsOne, on, is_class, hits, begins_with_star, goes_through}
 use Rattle.asl_lock_expr.specs.Agrees.{PointsTo, HeapAgrees, IsWrite}
-use Rattle.asl_lock_expr.proofs.Paths.{no_cell_from_none}
+use Rattle.asl_expression.proofs.Paths.{no_cell_from_none, first_step, moved_stays, tell_cells, star_reads, moved_same}
 use Rattle.asl_lock_expr.proofs.Ones.{one_left, one_right}
-
--- a path after a path
-pub path_append : (h : Seen) (p q : List Op) (start : Option Cell) → path_cell h (p ++ q) start ≡ path_cell h q (path_cell h p start)
-path_append h [] q start = refl
-path_append h (op ∷ p) q start = path_append h p q (option_and_then (walked h op) start)
-
--- the first operation of a path that leads to a cell
-pub first_step : (h : Seen) (op : Op) (ops : List Op) (cell end : Cell) → path_cell h (op ∷ ops) (Some cell) ≡ Some end →
-    (next : Cell) × (walked h op cell ≡ Some next) × (path_cell h ops (Some next) ≡ Some end)
-first_step h op ops cell end e =
-    elim (walked h op cell) as (λ o. walked h op cell ≡ o → path_cell h ops o ≡ Some end → (next : Cell) × (walked h op cell ≡ Some next) × (path_cell h ops (Some next) ≡ Some end)) [
-      | None ↦ λ is f. let n = no_cell_from_none h ops in cc
-      | Some next ↦ λ is f. (next, is, f)
-    ] refl e
-
--- a path from no cell leads to none
-pub start_there : (h : Seen) (ops : List Op) (start : Option Cell) (end : Cell) → path_cell h ops start ≡ Some end → (cell : Cell) × (start ≡ Some cell)
-start_there h ops None end e = let n = no_cell_from_none h ops in cc
-start_there h ops (Some cell) end e = (cell, refl)
-
-pub moved_stays : (h : Seen) (places : ℕ) (cell next : Cell) → moved h places cell ≡ Some next → next.object ≡ cell.object
-moved_stays h places cell next e =
-    elim (h.size cell.object) as (λ o. option_and_then (λ size. cond (nat_lt (cell.offset + places) size) (Some (cell_of cell.object (cell.offset + places))) None) o ≡ Some next → next.object ≡ cell.object) [
-      | None ↦ λ f. cc
-      | Some size ↦ λ f. elim (nat_lt (cell.offset + places) size) as (λ b. cond b (Some (cell_of cell.object (cell.offset + places))) None ≡ Some next → next.object ≡ cell.object) [
-        | true ↦ λ g. let is : cell_of cell.object (cell.offset + places) ≡ next = cc in ap (λ (k : Cell). k.object) (sym is)
-        | false ↦ λ g. cc
-      ] f
-    ] e
-
--- two cells are the same or not
-pub tell_cells : (a b : Cell) → (a ≡ b) ⊎ (a ≢ b)
-tell_cells a b =
-    elim (eqb_tells a.object b.object) [
-      | inl o ↦ elim (eqb_tells a.offset b.offset) [
-        | inl i ↦ inl (ap₂ (λ x y. cell_of x y) o.1 i.1)
-        | inr i ↦ inr (λ e. i.1 (ap (λ (k : Cell). k.offset) e))
-      ]
-      | inr o ↦ inr (λ e. o.1 (ap (λ (k : Cell). k.object) e))
-    ]
 
 -- where a value points
 pub value_class : (classes : ℕ → Option ℕ) (class : Option ℕ) (v : Value) (next : Cell) → PointsTo classes class v → pointed v ≡ Some next →
@@ -65,14 +25,6 @@ value_class classes class Null next p e = cc
 value_class classes class (Addr object offset) next p e =
     let is : cell_of object offset ≡ next = cc in
     (p.0, p.1, ap (λ (k : Cell). classes k.object) (sym is) ∙ p.2)
-
--- the value of a cell that a `*` reads
-pub star_reads : (h : Seen) (cell next : Cell) → walked h Deref cell ≡ Some next → (v : Value) × (h.cell cell ≡ Some v) × (pointed v ≡ Some next)
-star_reads h cell next e =
-    elim (h.cell cell) as (λ o. h.cell cell ≡ o → option_and_then pointed o ≡ Some next → (v : Value) × (h.cell cell ≡ Some v) × (pointed v ≡ Some next)) [
-      | None ↦ λ is f. cc
-      | Some v ↦ λ is f. (v, is, f)
-    ] refl e
 
 -- one operation leads to a cell of the class that it gives
 pub class_walk : (c : Classed) (classes : ℕ → Option ℕ) (h : Seen) → HeapAgrees c classes h → (op : Op) (cell next : Cell) (x : ℕ) →
@@ -94,14 +46,10 @@ class_along c classes h agrees (op ∷ ops) cell end x at e =
     let r = class_along c classes h agrees ops s.0 end w.0 w.2 s.2 in
     (r.0, ap (path_class c ops) w.1 ∙ r.1, r.2)
 
-pub moved_same : (h new : Seen) → ((n : ℕ) → new.size n ≡ h.size n) → (places : ℕ) (cell : Cell) → moved new places cell ≡ moved h places cell
-moved_same h new same places cell =
-    ap (λ o. option_and_then (λ size. cond (nat_lt (cell.offset + places) size) (Some (cell_of cell.object (cell.offset + places))) None) o) (same cell.object)
-
 pub walked_same : (h new : Seen) (c0 : Cell) (v : Value) → IsWrite h new c0 v → (cell : Cell) → cell ≢ c0 → walked new Deref cell ≡ walked h Deref cell
 walked_same h new c0 v w cell other = ap (λ o. option_and_then pointed o) (w.others cell other)
 
--- a path in the new heap either meets no changed cell and leads where it led, or goes on from the stored value by
+-- a path in the new heap either meets no changed cell and leads where it led, or continues from the stored value by
 -- a path that the store's line of links offers, in the old heap
 abbrev pub StaysOrHits : Classed → Option ℕ → ℕ → Effect → Option ℕ → List Op → Seen → Cell → Value → Cell → Cell → Type 0
 StaysOrHits c hit b effect class ops h c0 v cell end =

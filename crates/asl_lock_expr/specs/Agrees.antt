@@ -4,7 +4,7 @@ use Rattle.asl_code.specs.declared.value.Value.{Value}
 use Rattle.asl_code.specs.declared.value.Value.TheVariants.{Int, Null, Addr}
 use Rattle.asl_code.specs.declared.value.Cell.{Cell}
 use Rattle.asl_points_to.specs.Classes.{Classed, inside}
-use Rattle.asl_lock_expr.specs.Expression.{Seen}
+use Rattle.asl_expression.specs.Expression.{Seen}
 
 -- if the value is an address, it is that of an object of the class; `classes` tells the classes of objects
 abbrev pub PointsTo : (ℕ → Option ℕ) → Option ℕ → Value → Type 0

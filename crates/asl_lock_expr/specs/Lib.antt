@@ -1,4 +1,3 @@
-pub mod Expression
 pub mod ClassOf
 pub mod Links
 pub mod LinksView

@@ -1,4 +1,4 @@
--- What a lock that is needed behind an instruction becomes before it (docs/ANALYSIS.md, "Links"). In the manner of
+-- What a lock that is needed after an instruction becomes before it (docs/ANALYSIS.md, "Links"). In the manner of
 -- S. Cherem, T. Chilimbi, S. Gulwani, "Inferring Locks for Atomic Sections" (2008); the lines are this project's.
 use Rattle.std.specs.Prelude.{◌≡◌, ◌+◌, ℕ, Bool, true, false, ◌||◌, ◌&&◌, ◌==◌, nat_le, nat_lt, List, [], ◌∷◌, ◌++◌, ◌⊎◌, length, Option, None, Some, if◌then◌else◌, option_and_then}
 use Rattle.std.specs.List.{flat_map}
@@ -32,7 +32,7 @@ abbrev pub IsOne : List Lock → Lock → Type 0
 IsOne [] l = ⊥
 IsOne (m ∷ ms) l = (m ≡ l) ⊎ IsOne ms l
 
--- what a list had, perhaps with more behind it
+-- what a list had, perhaps with more after it
 abbrev pub HasGrown : List Lock → List Lock → Type 0
 HasGrown old new = (more : List Lock) × (new ≡ old ++ more)
 
@@ -95,7 +95,7 @@ goes_through c stores class (op ∷ ops) =
 abbrev pub replaced : ℕ → Expr → Effect → List Lock → List Lock
 replaced a e effect locks = if is_register a e.base then locks else lock.Expr e effect ∷ []
 
--- what an expression behind the instruction becomes before it, before that is settled
+-- what an expression after the instruction becomes before it, before that is settled
 abbrev pub before : LinkContext → Instr → Expr → Effect → List Lock
 before v (instr.Move a b) e effect = replaced a e effect (on (Reg b) e.path effect ∷ [])
 before v (instr.GlobalAddress a g) e effect = replaced a e effect (on (Global g) e.path effect ∷ [])
@@ -117,7 +117,7 @@ before v (instr.Call a b g) e effect =
     else lock.Expr e effect ∷ []
 before v i e effect = lock.Expr e effect ∷ []
 
--- the locks before an instruction that a lock behind it becomes
+-- the locks before an instruction that a lock after it becomes
 abbrev pub link : LinkContext → Instr → Lock → List Lock
 link v i (lock.Expr e effect) = flat_map (settle v) (before v i e effect)
 link v i (lock.Class class effect) = lock.Class class effect ∷ []
@@ -146,7 +146,7 @@ renamed first params (lock.Expr e effect) = renamed_on first params e.base e.pat
 renamed first params (lock.Class class effect) = lock.Class class effect ∷ []
 renamed first params (lock.Root effect) = lock.Root effect ∷ []
 
--- the expressions before each `*` of a path, which is read behind the operations `done`
+-- the expressions before each `*` of a path, which is read after the operations `done`
 abbrev pub prefixes : Base → List Op → List Op → List Lock
 prefixes base done [] = []
 prefixes base done (op ∷ ops) = (if is_star op then on base done Read ∷ [] else []) ++ prefixes base (done ++ op ∷ []) ops
@@ -157,6 +157,6 @@ dereferenced (lock.Expr e effect) = prefixes e.base [] e.path
 dereferenced (lock.Class class effect) = []
 dereferenced (lock.Root effect) = []
 
--- the locks before an instruction that a lock behind it becomes, with their dereferenced prefixes
+-- the locks before an instruction that a lock after it becomes, with their dereferenced prefixes
 abbrev pub IsLinked : LinkContext → Instr → Lock → Lock → Type 0
 IsLinked v i l n = (m : Lock) × IsOne (link v i l) m × ((m ≡ n) ⊎ IsOne (dereferenced m) n)

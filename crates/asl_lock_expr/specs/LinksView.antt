@@ -1,5 +1,5 @@
 -- What the fields of a `LinkContext` of src/link.rt say of the program.
-use Rattle.asl_lock_expr.specs.declared.link.LinkContext.{LinkContext}
+use Rattle.asl_lock_expr.specs.declared.link_context.LinkContext.{LinkContext}
 use Rattle.asl_lock_expr.specs.Links as links
 use Rattle.asl_lock_expr.specs.Links.{view}
 use Rattle.asl_lock_expr.specs.Stores.{stores}

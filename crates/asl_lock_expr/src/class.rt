@@ -26,7 +26,7 @@ pub fn base_class(classes: &Classes, function: u16, base: Base) -> Option<u16>
     }
 }
 
-/// The class behind the operations, from a class on.
+/// The class after the operations, from a class on.
 pub fn path_class(classes: &Classes, start: Option<u16>, ops: &[Op]) -> Option<u16>
     ensures { result ≡ path_class classes.now ops.now start }
 {
@@ -37,7 +37,7 @@ pub fn path_class(classes: &Classes, start: Option<u16>, ops: &[Op]) -> Option<u
     class
 }
 
-/// The class behind one operation.
+/// The class after one operation.
 pub fn next_class(classes: &Classes, op: Op, class: Option<u16>) -> Option<u16>
     ensures { result ≡ option_and_then (step_class classes.now op) class }
 {

@@ -15,7 +15,7 @@ ghost use Rattle.asl_code.specs.declared.path.Op.{Op};
 ghost use Rattle.asl_lower.specs.Lowered.{Lowered};
 ghost use Rattle.asl_lower.specs.Region.{InBody, CallsAt};
 ghost use Rattle.asl_points_to.specs.Classes.{Classed};
-ghost use Rattle.asl_lock_expr.specs.Expression.{Seen, pointed, base_cell, path_cell, cell_denoted};
+ghost use Rattle.asl_expression.specs.Expression.{Seen, pointed, base_cell, path_cell, cell_denoted};
 ghost use Rattle.asl_lock_expr.specs.ClassOf.{path_class, class_of, MayStore};
 ghost use Rattle.asl_lock_expr.specs.Links.{LinkContext, IsOne, IsSettled, on, hits, begins_with_star, goes_through, link, settle, prefixes, dereferenced};
 ghost use Rattle.asl_lock_expr.specs.Partings.{PartsAtStar};
@@ -58,7 +58,7 @@ pub fn stores_elsewhere_move_no_path()
 {}
 
 /// Links ask at each `*` of a path, that is, wherever the path parts into a front, a `*` and a rest: a store hits it if the front
-/// is of the class that is stored to, and goes on with the rest from the stored register; a call goes through it if the front
+/// is of the class that is stored to, and continues with the rest from the stored register; a call goes through it if the front
 /// is of a class that is stored to; and the front is read when the path is evaluated.
 pub fn links_ask_at_each_star()
     ensures hits { (c : Classed) (hit : Option ℕ) (b : ℕ) (effect : Effect) (class : Option ℕ) (ops : List Op) (l : Lock)

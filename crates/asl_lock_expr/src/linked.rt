@@ -1,4 +1,4 @@
-//! The locks before an instruction that a lock behind it becomes.
+//! The locks before an instruction that a lock after it becomes.
 ghost use Rattle.std.specs.Prelude.{◌≡◌, ◌<◌, ◌≤◌, ◌⊎◌, ◌↔◌, ℕ, OnOk, IfOk, Some, length, slice_get};
 ghost use Rattle.std.specs.List.{flat_map};
 ghost use Rattle.asl_code.specs.declared.instr.Instr.{Instr as AnyInstr};
@@ -7,20 +7,22 @@ ghost use Rattle.asl_lock_expr.specs.Links.{view, IsOne, IsLinked, dereferenced}
 ghost use Rattle.asl_lock_expr.specs.Order.{AreInOrder};
 ghost use Rattle.asl_lock_expr.specs.Stores.{stores};
 
-use crate::link::{LinkContext, add_dereferenced, add_links};
-use crate::order::add_in_order;
+use crate::accesses::add_dereferenced;
+use crate::link::add_links;
+use crate::link_context::LinkContext;
+use crate::lock_order::add_in_order;
 use crate::written::Writes;
 use asl_code::Lock;
 use asl_lower::Lowering;
 use asl_points_to::Classes;
 use std::alloc::{AllocError, Global};
 
-/// The locks before the instruction at `pc` that the lock behind it becomes, where paths have at most `k` operations, with
+/// The locks before the instruction at `pc` that the lock after it becomes, where paths have at most `k` operations, with
 /// their dereferenced prefixes: each once, in order (`docs/ANALYSIS.md`, "Links").
 ///
 /// # Errors
 ///
-/// A growth was refused.
+/// An allocation failed.
 pub fn links(
     alloc: Global,
     lowering: &Lowering,
@@ -64,7 +66,7 @@ fn with_prefixes(alloc: Global, locks: Vec<Lock>) -> Result<Vec<Lock>, AllocErro
 ///
 /// # Errors
 ///
-/// A growth was refused.
+/// An allocation failed.
 pub fn prefixes(alloc: Global, locks: &[Lock]) -> Result<Vec<Lock>, AllocError>
     ensures { IfOk result (λ v. v.items ≡ flat_map dereferenced locks.now) }
 {

@@ -9,10 +9,11 @@ ghost use Rattle.asl_lock_expr.specs.LinksView.{seen};
 ghost use Rattle.asl_lock_expr.specs.Meeting.{meets};
 
 use crate::class::{base_class, class_of, next_class};
-use crate::link::{LinkContext, begins_with_star, goes_through, is_hit, is_register};
+use crate::link_context::LinkContext;
+use crate::path_tests::{begins_with_star, goes_through, is_hit, is_register};
 use asl_code::{Expr, Instr, Lock};
 
-/// Whether the lock behind the instruction stays as it is before it, and becomes no other: a lock on the root or a class does,
+/// Whether the lock after the instruction stays as it is before it, and becomes no other: a lock on the root or a class does,
 /// and so does an expression that has a class and no path that is too long, where the instruction does not touch it.
 pub fn stays(view: &LinkContext, instr: &Instr, lock: &Lock) -> bool
     ensures stays { IsTrue result → link (seen view.now) instr.now lock.now ≡ lock.now ∷ [] }

@@ -5,7 +5,8 @@ ghost use Rattle.asl_lock_expr.specs.ClassOf.{base_class};
 ghost use Rattle.asl_lock_expr.specs.LinksView.{seen};
 ghost use Rattle.asl_lock_expr.specs.Touches.{IsClear, set_by, stored_by, is_concerned};
 
-use crate::link::{LinkContext, goes_through, is_register};
+use crate::link_context::LinkContext;
+use crate::path_tests::{goes_through, is_register};
 use crate::stay::{is_settled, is_stored_over};
 use asl_code::{Expr, Instr, Lock};
 

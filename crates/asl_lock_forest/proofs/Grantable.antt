@@ -12,11 +12,11 @@ use Rattle.asl_mode_lanes.proofs.ModeLaws.{compatible-NL}
 use Rattle.asl_lock_forest.specs.declared.node.Node.{Node}
 use Rattle.asl_lock_forest.specs.Keys.{Key, key, key_cmp}
 use Rattle.asl_lock_forest.specs.Holding.{Holding, held, Request, asked, CanGrant, goes_with, can_grant}
-use Rattle.asl_lock_forest.specs.Request.{IsRefused}
+use Rattle.asl_lock_forest.specs.Request.{IsRefusedRequest}
 use Rattle.asl_lock_forest.proofs.Laws.{tell_keys}
 
 -- who is in the way keeps the request from being granted
-pub refused_cannot : (h : Holding) (t : ℕ) (request : Request) → IsRefused h t request → CanGrant h t request → ⊥
+pub refused_cannot : (h : Holding) (t : ℕ) (request : Request) → IsRefusedRequest h t request → CanGrant h t request → ⊥
 refused_cannot h t request way can =
     let other = way.0 in
     let node = way.1 in
@@ -33,7 +33,7 @@ goes_there h t request k goes apart = elim (eqb_tells k.thread t) [
 
 module _ (h : Holding) (t : ℕ) (request : Request) where
   -- where the test fails for some of a list, the first for which it does is in the way
-  pub refused_by : {A : Type 0} (key_in : A → Key) (xs : List A) → list_all (λ x. goes_with h t request (key_in x)) xs ≡ false → IsRefused h t request
+  pub refused_by : {A : Type 0} (key_in : A → Key) (xs : List A) → list_all (λ x. goes_with h t request (key_in x)) xs ≡ false → IsRefusedRequest h t request
   refused_by key_in [] fails = let no = fails in cc
   refused_by key_in (x ∷ xs) fails =
       let k = key_in x in
@@ -44,7 +44,7 @@ module _ (h : Holding) (t : ℕ) (request : Request) where
             let goes = is_compatible (asked request k.node) (held h k.thread k.node) in
             let left : (goes && list_all (λ y. goes_with h t request (key_in y)) xs) ≡ false =
             sym (ap (λ b. (b || goes) && list_all (λ y. goes_with h t request (key_in y)) xs) other.0) ∙ fails in
-            elim goes as (λ b. goes ≡ b → IsRefused h t request) [
+            elim goes as (λ b. goes ≡ b → IsRefusedRequest h t request) [
               | true ↦ λ yes. refused_by key_in xs (sym (ap (λ b. b && list_all (λ y. goes_with h t request (key_in y)) xs) yes) ∙ left)
               | false ↦ λ clash. (k.thread, k.node, record { different = other.1; clashes = clash })
             ] refl
@@ -88,7 +88,7 @@ module _ (h : Holding) (t : ℕ) (request : Request) where
   CanGrant-tested can = goes_everywhere (map.keys h) can
 
   -- a request of which the test fails has someone in its way
-  pub can_grant-refused : can_grant h t request ≡ false → IsRefused h t request
+  pub can_grant-refused : can_grant h t request ≡ false → IsRefusedRequest h t request
   can_grant-refused e = refused_by (λ k. k) (map.keys h) e
 
   -- an answer that tells whether the request can be granted is that of the test

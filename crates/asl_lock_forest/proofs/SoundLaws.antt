@@ -10,7 +10,7 @@ use Rattle.asl_lock_forest.specs.Holding.{no_holding}
 use Rattle.asl_lock_forest.specs.Leaves.{zeros, width, IsWhole, IsKept, SameLeaves}
 use Rattle.asl_lock_forest.specs.declared.leaves.Leaves.{Leaves}
 use Rattle.asl_lock_forest.specs.declared.node.Node.TheVariants.{Root, Class, Leaf}
-use Rattle.asl_lock_forest.specs.Request.{IsRefused, GoesWithOthers, IsKeptFrom}
+use Rattle.asl_lock_forest.specs.Request.{IsRefusedRequest, GoesWithOthers, IsKeptFrom}
 use Rattle.asl_lock_forest.specs.Rows.{Blocks}
 use Rattle.asl_mode_lanes.specs.Mode.{is_compatible}
 use Rattle.std.specs.declared.result.Result.{Result}
@@ -179,7 +179,7 @@ blocked_kept {lists} sound t node want blocked =
 
 -- who blocks a node is in the way there
 pub blocked_refused : {classes threads : ℕ} {rows : Rows} {lists : List Request} → IsSound classes threads rows lists → (t : ℕ) (request : Request)
-    → (node : Node) × Blocks rows t node (asked request node) → IsRefused (holding_of lists) t request
+    → (node : Node) × Blocks rows t node (asked request node) → IsRefusedRequest (holding_of lists) t request
 blocked_refused {lists} sound t request blocked =
     let node = blocked.0 in
     let other = blocked.1.0 in (

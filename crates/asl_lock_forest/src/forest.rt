@@ -1,30 +1,13 @@
 //! The forest: who holds which node in which mode, with all that is asked granted at once or nothing of it.
-ghost use Rattle.std.specs.Prelude.{◌≡◌, ◌≢◌, ℕ, ◌↔◌, ◌<◌, ◌≤◌, false, IsTrue, IfOk, OnOk, OnErr, if◌then◌else◌, map, length, replicate, [], slice_set, slice_index_or};
+ghost use Rattle.std.specs.Prelude.{◌≡◌, ◌≢◌, ℕ, ◌↔◌, ◌<◌, ◌≤◌, false, IsTrue, IfOk, OnOk, OnErr, if◌then◌else◌, map, length};
 ghost use Rattle.asl_code.specs.Versions.{newest_threads};
 ghost use Rattle.asl_mode_lanes.specs.Mode.{is_at_most};
 ghost use Rattle.asl_lock_forest.specs.Node.{IsThere};
-ghost use Rattle.asl_lock_forest.specs.Holding.{
-  held,
-  asked,
-  no_holding,
-  HoldsNothing,
-  grant,
-  release,
-  CanGrant,
-  covering_mode,
-  Covers,
-};
-ghost use Rattle.asl_lock_forest.specs.Request.{
-  names_once,
-  asks_modes,
-  asks_parents,
-  IsOfClasses,
-  IsRefused,
-  GoesWithOthers,
-  IsKeptFrom,
-};
+ghost use Rattle.asl_lock_forest.specs.Holding.{held, no_holding, HoldsNothing, grant, release, CanGrant, covering_mode, Covers};
+ghost use Rattle.asl_lock_forest.specs.Request.{names_once, asks_modes, asks_parents, IsOfClasses, IsRefusedRequest, GoesWithOthers, IsKeptFrom};
 
 use crate::Node;
+use crate::held_lists::{forget, listed, no_lists, note, same_lists};
 use crate::rows::Rows;
 use asl_code::{Cell, Effect};
 use asl_mode_lanes::Mode;
@@ -68,7 +51,7 @@ impl Forest {
     ///
     /// # Errors
     ///
-    /// A growth was refused.
+    /// An allocation failed.
     pub fn new(alloc: Global, classes: u32, threads: u32) -> Result<Self, AllocError>
         requires some_threads { 1 ≤ threads }
         requires few_threads { threads ≤ newest_threads }
@@ -90,7 +73,7 @@ impl Forest {
     ///
     /// # Errors
     ///
-    /// A growth was refused.
+    /// An allocation failed.
     pub fn try_copy(&self, alloc: Global) -> Result<Self, AllocError>
         ensures { IfOk result (λ forest. forest ≡ self.now) }
     {
@@ -106,7 +89,7 @@ impl Forest {
     ///
     /// # Errors
     ///
-    /// A growth was refused, something is asked, and no other thread is in the way. Then nothing is granted.
+    /// An allocation failed, something is asked, and no other thread is in the way. Then nothing is granted.
     pub fn try_acquire(&mut self, thread: u32, request: &[(Node, Mode)]) -> Result<bool, AllocError>
         requires thread_there { thread < self.old.threads }
         requires nothing_held { HoldsNothing self.old.holding thread }
@@ -115,7 +98,7 @@ impl Forest {
         requires parents { IsTrue (asks_parents request.now) }
         requires classes_there { IsOfClasses self.old.classes request.now }
         ensures granted { IfOk result (λ all. IsTrue all ↔ CanGrant self.old.holding thread request.now) }
-        ensures refused { IfOk result (λ all. all ≡ false → IsRefused self.old.holding thread request.now) }
+        ensures refused { IfOk result (λ all. all ≡ false → IsRefusedRequest self.old.holding thread request.now) }
         ensures holding { IfOk result (λ all.
             self.new.holding ≡ (if all then grant self.old.holding thread request.now else self.old.holding)) }
         ensures classes { self.new.classes ≡ self.old.classes }
@@ -147,7 +130,7 @@ impl Forest {
     ///
     /// # Errors
     ///
-    /// A growth was refused, and something is asked. Then nothing is granted.
+    /// An allocation failed, and something is asked. Then nothing is granted.
     pub fn grant(&mut self, thread: u32, request: &[(Node, Mode)]) -> Result<(), AllocError>
         requires thread_there { thread < self.old.threads }
         requires nothing_held { HoldsNothing self.old.holding thread }
@@ -236,63 +219,4 @@ fn allows(mode: Mode, effect: Effect) -> bool
         Effect::Read => matches!(mode, Mode::S | Mode::SIX | Mode::X),
         Effect::Write => matches!(mode, Mode::X),
     }
-}
-
-/// The mode that the list has at the node.
-fn listed(own: &[(Node, Mode)], node: Node) -> Mode
-    ensures { result ≡ asked own.now node }
-{
-    for ask in own {
-        if ask.0.is_same(node) {
-            return ask.1;
-        }
-    }
-    Mode::NL
-}
-
-/// A list for each thread, with nothing in it.
-fn no_lists(alloc: Global, threads: u32) -> Result<Vec<Vec<(Node, Mode)>>, AllocError>
-    ensures { IfOk result (λ held. map (λ v. v.items) held.items ≡ replicate threads []) }
-{
-    let mut held = Vec::with_capacity(alloc, threads as usize)?;
-    for made in 0..threads {
-        held.push(Vec::new(alloc))?;
-    }
-    Ok(held)
-}
-
-/// The same lists.
-fn same_lists(
-    alloc: Global,
-    held: &[Vec<(Node, Mode)>],
-) -> Result<Vec<Vec<(Node, Mode)>>, AllocError>
-    ensures { IfOk result (λ copy. map (λ v. v.items) copy.items ≡ map (λ v. v.items) held.now) }
-{
-    let mut copy = Vec::with_capacity(alloc, held.len())?;
-    for own in held {
-        copy.push(own.as_slice().to_vec(alloc)?)?;
-    }
-    Ok(copy)
-}
-
-/// Writes what the thread asks into its list, which has nothing in it.
-fn note(
-    held: &mut Vec<Vec<(Node, Mode)>>,
-    thread: u32,
-    request: &[(Node, Mode)],
-) -> Result<(), AllocError>
-    requires there { thread < length held.old.items }
-    requires empty { slice_index_or (map (λ v. v.items) held.old.items) thread [] ≡ [] }
-    ensures ok { OnOk result (map (λ v. v.items) held.new.items ≡ slice_set (map (λ v. v.items) held.old.items) thread request.now) }
-    ensures err { OnErr result (map (λ v. v.items) held.new.items ≡ map (λ v. v.items) held.old.items) }
-{
-    held[thread as usize].extend_from_slice(request)
-}
-
-/// Empties the thread's list, and keeps its room.
-fn forget(held: &mut Vec<Vec<(Node, Mode)>>, thread: u32)
-    requires { thread < length held.old.items }
-    ensures { map (λ v. v.items) held.new.items ≡ slice_set (map (λ v. v.items) held.old.items) thread [] }
-{
-    held[thread as usize].clear();
 }

@@ -2,6 +2,7 @@
 #![tactic(auto)]
 
 mod forest;
+mod held_lists;
 mod holding_laws;
 mod leaf_hash;
 mod leaves;

@@ -423,7 +423,7 @@ module _ (image : Image) (s : State) (t : ℕ) (a : Activity) (sound : Satisfies
   line_apart (instr.Equals x y z) reply.Ran new here (inl e) = sets x (Int (pos 1)) new (number (Int (pos 1)) (λ o i f. cc)) e.sets
   line_apart (instr.Equals x y z) reply.Ran new here (inr e) = sets x (Int (pos 0)) new (number (Int (pos 0)) (λ o i f. cc)) e.sets
   line_apart (instr.GlobalAddress x g) reply.Ran new here e =
-      sets x (Addr g 0) new (global_value g (sound.fits.instr_fits a.top.function a.top.pc (sound.formed.placed t a is).function (instr.GlobalAddress x g) (sound.formed.placed t a is).lies here).1) e
+      sets x (Addr g 0) new (global_value g (sound.fits.instr_fits a.top.function a.top.pc (sound.formed.placed t a is).function (instr.GlobalAddress x g) (sound.formed.placed t a is).lies here).1.0) e
   line_apart (instr.FieldAddress x y n) reply.Ran new here e = sets x (Addr e.cell.object (e.cell.offset + n)) new (moved_value y (e.cell.offset + n) e.cell e.reads_address) e.sets
   line_apart (instr.FieldAddress x y n) (reply.Fault fault.Null) new here e = fails fault.Null new e.1
   line_apart (instr.FieldAddress x y n) (reply.Fault fault.BadType) new here e = fails fault.BadType new e.2

@@ -8,7 +8,7 @@ use Rattle.asl_code.specs.declared.value.Cell.{Cell}
 use Rattle.asl_code.specs.declared.value.Effect.{Effect}
 use Rattle.asl_code.specs.declared.lock.Lock.{Lock}
 use Rattle.asl_code.specs.declared.lock.Lock.TheVariants as lock
-use Rattle.asl_lock_expr.specs.Expression.{cell_denoted}
+use Rattle.asl_expression.specs.Expression.{cell_denoted}
 use Rattle.asl_mode_lanes.specs.declared.mode.Mode.{Mode}
 use Rattle.asl_mode_lanes.specs.declared.mode.Mode.TheVariants.{NL, IS, IX, S, SIX, X}
 use Rattle.asl_mode_lanes.specs.Mode.{AtMost, AreCompatible, join_of}

@@ -10,7 +10,7 @@ pub length-firsts : (first : ℕ) (fs : List Function) → length (firsts_from f
 length-firsts first [] = refl
 length-firsts first (f ∷ fs) = let l = length-firsts (first + f.len) fs in omega arith
 
--- the place of each function is the one behind those before it
+-- the place of each function is the one after those before it
 pub first_at : (first : ℕ) (fs : List Function) (n d : ℕ) → n < length fs → get_or (firsts_from first fs) n d ≡ first + first_of fs n
 first_at first [] n d lt = absurd (omega arith)
 first_at first (f ∷ fs) zero d lt = omega arith

@@ -12,7 +12,7 @@ nearest_is frames k begun waiting lt =
     ap reverse (take_more_set (set frames k begun) k waiting there ∙ ap (λ (xs : List Frame). xs ++ waiting ∷ []) (take-set frames k begun))
     ∙ reverse-append (take k frames) (waiting ∷ [])
 
--- a frame behind those that are below is none of them
+-- a frame after those that are below is none of them
 pub same_below : (frames more : List Frame) (ended : Frame) (k : ℕ) → k ≤ length frames → more ≡ frames ++ ended ∷ [] → reverse (take k more) ≡ reverse (take k frames)
 same_below frames more ended k le e = ap (λ (xs : List Frame). reverse (take k xs)) e ∙ ap reverse (take-append-le k frames (ended ∷ []) le)
 

@@ -11,7 +11,7 @@ use Rattle.asl_code.specs.declared.lock.Lock.{Lock}
 use Rattle.asl_mode_lanes.specs.declared.mode.Mode.TheVariants.{NL}
 use Rattle.asl_lock_forest.specs.declared.node.Node.{Node}
 use Rattle.asl_lock_forest.specs.Holding.{Holding, Request, CanGrant, asked, can_grant}
-use Rattle.asl_lock_forest.specs.Request.{IsRefused}
+use Rattle.asl_lock_forest.specs.Request.{IsRefusedRequest}
 use Rattle.asl_lock_forest.proofs.Grantable.{can_grant-tells, CanGrant-tested, can_grant-refused, refused_cannot}
 use Rattle.asl_machine.specs.declared.fate.Fate.{Fate}
 use Rattle.asl_machine.specs.declared.fate.Fate.TheVariants as fate
@@ -80,7 +80,7 @@ granted_runs image s t request e =
     )
 
 pub refused_waits : (image : Image) (s : State) (t : ℕ) (request : Request) → request_at image s t ≡ Some request
-    → ((step_of image s t).reply ≡ reply.Blocked) ↔ IsRefused s.holding t request
+    → ((step_of image s t).reply ≡ reply.Blocked) ↔ IsRefusedRequest s.holding t request
 refused_waits image s t request e =
     let told = asked_reply image s t request e in (
       λ blocked. can_grant-refused s.holding t request (blocked_taken (can_grant s.holding t request) (sym told ∙ blocked)),

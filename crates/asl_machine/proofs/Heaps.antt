@@ -11,7 +11,7 @@ use Rattle.asl_code.specs.declared.value.Value.{Value}
 use Rattle.asl_code.specs.declared.value.Value.TheVariants.{Int, Null, Addr}
 use Rattle.asl_code.specs.declared.value.Cell.{Cell}
 use Rattle.asl_machine.specs.State.{Object, cell_at, class_of, size_of, with_cell, written, new_object}
-use Rattle.asl_lock_expr.specs.Expression.{cell_of, pointed}
+use Rattle.asl_expression.specs.Expression.{cell_of, pointed}
 use Rattle.asl_machine.specs.StepFunction.{address_or_bounds, address_moved}
 use Rattle.asl_machine.specs.Access.{Points}
 use Rattle.asl_machine.specs.WellFormed.{AreWellFormed}
@@ -222,7 +222,7 @@ value_before objects more x v e =
       | Some p ↦ λ is f. cell_from _ x.offset p (get_before objects more x.object p is) ∙ f
     ] refl e
 
--- what is told of an object that is there is told of it when more are made
+-- what is reported of an object that is there is told of it when more are made
 pub read_before : {B : Type 0} (f : Object → B) (objects more : List Object) (n : ℕ) (b : B) → option_map f (slice_get objects n) ≡ Some b → option_map f (slice_get (objects ++ more) n) ≡ Some b
 read_before f objects more n b h =
     elim (slice_get objects n) as (λ o. slice_get objects n ≡ o → option_map f o ≡ Some b → option_map f (slice_get (objects ++ more) n) ≡ Some b) [

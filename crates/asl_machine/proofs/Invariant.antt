@@ -2,6 +2,7 @@
 -- of instructions.
 use Rattle.std.proofs.Common.{◌≡◌, ◌≢◌, ℕ, ℤ, ◌+◌, ◌-◌, ◌<◌, ◌≤◌, ◌⊎◌, ◌==◌, ◌++◌, zero, suc, pos, replicate, take, drop, map, length-append, Bool, true, false, cond, List, [], ◌∷◌, Option, Some, None, Result, Ok, Err, IfOk, length, set, slice_get, refl, ap, sym, ◌∙◌, subst, inl, inr, arith, length-set, eqb-true, eq-eqb, All}
 use Rattle.std.specs.Prelude.{int_lt, IsSomeAnd, option_and_then, unwrap_or}
+use Rattle.std.specs.List.{AllByRecursion}
 use Rattle.std.specs.Option.{option_map_or}
 use Rattle.std.proofs.lemmas.Bool.Decides.{eqb_tells}
 use Rattle.std.proofs.lemmas.Option.{slice_get_cases, slice_get_within, same_Some}
@@ -17,7 +18,10 @@ use Rattle.asl_code.specs.declared.value.Value.{Value}
 use Rattle.asl_code.specs.declared.value.Value.TheVariants.{Int, Null, Addr}
 use Rattle.asl_code.specs.declared.value.Cell.{Cell}
 use Rattle.asl_code.specs.declared.value.Effect.TheVariants.{Read, Write}
-use Rattle.asl_code.specs.Fits.{FitsImage, FitsInstr, FitsLock, HasLock, LiesIn}
+use Rattle.asl_code.specs.Operands.{operands}
+use Rattle.asl_code.specs.declared.operand.Operand.{Operand}
+use Rattle.asl_code.specs.declared.operand.Operand.TheVariants as operand
+use Rattle.asl_code.specs.Fits.{FitsImage, FitsOperand, FitsInstr, FitsLock, HasLock, LiesIn}
 use Rattle.asl_code.specs.Verified.{is_end}
 use Rattle.asl_code.proofs.FitsLaws.{lies_within}
 use Rattle.std.specs.FinMap as finite
@@ -35,9 +39,9 @@ use Rattle.asl_machine.specs.declared.fault.Fault.{Fault}
 use Rattle.asl_machine.specs.declared.fault.Fault.TheVariants as fault
 use Rattle.asl_machine.specs.Cover.{is_fresh}
 use Rattle.asl_machine.specs.State.{Object, Frame, Activity, Thread, Running, Done, Failed, State, cell_at, class_of, size_of, written, new_object, activity_of, activity_at, depth_at}
-use Rattle.asl_lock_expr.specs.Expression.{cell_of}
+use Rattle.asl_expression.specs.Expression.{cell_of}
 use Rattle.asl_machine.specs.Access.{Points, AllPoint, AreOfClasses}
-use Rattle.asl_machine.specs.Ready.{CanDo}
+use Rattle.asl_machine.specs.Ready.{CanUse, CanDo}
 use Rattle.asl_machine.specs.Request.{LockOfClass, locks_of, request_of}
 use Rattle.asl_machine.specs.Step.{placed_at, advanced, advanced_with, going_on, called, returned, with_fresh, made_fresh, having_made, left_last, after, is_zero}
 use Rattle.asl_machine.specs.StepFunction.{Left, Place, set_left, computed, added, subtracted, compared, truth, same_value, jump_left, show_left, address_moved, make_left, loaded, accessed_by, store_left, left_alone, call_left, return_left, activity_moved, acquire_left, release_left, left_by, left_at, turn_by, turn_of, step_at, step_of, register_of}
@@ -137,7 +141,7 @@ sound_after image s t thread objects holding sound lt m = record {
       elim (m.nodes u n ne) [ inl before ↦ kept (sound.there u n before) | inr new ↦ kept new ];
 }
 
--- what a running thread of a sound state is, where it is at an instruction that it goes on from
+-- what a running thread of a sound state is, where it is at an instruction that it continues from
 pub record Here (image : Image) (s : State) (t : ℕ) (a : Activity) : Type 0 where
   pub sound : SatisfiesInvariant image s
   pub there : t < length s.threads
@@ -180,7 +184,7 @@ follows_end image s t a v h z points = record {
   nodes = λ u n ne. inl ne;
 }
 
--- a thread that goes on in sound objects, with its holding as it was
+-- a thread that continues in sound objects, with its holding as it was
 follows_changes : (image : Image) (s : State) (t : ℕ) (a b : Activity) (objects : List Object) → Here image s t a → AreWellFormed image objects →
     ((v : Value) → Points s.objects v → Points objects v) → ((n class : ℕ) → class_of s.objects n ≡ Some class → class_of objects n ≡ Some class) →
     IsPlaced image objects b → (b.depth ≡ 0 → a.depth ≡ 0) → MayFollow image s t (Running b) objects s.holding
@@ -197,7 +201,7 @@ follows_changes image s t a b objects h sound grows classes placed shallow = rec
   nodes = λ u n ne. inl ne;
 }
 
--- a thread that goes on over the same objects, with its holding as it was
+-- a thread that continues over the same objects, with its holding as it was
 follows_goes : (image : Image) (s : State) (t : ℕ) (a b : Activity) → Here image s t a → IsPlaced image s.objects b → (b.depth ≡ 0 → a.depth ≡ 0) →
     MayFollow image s t (Running b) s.objects s.holding
 follows_goes image s t a b h placed shallow = follows_changes image s t a b s.objects h h.sound.formed.objects (λ v p. p) (λ n class e. e) placed shallow
@@ -239,7 +243,7 @@ follows_release image s t a b h placed = record {
   nodes = λ u n ne. inl (released_before s.holding t u n ne);
 }
 
--- ---- where a thread is after an instruction from which it goes on
+-- ---- where a thread is after an instruction from which it continues
 
 next_place : (image : Image) (objects : List Object) (a : Activity) (p : IsPlaced image objects a) (i : Instr) → FitsImage image → slice_get image.code a.top.pc ≡ Some i → is_end i ≡ false →
     LiesIn image a.top.function (a.top.pc + 1) p.function
@@ -557,32 +561,32 @@ follows_instr image s t a h (instr.Equals to left right) at fits =
     let same = same_value (register_of a.top left) (register_of a.top right) in
     follows_set image s t a h (next_place image s.objects a h.placed _ h.sound.fits at refl) to (Ok (truth same)) (truth_points s.objects same)
 follows_instr image s t a h (instr.GlobalAddress to global) at fits =
-    follows_set image s t a h (next_place image s.objects a h.placed _ h.sound.fits at refl) to (Ok (Addr global 0)) (global_points image s.objects global h.sound.formed.objects fits.1)
+    follows_set image s t a h (next_place image s.objects a h.placed _ h.sound.fits at refl) to (Ok (Addr global 0)) (global_points image s.objects global h.sound.formed.objects fits.1.0)
 follows_instr image s t a h (instr.FieldAddress to from places) at fits =
     follows_set image s t a h (next_place image s.objects a h.placed _ h.sound.fits at refl) to (address_moved s.objects places (register_of a.top from))
     (moved_points s.objects places (register_of a.top from))
 follows_instr image s t a h (instr.New to cells class) at fits =
-    follows_make image s t a h (next_place image s.objects a h.placed _ h.sound.fits at refl) to cells class fits.2 fits.1
+    follows_make image s t a h (next_place image s.objects a h.placed _ h.sound.fits at refl) to cells class fits.1.1.0 fits.1.0
 follows_instr image s t a h (instr.Load to address) at fits =
     let target = accessed_by (here_place s t a) Read address in
     follows_set image s t a h (next_place image s.objects a h.placed _ h.sound.fits at refl) to (loaded s.objects target) (loaded_points image s.objects target h.sound.formed.objects)
 follows_instr image s t a h (instr.Store address from) at fits =
     follows_store image s t a h (next_place image s.objects a h.placed _ h.sound.fits at refl) (register_of a.top from) (accessed_by (here_place s t a) Write address)
     (register_points s.objects a from h.placed.points)
-follows_instr image s t a h (instr.Jump target) at fits = follows_jump image s t a h target fits
+follows_instr image s t a h (instr.Jump target) at fits = follows_jump image s t a h target fits.0
 follows_instr image s t a h (instr.JumpIfZero test target) at fits =
     let next = next_place image s.objects a h.placed _ h.sound.fits at refl in
     follows_jump image s t a h _
-    (either_lies image a.top.function target (a.top.pc + 1) h.placed.function (is_zero (register_of a.top test)) fits.1 next)
+    (either_lies image a.top.function target (a.top.pc + 1) h.placed.function (is_zero (register_of a.top test)) fits.1.0 next)
 follows_instr image s t a h (instr.Output from) at fits =
     follows_show image s t a h (next_place image s.objects a h.placed _ h.sound.fits at refl) (register_of a.top from)
 follows_instr image s t a h (instr.Call to first function) at fits =
-    follows_call image s t a h to first function fits.1.0 at fits.1.1 fits.1.2 (next_place image s.objects a h.placed _ h.sound.fits at refl)
+    follows_call image s t a h to first function fits.1.0.0 at fits.1.0.1 fits.1.0.2 (next_place image s.objects a h.placed _ h.sound.fits at refl)
 follows_instr image s t a h (instr.Return from) at fits =
     follows_return image s t a h (register_of a.top from) (register_points s.objects a from h.placed.points)
 follows_instr image s t a h (instr.Acquire list) at fits =
-    follows_enter image s t a h (next_place image s.objects a h.placed _ h.sound.fits at refl) (locks_of image list) (locks_fit image h.placed.function list fits.0 fits.1 fits.2)
-    (subst (All (HasLock image)) (sym (ap (λ o. unwrap_or o []) fits.1)) (h.sound.fits.list_fits list fits.0 fits.1))
+    follows_enter image s t a h (next_place image s.objects a h.placed _ h.sound.fits at refl) (locks_of image list) (locks_fit image h.placed.function list fits.0.0 fits.0.1 fits.0.2)
+    (subst (All (HasLock image)) (sym (ap (λ o. unwrap_or o []) fits.0.1)) (h.sound.fits.list_fits list fits.0.0 fits.0.1))
 follows_instr image s t a h instr.Release at fits = follows_leave image s t a h (next_place image s.objects a h.placed _ h.sound.fits at refl)
 
 -- ---- the step
@@ -633,28 +637,20 @@ step_sound image s t sound =
 
 -- ---- what the code's steps stand on
 
+can_use : (image : Image) (a : Activity) (n : ℕ) (f : Function) (o : Operand) → length a.top.regs ≡ f.regs → FitsOperand image n f o → CanUse image a.top o
+can_use image a n f (operand.Register register) e h = omega (arith, e, h)
+can_use image a n f (operand.Callee first function) e h =
+    let params = ap (λ (g : Function). g.params) (function_is image function h.0 h.1) in
+    (slice_get_within image.functions function h.0 h.1, omega (arith, e, params, h.2))
+can_use image a n f (operand.Locks list) e h = (slice_get_within image.lists list h.0 h.1, locks_fit image f list h.0 h.1 h.2)
+can_use image a n f o e h = tt
+
+can_use_all : (image : Image) (a : Activity) (n : ℕ) (f : Function) (os : List Operand) → length a.top.regs ≡ f.regs → AllByRecursion (FitsOperand image n f) os → AllByRecursion (CanUse image a.top) os
+can_use_all image a n f [] e h = tt
+can_use_all image a n f (o ∷ os) e h = (can_use image a n f o e h.0, can_use_all image a n f os e h.1)
+
 can_do : (image : Image) (a : Activity) (n : ℕ) (f : Function) (i : Instr) → length a.top.regs ≡ f.regs → FitsInstr image n f i → CanDo image a.top i
-can_do image a n f (instr.SetInt to number) e h = omega arith
-can_do image a n f (instr.SetNull to) e h = omega arith
-can_do image a n f (instr.Move to from) e h = (omega (arith, h.0), omega (arith, h.1))
-can_do image a n f (instr.Add to left right) e h = (omega (arith, h.0), omega (arith, h.1), omega (arith, h.2))
-can_do image a n f (instr.Subtract to left right) e h = (omega (arith, h.0), omega (arith, h.1), omega (arith, h.2))
-can_do image a n f (instr.LessThan to left right) e h = (omega (arith, h.0), omega (arith, h.1), omega (arith, h.2))
-can_do image a n f (instr.Equals to left right) e h = (omega (arith, h.0), omega (arith, h.1), omega (arith, h.2))
-can_do image a n f (instr.Jump target) e h = tt
-can_do image a n f (instr.JumpIfZero test target) e h = omega (arith, h.0)
-can_do image a n f (instr.Output from) e h = omega arith
-can_do image a n f (instr.GlobalAddress to global) e h = omega (arith, h.0)
-can_do image a n f (instr.FieldAddress to from places) e h = (omega (arith, h.0), omega (arith, h.1))
-can_do image a n f (instr.New to cells class) e h = omega (arith, h.0)
-can_do image a n f (instr.Load to address) e h = (omega (arith, h.0), omega (arith, h.1))
-can_do image a n f (instr.Store address from) e h = (omega (arith, h.0), omega (arith, h.1))
-can_do image a n f (instr.Call to first function) e h =
-    let params = ap (λ (g : Function). g.params) (function_is image function h.1.0 h.1.1) in
-    (slice_get_within image.functions function h.1.0 h.1.1, omega (arith, h.1.2))
-can_do image a n f (instr.Return from) e h = omega arith
-can_do image a n f (instr.Acquire list) e h = (slice_get_within image.lists list h.0 h.1, locks_fit image f list h.0 h.1 h.2)
-can_do image a n f instr.Release e h = tt
+can_do image a n f i e h = can_use_all image a n f (operands i) e h
 
 -- where a frame waits below, it has the register that awaits
 pub awaited_below : (image : Image) (objects : List Object) (above : ℕ) (result : Option ℕ) (frames : List Frame) → FitsImage image → AreSuspended image objects above result frames → IsAwaited result frames

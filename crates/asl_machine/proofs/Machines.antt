@@ -98,7 +98,7 @@ step_table image objects forest threads t r new m lt e f =
     let old = state_of objects forest.holding threads in
     subst (λ x. Step image old t x new) (sym e) (subst (Step image old t (step_of image old t).reply) (sym f) (step_is image old t m.sound lt))
 
--- the reply decides whether someone goes on, who does so in the new state as in the old
+-- the reply decides whether someone continues, who does so in the new state as in the old
 pub step_blocked : (image : Image) (objects : List Object) (forest : Held) (threads : List Thread) (t : ℕ) (r : Reply) → IsMachine image objects forest threads →
     r ≡ (step_of image (state_of objects forest.holding threads) t).reply → r ≡ Blocked → SomeoneGoesOn image (state_of objects forest.holding threads)
 step_blocked image objects forest threads t r m e b = someone_goes_on image (state_of objects forest.holding threads) t m.sound (sym e ∙ b)

@@ -25,7 +25,7 @@ use Rattle.asl_lock_forest.specs.Holding.{Holding, Request, HoldsNothing, asked,
 use Rattle.asl_lock_forest.proofs.Laws.{tell_nodes, held_grant_own, held_grant_other, held_release_own, held_release_other}
 use Rattle.asl_machine.specs.State.{Object, cell_at, class_of}
 use Rattle.asl_machine.specs.Access.{Points, AllPoint, AreOfClasses}
-use Rattle.asl_lock_expr.specs.Expression.{pointed, base_cell, walked, path_cell, cell_denoted}
+use Rattle.asl_expression.specs.Expression.{pointed, base_cell, walked, path_cell, cell_denoted}
 use Rattle.asl_machine.specs.Request.{heap_of, leaf_asks, cell_asks, asks_of, all_asks, joined_all, request_of, IsAsk}
 use Rattle.asl_machine.specs.StepFunction.{address_or_bounds}
 use Rattle.asl_machine.specs.WellFormed.{AreWellFormed}

@@ -24,7 +24,7 @@ use Rattle.asl_lock_forest.specs.Request.{names, names_once, asks_modes, asks_pa
 use Rattle.asl_lock_forest.proofs.Laws.{tell_nodes}
 use Rattle.asl_machine.specs.State.{Object, class_of}
 use Rattle.asl_machine.specs.Access.{AreOfClasses}
-use Rattle.asl_lock_expr.specs.Expression.{cell_denoted}
+use Rattle.asl_expression.specs.Expression.{cell_denoted}
 use Rattle.asl_machine.specs.Request.{LockOfClass, IsAsk, IsLeast, asks_of, cell_asks, leaf_asks, all_asks, upper_mode, joined_with, joined_all, request_of, heap_of}
 
 -- ---- one ask more

@@ -18,7 +18,7 @@ use Rattle.asl_machine.specs.declared.fate.Fate.TheVariants as fate
 use Rattle.asl_machine.specs.declared.fault.Fault.TheVariants as fault
 use Rattle.asl_machine.specs.declared.reply.Reply.TheVariants as reply
 use Rattle.asl_machine.specs.State.{Object, Frame, Activity, Thread, Running, Done, Failed, State, cell_at, size_of, new_object}
-use Rattle.asl_lock_expr.specs.Expression.{cell_of}
+use Rattle.asl_expression.specs.Expression.{cell_of}
 use Rattle.asl_machine.specs.Cover.{cover}
 use Rattle.asl_machine.specs.Access.{Points}
 use Rattle.asl_machine.specs.Calls.{frame_count, with_result, IsAwaited}
@@ -258,57 +258,57 @@ line_there image s t a h here (instr.SetInt to number) fits = refl
 line_there image s t a h here (instr.SetNull to) fits = refl
 line_there image s t a h here (instr.Move to from) fits =
     let count = h.placed.registers in
-    record { value = register_of a.top from; reads_value = read_there a from (omega (arith, fits.1)); sets = refl }
+    record { value = register_of a.top from; reads_value = read_there a from (omega (arith, fits.1.0)); sets = refl }
 line_there image s t a h here (instr.Add to left right) fits =
     let count = h.placed.registers in
     computed_line (at_of image s t a) (instr.Add to left right) added to left right (λ x y p q. record { x = x; y = y; reads_left = p; reads_right = q; sets = refl }) (λ n k. k)
     (register_of a.top left) (register_of a.top right)
-    (read_there a left (omega (arith, fits.1))) (read_there a right (omega (arith, fits.2)))
+    (read_there a left (omega (arith, fits.1.0))) (read_there a right (omega (arith, fits.1.1.0)))
 line_there image s t a h here (instr.Subtract to left right) fits =
     let count = h.placed.registers in
     computed_line (at_of image s t a) (instr.Subtract to left right) subtracted to left right (λ x y p q. record { x = x; y = y; reads_left = p; reads_right = q; sets = refl }) (λ n k. k)
     (register_of a.top left) (register_of a.top right)
-    (read_there a left (omega (arith, fits.1))) (read_there a right (omega (arith, fits.2)))
+    (read_there a left (omega (arith, fits.1.0))) (read_there a right (omega (arith, fits.1.1.0)))
 line_there image s t a h here (instr.LessThan to left right) fits =
     let count = h.placed.registers in
     computed_line (at_of image s t a) (instr.LessThan to left right) compared to left right (below_line (at_of image s t a) to left right) (λ n k. k)
     (register_of a.top left) (register_of a.top right)
-    (read_there a left (omega (arith, fits.1))) (read_there a right (omega (arith, fits.2)))
+    (read_there a left (omega (arith, fits.1.0))) (read_there a right (omega (arith, fits.1.1.0)))
 line_there image s t a h here (instr.Equals to left right) fits =
     let count = h.placed.registers in
     equal_line (at_of image s t a) to left right (register_of a.top left) (register_of a.top right)
-    (read_there a left (omega (arith, fits.1))) (read_there a right (omega (arith, fits.2)))
+    (read_there a left (omega (arith, fits.1.0))) (read_there a right (omega (arith, fits.1.1.0)))
 line_there image s t a h here (instr.GlobalAddress to global) fits = refl
 line_there image s t a h here (instr.FieldAddress to from places) fits =
     let count = h.placed.registers in
-    let read = read_there a from (omega (arith, fits.1)) in
+    let read = read_there a from (omega (arith, fits.1.0)) in
     field_line (at_of image s t a) to from places (register_of a.top from) read (h.placed.points from (register_of a.top from) read)
 line_there image s t a h here (instr.New to cells class) fits = make_line (at_of image s t a) to cells class h.sound.formed.objects.few
 line_there image s t a h here (instr.Load to address) fits =
     let count = h.placed.registers in
-    let read = read_there a address (omega (arith, fits.1)) in
+    let read = read_there a address (omega (arith, fits.1.0)) in
     load_line (at_of image s t a) to address (register_of a.top address) read (h.placed.points address (register_of a.top address) read)
 line_there image s t a h here (instr.Store address from) fits =
     let count = h.placed.registers in
     store_line (at_of image s t a) address from (register_of a.top address) (register_of a.top from)
-    (read_there a address (omega (arith, fits.0))) (read_there a from (omega (arith, fits.1)))
+    (read_there a address (omega (arith, fits.0))) (read_there a from (omega (arith, fits.1.0)))
 line_there image s t a h here (instr.Jump target) fits = refl
 line_there image s t a h here (instr.JumpIfZero test target) fits =
     let count = h.placed.registers in
     jump_line (at_of image s t a) test target (register_of a.top test) (read_there a test (omega (arith, fits.0)))
 line_there image s t a h here (instr.Output from) fits =
     let count = h.placed.registers in
-    record { reads_value = read_there a from (omega arith); goes_on = refl }
-line_there image s t a h here (instr.Call to first function) fits = call_line (at_of image s t a) to first function fits.1.0 fits.1.1 h.placed.few
+    record { reads_value = read_there a from (omega (arith, fits.0)); goes_on = refl }
+line_there image s t a h here (instr.Call to first function) fits = call_line (at_of image s t a) to first function fits.1.0.0 fits.1.0.1 h.placed.few
 line_there image s t a h here (instr.Return from) fits =
     let count = h.placed.registers in
     return_line (at_of image s t a) from (register_of a.top from) a.below refl (awaited_below image s.objects a.top.function a.top.result a.below h.sound.fits h.placed.below)
-    (read_there a from (omega arith))
+    (read_there a from (omega (arith, fits.0)))
 line_there image s t a h here (instr.Acquire list) fits =
     let request = request_of s.objects a.top.regs (locks_of image list) in
     let free = can_grant s.holding t request in
     acquire_lines (at_of image s t a) list request (a.depth == 0) (a.depth == 255) free refl refl h.placed.depth
-    (λ none. record { locks = fits.0; outside = none; listed = fits.1; is = ap (λ o. request_of s.objects a.top.regs (unwrap_or o [])) fits.1 })
+    (λ none. record { locks = fits.0.0; outside = none; listed = fits.0.1; is = ap (λ o. request_of s.objects a.top.regs (unwrap_or o [])) fits.0.1 })
     (λ e. can_grant-tells s.holding t request e)
     (λ e g. let yes = CanGrant-tested s.holding t request g in cc)
     here

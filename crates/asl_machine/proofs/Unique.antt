@@ -21,7 +21,7 @@ use Rattle.asl_machine.specs.declared.reply.Reply.TheVariants as reply
 use Rattle.asl_machine.specs.State.{Object, Frame, Activity, Thread, Running, Done, Failed, State, cell_at, size_of, written, new_object}
 use Rattle.asl_machine.specs.Calls.{frame_count, with_register, with_result}
 use Rattle.asl_machine.specs.Cover.{cover}
-use Rattle.asl_lock_expr.specs.Expression.{cell_of}
+use Rattle.asl_expression.specs.Expression.{cell_of}
 use Rattle.asl_machine.specs.Request.{locks_of, request_of}
 use Rattle.asl_machine.specs.Step.{At, advanced, going_on, called, returned, having_made, left_last, after, Reads, ReadsAddress, is_allowed, Sets, ContinuesAt, GoesTo, Fails, are_integers, FailsOperands, is_zero, ReturnsTo, Asks, Line, StepOf, Step}
 use Rattle.asl_machine.specs.StepFunction.{Left, set_left, computed, added, subtracted, compared, truth, same_value, jump_left, address_or_bounds, address_moved, make_left, allowed_cell, loaded, accessed, accessed_by, store_left, left_alone, return_fate, call_left, return_left, activity_moved, acquire_left, release_left, left_by, left_at, turn_by, step_at, step_of, register_of}

@@ -10,7 +10,7 @@ use Rattle.asl_code.specs.declared.value.Cell.{Cell}
 use Rattle.asl_code.specs.declared.value.Effect.{Effect}
 use Rattle.asl_machine.specs.Cover.{Cover, allows}
 use Rattle.asl_machine.specs.State.{Object, class_of, cell_at}
-use Rattle.asl_lock_expr.specs.Expression.{cell_of}
+use Rattle.asl_expression.specs.Expression.{cell_of}
 
 -- whether a thread that is in so many sections may access the cell: it is in one, and the cell is covered for it
 abbrev pub is_protected : Cover → List Object → ℕ → ℕ → Effect → Cell → Bool

@@ -17,6 +17,6 @@ frame_at s t index = option_and_then (λ a. slice_get (frames_of a) index) (acti
 abbrev pub frame_reg_at : State → ℕ → ℕ → ℕ → Option Value
 frame_reg_at s t index register = option_and_then (λ (f : Frame). slice_get f.regs register) (frame_at s t index)
 
--- the function of a frame, and where it goes on
+-- the function of a frame, and where it continues
 abbrev pub place_of : Frame → FramePlace
 place_of f = record { function = f.function; pc = f.pc }

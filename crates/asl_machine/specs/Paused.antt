@@ -1,4 +1,4 @@
--- A machine that is kept without its program, until it goes on over the same program.
+-- A machine that is kept without its program, until it continues over the same program.
 use Rattle.std.specs.Prelude.{◌≡◌, ℕ, List}
 use Rattle.asl_code.specs.declared.image.Image.{Image}
 use Rattle.asl_machine.specs.State.{State}
@@ -12,7 +12,7 @@ pub record Rest : Type 0 where
   pub classes : ℕ
   pub threads : ℕ
 
--- it is what is left of a machine of this program; who pauses a machine gets it, and who lets it go on gives it
+-- it is what is left of a machine of this program; who pauses a machine gets it, and who lets it continue gives it
 pub record IsRestOf (image : Image) (rest : Rest) : Type 0 where
   pub machine : IsMachine image rest.state.objects (record { classes = rest.classes; threads = rest.threads; holding = rest.state.holding }) rest.state.threads
   pub begins : rest.firsts ≡ firsts_from 0 image.functions

@@ -1,10 +1,14 @@
 -- Machinery of the proofs, not of the promise: what private functions want of a state so that an instruction can be done
 -- in it, what a machine's parts keep, and what they are to contracts (docs/INSTRUCTIONS.md).
 use Rattle.std.specs.Prelude.{◌≡◌, ◌<◌, ◌≤◌, ◌+◌, ◌^◌, ℕ, Bool, true, false, List, [], ◌∷◌, length, All, slice_get, IsSomeAnd}
+use Rattle.std.specs.List.{AllByRecursion}
+use Rattle.asl_code.specs.Operands.{operands}
+use Rattle.asl_code.specs.declared.operand.Operand.{Operand}
+use Rattle.asl_code.specs.declared.operand.Operand.TheVariants as operand
 use Rattle.asl_code.specs.declared.image.Function.{Function}
 use Rattle.asl_code.specs.declared.image.Image.{Image}
 use Rattle.asl_code.specs.declared.instr.Instr.{Instr}
-use Rattle.asl_code.specs.declared.instr.Instr.TheVariants.{SetInt, SetNull, Move, Add, Subtract, LessThan, Equals, GlobalAddress, FieldAddress, Load, Store, New, Jump, JumpIfZero, Call, Return, Output, Acquire, Release}
+use Rattle.asl_code.specs.declared.instr.Instr.TheVariants.{Load, Store, New, Call, Output, Acquire, Release}
 use Rattle.asl_code.specs.Fits.{FitsImage}
 use Rattle.asl_code.specs.Verified.{IsVerified}
 use Rattle.asl_lock_forest.specs.Held.{Held}
@@ -30,28 +34,17 @@ thread_of (stage.Running activity) = Running activity
 thread_of (stage.Done value) = Done value
 thread_of (stage.Failed f) = Failed f
 
--- the registers, globals and lists that the instruction names are there, and the classes that its locks name
+-- the register, function or list that the operand names is there, with the arguments of the call and the classes that the
+-- locks name
+abbrev pub CanUse : Image → Frame → Operand → Type 0
+CanUse image f (operand.Register register) = register < length f.regs
+CanUse image f (operand.Callee first function) = (function < length image.functions) × (first + (function_of image function).params ≤ length f.regs)
+CanUse image f (operand.Locks list) = (list < length image.lists) × All (LockOfClass image.classes) (locks_of image list)
+CanUse image f other = Unit {0}
+
+-- so is what each operand of the instruction names
 abbrev pub CanDo : Image → Frame → Instr → Type 0
-CanDo image f (SetInt to number) = to < length f.regs
-CanDo image f (SetNull to) = to < length f.regs
-CanDo image f (Move to from) = (to < length f.regs) × (from < length f.regs)
-CanDo image f (Add to left right) = (to < length f.regs) × (left < length f.regs) × (right < length f.regs)
-CanDo image f (Subtract to left right) = (to < length f.regs) × (left < length f.regs) × (right < length f.regs)
-CanDo image f (LessThan to left right) = (to < length f.regs) × (left < length f.regs) × (right < length f.regs)
-CanDo image f (Equals to left right) = (to < length f.regs) × (left < length f.regs) × (right < length f.regs)
-CanDo image f (GlobalAddress to global) = to < length f.regs
-CanDo image f (FieldAddress to from places) = (to < length f.regs) × (from < length f.regs)
-CanDo image f (Load to address) = (to < length f.regs) × (address < length f.regs)
-CanDo image f (Store address from) = (address < length f.regs) × (from < length f.regs)
-CanDo image f (New to cells class) = to < length f.regs
-CanDo image f (Jump target) = Unit {0}
-CanDo image f (JumpIfZero test target) = test < length f.regs
-CanDo image f (Call to first function) =
-    (function < length image.functions) × (first + (function_of image function).params ≤ length f.regs)
-CanDo image f (Return from) = from < length f.regs
-CanDo image f (Output from) = from < length f.regs
-CanDo image f (Acquire list) = (list < length image.lists) × All (LockOfClass image.classes) (locks_of image list)
-CanDo image f Release = Unit {0}
+CanDo image f instr = AllByRecursion (CanUse image f) (operands instr)
 
 -- whether the instruction changes the frames of its thread alone, asks for no lock and no memory, and shows nothing
 abbrev pub is_local : Instr → Bool

@@ -17,7 +17,7 @@ use Rattle.asl_lock_forest.specs.declared.node.Node.{Node}
 use Rattle.asl_lock_forest.specs.declared.node.Node.TheVariants.{Root, Class, Leaf}
 use Rattle.asl_lock_forest.specs.Node.{same_node}
 use Rattle.asl_lock_forest.specs.Holding.{Request, asked, covering_mode}
-use Rattle.asl_lock_expr.specs.Expression.{Seen, cell_denoted}
+use Rattle.asl_expression.specs.Expression.{Seen, cell_denoted}
 use Rattle.asl_machine.specs.State.{Object, cell_at, size_of, class_of}
 
 -- the heap that evaluations see

@@ -98,17 +98,17 @@ ReadsAddress at register cell = Reads at register (Addr cell.object cell.offset)
 abbrev pub is_allowed : At → Effect → Cell → Bool
 is_allowed at = is_protected (cover at.state.holding at.activity.fresh) at.state.objects at.thread at.activity.depth
 
--- the thread goes on at its next instruction, with the value in the register
+-- the thread continues at its next instruction, with the value in the register
 abbrev pub Sets : At → ℕ → Value → State → Type 0
 Sets at register value new =
     new ≡ after at.state at.thread (Running (going_on at.activity at.activity.depth (advanced_with register value at.activity.top))) at.state.objects at.state.holding
 
--- the thread goes on at its next instruction, in so many sections, over these objects and under this holding
+-- the thread continues at its next instruction, in so many sections, over these objects and under this holding
 abbrev pub ContinuesAt : At → ℕ → List Object → Holding → State → Type 0
 ContinuesAt at depth objects holding new =
     new ≡ after at.state at.thread (Running (going_on at.activity depth (advanced at.activity.top))) objects holding
 
--- the thread goes on at this place of the code
+-- the thread continues at this place of the code
 abbrev pub GoesTo : At → ℕ → State → Type 0
 GoesTo at target new =
     new ≡ after at.state at.thread (Running (going_on at.activity at.activity.depth (placed_at target at.activity.top))) at.state.objects at.state.holding

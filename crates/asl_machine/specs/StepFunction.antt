@@ -23,7 +23,7 @@ use Rattle.asl_machine.specs.State.{Object, Frame, Activity, Thread, Running, Do
 use Rattle.asl_machine.specs.Calls.{frame_count, with_result}
 use Rattle.asl_machine.specs.Cover.{Cover, cover}
 use Rattle.asl_machine.specs.Access.{is_protected}
-use Rattle.asl_lock_expr.specs.Expression.{cell_of, moved}
+use Rattle.asl_expression.specs.Expression.{cell_of, moved}
 use Rattle.asl_machine.specs.Request.{heap_of, request_of, locks_of}
 use Rattle.asl_machine.specs.Step.{placed_at, advanced, advanced_with, going_on, called, returned, having_made, left_last, after, is_zero}
 
@@ -57,7 +57,7 @@ left_alone p f = record { fate = f; activity = p.activity; objects = p.objects; 
 abbrev pub register_of : Frame → ℕ → Value
 register_of f register = unwrap_or (slice_get f.regs register) Null
 
--- what becomes of a thread that goes on with this, or fails
+-- what becomes of a thread that continues with this, or fails
 abbrev pub fate_of : {T : Type 0} → Result T Fault → Fate
 fate_of (Ok x) = fate.Continues
 fate_of (Err f) = fate.Fails f
@@ -168,12 +168,12 @@ abbrev pub store_left : Place → Value → Result Cell Fault → Left
 store_left p value target =
     record { fate = fate_of target; activity = activity_stored p.activity target; objects = objects_stored p.objects value target; holding = p.holding }
 
--- the thread goes on at this place of the code
+-- the thread continues at this place of the code
 abbrev pub jump_left : Place → ℕ → Left
 jump_left p target =
     record { fate = fate.Continues; activity = going_on p.activity p.activity.depth (placed_at target p.activity.top); objects = p.objects; holding = p.holding }
 
--- the thread goes on, and shows the value
+-- the thread continues, and shows the value
 abbrev pub show_left : Place → Value → Left
 show_left p value =
     record { fate = fate.Shows value; activity = going_on p.activity p.activity.depth (advanced p.activity.top); objects = p.objects; holding = p.holding }
@@ -225,7 +225,7 @@ abbrev pub acquire_fate : ℕ → Bool → Fate
 acquire_fate depth free =
     if depth == 0 then (if free then fate.Continues else fate.Waits) else if depth == 255 then fate.Fails fault.Deep else fate.Continues
 
--- where a thread is that goes on in another number of sections, or does not go on
+-- where a thread is that continues in another number of sections, or does not continue
 abbrev pub activity_moved : Fate → ℕ → Activity → Activity
 activity_moved fate.Continues depth a = going_on a depth (advanced a.top)
 activity_moved (fate.Shows value) depth a = a

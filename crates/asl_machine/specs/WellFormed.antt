@@ -19,7 +19,7 @@ use Rattle.asl_machine.specs.Access.{Points, AllPoint, AreOfClasses}
 use Rattle.asl_machine.specs.Nodes.{IsNode}
 use Rattle.asl_machine.specs.Request.{request_of, locks_of}
 
--- a frame waits behind the `call` of its own function's body that made the frame above, which is of this function and
+-- a frame waits after the `call` of its own function's body that made the frame above, which is of this function and
 -- whose value goes to this register; it has its function's registers, and every address in them is a cell's
 pub record IsSuspended (image : Image) (objects : List Object) (above : ℕ) (result : Option ℕ) (frame : Frame) : Type 0 where
   pub function : Function

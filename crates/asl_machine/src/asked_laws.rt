@@ -5,7 +5,7 @@ ghost use Rattle.asl_code.specs.Verified.{IsVerified};
 ghost use Rattle.asl_mode_lanes.specs.declared.mode.Mode.TheVariants.{NL};
 ghost use Rattle.asl_lock_forest.specs.declared.node.Node.{Node};
 ghost use Rattle.asl_lock_forest.specs.Holding.{Request, CanGrant, asked};
-ghost use Rattle.asl_lock_forest.specs.Request.{IsRefused};
+ghost use Rattle.asl_lock_forest.specs.Request.{IsRefusedRequest};
 ghost use Rattle.asl_machine.specs.declared.reply.Reply.{Reply};
 ghost use Rattle.asl_machine.specs.State.{State};
 ghost use Rattle.asl_machine.specs.Asked.{request_at};
@@ -19,7 +19,7 @@ pub fn requests_are_granted()
     ensures granted { (image : Image) (s : State) (t : ℕ) (request : Request) → request_at image s t ≡ Some request
         → ((step_of image s t).reply ≡ Reply.Ran) ↔ CanGrant s.holding t request }
     ensures blocked { (image : Image) (s : State) (t : ℕ) (request : Request) → request_at image s t ≡ Some request
-        → ((step_of image s t).reply ≡ Reply.Blocked) ↔ IsRefused s.holding t request }
+        → ((step_of image s t).reply ≡ Reply.Blocked) ↔ IsRefusedRequest s.holding t request }
     ensures there { (image : Image) (count : ℕ) (s : State) (t : ℕ) (request : Request) (node : Node) → IsVerified image
         → IsReached image count s → request_at image s t ≡ Some request → asked request node ≢ NL
         → IsNode image.classes s.objects node }

@@ -6,9 +6,9 @@ use asl_code::Value;
 /// What becomes of a thread by an instruction of its own.
 #[derive(Clone, Copy)]
 pub enum Fate {
-    /// It goes on.
+    /// It continues.
     Continues,
-    /// It goes on, and shows this value.
+    /// It continues, and shows this value.
     Shows(Value),
     /// It has ended with this value.
     Ends(Value),

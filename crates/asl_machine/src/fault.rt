@@ -36,7 +36,7 @@ pub enum MachineFault {
     /// There is no such thread.
     #[error("BadThread")]
     BadThread,
-    /// A growth was refused.
+    /// An allocation failed.
     #[error("OutOfMemory")]
     OutOfMemory,
 }

@@ -6,17 +6,17 @@ ghost use Rattle.asl_machine.specs.Calls.{IsAwaited};
 ghost use Rattle.asl_machine.specs.Ready.{CanDo, is_local};
 ghost use Rattle.asl_machine.specs.StepFunction.{place, left_with, left_by, fate_of, activity_set, register_of, address_moved};
 
-use crate::code::Code;
-use crate::control::{give, jump, jump_if_zero};
+use crate::activity::Activity;
 use crate::fate::Fate;
 use crate::fault::Fault;
-use crate::frame::Activity;
 use crate::heap::Heap;
 use crate::packed_value::PackedValue;
+use crate::program_code::Code;
+use crate::thread_control::{give, jump, jump_if_zero};
 use crate::values::{comparison, difference, equality, moved_on, sum};
 use asl_code::{Instr, Value};
 
-/// Does the instruction if it is local and the thread goes on behind it: whether that is so. This is all that most steps do,
+/// Does the instruction if it is local and the thread continues after it: whether that is so. This is all that most steps do,
 /// so it is tried first, by code that keeps nothing aside.
 #[inline(always)]
 pub fn try_local(code: &Code<'_>, heap: &Heap, activity: &mut Activity, instr: Instr) -> bool
@@ -32,7 +32,7 @@ pub fn try_local(code: &Code<'_>, heap: &Heap, activity: &mut Activity, instr: I
     matches!(perform_local(code, heap, activity, instr), Fate::Continues)
 }
 
-/// Does a local instruction. At any other nothing is done, and the thread does not go on.
+/// Does a local instruction. At any other nothing is done, and the thread does not continue.
 #[inline(always)]
 pub fn perform_local(code: &Code<'_>, heap: &Heap, activity: &mut Activity, instr: Instr) -> Fate
     requires fits { CanDo code.now activity.old.top instr }

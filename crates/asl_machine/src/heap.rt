@@ -3,7 +3,7 @@ ghost use Rattle.std.specs.Prelude.{◌≡◌, ◌<◌, ◌++◌, ◌∷◌, [],
 
 use crate::packed_value::PackedValue;
 use asl_code::{Cell, Value};
-use asl_lock_expr::HeapView;
+use asl_expression::HeapView;
 use std::alloc::{AllocError, Global};
 use std::marker::Model;
 

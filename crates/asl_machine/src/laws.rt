@@ -40,7 +40,7 @@ pub fn steps_have_one_line()
 
 /// Each reached state is well formed: every address in a cell, in a frame's register or as the value of an ended thread is
 /// that of a cell that is there, every frame is in its function's body with its function's registers, and each frame but the
-/// top one waits behind the `call` that made the one above.
+/// top one waits after the `call` that made the one above.
 pub fn reached_states_are_well_formed()
     ensures { (image : Image) (count : ℕ) (s : State) → IsVerified image → IsReached image count s → IsWellFormed image s }
 {}

@@ -1,9 +1,8 @@
 //! The machine: threads that step through a verified program over one heap, under the locks of their sections.
 #![tactic(auto)]
 
+mod activity;
 mod asked_laws;
-mod code;
-mod control;
 mod fate;
 mod fault;
 mod frame;
@@ -15,12 +14,14 @@ mod machine;
 mod memory;
 mod packed_value;
 mod perform;
+mod program_code;
 mod reply;
 mod request;
 mod run_laws;
 mod sections;
 mod step_laws;
 mod thread;
+mod thread_control;
 mod values;
 
 pub use asked_laws::requests_are_granted;
@@ -37,3 +38,4 @@ pub use step_laws::{
     grants_cover_their_locks, new_objects_change_no_cell, steps_leave_others_alone,
     stores_change_one_cell,
 };
+pub use thread_control::MAX_FRAMES;

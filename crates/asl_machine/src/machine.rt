@@ -1,21 +1,20 @@
 //! The machine: a program, its heap, its locks and its threads.
-ghost use Rattle.std.specs.Prelude.{◌≡◌, ◌≢◌, ◌<◌, ◌≤◌, ◌↔◌, ◌⊎◌, IfOk, IfErr, IfSome, OnErr, IsErrOf, IsTrue, false, Some, length, slice_get, option_map, option_and_then};
+ghost use Rattle.std.specs.Prelude.{◌≡◌, ◌<◌, ◌≤◌, ◌↔◌, ◌⊎◌, IfOk, IfErr, OnErr, IsErrOf, length};
 ghost use Rattle.asl_code.specs.Fits.{FitsImage};
 ghost use Rattle.asl_code.specs.Verified.{IsVerified};
 ghost use Rattle.asl_code.specs.Versions.{most_threads, newest_threads};
-ghost use Rattle.asl_lock_forest.specs.declared.node.Node.{Node};
 ghost use Rattle.asl_machine.specs.Run.{start_of, first_threads, IsReached, IsThreadCount};
-ghost use Rattle.asl_machine.specs.State.{cell_at, size_of, class_of, activity_at, depth_at};
+ghost use Rattle.asl_machine.specs.State.{depth_at};
 
 mod pausing;
 mod readers;
 
-use crate::code::Code;
 use crate::fault::MachineFault;
 use crate::heap::Heap;
-use crate::reply::{Reply, Status};
+use crate::program_code::Code;
+use crate::reply::Reply;
 use crate::thread::Thread;
-use asl_code::{Cell, Program, Value};
+use asl_code::Program;
 use asl_lock_forest::{Forest, Node};
 use asl_mode_lanes::Mode;
 pub use pausing::Paused;
@@ -29,7 +28,7 @@ pub struct Machine<'p> {
     code: Code<'p>,
     heap: Heap,
     forest: Forest,
-    /// Room for what a section asks for; what is in it between steps means nothing.
+    /// Capacity for what a section asks for; what is in it between steps means nothing.
     asks: Vec<(Node, Mode)>,
     threads: Vec<Thread>,
 }
@@ -54,23 +53,16 @@ impl<'p> Model for Machine<'p> {
 }
 
 impl<'p> Machine<'p> {
-    ghost use Rattle.asl_lock_forest.specs.Holding.{held};
-    ghost use Rattle.asl_lock_forest.specs.Node.{IsThere};
     ghost use Rattle.asl_machine.specs.Step.{Step};
     ghost use Rattle.asl_machine.specs.StepFunction.{step_of};
     ghost use Rattle.asl_machine.specs.World.{SomeoneGoesOn};
-    ghost use Rattle.asl_machine.specs.View.{status_of};
-    ghost use Rattle.asl_machine.specs.Nodes.{IsNode};
-    ghost use Rattle.asl_machine.specs.Cover.{is_fresh};
-    ghost use Rattle.asl_machine.specs.Fresh.{fresh_at};
-    ghost use Rattle.asl_code.specs.Versions.{has_fresh};
     ghost use Rattle.asl_machine.specs.WellFormed.{MayWantMemory};
 
     /// The machine in which n threads of the program start: 1 to as many as the program's version sets.
     ///
     /// # Errors
     ///
-    /// `BadCount` for another number; `OutOfMemory` where a growth was refused.
+    /// `BadCount` for another number; `OutOfMemory` where an allocation failed.
     pub fn new(alloc: Global, program: &'p Program, n: u32) -> Result<Machine<'p>, MachineFault>
         ensures image { IfOk result (λ machine. machine.image ≡ program.now) }
         ensures start { IfOk result (λ machine. machine.state ≡ start_of program.now n) }
@@ -89,7 +81,7 @@ impl<'p> Machine<'p> {
     ///
     /// # Errors
     ///
-    /// `BadThread` where there is no such thread; `OutOfMemory` where a growth was refused. Then the machine is as it was.
+    /// `BadThread` where there is no such thread; `OutOfMemory` where an allocation failed. Then the machine is as it was.
     pub fn step(&mut self, alloc: Global, t: u32) -> Result<Reply, MachineFault>
         ensures step { IfOk result (λ reply. Step self.old.image self.old.state t reply self.new.state) }
         ensures reply { IfOk result (λ reply. reply ≡ (step_of self.old.image self.old.state t).reply) }
@@ -134,11 +126,11 @@ impl<'p> Machine<'p> {
         )?)
     }
 
-    /// A machine of the same program in an equal state. The two go on apart.
+    /// A machine of the same program in an equal state. The two continue apart.
     ///
     /// # Errors
     ///
-    /// `OutOfMemory` where a growth was refused.
+    /// `OutOfMemory` where an allocation failed.
     pub fn try_copy(&self, alloc: Global) -> Result<Machine<'p>, MachineFault>
         ensures equal { IfOk result (λ machine. machine ≡ self.now) }
         ensures other { IfErr result (λ fault. fault ≡ MachineFault.OutOfMemory) }
@@ -176,33 +168,6 @@ impl<'p> Machine<'p> {
         self.threads.len() as u32
     }
 
-    /// Whether thread t runs, and else how it ended.
-    pub fn status(&self, t: u32) -> Status
-        requires { t < length self.now.state.threads }
-        ensures { option_map status_of (slice_get self.now.state.threads t) ≡ Some result }
-    {
-        self.threads[t as usize].status()
-    }
-
-    /// The place of the next instruction of thread t, if it runs.
-    pub fn pc(&self, t: u32) -> Option<u32>
-        requires { t < length self.now.state.threads }
-        ensures { result ≡ option_map (λ activity. activity.top.pc) (activity_at self.now.state.threads t) }
-    {
-        let activity = self.threads[t as usize].activity()?;
-        Some(u32::from(activity.pc()))
-    }
-
-    /// The value of a register of thread t's top frame, if the thread runs and the register is there.
-    pub fn reg(&self, t: u32, register: u32) -> Option<Value>
-        requires { t < length self.now.state.threads }
-        ensures { result ≡ option_and_then (λ activity. slice_get activity.top.regs register) (activity_at self.now.state.threads t) }
-    {
-        let activity = self.threads[t as usize].activity()?;
-        let word = activity.regs().get(register as usize)?;
-        Some(word.value())
-    }
-
     /// How many sections thread t is in: none where it has ended.
     pub fn depth(&self, t: u32) -> u32
         requires { t < length self.now.state.threads }
@@ -211,74 +176,6 @@ impl<'p> Machine<'p> {
         match self.threads[t as usize].activity() {
             Some(activity) => u32::from(activity.depth()),
             None => 0,
-        }
-    }
-
-    /// How many objects there are, 65,536 at the most.
-    pub fn objects(&self) -> u32
-        ensures count { result ≡ length self.now.state.objects }
-        ensures few { result ≤ 65536 }
-    {
-        self.heap.len() as u32
-    }
-
-    /// How many cells the object has, 1 to 255, if it is there.
-    pub fn size(&self, object: u32) -> Option<u32>
-        ensures size { result ≡ size_of self.now.state.objects object }
-        ensures some { IfSome result (λ cells. 0 < cells) }
-        ensures few { IfSome result (λ cells. cells ≤ 255) }
-    {
-        Some(u32::from(self.heap.size(object as usize)?))
-    }
-
-    /// The class of the object, one of the program's 1,024 at the most, if it is there.
-    pub fn class(&self, object: u32) -> Option<u32>
-        ensures class { result ≡ class_of self.now.state.objects object }
-        ensures there { IfSome result (λ class. class < self.now.image.classes) }
-        ensures few { IfSome result (λ class. class < 1024) }
-    {
-        Some(u32::from(self.heap.class(object as usize)?))
-    }
-
-    /// What the cell holds, if it is there.
-    pub fn cell(&self, cell: Cell) -> Option<Value>
-        ensures { result ≡ cell_at self.now.state.objects cell }
-    {
-        Some(self.heap.cell(cell)?.value())
-    }
-
-    /// The mode in which thread t holds the node: NL where it does not, or where there is no such node.
-    pub fn held(&self, t: u32, node: Node) -> Mode
-        requires { t < length self.now.state.threads }
-        ensures value { result ≡ held self.now.state.holding t node }
-        ensures there { result ≢ Mode.NL → IsNode self.now.image.classes self.now.state.objects node }
-    {
-        if self.is_there(node) {
-            self.forest.mode(t, node)
-        } else {
-            Mode::NL
-        }
-    }
-
-    /// Whether the object is fresh for thread t: never where the thread has ended or the object is not there, and never by
-    /// an image of a version without fresh objects.
-    pub fn fresh(&self, t: u32, object: u32) -> bool
-        requires { t < length self.now.state.threads }
-        ensures fresh { result ≡ is_fresh (fresh_at self.now.state.threads t) object }
-        ensures there { IsTrue result → object < length self.now.state.objects }
-        ensures version { has_fresh self.now.image.version ≡ false → result ≡ false }
-    {
-        self.threads[t as usize].is_fresh(object)
-    }
-
-    /// Whether the class that the node names, if it names one, is below the count.
-    fn is_there(&self, node: Node) -> bool
-        ensures { IsTrue result ↔ IsThere self.now.image.classes node }
-    {
-        match node {
-            Node::Root => true,
-            Node::Class(class) | Node::Leaf(_, class) => u32::from(class)
-                < self.code.program().classes(),
         }
     }
 }

@@ -8,9 +8,9 @@ ghost use Rattle.asl_machine.specs.Step.{with_fresh};
 ghost use Rattle.asl_machine.specs.Cover.{cover};
 ghost use Rattle.asl_machine.specs.StepFunction.{place, accessed_by, accessed, allowed_cell, register_of, fate_of, loaded, activity_stored, objects_stored, make_fate, activity_made, made_objects};
 
+use crate::activity::Activity;
 use crate::fate::Fate;
 use crate::fault::Fault;
-use crate::frame::Activity;
 use crate::heap::Heap;
 use crate::packed_value::PackedValue;
 use asl_code::{Cell, Effect, Value, has_fresh};

@@ -4,14 +4,14 @@ ghost use Rattle.asl_machine.specs.Ready.{IsReady, CanDo};
 ghost use Rattle.asl_machine.specs.WellFormed.{WantsMemory};
 ghost use Rattle.asl_machine.specs.StepFunction.{place, left_with, left_by};
 
-use crate::code::Code;
-use crate::control::{call, show};
+use crate::activity::Activity;
 use crate::fate::Fate;
-use crate::frame::Activity;
 use crate::frame_only::{perform_local, set};
 use crate::heap::Heap;
 use crate::memory::{load, make, store};
+use crate::program_code::Code;
 use crate::sections::{acquire, leave};
+use crate::thread_control::{call, show};
 use asl_code::Instr;
 use asl_lock_forest::{Forest, Node};
 use asl_mode_lanes::Mode;

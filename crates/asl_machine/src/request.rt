@@ -1,6 +1,6 @@
 //! What a section asks for at its entry.
 ghost use Rattle.std.specs.Prelude.{◌≡◌, ◌<◌, IsTrue, false, All, IfOk, OnOk, OnErr, length, position};
-ghost use Rattle.asl_lock_expr.specs.Expression.{cell_denoted, base_cell};
+ghost use Rattle.asl_expression.specs.Expression.{cell_denoted, base_cell};
 ghost use Rattle.asl_lock_forest.specs.Node.{same_node, IsThere};
 ghost use Rattle.asl_lock_forest.specs.Holding.{covering_mode, can_grant};
 ghost use Rattle.asl_machine.specs.Access.{AreOfClasses};
@@ -10,7 +10,7 @@ ghost use Rattle.asl_machine.specs.Asking.{leaf_of, node_of, asks_at, AreFree, I
 use crate::heap::Heap;
 use crate::packed_value::PackedValue;
 use asl_code::{Base, Cell, Effect, Expr, Lock};
-use asl_lock_expr::{follow, pointed};
+use asl_expression::{follow, pointed};
 use asl_lock_forest::{Forest, Node};
 use asl_mode_lanes::{Mode, join};
 use std::alloc::{AllocError, Global};
@@ -20,7 +20,7 @@ use std::alloc::{AllocError, Global};
 ///
 /// # Errors
 ///
-/// A growth was refused, and some lock asks for something.
+/// An allocation failed, and some lock asks for something.
 pub fn request(
     asks: &mut Vec<(Node, Mode)>,
     locks: &[Lock],
@@ -114,7 +114,7 @@ fn node_of(lock: &Lock, regs: &[PackedValue], heap: &Heap) -> Option<Node>
 }
 
 /// The cell that the expression denotes, if it denotes one.
-#[tactic(auto, using(asl_lock_expr::proofs::Paths::no_cell_from_none))]
+#[tactic(auto, using(asl_expression::proofs::Paths::no_cell_from_none))]
 fn denoted(expr: &Expr, regs: &[PackedValue], heap: &Heap) -> Option<Cell>
     ensures { result ≡ cell_denoted (heap_of heap.now) regs.now expr.now }
 {

@@ -5,11 +5,11 @@ ghost use Rattle.asl_machine.specs.Access.{AreOfClasses};
 ghost use Rattle.asl_machine.specs.Request.{LockOfClass, request_of, locks_of};
 ghost use Rattle.asl_machine.specs.StepFunction.{release_fate, activity_moved, activity_left, holding_released, acquire_fate, holding_acquired};
 
-use crate::code::Code;
+use crate::activity::Activity;
 use crate::fate::Fate;
 use crate::fault::Fault;
-use crate::frame::Activity;
 use crate::heap::Heap;
+use crate::program_code::Code;
 use crate::request::request;
 use asl_code::Lock;
 use asl_lock_forest::{Forest, Node};

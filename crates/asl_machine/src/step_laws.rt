@@ -40,7 +40,7 @@ pub fn stores_change_one_cell()
     ensures count { (objects : List Object) (cell : Cell) (value : Value) → length (written objects cell value) ≡ length objects }
 {}
 
-/// Where objects are added behind others, the cells of those have what they had, and they keep their classes and sizes.
+/// Where objects are added after others, the cells of those have what they had, and they keep their classes and sizes.
 pub fn new_objects_change_no_cell()
     ensures cells { (objects more : List Object) (cell : Cell) (value : Value) → cell_at objects cell ≡ Some value
         → cell_at (objects ++ more) cell ≡ Some value }

@@ -9,13 +9,13 @@ ghost use Rattle.asl_machine.specs.WellFormed.{ThreadWantsMemory, WantsMemory};
 ghost use Rattle.asl_machine.specs.Ready.{ThreadReady};
 ghost use Rattle.asl_machine.specs.StepFunction.{place, left_by, left_with, left_at, turn_of, reply_of, holding_after};
 
-use crate::code::Code;
+use crate::activity::Activity;
 use crate::fate::Fate;
 use crate::fault::Fault;
-use crate::frame::Activity;
 use crate::frame_only::try_local;
 use crate::heap::Heap;
 use crate::perform::perform;
+use crate::program_code::Code;
 use crate::reply::{Reply, Status};
 use asl_code::Value;
 use asl_lock_forest::{Forest, Node};
@@ -112,7 +112,7 @@ impl Thread {
         }
     }
 
-    /// Steps thread t if it is at a local instruction and goes on behind it: whether that is so.
+    /// Steps thread t if it is at a local instruction and continues after it: whether that is so.
     #[inline(always)]
     pub fn try_local_step(&mut self, code: &Code<'_>, heap: &Heap, forest: &Forest, t: u32) -> bool
         requires ready { ThreadReady code.now forest.now heap.now t self.old }
@@ -167,7 +167,7 @@ impl Thread {
     }
 }
 
-/// Does the instruction that a running thread is at, if it is local and the thread goes on behind it: whether that is so.
+/// Does the instruction that a running thread is at, if it is local and the thread continues after it: whether that is so.
 #[inline(always)]
 fn try_local_instruction(code: &Code<'_>, heap: &Heap, activity: &mut Activity) -> bool
     requires fits { IsSomeAnd (slice_get code.now.code activity.old.top.pc) (CanDo code.now activity.old.top) }

@@ -4,12 +4,12 @@ ghost use Rattle.asl_code.specs.declared.value.Value.TheVariants.{Int};
 ghost use Rattle.asl_machine.specs.Step.{is_zero};
 ghost use Rattle.asl_machine.specs.StepFunction.{register_of, address_moved, computed, added, subtracted, compared, truth, same_value};
 
+use crate::activity::Activity;
 use crate::fault::Fault;
-use crate::frame::Activity;
 use crate::heap::Heap;
 use crate::packed_value::PackedValue;
 use asl_code::{Cell, Value};
-use asl_lock_expr::go_on;
+use asl_expression::go_on;
 
 /// The integers in two registers.
 ///

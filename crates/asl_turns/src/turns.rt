@@ -16,7 +16,7 @@ pub enum TurnFault {
     /// The seat has fewer than two passes left.
     #[error("NoPass")]
     NoPass,
-    /// A growth was refused.
+    /// An allocation failed.
     #[error("OutOfMemory")]
     OutOfMemory,
 }
@@ -74,12 +74,12 @@ impl Model for TurnSeat {
 }
 
 impl Turns {
-    /// Tickets 0 to `limit - 1`, of which none is drawn, and the first seat, which has 64 passes. Only want of memory
+    /// Tickets 0 to `limit - 1`, of which none is drawn, and the first seat, which has 64 passes. Only a failed allocation
     /// refuses it.
     ///
     /// # Errors
     ///
-    /// A growth was refused.
+    /// An allocation failed.
     pub fn new(alloc: Global, limit: u64) -> Result<(Turns, TurnSeat), TurnFault>
         requires { limit ≤ 16777216 }
         ensures limit { IfOk result (λ made. made.0.limit ≡ limit) }

@@ -3,9 +3,9 @@ ghost use Rattle.std.specs.Prelude.{◌≡◌, IfOk};
 ghost use Rattle.asl_machine.specs.Paused.{IsRestOf};
 
 use super::copies;
-use crate::code::Code;
 use crate::heap::Heap;
 use crate::machine::Machine;
+use crate::program_code::Code;
 use crate::thread::Thread;
 use asl_code::Program;
 use asl_lock_forest::{Forest, Node};
@@ -13,13 +13,13 @@ use asl_mode_lanes::Mode;
 use std::alloc::{AllocError, Global};
 use std::marker::Model;
 
-/// A machine without its program. Whoever owns both can keep the two in one value, and let the machine go on for a while.
+/// A machine without its program. Whoever owns both can keep the two in one value, and let the machine continue for a while.
 #[derive(Drop)]
 pub struct Paused {
     firsts: Vec<u16>,
     heap: Heap,
     forest: Forest,
-    /// Room for what a section asks for; what is in it means nothing.
+    /// Capacity for what a section asks for; what is in it means nothing.
     asks: Vec<(Node, Mode)>,
     threads: Vec<Thread>,
 }
@@ -42,11 +42,11 @@ impl Model for Paused {
 }
 
 impl Paused {
-    /// An equal rest of a machine. The two go on apart.
+    /// An equal rest of a machine. The two continue apart.
     ///
     /// # Errors
     ///
-    /// A growth was refused.
+    /// An allocation failed.
     pub fn try_copy(&self, alloc: Global) -> Result<Paused, AllocError>
         ensures { IfOk result (λ paused. paused ≡ self.now) }
     {

@@ -1,5 +1,5 @@
 use Rattle.asl_lock_expr.proofs.Steps.{class_append}
-use Rattle.asl_lock_expr.proofs.Walks.{path_append}
+use Rattle.asl_expression.proofs.Paths.{path_append}
 use Rattle.asl_lock_expr.proofs.laws.paths_go_in_parts.Goals as goal
 
 pub returns-clause-cells : goal.returns-clause-cells

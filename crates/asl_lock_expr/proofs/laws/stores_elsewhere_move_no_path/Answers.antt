@@ -1,5 +1,5 @@
 use Rattle.std.proofs.Common.{[], refl}
-use Rattle.asl_lock_expr.specs.Expression.{base_cell}
+use Rattle.asl_expression.specs.Expression.{base_cell}
 use Rattle.asl_lock_expr.proofs.Walks.{not_through}
 use Rattle.asl_lock_expr.proofs.Leaves.{not_crossed}
 use Rattle.asl_lock_expr.proofs.laws.stores_elsewhere_move_no_path.Goals as goal

@@ -1,7 +1,7 @@
 use Rattle.std.proofs.Common.{Ok, Err, OnErr, refl, subst}
 use Rattle.asl_lock_forest.specs.Held.{Held}
 use Rattle.asl_lock_forest.specs.Holding.{CanGrant}
-use Rattle.asl_lock_forest.specs.Request.{IsRefused}
+use Rattle.asl_lock_forest.specs.Request.{IsRefusedRequest}
 use Rattle.asl_lock_forest.proofs.Grantable.{refused_cannot}
 use Rattle.asl_lock_forest.proofs.SoundLaws.{free_can, blocked_refused}
 use Rattle.asl_lock_forest.proofs.forest.Forest.try_acquire.Goals as goal
@@ -13,7 +13,7 @@ grant-requires-clause-free c =
 
 pub returns-then-not-can_grant-clause-refused : goal.returns-then-not-can_grant-clause-refused
 returns-then-not-can_grant-clause-refused c _ =
-    subst (λ (f : Held). IsRefused f.holding c.args.thread c.args.request.now) c.self.view_is
+    subst (λ (f : Held). IsRefusedRequest f.holding c.args.thread c.args.request.now) c.self.view_is
     (blocked_refused c.self.invariant c.args.thread c.args.request.now (c.can_grant.ensures.blocked c.if-not-can_grant.true))
 
 pub returns-then-not-can_grant-clause-granted : goal.returns-then-not-can_grant-clause-granted
