@@ -6,32 +6,10 @@ use Rattle.asl_code.specs.declared.instr.Instr.TheVariants as instr
 use Rattle.asl_assembler.specs.declared.keyword.Keyword.{Keyword}
 use Rattle.asl_assembler.specs.declared.keyword.Keyword.TheVariants as keyword
 use Rattle.asl_assembler.specs.Words.{AreWords, name_of}
-use Rattle.asl_assembler.specs.Text.{instr_tokens}
+use Rattle.asl_assembler.specs.Text.{instr_name, instr_tokens}
 use Rattle.asl_assembler.specs.Reading.{no_word, one, two, three, instr_of, with_numbers_of}
 use Rattle.asl_assembler.proofs.Options.{mapped}
 use Rattle.asl_assembler.proofs.Readers.{byte, short, integer, register, global, Behind, reads_0, reads_1, reads_2, reads_3, is_read_0, is_read_1, is_read_2, is_read_3}
-
--- The keyword of an instruction.
-abbrev pub instr_name : Instr → Keyword
-instr_name (instr.SetInt a b) = keyword.Int
-instr_name (instr.SetNull a) = keyword.Null
-instr_name (instr.Move a b) = keyword.Mov
-instr_name (instr.Add a b c) = keyword.Add
-instr_name (instr.Subtract a b c) = keyword.Sub
-instr_name (instr.LessThan a b c) = keyword.Lt
-instr_name (instr.Equals a b c) = keyword.Eq
-instr_name (instr.GlobalAddress a b) = keyword.Glob
-instr_name (instr.FieldAddress a b c) = keyword.Field
-instr_name (instr.Load a b) = keyword.Load
-instr_name (instr.Store a b) = keyword.Store
-instr_name (instr.New a b c) = keyword.New
-instr_name (instr.Jump a) = keyword.Jmp
-instr_name (instr.JumpIfZero a b) = keyword.Jz
-instr_name (instr.Call a b c) = keyword.Call
-instr_name (instr.Return a) = keyword.Ret
-instr_name (instr.Output a) = keyword.Out
-instr_name (instr.Acquire a) = keyword.Acq
-instr_name instr.Release = keyword.Rel
 
 pub is_instr : (k : Keyword) (words : List (List ℕ)) (i : Instr) → instr_of k words ≡ Some i → AreWords (instr_tokens i) (name_of k ∷ words)
 unfolding instr_of with_numbers_of

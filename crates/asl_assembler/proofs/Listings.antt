@@ -7,7 +7,7 @@ use Rattle.asl_code.specs.declared.instr.Instr.{Instr}
 use Rattle.asl_code.specs.declared.lock.Lock.{Lock}
 use Rattle.asl_assembler.specs.declared.line.Line.{Line}
 use Rattle.asl_assembler.specs.declared.line.Line.TheVariants as line
-use Rattle.asl_assembler.specs.declared.draft.Place.TheVariants as place
+use Rattle.asl_assembler.specs.declared.image_draft.Place.TheVariants as place
 use Rattle.asl_assembler.specs.Text.{Body, Listing, lines_in, image_of, function_lines, list_lines, function_of, shortened}
 use Rattle.asl_assembler.specs.Reading.{◌>>=◌, State, next, finished, longer, blank_image}
 
@@ -90,7 +90,7 @@ module _ (version : ℕ) where
       record { more = []; bodies = []; lists = h.more ∷ h.rest; lines = ap (λ l. line.List ∷ l) h.lines; image = h.image ∙ simp (append-nil, add-zero) }
   in_body (_ ∷ ms) p r n c gs fs s code j e = absurd (cc)
 
-  -- Behind the header.
+  -- After the header.
   pub record InFunctions (ms : List Line) (c : ℕ) (gs : List ℕ) (s : ℕ) (j : Image) : Type 0 where
     pub bodies : List Body
     pub lists : List (List Lock)

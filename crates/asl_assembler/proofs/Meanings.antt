@@ -22,13 +22,13 @@ use Rattle.asl_assembler.specs.declared.keyword.Keyword.TheVariants as keyword
 use Rattle.asl_assembler.specs.declared.line.Line.{Line}
 use Rattle.asl_assembler.specs.declared.line.Line.TheVariants as line
 use Rattle.asl_assembler.specs.Words.{AreWords, IsWord, name_of}
-use Rattle.asl_assembler.specs.Text.{IsLine, op_token, base_token, effect_token, effect_name}
+use Rattle.asl_assembler.specs.Text.{IsLine, instr_name, op_token, base_token, effect_token, effect_name}
 use Rattle.asl_assembler.specs.Reading.{◌>>=◌, by_op, no_word, one, two, instr_of, register_of, global_of, marked_of, effect_of, op_of, base_of, path_of, lock_with, expr_of, version_of, line_of, keyword_of, meaning_of}
 use Rattle.asl_assembler.proofs.Options.{bound, guarded, mapped, chosen}
 use Rattle.asl_assembler.proofs.Numbers.{marked_read, read_marked, not_marked}
 use Rattle.asl_assembler.proofs.Keywords.{name_read, read_name, effect_read, read_effect}
 use Rattle.asl_assembler.proofs.Readers.{byte, short, effect, Behind, reads_0, reads_1, reads_2, is_read_0, is_read_1, is_read_2}
-use Rattle.asl_assembler.proofs.Instrs.{instr_name, is_instr, instr_reads}
+use Rattle.asl_assembler.proofs.Instrs.{is_instr, instr_reads}
 
 -- Operations of a path.
 op_reads : (o : Op) (word : List ℕ) → IsWord (op_token o) word → op_of word ≡ Some o

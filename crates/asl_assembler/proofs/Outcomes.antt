@@ -6,7 +6,7 @@ use Rattle.asl_code.specs.Verified.{IsAnswer, IsVerified}
 use Rattle.asl_code.proofs.OneAnswer.{one_answer, no_answer, some_answer}
 use Rattle.asl_assembler.specs.declared.assembly.AsmFault.{AsmFault}
 use Rattle.asl_assembler.specs.declared.assembly.AsmFault.TheVariants.{Line, Verify, OutOfMemory}
-use Rattle.asl_assembler.specs.declared.draft.Place.TheVariants.{Version}
+use Rattle.asl_assembler.specs.declared.image_draft.Place.TheVariants.{Version}
 use Rattle.asl_assembler.specs.Words.{lines_of}
 use Rattle.asl_assembler.specs.Text.{Spells}
 use Rattle.asl_assembler.specs.Faults.{IsOutcome}

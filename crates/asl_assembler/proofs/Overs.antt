@@ -11,12 +11,12 @@ use Rattle.asl_code.specs.declared.lock.Lock.{Lock}
 use Rattle.asl_code.specs.Versions.{newest_locks}
 use Rattle.asl_code.specs.Verified.{keeps_limits, keeps_counts, keeps_list_limit}
 use Rattle.asl_code.specs.Versions.{limits_of}
-use Rattle.asl_code.specs.declared.limits.Limits.{Limits}
+use Rattle.asl_code.specs.declared.image_limits.Limits.{Limits}
 use Rattle.asl_code.proofs.Versions.{locks_set, few_locks, newest_lists}
 use Rattle.asl_assembler.specs.declared.line.Line.{Line}
 use Rattle.asl_assembler.specs.declared.line.Line.TheVariants as line
-use Rattle.asl_assembler.specs.declared.draft.Place.{Place}
-use Rattle.asl_assembler.specs.declared.draft.Place.TheVariants as place
+use Rattle.asl_assembler.specs.declared.image_draft.Place.{Place}
+use Rattle.asl_assembler.specs.declared.image_draft.Place.TheVariants as place
 use Rattle.asl_assembler.specs.Words.{lines_of, words_of}
 use Rattle.asl_assembler.specs.Text.{Spells}
 use Rattle.asl_assembler.specs.Reading.{◌>>=◌, State, next, finished, meaning_of, step_words, step_line, or_line, image_from, blank_image, paired, open_locks, is_over, with_function, with_list, IsOver}

@@ -7,8 +7,8 @@ use Rattle.asl_code.specs.declared.instr.Instr.{Instr}
 use Rattle.asl_assembler.specs.declared.keyword.Keyword.{Keyword}
 use Rattle.asl_assembler.specs.declared.keyword.Keyword.TheVariants as keyword
 use Rattle.asl_assembler.specs.declared.line.Line.TheVariants as line
-use Rattle.asl_assembler.specs.declared.draft.Place.{Place}
-use Rattle.asl_assembler.specs.declared.draft.Place.TheVariants as place
+use Rattle.asl_assembler.specs.declared.image_draft.Place.{Place}
+use Rattle.asl_assembler.specs.declared.image_draft.Place.TheVariants as place
 use Rattle.asl_assembler.specs.Words.{lines_of, words_of}
 use Rattle.asl_assembler.specs.Reading.{◌>>=◌, instr_of, with_numbers_of, line_of, keyword_of, meaning_of, longer, next, paired, step_words, step_line, image_from, BeginsWith}
 

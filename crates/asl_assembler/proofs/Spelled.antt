@@ -5,17 +5,19 @@ use Rattle.asl_code.specs.Versions.{IsVersion}
 use Rattle.asl_code.specs.declared.image.Image.{Image}
 use Rattle.asl_code.specs.declared.image.Function.{Function}
 use Rattle.asl_code.specs.declared.instr.Instr.{Instr}
-use Rattle.asl_code.specs.declared.instr.Instr.TheVariants as instr
 use Rattle.asl_code.specs.declared.lock.Base.{Base}
 use Rattle.asl_code.specs.declared.lock.Base.TheVariants as base
 use Rattle.asl_code.specs.declared.lock.Lock.{Lock}
 use Rattle.asl_code.specs.declared.lock.Lock.TheVariants as lock
 use Rattle.asl_code.specs.declared.path.Op.{Op}
 use Rattle.asl_code.specs.declared.path.Op.TheVariants as op
-use Rattle.asl_code.specs.Spelling.{IsInstr}
+use Rattle.asl_code.specs.Operands.{operands}
+use Rattle.asl_code.specs.declared.operand.Operand.{Operand}
+use Rattle.asl_code.specs.declared.operand.Operand.TheVariants as operand
+use Rattle.asl_code.specs.Spelling.{IsNumber, IsInstr}
 use Rattle.asl_assembler.specs.declared.line.Line.TheVariants as line
 use Rattle.asl_assembler.specs.Words.{lines_of}
-use Rattle.asl_assembler.specs.Text.{Body, Listing, base_token, op_token, effect_token, function_lines, list_lines, lines_in, function_of, image_of, worded, Spells}
+use Rattle.asl_assembler.specs.Text.{Body, Listing, operand_tokens, base_token, op_token, effect_token, function_lines, list_lines, lines_in, function_of, image_of, worded, Spells}
 use Rattle.asl_assembler.specs.Canonical.{FitsField, FitsLine}
 use Rattle.asl_assembler.proofs.Lines.{lines_fit}
 use Rattle.asl_assembler.proofs.Writes.{all_append}
@@ -64,26 +66,24 @@ from_map P Q f g (x ∷ xs) h = (g x h.0, from_map P Q f g xs h.1)
 
 -- ---- numbers
 
+operand_fits : (o : Operand) → AllByRecursion FitsField (operand_tokens o) → IsNumber o
+operand_fits (operand.Register register) h = h.0
+operand_fits (operand.Integer value) h = h.0
+operand_fits (operand.Global global) h = h.0
+operand_fits (operand.Offset offset) h = h.0
+operand_fits (operand.Cells cells) h = h.0
+operand_fits (operand.Class class) h = h.0
+operand_fits (operand.Target target) h = h.0
+operand_fits (operand.Callee first function) h = (h.0, h.1.0)
+operand_fits (operand.Locks list) h = h.0
+
+operands_fit : (os : List Operand) → AllByRecursion FitsField (flat_map operand_tokens os) → AllByRecursion IsNumber os
+operands_fit [] h = tt
+operands_fit (o ∷ os) h =
+    (operand_fits o (front FitsField (operand_tokens o) (flat_map operand_tokens os) h), operands_fit os (back FitsField (operand_tokens o) (flat_map operand_tokens os) h))
+
 instr_fits : (i : Instr) → FitsLine (line.Instruction i) → IsInstr i
-instr_fits (instr.SetInt a b) h = (h.fields.1.0, h.fields.1.1.0)
-instr_fits (instr.SetNull a) h = h.fields.1.0
-instr_fits (instr.Move a b) h = (h.fields.1.0, h.fields.1.1.0)
-instr_fits (instr.Add a b c) h = (h.fields.1.0, h.fields.1.1.0, h.fields.1.1.1.0)
-instr_fits (instr.Subtract a b c) h = (h.fields.1.0, h.fields.1.1.0, h.fields.1.1.1.0)
-instr_fits (instr.LessThan a b c) h = (h.fields.1.0, h.fields.1.1.0, h.fields.1.1.1.0)
-instr_fits (instr.Equals a b c) h = (h.fields.1.0, h.fields.1.1.0, h.fields.1.1.1.0)
-instr_fits (instr.GlobalAddress a b) h = (h.fields.1.0, h.fields.1.1.0)
-instr_fits (instr.FieldAddress a b c) h = (h.fields.1.0, h.fields.1.1.0, h.fields.1.1.1.0)
-instr_fits (instr.Load a b) h = (h.fields.1.0, h.fields.1.1.0)
-instr_fits (instr.Store a b) h = (h.fields.1.0, h.fields.1.1.0)
-instr_fits (instr.New a b c) h = (h.fields.1.0, h.fields.1.1.0, h.fields.1.1.1.0)
-instr_fits (instr.Jump a) h = h.fields.1.0
-instr_fits (instr.JumpIfZero a b) h = (h.fields.1.0, h.fields.1.1.0)
-instr_fits (instr.Call a b c) h = (h.fields.1.0, h.fields.1.1.0, h.fields.1.1.1.0)
-instr_fits (instr.Return a) h = h.fields.1.0
-instr_fits (instr.Output a) h = h.fields.1.0
-instr_fits (instr.Acquire a) h = h.fields.1.0
-instr_fits instr.Release h = tt
+instr_fits i h = operands_fit (operands i) h.fields.1
 
 base_fits : (b : Base) → FitsField (base_token b) → FitsBase b
 base_fits (base.Reg r) h = h

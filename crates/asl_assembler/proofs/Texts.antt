@@ -6,8 +6,8 @@ use Rattle.std.proofs.lemmas.Bool.{cases_lt}
 use Rattle.asl_code.specs.Versions.{limits_of}
 use Rattle.asl_code.specs.declared.image.Image.{Image}
 use Rattle.asl_assembler.specs.declared.line.Line.{Line}
-use Rattle.asl_assembler.specs.declared.draft.Place.{Place}
-use Rattle.asl_assembler.specs.declared.draft.Place.TheVariants as place
+use Rattle.asl_assembler.specs.declared.image_draft.Place.{Place}
+use Rattle.asl_assembler.specs.declared.image_draft.Place.TheVariants as place
 use Rattle.asl_assembler.specs.Words.{lines_of, words_of}
 use Rattle.asl_assembler.specs.Text.{AreLines, worded, unless_blank, lines_in, LinesSpell, Spells, CanBegin, IsBadLine}
 use Rattle.asl_assembler.specs.Reading.{◌>>=◌, State, next, finished, step_words, step_line, or_line, and_then, image_from, blank_image, meaning_of, keyword_of, line_of, number_of, decimal_of}

@@ -3,10 +3,10 @@ use Rattle.std.proofs.Common.{◌≡◌, ℕ, ◌+◌, true, false, List, [], �
 use Rattle.asl_code.specs.declared.image.Image.{Image}
 use Rattle.asl_assembler.specs.declared.line.Line.{Line}
 use Rattle.asl_assembler.specs.declared.line.Line.TheVariants as line
-use Rattle.asl_assembler.specs.declared.draft.Place.{Place}
-use Rattle.asl_assembler.specs.declared.draft.Place.TheVariants as place
-use Rattle.asl_assembler.specs.declared.order.Turn.{Turn}
-use Rattle.asl_assembler.specs.declared.order.Turn.TheVariants as turn
+use Rattle.asl_assembler.specs.declared.image_draft.Place.{Place}
+use Rattle.asl_assembler.specs.declared.image_draft.Place.TheVariants as place
+use Rattle.asl_assembler.specs.declared.line_order.Turn.{Turn}
+use Rattle.asl_assembler.specs.declared.line_order.Turn.TheVariants as turn
 use Rattle.asl_assembler.specs.Words.{lines_of, words_of}
 use Rattle.asl_assembler.specs.Reading.{◌>>=◌, State, next, finished, meaning_of, step_words, step_line, or_line, image_from, blank_image, turn_behind, turn_words, turn_line, may_end}
 

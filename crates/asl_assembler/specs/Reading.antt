@@ -22,10 +22,10 @@ use Rattle.asl_assembler.specs.declared.keyword.Keyword.{Keyword}
 use Rattle.asl_assembler.specs.declared.keyword.Keyword.TheVariants as keyword
 use Rattle.asl_assembler.specs.declared.line.Line.{Line}
 use Rattle.asl_assembler.specs.declared.line.Line.TheVariants as line
-use Rattle.asl_assembler.specs.declared.draft.Place.{Place}
-use Rattle.asl_assembler.specs.declared.draft.Place.TheVariants as place
-use Rattle.asl_assembler.specs.declared.order.Turn.{Turn}
-use Rattle.asl_assembler.specs.declared.order.Turn.TheVariants as turn
+use Rattle.asl_assembler.specs.declared.image_draft.Place.{Place}
+use Rattle.asl_assembler.specs.declared.image_draft.Place.TheVariants as place
+use Rattle.asl_assembler.specs.declared.line_order.Turn.{Turn}
+use Rattle.asl_assembler.specs.declared.line_order.Turn.TheVariants as turn
 use Rattle.asl_assembler.specs.declared.read.ReadFault.{ReadFault}
 use Rattle.asl_assembler.specs.declared.read.ReadFault.TheVariants as fault
 use Rattle.asl_assembler.specs.declared.assembly.AsmFault.{AsmFault}

@@ -1,6 +1,9 @@
 -- Which assembly text spells which image, and which line of a text is wrong (docs/ASSEMBLY.md). See docs/DECISIONS.md.
 use Rattle.std.specs.Prelude.{◌≡◌, ℕ, ◌+◌, ◌-◌, ◌<◌, ◌≤◌, ◌^◌, ◌⊎◌, List, [], ◌∷◌, ◌++◌, length, map, take, min}
 use Rattle.std.specs.List.{flat_map}
+use Rattle.asl_code.specs.Operands.{operands}
+use Rattle.asl_code.specs.declared.operand.Operand.{Operand}
+use Rattle.asl_code.specs.declared.operand.Operand.TheVariants as operand
 use Rattle.asl_code.specs.Versions.{IsVersion}
 use Rattle.asl_code.specs.declared.image.Image.{Image}
 use Rattle.asl_code.specs.declared.image.Function.{Function}
@@ -20,27 +23,43 @@ use Rattle.asl_assembler.specs.declared.line.Line.{Line}
 use Rattle.asl_assembler.specs.declared.line.Line.TheVariants as line
 use Rattle.asl_assembler.specs.Words.{Token, Name, Byte, Short, Integer, Register, GlobalName, Star, Offset, AreWords, lines_of, words_of}
 
--- The words of an instruction
+-- The keyword of an instruction
+abbrev pub instr_name : Instr → Keyword
+instr_name (instr.SetInt to value) = keyword.Int
+instr_name (instr.SetNull to) = keyword.Null
+instr_name (instr.Move to from) = keyword.Mov
+instr_name (instr.Add to left right) = keyword.Add
+instr_name (instr.Subtract to left right) = keyword.Sub
+instr_name (instr.LessThan to left right) = keyword.Lt
+instr_name (instr.Equals to left right) = keyword.Eq
+instr_name (instr.GlobalAddress to global) = keyword.Glob
+instr_name (instr.FieldAddress to from offset) = keyword.Field
+instr_name (instr.Load to address) = keyword.Load
+instr_name (instr.Store address from) = keyword.Store
+instr_name (instr.New to cells class) = keyword.New
+instr_name (instr.Jump target) = keyword.Jmp
+instr_name (instr.JumpIfZero test target) = keyword.Jz
+instr_name (instr.Call to first function) = keyword.Call
+instr_name (instr.Return from) = keyword.Ret
+instr_name (instr.Output from) = keyword.Out
+instr_name (instr.Acquire list) = keyword.Acq
+instr_name instr.Release = keyword.Rel
+
+-- The words of an operand: registers and globals have a mark, all others are numbers
+abbrev pub operand_tokens : Operand → List Token
+operand_tokens (operand.Register register) = Register register ∷ []
+operand_tokens (operand.Integer value) = Integer value ∷ []
+operand_tokens (operand.Global global) = GlobalName global ∷ []
+operand_tokens (operand.Offset offset) = Byte offset ∷ []
+operand_tokens (operand.Cells cells) = Byte cells ∷ []
+operand_tokens (operand.Class class) = Short class ∷ []
+operand_tokens (operand.Target target) = Short target ∷ []
+operand_tokens (operand.Callee first function) = Register first ∷ Short function ∷ []
+operand_tokens (operand.Locks list) = Short list ∷ []
+
+-- The words of an instruction: its keyword, and those of its operands
 abbrev pub instr_tokens : Instr → List Token
-instr_tokens (instr.SetInt to value) = Name keyword.Int ∷ Register to ∷ Integer value ∷ []
-instr_tokens (instr.SetNull to) = Name keyword.Null ∷ Register to ∷ []
-instr_tokens (instr.Move to from) = Name keyword.Mov ∷ Register to ∷ Register from ∷ []
-instr_tokens (instr.Add to left right) = Name keyword.Add ∷ Register to ∷ Register left ∷ Register right ∷ []
-instr_tokens (instr.Subtract to left right) = Name keyword.Sub ∷ Register to ∷ Register left ∷ Register right ∷ []
-instr_tokens (instr.LessThan to left right) = Name keyword.Lt ∷ Register to ∷ Register left ∷ Register right ∷ []
-instr_tokens (instr.Equals to left right) = Name keyword.Eq ∷ Register to ∷ Register left ∷ Register right ∷ []
-instr_tokens (instr.GlobalAddress to global) = Name keyword.Glob ∷ Register to ∷ GlobalName global ∷ []
-instr_tokens (instr.FieldAddress to from offset) = Name keyword.Field ∷ Register to ∷ Register from ∷ Byte offset ∷ []
-instr_tokens (instr.Load to address) = Name keyword.Load ∷ Register to ∷ Register address ∷ []
-instr_tokens (instr.Store address from) = Name keyword.Store ∷ Register address ∷ Register from ∷ []
-instr_tokens (instr.New to cells class) = Name keyword.New ∷ Register to ∷ Byte cells ∷ Short class ∷ []
-instr_tokens (instr.Jump target) = Name keyword.Jmp ∷ Short target ∷ []
-instr_tokens (instr.JumpIfZero test target) = Name keyword.Jz ∷ Register test ∷ Short target ∷ []
-instr_tokens (instr.Call to first function) = Name keyword.Call ∷ Register to ∷ Register first ∷ Short function ∷ []
-instr_tokens (instr.Return from) = Name keyword.Ret ∷ Register from ∷ []
-instr_tokens (instr.Output from) = Name keyword.Out ∷ Register from ∷ []
-instr_tokens (instr.Acquire list) = Name keyword.Acq ∷ Short list ∷ []
-instr_tokens instr.Release = Name keyword.Rel ∷ []
+instr_tokens i = Name (instr_name i) ∷ flat_map operand_tokens (operands i)
 
 -- How an effect is written
 abbrev pub effect_name : Effect → Keyword

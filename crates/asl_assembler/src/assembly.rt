@@ -7,7 +7,7 @@ ghost use Rattle.asl_assembler.specs.Faults.{IsFault};
 ghost use Rattle.asl_assembler.specs.Text.{Spells};
 ghost use Rattle.asl_assembler.specs.Reading.{HasLineOr};
 
-use crate::order::wrong_line;
+use crate::line_order::wrong_line;
 use crate::read::{ReadFault, read};
 use asl_code::{Program, VerifyFault};
 use std::alloc::Global;

@@ -1,16 +1,16 @@
 //! Taking the instructions of a body in, one after the other: most lines of a text are such.
 
 ghost use Rattle.std.specs.Prelude.{◌≡◌, ◌<◌, ◌≤◌, ◌+◌, ◌^◌, length, IfOk, IfSome};
-ghost use Rattle.asl_assembler.specs.declared.draft.Place.TheVariants as place;
+ghost use Rattle.asl_assembler.specs.declared.image_draft.Place.TheVariants as place;
 ghost use Rattle.asl_assembler.specs.declared.line.Line.TheVariants as line;
 ghost use Rattle.asl_assembler.specs.Words.{lines_of};
 ghost use Rattle.asl_assembler.specs.Reading.{image_from, BeginsWith};
 
-use crate::draft::{Place, one_longer};
+use crate::image_draft::{Place, one_longer};
 use crate::keyword::find_keyword;
 use crate::line::instruction;
-use crate::words::{next_word, split_line};
-use asl_code::{Function, Image, Instr, limits};
+use crate::line_words::{next_word, split_line};
+use asl_code::{Function, Image, Instr, image_limits};
 use std::alloc::AllocError;
 
 /// The instruction that is the first line of the text, if one is, and the text after it.
@@ -41,7 +41,7 @@ fn take_instructions<'t>(
     ensures shorter { IfOk result (λ rest. length rest.now ≤ length text.now) }
 {
     let mut rest = text;
-    while !rest.is_empty() && image.code.len() < limits::CODE {
+    while !rest.is_empty() && image.code.len() < image_limits::CODE {
         let Some((instr, behind)) = first_instruction(rest) else {
             return Ok(rest);
         };

@@ -13,8 +13,10 @@ ghost use Rattle.asl_assembler.specs.Canonical.{bodies, canonical_text, line_tex
 ghost use Rattle.asl_assembler.specs.Writing.{Writes, WritesEach, WritesLine, FitsGlobalLine, global_text, FitsInstrLine, instr_text};
 ghost use Rattle.asl_assembler.specs.Writing.{FitsLockLine, lock_text, FitsBodyLines, body_text, FitsListLines, list_text};
 
-use crate::piece::Piece;
-use crate::print::{put_instr, put_lock, short_line};
+use crate::instr_lines::put_instr;
+use crate::line_piece::Piece;
+use crate::lock_lines::put_lock;
+use crate::print::short_line;
 use asl_code::{Function, Image, Instr, Items, Lock, Program};
 use std::alloc::{AllocError, Global};
 

@@ -4,17 +4,19 @@
 mod assembly;
 mod body;
 mod disassembly;
-mod draft;
+mod image_draft;
+mod instr_lines;
 mod keyword;
 pub mod laws;
 mod line;
-mod number;
+mod line_order;
+mod line_piece;
+mod line_words;
+mod lock_lines;
 mod operand;
-mod order;
-mod piece;
 mod print;
 mod read;
-mod words;
+mod word_number;
 
 pub use assembly::{AsmFault, assemble};
 pub use disassembly::disassemble;

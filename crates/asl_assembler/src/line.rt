@@ -5,12 +5,12 @@ ghost use Rattle.asl_assembler.specs.Words.{words_of};
 ghost use Rattle.asl_assembler.specs.Reading.{instr_of, with_numbers_of, expr_of, path_of, line_of, meaning_of, lock_with};
 
 use crate::keyword::{Keyword, find_keyword};
+use crate::line_words::{next_word, no_word_in};
 use crate::operand::{
     base, effect, one_effect, one_register, one_short, operation, register_and_global,
     register_and_integer, register_and_short, register_byte_and_short, short_and_effect,
     three_registers, two_bytes, two_registers, two_registers_and_byte, two_registers_and_short,
 };
-use crate::words::{next_word, no_word_in};
 use asl_code::{Base, Expr, Instr, Lock, Path, is_version};
 
 /// What a line says by itself.

@@ -5,8 +5,8 @@ ghost use Rattle.asl_assembler.specs.Words.{words_of};
 ghost use Rattle.asl_assembler.specs.Reading.{one, two, three, number_of, register_of, global_of, integer_of, effect_of, base_of, op_of, registers_2, registers_3};
 
 use crate::keyword::{Keyword, find_keyword};
-use crate::number::{byte, integer, marked_byte, marked_short, short};
-use crate::words::{one_word_in, three_words_in, two_words_in};
+use crate::line_words::{one_word_in, three_words_in, two_words_in};
+use crate::word_number::{byte, integer, marked_byte, marked_short, short};
 use asl_code::{Base, Effect, Op};
 
 /// A register, as `r0`.

@@ -6,8 +6,8 @@ ghost use Rattle.asl_assembler.specs.Reading.{image_from, blank_image, Answers};
 ghost use Rattle.asl_assembler.specs.declared.read.ReadFault.TheVariants.{OutOfMemory};
 
 use crate::body::take_body;
-use crate::draft::{Place, close, is_over, take_bytes};
-use crate::words::split_line;
+use crate::image_draft::{Place, close, is_over, take_bytes};
+use crate::line_words::split_line;
 use asl_code::{Image, Items};
 use std::alloc::{AllocError, Global};
 

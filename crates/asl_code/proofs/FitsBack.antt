@@ -1,20 +1,22 @@
 -- The way back: an image of which all facts hold is verified.
-use Rattle.std.proofs.Common.{◌≡◌, ℕ, ◌+◌, ◌-◌, ◌<◌, ◌≤◌, Bool, true, false, not, ◌&&◌, ◌==◌, List, [], ◌∷◌, Option, Some, None, length, zero, suc, ltb, leb, All, find, slice_get, subst, refl, ap, sym, ◌∙◌, inl, inr, arith}
-use Rattle.std.specs.List.{list_all}
+use Rattle.std.proofs.Common.{◌≡◌, ℕ, ◌+◌, ◌-◌, ◌<◌, ◌≤◌, Bool, true, false, not, ◌==◌, List, [], ◌∷◌, Option, Some, None, length, zero, suc, ltb, leb, All, find, slice_get, subst, refl, ap, sym, ◌∙◌, inl, inr, arith}
+use Rattle.std.specs.List.{list_all, AllByRecursion}
 use Rattle.std.specs.Option.{option_map_or}
 use Rattle.std.proofs.lemmas.List.Elements.{All-head, All-tail}
 use Rattle.std.proofs.lemmas.Option.{slice_get_within}
 use Rattle.std.proofs.lemmas.Bool.{cases_Bool, and_parts, and_from, leb-true, ltb-true, le-leb, lt-ltb, eq-eqb, cond-true, cond-false}
 use Rattle.asl_code.specs.Bodies.{Body, bodies_from, first_of, is_inside, body_of}
-use Rattle.asl_code.specs.Fits.{LiesIn, FitsFunction, FitsInstr, FitsImage, FitsBase, FitsLock, HasBase, HasLock}
+use Rattle.asl_code.specs.Fits.{LiesIn, FitsFunction, FitsOperand, FitsInstr, FitsImage, FitsBase, FitsLock, HasBase, HasLock}
+use Rattle.asl_code.specs.Operands.{operands}
+use Rattle.asl_code.specs.declared.operand.Operand.{Operand}
+use Rattle.asl_code.specs.declared.operand.Operand.TheVariants as operand
 use Rattle.asl_code.specs.Rules.{body_at}
-use Rattle.asl_code.specs.Verified.{keeps_limits, keeps_counts, keeps_function_limits, keeps_list_limit, has_base, has_lock, has_tables, has_entry, has_range, has_ranges, has_end, has_ends, is_end, has_target, has_registers, has_operands, has_base_register, has_lock_base, has_list_bases, is_failure, fails_at, IsVerified}
+use Rattle.asl_code.specs.Verified.{keeps_limits, keeps_counts, keeps_function_limits, keeps_list_limit, has_base, has_lock, has_tables, has_entry, has_range, has_ranges, has_end, has_ends, is_end, target_there, has_target, register_there, has_registers, entry_there, has_operands, has_base_register, has_lock_base, bases_there, has_list_bases, is_failure, fails_at, IsVerified}
 use Rattle.asl_code.specs.Versions.{most_locks}
 use Rattle.asl_code.specs.declared.image.Function.{Function}
 use Rattle.asl_code.specs.declared.image.Image.{Image}
 use Rattle.asl_code.specs.declared.fault.VerifyFault.TheVariants as fault
 use Rattle.asl_code.specs.declared.instr.Instr.{Instr}
-use Rattle.asl_code.specs.declared.instr.Instr.TheVariants.{SetInt, SetNull, Move, Add, Subtract, LessThan, Equals, GlobalAddress, FieldAddress, Load, Store, New, Jump, JumpIfZero, Call, Return, Output, Acquire, Release}
 use Rattle.asl_code.specs.declared.lock.Base.{Base}
 use Rattle.asl_code.specs.declared.lock.Base.TheVariants.{Reg, Global}
 use Rattle.asl_code.specs.declared.lock.Lock.{Lock}
@@ -73,47 +75,24 @@ none_fails passes i pc each = by_parts (body_of i pc) (slice_get i.code pc) refl
 lies_inside : (i : Image) (n pc : ℕ) (f : Function) → LiesIn i n pc f → is_inside pc (body_at (first_of i.functions n) f) ≡ true
 lies_inside i n pc f at = and_from _ _ (le-leb _ _ at.low) (lt-ltb _ _ at.high)
 
--- an instruction that fits passes each line
-pub fit_target : (i : Image) (n : ℕ) (f : Function) (instr : Instr) → FitsInstr i n f instr → has_target i (body_at (first_of i.functions n) f) instr ≡ true
-fit_target i n f (Jump target) fits = lies_inside i n target f fits
-fit_target i n f (JumpIfZero test target) fits = lies_inside i n target f fits.1
-fit_target i n f (Call to first function) fits = lt-ltb _ _ (slice_get_within i.functions function fits.1.0 fits.1.1)
-fit_target i n f instr fits = refl
+-- an operand that fits passes each line
+fit_target_there : (i : Image) (n : ℕ) (f : Function) (o : Operand) → FitsOperand i n f o → target_there i (body_at (first_of i.functions n) f) o ≡ true
+fit_target_there i n f (operand.Target target) fits = lies_inside i n target f fits
+fit_target_there i n f (operand.Callee first function) fits = lt-ltb _ _ (slice_get_within i.functions function fits.0 fits.1)
+fit_target_there i n f o fits = refl
 
-fit_two : (a b regs : ℕ) → (a < regs) × (b < regs) → (ltb a regs && ltb b regs) ≡ true
-fit_two a b regs fits = and_from _ _ (lt-ltb _ _ fits.0) (lt-ltb _ _ fits.1)
+fit_register_there : (i : Image) (n : ℕ) (f : Function) (o : Operand) → FitsOperand i n f o → register_there i f o ≡ true
+fit_register_there i n f (operand.Register register) fits = lt-ltb _ _ fits
+fit_register_there i n f (operand.Callee first function) fits =
+    ap (λ o. option_map_or (λ (g : Function). leb (first + g.params) f.regs) o true) fits.1 ∙ le-leb _ _ fits.2
+fit_register_there i n f o fits = refl
 
-fit_three : (a b c regs : ℕ) → (a < regs) × (b < regs) × (c < regs) → (ltb a regs && ltb b regs && ltb c regs) ≡ true
-fit_three a b c regs fits = and_from _ _ (fit_two a b regs (fits.0, fits.1)) (lt-ltb _ _ fits.2)
-
-pub fit_registers : (i : Image) (n : ℕ) (f : Function) (instr : Instr) → FitsInstr i n f instr → has_registers i f instr ≡ true
-fit_registers i n f (SetInt to value) fits = lt-ltb _ _ fits
-fit_registers i n f (SetNull to) fits = lt-ltb _ _ fits
-fit_registers i n f (Move to from) fits = fit_two to from f.regs fits
-fit_registers i n f (Add to left right) fits = fit_three to left right f.regs fits
-fit_registers i n f (Subtract to left right) fits = fit_three to left right f.regs fits
-fit_registers i n f (LessThan to left right) fits = fit_three to left right f.regs fits
-fit_registers i n f (Equals to left right) fits = fit_three to left right f.regs fits
-fit_registers i n f (GlobalAddress to global) fits = lt-ltb _ _ fits.0
-fit_registers i n f (FieldAddress to from offset) fits = fit_two to from f.regs fits
-fit_registers i n f (Load to address) fits = fit_two to address f.regs fits
-fit_registers i n f (Store address from) fits = fit_two address from f.regs fits
-fit_registers i n f (New to cells class) fits = lt-ltb _ _ fits.0
-fit_registers i n f (Jump target) fits = refl
-fit_registers i n f (JumpIfZero test target) fits = lt-ltb _ _ fits.0
-fit_registers i n f (Call to first function) fits =
-    and_from _ _ (lt-ltb _ _ fits.0)
-    (ap (λ o. option_map_or (λ (g : Function). leb (first + g.params) f.regs) o true) fits.1.1 ∙ le-leb _ _ fits.1.2)
-fit_registers i n f (Return from) fits = lt-ltb _ _ fits
-fit_registers i n f (Output from) fits = lt-ltb _ _ fits
-fit_registers i n f (Acquire list) fits = refl
-fit_registers i n f Release fits = refl
-
-pub fit_operands : (i : Image) (n : ℕ) (f : Function) (instr : Instr) → FitsInstr i n f instr → has_operands i instr ≡ true
-fit_operands i n f (GlobalAddress to global) fits = lt-ltb _ _ fits.1
-fit_operands i n f (New to cells class) fits = and_from _ _ (lt-ltb _ _ fits.1) (lt-ltb _ _ fits.2)
-fit_operands i n f (Acquire list) fits = lt-ltb _ _ (slice_get_within i.lists list fits.0 fits.1)
-fit_operands i n f instr fits = refl
+fit_entry_there : (i : Image) (n : ℕ) (f : Function) (o : Operand) → FitsOperand i n f o → entry_there i o ≡ true
+fit_entry_there i n f (operand.Global global) fits = lt-ltb _ _ fits
+fit_entry_there i n f (operand.Cells cells) fits = lt-ltb _ _ fits
+fit_entry_there i n f (operand.Class class) fits = lt-ltb _ _ fits
+fit_entry_there i n f (operand.Locks list) fits = lt-ltb _ _ (slice_get_within i.lists list fits.0 fits.1)
+fit_entry_there i n f o fits = refl
 
 fit_base : (i : Image) (f : Function) (b : Base) → FitsBase i f b → has_base_register f b ≡ true
 fit_base i f (Reg r) fits = lt-ltb _ _ fits
@@ -124,11 +103,28 @@ fit_lock i f (lock.Root effect) fits = refl
 fit_lock i f (lock.Class class effect) fits = refl
 fit_lock i f (lock.Expr expr effect) fits = fit_base i f expr.base fits
 
-pub fit_bases : (i : Image) (n : ℕ) (f : Function) (instr : Instr) → FitsInstr i n f instr → has_list_bases i f instr ≡ true
-fit_bases i n f (Acquire list) fits =
+fit_bases_there : (i : Image) (n : ℕ) (f : Function) (o : Operand) → FitsOperand i n f o → bases_there i f o ≡ true
+fit_bases_there i n f (operand.Locks list) fits =
     ap (λ o. option_map_or (list_all (has_lock_base f)) o true) fits.1
     ∙ all_pass_from (has_lock_base f) (FitsLock i f) (fit_lock i f) fits.0 fits.2
-fit_bases i n f instr fits = refl
+fit_bases_there i n f o fits = refl
+
+-- so does an instruction
+all_fit : {X : Type 0} (test : X → Bool) (P : X → Type 0) → ((x : X) → P x → test x ≡ true) → (xs : List X) → AllByRecursion P xs → list_all test xs ≡ true
+all_fit test P gives [] all = refl
+all_fit test P gives (x ∷ xs) all = and_from _ _ (gives x all.0) (all_fit test P gives xs all.1)
+
+pub fit_target : (i : Image) (n : ℕ) (f : Function) (instr : Instr) → FitsInstr i n f instr → has_target i (body_at (first_of i.functions n) f) instr ≡ true
+fit_target i n f instr fits = all_fit (target_there i (body_at (first_of i.functions n) f)) (FitsOperand i n f) (fit_target_there i n f) (operands instr) fits
+
+pub fit_registers : (i : Image) (n : ℕ) (f : Function) (instr : Instr) → FitsInstr i n f instr → has_registers i f instr ≡ true
+fit_registers i n f instr fits = all_fit (register_there i f) (FitsOperand i n f) (fit_register_there i n f) (operands instr) fits
+
+pub fit_operands : (i : Image) (n : ℕ) (f : Function) (instr : Instr) → FitsInstr i n f instr → has_operands i instr ≡ true
+fit_operands i n f instr fits = all_fit (entry_there i) (FitsOperand i n f) (fit_entry_there i n f) (operands instr) fits
+
+pub fit_bases : (i : Image) (n : ℕ) (f : Function) (instr : Instr) → FitsInstr i n f instr → has_list_bases i f instr ≡ true
+fit_bases i n f instr fits = all_fit (bases_there i f) (FitsOperand i n f) (fit_bases_there i n f) (operands instr) fits
 
 -- what is there passes the test of the tables
 fit_has_base : (i : Image) (b : Base) → HasBase i b → has_base i b ≡ true

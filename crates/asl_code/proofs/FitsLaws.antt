@@ -1,21 +1,23 @@
 -- What a verified image gives: where its bodies lie, and what holds of each part and of the instruction at each place.
-use Rattle.std.proofs.Common.{◌≡◌, ℕ, ◌+◌, ◌-◌, ◌<◌, ◌≤◌, Bool, true, false, ◌&&◌, List, [], ◌∷◌, Option, Some, None, length, get_or, ◌==◌, ltb, leb, eqb, zero, suc, take, All, find, slice_get, refl, ap, sym, subst, ◌∙◌, inl, inr, arith}
-use Rattle.std.specs.List.{list_all}
+use Rattle.std.proofs.Common.{◌≡◌, ℕ, ◌+◌, ◌-◌, ◌<◌, ◌≤◌, Bool, true, false, List, [], ◌∷◌, Option, Some, None, length, get_or, ◌==◌, ltb, leb, eqb, zero, suc, take, All, find, slice_get, refl, ap, sym, subst, ◌∙◌, inl, inr, arith}
+use Rattle.std.specs.List.{list_all, AllByRecursion}
 use Rattle.std.specs.Option.{option_map_or}
 use Rattle.std.proofs.lemmas.List.Sums.{sum_by-cons, sum_by_more_le}
 use Rattle.std.proofs.lemmas.Option.{slice_get_within, get_or_from_slice_get}
 use Rattle.std.proofs.lemmas.Bool.{cases_lt, both_ways, and_parts, eqb-true, ltb-true, leb-true, le-leb, lt-ltb, and_from, cond-true, not-false}
 use Rattle.asl_code.specs.Bodies.{Body, bodies_from, total_len, first_of, is_inside, body_of}
-use Rattle.asl_code.specs.Fits.{LiesIn, FitsFunction, FitsInstr, FitsImage, FitsBase, FitsLock, HasBase, HasLock}
+use Rattle.asl_code.specs.Fits.{LiesIn, FitsFunction, FitsOperand, FitsInstr, FitsImage, FitsBase, FitsLock, HasBase, HasLock}
+use Rattle.asl_code.specs.Operands.{operands}
+use Rattle.asl_code.specs.declared.operand.Operand.{Operand}
+use Rattle.asl_code.specs.declared.operand.Operand.TheVariants as operand
 use Rattle.asl_code.specs.Rules.{body_at}
-use Rattle.asl_code.specs.Verified.{keeps_limits, keeps_counts, keeps_function_limits, keeps_list_limit, has_base, has_lock, has_tables, has_range, has_ranges, has_end, is_end, has_target, has_registers, has_arguments, has_operands, has_base_register, has_lock_base, has_list_bases, is_failure, fails_at, IsVerified}
+use Rattle.asl_code.specs.Verified.{keeps_limits, keeps_counts, keeps_function_limits, keeps_list_limit, has_base, has_lock, has_tables, has_range, has_ranges, has_end, is_end, target_there, has_target, register_there, has_registers, has_arguments, entry_there, has_operands, has_base_register, has_lock_base, bases_there, has_list_bases, is_failure, fails_at, IsVerified}
 use Rattle.asl_code.specs.Versions.{limits_of}
 use Rattle.asl_code.specs.declared.image.Function.{Function}
 use Rattle.asl_code.specs.declared.image.Image.{Image}
 use Rattle.asl_code.specs.declared.fault.VerifyFault.TheVariants as fault
 use Rattle.asl_code.specs.declared.instr.Instr.{Instr}
-use Rattle.asl_code.specs.declared.instr.Instr.TheVariants.{SetInt, SetNull, Move, Add, Subtract, LessThan, Equals, GlobalAddress, FieldAddress, Load, Store, New, Jump, JumpIfZero, Call, Return, Output, Acquire, Release}
-use Rattle.asl_code.specs.declared.limits.Limits.{Limits}
+use Rattle.asl_code.specs.declared.image_limits.Limits.{Limits}
 use Rattle.asl_code.specs.declared.lock.Base.{Base}
 use Rattle.asl_code.specs.declared.lock.Base.TheVariants.{Reg, Global}
 use Rattle.asl_code.specs.declared.lock.Lock.{Lock}
@@ -187,15 +189,6 @@ told_table i (lock.Expr expr effect) there = told_has_base i expr.base there
     told_has_base i (Reg r) there = tt
     told_has_base i (Global g) there = ltb-true _ _ there
 
--- what the tests of an instruction tell: one register, two, three
-told_two : (a b regs : ℕ) → (ltb a regs && ltb b regs) ≡ true → (a < regs) × (b < regs)
-told_two a b regs h = (ltb-true _ _ (and_parts _ _ h).0, ltb-true _ _ (and_parts _ _ h).1)
-
-told_three : (a b c regs : ℕ) → (ltb a regs && ltb b regs && ltb c regs) ≡ true → (a < regs) × (b < regs) × (c < regs)
-told_three a b c regs h =
-    let ab = told_two a b regs (and_parts _ _ h).0 in
-    (ab.0, ab.1, ltb-true _ _ (and_parts _ _ h).1)
-
 -- a jump's target that is in the body lies in it
 told_target : (i : Image) (n target : ℕ) (f : Function) → slice_get i.functions n ≡ Some f → is_inside target (body_at (first_of i.functions n) f) ≡ true → LiesIn i n target f
 told_target i n target f is inside =
@@ -218,27 +211,34 @@ told_list i f list tables there bases =
           (sym (ap (λ o. option_map_or (list_all (has_lock_base f)) o true) locks.1) ∙ bases),
     )
 
+-- the tests of an operand together tell that it fits
+told_operand : (i : Image) (n : ℕ) (f : Function) (o : Operand) → slice_get i.functions n ≡ Some f → list_all (list_all (has_lock i)) i.lists ≡ true → target_there i (body_at (first_of i.functions n) f) o ≡ true → register_there i f o ≡ true → entry_there i o ≡ true → bases_there i f o ≡ true → FitsOperand i n f o
+told_operand i n f (operand.Register register) is tables target registers entry bases = ltb-true _ _ registers
+told_operand i n f (operand.Integer value) is tables target registers entry bases = tt
+told_operand i n f (operand.Global global) is tables target registers entry bases = ltb-true _ _ entry
+told_operand i n f (operand.Offset offset) is tables target registers entry bases = tt
+told_operand i n f (operand.Cells cells) is tables target registers entry bases = ltb-true _ _ entry
+told_operand i n f (operand.Class class) is tables target registers entry bases = ltb-true _ _ entry
+told_operand i n f (operand.Target place) is tables inside registers entry bases = told_target i n place f is inside
+told_operand i n f (operand.Callee first function) is tables there registers entry bases = told_callee i f first function there registers
+told_operand i n f (operand.Locks list) is tables target registers entry bases = told_list i f list tables entry bases
+
+-- a test of a list is one of its first element, and of the others
+all_parts : {X : Type 0} (test : X → Bool) (x : X) (xs : List X) → list_all test (x ∷ xs) ≡ true → (test x ≡ true) × (list_all test xs ≡ true)
+all_parts test x xs all = and_parts _ _ all
+
+told_each : (i : Image) (n : ℕ) (f : Function) (os : List Operand) → slice_get i.functions n ≡ Some f → list_all (list_all (has_lock i)) i.lists ≡ true → list_all (target_there i (body_at (first_of i.functions n) f)) os ≡ true → list_all (register_there i f) os ≡ true → list_all (entry_there i) os ≡ true → list_all (bases_there i f) os ≡ true → AllByRecursion (FitsOperand i n f) os
+told_each i n f [] is tables target registers entry bases = tt
+told_each i n f (o ∷ os) is tables target registers entry bases =
+    let t = all_parts (target_there i (body_at (first_of i.functions n) f)) o os target in
+    let r = all_parts (register_there i f) o os registers in
+    let e = all_parts (entry_there i) o os entry in
+    let b = all_parts (bases_there i f) o os bases in
+    (told_operand i n f o is tables t.0 r.0 e.0 b.0, told_each i n f os is tables t.1 r.1 e.1 b.1)
+
 -- the tests of an instruction together tell that it fits
 pub told_instr : (i : Image) (n : ℕ) (f : Function) (instr : Instr) → slice_get i.functions n ≡ Some f → list_all (list_all (has_lock i)) i.lists ≡ true → has_target i (body_at (first_of i.functions n) f) instr ≡ true → has_registers i f instr ≡ true → has_operands i instr ≡ true → has_list_bases i f instr ≡ true → FitsInstr i n f instr
-told_instr i n f (SetInt to value) is tables target registers operands bases = ltb-true _ _ registers
-told_instr i n f (SetNull to) is tables target registers operands bases = ltb-true _ _ registers
-told_instr i n f (Move to from) is tables target registers operands bases = told_two to from f.regs registers
-told_instr i n f (Add to left right) is tables target registers operands bases = told_three to left right f.regs registers
-told_instr i n f (Subtract to left right) is tables target registers operands bases = told_three to left right f.regs registers
-told_instr i n f (LessThan to left right) is tables target registers operands bases = told_three to left right f.regs registers
-told_instr i n f (Equals to left right) is tables target registers operands bases = told_three to left right f.regs registers
-told_instr i n f (GlobalAddress to global) is tables target registers operands bases = (ltb-true _ _ registers, ltb-true _ _ operands)
-told_instr i n f (FieldAddress to from offset) is tables target registers operands bases = told_two to from f.regs registers
-told_instr i n f (Load to address) is tables target registers operands bases = told_two to address f.regs registers
-told_instr i n f (Store address from) is tables target registers operands bases = told_two address from f.regs registers
-told_instr i n f (New to cells class) is tables target registers operands bases = (ltb-true _ _ registers, ltb-true _ _ (and_parts _ _ operands).0, ltb-true _ _ (and_parts _ _ operands).1)
-told_instr i n f (Jump target) is tables inside registers operands bases = told_target i n target f is inside
-told_instr i n f (JumpIfZero test target) is tables inside registers operands bases = (ltb-true _ _ registers, told_target i n target f is inside)
-told_instr i n f (Call to first function) is tables there registers operands bases = (ltb-true _ _ (and_parts _ _ registers).0, told_callee i f first function there (and_parts _ _ registers).1)
-told_instr i n f (Return from) is tables target registers operands bases = ltb-true _ _ registers
-told_instr i n f (Output from) is tables target registers operands bases = ltb-true _ _ registers
-told_instr i n f (Acquire list) is tables target registers operands bases = told_list i f list tables operands bases
-told_instr i n f Release is tables target registers operands bases = tt
+told_instr i n f instr is tables target registers entry bases = told_each i n f (operands instr) is tables target registers entry bases
 
 -- the instruction at a place fits the function in whose body it lies
 pub fits_at : (i : Image) → IsVerified i → (n pc : ℕ) (f : Function) (instr : Instr) → LiesIn i n pc f → slice_get i.code pc ≡ Some instr → FitsInstr i n f instr

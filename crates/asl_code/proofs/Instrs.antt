@@ -64,58 +64,58 @@ none : (d : ℕ) → d ≤ 0 → d ≡ 0
 none d le = omega arith
 
 row_1 : IsGoodRow 1 (record { used = 1; greatest = 4294967295; made = λ a b c d. SetInt a (cast_signed w32 d) })
-row_1 a b c d fa fb fc fd t = record { fits = (fa, sfits_to_z (record { fits = fd })); spelled = same_fields 1 a b c d a 0 0 (cast_unsigned w32 (cast_signed w32 d)) refl (unused b t.second) (unused c t.third) (sym (of_z-to_z w32 d fd)) }
+row_1 a b c d fa fb fc fd t = record { fits = (fa, (sfits_to_z (record { fits = fd }), tt)); spelled = same_fields 1 a b c d a 0 0 (cast_unsigned w32 (cast_signed w32 d)) refl (unused b t.second) (unused c t.third) (sym (of_z-to_z w32 d fd)) }
 
 row_2 : IsGoodRow 2 (record { used = 1; greatest = 0; made = λ a b c d. SetNull a })
-row_2 a b c d fa fb fc fd t = record { fits = fa; spelled = same_fields 2 a b c d a 0 0 0 refl (unused b t.second) (unused c t.third) (none d t.last) }
+row_2 a b c d fa fb fc fd t = record { fits = (fa, tt); spelled = same_fields 2 a b c d a 0 0 0 refl (unused b t.second) (unused c t.third) (none d t.last) }
 
 row_3 : IsGoodRow 3 (record { used = 2; greatest = 0; made = λ a b c d. Move a b })
-row_3 a b c d fa fb fc fd t = record { fits = (fa, fb); spelled = same_fields 3 a b c d a b 0 0 refl refl (unused c t.third) (none d t.last) }
+row_3 a b c d fa fb fc fd t = record { fits = (fa, (fb, tt)); spelled = same_fields 3 a b c d a b 0 0 refl refl (unused c t.third) (none d t.last) }
 
 row_4 : IsGoodRow 4 (record { used = 3; greatest = 0; made = λ a b c d. Add a b c })
-row_4 a b c d fa fb fc fd t = record { fits = (fa, fb, fc); spelled = same_fields 4 a b c d a b c 0 refl refl refl (none d t.last) }
+row_4 a b c d fa fb fc fd t = record { fits = (fa, (fb, (fc, tt))); spelled = same_fields 4 a b c d a b c 0 refl refl refl (none d t.last) }
 
 row_5 : IsGoodRow 5 (record { used = 3; greatest = 0; made = λ a b c d. Subtract a b c })
-row_5 a b c d fa fb fc fd t = record { fits = (fa, fb, fc); spelled = same_fields 5 a b c d a b c 0 refl refl refl (none d t.last) }
+row_5 a b c d fa fb fc fd t = record { fits = (fa, (fb, (fc, tt))); spelled = same_fields 5 a b c d a b c 0 refl refl refl (none d t.last) }
 
 row_6 : IsGoodRow 6 (record { used = 3; greatest = 0; made = λ a b c d. LessThan a b c })
-row_6 a b c d fa fb fc fd t = record { fits = (fa, fb, fc); spelled = same_fields 6 a b c d a b c 0 refl refl refl (none d t.last) }
+row_6 a b c d fa fb fc fd t = record { fits = (fa, (fb, (fc, tt))); spelled = same_fields 6 a b c d a b c 0 refl refl refl (none d t.last) }
 
 row_7 : IsGoodRow 7 (record { used = 3; greatest = 0; made = λ a b c d. Equals a b c })
-row_7 a b c d fa fb fc fd t = record { fits = (fa, fb, fc); spelled = same_fields 7 a b c d a b c 0 refl refl refl (none d t.last) }
+row_7 a b c d fa fb fc fd t = record { fits = (fa, (fb, (fc, tt))); spelled = same_fields 7 a b c d a b c 0 refl refl refl (none d t.last) }
 
 row_8 : IsGoodRow 8 (record { used = 1; greatest = 65535; made = λ a b c d. GlobalAddress a d })
-row_8 a b c d fa fb fc fd t = record { fits = (fa, omega (arith, t.last)); spelled = same_fields 8 a b c d a 0 0 d refl (unused b t.second) (unused c t.third) refl }
+row_8 a b c d fa fb fc fd t = record { fits = (fa, (omega (arith, t.last), tt)); spelled = same_fields 8 a b c d a 0 0 d refl (unused b t.second) (unused c t.third) refl }
 
 row_9 : IsGoodRow 9 (record { used = 2; greatest = 255; made = λ a b c d. FieldAddress a b d })
-row_9 a b c d fa fb fc fd t = record { fits = (fa, fb, omega (arith, t.last)); spelled = same_fields 9 a b c d a b 0 d refl refl (unused c t.third) refl }
+row_9 a b c d fa fb fc fd t = record { fits = (fa, (fb, (omega (arith, t.last), tt))); spelled = same_fields 9 a b c d a b 0 d refl refl (unused c t.third) refl }
 
 row_10 : IsGoodRow 10 (record { used = 2; greatest = 0; made = λ a b c d. Load a b })
-row_10 a b c d fa fb fc fd t = record { fits = (fa, fb); spelled = same_fields 10 a b c d a b 0 0 refl refl (unused c t.third) (none d t.last) }
+row_10 a b c d fa fb fc fd t = record { fits = (fa, (fb, tt)); spelled = same_fields 10 a b c d a b 0 0 refl refl (unused c t.third) (none d t.last) }
 
 row_11 : IsGoodRow 11 (record { used = 2; greatest = 0; made = λ a b c d. Store a b })
-row_11 a b c d fa fb fc fd t = record { fits = (fa, fb); spelled = same_fields 11 a b c d a b 0 0 refl refl (unused c t.third) (none d t.last) }
+row_11 a b c d fa fb fc fd t = record { fits = (fa, (fb, tt)); spelled = same_fields 11 a b c d a b 0 0 refl refl (unused c t.third) (none d t.last) }
 
 row_12 : IsGoodRow 12 (record { used = 2; greatest = 65535; made = λ a b c d. New a b d })
-row_12 a b c d fa fb fc fd t = record { fits = (fa, fb, omega (arith, t.last)); spelled = same_fields 12 a b c d a b 0 d refl refl (unused c t.third) refl }
+row_12 a b c d fa fb fc fd t = record { fits = (fa, (fb, (omega (arith, t.last), tt))); spelled = same_fields 12 a b c d a b 0 d refl refl (unused c t.third) refl }
 
 row_13 : IsGoodRow 13 (record { used = 0; greatest = 65535; made = λ a b c d. Jump d })
-row_13 a b c d fa fb fc fd t = record { fits = omega (arith, t.last); spelled = same_fields 13 a b c d 0 0 0 d (unused a t.first) (unused b t.second) (unused c t.third) refl }
+row_13 a b c d fa fb fc fd t = record { fits = (omega (arith, t.last), tt); spelled = same_fields 13 a b c d 0 0 0 d (unused a t.first) (unused b t.second) (unused c t.third) refl }
 
 row_14 : IsGoodRow 14 (record { used = 1; greatest = 65535; made = λ a b c d. JumpIfZero a d })
-row_14 a b c d fa fb fc fd t = record { fits = (fa, omega (arith, t.last)); spelled = same_fields 14 a b c d a 0 0 d refl (unused b t.second) (unused c t.third) refl }
+row_14 a b c d fa fb fc fd t = record { fits = (fa, (omega (arith, t.last), tt)); spelled = same_fields 14 a b c d a 0 0 d refl (unused b t.second) (unused c t.third) refl }
 
 row_15 : IsGoodRow 15 (record { used = 2; greatest = 65535; made = λ a b c d. Call a b d })
-row_15 a b c d fa fb fc fd t = record { fits = (fa, fb, omega (arith, t.last)); spelled = same_fields 15 a b c d a b 0 d refl refl (unused c t.third) refl }
+row_15 a b c d fa fb fc fd t = record { fits = (fa, ((fb, omega (arith, t.last)), tt)); spelled = same_fields 15 a b c d a b 0 d refl refl (unused c t.third) refl }
 
 row_16 : IsGoodRow 16 (record { used = 1; greatest = 0; made = λ a b c d. Return a })
-row_16 a b c d fa fb fc fd t = record { fits = fa; spelled = same_fields 16 a b c d a 0 0 0 refl (unused b t.second) (unused c t.third) (none d t.last) }
+row_16 a b c d fa fb fc fd t = record { fits = (fa, tt); spelled = same_fields 16 a b c d a 0 0 0 refl (unused b t.second) (unused c t.third) (none d t.last) }
 
 row_17 : IsGoodRow 17 (record { used = 1; greatest = 0; made = λ a b c d. Output a })
-row_17 a b c d fa fb fc fd t = record { fits = fa; spelled = same_fields 17 a b c d a 0 0 0 refl (unused b t.second) (unused c t.third) (none d t.last) }
+row_17 a b c d fa fb fc fd t = record { fits = (fa, tt); spelled = same_fields 17 a b c d a 0 0 0 refl (unused b t.second) (unused c t.third) (none d t.last) }
 
 row_18 : IsGoodRow 18 (record { used = 0; greatest = 65535; made = λ a b c d. Acquire d })
-row_18 a b c d fa fb fc fd t = record { fits = omega (arith, t.last); spelled = same_fields 18 a b c d 0 0 0 d (unused a t.first) (unused b t.second) (unused c t.third) refl }
+row_18 a b c d fa fb fc fd t = record { fits = (omega (arith, t.last), tt); spelled = same_fields 18 a b c d 0 0 0 d (unused a t.first) (unused b t.second) (unused c t.third) refl }
 
 row_19 : IsGoodRow 19 (record { used = 0; greatest = 0; made = λ a b c d. Release })
 row_19 a b c d fa fb fc fd t = record { fits = tt; spelled = same_fields 19 a b c d 0 0 0 0 (unused a t.first) (unused b t.second) (unused c t.third) (none d t.last) }
@@ -154,10 +154,10 @@ read_of (SetInt x w) fits = record {
   c = 0;
   d = cast_unsigned w32 w;
   row = record { used = 1; greatest = 4294967295; made = λ a b c d. SetInt a (cast_signed w32 d) };
-  fields = record { op_fits = lit< tt; a_fits = fits.0; b_fits = lit< tt; c_fits = lit< tt; d_fits = (Fits-of_z fits.1).fits };
+  fields = record { op_fits = lit< tt; a_fits = fits.0; b_fits = lit< tt; c_fits = lit< tt; d_fits = (Fits-of_z fits.1.0).fits };
   is_there = refl;
-  taken = record { first = refl; second = refl; third = refl; last = omega (arith, (Fits-of_z fits.1).fits) };
-  makes = ap (SetInt x) (to_z-of_z w32 w fits.1);
+  taken = record { first = refl; second = refl; third = refl; last = omega (arith, (Fits-of_z fits.1.0).fits) };
+  makes = ap (SetInt x) (to_z-of_z w32 w fits.1.0);
   bytes = refl;
 }
 read_of (SetNull x) fits = record {
@@ -167,7 +167,7 @@ read_of (SetNull x) fits = record {
   c = 0;
   d = 0;
   row = record { used = 1; greatest = 0; made = λ a b c d. SetNull a };
-  fields = record { op_fits = lit< tt; a_fits = fits; b_fits = lit< tt; c_fits = lit< tt; d_fits = lit< tt };
+  fields = record { op_fits = lit< tt; a_fits = fits.0; b_fits = lit< tt; c_fits = lit< tt; d_fits = lit< tt };
   is_there = refl;
   taken = record { first = refl; second = refl; third = refl; last = lit≤ tt };
   makes = refl;
@@ -180,7 +180,7 @@ read_of (Move x y) fits = record {
   c = 0;
   d = 0;
   row = record { used = 2; greatest = 0; made = λ a b c d. Move a b };
-  fields = record { op_fits = lit< tt; a_fits = fits.0; b_fits = fits.1; c_fits = lit< tt; d_fits = lit< tt };
+  fields = record { op_fits = lit< tt; a_fits = fits.0; b_fits = fits.1.0; c_fits = lit< tt; d_fits = lit< tt };
   is_there = refl;
   taken = record { first = refl; second = refl; third = refl; last = lit≤ tt };
   makes = refl;
@@ -193,7 +193,7 @@ read_of (Add x y z) fits = record {
   c = z;
   d = 0;
   row = record { used = 3; greatest = 0; made = λ a b c d. Add a b c };
-  fields = record { op_fits = lit< tt; a_fits = fits.0; b_fits = fits.1; c_fits = fits.2; d_fits = lit< tt };
+  fields = record { op_fits = lit< tt; a_fits = fits.0; b_fits = fits.1.0; c_fits = fits.1.1.0; d_fits = lit< tt };
   is_there = refl;
   taken = record { first = refl; second = refl; third = refl; last = lit≤ tt };
   makes = refl;
@@ -206,7 +206,7 @@ read_of (Subtract x y z) fits = record {
   c = z;
   d = 0;
   row = record { used = 3; greatest = 0; made = λ a b c d. Subtract a b c };
-  fields = record { op_fits = lit< tt; a_fits = fits.0; b_fits = fits.1; c_fits = fits.2; d_fits = lit< tt };
+  fields = record { op_fits = lit< tt; a_fits = fits.0; b_fits = fits.1.0; c_fits = fits.1.1.0; d_fits = lit< tt };
   is_there = refl;
   taken = record { first = refl; second = refl; third = refl; last = lit≤ tt };
   makes = refl;
@@ -219,7 +219,7 @@ read_of (LessThan x y z) fits = record {
   c = z;
   d = 0;
   row = record { used = 3; greatest = 0; made = λ a b c d. LessThan a b c };
-  fields = record { op_fits = lit< tt; a_fits = fits.0; b_fits = fits.1; c_fits = fits.2; d_fits = lit< tt };
+  fields = record { op_fits = lit< tt; a_fits = fits.0; b_fits = fits.1.0; c_fits = fits.1.1.0; d_fits = lit< tt };
   is_there = refl;
   taken = record { first = refl; second = refl; third = refl; last = lit≤ tt };
   makes = refl;
@@ -232,7 +232,7 @@ read_of (Equals x y z) fits = record {
   c = z;
   d = 0;
   row = record { used = 3; greatest = 0; made = λ a b c d. Equals a b c };
-  fields = record { op_fits = lit< tt; a_fits = fits.0; b_fits = fits.1; c_fits = fits.2; d_fits = lit< tt };
+  fields = record { op_fits = lit< tt; a_fits = fits.0; b_fits = fits.1.0; c_fits = fits.1.1.0; d_fits = lit< tt };
   is_there = refl;
   taken = record { first = refl; second = refl; third = refl; last = lit≤ tt };
   makes = refl;
@@ -245,9 +245,9 @@ read_of (GlobalAddress x w) fits = record {
   c = 0;
   d = w;
   row = record { used = 1; greatest = 65535; made = λ a b c d. GlobalAddress a d };
-  fields = record { op_fits = lit< tt; a_fits = fits.0; b_fits = lit< tt; c_fits = lit< tt; d_fits = omega (arith, fits.1) };
+  fields = record { op_fits = lit< tt; a_fits = fits.0; b_fits = lit< tt; c_fits = lit< tt; d_fits = omega (arith, fits.1.0) };
   is_there = refl;
-  taken = record { first = refl; second = refl; third = refl; last = omega (arith, fits.1) };
+  taken = record { first = refl; second = refl; third = refl; last = omega (arith, fits.1.0) };
   makes = refl;
   bytes = refl;
 }
@@ -258,9 +258,9 @@ read_of (FieldAddress x y w) fits = record {
   c = 0;
   d = w;
   row = record { used = 2; greatest = 255; made = λ a b c d. FieldAddress a b d };
-  fields = record { op_fits = lit< tt; a_fits = fits.0; b_fits = fits.1; c_fits = lit< tt; d_fits = omega (arith, fits.2) };
+  fields = record { op_fits = lit< tt; a_fits = fits.0; b_fits = fits.1.0; c_fits = lit< tt; d_fits = omega (arith, fits.1.1.0) };
   is_there = refl;
-  taken = record { first = refl; second = refl; third = refl; last = omega (arith, fits.2) };
+  taken = record { first = refl; second = refl; third = refl; last = omega (arith, fits.1.1.0) };
   makes = refl;
   bytes = refl;
 }
@@ -271,7 +271,7 @@ read_of (Load x y) fits = record {
   c = 0;
   d = 0;
   row = record { used = 2; greatest = 0; made = λ a b c d. Load a b };
-  fields = record { op_fits = lit< tt; a_fits = fits.0; b_fits = fits.1; c_fits = lit< tt; d_fits = lit< tt };
+  fields = record { op_fits = lit< tt; a_fits = fits.0; b_fits = fits.1.0; c_fits = lit< tt; d_fits = lit< tt };
   is_there = refl;
   taken = record { first = refl; second = refl; third = refl; last = lit≤ tt };
   makes = refl;
@@ -284,7 +284,7 @@ read_of (Store x y) fits = record {
   c = 0;
   d = 0;
   row = record { used = 2; greatest = 0; made = λ a b c d. Store a b };
-  fields = record { op_fits = lit< tt; a_fits = fits.0; b_fits = fits.1; c_fits = lit< tt; d_fits = lit< tt };
+  fields = record { op_fits = lit< tt; a_fits = fits.0; b_fits = fits.1.0; c_fits = lit< tt; d_fits = lit< tt };
   is_there = refl;
   taken = record { first = refl; second = refl; third = refl; last = lit≤ tt };
   makes = refl;
@@ -297,9 +297,9 @@ read_of (New x y w) fits = record {
   c = 0;
   d = w;
   row = record { used = 2; greatest = 65535; made = λ a b c d. New a b d };
-  fields = record { op_fits = lit< tt; a_fits = fits.0; b_fits = fits.1; c_fits = lit< tt; d_fits = omega (arith, fits.2) };
+  fields = record { op_fits = lit< tt; a_fits = fits.0; b_fits = fits.1.0; c_fits = lit< tt; d_fits = omega (arith, fits.1.1.0) };
   is_there = refl;
-  taken = record { first = refl; second = refl; third = refl; last = omega (arith, fits.2) };
+  taken = record { first = refl; second = refl; third = refl; last = omega (arith, fits.1.1.0) };
   makes = refl;
   bytes = refl;
 }
@@ -310,9 +310,9 @@ read_of (Jump w) fits = record {
   c = 0;
   d = w;
   row = record { used = 0; greatest = 65535; made = λ a b c d. Jump d };
-  fields = record { op_fits = lit< tt; a_fits = lit< tt; b_fits = lit< tt; c_fits = lit< tt; d_fits = omega (arith, fits) };
+  fields = record { op_fits = lit< tt; a_fits = lit< tt; b_fits = lit< tt; c_fits = lit< tt; d_fits = omega (arith, fits.0) };
   is_there = refl;
-  taken = record { first = refl; second = refl; third = refl; last = omega (arith, fits) };
+  taken = record { first = refl; second = refl; third = refl; last = omega (arith, fits.0) };
   makes = refl;
   bytes = refl;
 }
@@ -323,9 +323,9 @@ read_of (JumpIfZero x w) fits = record {
   c = 0;
   d = w;
   row = record { used = 1; greatest = 65535; made = λ a b c d. JumpIfZero a d };
-  fields = record { op_fits = lit< tt; a_fits = fits.0; b_fits = lit< tt; c_fits = lit< tt; d_fits = omega (arith, fits.1) };
+  fields = record { op_fits = lit< tt; a_fits = fits.0; b_fits = lit< tt; c_fits = lit< tt; d_fits = omega (arith, fits.1.0) };
   is_there = refl;
-  taken = record { first = refl; second = refl; third = refl; last = omega (arith, fits.1) };
+  taken = record { first = refl; second = refl; third = refl; last = omega (arith, fits.1.0) };
   makes = refl;
   bytes = refl;
 }
@@ -336,9 +336,9 @@ read_of (Call x y w) fits = record {
   c = 0;
   d = w;
   row = record { used = 2; greatest = 65535; made = λ a b c d. Call a b d };
-  fields = record { op_fits = lit< tt; a_fits = fits.0; b_fits = fits.1; c_fits = lit< tt; d_fits = omega (arith, fits.2) };
+  fields = record { op_fits = lit< tt; a_fits = fits.0; b_fits = fits.1.0.0; c_fits = lit< tt; d_fits = omega (arith, fits.1.0.1) };
   is_there = refl;
-  taken = record { first = refl; second = refl; third = refl; last = omega (arith, fits.2) };
+  taken = record { first = refl; second = refl; third = refl; last = omega (arith, fits.1.0.1) };
   makes = refl;
   bytes = refl;
 }
@@ -349,7 +349,7 @@ read_of (Return x) fits = record {
   c = 0;
   d = 0;
   row = record { used = 1; greatest = 0; made = λ a b c d. Return a };
-  fields = record { op_fits = lit< tt; a_fits = fits; b_fits = lit< tt; c_fits = lit< tt; d_fits = lit< tt };
+  fields = record { op_fits = lit< tt; a_fits = fits.0; b_fits = lit< tt; c_fits = lit< tt; d_fits = lit< tt };
   is_there = refl;
   taken = record { first = refl; second = refl; third = refl; last = lit≤ tt };
   makes = refl;
@@ -362,7 +362,7 @@ read_of (Output x) fits = record {
   c = 0;
   d = 0;
   row = record { used = 1; greatest = 0; made = λ a b c d. Output a };
-  fields = record { op_fits = lit< tt; a_fits = fits; b_fits = lit< tt; c_fits = lit< tt; d_fits = lit< tt };
+  fields = record { op_fits = lit< tt; a_fits = fits.0; b_fits = lit< tt; c_fits = lit< tt; d_fits = lit< tt };
   is_there = refl;
   taken = record { first = refl; second = refl; third = refl; last = lit≤ tt };
   makes = refl;
@@ -375,9 +375,9 @@ read_of (Acquire w) fits = record {
   c = 0;
   d = w;
   row = record { used = 0; greatest = 65535; made = λ a b c d. Acquire d };
-  fields = record { op_fits = lit< tt; a_fits = lit< tt; b_fits = lit< tt; c_fits = lit< tt; d_fits = omega (arith, fits) };
+  fields = record { op_fits = lit< tt; a_fits = lit< tt; b_fits = lit< tt; c_fits = lit< tt; d_fits = omega (arith, fits.0) };
   is_there = refl;
-  taken = record { first = refl; second = refl; third = refl; last = omega (arith, fits) };
+  taken = record { first = refl; second = refl; third = refl; last = omega (arith, fits.0) };
   makes = refl;
   bytes = refl;
 }

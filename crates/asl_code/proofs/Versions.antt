@@ -6,7 +6,7 @@ use Rattle.std.proofs.lemmas.Bool.{cases_lt, le-leb, lt-leb, leb-true, and_from,
 use Rattle.std.proofs.lemmas.Bool.Decides.{eqb_tells}
 use Rattle.asl_code.specs.Versions.{IsVersion, newest, newest_threads, newest_locks, limits_of, is_version, most_threads, version_for, most_locks, has_fresh}
 use Rattle.asl_code.specs.Verified.{keeps_list_limit}
-use Rattle.asl_code.specs.declared.limits.Limits.{Limits}
+use Rattle.asl_code.specs.declared.image_limits.Limits.{Limits}
 use Rattle.asl_code.specs.declared.lock.Lock.{Lock}
 
 -- what versions 1 and 2 set

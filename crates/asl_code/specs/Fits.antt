@@ -2,13 +2,16 @@
 -- (docs/LIMITS.md, "Rules of an image"). The law verified_images_fit says that these images are the verified ones. See
 -- docs/INSTRUCTIONS.md.
 use Rattle.std.specs.Prelude.{◌≡◌, ℕ, ◌+◌, ◌<◌, ◌≤◌, false, List, length, Some, slice_get, All}
+use Rattle.std.specs.List.{AllByRecursion}
 use Rattle.asl_code.specs.Bodies.{first_of, total_len}
+use Rattle.asl_code.specs.Operands.{operands}
+use Rattle.asl_code.specs.declared.operand.Operand.{Operand}
+use Rattle.asl_code.specs.declared.operand.Operand.TheVariants as operand
 use Rattle.asl_code.specs.Verified.{is_end}
 use Rattle.asl_code.specs.Versions.{IsVersion, most_locks}
 use Rattle.asl_code.specs.declared.image.Function.{Function}
 use Rattle.asl_code.specs.declared.image.Image.{Image}
 use Rattle.asl_code.specs.declared.instr.Instr.{Instr}
-use Rattle.asl_code.specs.declared.instr.Instr.TheVariants.{SetInt, SetNull, Move, Add, Subtract, LessThan, Equals, GlobalAddress, FieldAddress, Load, Store, New, Jump, JumpIfZero, Call, Return, Output, Acquire, Release}
 use Rattle.asl_code.specs.declared.lock.Base.{Base}
 use Rattle.asl_code.specs.declared.lock.Base.TheVariants.{Reg, Global}
 use Rattle.asl_code.specs.declared.lock.Lock.{Lock}
@@ -49,27 +52,22 @@ FitsLock i f (lock.Root effect) = Unit {0}
 FitsLock i f (lock.Class class effect) = class < i.classes
 FitsLock i f (lock.Expr expr effect) = FitsBase i f expr.base
 
--- what an instruction names is there, in the function of this number, and its jump stays in the body
+-- what the operand names is there, in the function of this number: a jump stays in the body, a call's arguments are
+-- registers, and a new object has a cell
+abbrev pub FitsOperand : Image → ℕ → Function → Operand → Type 0
+FitsOperand i n f (operand.Register register) = register < f.regs
+FitsOperand i n f (operand.Integer value) = Unit {0}
+FitsOperand i n f (operand.Global global) = global < length i.globals
+FitsOperand i n f (operand.Offset offset) = Unit {0}
+FitsOperand i n f (operand.Cells cells) = 0 < cells
+FitsOperand i n f (operand.Class class) = class < i.classes
+FitsOperand i n f (operand.Target target) = LiesIn i n target f
+FitsOperand i n f (operand.Callee first function) = (callee : Function) × (slice_get i.functions function ≡ Some callee) × (first + callee.params ≤ f.regs)
+FitsOperand i n f (operand.Locks list) = (locks : List Lock) × (slice_get i.lists list ≡ Some locks) × All (FitsLock i f) locks
+
+-- so is what each operand of the instruction names
 abbrev pub FitsInstr : Image → ℕ → Function → Instr → Type 0
-FitsInstr i n f (SetInt to value) = to < f.regs
-FitsInstr i n f (SetNull to) = to < f.regs
-FitsInstr i n f (Move to from) = (to < f.regs) × (from < f.regs)
-FitsInstr i n f (Add to left right) = (to < f.regs) × (left < f.regs) × (right < f.regs)
-FitsInstr i n f (Subtract to left right) = (to < f.regs) × (left < f.regs) × (right < f.regs)
-FitsInstr i n f (LessThan to left right) = (to < f.regs) × (left < f.regs) × (right < f.regs)
-FitsInstr i n f (Equals to left right) = (to < f.regs) × (left < f.regs) × (right < f.regs)
-FitsInstr i n f (GlobalAddress to global) = (to < f.regs) × (global < length i.globals)
-FitsInstr i n f (FieldAddress to from offset) = (to < f.regs) × (from < f.regs)
-FitsInstr i n f (Load to address) = (to < f.regs) × (address < f.regs)
-FitsInstr i n f (Store address from) = (address < f.regs) × (from < f.regs)
-FitsInstr i n f (New to cells class) = (to < f.regs) × (0 < cells) × (class < i.classes)
-FitsInstr i n f (Jump target) = LiesIn i n target f
-FitsInstr i n f (JumpIfZero test target) = (test < f.regs) × LiesIn i n target f
-FitsInstr i n f (Call to first function) = (to < f.regs) × ((callee : Function) × (slice_get i.functions function ≡ Some callee) × (first + callee.params ≤ f.regs))
-FitsInstr i n f (Return from) = from < f.regs
-FitsInstr i n f (Output from) = from < f.regs
-FitsInstr i n f (Acquire list) = (locks : List Lock) × (slice_get i.lists list ≡ Some locks) × All (FitsLock i f) locks
-FitsInstr i n f Release = Unit {0}
+FitsInstr i n f instr = AllByRecursion (FitsOperand i n f) (operands instr)
 
 -- the facts of a verified image: the version is 1 or 2, the counts are within their limits, what the tables name is
 -- there, the bodies are the code, each instruction fits its body, and after an instruction that is not an end of a body the

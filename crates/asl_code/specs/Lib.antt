@@ -1,3 +1,4 @@
+pub mod Operands
 pub mod Spelling
 pub mod Bodies
 pub mod Locks

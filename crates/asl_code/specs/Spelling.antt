@@ -1,6 +1,10 @@
 -- The bytes of an instruction and of a value. All numbers are big-endian (docs/BYTES.md, "Instructions" and "Values").
 use Rattle.std.specs.Prelude.{◌≡◌, ◌≢◌, ℕ, ◌+◌, ◌<◌, ◌≤◌, ◌^◌, nat_lt, if◌then◌else◌, List, [], ◌∷◌, ◌++◌, length, take, FitsSigned}
 use Rattle.std.specs.Int.{w16, w32, to_be_bytes, cast_unsigned}
+use Rattle.std.specs.List.{AllByRecursion}
+use Rattle.asl_code.specs.Operands.{operands}
+use Rattle.asl_code.specs.declared.operand.Operand.{Operand}
+use Rattle.asl_code.specs.declared.operand.Operand.TheVariants as operand
 use Rattle.asl_code.specs.declared.instr.Instr.{Instr}
 use Rattle.asl_code.specs.declared.instr.Instr.TheVariants.{SetInt, SetNull, Move, Add, Subtract, LessThan, Equals, GlobalAddress, FieldAddress, Load, Store, New, Jump, JumpIfZero, Call, Return, Output, Acquire, Release}
 use Rattle.asl_code.specs.declared.value.Value.{Value}
@@ -32,27 +36,21 @@ instr_bytes (Output from) = eight_bytes 17 from 0 0 0
 instr_bytes (Acquire list) = eight_bytes 18 0 0 0 list
 instr_bytes Release = eight_bytes 19 0 0 0 0
 
--- each operand is a number of its type
+-- the operand is a number of its type
+abbrev pub IsNumber : Operand → Type 0
+IsNumber (operand.Register register) = register < 256
+IsNumber (operand.Integer value) = FitsSigned w32 value
+IsNumber (operand.Global global) = global < 2 ^ 16
+IsNumber (operand.Offset offset) = offset < 256
+IsNumber (operand.Cells cells) = cells < 256
+IsNumber (operand.Class class) = class < 2 ^ 16
+IsNumber (operand.Target target) = target < 2 ^ 16
+IsNumber (operand.Callee first function) = (first < 256) × (function < 2 ^ 16)
+IsNumber (operand.Locks list) = list < 2 ^ 16
+
+-- so is each operand of the instruction
 abbrev pub IsInstr : Instr → Type 0
-IsInstr (SetInt to value) = (to < 256) × FitsSigned w32 value
-IsInstr (SetNull to) = to < 256
-IsInstr (Move to from) = (to < 256) × (from < 256)
-IsInstr (Add to left right) = (to < 256) × (left < 256) × (right < 256)
-IsInstr (Subtract to left right) = (to < 256) × (left < 256) × (right < 256)
-IsInstr (LessThan to left right) = (to < 256) × (left < 256) × (right < 256)
-IsInstr (Equals to left right) = (to < 256) × (left < 256) × (right < 256)
-IsInstr (GlobalAddress to global) = (to < 256) × (global < 2 ^ 16)
-IsInstr (FieldAddress to from offset) = (to < 256) × (from < 256) × (offset < 256)
-IsInstr (Load to address) = (to < 256) × (address < 256)
-IsInstr (Store address from) = (address < 256) × (from < 256)
-IsInstr (New to cells class) = (to < 256) × (cells < 256) × (class < 2 ^ 16)
-IsInstr (Jump target) = target < 2 ^ 16
-IsInstr (JumpIfZero test target) = (test < 256) × (target < 2 ^ 16)
-IsInstr (Call to first function) = (to < 256) × (first < 256) × (function < 2 ^ 16)
-IsInstr (Return from) = from < 256
-IsInstr (Output from) = from < 256
-IsInstr (Acquire list) = list < 2 ^ 16
-IsInstr Release = Unit {0}
+IsInstr instr = AllByRecursion IsNumber (operands instr)
 
 -- the bytes spell the instruction
 pub record SpellsInstr (instr : Instr) (bytes : List ℕ) : Type 0 where

@@ -4,18 +4,21 @@ use Rattle.std.specs.Prelude.{◌≡◌, ℕ, ◌+◌, ◌-◌, ◌<◌, ◌≤�
 use Rattle.std.specs.List.{list_all}
 use Rattle.std.specs.Option.{option_map_or}
 use Rattle.asl_code.specs.Bodies.{Body, bodies_from, total_len, is_inside, body_of}
+use Rattle.asl_code.specs.Operands.{operands}
+use Rattle.asl_code.specs.declared.operand.Operand.{Operand}
+use Rattle.asl_code.specs.declared.operand.Operand.TheVariants as operand
 use Rattle.asl_code.specs.Versions.{limits_of}
 use Rattle.asl_code.specs.declared.image.Function.{Function}
 use Rattle.asl_code.specs.declared.image.Image.{Image}
 use Rattle.asl_code.specs.declared.instr.Instr.{Instr}
-use Rattle.asl_code.specs.declared.instr.Instr.TheVariants.{SetInt, SetNull, Move, Add, Subtract, LessThan, Equals, GlobalAddress, FieldAddress, Load, Store, New, Jump, JumpIfZero, Call, Return, Output, Acquire, Release}
-use Rattle.asl_code.specs.declared.limits.Limits.{Limits}
+use Rattle.asl_code.specs.declared.instr.Instr.TheVariants.{Jump, Return}
+use Rattle.asl_code.specs.declared.image_limits.Limits.{Limits}
 use Rattle.asl_code.specs.declared.lock.Base.{Base}
 use Rattle.asl_code.specs.declared.lock.Base.TheVariants.{Reg, Global}
 use Rattle.asl_code.specs.declared.lock.Lock.{Lock}
 use Rattle.asl_code.specs.declared.lock.Lock.TheVariants as lock
 use Rattle.asl_code.specs.declared.fault.VerifyFault.{VerifyFault}
-use Rattle.asl_code.specs.declared.fault.VerifyFault.TheVariants.{Limit, Table, NoEntry, FunctionRange, FallsOut, Target, Register, Operand, ListBase}
+use Rattle.asl_code.specs.declared.fault.VerifyFault.TheVariants as fault
 
 -- whether the function has at most 4 parameters and 64 registers
 abbrev pub keeps_function_limits : Function → Bool
@@ -81,12 +84,15 @@ has_end code b = option_map_or is_end (slice_get code (b.first + b.function.len 
 abbrev pub has_ends : Image → Bool
 has_ends i = list_all (has_end i.code) (bodies_from 0 i.functions)
 
+-- whether the place lies in the body, or the called function is there
+abbrev pub target_there : Image → Body → Operand → Bool
+target_there i b (operand.Target target) = is_inside target b
+target_there i b (operand.Callee first function) = nat_lt function (length i.functions)
+target_there i b other = true
+
 -- whether the instruction's jump stays in the body, and the function that it calls is there
 abbrev pub has_target : Image → Body → Instr → Bool
-has_target i b (Jump target) = is_inside target b
-has_target i b (JumpIfZero test target) = is_inside target b
-has_target i b (Call to first function) = nat_lt function (length i.functions)
-has_target i b instr = true
+has_target i b instr = list_all (target_there i b) (operands instr)
 
 -- whether the function has the register
 abbrev pub has_register : Function → ℕ → Bool
@@ -97,34 +103,27 @@ abbrev pub has_arguments : Image → Function → ℕ → ℕ → Bool
 has_arguments i f first function =
     option_map_or (λ (callee : Function). nat_le (first + callee.params) f.regs) (slice_get i.functions function) true
 
+-- whether the function has the register, or those of the call
+abbrev pub register_there : Image → Function → Operand → Bool
+register_there i f (operand.Register register) = has_register f register
+register_there i f (operand.Callee first function) = has_arguments i f first function
+register_there i f other = true
+
 -- whether the function has the registers of the instruction
 abbrev pub has_registers : Image → Function → Instr → Bool
-has_registers i f (SetInt to value) = has_register f to
-has_registers i f (SetNull to) = has_register f to
-has_registers i f (Move to from) = has_register f to && has_register f from
-has_registers i f (Add to left right) = has_register f to && has_register f left && has_register f right
-has_registers i f (Subtract to left right) = has_register f to && has_register f left && has_register f right
-has_registers i f (LessThan to left right) = has_register f to && has_register f left && has_register f right
-has_registers i f (Equals to left right) = has_register f to && has_register f left && has_register f right
-has_registers i f (GlobalAddress to global) = has_register f to
-has_registers i f (FieldAddress to from offset) = has_register f to && has_register f from
-has_registers i f (Load to address) = has_register f to && has_register f address
-has_registers i f (Store address from) = has_register f address && has_register f from
-has_registers i f (New to cells class) = has_register f to
-has_registers i f (Jump target) = true
-has_registers i f (JumpIfZero test target) = has_register f test
-has_registers i f (Call to first function) = has_register f to && has_arguments i f first function
-has_registers i f (Return from) = has_register f from
-has_registers i f (Output from) = has_register f from
-has_registers i f (Acquire list) = true
-has_registers i f Release = true
+has_registers i f instr = list_all (register_there i f) (operands instr)
+
+-- whether the global, class or list is there, and the new object has a cell
+abbrev pub entry_there : Image → Operand → Bool
+entry_there i (operand.Global global) = nat_lt global (length i.globals)
+entry_there i (operand.Cells cells) = nat_lt 0 cells
+entry_there i (operand.Class class) = nat_lt class i.classes
+entry_there i (operand.Locks list) = nat_lt list (length i.lists)
+entry_there i other = true
 
 -- whether the global, class or list that the instruction names is there, and a new object has a cell
 abbrev pub has_operands : Image → Instr → Bool
-has_operands i (GlobalAddress to global) = nat_lt global (length i.globals)
-has_operands i (New to cells class) = nat_lt 0 cells && nat_lt class i.classes
-has_operands i (Acquire list) = nat_lt list (length i.lists)
-has_operands i instr = true
+has_operands i instr = list_all (entry_there i) (operands instr)
 
 -- whether the function has the base, where it is a register
 abbrev pub has_base_register : Function → Base → Bool
@@ -137,10 +136,14 @@ has_lock_base f (lock.Root effect) = true
 has_lock_base f (lock.Class class effect) = true
 has_lock_base f (lock.Expr expr effect) = has_base_register f expr.base
 
+-- whether this is so of all locks of the list
+abbrev pub bases_there : Image → Function → Operand → Bool
+bases_there i f (operand.Locks list) = option_map_or (list_all (has_lock_base f)) (slice_get i.lists list) true
+bases_there i f other = true
+
 -- whether this is so of all locks of the list that an `acq` names
 abbrev pub has_list_bases : Image → Function → Instr → Bool
-has_list_bases i f (Acquire list) = option_map_or (list_all (has_lock_base f)) (slice_get i.lists list) true
-has_list_bases i f instr = true
+has_list_bases i f instr = list_all (bases_there i f) (operands instr)
 
 -- whether both are there, and the instruction does not pass the test in the body
 abbrev pub is_failure : (Body → Instr → Bool) → Option Body → Option Instr → Bool
@@ -153,35 +156,35 @@ fails_at passes i pc = is_failure passes (body_of i pc) (slice_get i.code pc)
 
 -- whether the fault applies, at its place where it names one
 abbrev pub applies : Image → VerifyFault → Bool
-applies i Limit = not (keeps_limits i)
-applies i Table = not (has_tables i)
-applies i NoEntry = not (has_entry i)
-applies i FunctionRange = not (has_ranges i)
-applies i FallsOut = not (has_ends i)
-applies i (Target pc) = fails_at (has_target i) i pc
-applies i (Register pc) = fails_at (λ b. has_registers i b.function) i pc
-applies i (Operand pc) = fails_at (λ b. has_operands i) i pc
-applies i (ListBase pc) = fails_at (λ b. has_list_bases i b.function) i pc
+applies i fault.Limit = not (keeps_limits i)
+applies i fault.Table = not (has_tables i)
+applies i fault.NoEntry = not (has_entry i)
+applies i fault.FunctionRange = not (has_ranges i)
+applies i fault.FallsOut = not (has_ends i)
+applies i (fault.Target pc) = fails_at (has_target i) i pc
+applies i (fault.Register pc) = fails_at (λ b. has_registers i b.function) i pc
+applies i (fault.Operand pc) = fails_at (λ b. has_operands i) i pc
+applies i (fault.ListBase pc) = fails_at (λ b. has_list_bases i b.function) i pc
 
 -- the line of the verifier's table that the fault is in
 abbrev pub line_of : VerifyFault → ℕ
-line_of Limit = 1
-line_of Table = 2
-line_of NoEntry = 3
-line_of FunctionRange = 4
-line_of FallsOut = 5
-line_of (Target pc) = 6
-line_of (Register pc) = 7
-line_of (Operand pc) = 8
-line_of (ListBase pc) = 9
+line_of fault.Limit = 1
+line_of fault.Table = 2
+line_of fault.NoEntry = 3
+line_of fault.FunctionRange = 4
+line_of fault.FallsOut = 5
+line_of (fault.Target pc) = 6
+line_of (fault.Register pc) = 7
+line_of (fault.Operand pc) = 8
+line_of (fault.ListBase pc) = 9
 
 -- the place that the fault names, and 0 where it names none
 abbrev pub place_of : VerifyFault → ℕ
-place_of (Target pc) = pc
-place_of (Register pc) = pc
-place_of (Operand pc) = pc
-place_of (ListBase pc) = pc
-place_of fault = 0
+place_of (fault.Target pc) = pc
+place_of (fault.Register pc) = pc
+place_of (fault.Operand pc) = pc
+place_of (fault.ListBase pc) = pc
+place_of other = 0
 
 -- whether the first fault is in an earlier line, or in the same line at no later place
 abbrev pub ComesFirst : VerifyFault → VerifyFault → Type 0

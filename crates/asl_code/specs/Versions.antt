@@ -1,7 +1,7 @@
 -- What a version of the format sets (docs/LIMITS.md, "Versions"). Nothing else depends on the version.
 use Rattle.std.specs.Prelude.{◌≡◌, ◌⊎◌, ◌==◌, ℕ, Bool, true, false, nat_le, Option, None, Some, is_some, if◌then◌else◌}
 use Rattle.std.specs.Option.{option_map_or}
-use Rattle.asl_code.specs.declared.limits.Limits.{Limits}
+use Rattle.asl_code.specs.declared.image_limits.Limits.{Limits}
 
 -- there is such a version
 abbrev pub IsVersion : ℕ → Type 0

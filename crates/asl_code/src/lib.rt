@@ -3,12 +3,13 @@
 
 mod fault;
 mod image;
+pub mod image_limits;
 mod instr;
 mod instr_bytes;
 mod items;
 mod laws;
-pub mod limits;
 mod lock;
+mod operand;
 mod path;
 mod places;
 mod program;
@@ -18,6 +19,9 @@ mod verify;
 
 pub use fault::VerifyFault;
 pub use image::{Function, Image};
+pub use image_limits::{
+    Limits, NEWEST, NEWEST_LIMITS, has_fresh, is_version, limits_of, version_for,
+};
 pub use instr::Instr;
 pub use instr_bytes::{get_instr, instr_and_bytes_are_one, put_instr};
 pub use items::Items;
@@ -25,8 +29,8 @@ pub use laws::{
     bodies_part_the_code, images_have_one_answer, the_first_version_has_the_threads,
     verified_images_fit,
 };
-pub use limits::{Limits, NEWEST, NEWEST_LIMITS, has_fresh, is_version, limits_of, version_for};
 pub use lock::{Base, Expr, Lock};
+pub use operand::Operand;
 pub use path::{Op, Path};
 pub use program::Program;
 pub use value::{Cell, Effect, Value};

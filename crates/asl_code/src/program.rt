@@ -4,9 +4,9 @@ ghost use Rattle.std.specs.Prelude.{◌≡◌, OnOk, IfOk, IfErr};
 
 use crate::fault::VerifyFault;
 use crate::image::{Function, Image};
+use crate::image_limits::{Limits, limits_of};
 use crate::instr::Instr;
 use crate::items::Items;
-use crate::limits::{Limits, limits_of};
 use crate::lock::Lock;
 use crate::verify::first_fault;
 use std::marker::Model;

@@ -7,9 +7,9 @@ ghost use Rattle.asl_code.specs.Verified.{keeps_function_limits, keeps_list_limi
 
 use crate::fault::VerifyFault;
 use crate::image::{Function, Image};
+use crate::image_limits::{self, Limits, limits_of};
 use crate::instr::Instr;
 use crate::items::Items;
-use crate::limits::{self, Limits, limits_of};
 use crate::lock::{Base, Lock};
 use crate::places::{Rule, first_failing};
 
@@ -61,11 +61,11 @@ fn keeps_limits(image: &Image) -> bool
 fn keeps_counts(image: &Image, version: Limits) -> bool
     ensures { result ≡ keeps_counts version image.now }
 {
-    image.classes <= limits::CLASSES
-        && image.globals.len() <= limits::GLOBALS
-        && image.functions.len() <= limits::FUNCTIONS
-        && image.code.len() <= limits::CODE
-        && image.lists.len() <= limits::LISTS
+    image.classes <= image_limits::CLASSES
+        && image.globals.len() <= image_limits::GLOBALS
+        && image.functions.len() <= image_limits::FUNCTIONS
+        && image.code.len() <= image_limits::CODE
+        && image.lists.len() <= image_limits::LISTS
         && functions_keep_limits(image.functions.as_slice())
         && lists_keep_limit(image.lists.as_slice(), version)
 }
@@ -73,9 +73,7 @@ fn keeps_counts(image: &Image, version: Limits) -> bool
 fn functions_keep_limits(functions: &[Function]) -> bool
     ensures { result ≡ list_all keeps_function_limits functions.now }
 {
-    functions
-        .iter()
-        .all(|f| f.params <= limits::PARAMS && f.regs <= limits::REGS)
+    functions.iter().all(|f| f.params <= image_limits::PARAMS && f.regs <= image_limits::REGS)
 }
 
 fn lists_keep_limit(lists: &[Items<Lock>], version: Limits) -> bool

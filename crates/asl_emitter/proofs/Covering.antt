@@ -1,4 +1,4 @@
--- A fitted list stands over each lock of the set that it is for.
+-- A fitted list covers each lock of the set that it is for.
 use Rattle.std.proofs.Common.{◌≡◌, ℕ, List, [], ◌∷◌, Some, refl, ap, sym, ◌∙◌, subst, inl, inr}
 use Rattle.std.specs.Prelude.{IsTrue}
 use Rattle.asl_code.specs.Locks.{effect_of}
@@ -69,7 +69,7 @@ strongest_is [] m o = absurd o
 strongest_is (n ∷ list) m (inl is) = subst (λ k. IsTrue (covers_effect (strongest (n ∷ list)) (effect_of k))) is (stronger_left (effect_of n) (strongest list))
 strongest_is (n ∷ list) m (inr o) = effect_trans _ _ _ (stronger_right (effect_of n) (strongest list)) (strongest_is list m o)
 
--- a fitted list has, for each lock of the set that has a class, one that stands over it
+-- a fitted list has, for each lock of the set that has a class, one that covers it
 pub fitted_covers : (c : Classed) (f most : ℕ) (given : Locks) (list : List Lock) → IsFitted c f most given list → (a : Lock) → given a → HasClass c f a → (m : Lock) × IsOne list m × CoversLock c f m a
 fitted_covers c f most given list fit a g k =
     let first = reduced_covers c f given fit.fine fit.reduced a g in

@@ -20,10 +20,10 @@ use Rattle.asl_lower.specs.Regions.{Inside}
 use Rattle.asl_lower.proofs.Owner.{from_mapped}
 use Rattle.asl_lower.proofs.Inside.{told as section_told}
 use Rattle.asl_points_to.specs.Classes.{Classed, AreClasses}
-use Rattle.asl_lock_expr.specs.Expression.{base_cell, path_cell}
+use Rattle.asl_expression.specs.Expression.{base_cell, path_cell}
 use Rattle.asl_lock_expr.specs.Links.{IsOne, on, prefixes, class_lock}
 use Rattle.asl_lock_expr.specs.ClassOf.{class_of}
-use Rattle.asl_lock_expr.proofs.Walks.{path_append}
+use Rattle.asl_expression.proofs.Paths.{path_append}
 use Rattle.asl_backward_flow.specs.Needed.{Needed, Before}
 use Rattle.asl_machine.specs.State.{Object, Activity, State}
 use Rattle.asl_machine.specs.Request.{heap_of, request_of}

@@ -1,4 +1,4 @@
--- What is needed behind the `acq` of a section is there, and has a class.
+-- What is needed after the `acq` of a section is there, and has a class.
 use Rattle.std.proofs.Common.{◌≡◌, ℕ, ◌<◌, Bool, Some, slice_get, ap, sym, ◌∙◌, subst, arith}
 use Rattle.asl_code.specs.declared.image.Function as entry
 use Rattle.asl_code.specs.declared.lock.Base.{Base}

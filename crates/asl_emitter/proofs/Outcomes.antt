@@ -13,20 +13,20 @@ use Rattle.asl_backward_flow.specs.Needed.{NeedsMany, region_of}
 use Rattle.asl_emitter.specs.declared.fault.InferFault.{InferFault}
 use Rattle.asl_emitter.specs.declared.fault.InferFault.TheVariants.{Registers, CodeSize, AccessOutsideSection, TooManyClasses, TooManyLocks, OutOfMemory}
 use Rattle.asl_emitter.specs.Inferred.{ClassedProgram, Analysis}
-use Rattle.asl_emitter.specs.Refused.{IsLowered, IsAccepted, IsRefused}
+use Rattle.asl_emitter.specs.Refused.{IsLowered, IsAccepted, IsRefusedInference}
 use Rattle.asl_emitter.proofs.Alike.{one_test}
 
 -- a program that is lowered has no fault of lowering
-not_registers : (is : List Item) (k_limit function : ℕ) → IsLowered is → IsRefused is k_limit (Registers function) → ⊥
+not_registers : (is : List Item) (k_limit function : ℕ) → IsLowered is → IsRefusedInference is k_limit (Registers function) → ⊥
 not_registers is k_limit function h e = let none = h.room.few_registers in cc
 
-not_code_size : (is : List Item) (k_limit : ℕ) → IsLowered is → IsRefused is k_limit CodeSize → ⊥
+not_code_size : (is : List Item) (k_limit : ℕ) → IsLowered is → IsRefusedInference is k_limit CodeSize → ⊥
 not_code_size is k_limit h e = omega (arith, h.room.few_instructions, e.1)
 
-not_access : (is : List Item) (k_limit function pc : ℕ) → IsLowered is → IsRefused is k_limit (AccessOutsideSection function pc) → ⊥
+not_access : (is : List Item) (k_limit function pc : ℕ) → IsLowered is → IsRefusedInference is k_limit (AccessOutsideSection function pc) → ⊥
 not_access is k_limit function pc h e = h.inside e.1.0 e.1.1 function pc e.1.2.access
 
-pub registers : (is : List Item) (k_limit function : ℕ) (other : InferFault) → IsRefused is k_limit (Registers function) → IsRefused is k_limit other → other ≡ Registers function
+pub registers : (is : List Item) (k_limit function : ℕ) (other : InferFault) → IsRefusedInference is k_limit (Registers function) → IsRefusedInference is k_limit other → other ≡ Registers function
 registers is k_limit function (Registers another) h e = cc
 registers is k_limit function CodeSize h e = let none = e.0 in absurd (cc)
 registers is k_limit function (AccessOutsideSection another pc) h e = let none = e.0.few_registers in absurd (cc)
@@ -34,7 +34,7 @@ registers is k_limit function TooManyClasses h e = absurd (not_registers is k_li
 registers is k_limit function (TooManyLocks region) h e = absurd (not_registers is k_limit function e.lowered h)
 registers is k_limit function OutOfMemory h e = absurd (not_registers is k_limit function e h)
 
-pub code_size : (is : List Item) (k_limit : ℕ) (other : InferFault) → IsRefused is k_limit CodeSize → IsRefused is k_limit other → other ≡ CodeSize
+pub code_size : (is : List Item) (k_limit : ℕ) (other : InferFault) → IsRefusedInference is k_limit CodeSize → IsRefusedInference is k_limit other → other ≡ CodeSize
 code_size is k_limit (Registers function) h e = let none = h.0 in absurd (cc)
 code_size is k_limit CodeSize h e = refl
 code_size is k_limit (AccessOutsideSection function pc) h e = absurd (omega (arith, e.0.few_instructions, h.1))
@@ -48,7 +48,7 @@ one_access is l lowers f g pc at p q =
     let same : at ≡ pc = omega (arith, p.first g at q.access, q.first f pc p.access) in
     ((lowering_parted is l lowers).one_body pc g f (subst (InBody l g) same q.access.inside) p.access.inside, same)
 
-pub access : (is : List Item) (k_limit function pc : ℕ) (other : InferFault) → IsRefused is k_limit (AccessOutsideSection function pc) → IsRefused is k_limit other → other ≡ AccessOutsideSection function pc
+pub access : (is : List Item) (k_limit function pc : ℕ) (other : InferFault) → IsRefusedInference is k_limit (AccessOutsideSection function pc) → IsRefusedInference is k_limit other → other ≡ AccessOutsideSection function pc
 access is k_limit function pc (Registers another) h e = let none = h.0.few_registers in absurd (cc)
 access is k_limit function pc CodeSize h e = absurd (omega (arith, h.0.few_instructions, e.1))
 access is k_limit function pc (AccessOutsideSection another at) h e =
@@ -81,7 +81,7 @@ one_need is k_limit r a b many =
     by_lowering l c stores ac t m e d other ad u many =
         by_classes l c stores t d (one_classed l d c (subst (λ k. AreClasses k d) e ad) ac) other (subst (λ k. TellsStores k d other) e u) (subst (λ k. NeedsMany k d other k_limit r) e many)
 
-pub classes : (is : List Item) (k_limit : ℕ) (other : InferFault) → IsRefused is k_limit TooManyClasses → IsRefused is k_limit other → (other ≡ TooManyClasses) ⊎ (other ≡ OutOfMemory)
+pub classes : (is : List Item) (k_limit : ℕ) (other : InferFault) → IsRefusedInference is k_limit TooManyClasses → IsRefusedInference is k_limit other → (other ≡ TooManyClasses) ⊎ (other ≡ OutOfMemory)
 classes is k_limit (Registers function) h e = absurd (not_registers is k_limit function h.lowered e)
 classes is k_limit CodeSize h e = absurd (not_code_size is k_limit h.lowered e)
 classes is k_limit (AccessOutsideSection function pc) h e = absurd (not_access is k_limit function pc h.lowered e)
@@ -89,7 +89,7 @@ classes is k_limit TooManyClasses h e = inl refl
 classes is k_limit (TooManyLocks region) h e = absurd (omega (arith, h.many, e.few_classes, one_count is h.program e.analysis.program))
 classes is k_limit OutOfMemory h e = inr refl
 
-pub locks : (is : List Item) (k_limit : ℕ) (region : _) (other : InferFault) → IsRefused is k_limit (TooManyLocks region) → IsRefused is k_limit other → ((another : _) × (other ≡ TooManyLocks another)) ⊎ (other ≡ OutOfMemory)
+pub locks : (is : List Item) (k_limit : ℕ) (region : _) (other : InferFault) → IsRefusedInference is k_limit (TooManyLocks region) → IsRefusedInference is k_limit other → ((another : _) × (other ≡ TooManyLocks another)) ⊎ (other ≡ OutOfMemory)
 locks is k_limit region (Registers function) h e = absurd (not_registers is k_limit function h.lowered e)
 locks is k_limit region CodeSize h e = absurd (not_code_size is k_limit h.lowered e)
 locks is k_limit region (AccessOutsideSection function pc) h e = absurd (not_access is k_limit function pc h.lowered e)
@@ -97,7 +97,7 @@ locks is k_limit region TooManyClasses h e = absurd (omega (arith, e.many, h.few
 locks is k_limit region (TooManyLocks another) h e = inl (another, refl)
 locks is k_limit region OutOfMemory h e = inr refl
 
-pub accepted : (is : List Item) (k_limit : ℕ) (other : InferFault) → IsAccepted is k_limit → IsRefused is k_limit other → other ≡ OutOfMemory
+pub accepted : (is : List Item) (k_limit : ℕ) (other : InferFault) → IsAccepted is k_limit → IsRefusedInference is k_limit other → other ≡ OutOfMemory
 accepted is k_limit (Registers function) h e = absurd (not_registers is k_limit function h.lowered e)
 accepted is k_limit CodeSize h e = absurd (not_code_size is k_limit h.lowered e)
 accepted is k_limit (AccessOutsideSection function pc) h e = absurd (not_access is k_limit function pc h.lowered e)

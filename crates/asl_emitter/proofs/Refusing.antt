@@ -3,19 +3,19 @@ use Rattle.std.proofs.Common.{◌≤◌, ℕ, List, sym, subst}
 use Rattle.asl_syntax.specs.Tree.{Item}
 use Rattle.asl_lower.specs.Lowered.{Lowered, IsLowering}
 use Rattle.asl_lower.specs.Region.{IsBareAccess}
-use Rattle.asl_lower.specs.Refused.{HasRoom, IsRefused as IsNotLowered}
+use Rattle.asl_lower.specs.Refused.{HasRoom, IsRefusedLowering as IsNotLowered}
 use Rattle.asl_lower.specs.declared.fault.LowerFault.{LowerFault}
 use Rattle.asl_lower.specs.declared.fault.LowerFault.TheVariants as lower
 use Rattle.asl_lower.proofs.Laid.{one_lowering}
 use Rattle.asl_points_to.specs.Classes.{Classed, AreClasses}
-use Rattle.asl_points_to.specs.Refused.{IsRefused as HasNoClasses}
+use Rattle.asl_points_to.specs.Refused.{IsRefusedClasses as HasNoClasses}
 use Rattle.asl_points_to.specs.declared.fault.ClassesFault.{ClassesFault}
 use Rattle.asl_points_to.specs.declared.fault.ClassesFault.TheVariants as classes
-use Rattle.asl_backward_flow.specs.Flows.{IsFlow, IsRefused as HasNoFlow}
+use Rattle.asl_backward_flow.specs.Flows.{IsFlow, IsRefusedFlow as HasNoFlow}
 use Rattle.asl_backward_flow.specs.Needed.{RegionNeeds}
 use Rattle.asl_backward_flow.specs.declared.fault.FlowFault.{FlowFault}
 use Rattle.asl_backward_flow.specs.declared.fault.FlowFault.TheVariants as flow
-use Rattle.asl_emitter.specs.Refused.{IsLowered, IsAccepted, IsRefused}
+use Rattle.asl_emitter.specs.Refused.{IsLowered, IsAccepted, IsRefusedInference}
 use Rattle.asl_emitter.specs.Faults.{of_lower, of_classes, of_flow}
 
 pub is_lowered : (is : List Item) (l : Lowered) → IsLowering is l → HasRoom is → ((function pc : ℕ) → ¬ IsBareAccess l function pc) → IsLowered is
@@ -24,17 +24,17 @@ is_lowered is l lowers room inside = record {
   inside = λ m other function pc access. inside function pc (subst (λ (k : Lowered). IsBareAccess k function pc) (sym (one_lowering is l m lowers other)) access);
 }
 
-pub lower_refused : (is : List Item) (k_limit : ℕ) (fault : LowerFault) → IsNotLowered is fault → IsRefused is k_limit (of_lower fault)
+pub lower_refused : (is : List Item) (k_limit : ℕ) (fault : LowerFault) → IsNotLowered is fault → IsRefusedInference is k_limit (of_lower fault)
 lower_refused is k_limit (lower.Registers function) h = h
 lower_refused is k_limit lower.CodeSize h = h
 lower_refused is k_limit (lower.AccessOutsideSection function pc) h = h
 lower_refused is k_limit lower.OutOfMemory h = record { room = h.0; inside = h.1 }
 
-pub classes_refused : (is : List Item) (k_limit : ℕ) (l : Lowered) (fault : ClassesFault) → IsLowered is → IsLowering is l → HasNoClasses l fault → IsRefused is k_limit (of_classes fault)
+pub classes_refused : (is : List Item) (k_limit : ℕ) (l : Lowered) (fault : ClassesFault) → IsLowered is → IsLowering is l → HasNoClasses l fault → IsRefusedInference is k_limit (of_classes fault)
 classes_refused is k_limit l classes.TooManyClasses lowered lowers h = record { lowered = lowered; program = record { lowering = l; lowers = lowers; classes = h.0; are_classes = h.1 }; many = h.2 }
 classes_refused is k_limit l classes.OutOfMemory lowered lowers h = lowered
 
-pub flow_refused : (is : List Item) (k_limit : ℕ) (l : Lowered) (c : Classed) (fault : FlowFault) → IsLowered is → IsLowering is l → AreClasses l c → c.count ≤ 1024 → HasNoFlow l c k_limit fault → IsRefused is k_limit (of_flow fault)
+pub flow_refused : (is : List Item) (k_limit : ℕ) (l : Lowered) (c : Classed) (fault : FlowFault) → IsLowered is → IsLowering is l → AreClasses l c → c.count ≤ 1024 → HasNoFlow l c k_limit fault → IsRefusedInference is k_limit (of_flow fault)
 flow_refused is k_limit l c (flow.TooManyLocks region) lowered lowers are few h = record {
   lowered = lowered;
   analysis = record { program = record { lowering = l; lowers = lowers; classes = c; are_classes = are }; stores = h.stores; tells = h.written };

@@ -1,4 +1,4 @@
--- An inferred program never faults for want of a lock.
+-- An inferred program never faults for a missing lock.
 use Rattle.std.proofs.Common.{ℕ, suc, ◌≤◌, Bool}
 use Rattle.asl_code.specs.declared.image.Image.{Image}
 use Rattle.asl_lower.specs.Lowered.{Lowered}
@@ -22,7 +22,7 @@ stand_over l c stores k_limit image kept are m n s list a there at needed =
     fitted_covers c s.function 256 (Needed l c stores k_limit (Inside n) (suc s.acquire)) list (m.lists n s list there at) a needed
     (needed_class l c stores k_limit kept are n (suc s.acquire) s a there needed)
 
--- an inferred image is analysed: what is needed in it is a closed family, and its lists stand over it
+-- an inferred image is analysed: what is needed in it is a closed family, and its lists cover it
 pub inferred_analysed : (l : Lowered) (c : Classed) (stores : ℕ → ℕ → Bool) (k_limit : ℕ) (image : Image) → IsLegalLowering l → AreClasses l c → c.count ≤ 1024 → TellsStores l c stores → IsInferred l c stores k_limit image → IsAnalysed l c stores k_limit (Needed l c stores k_limit) image
 inferred_analysed l c stores k_limit image kept are few tells m =
     let made : IsImageOf l c image = record {

@@ -200,17 +200,17 @@ module _ (l : Lowered) (c : Classed) (stores : ℕ → ℕ → Bool) (k_limit : 
   instr_fits n pc f lies (instr.Subtract to x y) at h = h
   instr_fits n pc f lies (instr.LessThan to x y) at h = h
   instr_fits n pc f lies (instr.Equals to x y) at h = h
-  instr_fits n pc f lies (instr.GlobalAddress to g) at h = let lt = h.1 in let same = globals_length in (h.0, omega (arith, lt, same))
+  instr_fits n pc f lies (instr.GlobalAddress to g) at h = let lt = h.1.0 in let same = globals_length in (h.0, (omega (arith, lt, same), tt))
   instr_fits n pc f lies (instr.FieldAddress to from offset) at h = h
   instr_fits n pc f lies (instr.Load to address) at h = h
   instr_fits n pc f lies (instr.Store address from) at h = h
-  instr_fits n pc f lies (instr.New to cells site) at h = (h.0, h.1, new_class site h.2)
-  instr_fits n pc f lies (instr.Jump target) at h = target_in n pc target f (instr.Jump target) lies at refl
-  instr_fits n pc f lies (instr.JumpIfZero test target) at h = (h, target_in n pc target f (instr.JumpIfZero test target) lies at (inl refl))
-  instr_fits n pc f lies (instr.Call to first g) at h = (h.0, (h.1.function, ap (λ fs. slice_get fs g) m.functions ∙ h.1.in_table, h.1.arguments))
+  instr_fits n pc f lies (instr.New to cells site) at h = (h.0, (h.1.0, (new_class site h.1.1.0, tt)))
+  instr_fits n pc f lies (instr.Jump target) at h = (target_in n pc target f (instr.Jump target) lies at refl, tt)
+  instr_fits n pc f lies (instr.JumpIfZero test target) at h = (h.0, (target_in n pc target f (instr.JumpIfZero test target) lies at (inl refl), tt))
+  instr_fits n pc f lies (instr.Call to first g) at h = (h.0, ((h.1.0.function, ap (λ fs. slice_get fs g) m.functions ∙ h.1.0.in_table, h.1.0.arguments), tt))
   instr_fits n pc f lies (instr.Return from) at h = h
   instr_fits n pc f lies (instr.Output from) at h = h
-  instr_fits n pc f lies (instr.Acquire section) at h = acquire_fits n pc section f lies at h
+  instr_fits n pc f lies (instr.Acquire section) at h = (acquire_fits n pc section f lies at h.0, tt)
   instr_fits n pc f lies instr.Release at h = tt
 
   after : (i : Instr) (pc : ℕ) → is_end (classed c i) ≡ false → FlowsTo i pc (suc pc)

@@ -1,4 +1,4 @@
--- Machinery of the proofs, not of the promise: the parts of the image as they are made (src/image.rt).
+-- Machinery of the proofs, not of the promise: the parts of the image as they are made (src/inferred_image.rt).
 use Rattle.std.specs.Prelude.{◌≡◌, ◌+◌, ◌<◌, ℕ, List, length, map, Some, slice_get}
 use Rattle.asl_code.specs.declared.instr.Instr.{Instr}
 use Rattle.asl_code.specs.declared.instr.Instr.TheVariants as instr

@@ -15,7 +15,7 @@ use Rattle.asl_soundness.specs.Coded.{classed}
 use Rattle.asl_emitter.specs.Lists.{IsFitted}
 
 -- the image of a lowering with these classes, of the newest version: its code with classes in place of sites, and for each section
--- the fitted list, of as many locks as that version has at most, of what is needed behind its `acq`
+-- the fitted list, of as many locks as that version has at most, of what is needed after its `acq`
 pub record IsInferred (l : Lowered) (c : Classed) (stores : ℕ → ℕ → Bool) (k_limit : ℕ) (image : Image) : Type 0 where
   pub version : image.version ≡ newest
   pub classes : image.classes ≡ c.count

@@ -12,7 +12,7 @@ use Rattle.asl_lock_expr.specs.Links.{IsOne, class_lock}
 use Rattle.asl_lock_expr.specs.Order.{AreInOrder}
 use Rattle.asl_soundness.specs.Covering.{CoversLock}
 
--- in a function the first lock does in place of the second: it stands over it, and is not on the root
+-- in a function the first lock does in place of the second: it covers it, and is not on the root
 abbrev pub SufficesFor : Classed → ℕ → Lock → Lock → Type 0
 SufficesFor c f (lock.Root effect) b = ⊥
 SufficesFor c f a b = CoversLock c f a b

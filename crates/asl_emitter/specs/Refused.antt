@@ -1,7 +1,7 @@
 -- Which programs are refused, and why (docs/ANALYSIS.md, "The inferred image").
 use Rattle.std.specs.Prelude.{ℕ, ◌<◌, ◌≤◌, List}
 use Rattle.asl_syntax.specs.Tree.{Item}
-use Rattle.asl_lower.specs.Refused.{HasRoom, HasAccessesInside, IsRefused as IsNotLowered}
+use Rattle.asl_lower.specs.Refused.{HasRoom, HasAccessesInside, IsRefusedLowering as IsNotLowered}
 use Rattle.asl_lower.specs.Regions.{Region}
 use Rattle.asl_lower.specs.declared.fault.LowerFault.TheVariants as lower
 use Rattle.asl_backward_flow.specs.Needed.{NeedsMany, region_of}
@@ -34,12 +34,12 @@ pub record IsAccepted (is : List Item) (k_limit : ℕ) : Type 0 where
   pub few_classes : analysis.program.classes.count ≤ 1024
   pub few_locks : (r : Region) → ¬ NeedsMany analysis.program.lowering analysis.program.classes analysis.stores k_limit r
 
--- the program has this fault, and none that is listed before it; want of memory hides no fault of the lowering, which needs no
+-- the program has this fault, and none that is listed before it; lack of memory hides no fault of the lowering, which needs no
 -- memory to be judged
-abbrev pub IsRefused : List Item → ℕ → InferFault → Type 0
-IsRefused is k_limit (Registers function) = IsNotLowered is (lower.Registers function)
-IsRefused is k_limit CodeSize = IsNotLowered is lower.CodeSize
-IsRefused is k_limit (AccessOutsideSection function pc) = IsNotLowered is (lower.AccessOutsideSection function pc)
-IsRefused is k_limit TooManyClasses = HasManyClasses is
-IsRefused is k_limit (TooManyLocks region) = HasManyLocks is k_limit (region_of region)
-IsRefused is k_limit OutOfMemory = IsLowered is
+abbrev pub IsRefusedInference : List Item → ℕ → InferFault → Type 0
+IsRefusedInference is k_limit (Registers function) = IsNotLowered is (lower.Registers function)
+IsRefusedInference is k_limit CodeSize = IsNotLowered is lower.CodeSize
+IsRefusedInference is k_limit (AccessOutsideSection function pc) = IsNotLowered is (lower.AccessOutsideSection function pc)
+IsRefusedInference is k_limit TooManyClasses = HasManyClasses is
+IsRefusedInference is k_limit (TooManyLocks region) = HasManyLocks is k_limit (region_of region)
+IsRefusedInference is k_limit OutOfMemory = IsLowered is

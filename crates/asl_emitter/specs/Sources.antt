@@ -3,7 +3,7 @@ use Rattle.std.specs.Prelude.{ℕ, List}
 use Rattle.asl_syntax.specs.Tree.{Item}
 use Rattle.asl_syntax.specs.Parsed.{Parses}
 use Rattle.asl_emitter.specs.declared.fault.InferFault.{InferFault}
-use Rattle.asl_emitter.specs.Refused.{IsAccepted, IsRefused}
+use Rattle.asl_emitter.specs.Refused.{IsAccepted, IsRefusedInference}
 
 -- the source is a program's, for which an image is inferred
 pub record IsAcceptedSource (source : List ℕ) (k_limit : ℕ) : Type 0 where
@@ -15,4 +15,4 @@ pub record IsAcceptedSource (source : List ℕ) (k_limit : ℕ) : Type 0 where
 pub record HasRefusedTree (source : List ℕ) (k_limit : ℕ) (cause : InferFault) : Type 0 where
   pub tree : List Item
   pub parsed : Parses source tree
-  pub refused : IsRefused tree k_limit cause
+  pub refused : IsRefusedInference tree k_limit cause

@@ -6,7 +6,7 @@ use asl_points_to::ClassesFault;
 use std::alloc::AllocError;
 use thiserror::Error;
 
-/// Why no image is inferred for a program. The first that applies is answered; want of memory may come before
+/// Why no image is inferred for a program. The first that applies is answered; `OutOfMemory` may come before
 /// too many classes or locks are found, and is answered then.
 #[derive(Clone, Copy, Debug, PartialEq, Eq, Error)]
 pub enum InferFault {

@@ -20,7 +20,7 @@ pub const MAX_LOCKS: usize = NEWEST_LIMITS.locks;
 ///
 /// # Errors
 ///
-/// A growth was refused.
+/// An allocation failed.
 pub fn fit(
     alloc: Global,
     classes: &Classes,

@@ -8,11 +8,11 @@ ghost use Rattle.asl_soundness.specs.Safe.{NeverFaultsForLocks};
 ghost use Rattle.asl_atomicity.specs.Serial.{HasSerialRuns};
 ghost use Rattle.asl_atomicity.specs.Renamed.{HasSerialRunsUpTo};
 ghost use Rattle.asl_emitter.specs.Inferred.{IsInferredFor};
-ghost use Rattle.asl_emitter.specs.Refused.{IsAccepted, IsRefused};
+ghost use Rattle.asl_emitter.specs.Refused.{IsAccepted, IsRefusedInference};
 ghost use Rattle.asl_emitter.specs.BuiltImage.{IsMade};
 
 use crate::fault::InferFault;
-use crate::image::{code, copied, lists};
+use crate::inferred_image::{code, copied, lists};
 use asl_backward_flow::{Flow, needed};
 use asl_code::{Image, NEWEST, Program};
 use asl_lower::{Lowering, lower};
@@ -28,7 +28,7 @@ use std::alloc::{AllocError, Global};
 ///
 /// # Errors
 ///
-/// The first fault of lowering, of the classes and of the needed locks, in this order; `OutOfMemory` where a growth was refused.
+/// The first fault of lowering, of the classes and of the needed locks, in this order; `OutOfMemory` where an allocation failed.
 pub fn infer(alloc: Global, ast: &Ast, k: u32) -> Result<Program, InferFault>
     requires { k ≤ 8 }
     ensures inferred { IfOk result (IsInferredFor (tree_of ast.now) k) }
@@ -36,7 +36,7 @@ pub fn infer(alloc: Global, ast: &Ast, k: u32) -> Result<Program, InferFault>
     ensures sound { IfOk result NeverFaultsForLocks }
     ensures atomic { IfOk result (λ program. (count : ℕ) → HasSerialRuns program count) }
     ensures atomic_up_to_numbers { IfOk result (λ program. (count : ℕ) → HasSerialRunsUpTo program count) }
-    ensures refused { IfErr result (IsRefused (tree_of ast.now) k) }
+    ensures refused { IfErr result (IsRefusedInference (tree_of ast.now) k) }
 {
     let lowering = lower(alloc, ast)?;
     let classes = classes(alloc, &lowering)?;

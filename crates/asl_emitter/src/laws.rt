@@ -15,7 +15,7 @@ ghost use Rattle.asl_atomicity.specs.Serial.{HasSerialRuns};
 ghost use Rattle.asl_atomicity.specs.Renamed.{HasSerialRunsUpTo};
 ghost use Rattle.asl_emitter.specs.declared.fault.InferFault.{InferFault as AnyFault};
 ghost use Rattle.asl_emitter.specs.Inferred.{IsInferred, IsInferredFor};
-ghost use Rattle.asl_emitter.specs.Refused.{IsAccepted, IsRefused};
+ghost use Rattle.asl_emitter.specs.Refused.{IsAccepted, IsRefusedInference};
 ghost use Rattle.asl_emitter.specs.Lists.{Absorbs, IsReduced, IsFitted, HasClass};
 
 /// Absorbing is a strict order, so each lock of a set is kept or absorbed by one that is kept.
@@ -36,14 +36,14 @@ pub fn lists_depend_on_the_set_alone()
     ensures short { (c : Classed) (f most : ℕ) (given list : List AnyLock) → 0 < most → IsFitted c f most (IsOne given) list → length list ≤ most }
 {}
 
-/// For each lock of the set that has a class, a lock of the fitted list stands over it: the root, its class or the same
+/// For each lock of the set that has a class, a lock of the fitted list covers it: the root, its class or the same
 /// expression, with an effect at least as strong.
 pub fn fitted_lists_stand_over_their_sets()
     ensures { (c : Classed) (f most : ℕ) (given list : List AnyLock) → IsFitted c f most (IsOne given) list → (a : AnyLock)
         → IsOne given a → HasClass c f a → (m : AnyLock) × IsOne list m × CoversLock c f m a }
 {}
 
-/// The image that is inferred for a lowering is verified, no run of it ever faults for want of a lock, for a section that
+/// The image that is inferred for a lowering is verified, no run of it ever faults for a missing lock, for a section that
 /// was not entered, or for one left open, and its sections are atomic: each run in which no section finds that there is no room
 /// for an object ends as a serial one up to the numbers of objects, and as the very same where no step inside a section is a `new`.
 pub fn inferred_images_are_sound()
@@ -57,21 +57,21 @@ pub fn inferred_images_are_sound()
         → TellsStores l c stores → IsInferred l c stores k_limit image → (count : ℕ) → HasSerialRunsUpTo image count }
 {}
 
-/// A program has one outcome at the most, want of memory aside: a fault of its lowering keeps out all else, too many classes
-/// keep out too many locks, and an accepted program has no fault. Of several regions with too many locks any is told.
+/// A program has one outcome at the most, lack of memory aside: a fault of its lowering keeps out all else, too many classes
+/// keep out too many locks, and an accepted program has no fault. Of several regions with too many locks any is reported.
 pub fn programs_have_one_outcome()
-    ensures registers { (is : List Item) (k_limit function : ℕ) (other : AnyFault) → IsRefused is k_limit (AnyFault.Registers function)
-        → IsRefused is k_limit other → other ≡ AnyFault.Registers function }
-    ensures code_size { (is : List Item) (k_limit : ℕ) (other : AnyFault) → IsRefused is k_limit AnyFault.CodeSize
-        → IsRefused is k_limit other → other ≡ AnyFault.CodeSize }
-    ensures access { (is : List Item) (k_limit function pc : ℕ) (other : AnyFault) → IsRefused is k_limit (AnyFault.AccessOutsideSection function pc)
-        → IsRefused is k_limit other → other ≡ AnyFault.AccessOutsideSection function pc }
-    ensures classes { (is : List Item) (k_limit : ℕ) (other : AnyFault) → IsRefused is k_limit AnyFault.TooManyClasses
-        → IsRefused is k_limit other → (other ≡ AnyFault.TooManyClasses) ⊎ (other ≡ AnyFault.OutOfMemory) }
-    ensures locks { (is : List Item) (k_limit : ℕ) (region : _) (other : AnyFault) → IsRefused is k_limit (AnyFault.TooManyLocks region)
-        → IsRefused is k_limit other → ((another : _) × (other ≡ AnyFault.TooManyLocks another)) ⊎ (other ≡ AnyFault.OutOfMemory) }
+    ensures registers { (is : List Item) (k_limit function : ℕ) (other : AnyFault) → IsRefusedInference is k_limit (AnyFault.Registers function)
+        → IsRefusedInference is k_limit other → other ≡ AnyFault.Registers function }
+    ensures code_size { (is : List Item) (k_limit : ℕ) (other : AnyFault) → IsRefusedInference is k_limit AnyFault.CodeSize
+        → IsRefusedInference is k_limit other → other ≡ AnyFault.CodeSize }
+    ensures access { (is : List Item) (k_limit function pc : ℕ) (other : AnyFault) → IsRefusedInference is k_limit (AnyFault.AccessOutsideSection function pc)
+        → IsRefusedInference is k_limit other → other ≡ AnyFault.AccessOutsideSection function pc }
+    ensures classes { (is : List Item) (k_limit : ℕ) (other : AnyFault) → IsRefusedInference is k_limit AnyFault.TooManyClasses
+        → IsRefusedInference is k_limit other → (other ≡ AnyFault.TooManyClasses) ⊎ (other ≡ AnyFault.OutOfMemory) }
+    ensures locks { (is : List Item) (k_limit : ℕ) (region : _) (other : AnyFault) → IsRefusedInference is k_limit (AnyFault.TooManyLocks region)
+        → IsRefusedInference is k_limit other → ((another : _) × (other ≡ AnyFault.TooManyLocks another)) ⊎ (other ≡ AnyFault.OutOfMemory) }
     ensures accepted { (is : List Item) (k_limit : ℕ) (other : AnyFault) → IsAccepted is k_limit
-        → IsRefused is k_limit other → other ≡ AnyFault.OutOfMemory }
+        → IsRefusedInference is k_limit other → other ≡ AnyFault.OutOfMemory }
 {}
 
 /// A program has one inferred image for each longest path, at the most.

@@ -15,7 +15,7 @@ use std::alloc::{AllocError, Global};
 ///
 /// # Errors
 ///
-/// A growth was refused.
+/// An allocation failed.
 pub fn reduce(
     alloc: Global,
     classes: &Classes,

@@ -5,7 +5,7 @@ use Rattle.std.proofs.lemmas.Bool.{and_from, and_parts}
 use Rattle.std.proofs.lemmas.List.Folds.{list_all-append}
 use Rattle.asl_code.specs.declared.fault.VerifyFault.TheVariants as cause
 use Rattle.asl_code.specs.declared.image.Image.{Image}
-use Rattle.asl_code.specs.declared.limits.Limits.{Limits}
+use Rattle.asl_code.specs.declared.image_limits.Limits.{Limits}
 use Rattle.asl_code.specs.declared.lock.Lock.{Lock}
 use Rattle.asl_code.specs.Verified.{keeps_limits, keeps_counts, IsAnswer, IsVerified}
 use Rattle.asl_code.specs.Versions.{newest_locks, limits_of}

@@ -30,7 +30,7 @@ place_within (Eight bytes) place bad =
     let eight = instr_bytes-eight w.0 w.1 in
     omega (arith, bad.is_field, eight.len, length-take place (instr_bytes w.0), length-take place bytes, ap length w.2)
 
--- The fault tells the first thing that is wrong with the bytes: they end within a field, have a bad byte, or continue behind
+-- The fault tells the first thing that is wrong with the bytes: they end within a field, have a bad byte, or continue after
 -- the thing.
 pub data IsWrong (X F : Type 0) (Is : X → Type 0) (fields_of : X → List Field) (cut bad trailing : ℕ → F) (bytes : List ℕ) (f : F) : Type 0 where
   ends_within : EndsWithin X Is fields_of bytes → f ≡ cut (length bytes) → IsWrong X F Is fields_of cut bad trailing bytes f

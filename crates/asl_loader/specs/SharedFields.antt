@@ -10,7 +10,7 @@ use Rattle.asl_loader.specs.Bytes.{Field, text_of}
 use Rattle.asl_loader.specs.declared.fault.Stop.{Stop}
 use Rattle.asl_loader.specs.declared.fault.Stop.TheVariants.{Short, Bad}
 
--- A reader answers a value and the bytes after it, or what stopped it. One goes on where the other ended.
+-- A reader answers a value and the bytes after it, or what stopped it. One continues where the other ended.
 infixl 10 ◌>>=◌
 abbrev pub ◌>>=◌ : {A B : Type 0} → Result A Stop → (A → Result B Stop) → Result B Stop
 (Ok x) >>= f = f x

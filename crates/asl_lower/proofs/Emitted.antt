@@ -9,7 +9,7 @@ use Rattle.asl_syntax.specs.Tree.{Function, Item, globals_of, functions_of}
 use Rattle.asl_syntax.specs.Parsed.{IsParsed}
 use Rattle.asl_lower.specs.declared.section.Section.{Section}
 use Rattle.asl_lower.specs.declared.output.Output.{Output}
-use Rattle.asl_lower.specs.declared.draft.Draft.{Draft}
+use Rattle.asl_lower.specs.declared.code_draft.CodeDraft.{CodeDraft}
 use Rattle.asl_lower.specs.Names.{function_names, number_of}
 use Rattle.asl_lower.specs.Place.{Place, origin, past_function, past_functions}
 use Rattle.asl_lower.specs.Lowered.{Lowered, IsLowering, entry_of}
@@ -44,7 +44,7 @@ same_parts : (l m : Lowered) → l.globals ≡ m.globals → l.functions ≡ m.f
 same_parts l m a b c d e f =
     λ i. record { globals = a i; functions = b i; main = c i; code = d i; sites = e i; sections = f i }
 
-pub emitted : (is : List Item) (d : Draft) (old : Output) → IsEmpty old → Adds old d.out (functions_code is 0 (functions_of is) (place_of old)) (functions_sections is 0 (functions_of is) (place_of old)) (past_functions (functions_of is) (place_of old)) → d.functions.items ≡ functions_table (functions_of is) (place_of old) → d.globals ≡ length (globals_of is) → d.main ≡ number_of (function_names (functions_of is)) (codes "main") → lowered_of d ≡ lowering_of is
+pub emitted : (is : List Item) (d : CodeDraft) (old : Output) → IsEmpty old → Adds old d.out (functions_code is 0 (functions_of is) (place_of old)) (functions_sections is 0 (functions_of is) (place_of old)) (past_functions (functions_of is) (place_of old)) → d.functions.items ≡ functions_table (functions_of is) (place_of old) → d.globals ≡ length (globals_of is) → d.main ≡ number_of (function_names (functions_of is)) (codes "main") → lowered_of d ≡ lowering_of is
 emitted is d old empty h t g m =
     let fs : List Function = functions_of is in
     let o : place_of old ≡ origin = at_origin old empty in

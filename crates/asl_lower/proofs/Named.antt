@@ -64,10 +64,10 @@ Named l r i = HasOperands l r i
 
 pub named_operands : (l : Lowered) (r pc : ℕ) (i : Instr) → IsNumbered l → HasSections l → slice_get l.code pc ≡ Some i → Named l r i → HasOperands l r i
 named_operands l r pc (instr.New to cells site) n s e h =
-    (h.0, h.1, n.known_sites pc to cells site e)
+    (h.0, (h.1, (n.known_sites pc to cells site e, tt)))
 named_operands l r pc (instr.Acquire section) n s e h =
     let w = from_mapped (λ (x : Section). x.acquire) (slice_get l.sections section) pc (s.entered pc section e) in
-    slice_get_within l.sections section w.0 w.1
+    (slice_get_within l.sections section w.0 w.1, tt)
 named_operands l r pc i n s e h = h
 
 -- what stands at a pc, with its operands
@@ -82,17 +82,17 @@ one_named l r p pc low high i h n =
     record { instruction = i; stands = ap (slice_get l.code) e ∙ h; named = n }
 
 operator_named : (l : Lowered) (r : ℕ) (o : Operator) (x y z : ℕ) → x < r → y < r → z < r → Named l r (operator_instr o x y z)
-operator_named l r Add x y z a b c = (a, b, c)
-operator_named l r Subtract x y z a b c = (a, b, c)
-operator_named l r IsLess x y z a b c = (a, b, c)
-operator_named l r IsEqual x y z a b c = (a, b, c)
+operator_named l r Add x y z a b c = (a, (b, (c, tt)))
+operator_named l r Subtract x y z a b c = (a, (b, (c, tt)))
+operator_named l r IsLess x y z a b c = (a, (b, (c, tt)))
+operator_named l r IsEqual x y z a b c = (a, (b, (c, tt)))
 
 moves_named : (sc : Scope) (l : Lowered) (r : ℕ) (args : List (List ℕ)) (p : Place) (to : ℕ) → AreMoved sc l args p to → length sc.locals ≤ r → to + length args ≤ r → Each (Known sc l) (map UsesLocal args) → (pc : ℕ) → p.pc ≤ pc → pc < (past_moves args p).pc → NamedAt l r pc
 moves_named sc l r [] p to h a b k pc low high = absurd (omega arith)
 moves_named sc l r (x ∷ rest) p to h a b k pc low high =
     elim (cases_lt p.pc pc) [
       | inl more ↦ moves_named sc l r rest (next p) (suc to) h.1 a (omega arith) k.1 pc more high
-      | inr less ↦ (let first = k.0 in one_named l r p pc low (omega arith) _ h.0 (omega arith, omega (arith, first)))
+      | inr less ↦ (let first = k.0 in one_named l r p pc low (omega arith) _ h.0 (omega arith, (omega (arith, first), tt)))
     ]
 
 -- as many registers as the call passes arguments
@@ -101,25 +101,25 @@ call_fits sc r n [] h e = omega arith
 call_fits sc r n (x ∷ rest) h e = omega arith
 
 value_named : (sc : Scope) (l : Lowered) (r to : ℕ) (v : Value) (p : Place) → IsLoweredValue sc l to v p → to < r → length sc.locals + value_arguments v ≤ r → Each (Known sc l) (value_mentions v) → ValueCells v → (pc : ℕ) → p.pc ≤ pc → pc < (past_value v p).pc → NamedAt l r pc
-value_named sc l r to (IntegerValue z) p h t a k c pc low high = one_named l r p pc low high _ h t
-value_named sc l r to NullValue p h t a k c pc low high = one_named l r p pc low high _ h t
+value_named sc l r to (IntegerValue z) p h t a k c pc low high = one_named l r p pc low high _ h (t, (tt, tt))
+value_named sc l r to NullValue p h t a k c pc low high = one_named l r p pc low high _ h (t, tt)
 value_named sc l r to (LocalValue y) p h t a k c pc low high =
-    (let first = k.0 in one_named l r p pc low high _ h (t, omega (arith, first)))
+    (let first = k.0 in one_named l r p pc low high _ h (t, (omega (arith, first), tt)))
 value_named sc l r to (BinaryValue y o z) p h t a k c pc low high =
     (let first = k.0 in
     let second = k.1.0 in
     one_named l r p pc low high _ h (operator_named l r o to (register sc y) (register sc z) t (omega (arith, first)) (omega (arith, second))))
-value_named sc l r to (GlobalValue g) p h t a k c pc low high = one_named l r p pc low high _ h (t, k.0)
+value_named sc l r to (GlobalValue g) p h t a k c pc low high = one_named l r p pc low high _ h (t, (k.0, tt))
 value_named sc l r to (FieldValue y n) p h t a k c pc low high =
-    (let first = k.0 in one_named l r p pc low high _ h (t, omega (arith, first)))
+    (let first = k.0 in one_named l r p pc low high _ h (t, (omega (arith, first), (tt, tt))))
 value_named sc l r to (LoadValue y) p h t a k c pc low high =
-    (let first = k.0 in one_named l r p pc low high _ h (t, omega (arith, first)))
+    (let first = k.0 in one_named l r p pc low high _ h (t, (omega (arith, first), tt)))
 value_named sc l r to (NewValue n) p h t a k c pc low high = one_named l r p pc low high _ h (t, c)
 value_named sc l r to (CallValue f args) p h t a k c pc low high =
     elim (cases_lt pc (past_moves args p).pc) [
       | inl more ↦ moves_named sc l r args p (length sc.locals) h.0 (omega arith) (omega arith) k.1 pc low more
       | inr less ↦ (let callee = k.0 in
-          one_named l r (past_moves args p) pc less high _ h.1 (t, record { function = callee.0; in_table = callee.1; arguments = call_fits sc r callee.0.params args (omega arith) callee.2 }))
+          one_named l r (past_moves args p) pc less high _ h.1 (t, (record { function = callee.0; in_table = callee.1; arguments = call_fits sc r callee.0.params args (omega arith) callee.2 }, tt)))
     ]
 
 mutual
@@ -129,14 +129,14 @@ mutual
   stmt_named sc l r (StoreStatement x y) p h a k c pc low high =
       (let first = k.0 in
       let second = k.1.0 in
-      one_named l r p pc low high _ h (omega (arith, first), omega (arith, second)))
+      one_named l r p pc low high _ h (omega (arith, first), (omega (arith, second), tt)))
   stmt_named sc l r (OutStatement x) p h a k c pc low high =
-      (let first = k.0 in one_named l r p pc low high _ h (omega (arith, first)))
+      (let first = k.0 in one_named l r p pc low high _ h (omega (arith, first), tt))
   stmt_named sc l r (IfStatement x b e) p h a k c pc low high =
       let first = k.0 in
       let mid : Place = past_block b (next p) in
       elim (cases_lt p.pc pc) [
-        | inr less ↦ one_named l r p pc low (omega arith) _ h.0 (omega (arith, first))
+        | inr less ↦ one_named l r p pc low (omega arith) _ h.0 (omega (arith, first), (tt, tt))
         | inl more ↦ elim (cases_lt pc mid.pc) [
           | inl inside ↦ block_named sc l r b (next p) h.1 (omega arith) (each_first (Known sc l) (block_mentions b) (block_mentions e) k.1) c.0 pc more inside
           | inr past ↦ else_named sc l r e mid h.2 (omega arith) (each_second (Known sc l) (block_mentions b) (block_mentions e) k.1) c.1 pc past high
@@ -146,10 +146,10 @@ mutual
       let first = k.0 in
       let mid : Place = past_block b (next p) in
       elim (cases_lt p.pc pc) [
-        | inr less ↦ one_named l r p pc low (omega arith) _ h.0 (omega (arith, first))
+        | inr less ↦ one_named l r p pc low (omega arith) _ h.0 (omega (arith, first), (tt, tt))
         | inl more ↦ elim (cases_lt pc mid.pc) [
           | inl inside ↦ block_named sc l r b (next p) h.1 a k.1 c pc more inside
-          | inr past ↦ one_named l r mid pc past high _ h.2 tt
+          | inr past ↦ one_named l r mid pc past high _ h.2 (tt, tt)
         ]
       ]
   stmt_named sc l r (AtomicStatement b) p h a k c pc low high =
@@ -176,7 +176,7 @@ mutual
   else_named sc l r (Then s b) p h a k c pc low high =
       let mid : Place = past_stmt s (next p) in
       elim (cases_lt p.pc pc) [
-        | inr less ↦ one_named l r p pc low (omega arith) _ h.0 tt
+        | inr less ↦ one_named l r p pc low (omega arith) _ h.0 (tt, tt)
         | inl more ↦ elim (cases_lt pc mid.pc) [
           | inl inside ↦ stmt_named sc l r s (next p) h.1 (omega arith) (each_first (Known sc l) (statement_mentions s) (block_mentions b) k) c.0 pc more inside
           | inr past ↦ block_named sc l r b mid h.2 (omega arith) (each_second (Known sc l) (statement_mentions s) (block_mentions b) k) c.1 pc past high

@@ -1,12 +1,16 @@
 -- The facts of a lowering are propositions, so they come out of what a `Lowering` keeps.
-use Rattle.std.proofs.Common.{◌≡◌, ℕ, ◌+◌, ◌<◌, ◌≤◌, Option, Some, slice_get, ◌∷◌, sym, ap, ◌∙◌}
+use Rattle.std.proofs.Common.{◌≡◌, ℕ, ◌+◌, ◌<◌, ◌≤◌, Option, Some, slice_get, List, [], ◌∷◌, sym, ap, ◌∙◌}
+use Rattle.std.specs.List.{AllByRecursion}
+use Rattle.asl_code.specs.Operands.{operands}
+use Rattle.asl_code.specs.declared.operand.Operand.{Operand}
+use Rattle.asl_code.specs.declared.operand.Operand.TheVariants as operand
 use Rattle.asl_code.specs.declared.image.Function as entry
 use Rattle.asl_code.specs.declared.instr.Instr.{Instr}
 use Rattle.asl_code.specs.declared.instr.Instr.TheVariants as instr
 use Rattle.asl_lower.specs.declared.section.Section.{Section}
 use Rattle.asl_lower.specs.Lowered.{Lowered}
 use Rattle.asl_lower.specs.Region.{open_at, start_of, IsOpenAt, InBody, InSection, IsSection}
-use Rattle.asl_lower.specs.Operands.{HasCallee, HasOperands, AreOperandsThere}
+use Rattle.asl_lower.specs.Operands.{HasCallee, HasOperand, HasOperands, AreOperandsThere}
 use Rattle.asl_lower.specs.Limits.{HasMain, KeepsLimits}
 use Rattle.asl_lower.specs.Facts.{IsParted, IsNested, HasSections, ReturnsLast, StaysInside, IsNumbered, HasLayout}
 use mathlib.Core.HLevel.{Σ_prop_path}
@@ -85,26 +89,19 @@ HasMain-prop l x y =
     let same : a ≡ b = Σ_prop_path h (one_function (slice_get l.functions l.main) x.function y.function x.in_table y.in_table) in
     ap back same
 
+HasOperand-prop : (l : Lowered) (registers : ℕ) (o : Operand) → IsProp (HasOperand l registers o)
+HasOperand-prop l registers (operand.Callee first callee) = HasCallee-prop l registers first callee
+HasOperand-prop l registers o = hlevel props
+
+each-prop : (l : Lowered) (registers : ℕ) (os : List Operand) → IsProp (AllByRecursion (HasOperand l registers) os)
+each-prop l registers [] = hlevel props
+each-prop l registers (o ∷ os) =
+    let here = HasOperand-prop l registers o in
+    let later = each-prop l registers os in
+    hlevel (here, later)
+
 HasOperands-prop : (l : Lowered) (registers : ℕ) (i : Instr) → IsProp (HasOperands l registers i)
-HasOperands-prop l registers (instr.SetInt to value) = hlevel props
-HasOperands-prop l registers (instr.SetNull to) = hlevel props
-HasOperands-prop l registers (instr.Move to from) = hlevel props
-HasOperands-prop l registers (instr.Add to left right) = hlevel props
-HasOperands-prop l registers (instr.Subtract to left right) = hlevel props
-HasOperands-prop l registers (instr.LessThan to left right) = hlevel props
-HasOperands-prop l registers (instr.Equals to left right) = hlevel props
-HasOperands-prop l registers (instr.GlobalAddress to global) = hlevel props
-HasOperands-prop l registers (instr.FieldAddress to from offset) = hlevel props
-HasOperands-prop l registers (instr.Load to address) = hlevel props
-HasOperands-prop l registers (instr.Store address from) = hlevel props
-HasOperands-prop l registers (instr.New to cells site) = hlevel props
-HasOperands-prop l registers (instr.Jump target) = hlevel props
-HasOperands-prop l registers (instr.JumpIfZero test target) = hlevel props
-HasOperands-prop l registers (instr.Call to first callee) = hlevel (props, HasCallee-prop)
-HasOperands-prop l registers (instr.Return from) = hlevel props
-HasOperands-prop l registers (instr.Output from) = hlevel props
-HasOperands-prop l registers (instr.Acquire section) = hlevel props
-HasOperands-prop l registers instr.Release = hlevel props
+HasOperands-prop l registers i = each-prop l registers (operands i)
 
 IsParted-prop : (l : Lowered) → IsProp (IsParted l)
 IsParted-prop l = hlevel (props, InBody-prop)

@@ -21,7 +21,7 @@ pub callee_there : (l : Lowered) → HasLayout l → (pc callee : ℕ) → Calls
 callee_there l lay pc callee k =
     let b = lay.parted.owned pc (slice_get_within l.code pc (instr.Call k.0 k.1 callee) k.2) in
     let o : HasOperands l b.function.regs (instr.Call k.0 k.1 callee) = lay.operands pc (owner_of l.functions pc) b.function (instr.Call k.0 k.1 callee) b b.in_table k.2 in
-    slice_get_within l.functions callee o.1.function o.1.in_table
+    slice_get_within l.functions callee o.1.0.function o.1.0.in_table
 
 -- one instruction more
 pub called_more : (l : Lowered) (c : Where) (from pc callee : ℕ) → IsCalled l c from (pc + 1) callee → IsCalled l c from pc callee ⊎ IsSuchCall l c pc callee

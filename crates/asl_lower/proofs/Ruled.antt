@@ -245,7 +245,7 @@ housed_named is l pc b =
       | inl inside ↦ block_named sc l (registers_of f) f.body b.place b.lowered.body (omega arith) (each_first (Known sc l) (block_mentions f.body) last own) b.within.cells pc b.low inside
       | inr past ↦ (let e : pc ≡ (last_of f b.place).pc = omega (arith, b.high) in
           let returned = (each_second (Known sc l) (block_mentions f.body) last own).0 in
-          record { instruction = instr.Return (register sc f.returned); stands = ap (slice_get l.code) e ∙ b.lowered.returns; named = omega (arith, returned) })
+          record { instruction = instr.Return (register sc f.returned); stands = ap (slice_get l.code) e ∙ b.lowered.returns; named = (omega (arith, returned), tt) })
     ]
 
 housed_body : (is : List Item) (l : Lowered) (pc : ℕ) → (b : Housed is l pc) → InBody l b.number pc

@@ -4,7 +4,7 @@ use Rattle.std.specs.List.{All}
 use Rattle.asl_code.specs.declared.image.Function as entry
 use Rattle.asl_syntax.specs.Tree.{Item}
 use Rattle.asl_syntax.specs.Parsed.{IsParsed}
-use Rattle.asl_lower.specs.declared.draft.Draft.{Draft}
+use Rattle.asl_lower.specs.declared.code_draft.CodeDraft.{CodeDraft}
 use Rattle.asl_lower.specs.Lowered.{Lowered, IsLowering}
 use Rattle.asl_lower.specs.Region.{IsBareAccess}
 
@@ -16,7 +16,7 @@ pub record IsLegalLowering (l : Lowered) : Type 0 where
   pub size : length l.code ≤ 65535
   pub inside : (function pc : ℕ) → ¬ IsBareAccess l function pc
 
--- machinery: what has been emitted (src/draft.rt), as a lowering
-abbrev pub lowered_of : Draft → Lowered
+-- machinery: what has been emitted (src/code_draft.rt), as a lowering
+abbrev pub lowered_of : CodeDraft → Lowered
 lowered_of d =
     record { globals = d.globals; functions = d.functions.items; main = d.main; code = d.out.code.items; sites = d.out.sites; sections = d.out.sections.items }

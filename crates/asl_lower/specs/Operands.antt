@@ -1,8 +1,11 @@
 -- What the instructions of a lowering name is there (docs/SOURCE.md, "Templates").
 use Rattle.std.specs.Prelude.{◌≡◌, ℕ, ◌+◌, ◌<◌, ◌≤◌, length, Some, slice_get}
+use Rattle.std.specs.List.{AllByRecursion}
+use Rattle.asl_code.specs.Operands.{operands}
+use Rattle.asl_code.specs.declared.operand.Operand.{Operand}
+use Rattle.asl_code.specs.declared.operand.Operand.TheVariants as operand
 use Rattle.asl_code.specs.declared.image.Function as entry
 use Rattle.asl_code.specs.declared.instr.Instr.{Instr}
-use Rattle.asl_code.specs.declared.instr.Instr.TheVariants as instr
 use Rattle.asl_lower.specs.Lowered.{Lowered}
 use Rattle.asl_lower.specs.Region.{InBody}
 
@@ -12,28 +15,20 @@ pub record HasCallee (l : Lowered) (registers first callee : ℕ) : Type 0 where
   pub in_table : slice_get l.functions callee ≡ Some function
   pub arguments : first + function.params ≤ registers
 
--- the registers, the global, the callee, the site and the section of an instruction are there, in a function with so
--- many registers, and a `new` makes a cell
+-- what the operand names is there, in a function with so many registers: the class of a `new` is its site, a lock list is
+-- that of its section, and a `new` makes a cell
+abbrev pub HasOperand : Lowered → ℕ → Operand → Type 0
+HasOperand l registers (operand.Register register) = register < registers
+HasOperand l registers (operand.Global global) = global < l.globals
+HasOperand l registers (operand.Cells cells) = 0 < cells
+HasOperand l registers (operand.Class site) = site < l.sites
+HasOperand l registers (operand.Callee first callee) = HasCallee l registers first callee
+HasOperand l registers (operand.Locks section) = section < length l.sections
+HasOperand l registers other = Unit {0}
+
+-- so is what each operand of the instruction names
 abbrev pub HasOperands : Lowered → ℕ → Instr → Type 0
-HasOperands l registers (instr.SetInt to value) = to < registers
-HasOperands l registers (instr.SetNull to) = to < registers
-HasOperands l registers (instr.Move to from) = (to < registers) × (from < registers)
-HasOperands l registers (instr.Add to left right) = (to < registers) × (left < registers) × (right < registers)
-HasOperands l registers (instr.Subtract to left right) = (to < registers) × (left < registers) × (right < registers)
-HasOperands l registers (instr.LessThan to left right) = (to < registers) × (left < registers) × (right < registers)
-HasOperands l registers (instr.Equals to left right) = (to < registers) × (left < registers) × (right < registers)
-HasOperands l registers (instr.GlobalAddress to global) = (to < registers) × (global < l.globals)
-HasOperands l registers (instr.FieldAddress to from offset) = (to < registers) × (from < registers)
-HasOperands l registers (instr.Load to address) = (to < registers) × (address < registers)
-HasOperands l registers (instr.Store address from) = (address < registers) × (from < registers)
-HasOperands l registers (instr.New to cells site) = (to < registers) × (0 < cells) × (site < l.sites)
-HasOperands l registers (instr.Jump target) = Unit {0}
-HasOperands l registers (instr.JumpIfZero test target) = test < registers
-HasOperands l registers (instr.Call to first callee) = (to < registers) × HasCallee l registers first callee
-HasOperands l registers (instr.Return from) = from < registers
-HasOperands l registers (instr.Output from) = from < registers
-HasOperands l registers (instr.Acquire section) = section < length l.sections
-HasOperands l registers instr.Release = Unit {0}
+HasOperands l registers i = AllByRecursion (HasOperand l registers) (operands i)
 
 -- so it is of each instruction of a body
 abbrev pub AreOperandsThere : Lowered → Type 0

@@ -23,9 +23,9 @@ HasAccessesInside is = (l : Lowered) → IsLowering is l → (function pc : ℕ)
 
 -- the program has this fault, and none that is listed before it. All is judged in the tree, without memory, before any
 -- code is made, so running out of memory hides no other fault
-abbrev pub IsRefused : List Item → LowerFault → Type 0
-IsRefused is (Registers number) = first_crowded 0 (functions_of is) ≡ Some number
-IsRefused is CodeSize = (first_crowded 0 (functions_of is) ≡ None) × (65535 < (end_of is).pc)
-IsRefused is (AccessOutsideSection function pc) =
+abbrev pub IsRefusedLowering : List Item → LowerFault → Type 0
+IsRefusedLowering is (Registers number) = first_crowded 0 (functions_of is) ≡ Some number
+IsRefusedLowering is CodeSize = (first_crowded 0 (functions_of is) ≡ None) × (65535 < (end_of is).pc)
+IsRefusedLowering is (AccessOutsideSection function pc) =
     HasRoom is × ((l : Lowered) × IsLowering is l × IsFirstBareAccess l function pc)
-IsRefused is OutOfMemory = HasRoom is × HasAccessesInside is
+IsRefusedLowering is OutOfMemory = HasRoom is × HasAccessesInside is

@@ -1,4 +1,4 @@
--- Machinery of the proofs, not of the promise: how many instructions the code of a program has, as src/size.rt counts
+-- Machinery of the proofs, not of the promise: how many instructions the code of a program has, as src/code_size.rt counts
 -- them. What contracts cite is `end_of` of specs/Lowered.
 use Rattle.std.specs.Prelude.{ℕ, suc, ◌+◌, List, [], ◌∷◌, length}
 use Rattle.asl_syntax.specs.Tree.{Value, CallValue, Statement, AssignStatement, StoreStatement, OutStatement, IfStatement, WhileStatement, AtomicStatement, Block, NoMore, Then, Function}

@@ -12,8 +12,8 @@ ghost use Rattle.asl_lower.specs.Layout.{block_sections, function_code, function
 ghost use Rattle.asl_lower.specs.OutputView.{Adds, place_of};
 ghost use Rattle.asl_lower.specs.Refused.{first_crowded};
 
+use crate::item_numbers::ItemNumbers;
 use crate::locals::{Locals, MAX_REGISTERS, TooMany, add_block, block_arguments};
-use crate::numbers::Numbers;
 use crate::output::Output;
 use crate::scope::Scope;
 use crate::statements::emit_block;
@@ -70,7 +70,7 @@ pub fn first_crowded(items: &[Item]) -> Option<u16>
 fn emit_function(
     out: &mut Output,
     items: &[Item],
-    numbers: &Numbers<'_>,
+    numbers: &ItemNumbers<'_>,
     number: u16,
     function: &Function,
 ) -> Result<Entry, AllocError>
@@ -106,7 +106,7 @@ pub fn emit_functions(
     alloc: Global,
     out: &mut Output,
     items: &[Item],
-    numbers: &Numbers<'_>,
+    numbers: &ItemNumbers<'_>,
 ) -> Result<Vec<Entry>, AllocError>
     requires numbered { AreNumbered numbers.now (map item_of items.now) }
     requires few_globals { length (globals_of (map item_of items.now)) ≤ 1024 }

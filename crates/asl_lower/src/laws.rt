@@ -93,7 +93,7 @@ pub fn open_sections_are_distinct()
     ensures { (l : Lowered) → IsLegalLowering l → (pc : ℕ) → AreDistinct (open_at l.code pc) }
 {}
 
-/// Behind an `acq` its section is the innermost that is open. The outermost stays so with each step until its own `rel`,
+/// After an `acq` its section is the innermost that is open. The outermost stays so with each step until its own `rel`,
 /// after which nothing is open.
 pub fn the_outermost_section_stays()
     ensures opened { (l : Lowered) (pc n : ℕ) → slice_get l.code pc ≡ Some (Instr.Acquire n) → open_at l.code (suc pc) ≡ n ∷ open_at l.code pc }

@@ -1,22 +1,22 @@
 //! The code of a program: each statement by its template, functions one after the other.
 #![tactic(auto)]
 
-mod draft;
+mod code_draft;
+mod code_size;
 mod emit;
 mod fault;
 mod functions;
+mod item_numbers;
 mod laws;
 mod locals;
+mod lowered_program;
 mod lowering;
-mod names;
-mod numbers;
+mod name_numbers;
 mod output;
 mod outside;
-mod program;
-mod reach;
 mod scope;
 mod section;
-mod size;
+mod section_reach;
 mod statements;
 
 pub use fault::LowerFault;
@@ -26,7 +26,7 @@ pub use laws::{
     operands_are_there, regions_are_left_at_their_ends, returns_stand_last, sections_are_listed,
     sections_nest, the_outermost_section_stays,
 };
+pub use lowered_program::lower;
 pub use lowering::Lowering;
-pub use program::lower;
-pub use reach::Marks;
 pub use section::Section;
+pub use section_reach::Marks;

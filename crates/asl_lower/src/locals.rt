@@ -5,9 +5,9 @@ ghost use Rattle.asl_syntax.specs.View.{value_of, statement_of, block_of};
 ghost use Rattle.asl_lower.specs.Names.{with_name, stmt_locals, block_locals, value_arguments, stmt_arguments, block_arguments};
 ghost use Rattle.asl_lower.specs.NamesView.{names_of};
 
-use crate::names::number_of;
+use crate::name_numbers::number_of;
 use arrayvec::ArrayVec;
-use asl_code::limits::REGS;
+use asl_code::image_limits::REGS;
 use asl_syntax::Name;
 use asl_syntax::tree::{Statement, Value};
 

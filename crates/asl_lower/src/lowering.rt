@@ -6,9 +6,9 @@ ghost use Rattle.asl_code.specs.declared.instr.Instr.{Instr};
 ghost use Rattle.asl_lower.specs.Region.{start_of, owner_of, returned, InBody, IsInner, FlowsTo, successors};
 ghost use Rattle.asl_lower.specs.LegalLowering.{IsLegalLowering, lowered_of};
 
-use crate::draft::Draft;
-use crate::reach::{Marks, inner_functions};
+use crate::code_draft::CodeDraft;
 use crate::section::Section;
+use crate::section_reach::{Marks, inner_functions};
 use arrayvec::ArrayVec;
 use asl_code::{Function, Instr};
 use std::marker::Model;
@@ -17,7 +17,7 @@ use std::marker::Model;
 /// site as its class, an `acq` the number of its section as its list.
 #[derive(Drop)]
 pub struct Lowering {
-    draft: Draft,
+    draft: CodeDraft,
 }
 
 impl Model for Lowering {
@@ -34,7 +34,7 @@ impl Model for Lowering {
 
 impl Lowering {
     /// What has been emitted for a program.
-    pub(crate) fn new(draft: Draft) -> Lowering
+    pub(crate) fn new(draft: CodeDraft) -> Lowering
         requires { IsLegalLowering (lowered_of draft) }
         ensures { result ≡ lowered_of draft }
     {

@@ -4,7 +4,7 @@ ghost use Rattle.std.specs.Prelude.{◌≡◌, ◌<◌, ◌≤◌, [], ◌∷◌
 
 use crate::section::Section;
 use asl_code::Instr;
-use asl_code::limits::CODE;
+use asl_code::image_limits::CODE;
 use std::alloc::{AllocError, Global};
 
 /// The code and the sections so far, and how many sites they have.

@@ -12,15 +12,15 @@ ghost use Rattle.asl_lower.specs.Numbered.{AreNumbered};
 ghost use Rattle.asl_lower.specs.Reach.{Outside, IsMarked, KeepsMarks, AreFollowed, Reached};
 ghost use Rattle.asl_lower.specs.Outside.{value_access, stmt_access, block_access, else_access, stmt_callees, block_callees, MarksThese};
 
-use crate::draft::main_number;
-use crate::numbers::Numbers;
-use crate::reach::{MAX_FUNCTIONS, Marks, next_function};
-use crate::size::{block_size, value_size};
+use crate::code_draft::main_number;
+use crate::code_size::{block_size, value_size};
+use crate::item_numbers::ItemNumbers;
+use crate::section_reach::{MAX_FUNCTIONS, Marks, next_function};
 use asl_syntax::Name;
 use asl_syntax::tree::{Function, Item, Statement, Value};
 
 /// Marks a function that is called.
-fn mark_callee(items: &[Item], numbers: &Numbers<'_>, marks: &mut Marks, name: &Name)
+fn mark_callee(items: &[Item], numbers: &ItemNumbers<'_>, marks: &mut Marks, name: &Name)
     requires { AreNumbered numbers.now (map item_of items.now) }
     ensures { MarksThese (number_of (function_names (functions_of (map item_of items.now))) name.now ∷ []) marks.old marks.new }
 {
@@ -32,7 +32,7 @@ fn mark_callee(items: &[Item], numbers: &Numbers<'_>, marks: &mut Marks, name: &
 
 /// Marks the functions that statements call outside sections.
 #[cycle(callees)]
-fn mark_block(items: &[Item], numbers: &Numbers<'_>, marks: &mut Marks, block: &[Statement])
+fn mark_block(items: &[Item], numbers: &ItemNumbers<'_>, marks: &mut Marks, block: &[Statement])
     requires { AreNumbered numbers.now (map item_of items.now) }
     ensures { MarksThese (block_callees (function_names (functions_of (map item_of items.now))) (block_of block.now)) marks.old marks.new }
 {
@@ -43,7 +43,12 @@ fn mark_block(items: &[Item], numbers: &Numbers<'_>, marks: &mut Marks, block: &
 
 /// Marks the functions that a statement calls outside sections.
 #[cycle(callees)]
-fn mark_statement(items: &[Item], numbers: &Numbers<'_>, marks: &mut Marks, statement: &Statement)
+fn mark_statement(
+    items: &[Item],
+    numbers: &ItemNumbers<'_>,
+    marks: &mut Marks,
+    statement: &Statement,
+)
     requires { AreNumbered numbers.now (map item_of items.now) }
     ensures { MarksThese (stmt_callees (function_names (functions_of (map item_of items.now))) (statement_of statement.now)) marks.old marks.new }
 {
@@ -93,7 +98,7 @@ fn count_functions(items: &[Item]) -> usize
 }
 
 /// Marks all that calls outside sections lead to from the functions with a mark.
-fn follow_calls(items: &[Item], numbers: &Numbers<'_>, marks: &mut Marks)
+fn follow_calls(items: &[Item], numbers: &ItemNumbers<'_>, marks: &mut Marks)
     requires numbered { AreNumbered numbers.now (map item_of items.now) }
     requires layout { HasLayout (lowering_of (map item_of items.now)) }
     ensures kept { KeepsMarks marks.old marks.new }
@@ -111,7 +116,7 @@ fn follow_calls(items: &[Item], numbers: &Numbers<'_>, marks: &mut Marks)
 }
 
 /// Which functions are bare.
-fn bare_functions(items: &[Item], numbers: &Numbers<'_>) -> Marks
+fn bare_functions(items: &[Item], numbers: &ItemNumbers<'_>) -> Marks
     requires numbered { AreNumbered numbers.now (map item_of items.now) }
     requires layout { HasLayout (lowering_of (map item_of items.now)) }
     ensures { (function : ℕ) → IsMarked result function ↔ IsBare (lowering_of (map item_of items.now)) function }
@@ -196,7 +201,7 @@ fn pass_value(pc: usize, value: &Value) -> Result<usize, Access>
 }
 
 /// The lowest access of a bare function outside its sections, as the function and the pc.
-pub fn first_bare_access(items: &[Item], numbers: &Numbers<'_>) -> Option<(u16, u16)>
+pub fn first_bare_access(items: &[Item], numbers: &ItemNumbers<'_>) -> Option<(u16, u16)>
     requires numbered { AreNumbered numbers.now (map item_of items.now) }
     requires layout { HasLayout (lowering_of (map item_of items.now)) }
     requires few { length (lowering_of (map item_of items.now)).code ≤ 65535 }

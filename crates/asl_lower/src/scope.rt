@@ -5,8 +5,8 @@ ghost use Rattle.asl_syntax.specs.Tree.{globals_of, functions_of};
 ghost use Rattle.asl_syntax.specs.View.{item_of};
 ghost use Rattle.asl_lower.specs.Numbered.{AreNumbered};
 
-use crate::names::number_of;
-use crate::numbers::Numbers;
+use crate::item_numbers::ItemNumbers;
+use crate::name_numbers::number_of;
 use asl_syntax::Name;
 use asl_syntax::tree::Item;
 
@@ -16,7 +16,7 @@ pub struct Scope<'a, 'n> {
     pub function: u16,
     pub locals: &'a [&'a [u8]],
     pub items: &'a [Item],
-    pub numbers: &'a Numbers<'n>,
+    pub numbers: &'a ItemNumbers<'n>,
     ghost few_locals: { length locals.now ≤ 64 },
     ghost few_globals: { length (globals_of (map item_of items.now)) ≤ 1024 },
     ghost numbered: { AreNumbered numbers.now (map item_of items.now) },

@@ -122,7 +122,7 @@ defaults_fine rows =
     ap₂ or_else (default_fine threads refl rows)
     (ap₂ or_else (default_fine recorded refl second) (ap₂ or_else (default_fine schedule refl third) (ap₂ or_else (default_fine help refl fourth) refl)))
 
--- the walk behind all words
+-- the walk after all words
 all_walk : (front rest : List Text) (rows : List Row) (v : Text) (vs : List Text) (skip : ℕ) (trailing : Bool) → ArePlain rest
     → fold (walked step_rules []) start front ≡ scheduled rows v vs skip trailing → fold (walked step_rules []) start (front ++ rest) ≡ scheduled rows v (vs ++ rest) skip trailing
 all_walk front rest rows v vs skip trailing are is =
@@ -181,7 +181,7 @@ few_enough : (rows : List Row) (v : Text) (vs rest : List Text) (old new : Vec �
 few_enough rows v vs rest old new added are =
     omega (arith, few_pending rows v vs, how_many _ _ are, how_many _ _ added.2, ap (λ (xs : List ℕ). length xs) added.1, length-append old.items added.0, length-append vs rest, new.ok.0, new.ok.1, new.small)
 
--- behind `step`, and words of which the last two are no flags
+-- after `step`, and words of which the last two are no flags
 asks_for_all : (words : List Text) (first second : Text) (rest : List Text) (count : ℕ) (old new : Vec ℕ Global) (record_it : Bool) → IsPlain first → IsPlain second → ArePlain rest
     → AreAdded rest old.items new.items → AsksFor (codes "step" ∷ words ++ first ∷ second ∷ []) (Alone (command.Step count old record_it))
     → AsksFor (codes "step" ∷ (words ++ first ∷ second ∷ []) ++ rest) (Alone (command.Step count new record_it))

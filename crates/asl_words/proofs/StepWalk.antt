@@ -1,4 +1,4 @@
--- How `clap` reads the words of `step`: behind two words that are no flags it stands among the words of the schedule.
+-- How `clap` reads the words of `step`: after two words that are no flags it stands among the words of the schedule.
 use Rattle.std.proofs.Common.{◌≡◌, ◌∙◌, ◌&&◌, true≢false, ◌==◌, ◌||◌, ◌++◌, ℕ, zero, suc, Bool, true, false, cond, List, [], ◌∷◌, length, Option, Some, None, refl, ap, ap₂, sym, subst, arith, codes, append-nil, append_assoc, nat_lt}
 use Rattle.std.specs.Prelude.{encode_utf8, slice_get, drop}
 use Rattle.std.specs.List.{fold}
@@ -192,7 +192,7 @@ threads_full None word f = refl
 threads_full (Some q) word f =
     rw f (le-ltb (length (q.1 ++ word ∷ [])) 1 (omega (arith, length-append q.1 (word ∷ []))))
 
--- behind one such word no option waits for its value
+-- after one such word no option waits for its value
 one_plain : (h : Held) (waiting : Waiting) (trailing : Bool) (word : Text) → Suits waiting h.pending → IsPlain word
     → IsReady (walked step_rules [] (at h waiting trailing) word)
 unfolding walked
@@ -230,7 +230,7 @@ taken rows (Some p) skip trailing word =
       | false ↦ λ e. pending_more false rows p.0 p.1 skip trailing word (λ no. absurd (true≢false (sym no)))
     ] refl
 
--- behind a second such word the walk is among the words of the schedule
+-- after a second such word the walk is among the words of the schedule
 two_plain : (w : Walk) (word : Text) → IsReady w → IsPlain word → IsScheduled (walked step_rules [] w word)
 unfolding walked
 two_plain w word ready is =
@@ -245,7 +245,7 @@ two_plain w word ready is =
     ready_then h positional false free = rw (plain_met step_rules positional 1 word h is) (taken h.rows h.pending h.skip false word)
     ready_then h (option id) false free = absurd free
 
--- where the walk stands behind any words and two that are no flags
+-- where the walk stands after any words and two that are no flags
 pub then_scheduled : (words : List Text) (first second : Text) → IsPlain first → IsPlain second
     → IsScheduled (fold (walked step_rules []) (walk_from nothing_held) (words ++ first ∷ second ∷ []))
 then_scheduled words first second one two =

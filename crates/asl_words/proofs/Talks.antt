@@ -1,4 +1,4 @@
--- Words of the debugger, one behind the other.
+-- Words of the debugger, one after the other.
 use Rattle.std.proofs.Common.{◌≡◌, ◌∙◌, ◌++◌, ◌+◌, ◌-◌, ◌≤◌, ◌<◌, ◌==◌, ◌||◌, if◌then◌else◌, Bool, ℕ, suc, get_or, slice_index_or, codes, length, arith, length-drop, take, drop, subst, List, [], ◌∷◌, ap, refl, sym, append_assoc, append-nil}
 use Rattle.std.specs.Borrow.{Bor}
 use Rattle.std.proofs.Math.Seq.{take-add, take-length, drop-append_seam}
@@ -67,7 +67,7 @@ spanned first word.Asks is = spans first _ is (refl, omega arith)
 spanned first word.Stack is = spans first _ is (refl, omega arith)
 spanned first word.Objects is = spans first _ is (refl, omega arith)
 
--- words behind the first change nothing
+-- words after the first change nothing
 pub span_front : (first rest : List Text) → 0 < length first → span (first ++ rest) ≡ span first
 span_front [] rest some = absurd (omega (arith, some))
 span_front (name ∷ more) rest some = refl
@@ -118,7 +118,7 @@ no_first name rest bare numbered first other e word.Asks is = one_first name res
 no_first name rest bare numbered first other e word.Stack is = one_first name rest bare (codes "stack") other word.Stack (e ∙ ap (λ (xs : List Text). xs ++ other) is) refl
 no_first name rest bare numbered first other e word.Objects is = one_first name rest bare (codes "objects") other word.Objects (e ∙ ap (λ (xs : List Text). xs ++ other) is) refl
 
--- a first word that is none, with whatever stands behind it
+-- a first word that is none, with whatever stands after it
 pub no_front : (name : Text) (rest : List Text) → IsNoBareWord name
     → ((asked : DebugWord) (text : Text) (more : List Text) → rest ≡ text ∷ more → IsDebugWord (name ∷ text ∷ []) asked → ⊥)
     → (words : List DebugWord) → AreDebugWords (name ∷ rest) words → ⊥
@@ -130,7 +130,7 @@ no_front name rest bare numbered (w ∷ words) are = no_first name rest bare num
 two_are_not_one : (two : List Text) (known : Text) → two ≡ known ∷ [] → length two ≡ 2 → ⊥
 two_are_not_one two known e size = let one : length two ≡ 1 = ap length e in omega (arith, one, size)
 
--- a word with another behind it asks for something only where that is a number
+-- a word with another after it asks for something only where that is a number
 number_behind : (name text : Text) (asked : DebugWord) → IsDebugWord (name ∷ text ∷ []) asked → (k : ℕ) × IsNumber text k
 number_behind name text (word.Move (move.Goto k)) is = (k, subst (λ (t : Text). IsNumber t k) (sym (ap (λ (xs : List Text). get_or xs 1 []) is.1)) is.2)
 number_behind name text (word.Move move.Forward) is = absurd (two_are_not_one (name ∷ text ∷ []) (codes "forward") is refl)
@@ -144,7 +144,7 @@ number_behind name text word.Asks is = absurd (two_are_not_one (name ∷ text �
 number_behind name text word.Stack is = absurd (two_are_not_one (name ∷ text ∷ []) (codes "stack") is refl)
 number_behind name text word.Objects is = absurd (two_are_not_one (name ∷ text ∷ []) (codes "objects") is refl)
 
--- a first word that is none alone and none with another behind it
+-- a first word that is none alone and none with another after it
 pub no_word_first : (all : List (Bor Text)) (d : Bor Text) → 0 < length all → IsNoBareWord (slice_index_or all 0 d).now
     → IsNoNumberedWord (slice_index_or all 0 d).now → (words : List DebugWord) → AreDebugWords (texts all) words → ⊥
 no_word_first [] d some bare numbered words are = absurd (omega (arith, some))
@@ -158,7 +158,7 @@ no_word_last (x ∷ []) d some last bare words are =
     no_front x.now [] bare (λ asked text more e is. let none : 0 ≡ suc (length more) = ap length e in absurd (omega (arith, none))) words are
 no_word_last (x ∷ y ∷ ys) d some last bare words are = let more : suc (suc (length ys)) < 2 = last in absurd (omega (arith, more))
 
--- a first word that is none alone, and what is no number behind it
+-- a first word that is none alone, and what is no number after it
 pub no_number_behind : (all : List (Bor Text)) (d e : Bor Text) → 1 < length all → IsNoBareWord (slice_index_or all 0 d).now
     → ((n : ℕ) → IsNumber (slice_index_or all 1 e).now n → ⊥) → (words : List DebugWord) → AreDebugWords (texts all) words → ⊥
 no_number_behind [] d e some bare number words are = absurd (omega (arith, some))

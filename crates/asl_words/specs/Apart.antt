@@ -8,7 +8,7 @@ use Rattle.asl_words.specs.Number.{AreNumbers}
 abbrev pub IsPlain : Text → Type 0
 IsPlain word = strip_byte 45 word ≡ None
 
--- the words are those of `step`, and no flag is among those behind so many and the last two of these
+-- the words are those of `step`, and no flag is among those after so many and the last two of these
 pub record IsFront (words : List Text) (count : ℕ) : Type 0 where
   pub long : 3 ≤ count
   pub within : count ≤ length words

@@ -1,5 +1,5 @@
 -- What the words of a command line ask for (docs/CLI.md, "Commands"). What `clap` makes of words
--- is told by its own definitions: `fault_of` are the kinds of error that it may give, none where it takes the words, and
+-- is reported by its own definitions: `fault_of` are the kinds of error that it may give, none where it takes the words, and
 -- `subcommand_of` is the command that they name, with the values of its arguments by their names.
 use Rattle.std.specs.Prelude.{◌≡◌, ◌≢◌, ◌≤◌, ◌⊎◌, ℕ, Bool, true, false, List, [], ◌∷◌, ◌++◌, Option, None, Some, codes, unwrap_or, IsSomeAnd, MatchOption}
 use Rattle.std.specs.List.{All}

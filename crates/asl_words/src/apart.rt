@@ -4,7 +4,7 @@ ghost use Rattle.asl_words.specs.Apart.{AreAdded, IsFront, IsPlain};
 ghost use Rattle.asl_words.specs.Words.{AsksFor};
 
 use crate::command::{Command, Invocation};
-use crate::number::number;
+use crate::number_words::number;
 use crate::reading::read_all;
 use std::alloc::{AllocError, Global};
 
@@ -12,12 +12,12 @@ use std::alloc::{AllocError, Global};
 const FEW: usize = 4;
 
 /// What the words of a `step` ask for whose last words are all numbers. `clap` reads the front, which ends with the first two
-/// of the last words that are no flags: behind these two it takes each such word for one of the schedule. Where the front asks
+/// of the last words that are no flags: after these two it takes each such word for one of the schedule. Where the front asks
 /// for anything else, or a word is no number, None: then all words are for `clap` to judge.
 ///
 /// # Errors
 ///
-/// A growth was refused.
+/// An allocation failed.
 pub fn read_apart(alloc: Global, words: &[String]) -> Result<Option<Command>, AllocError>
     ensures { IfOk result (λ found. IfSome found (λ command. AsksFor (map string_bytes words.now) (Invocation.Alone command))) }
 {

@@ -5,7 +5,7 @@ ghost use Rattle.clap.specs.declared.builder.command.Command.TheViews.{out-Comma
 ghost use Rattle.asl_words.specs.Arguments.{asl_app, asm_app, bare_app, check_app, compile_app, debug_app, diagnose_app, dis_app, explain_app, flag_rule, log_app, map_app, needed_rule, replay_app, run_app, step_app, value_rule, words_rule};
 ghost use Rattle.asl_words.specs.Building.{IsBuilt};
 
-use crate::help;
+use crate::{compile_help, help, run_help};
 use clap::{Arg, ArgAction, Command};
 use std::alloc::{AllocError, Global};
 
@@ -45,7 +45,7 @@ fn bare_program<'a>(alloc: Global) -> Result<Command<'a>, AllocError>
 fn compile_command<'a>(alloc: Global) -> Result<Command<'a>, AllocError>
     ensures { IfOk result (λ command. IsBuilt command compile_app) }
 {
-    let command = named(alloc, "compile", "asl compile", help::COMPILE)?;
+    let command = named(alloc, "compile", "asl compile", compile_help::COMPILE)?;
     let command = with_argument(command, value(alloc, "k", "K", help::LONGEST))?;
     with_argument(command, flag(alloc, "text", help::TEXT))
 }
@@ -53,20 +53,20 @@ fn compile_command<'a>(alloc: Global) -> Result<Command<'a>, AllocError>
 fn check_command<'a>(alloc: Global) -> Result<Command<'a>, AllocError>
     ensures { IfOk result (λ command. IsBuilt command check_app) }
 {
-    let command = named(alloc, "check", "asl check", help::CHECK)?;
+    let command = named(alloc, "check", "asl check", compile_help::CHECK)?;
     with_argument(command, value(alloc, "k", "K", help::NEEDED))
 }
 
 fn map_command<'a>(alloc: Global) -> Result<Command<'a>, AllocError>
     ensures { IfOk result (λ command. IsBuilt command map_app) }
 {
-    named(alloc, "map", "asl map", help::MAP)
+    named(alloc, "map", "asl map", compile_help::MAP)
 }
 
 fn explain_command<'a>(alloc: Global) -> Result<Command<'a>, AllocError>
     ensures { IfOk result (λ command. IsBuilt command explain_app) }
 {
-    let command = named(alloc, "explain", "asl explain", help::EXPLAIN)?;
+    let command = named(alloc, "explain", "asl explain", compile_help::EXPLAIN)?;
     let command = with_argument(command, value(alloc, "k", "K", help::LONGEST))?;
     with_argument(command, flag(alloc, "all", help::ALL))
 }
@@ -74,7 +74,7 @@ fn explain_command<'a>(alloc: Global) -> Result<Command<'a>, AllocError>
 fn diagnose_command<'a>(alloc: Global) -> Result<Command<'a>, AllocError>
     ensures { IfOk result (λ command. IsBuilt command diagnose_app) }
 {
-    let command = named(alloc, "diagnose", "asl diagnose", help::DIAGNOSE)?;
+    let command = named(alloc, "diagnose", "asl diagnose", compile_help::DIAGNOSE)?;
     let command = with_argument(command, value(alloc, "k", "K", help::LONGEST))?;
     with_argument(command, flag(alloc, "asm", help::ASSEMBLY))
 }
@@ -82,25 +82,25 @@ fn diagnose_command<'a>(alloc: Global) -> Result<Command<'a>, AllocError>
 fn asm_command<'a>(alloc: Global) -> Result<Command<'a>, AllocError>
     ensures { IfOk result (λ command. IsBuilt command asm_app) }
 {
-    named(alloc, "asm", "asl asm", help::ASM)
+    named(alloc, "asm", "asl asm", compile_help::ASM)
 }
 
 fn dis_command<'a>(alloc: Global) -> Result<Command<'a>, AllocError>
     ensures { IfOk result (λ command. IsBuilt command dis_app) }
 {
-    named(alloc, "dis", "asl dis", help::DIS)
+    named(alloc, "dis", "asl dis", compile_help::DIS)
 }
 
 fn replay_command<'a>(alloc: Global) -> Result<Command<'a>, AllocError>
     ensures { IfOk result (λ command. IsBuilt command replay_app) }
 {
-    named(alloc, "replay", "asl replay", help::REPLAY)
+    named(alloc, "replay", "asl replay", run_help::REPLAY)
 }
 
 fn step_command<'a>(alloc: Global) -> Result<Command<'a>, AllocError>
     ensures { IfOk result (λ command. IsBuilt command step_app) }
 {
-    let command = named(alloc, "step", "asl step", help::STEP)?;
+    let command = named(alloc, "step", "asl step", run_help::STEP)?;
     let command = with_argument(command, needed(alloc, "threads", "N", help::THREADS))?;
     let command = with_argument(command, flag(alloc, "record", help::RECORD))?;
     with_argument(command, words(alloc, "schedule", "T", help::SCHEDULE))
@@ -109,7 +109,7 @@ fn step_command<'a>(alloc: Global) -> Result<Command<'a>, AllocError>
 fn run_command<'a>(alloc: Global) -> Result<Command<'a>, AllocError>
     ensures { IfOk result (λ command. IsBuilt command run_app) }
 {
-    let command = named(alloc, "run", "asl run", help::RUN)?;
+    let command = named(alloc, "run", "asl run", run_help::RUN)?;
     let command = with_argument(command, needed(alloc, "threads", "N", help::THREADS))?;
     let command = with_argument(command, needed(alloc, "workers", "W", help::WORKERS))?;
     let command = with_argument(command, needed(alloc, "limit", "L", help::LIMIT))?;
@@ -119,14 +119,14 @@ fn run_command<'a>(alloc: Global) -> Result<Command<'a>, AllocError>
 fn log_command<'a>(alloc: Global) -> Result<Command<'a>, AllocError>
     ensures { IfOk result (λ command. IsBuilt command log_app) }
 {
-    let command = named(alloc, "log", "asl log", help::LOG)?;
+    let command = named(alloc, "log", "asl log", run_help::LOG)?;
     with_argument(command, flag(alloc, "trace", help::TRACE))
 }
 
 fn debug_command<'a>(alloc: Global) -> Result<Command<'a>, AllocError>
     ensures { IfOk result (λ command. IsBuilt command debug_app) }
 {
-    let command = named(alloc, "debug", "asl debug", help::DEBUG)?;
+    let command = named(alloc, "debug", "asl debug", run_help::DEBUG)?;
     with_argument(command, words(alloc, "words", "WORD", help::WORDS))
 }
 

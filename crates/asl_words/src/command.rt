@@ -36,7 +36,7 @@ pub enum Command {
     Explain {
         /// How many operations a lock's path has at most.
         k_limit: PathLimit,
-        /// Whether all chains of links are told.
+        /// Whether all chains of links are reported.
         all: bool,
     },
     /// `diagnose`: why the input, a source or an assembly text, is refused, as a person reads it; nothing where it is not.

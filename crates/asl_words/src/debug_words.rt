@@ -6,7 +6,7 @@ ghost use Rattle.asl_words.specs.Words.{AreDebugWords, IsDebugWord};
 ghost use Rattle.asl_words.specs.Reading.{IsDebugWordsFault, IsNoBareWord, IsNoNumberedWord};
 
 use crate::debug_word::{DebugWord, Move};
-use crate::number::number;
+use crate::number_words::number;
 use std::alloc::Global;
 
 /// Why words ask a debugger for nothing.
@@ -15,7 +15,7 @@ pub enum DebugWordsFault<'a> {
     NoWord(&'a str),
     /// This word is no number.
     NoNumber(&'a str),
-    /// The last word wants a number behind it.
+    /// The last word wants a number after it.
     NumberMissing,
     /// Memory ran out.
     OutOfMemory,
@@ -91,7 +91,7 @@ fn takes_number(word: &str) -> bool
     matches!(word, "goto" | "break" | "clear")
 }
 
-/// What a word asks for with the number behind it, if it is one that takes a number.
+/// What a word asks for with the number after it, if it is one that takes a number.
 fn numbered_word(word: &str, number: u32) -> Option<DebugWord>
     ensures { MatchOption result (IsNoNumberedWord word.now) (λ asked. (text : List ℕ) → IsNumber text number → IsDebugWord (word.now ∷ text ∷ []) asked) }
 {

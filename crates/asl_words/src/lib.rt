@@ -2,14 +2,17 @@
 #![tactic(auto)]
 
 mod apart;
+mod argument_values;
 mod arguments;
 mod command;
+mod compile_help;
 mod debug_word;
 mod debug_words;
 mod help;
-mod number;
+mod number_words;
 mod path_limit;
 mod reading;
+mod run_help;
 
 pub use command::{Command, Invocation, RunArguments};
 pub use debug_word::{DebugWord, Move};

@@ -1,36 +1,27 @@
 //! Reads the words of a command line.
-ghost use Rattle.std.specs.Prelude.{◌≤◌, ◌≢◌, ℕ, map, IfOk, IfErr, MatchOption, string_bytes, codes};
+ghost use Rattle.std.specs.Prelude.{◌≢◌, map, IfOk, string_bytes, codes};
 ghost use Rattle.clap.specs.Words.{found_of, kind_of, rows_of, subcommand_rows_of};
-ghost use Rattle.asl_words.specs.Words.{AreDebugWords, AsksFor, IsFlagAt, IsLengthAt, IsNoLengthAt, IsNoNumberAt, IsNumberAt, IsReading, IsTaken, words_at};
-ghost use Rattle.asl_words.specs.Number.{AreNumbers, IsNumber};
-ghost use Rattle.asl_words.specs.Reading.{IsNumbersFault, IsRefusal, IsDebugWordsFault, IsWrongUsage};
+ghost use Rattle.asl_words.specs.Words.{AsksFor, IsReading, IsTaken};
+ghost use Rattle.asl_words.specs.Reading.{IsRefusal};
 
 use crate::apart::read_apart;
+use crate::argument_values::{
+    A_NUMBER, A_PATH_LIMIT, A_WORD, debug_words_at, flag_at, invalid, k_limit_at, number_at,
+    numbers_at, wrong_usage,
+};
 use crate::arguments::program;
 use crate::command::{Command, Invocation, RunArguments};
-use crate::debug_word::DebugWord;
-use crate::debug_words::{DebugWordsFault, debug_words};
-use crate::number::{NumbersFault, number, numbers};
-use crate::path_limit::PathLimit;
+use crate::debug_words::DebugWordsFault;
+use crate::number_words::{NumbersFault, number};
 use clap::error::ErrorKind;
 use clap::{ArgMatches, Error};
 use std::alloc::{AllocError, Global};
-
-/// What a number must be.
-const A_NUMBER: &str = "no number from 0 to 4294967295";
-/// What a length of paths must be.
-const A_PATH_LIMIT: &str = "no number from 0 to 8";
-/// Where usage is explained.
-const HELP_IS_THERE: &str = "For more information, try '--help'.\n";
-/// What a word of the debugger must be.
-const A_WORD: &str =
-    "none of goto, forward, back, next, prev, break, clear, view, asks, stack, objects";
 
 /// Judges the words, which are those after the program's name.
 ///
 /// # Errors
 ///
-/// A growth was refused.
+/// An allocation failed.
 pub fn read_words(alloc: Global, words: &[String]) -> Result<Invocation, AllocError>
     ensures { IfOk result (AsksFor (map string_bytes words.now)) }
 {
@@ -180,66 +171,6 @@ fn read_log(values: &ArgMatches<'_>) -> Invocation
     Invocation::Alone(Command::Log { trace })
 }
 
-/// Whether the flag was given.
-fn flag_at(values: &ArgMatches<'_>, name: &str) -> bool
-    ensures { IsFlagAt name.now (rows_of (found_of values.now)) result }
-{
-    values.get_flag(name)
-}
-
-/// The number that is the argument's value, or the value that is none.
-fn number_at<'a>(values: &ArgMatches<'a>, name: &str) -> Result<u32, &'a str>
-    ensures ok { IfOk result (IsNumberAt name.now (rows_of (found_of values.now))) }
-    ensures err { IfErr result (λ _. IsNoNumberAt name.now (rows_of (found_of values.now))) }
-{
-    match values.get_str(name) {
-        Some(word) => match number(word) {
-            Some(number) => Ok(number),
-            None => Err(word),
-        },
-        None => Err(""),
-    }
-}
-
-/// The value of `--k`, or the value that is none.
-fn k_limit_at<'a>(values: &ArgMatches<'a>) -> Result<PathLimit, &'a str>
-    ensures ok { IfOk result (λ k_limit. IsLengthAt (rows_of (found_of values.now)) k_limit) }
-    ensures err { IfErr result (λ _. IsNoLengthAt (rows_of (found_of values.now))) }
-{
-    match values.get_str("k") {
-        Some(word) => match length(word) {
-            Some(k_limit) => Ok(k_limit),
-            None => Err(word),
-        },
-        None => Ok(PathLimit::usual()),
-    }
-}
-
-/// The length of paths that the word is, if it is one.
-fn length(word: &str) -> Option<PathLimit>
-    ensures { MatchOption result ((n : ℕ) → n ≤ 8 → IsNumber word.now n → ⊥) (λ k_limit. IsNumber word.now k_limit) }
-{
-    match number(word) {
-        Some(number) => PathLimit::of(number),
-        None => None,
-    }
-}
-
-/// The numbers that are the argument's words.
-fn numbers_at<'a>(
-    alloc: Global,
-    values: &ArgMatches<'a>,
-    name: &str,
-) -> Result<Vec<u32>, NumbersFault<'a>>
-    ensures ok { IfOk result (λ numbers. AreNumbers (words_at name.now (rows_of (found_of values.now))) numbers.items) }
-    ensures err { IfErr result (IsNumbersFault (words_at name.now (rows_of (found_of values.now)))) }
-{
-    match values.get_strs(name) {
-        Some(words) => numbers(alloc, words),
-        None => Ok(Vec::new(alloc)),
-    }
-}
-
 fn read_debug(alloc: Global, values: &ArgMatches<'_>) -> Result<Invocation, AllocError>
     ensures { IfOk result (IsReading (codes "debug") (rows_of (found_of values.now))) }
 {
@@ -252,38 +183,6 @@ fn read_debug(alloc: Global, values: &ArgMatches<'_>) -> Result<Invocation, Allo
         }
         Err(DebugWordsFault::OutOfMemory) => Err(AllocError),
     }
-}
-
-/// What the words ask the debugger for.
-fn debug_words_at<'a>(
-    alloc: Global,
-    values: &ArgMatches<'a>,
-) -> Result<Vec<DebugWord>, DebugWordsFault<'a>>
-    ensures ok { IfOk result (λ words. AreDebugWords (words_at (codes "words") (rows_of (found_of values.now))) words.items) }
-    ensures err { IfErr result (IsDebugWordsFault (words_at (codes "words") (rows_of (found_of values.now)))) }
-{
-    match values.get_strs("words") {
-        Some(words) => debug_words(alloc, words),
-        None => Ok(Vec::new(alloc)),
-    }
-}
-
-/// Says that the argument's value is none.
-fn invalid(alloc: Global, word: &str, argument: &str, why: &str) -> Result<Invocation, AllocError>
-    ensures { IfOk result IsWrongUsage }
-{
-    let text = format!(in alloc;
-        "error: invalid value '{word}' for '{argument}': {why}\n\n{HELP_IS_THERE}"
-    )?;
-    Ok(Invocation::WrongUsage(text))
-}
-
-/// Says why the words are no legal use.
-fn wrong_usage(alloc: Global, why: &str) -> Result<Invocation, AllocError>
-    ensures { IfOk result IsWrongUsage }
-{
-    let text = format!(in alloc; "error: {why}\n\n{HELP_IS_THERE}")?;
-    Ok(Invocation::WrongUsage(text))
 }
 
 /// What words ask for that were not taken.

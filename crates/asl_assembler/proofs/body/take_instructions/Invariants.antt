@@ -1,7 +1,7 @@
 use Rattle.std.proofs.Common.{◌≡◌, ◌+◌, ◌≤◌, length}
 use Rattle.asl_assembler.specs.Words.{lines_of}
 use Rattle.asl_assembler.specs.Reading.{image_from}
-use Rattle.asl_assembler.specs.declared.draft.Place.TheVariants.{Body}
+use Rattle.asl_assembler.specs.declared.image_draft.Place.TheVariants.{Body}
 use Rattle.asl_assembler.proofs.body.take_instructions.Given as goal
 
 -- what is left gives what the whole text gives

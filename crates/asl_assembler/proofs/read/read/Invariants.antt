@@ -1,7 +1,7 @@
 use Rattle.std.proofs.Common.{◌≡◌, ◌+◌, ◌≤◌, length}
 use Rattle.asl_assembler.specs.Words.{lines_of}
 use Rattle.asl_assembler.specs.Reading.{image_from, blank_image}
-use Rattle.asl_assembler.specs.declared.draft.Place.TheVariants.{Version}
+use Rattle.asl_assembler.specs.declared.image_draft.Place.TheVariants.{Version}
 use Rattle.asl_assembler.proofs.read.read.Given as goal
 
 -- what is left gives what the whole text gives

@@ -1,6 +1,0 @@
-use Rattle.std.proofs.Common.{◌≡◌, map, take}
-use Rattle.asl_soundness.specs.Coded.{classed}
-use Rattle.asl_emitter.proofs.image.code.Given as goal
-
-abbrev pub invariant-loop-instr : goal.invariant-loop-instr
-invariant-loop-instr l = l.code.items ≡ map (classed l.classes) (take l.instr-index l.instrs)

@@ -1,0 +1,182 @@
+//! The help of the commands over sources and images.
+
+use crate::help::{ASSEMBLY, Page};
+
+/// The page of the command `compile`.
+pub const COMPILE: Page = Page {
+    about: "Infers the locks of a source's sections; no run of the program faults for want of a lock",
+    more: "Input: a source (docs/SOURCE.md)\n\
+        Output: the program's image, or with --text its assembly text\n\
+        \n\
+        Examples, from the top of the repository:\n\
+        \u{20} asl compile --text < examples/counter.asl\n\
+        \u{20} asl compile --k 0 < examples/bank.asl > bank.image\n\
+        \n\
+        Status: 0 done; 1 refused, with one line 'asl: NAME' on standard error; 2 wrong usage.\n\
+        \n\
+        Refusals, where several apply the first of them:\n\
+        \u{20} Read                         standard input failed\n\
+        \u{20} TooLong                      the input is longer than 268435456 bytes\n\
+        \u{20} NotAscii(n), Token(n)        the byte at n is no ASCII character, or begins no token\n\
+        \u{20} Grammar(n)                   the token at n is one with which no program goes on\n\
+        \u{20} Limit(n)                     a limit of docs/SOURCE.md is passed at n\n\
+        \u{20} Twice(x), Unknown(x)         the name x is declared twice, or not at all\n\
+        \u{20} Arity(n)                     the call at n has another number of arguments\n\
+        \u{20} NoMain                       there is no function main of one parameter\n\
+        \u{20} Registers(f)                 function f needs more than 64 registers\n\
+        \u{20} CodeSize                     the program has more than 65535 instructions\n\
+        \u{20} AccessOutsideSection(f, pc)  function f may access a cell outside sections, at pc\n\
+        \u{20} TooManyClasses               there are more than 1024 classes of objects\n\
+        \u{20} TooManyLocks(r)              the section or body r, Section(s) or Body(f), needs more than 4096 locks\n\
+        \u{20} Write                        standard output failed; a part of the output may have been written\n\
+        \u{20} OutOfMemory                  memory ran out\n\
+        \n\
+        asl 2, proved in the logic dac8208d650f15bf",
+};
+
+/// The page of the command `check`.
+pub const CHECK: Page = Page {
+    about: "Checks the lists of a program against its source; where they are enough, no run faults for want of a lock",
+    more: "Input: a source (docs/SOURCE.md), one byte 0, and a program: an image where it begins with ASLM, and else assembly text\n\
+        Output: 'checked S sections', where each list is enough for what its section needs and for what its own expressions read\n\
+        \n\
+        Examples, from the top of the repository:\n\
+        \u{20} asl compile --text < examples/counter.asl > counter.text\n\
+        \u{20} (cat examples/counter.asl; printf '\\0'; cat counter.text) | asl check\n\
+        \u{20} (cat examples/counter.asl; printf '\\0'; sed 's/^expr .*/root write/' counter.text) | asl check\n\
+        \n\
+        Status: 0 done; 1 refused, with one line 'asl: NAME' on standard error; 2 wrong usage.\n\
+        \n\
+        Refusals, where several apply the first of them:\n\
+        \u{20} Read                      standard input failed\n\
+        \u{20} TooLong                   the input is longer than 268435456 bytes\n\
+        \u{20} NoProgram                 there is no byte 0\n\
+        \u{20} NotAscii(n) .. NoMain     the first thing that is wrong with the source: asl compile --help\n\
+        \u{20} Line(n)                   line n of the text is not as its place asks\n\
+        \u{20} Magic .. Trailing(n)      the first thing that is wrong with an image: asl dis --help\n\
+        \u{20} Verify(RULE)              the program breaks a rule of docs/LIMITS.md\n\
+        \u{20} Registers(f) .. TooManyLocks(r)  no lists are inferred for the source: asl compile --help\n\
+        \u{20} OtherCode(pc)             the instruction at pc is not the source's; the number of instructions where a table is not\n\
+        \u{20} Uncovered(section, LOCK)  the section needs LOCK, and no lock of its list covers it\n\
+        \u{20} Unguarded(section, LOCK)  an expression of the section's list reads the cell of LOCK, and no lock of the list covers it\n\
+        \u{20} Write                     standard output failed; a part of the output may have been written\n\
+        \u{20} OutOfMemory               memory ran out\n\
+        \n\
+        asl 2, proved in the logic dac8208d650f15bf",
+};
+
+/// The page of the command `map`.
+pub const MAP: Page = Page {
+    about: "Says what the numbers in a source's code stand for, and which piece of the text each instruction is of",
+    more: "Input: a source (docs/SOURCE.md)\n\
+        Output: a line for each function, register, global, class, section, site and instruction (docs/CLI.md)\n\
+        \n\
+        Examples, from the top of the repository:\n\
+        \u{20} asl map < examples/counter.asl\n\
+        \u{20} asl map < examples/bank.asl | grep '^register'\n\
+        \n\
+        Status: 0 done; 1 refused, with one line 'asl: NAME' on standard error; 2 wrong usage.\n\
+        \n\
+        Refusals, where several apply the first of them:\n\
+        \u{20} Read                      standard input failed\n\
+        \u{20} TooLong                   the input is longer than 268435456 bytes\n\
+        \u{20} NotAscii(n) .. NoMain     the first thing that is wrong with the source: asl compile --help\n\
+        \u{20} Registers(f), CodeSize, AccessOutsideSection(f, pc), TooManyClasses  as for asl compile\n\
+        \u{20} Write                     standard output failed; a part of the output may have been written\n\
+        \u{20} OutOfMemory               memory ran out\n\
+        \n\
+        asl 2, proved in the logic dac8208d650f15bf",
+};
+
+/// The page of the command `explain`.
+pub const EXPLAIN: Page = Page {
+    about: "Says for each lock of each list which statement needs it, and how it came to the section's start",
+    more: "Input: a source (docs/SOURCE.md)\n\
+        Output: for each section its list, and below each lock its statements and links, in the source's words (docs/ANALYSIS.md); then the lists of each k\n\
+        \n\
+        Examples, from the top of the repository:\n\
+        \u{20} asl explain < examples/counter.asl\n\
+        \u{20} asl explain --k 1 --all < examples/walk.asl\n\
+        \n\
+        Status: 0 done; 1 refused, with one line 'asl: NAME' on standard error; 2 wrong usage.\n\
+        \n\
+        Refusals, where several apply the first of them:\n\
+        \u{20} Read                      standard input failed\n\
+        \u{20} TooLong                   the input is longer than 268435456 bytes\n\
+        \u{20} NotAscii(n) .. TooManyLocks(r)  as for asl compile\n\
+        \u{20} Write                     standard output failed; a part of the output may have been written\n\
+        \u{20} OutOfMemory               memory ran out\n\
+        \n\
+        asl 2, proved in the logic dac8208d650f15bf",
+};
+
+/// The page of the command `diagnose`.
+pub const DIAGNOSE: Page = Page {
+    about: "Says where and why a source or an assembly text is refused, and how to go on",
+    more: "Input: a source (docs/SOURCE.md), or with --asm an assembly text (docs/ASSEMBLY.md)\n\
+        Output: nothing where it is accepted; else line and column, both from 1, the refusal's name, a sentence, the line of the text with a mark below the place, and what helps\n\
+        \n\
+        Examples, from the top of the repository:\n\
+        \u{20} asl diagnose < examples/counter.asl\n\
+        \u{20} asl diagnose --asm < examples/counter.asm\n\
+        \u{20} echo 'fn main(t) { x = 1 + 1; return x; }' | asl diagnose\n\
+        \n\
+        Status: 0 done, whether or not the text is refused; 1 refused, with one line 'asl: NAME' on standard error; 2 wrong usage.\n\
+        \n\
+        Refusals, where several apply the first of them:\n\
+        \u{20} Read         standard input failed\n\
+        \u{20} TooLong      the input is longer than 268435456 bytes\n\
+        \u{20} Write        standard output failed; a part of the output may have been written\n\
+        \u{20} OutOfMemory  memory ran out\n\
+        \n\
+        asl 2, proved in the logic dac8208d650f15bf",
+};
+
+/// The page of the command `asm`.
+pub const ASM: Page = Page {
+    about: "Assembles a program",
+    more: "Input: assembly text (docs/ASSEMBLY.md)\n\
+        Output: the image of its program (docs/BYTES.md)\n\
+        \n\
+        Examples, from the top of the repository:\n\
+        \u{20} asl asm < examples/counter.asm > counter.image\n\
+        \u{20} asl asm < examples/push.asm | asl dis\n\
+        \n\
+        Status: 0 done; 1 refused, with one line 'asl: NAME' on standard error; 2 wrong usage.\n\
+        \n\
+        Refusals, where several apply the first of them:\n\
+        \u{20} Read          standard input failed\n\
+        \u{20} TooLong       the input is longer than 268435456 bytes\n\
+        \u{20} Line(n)       line n of the text is not as its place asks\n\
+        \u{20} Verify(RULE)  the program breaks a rule of docs/LIMITS.md\n\
+        \u{20} Write         standard output failed; a part of the output may have been written\n\
+        \u{20} OutOfMemory   memory ran out\n\
+        \n\
+        asl 2, proved in the logic dac8208d650f15bf",
+};
+
+/// The page of the command `dis`.
+pub const DIS: Page = Page {
+    about: "Disassembles an image",
+    more: "Input: a program's image (docs/BYTES.md)\n\
+        Output: the canonical assembly text of its program (docs/ASSEMBLY.md)\n\
+        \n\
+        Examples, from the top of the repository:\n\
+        \u{20} asl compile < examples/counter.asl | asl dis\n\
+        \u{20} asl asm < examples/sum.asm | asl dis\n\
+        \n\
+        Status: 0 done; 1 refused, with one line 'asl: NAME' on standard error; 2 wrong usage.\n\
+        \n\
+        Refusals, where several apply the first of them:\n\
+        \u{20} Read            standard input failed\n\
+        \u{20} TooLong         the input is longer than 268435456 bytes\n\
+        \u{20} Magic, Version  the image begins with other letters, or is of a version other than 1 and 2\n\
+        \u{20} Truncated(n)    the image ends too early, at byte n\n\
+        \u{20} BadField(n)     the field at byte n of the image is none\n\
+        \u{20} Trailing(n)     there are bytes after the image, from byte n on\n\
+        \u{20} Verify(RULE)    the image breaks a rule of docs/LIMITS.md\n\
+        \u{20} Write           standard output failed; a part of the output may have been written\n\
+        \u{20} OutOfMemory     memory ran out\n\
+        \n\
+        asl 2, proved in the logic dac8208d650f15bf",
+};
