@@ -25,12 +25,12 @@ use Rattle.asl_lock_forest.proofs.Laws.{held_release_own}
 use Rattle.asl_machine.specs.declared.fate.Fate.{Fate}
 use Rattle.asl_machine.specs.declared.fate.Fate.TheVariants as fate
 use Rattle.asl_machine.specs.State.{Object, cell_at, class_of, written}
-use Rattle.asl_lock_expr.specs.Expression.{cell_of, pointed, base_cell, walked, path_cell}
+use Rattle.asl_expression.specs.Expression.{cell_of, pointed, base_cell, walked, path_cell}
 use Rattle.asl_machine.specs.Request.{heap_of, cell_asks, leaf_asks, asks_of, all_asks, joined_all, request_of}
 use Rattle.asl_machine.specs.StepFunction.{holding_after, release_fate, holding_released}
 use Rattle.asl_machine.specs.Fresh.{PointElsewhere}
 use Rattle.asl_machine.proofs.Heaps.{class_there, pointed_value, class_of-written, size_of-written}
-use Rattle.asl_lock_expr.proofs.Walks.{star_reads, moved_stays}
+use Rattle.asl_expression.proofs.Paths.{star_reads, moved_stays}
 use Rattle.asl_atomicity.specs.Serial.{ReadsCovered, ListCovered}
 use Rattle.asl_atomicity.proofs.Uniform.{HoldingEdit, After, Acquired, Released, edit, edit_other}
 use Rattle.asl_atomicity.proofs.Unseen.{other_cell}

@@ -13,7 +13,7 @@ use Rattle.asl_code.specs.declared.lock.Lock.{Lock}
 use Rattle.asl_code.specs.declared.lock.Lock.TheVariants as lock
 use Rattle.asl_code.specs.declared.path.Op.{Op}
 use Rattle.asl_code.specs.declared.path.Op.TheVariants.{Deref, Off}
-use Rattle.asl_lock_expr.specs.Expression.{cell_of, pointed, base_cell, moved, walked, path_cell, cell_denoted}
+use Rattle.asl_expression.specs.Expression.{cell_of, pointed, base_cell, moved, walked, path_cell, cell_denoted}
 use Rattle.asl_machine.specs.State.{Object, cell_at, class_of, new_object}
 use Rattle.asl_machine.specs.Access.{Points, AllPoint}
 use Rattle.asl_machine.specs.WellFormed.{AreWellFormed}

@@ -77,7 +77,7 @@ request_kept image s fr t u a b apart runs also ls known (Stored v (Ok c0)) lawf
 listed : (image : Image) (n : ℕ) (f : Function) (pc list : ℕ) → LiesIn image n pc f → FitsImage image → slice_get image.code pc ≡ Some (instr.Acquire list) → HasGlobals (length image.globals) (locks_of image list)
 listed image n f pc list lies fits at =
     let k = fits.instr_fits n pc f (instr.Acquire list) lies at in
-    subst (HasGlobals (length image.globals)) (sym (ap (λ o. unwrap_or o []) k.1)) (has_globals image n f k.0 k.2)
+    subst (HasGlobals (length image.globals)) (sym (ap (λ o. unwrap_or o []) k.0.1)) (has_globals image n f k.0.0 k.0.2)
 
 pub entries_unseen : (image : Image) (count : ℕ) → IsGuarded image count → EntriesUnseen image count
 entries_unseen image count guarded s u t stands apart counts inside =

@@ -202,7 +202,7 @@ module _ (p : Renaming) where
           (ap₂ (λ x y. Ok (truth (same_value x y))) (reg_by p image t a one other h g count same holds left) (reg_by p image t a one other h g count same holds right)
           ∙ ap (λ b. Ok (truth b)) (same_value_by p image t a one other h g count same holds (held left) (held right))
           ∙ ap Ok (sym (truth_by p image t a one other h g count same holds (same_value (held left) (held right)))))
-      left_both (instr.GlobalAddress to global) fits = set_by p image t a one other h g count same holds to (Ok (Addr global 0)) (Ok (Addr global 0)) (ap (λ z. Ok (Addr z 0)) (sym (keeps.globals global fits.1)))
+      left_both (instr.GlobalAddress to global) fits = set_by p image t a one other h g count same holds to (Ok (Addr global 0)) (Ok (Addr global 0)) (ap (λ z. Ok (Addr z 0)) (sym (keeps.globals global fits.1.0)))
       left_both (instr.FieldAddress to from places) fits =
           set_by p image t a one other h g count same holds to (address_moved one places (held from)) (address_moved other places (register_of there.top from)) (ap (address_moved other places) (reg_by p image t a one other h g count same holds from) ∙ moved_address_by p image t a one other h g count same holds places (held from))
       left_both (instr.Load to address) fits =
@@ -218,11 +218,11 @@ module _ (p : Renaming) where
       left_both (instr.Return from) fits = return_by (held from) (register_of there.top from) (reg_by p image t a one other h g count same holds from) a.below
       left_both (instr.Output from) fits = show_by (held from) (register_of there.top from) (reg_by p image t a one other h g count same holds from)
       left_both (instr.Acquire list) fits =
-          let is : locks_of image list ≡ fits.0 = ap (λ o. unwrap_or o []) fits.1 in
-          let globals = has_globals image n function fits.0 fits.2 in
+          let is : locks_of image list ≡ fits.0.0 = ap (λ o. unwrap_or o []) fits.0.1 in
+          let globals = has_globals image n function fits.0.0 fits.0.2 in
           acquire_by (request_of one a.top.regs (locks_of image list)) (request_of other there.top.regs (locks_of image list))
           (ap (request_of other there.top.regs) is
-          ∙ request_of_by p one other same (length image.globals) keeps.globals a.top.regs fits.0 globals
+          ∙ request_of_by p one other same (length image.globals) keeps.globals a.top.regs fits.0.0 globals
           ∙ ap (λ z. request_by p.new (request_of one a.top.regs z)) (sym is))
       left_both instr.Release fits = release_left_by
 

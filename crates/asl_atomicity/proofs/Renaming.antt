@@ -32,7 +32,7 @@ use Rattle.asl_lock_forest.specs.Holding.{Holding, Request, held, asked, grant, 
 use Rattle.asl_lock_forest.specs.Request.{names}
 use Rattle.asl_lock_forest.proofs.Laws.{tell_nodes, get_release_own, get_release_other, get_grant_own, get_grant_other}
 use Rattle.asl_lock_forest.proofs.Grantable.{CanGrant-tested, can_grant-tells}
-use Rattle.asl_lock_expr.specs.Expression.{cell_of, pointed, base_cell, moved, walked, path_cell, cell_denoted}
+use Rattle.asl_expression.specs.Expression.{cell_of, pointed, base_cell, moved, walked, path_cell, cell_denoted}
 use Rattle.asl_machine.specs.State.{Object, cell_at, size_of, class_of}
 use Rattle.asl_machine.specs.Request.{heap_of, leaf_asks, cell_asks, asks_of, all_asks, joined_with, joined_all, request_of}
 use Rattle.asl_machine.specs.Cover.{is_fresh, cover, allows}

@@ -21,7 +21,7 @@ use Rattle.asl_machine.specs.Cover.{is_fresh, Cover, cover, allows, Allows}
 use Rattle.asl_machine.specs.Fresh.{PointElsewhere}
 use Rattle.asl_machine.proofs.Freshness.{allowed_pairs}
 use Rattle.asl_machine.specs.Access.{is_protected, Points, AllPoint}
-use Rattle.asl_lock_expr.specs.Expression.{cell_of}
+use Rattle.asl_expression.specs.Expression.{cell_of}
 use Rattle.asl_machine.specs.StepFunction.{register_of, address_moved, address_or_bounds, made_objects, allowed_cell, accessed, loaded}
 use Rattle.asl_machine.proofs.Lists.{get_same, get_other, get_before}
 use Rattle.asl_machine.proofs.Heaps.{class_of-written, size_of-written}

@@ -11,7 +11,7 @@ use Rattle.asl_code.specs.declared.lock.Lock.{Lock}
 use Rattle.asl_code.specs.declared.lock.Lock.TheVariants as lock
 use Rattle.asl_code.specs.declared.path.Op.{Op}
 use Rattle.asl_code.specs.declared.path.Op.TheVariants.{Deref, Off}
-use Rattle.asl_lock_expr.specs.Expression.{base_cell, walked}
+use Rattle.asl_expression.specs.Expression.{base_cell, walked}
 use Rattle.asl_lock_forest.specs.Holding.{Holding, Covers, can_grant, grant}
 use Rattle.asl_machine.specs.declared.reply.Reply.{Reply}
 use Rattle.asl_machine.specs.declared.reply.Reply.TheVariants as reply
@@ -20,7 +20,7 @@ use Rattle.asl_machine.specs.Run.{start_of}
 use Rattle.asl_machine.specs.Request.{heap_of, request_of, locks_of}
 use Rattle.asl_machine.specs.Step.{Step}
 
--- a step of a run: the state before it, its thread, and what the thread is told
+-- a step of a run: the state before it, its thread, and what the thread is reported
 pub record TakenStep : Type 0 where
   pub before : State
   pub thread : ℕ
@@ -37,7 +37,7 @@ heard reply.Blocked = []
 heard reply.Ended = []
 heard r = r ∷ []
 
--- what a thread is told in a run
+-- what a thread is reported in a run
 abbrev pub told : ℕ → List TakenStep → List Reply
 told thread [] = []
 told thread (step ∷ steps) = (if step.thread == thread then heard step.reply else []) ++ told thread steps

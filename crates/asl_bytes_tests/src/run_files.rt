@@ -3,7 +3,7 @@ use crate::rows::{Met, NONE, add, row_of_image};
 use asl_journal::{FileFault, JournalFault, get_run, put_run};
 use std::alloc::{AllocError, Global};
 
-/// The run file of the counter's threads, stepped 0, 0, 1, 1: the image of 94 bytes behind its length, and the journal.
+/// The run file of the counter's threads, stepped 0, 0, 1, 1: the image of 94 bytes after its length, and the journal.
 static FILE: [u8; 117] =
     *b"\x00\x00\x00\x5eASLM\x00\x01\x00\x01\x00\x01\x00\x00\x00\x01\x01\x05\x00\x08\x00\x00\x00\x08\
     \x08\x01\x00\x00\x00\x00\x00\x00\x12\x00\x00\x00\x00\x00\x00\x00\

@@ -31,7 +31,7 @@ fn is_digit_at(text: &[u8], at: usize) -> bool {
     }
 }
 
-/// Whether the byte at this place is a zero that its number does without: one before a digit, and behind none.
+/// Whether the byte at this place is a zero that its number does without: one before a digit, and after none.
 fn is_needless(text: &[u8], at: usize) -> bool {
     text.get(at) == Some(&b'0')
         && is_digit_at(text, at.wrapping_add(1))
@@ -67,7 +67,7 @@ fn reach(text: &[u8], at: usize) -> usize {
     from
 }
 
-/// Whether the refusal is one of the text in which the byte at this place was made this one. A program goes on with all that
+/// Whether the refusal is one of the text in which the byte at this place was made this one. A program continues with all that
 /// stands before the piece of the change; `main` stands at 13 to 16; and no change of one byte makes the other refusals.
 fn is_near(fault: SyntaxFault, text: &[u8], at: usize, value: u8) -> bool {
     match fault {
@@ -125,7 +125,7 @@ fn is_rule(fault: VerifyFault, line: usize) -> bool {
     }
 }
 
-/// Whether the assembly text is refused at the line of the change, one behind it, or for a rule, or else printed as it is
+/// Whether the assembly text is refused at the line of the change, one after it, or for a rule, or else printed as it is
 /// written.
 fn is_assembly_judged(alloc: Global, at: usize, value: u8, line: usize) -> Option<bool> {
     let text = changed(alloc, COUNTER, at, value).ok()?;

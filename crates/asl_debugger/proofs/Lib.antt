@@ -1,3 +1,4 @@
+pub mod ByTable
 pub mod Halts
 pub mod Marking
 pub mod Marks

@@ -12,7 +12,7 @@ use Rattle.asl_debugger.specs.Session.{machine_before}
 use Rattle.asl_debugger.specs.Checkpoints.{AreMarks, IsMarkOf}
 use Rattle.asl_debugger.proofs.Marks.{mark_of}
 
--- one mark more, behind the others
+-- one mark more, after the others
 one_left : (image : Image) (log : Log) (marks : List Mark) (machine : Configuration) (position : ℕ) (rest : Rest) → machine ≡ machine_before image log position → position ≤ length log.events
     → IsRestOf machine.image rest → rest.state ≡ machine.state → AreMarks image log marks → AreMarks image log (marks ++ record { position = position; rest = rest } ∷ [])
 one_left image log marks machine position rest at within fits state are =

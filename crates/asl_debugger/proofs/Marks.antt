@@ -4,10 +4,13 @@ use Rattle.std.specs.Prelude.{slice_get}
 use Rattle.std.proofs.lemmas.List.{take_all, length_push}
 use Rattle.std.proofs.Math.Nat.{lt_of_mul-lt-mul_right}
 use Rattle.asl_code.specs.declared.image.Image.{Image}
+use Rattle.asl_code.specs.Verified.{IsVerified}
 use Rattle.asl_machine.specs.View.{Configuration}
 use Rattle.asl_machine.specs.Paused.{Rest, IsRestOf}
 use Rattle.asl_machine.specs.Run.{IsThreadCount, start_of}
-use Rattle.asl_journal.specs.Journal.{Log, IsLog, GoesBy, IsJournal}
+use Rattle.asl_journal.specs.Journal.{Log, IsLog, IsJournal}
+use Rattle.asl_journal.specs.Computed.{GoesBy}
+use Rattle.asl_journal.proofs.ByTable.{journal_of}
 use Rattle.asl_journal.proofs.Replays.{no_difference}
 use Rattle.asl_debugger.specs.declared.fault.DebugFault.{DebugFault}
 use Rattle.asl_debugger.specs.declared.fault.DebugFault.TheVariants.{AtEnd, AtStart, NoSuchStep, Differs, OutOfMemory, BadCount}
@@ -50,7 +53,7 @@ pushed [] y x (suc i) e = absurd cc
 pushed (z ∷ zs) y x zero e = inl e
 pushed (z ∷ zs) y x (suc i) e = elim (pushed zs y x i e) [ inl old ↦ inl old | inr new ↦ inr (omega (arith, new.0), new.1) ]
 
--- one checkpoint more, behind the others
+-- one checkpoint more, after the others
 pub each_pushed : (image : Image) (log : Log) (spacing k : ℕ) (checkpoints : List Rest) (rest : Rest) → AreCheckpoints image log spacing checkpoints → k ≡ length checkpoints * spacing → IsMark image log k rest
     → AreCheckpoints image log spacing (checkpoints ++ rest ∷ [])
 each_pushed image log spacing k checkpoints rest each place is = λ index r e. elim (pushed checkpoints rest r index e) [
@@ -90,8 +93,9 @@ so_far_next image log spacing here old machine checkpoints rest so_far at fits s
 }
 
 -- a journal that is followed to its end
-pub all_followed : (image : Image) (log : Log) → IsThreadCount image log.threads → IsLog log → GoesBy image (start_of image log.threads) (take (length log.events) log.events) → IsJournal image log.threads log.events
-all_followed image log few is goes = record { counted = few; there = is.there; replies = subst (GoesBy image (start_of image log.threads)) (take_all (length log.events) log.events (omega arith)) goes }
+pub all_followed : (image : Image) (log : Log) → IsVerified image → IsThreadCount image log.threads → IsLog log → GoesBy image (start_of image log.threads) (take (length log.events) log.events) → IsJournal image log.threads log.events
+all_followed image log verified few is goes =
+    journal_of image log.threads log.events verified few is.there (subst (GoesBy image (start_of image log.threads)) (take_all (length log.events) log.events (omega arith)) goes)
 
 -- the number of the greatest checkpoint that is not past a position
 pub number_there : (image : Image) (log : Log) (spacing position k number : ℕ) (checkpoints : List Rest) (marks : List Mark) (machine : Configuration) → IsDebuggerState image log spacing checkpoints marks machine position → k ≤ length log.events → number * spacing ≤ k → number < length checkpoints
@@ -114,6 +118,6 @@ pub only_memory : (image : Image) (log : Log) (fault : DebugFault) → IsJournal
 only_memory image log AtEnd j is = absurd is
 only_memory image log AtStart j is = absurd is
 only_memory image log NoSuchStep j is = absurd is
-only_memory image log (Differs index) j is = absurd (no_difference image (start_of image log.threads) log.events index j.replies is.1)
+only_memory image log (Differs index) j is = absurd (no_difference image log.threads log.events index j is.1)
 only_memory image log OutOfMemory j is = refl
-only_memory image log BadCount j is = absurd (omega (arith, j.counted.1, is))
+only_memory image log BadCount j is = absurd (omega (arith, j.leads.counted.1, is))

@@ -12,10 +12,12 @@ use Rattle.asl_machine.specs.Run.{start_of, state_after}
 use Rattle.asl_machine.specs.StepFunction.{step_of}
 use Rattle.asl_machine.proofs.Reached.{reached_count}
 use Rattle.asl_journal.specs.declared.event.Event.{Event}
-use Rattle.asl_journal.specs.Journal.{Log, IsLog, AreThere, GoesBy, IsJournal, schedule_of}
-use Rattle.asl_journal.specs.Replay.{DiffersAt}
+use Rattle.asl_journal.specs.Journal.{Log, IsLog, AreThere, IsJournal, schedule_of}
+use Rattle.asl_journal.specs.Computed.{GoesBy, DiffersFrom}
+use Rattle.asl_journal.proofs.ByTable.{goes_of}
 use Rattle.asl_journal.proofs.Runs.{state_events, state_snoc, goes_append, goes_back, prefix_is_journal}
-use Rattle.asl_debugger.specs.Session.{MayWantMemoryAt, state_before, machine_before}
+use Rattle.asl_debugger.specs.Halts.{MayWantMemoryBefore}
+use Rattle.asl_debugger.specs.Session.{state_before, machine_before}
 use Rattle.asl_debugger.specs.declared.trail.Mark.{Mark}
 use Rattle.asl_debugger.specs.Checkpoints.{IsDebuggerState, AreMarks}
 
@@ -58,11 +60,11 @@ module _ (image : Image) (log : Log) (start end : ℕ) (le : start ≤ end) wher
   pub goes_from : IsJournal image log.threads log.events → GoesBy image (state_before image log start) (take (end - start) (drop start log.events))
   goes_from j =
       goes_back image (start_of image log.threads) (take start log.events) (take (end - start) (drop start log.events))
-      (subst (GoesBy image (start_of image log.threads)) (events_between log.events start end le) (prefix_is_journal image log.threads end log.events j).replies)
+      (subst (GoesBy image (start_of image log.threads)) (events_between log.events start end le) (goes_of image log.threads (take end log.events) (prefix_is_journal image log.threads end log.events j)))
 
   -- the first event that differs, between, is the first that differs
-  pub differs_between : (index : ℕ) → GoesBy image (start_of image log.threads) (take start log.events) → DiffersAt image (state_before image log start) (take (end - start) (drop start log.events)) index
-      → DiffersAt image (start_of image log.threads) log.events (start + index)
+  pub differs_between : (index : ℕ) → GoesBy image (start_of image log.threads) (take start log.events) → DiffersFrom image (state_before image log start) (take (end - start) (drop start log.events)) index
+      → DiffersFrom image (start_of image log.threads) log.events (start + index)
   differs_between index front d =
       let count = end - start in
       let slice = take count (drop start log.events) in
@@ -116,7 +118,7 @@ module _ (machine : Configuration) (log : Log) (k : ℕ) (d : Event) (t : ℕ) (
   pub there_at : IsLog log → t ≡ (get_or log.events k d).thread → t < length machine.state.threads
   there_at is thread = rw (thread, threads_of machine.image log k machine.state at is) (All-get_or (λ (e : Event). e.thread < log.threads) log.events k d lt is.there)
 
-  pub wants_at : t ≡ (get_or log.events k d).thread → MayWantMemory machine.image machine.state t → MayWantMemoryAt machine.image log k
+  pub wants_at : t ≡ (get_or log.events k d).thread → MayWantMemory machine.image machine.state t → MayWantMemoryBefore machine.image log k
   wants_at thread wants = rw (slice_get-get_or log.events k d lt, ← thread, ← at) wants
 
 -- a debugger that shows another position of its journal keeps what it keeps, or other marks

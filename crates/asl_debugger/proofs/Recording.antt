@@ -15,6 +15,7 @@ use Rattle.asl_machine.specs.Step.{Step}
 use Rattle.asl_machine.specs.StepFunction.{step_of}
 use Rattle.asl_journal.specs.declared.event.Event.{Event}
 use Rattle.asl_journal.specs.Journal.{Log, IsLog, IsJournal, most_events, schedule_of, with_event}
+use Rattle.asl_journal.proofs.ByTable.{goes_of, journal_of}
 use Rattle.asl_journal.proofs.Runs.{state_snoc, goes_snoc, prefix_is_journal}
 use Rattle.asl_debugger.specs.Session.{state_before, machine_before}
 use Rattle.asl_debugger.specs.declared.trail.Mark.{Mark}
@@ -29,7 +30,7 @@ stands_before length_of count spacing index none_past lt =
     let more : (index + 1) * spacing ≡ index * spacing + spacing = omega arith in
     omega (arith, mul-le-mul_right spacing next, more)
 
--- one more event by thread t, and the machine behind it
+-- one more event by thread t, and the machine after it
 module _ (image : Image) (log : Log) (spacing position : ℕ) (checkpoints : List Rest) (marks : List Mark) (machine new : Configuration) (t : ℕ) (reply : Reply)
     (kept : IsDebuggerState image log spacing checkpoints marks machine position) (end : position ≡ length log.events) (room : length log.events < most_events) (there : t < log.threads)
     (same : new.image ≡ machine.image) (said : reply ≡ (step_of machine.image machine.state t).reply) (steps : new.state ≡ (step_of machine.image machine.state t).state) where
@@ -55,14 +56,13 @@ module _ (image : Image) (log : Log) (spacing position : ℕ) (checkpoints : Lis
   is_log = record { count = kept.is_log.count; short = omega (arith, one_more); there = All-push (λ (e : Event). e.thread < log.threads) log.events event kept.is_log.there there }
 
   journal : IsJournal image log.threads more.events
-  journal = record {
-    counted = kept.journal.counted;
-    there = All-push (λ (e : Event). e.thread < log.threads) log.events event kept.journal.there there;
-    replies = goes_snoc image (start_of image log.threads) log.events event kept.journal.replies
-        (said ∙ ap (λ (i : Image). (step_of i machine.state t).reply) of_image ∙ ap (λ (s : State). (step_of image s t).reply) at_end);
-  }
+  journal =
+      journal_of image log.threads more.events kept.journal.verified kept.journal.leads.counted
+      (All-push (λ (e : Event). e.thread < log.threads) log.events event kept.journal.there there)
+      (goes_snoc image (start_of image log.threads) log.events event (goes_of image log.threads log.events kept.journal)
+      (said ∙ ap (λ (i : Image). (step_of i machine.state t).reply) of_image ∙ ap (λ (s : State). (step_of image s t).reply) at_end))
 
-  -- the state behind the event
+  -- the state after the event
   pub state_behind : state_before image more (position + 1) ≡ (step_of machine.image machine.state t).state
   state_behind =
       let whole : take (position + 1) more.events ≡ more.events = take_all (position + 1) more.events (omega (arith, one_more, end)) in
@@ -71,7 +71,7 @@ module _ (image : Image) (log : Log) (spacing position : ℕ) (checkpoints : Lis
       ∙ ap (λ (s : State). (step_of image s t).state) (sym at_end)
       ∙ ap (λ (i : Image). (step_of i machine.state t).state) (sym of_image)
 
-  -- the step that the machine made leads from the state at the position to the one behind the event
+  -- the step that the machine made leads from the state at the position to the one after the event
   pub step_behind : Step machine.image machine.state t reply new.state → Step image (state_before image log position) t reply (state_before new.image more (position + 1))
   step_behind is =
       let from : Step image (state_before image log position) t reply new.state = subst (λ (m : Configuration). Step m.image m.state t reply new.state) kept.shown is in
@@ -112,7 +112,7 @@ module _ (image : Image) (log : Log) (spacing position : ℕ) (checkpoints : Lis
   moved_to : (cs : List Rest) → IsDebuggerState image more spacing cs marks (machine_before image more (position + 1)) (position + 1) → IsDebuggerState new.image more spacing cs marks new (position + 1)
   moved_to cs k = subst (λ (m : Configuration). IsDebuggerState m.image more spacing cs marks m (position + 1)) (sym shown) k
 
-  -- no checkpoint is due behind it
+  -- no checkpoint is due after it
   pub kept_behind : (position + 1 ≡ length checkpoints * spacing → ⊥) → IsDebuggerState new.image more spacing checkpoints marks new (position + 1)
   kept_behind none_due =
       let enough = kept.enough in
@@ -120,7 +120,7 @@ module _ (image : Image) (log : Log) (spacing position : ℕ) (checkpoints : Lis
       let other : position + 1 < length checkpoints * spacing = elim (cases_lt (position + 1) (length checkpoints * spacing)) [ inl lt ↦ lt | inr le ↦ absurd (none_due (omega (arith, enough, end, le))) ] in
       moved_to checkpoints (kept_by checkpoints each (omega (arith, one_more, end, other)) (omega (arith, one_more, none_past)))
 
-  -- a checkpoint is due behind it, and this is left of the machine there
+  -- a checkpoint is due after it, and this is left of the machine there
   pub kept_with : (rest : Rest) → position + 1 ≡ length checkpoints * spacing → IsRestOf machine.image rest → rest.state ≡ (step_of machine.image machine.state t).state
       → IsDebuggerState new.image more spacing (checkpoints ++ rest ∷ []) marks new (position + 1)
   kept_with rest due fits state =

@@ -6,3 +6,4 @@ pub mod Session
 pub mod Fault
 pub mod Checkpoints
 pub mod Search
+pub mod Halts

@@ -1,4 +1,4 @@
--- A debugger that is kept without its program, until it goes on over the same program.
+-- A debugger that is kept without its program, until it continues over the same program.
 use Rattle.std.specs.Prelude.{ℕ, List}
 use Rattle.asl_code.specs.declared.image.Image.{Image}
 use Rattle.asl_machine.specs.Paused.{Rest, IsRestOf}
@@ -17,7 +17,7 @@ pub record SessionRest : Type 0 where
   pub checkpoints : List Rest
   pub marks : List Mark
 
--- it is what is left of a debugger over this program; who pauses one gets it, and who lets it go on gives it
+-- it is what is left of a debugger over this program; who pauses one gets it, and who lets it continue gives it
 pub record IsSessionRestOf (image : Image) (rest : SessionRest) : Type 0 where
   pub machine : IsRestOf image rest.machine
   pub kept : IsDebuggerState image rest.log rest.spacing rest.checkpoints rest.marks (record { image = image; state = rest.machine.state }) rest.position

@@ -1,11 +1,13 @@
 -- A debugger as contracts see it: a journal of a program, a position in it, and breakpoints (docs/JOURNAL.md,
 -- "The debugger").
-use Rattle.std.specs.Prelude.{◌≡◌, ◌<◌, ◌≤◌, ◌⊎◌, ℕ, IsTrue, List, length, take, slice_get, IsSomeAnd}
+use Rattle.std.specs.Prelude.{◌≡◌, ◌<◌, ◌≤◌, ◌⊎◌, ℕ, IsTrue, List, length, take, slice_get, Some, IsSomeAnd}
 use Rattle.asl_code.specs.declared.image.Image.{Image}
 use Rattle.asl_machine.specs.WellFormed.{MayWantMemory}
 use Rattle.asl_machine.specs.State.{State, activity_at}
 use Rattle.asl_machine.specs.View.{Configuration}
-use Rattle.asl_journal.specs.Journal.{Log, state_at}
+use Rattle.asl_journal.specs.declared.event.Event.{Event}
+use Rattle.asl_journal.specs.Journal.{Log, LeadsTo}
+use Rattle.asl_journal.specs.Computed.{state_at}
 use Rattle.asl_debugger.specs.Breaks.{has_break}
 
 -- a program, a journal of it, the position that is shown, and the breakpoints
@@ -15,17 +17,22 @@ pub record Session : Type 0 where
   pub position : ℕ
   pub breakpoints : List ℕ
 
--- the state at a position: the one to which the events before it lead
-abbrev pub state_before : Image → Log → ℕ → State
-state_before image log k = state_at image log.threads (take k log.events)
+-- the state at a position: the events before it lead the program's threads there
+abbrev pub IsStateAt : Image → Log → ℕ → State → Type 0
+IsStateAt image log k state = LeadsTo image log.threads (take k log.events) state
 
--- the machine in that state
-abbrev pub machine_before : Image → Log → ℕ → Configuration
-machine_before image log k = record { image = image; state = state_before image log k }
+-- the machine at the position: of the session's program, in the state there
+pub record IsShown (s : Session) (machine : Configuration) : Type 0 where
+  pub image : machine.image ≡ s.image
+  pub state : IsStateAt s.image s.log s.position machine.state
 
 -- there is an event after this position, and its step may need memory in the state there
-abbrev pub MayWantMemoryAt : Image → Log → ℕ → Type 0
-MayWantMemoryAt image log k = IsSomeAnd (slice_get log.events k) (λ event. MayWantMemory image (state_before image log k) event.thread)
+pub record MayWantMemoryAt (image : Image) (log : Log) (k : ℕ) : Type 0 where
+  pub event : Event
+  pub there : slice_get log.events k ≡ Some event
+  pub state : State
+  pub leads : IsStateAt image log k state
+  pub wants : MayWantMemory image state event.thread
 
 -- the same session at another position
 abbrev pub moved : Session → ℕ → Session
@@ -43,10 +50,13 @@ with_breaks s breakpoints = record { image = s.image; log = s.log; position = s.
 abbrev pub IsAtBreak : List ℕ → State → ℕ → Type 0
 IsAtBreak breakpoints s t = IsSomeAnd (activity_at s.threads t) (λ activity. IsTrue (has_break breakpoints activity.top.pc))
 
--- The position is a stop: there is an event after it, and in its state the thread of that event runs and is at a
--- breakpoint.
-abbrev pub IsStop : Session → ℕ → Type 0
-IsStop s k = IsSomeAnd (slice_get s.log.events k) (λ event. IsAtBreak s.breakpoints (state_before s.image s.log k) event.thread)
+-- the position is a stop: there is an event after it, and in the state there the thread of that event runs and is at a breakpoint
+pub record IsStop (s : Session) (k : ℕ) : Type 0 where
+  pub event : Event
+  pub there : slice_get s.log.events k ≡ Some event
+  pub state : State
+  pub leads : IsStateAt s.image s.log k state
+  pub breaks : IsAtBreak s.breakpoints state event.thread
 
 -- the least later stop, or the end where there is none
 pub record IsNextStop (s : Session) (k : ℕ) : Type 0 where
@@ -60,3 +70,10 @@ pub record IsLastStop (s : Session) (k : ℕ) : Type 0 where
   pub earlier : k < s.position
   pub none_between : (j : ℕ) → k < j → j < s.position → ¬ IsStop s j
   pub stops : IsStop s k ⊎ (k ≡ 0)
+
+-- Machinery: the state at a position of a journal, computed, and the machine there.
+abbrev pub state_before : Image → Log → ℕ → State
+state_before image log k = state_at image log.threads (take k log.events)
+
+abbrev pub machine_before : Image → Log → ℕ → Configuration
+machine_before image log k = record { image = image; state = state_before image log k }

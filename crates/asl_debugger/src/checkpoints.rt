@@ -2,10 +2,13 @@
 ghost use Rattle.std.specs.Prelude.{◌≡◌, ◌<◌, ◌≤◌, ◌+◌, ◌*◌, [], length, take, IfErr, IfOk, OnErr, OnOk};
 ghost use Rattle.asl_machine.specs.Paused.{IsRestOf};
 ghost use Rattle.asl_machine.specs.Run.{IsThreadCount, start_of};
-ghost use Rattle.asl_journal.specs.Journal.{GoesBy, IsJournal, IsLog};
+ghost use Rattle.asl_code.specs.Verified.{IsVerified};
+ghost use Rattle.asl_journal.specs.Computed.{GoesBy};
+ghost use Rattle.asl_journal.specs.Journal.{IsJournal, IsLog};
 ghost use Rattle.asl_debugger.specs.Checkpoints.{AreCheckpoints, IsDebuggerState};
 ghost use Rattle.asl_debugger.specs.Opening.{IsOpenFault};
-ghost use Rattle.asl_debugger.specs.Session.{MayWantMemoryAt, machine_before, state_before};
+ghost use Rattle.asl_debugger.specs.Halts.{MayWantMemoryBefore};
+ghost use Rattle.asl_debugger.specs.Session.{machine_before, state_before};
 
 use crate::fault::DebugFault;
 use asl_code::Program;
@@ -40,7 +43,7 @@ pub fn machine_between<'p>(
     ensures machine { IfOk result (λ machine. machine ≡ machine_before from.entry.image journal.now end) }
     ensures goes { GoesBy from.entry.image (start_of from.entry.image journal.now.threads) (take start journal.now.events)
         → OnOk result (GoesBy from.entry.image (start_of from.entry.image journal.now.threads) (take end journal.now.events)) }
-    ensures refused { IsThreadCount from.entry.image journal.now.threads
+    ensures refused { IsVerified from.entry.image → IsThreadCount from.entry.image journal.now.threads
         → GoesBy from.entry.image (start_of from.entry.image journal.now.threads) (take start journal.now.events)
         → IfErr result (λ fault. IsOpenFault from.entry.image journal.now fault) }
     ensures only { IsJournal from.entry.image journal.now.threads journal.now.events
@@ -65,7 +68,7 @@ pub fn make_event(
     requires there { position < length journal.now.events }
     ensures made { OnOk result (machine.new ≡ machine_before machine.old.image journal.now (position + 1)) }
     ensures memory { IfErr result (λ fault. fault ≡ DebugFault.OutOfMemory) }
-    ensures wants { OnErr result (MayWantMemoryAt machine.old.image journal.now position) }
+    ensures wants { OnErr result (MayWantMemoryBefore machine.old.image journal.now position) }
     ensures err { OnErr result (machine.new ≡ machine.old) }
 {
     let events = journal.events();
@@ -139,7 +142,10 @@ fn first_machine<'p>(
 ) -> Result<Machine<'p>, DebugFault>
     ensures machine { IfOk result (λ machine. machine ≡ machine_before program.now journal.now 0) }
     ensures counted { OnOk result (IsThreadCount program.now journal.now.threads) }
+    ensures verified { IsVerified program.now }
     ensures refused { IfErr result (λ fault. IsOpenFault program.now journal.now fault) }
 {
+    // A program is verified.
+    program.version();
     Ok(Machine::new(alloc, program, journal.threads())?)
 }

@@ -52,7 +52,7 @@ impl<'p> Model for Debugger<'p> {
 }
 
 impl<'p> Debugger<'p> {
-    ghost use Rattle.asl_debugger.specs.Session.{IsNextStop, IsLastStop, MayWantMemoryAt, machine_before, moved, with_breaks};
+    ghost use Rattle.asl_debugger.specs.Session.{IsNextStop, IsLastStop, IsShown, MayWantMemoryAt, machine_before, moved, with_breaks};
 
     /// A debugger at position 0 of the journal, if it is one of the program. Else it is handed back. A copy of the machine
     /// is kept every `spacing` events, at least 1; a smaller spacing takes more memory and makes moves quicker, and changes
@@ -113,7 +113,7 @@ impl<'p> Debugger<'p> {
         self.show(alloc, k)
     }
 
-    /// Goes on by one event, which takes one step. Memory is wanted only where that step may want it.
+    /// Continues by one event, which takes one step. Memory is wanted only where that step may want it.
     ///
     /// # Errors
     ///
@@ -152,7 +152,7 @@ impl<'p> Debugger<'p> {
         self.show(alloc, self.position - 1)
     }
 
-    /// Goes on to the least later stop, or to the end where there is none.
+    /// Continues to the least later stop, or to the end where there is none.
     ///
     /// # Errors
     ///
@@ -218,9 +218,10 @@ impl<'p> Debugger<'p> {
         clear_break(&mut self.breakpoints, pc);
     }
 
-    /// The machine at the position.
+    /// The machine at the position: the events before it lead there, each by a line of the instruction table.
     pub fn view(&self) -> &Machine<'p>
-        ensures { result.now ≡ machine_before self.now.image self.now.log self.now.position }
+        ensures machine { result.now ≡ machine_before self.now.image self.now.log self.now.position }
+        ensures shown { IsShown self.now result.now }
     {
         &self.machine
     }

@@ -8,14 +8,11 @@ ghost use Rattle.asl_debugger.specs.Session.{machine_before, state_before};
 use crate::checkpoints::{machine_between, rest_of};
 use crate::fault::DebugFault;
 use asl_journal::Journal;
-use asl_machine::{Machine, Paused};
+use asl_machine::{MAX_FRAMES, Machine, Paused};
 use std::alloc::Global;
 
 /// How many events are a short way, on which no marks are left.
 const SHORT_WAY: u32 = 16;
-
-/// How many frames a thread has at most.
-const MOST_FRAMES: u32 = 256;
 
 /// What is left of the machine at a position.
 #[derive(Drop)]
@@ -101,7 +98,7 @@ fn leave_mark(
 fn pieces(machine: &Machine<'_>) -> u32 {
     let mut count = machine.objects();
     for thread in 0..machine.threads() {
-        for frame in 0..MOST_FRAMES {
+        for frame in 0..MAX_FRAMES as u32 {
             if machine.frame(thread, frame).is_none() {
                 break;
             }

@@ -31,7 +31,7 @@ impl Outcome {
         }
     }
 
-    /// Whether a write is named that went wrong behind a first part; nothing where none did, and the command is done.
+    /// Whether a write is named that went wrong after a first part; nothing where none did, and the command is done.
     pub fn names_write(&self, went_wrong: bool, output: &[u8]) -> Option<bool> {
         if went_wrong {
             let named = self.errors.as_slice() == b"asl: Write\n".as_slice();

@@ -1,3 +1,4 @@
+pub mod ByTable
 pub mod Front
 pub mod Loads
 pub mod Logs
@@ -6,6 +7,7 @@ mod Lengths
 pub mod Outcomes
 pub mod SharedFields
 pub mod Recordings
+pub mod Ran
 pub mod Replays
 pub mod RunFiles
 pub mod Runs

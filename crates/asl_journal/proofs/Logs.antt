@@ -65,7 +65,7 @@ IsThree m v t l = IsTwo m v l × (l.threads ≡ t)
 abbrev IsFour : ℕ → ℕ → ℕ → ℕ → Log → Type 0
 IsFour m v t n l = IsThree m v t l × (length l.events ≡ n)
 
--- the readers of the parts behind
+-- the readers of the parts after
 behind_events : ℕ → List Event → List ℕ → Result (Log × List ℕ) Stop
 behind_events t events bytes = Ok (log t events, bytes)
 

@@ -1,23 +1,17 @@
 -- Runs in two parts.
 use Rattle.std.proofs.Common.{◌≡◌, ℕ, ◌<◌, List, [], ◌∷◌, ◌++◌, take, drop, refl, ap, ap₂, sym, subst, ◌∙◌}
 use Rattle.std.proofs.lemmas.List.{take-append-drop}
-use Rattle.std.proofs.lemmas.List.Elements.{All-take, All-map}
+use Rattle.std.proofs.lemmas.List.Elements.{All-take}
 use Rattle.asl_code.specs.declared.image.Image.{Image}
 use Rattle.asl_machine.specs.declared.reply.Reply.{Reply}
 use Rattle.asl_machine.specs.State.{State}
-use Rattle.asl_machine.specs.Run.{IsReached, start_of, state_after}
+use Rattle.asl_machine.specs.Run.{start_of, state_after, RunsBy}
 use Rattle.asl_machine.specs.StepFunction.{step_of}
 use Rattle.asl_machine.proofs.Runs.{state_after-append}
 use Rattle.asl_journal.specs.declared.event.Event.{Event}
-use Rattle.asl_journal.specs.Journal.{schedule_of, state_at, GoesBy, IsJournal}
-
--- the state where a journal leads is reached
-pub journal_reached : (image : Image) (count : ℕ) (events : List Event) → IsJournal image count events → IsReached image count (state_at image count events)
-journal_reached image count events j = record {
-  schedule = schedule_of events;
-  threads_there = All-map (λ (t : ℕ). t < count) (λ (event : Event). event.thread) events j.there;
-  leads = refl;
-}
+use Rattle.asl_journal.specs.Journal.{schedule_of, replies_in, IsJournal}
+use Rattle.asl_journal.specs.Computed.{GoesBy}
+use Rattle.asl_journal.proofs.ByTable.{runs_front}
 
 pub schedule_append : (es fs : List Event) → schedule_of (es ++ fs) ≡ schedule_of es ++ schedule_of fs
 schedule_append [] fs = refl
@@ -58,8 +52,12 @@ goes_snoc image s es e a b = goes_append image s es (e ∷ []) a (goes_cons imag
 
 -- the first events of a journal are one
 pub prefix_is_journal : (image : Image) (count k : ℕ) (events : List Event) → IsJournal image count events → IsJournal image count (take k events)
-prefix_is_journal image count k events j = record {
-  counted = j.counted;
-  there = All-take (λ (e : Event). e.thread < count) k events j.there;
-  replies = goes_front image (start_of image count) (take k events) (drop k events) (subst (GoesBy image (start_of image count)) (sym (take-append-drop k events)) j.replies);
-}
+prefix_is_journal image count k events j =
+    let whole = subst (λ (es : List Event). RunsBy image (start_of image count) (schedule_of es) (replies_in es) j.end) (sym (take-append-drop k events)) j.leads.runs in
+    let front = runs_front image (start_of image count) (take k events) (drop k events) j.end whole in
+    record {
+      verified = j.verified;
+      there = All-take (λ (e : Event). e.thread < count) k events j.there;
+      end = front.0;
+      leads = record { counted = j.leads.counted; runs = front.1 };
+    }

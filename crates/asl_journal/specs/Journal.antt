@@ -2,10 +2,11 @@
 -- "What a journal is").
 use Rattle.std.specs.Prelude.{◌≡◌, ◌<◌, ◌≤◌, ◌⊎◌, ◌++◌, ◌∷◌, [], ℕ, List, length, map, All, slice_get, Some}
 use Rattle.asl_code.specs.declared.image.Image.{Image}
+use Rattle.asl_code.specs.Verified.{IsVerified}
 use Rattle.asl_code.specs.Versions.{newest_threads}
 use Rattle.asl_machine.specs.declared.reply.Reply.{Reply}
 use Rattle.asl_machine.specs.State.{State}
-use Rattle.asl_machine.specs.Run.{IsThreadCount, start_of, replies_of, state_after}
+use Rattle.asl_machine.specs.Run.{IsThreadCount, start_of, RunsBy}
 use Rattle.asl_journal.specs.declared.event.Event.{Event}
 use Rattle.asl_journal.specs.declared.fault.JournalFault.{JournalFault}
 use Rattle.asl_journal.specs.declared.fault.JournalFault.TheVariants.{JournalFull, BadCount, BadThread}
@@ -59,17 +60,16 @@ schedule_of events = map (λ event. event.thread) events
 abbrev pub replies_in : List Event → List Reply
 replies_in events = map (λ event. event.reply) events
 
--- the replies of the events are those of the program's run over their schedule from the state on
-abbrev pub GoesBy : Image → State → List Event → Type 0
-GoesBy image s events = replies_in events ≡ replies_of image s (schedule_of events)
-
--- the events are a journal of the program with so many threads: it may start with so many, each event is of a thread
--- that is there, and the replies are those of its run over their schedule
-pub record IsJournal (image : Image) (count : ℕ) (events : List Event) : Type 0 where
+-- so many threads of the program may start, and these events lead them to the state: each is a step of its thread, with a reply
+-- that the instruction table gives it there
+pub record LeadsTo (image : Image) (count : ℕ) (events : List Event) (state : State) : Type 0 where
   pub counted : IsThreadCount image count
-  pub there : AreThere count events
-  pub replies : GoesBy image (start_of image count) events
+  pub runs : RunsBy image (start_of image count) (schedule_of events) (replies_in events) state
 
--- the state to which the schedule of the events leads so many threads of the program
-abbrev pub state_at : Image → ℕ → List Event → State
-state_at image count events = state_after image (start_of image count) (schedule_of events)
+-- the events are a journal of the program with so many threads: the image is a program's, each event is of a thread that is
+-- there, and the events lead its threads to some state
+pub record IsJournal (image : Image) (count : ℕ) (events : List Event) : Type 0 where
+  pub verified : IsVerified image
+  pub there : AreThere count events
+  pub end : State
+  pub leads : LeadsTo image count events end

@@ -5,30 +5,28 @@ use Rattle.asl_machine.specs.State.{State, activity_at}
 use Rattle.asl_machine.specs.View.{Configuration}
 use Rattle.asl_journal.specs.declared.event.Event.{Event}
 use Rattle.asl_journal.specs.declared.event.Receipt.{Receipt}
-use Rattle.asl_journal.specs.Journal.{Log, IsCount, IsJournal, most_events, state_at}
+use Rattle.asl_journal.specs.Journal.{Log, IsCount, IsJournal, LeadsTo, most_events}
 
--- a program, its number of threads and what they did, and for how many events more there is room
+-- a program, the state that its threads are in, how many these are and what they did, and for how many events more there is capacity
 pub record Recorded : Type 0 where
   pub image : Image
+  pub state : State
   pub count : ℕ
   pub events : List Event
   pub spare : ℕ
 
--- the state to which the events led
-abbrev pub last_state : Recorded → State
-last_state r = state_at r.image r.count r.events
-
--- the machine: the program in that state
+-- the machine: the program in its state
 abbrev pub machine_of : Recorded → Configuration
-machine_of r = record { image = r.image; state = last_state r }
+machine_of r = record { image = r.image; state = r.state }
 
 -- the journal: the number of threads and the events
 abbrev pub log_of : Recorded → Log
 log_of r = record { threads = r.count; events = r.events }
 
--- the program, the number of threads and the events are the same; of the room nothing is said
+-- the program, its state, the number of threads and the events are the same; of the capacity nothing is said
 pub record IsUnchanged (old new : Recorded) : Type 0 where
   pub image : new.image ≡ old.image
+  pub state : new.state ≡ old.state
   pub count : new.count ≡ old.count
   pub events : new.events ≡ old.events
 
@@ -40,15 +38,15 @@ event_of receipt = record { thread = receipt.thread; reply = receipt.reply }
 abbrev pub has_ended : State → ℕ → Bool
 has_ended s t = is_none (activity_at s.threads t)
 
--- The machine is where the events lead so many of its program's threads, and the replies are those of that run. There
--- are no more events than a journal has. Machinery of the type: contracts speak of the parts.
+-- The events are a journal of the machine's program, and lead its threads to the machine's state. There are no more events than
+-- a journal has. Machinery of the type: contracts speak of the parts.
 pub record Fits (machine : Configuration) (count : ℕ) (events : List Event) : Type 0 where
   pub threads : length machine.state.threads ≡ count
   pub counted : IsCount count
   pub short : length events ≤ most_events
   pub journal : IsJournal machine.image count events
-  pub last : machine.state ≡ state_at machine.image count events
+  pub leads : LeadsTo machine.image count events machine.state
 
--- for how many events more there is room, never more than the limit leaves
+-- for how many events more there is capacity, never more than the limit leaves
 abbrev pub spare_of : ℕ → ℕ → ℕ
 spare_of capacity len = min capacity most_events - len

@@ -76,7 +76,7 @@ pub record HasImage (bytes : List ℕ) : Type 0 where
   pub memory : IsPartFault first fault.OutOfMemory
 
 -- what each refusal says of the bytes: they end before the image does, or a part of them is refused, the image's first;
--- want of memory hides neither bytes that end too early nor an image's part that spells none
+-- lack of memory hides neither bytes that end too early nor an image's part that spells none
 abbrev pub IsFileFault : List ℕ → FileFault → Type 0
 IsFileFault bytes (fault.Truncated at) = (at ≡ length bytes) × HasNoParts bytes
 IsFileFault bytes (fault.Image cause) = HasBadImage bytes cause

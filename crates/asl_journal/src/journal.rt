@@ -6,7 +6,7 @@ mod growing;
 
 use crate::event::Event;
 use crate::fault::JournalFault;
-use crate::limits::{MAX_EVENTS, MAX_THREADS};
+use crate::journal_limits::{MAX_EVENTS, MAX_THREADS};
 use std::marker::Model;
 
 /// How many threads a run has, and its events in order: 1 to 128 threads, at most 16,777,216 events, and each event of a

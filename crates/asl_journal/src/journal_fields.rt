@@ -6,7 +6,7 @@ ghost use Rattle.asl_loader.specs.ImageFields.{Keeps, items_at};
 ghost use Rattle.asl_journal.specs.JournalFields.{threads_at, count_at, value_at, unprotected_at, fault_at, reply_at, event_at, log_at};
 
 use crate::event::Event;
-use crate::limits::{MAX_EVENTS, MAX_THREADS};
+use crate::journal_limits::{MAX_EVENTS, MAX_THREADS};
 use asl_code::{Cell, Items, Value, ValueFault, get_value, version_for};
 use asl_loader::Stop;
 use asl_loader::shared_fields::{
@@ -17,6 +17,9 @@ use std::alloc::Global;
 
 /// The four letters at the front of a journal, as a number.
 const LETTERS: u32 = 0x4153_4c4a;
+
+/// The number of the reply that the step ran.
+const RAN: u8 = 0;
 
 /// How many threads: as many as journals of files of this version have.
 #[tactic(auto, unfolding(crate::specs::JournalFields::threads_at))]
@@ -105,8 +108,25 @@ fn reply_at(bytes: &[u8]) -> Result<(Reply, &[u8]), Stop>
     }
 }
 
-#[tactic(auto, unfolding(crate::specs::JournalFields::event_at))]
+/// An event. Most steps reply that they ran, so this is tried first.
 fn event_at(threads: u32, bytes: &[u8]) -> Result<(Event, &[u8]), Stop>
+    ensures { Gives (λ x. (x.0, x.1.now)) result (event_at threads bytes.now) }
+{
+    if let [thread, reply, rest @ ..] = bytes
+        && *reply == RAN
+        && u32::from(*thread) < threads
+    {
+        let event = Event {
+            thread: *thread,
+            reply: Reply::Ran,
+        };
+        return Ok((event, rest));
+    }
+    any_event_at(threads, bytes)
+}
+
+#[tactic(auto, unfolding(crate::specs::JournalFields::event_at))]
+fn any_event_at(threads: u32, bytes: &[u8]) -> Result<(Event, &[u8]), Stop>
     ensures { Gives (λ x. (x.0, x.1.now)) result (event_at threads bytes.now) }
 {
     let (thread, rest) = below_at(threads, bytes)?;

@@ -3,11 +3,12 @@ ghost use Rattle.std.specs.Prelude.{◌≡◌, ◌++◌, ℕ, List, take};
 ghost use Rattle.asl_code.specs.declared.image.Image.{Image};
 ghost use Rattle.asl_code.specs.Verified.{IsVerified};
 ghost use Rattle.asl_machine.specs.State.{State};
-ghost use Rattle.asl_machine.specs.Run.{IsThreadCount, IsReached, start_of, state_after, RunsBy};
+ghost use Rattle.asl_machine.specs.Run.{IsThreadCount, IsReached, start_of, state_after};
 ghost use Rattle.asl_journal.specs.declared.event.Event.{Event};
 ghost use Rattle.asl_journal.specs.Bytes.{LogOfSpellingIsOne, SpellingOfLogIsOne};
 ghost use Rattle.asl_journal.specs.Faults.{BytesHaveAnOutcome, OutcomeIsOne};
-ghost use Rattle.asl_journal.specs.Journal.{AreThere, GoesBy, IsJournal, schedule_of, replies_in, state_at};
+ghost use Rattle.asl_journal.specs.Computed.{GoesBy, state_at};
+ghost use Rattle.asl_journal.specs.Journal.{AreThere, IsJournal, LeadsTo, schedule_of};
 ghost use Rattle.asl_journal.specs.Replay.{DiffersAt};
 ghost use Rattle.asl_journal.specs.RunFile.{RunOfSpellingIsOne, SpellingOfRunIsOne, FilesHaveAnOutcome, FileOutcomeIsOne};
 
@@ -29,23 +30,24 @@ pub fn run_and_bytes_are_one()
     ensures bytes { SpellingOfRunIsOne }
 {}
 
-/// Bytes have exactly one outcome as a run file: a run, or one refusal. Want of memory is left out.
+/// Bytes have exactly one outcome as a run file: a run, or one refusal. Lack of memory is left out.
 pub fn run_files_have_one_outcome()
     ensures some { FilesHaveAnOutcome }
     ensures one { FileOutcomeIsOne }
 {}
 
-/// A journal of a verified program goes by the instruction table: by it alone the program's threads run over the journal's
-/// schedule with these replies, to the state where the journal leads. And events that go by the table so are a journal. The
-/// state where any journal leads is reached.
-pub fn journals_go_by_the_table()
-    ensures reached { (image : Image) (count : ℕ) (events : List Event) → IsJournal image count events
-        → IsReached image count (state_at image count events) }
-    ensures some { (image : Image) (count : ℕ) (events : List Event) → IsVerified image → IsJournal image count events
-        → RunsBy image (start_of image count) (schedule_of events) (replies_in events) (state_at image count events) }
-    ensures only { (image : Image) (count : ℕ) (events : List Event) (end : State) → IsVerified image → IsThreadCount image count
-        → AreThere count events → RunsBy image (start_of image count) (schedule_of events) (replies_in events) end
-        → IsJournal image count events × (end ≡ state_at image count events) }
+/// The replies of a journal, which goes by the instruction table, are the computed ones of its schedule, and it leads to the
+/// computed state, and to no other. Events of threads that are there whose replies are the computed ones are a journal. The state
+/// where a journal leads is reached.
+pub fn journals_are_computed()
+    ensures computed { (image : Image) (count : ℕ) (events : List Event) → IsJournal image count events
+        → GoesBy image (start_of image count) events × LeadsTo image count events (state_at image count events) }
+    ensures one { (image : Image) (count : ℕ) (events : List Event) (state : State) → IsJournal image count events
+        → LeadsTo image count events state → state ≡ state_at image count events }
+    ensures only { (image : Image) (count : ℕ) (events : List Event) → IsVerified image → IsThreadCount image count
+        → AreThere count events → GoesBy image (start_of image count) events → IsJournal image count events }
+    ensures reached { (image : Image) (count : ℕ) (events : List Event) (state : State) → IsJournal image count events
+        → LeadsTo image count events state → IsReached image count state }
 {}
 
 /// A run in two parts: the events of the whole are a run's where the first are, and the others are from where the first
@@ -66,10 +68,10 @@ pub fn prefixes_are_journals()
         → IsJournal image count (take k events) }
 {}
 
-/// One event at the most is the first that differs from a run, and none of a run's own events is.
+/// One event at the most is the first that differs from a program's run, and no event of a journal is.
 pub fn first_differences_are_one()
-    ensures one { (image : Image) (s : State) (events : List Event) (index other : ℕ) → DiffersAt image s events index
-        → DiffersAt image s events other → index ≡ other }
-    ensures none { (image : Image) (s : State) (events : List Event) (index : ℕ) → GoesBy image s events
-        → ¬ DiffersAt image s events index }
+    ensures one { (image : Image) (count : ℕ) (events : List Event) (index other : ℕ) → DiffersAt image count events index
+        → DiffersAt image count events other → index ≡ other }
+    ensures none { (image : Image) (count : ℕ) (events : List Event) (index : ℕ) → IsJournal image count events
+        → ¬ DiffersAt image count events index }
 {}

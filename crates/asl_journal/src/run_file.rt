@@ -10,7 +10,7 @@ ghost use Rattle.asl_journal.specs.RunFile.{HasParts, HasNoParts, SpellsRun, IsF
 use crate::fault::JournalFault;
 use crate::journal::Journal;
 use crate::journal_bytes::get;
-use crate::writing::put;
+use crate::journal_writing::put;
 use asl_code::Program;
 use asl_loader::{LoadFault, load, store};
 use std::alloc::{AllocError, Global};
@@ -28,7 +28,7 @@ pub enum FileFault {
     /// The journal is refused. Places are counted in it.
     #[error("Journal({0})")]
     Journal(JournalFault),
-    /// A growth was refused.
+    /// An allocation failed.
     #[error("OutOfMemory")]
     OutOfMemory,
 }
@@ -37,7 +37,7 @@ pub enum FileFault {
 ///
 /// # Errors
 ///
-/// A growth was refused.
+/// An allocation failed.
 pub fn put_run(alloc: Global, program: &Program, journal: &Journal) -> Result<Vec<u8>, AllocError>
     ensures { IfOk result (λ bytes. SpellsRun program.now journal.now bytes.items) }
 {

@@ -19,7 +19,7 @@ enum Call {
     Break(u32),
 }
 
-/// The calls in order, and the position behind each.
+/// The calls in order, and the position after each.
 static CALLS: [(Call, u32); 14] = [
     (Call::Goto(18), 18),
     (Call::Back, 17),
@@ -54,7 +54,7 @@ fn open_once<'p>(
     }
 }
 
-/// How many threads the journal has, and what is told of its events, if it is there.
+/// How many threads the journal has, and what is reported of its events, if it is there.
 fn events(journal: &Option<Journal>) -> Option<(u32, Told)> {
     match journal {
         Some(journal) => Some((journal.threads(), told_of_events(journal.events()))),
@@ -89,7 +89,7 @@ fn told(debugger: &Debugger<'_>) -> (u32, Seen) {
     (debugger.position(), told_of(debugger.view()))
 }
 
-/// The position behind a call.
+/// The position after a call.
 fn position(alloc: Global, debugger: &mut Debugger<'_>, call: Call) -> Option<u32> {
     changed(alloc, DebugFault::OutOfMemory, debugger, told, make, call)?;
     Some(debugger.position())

@@ -10,7 +10,7 @@ pub static CELL: Cell = Cell {
     offset: 0,
 };
 
-/// What is told of a thread: its registers, of which no function has more than five; of its locks those on the root, on the
+/// What is reported of a thread: its registers, of which no function has more than five; of its locks those on the root, on the
 /// first two classes and on the first cell; and whether the last object is fresh for it, or the one that would come next.
 #[derive(Clone, Copy, PartialEq)]
 pub struct ThreadSeen {
@@ -22,7 +22,7 @@ pub struct ThreadSeen {
     fresh: [bool; 2],
 }
 
-/// What is told of an object: its class, its size and its first cell.
+/// What is reported of an object: its class, its size and its first cell.
 #[derive(Clone, Copy, PartialEq)]
 pub struct ObjectSeen {
     class: Option<u32>,
@@ -30,7 +30,7 @@ pub struct ObjectSeen {
     cell: Option<Value>,
 }
 
-/// What is told of a machine: of its threads the first two, of its objects the first and the last.
+/// What is reported of a machine: of its threads the first two, of its objects the first and the last.
 #[derive(Clone, Copy, PartialEq)]
 pub struct Seen {
     threads: [Option<ThreadSeen>; 2],

@@ -30,7 +30,7 @@ pub static PUSH: &[u8] =
 /// A schedule of the counter's two threads in which thread 1 waits for thread 0, and both end.
 pub static SCHEDULE: [u8; 18] = [0, 0, 1, 1, 0, 0, 0, 0, 1, 0, 1, 0, 1, 1, 1, 1, 1, 1];
 
-/// The run file of the counter's threads, stepped 0, 0, 1, 1: the image of 94 bytes behind its length, and the journal.
+/// The run file of the counter's threads, stepped 0, 0, 1, 1: the image of 94 bytes after its length, and the journal.
 pub static FILE: [u8; 117] =
     *b"\x00\x00\x00\x5eASLM\x00\x02\x00\x01\x00\x01\x00\x00\x00\x01\x01\x05\x00\x08\x00\x00\x00\x08\
     \x08\x01\x00\x00\x00\x00\x00\x00\x12\x00\x00\x00\x00\x00\x00\x00\

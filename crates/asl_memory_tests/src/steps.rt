@@ -7,15 +7,15 @@ use asl_machine::{Fault, Machine, Reply};
 use asl_refusals::{answered, changed};
 use std::alloc::Global;
 
-/// What is told of a journal: how many events it has, and the last of them.
+/// What is reported of a journal: how many events it has, and the last of them.
 pub type Told = (usize, Option<Event>);
 
-/// What is told of events.
+/// What is reported of events.
 pub fn told_of_events(events: &[Event]) -> Told {
     (events.len(), events.last().copied())
 }
 
-/// What is told of a machine that writes down its steps: the events, the room for more, and what the machine tells.
+/// What is reported of a machine that writes down its steps: the events, the capacity for more, and what the machine tells.
 fn told(journaled: &Journaled<'_>) -> (Told, u32, Seen) {
     (
         told_of_events(journaled.events()),
@@ -24,7 +24,7 @@ fn told(journaled: &Journaled<'_>) -> (Told, u32, Seen) {
     )
 }
 
-/// What is told where a growth of the events' room alone may have come through.
+/// What is reported where a growth of the events' room alone may have come through.
 fn told_but_for_room(journaled: &Journaled<'_>) -> (Told, Seen) {
     (
         told_of_events(journaled.events()),
@@ -61,7 +61,7 @@ fn reserved(_: Global, journaled: &mut Journaled<'_>, m: u32) -> Result<(), Jour
     journaled.reserve(m)
 }
 
-/// Room for events.
+/// Capacity for events.
 fn reserve(alloc: Global, journaled: &mut Journaled<'_>, m: u32) -> Option<()> {
     changed(
         alloc,
@@ -114,7 +114,7 @@ fn a_push_is_stepped(rt: HostRuntime) {
     assert!(rt; last == Some(Reply::Ran));
 }
 
-/// Makes room ahead for some events, and the steps of the schedule.
+/// Reserves capacity ahead for some events, and the steps of the schedule.
 fn make_steps(alloc: Global, journaled: &mut Journaled<'_>, ahead: u32) -> Option<()> {
     reserve(alloc, journaled, ahead)?;
     for thread in SCHEDULE.iter() {
@@ -123,7 +123,7 @@ fn make_steps(alloc: Global, journaled: &mut Journaled<'_>, ahead: u32) -> Optio
     Some(())
 }
 
-/// The journal of the counter's two threads over the schedule, with room made ahead for some events.
+/// The journal of the counter's two threads over the schedule, with capacity reserved ahead for some events.
 pub fn journal(alloc: Global, program: &Program, ahead: u32) -> Option<Journal> {
     let mut journaled = start(alloc, program, 2)?;
     make_steps(alloc, &mut journaled, ahead)?;
@@ -137,7 +137,7 @@ fn replayed<'p>(
     replay(alloc, given.0, given.1)
 }
 
-/// What the counter's cell holds behind a replay of its threads.
+/// What the counter's cell holds after a replay of its threads.
 fn counted(alloc: Global, ahead: u32) -> Option<Value> {
     let program = program(alloc, COUNTER)?;
     let journal = journal(alloc, &program, ahead)?;

@@ -197,7 +197,7 @@ module _ (workers : ℕ) (s : State) (events : List Event) (all : List (Vec Rece
 past_end : (workers worker : ℕ) (events : List Event) (index : ℕ) → length events ≤ index → entries_of workers worker index (drop index events) ≡ []
 past_end workers worker events index end = ap (entries_of workers worker index) (drop_all index events end)
 
--- behind the last event
+-- after the last event
 pub all_come : (workers : ℕ) (s : State) (events : List Event) (all : List (Vec Receipt Global)) (next : List ℕ) (index : ℕ) → length events ≤ index
     → HaveCome workers s events all next index → HaveCome workers s events all next (length events)
 all_come workers s events all next index end h worker mine lt there =

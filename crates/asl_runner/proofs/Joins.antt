@@ -51,7 +51,7 @@ one_joined word count workers seat other all mine old left =
 abbrev pub HaveWorkedFrom : Word → ℕ → ℕ → ℕ → List Work → Type 0
 HaveWorkedFrom word count workers first works = (k : ℕ) (w : Work) → slice_get works k ≡ Some w → HasLeft word count workers (first + k) w.seat w.receipts.items w.refused
 
--- the first of the works, and those behind it
+-- the first of the works, and those after it
 pub first_worked : (word : Word) (count workers first : ℕ) (work : Work) (rest all : List Work) → all ≡ work ∷ rest → HaveWorkedFrom word count workers first all
     → HasLeft word count workers first work.seat work.receipts.items work.refused
 first_worked word count workers first work rest all is h = rw (← add-zero first) (h 0 work (ap (λ (ws : List Work). slice_get ws 0) is))
@@ -66,7 +66,7 @@ rest_worked word count workers first next work rest all is more h k w at =
 abbrev pub AreFrom : ℕ → List Work → List Work → Type 0
 AreFrom first works rest = (k : ℕ) (w : Work) → slice_get rest k ≡ Some w → slice_get works (first + k) ≡ Some w
 
--- the first of the rest, and those behind it
+-- the first of the rest, and those after it
 pub first_from : (first : ℕ) (works : List Work) (work : Work) (rest all : List Work) → all ≡ work ∷ rest → AreFrom first works all → slice_get works first ≡ Some work
 first_from first works work rest all is h = ap (slice_get works) (sym (add-zero first)) ∙ h 0 work (ap (λ (ws : List Work). slice_get ws 0) is)
 

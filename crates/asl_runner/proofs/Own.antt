@@ -1,4 +1,4 @@
--- The threads of a worker: each is as many numbers behind the one before it as there are workers.
+-- The threads of a worker: each is as many numbers after the one before it as there are workers.
 use Rattle.std.proofs.Common.{◌≡◌, ◌⊎◌, inl, inr, ℕ, ◌+◌, ◌-◌, ◌*◌, ◌/◌, ◌%◌, ◌<◌, ◌≤◌, ap, ◌∙◌, mod-eq_of_lt, arith}
 use Rattle.std.proofs.lemmas.Bool.{cases_lt}
 use Rattle.std.proofs.Math.Nat.{div-add-mod, mul-add-mod_self_left, mod-lt, mod-le}

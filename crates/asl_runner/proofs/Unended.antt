@@ -8,25 +8,12 @@ use Rattle.asl_code.specs.declared.instr.Instr.TheVariants as instr
 use Rattle.asl_machine.specs.declared.reply.Reply.{Reply}
 use Rattle.asl_machine.specs.declared.reply.Reply.TheVariants as reply
 use Rattle.asl_machine.specs.State.{Thread, Running, Done, Failed, State, activity_of}
-use Rattle.asl_machine.specs.Run.{start_of, state_after}
 use Rattle.asl_machine.specs.Step.{At, Line, StepOf, Step}
-use Rattle.asl_machine.specs.StepFunction.{step_of}
-use Rattle.asl_machine.proofs.Invariant.{length-first_threads}
-use Rattle.asl_machine.proofs.Reached.{step_count}
 use Rattle.asl_journal.specs.declared.event.Event.{Event}
 use Rattle.asl_journal.specs.declared.event.Receipt.{Receipt}
 use Rattle.asl_journal.specs.declared.fault.JournalFault.{JournalFault}
-use Rattle.asl_journal.specs.Journal.{schedule_of}
-use Rattle.asl_journal.specs.Recorded.{Recorded, IsUnchanged, event_of, has_ended, last_state}
+use Rattle.asl_journal.specs.Recorded.{Recorded, IsUnchanged, event_of, has_ended}
 use Rattle.asl_runner.specs.History.{AreRunning, WasRunning}
-
--- a run makes no thread and drops none
-run_count : (image : Image) (schedule : List ℕ) (s : State) → length (state_after image s schedule).threads ≡ length s.threads
-run_count image [] s = refl
-run_count image (t ∷ ts) s = run_count image ts (step_of image s t).state ∙ step_count image s t
-
-pub last_count : (r : Recorded) → length (last_state r).threads ≡ r.count
-last_count r = run_count r.image (schedule_of r.events) (start_of r.image r.count) ∙ length-first_threads r.image r.count
 
 -- no line of the table answers that the thread had ended
 line_runs : (at : At) (i : Instr) (new : State) → Line at i reply.Ended new → ⊥
@@ -47,9 +34,9 @@ was_running image s t r new step runs =
     by_thread (Failed v) is h e = let no : true ≡ false = sym (ap (λ o. is_none (option_and_then activity_of o)) is) ∙ runs in cc
 
 -- a journal with a step more of a thread that has not ended
-pub still_running : (old new : Recorded) (t : ℕ) (r : Result Receipt JournalFault) → has_ended (last_state old) t ≡ false → IfOk r (λ receipt. new.events ≡ old.events ++ event_of receipt ∷ [])
-    → IfOk r (λ receipt. Step old.image (last_state old) t receipt.reply (last_state new)) → OnErr r (IsUnchanged old new) → AreRunning old.events → AreRunning new.events
+pub still_running : (old new : Recorded) (t : ℕ) (r : Result Receipt JournalFault) → has_ended old.state t ≡ false → IfOk r (λ receipt. new.events ≡ old.events ++ event_of receipt ∷ [])
+    → IfOk r (λ receipt. Step old.image old.state t receipt.reply new.state) → OnErr r (IsUnchanged old new) → AreRunning old.events → AreRunning new.events
 still_running old new t (Ok receipt) runs events step same running =
     subst AreRunning (sym events)
-    (All-push (λ (e : Event). WasRunning e.reply) old.events (event_of receipt) running (was_running old.image (last_state old) t receipt.reply (last_state new) step runs))
+    (All-push (λ (e : Event). WasRunning e.reply) old.events (event_of receipt) running (was_running old.image old.state t receipt.reply new.state step runs))
 still_running old new t (Err fault) runs events step same running = subst AreRunning (sym same.events) running

@@ -51,7 +51,7 @@ unset [] t e = cc
 unset (g ∷ going) zero e = cc
 unset (g ∷ going) (suc t) e = unset going t e
 
--- a worker with one ticket and one receipt more, whose thread goes on
+-- a worker with one ticket and one receipt more, whose thread continues
 pub goes_on : (word : Word) (count workers worker : ℕ) (seat new : Turn) (ticket : ℕ) (rs : List Receipt) (r : Receipt) (going : List Bool)
     → IsWorking word count workers worker seat rs going → new ≡ one_more seat ticket → slice_get going r.thread ≡ Some true → r.ended ≡ false
     → IsWorking word count workers worker new (rs ++ r ∷ []) going
@@ -100,7 +100,7 @@ ends word count workers worker seat new ticket rs r going h is goes ended =
       last = last_still rs r h.last (h.untold r.thread goes);
     }
 
--- a worker none of whose threads goes on was told that all have ended
+-- a worker none of whose threads continues was told that all have ended
 pub all_told : (word : Word) (count workers worker : ℕ) (seat : Turn) (rs : List Receipt) (going : List Bool) → IsWorking word count workers worker seat rs going
     → ((t : ℕ) → IsMine count workers worker t → slice_get going t ≢ Some true) → HasStopped word count workers worker seat rs
 all_told word count workers worker seat rs going h none =
@@ -111,7 +111,7 @@ all_told word count workers worker seat rs going h none =
       why = inr (λ t mine. elim (h.each t mine) [ inl is ↦ absurd (none t mine is) | inr told ↦ told ]);
     }
 
--- a worker with one ticket and one receipt more, whose thread goes on no more where the receipt says that it has ended
+-- a worker with one ticket and one receipt more, whose thread no longer continues where the receipt says that it has ended
 pub steps_as : (word : Word) (count workers worker : ℕ) (seat new : Turn) (ticket : ℕ) (rs all : List Receipt) (r : Receipt) (going still : List Bool)
     → IsWorking word count workers worker seat rs going → new ≡ one_more seat ticket → all ≡ rs ++ r ∷ [] → slice_get going r.thread ≡ Some true
     → (r.ended ≡ true → still ≡ set going r.thread false) → (r.ended ≡ false → still ≡ going) → IsWorking word count workers worker new all still
@@ -121,7 +121,7 @@ steps_as word count workers worker seat new ticket rs all r going still h is mor
       | false ↦ λ e. rw (more, goes_so e) (goes_on word count workers worker seat new ticket rs r going h is goes e)
     ] refl
 
--- a worker that has a thread that goes on, and to which a growth is refused: before it draws a ticket, and after that
+-- a worker that has a thread that continues, and to which an allocation fails: before it draws a ticket, and after that
 pub refused_first : (word : Word) (count workers worker t : ℕ) (seat : Turn) (rs : List Receipt) (going : List Bool) → IsWorking word count workers worker seat rs going
     → IsMine count workers worker t → slice_get going t ≡ Some true → WasRefused word count workers worker seat rs
 unfolding WasRefused
@@ -148,7 +148,7 @@ refused_then word count workers worker t seat new ticket rs going h is mine goes
       untold = h.untold t goes;
     }
 
--- what a worker leaves to which a growth was refused
+-- what a worker leaves to which an allocation failed
 pub left_refused : (word : Word) (count workers worker : ℕ) (seat : Turn) (rs : List Receipt) (refused : Bool) → refused ≡ true → WasRefused word count workers worker seat rs
     → HasLeft word count workers worker seat rs refused
 unfolding WasRefused

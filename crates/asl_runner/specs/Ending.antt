@@ -2,7 +2,7 @@
 use Rattle.std.specs.Prelude.{◌≡◌, ◌<◌, ◌≤◌, ◌⊎◌, ◌%◌, ℕ, true, List, length, map, Some, slice_get, sum_by}
 use Rattle.asl_code.specs.declared.image.Image.{Image}
 use Rattle.asl_journal.specs.declared.event.Receipt.{Receipt}
-use Rattle.asl_journal.specs.Journal.{IsJournal, state_at}
+use Rattle.asl_journal.specs.Journal.{IsJournal, LeadsTo}
 use Rattle.asl_runner.specs.History.{AreAllEndsLast, AreRunning}
 use Rattle.asl_runner.specs.declared.report.Report.{Report}
 
@@ -37,7 +37,8 @@ pub record IsRun (image : Image) (count workers limit : ℕ) (report : Report) :
   pub threads : report.journal.threads ≡ count
   pub journal : IsJournal image count report.journal.events
   pub running : AreRunning report.journal.events
-  pub machine : report.machine ≡ record { image = image; state = state_at image count report.journal.events }
+  pub machine : report.machine.image ≡ image
+  pub leads : LeadsTo image count report.journal.events report.machine.state
   pub dealers : length (all_receipts report) ≡ workers
   pub receipts : receipts_in (all_receipts report) ≡ report.tickets
   pub short : report.tickets ≤ limit

@@ -23,6 +23,6 @@ ArePromised word count workers handles = (k : ℕ) (d : PromisedHandle Work Work
 abbrev pub HaveWorked : Word → ℕ → ℕ → List Work → Type 0
 HaveWorked word count workers works = (k : ℕ) (w : Work) → slice_get works k ≡ Some w → HasLeft word count workers k w.seat w.receipts.items w.refused
 
--- to one of the workers a growth was refused
+-- to one of the workers an allocation failed
 abbrev pub IsOneRefused : List Work → Type 0
 IsOneRefused works = (k : ℕ) × (w : Work) × (slice_get works k ≡ Some w) × (w.refused ≡ true)

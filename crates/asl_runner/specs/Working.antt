@@ -7,8 +7,8 @@ use Rattle.asl_journal.specs.declared.event.Receipt.{Receipt}
 use Rattle.asl_runner.specs.History.{AreEndsLast, AreAllEndsLast}
 use Rattle.asl_runner.specs.Ending.{IsMine, IsToldEnded, AllTold, receipts_in}
 
--- a worker between two calls: it has its pass and a receipt for each ticket, and each of its threads goes on or has a receipt
--- that says that it has ended; of a thread that goes on no receipt says so
+-- a worker between two calls: it has its pass and a receipt for each ticket, and each of its threads continues or has a receipt
+-- that says that it has ended; of a thread that continues no receipt says so
 pub record IsWorking (word : Word) (count workers worker : ℕ) (seat : Turn) (receipts : List Receipt) (going : List Bool) : Type 0 where
   pub of : seat.of ≡ word
   pub left : seat.left ≡ 1
@@ -39,18 +39,18 @@ pub record HasWork (word : Word) (count workers worker : ℕ) (seat : Turn) (rec
   pub mine : IsMine count workers worker thread
   pub untold : ¬ IsToldEnded receipts thread
 
--- a worker to which a growth was refused has work left
+-- a worker to which an allocation failed has work left
 unfoldable pub WasRefused : Word → ℕ → ℕ → ℕ → Turn → List Receipt → Type 0
 WasRefused word count workers worker seat receipts = HasWork word count workers worker seat receipts
 
--- what a worker leaves: its seat with its pass, and what it knows when it stops, or when a growth was refused to it
+-- what a worker leaves: its seat with its pass, and what it knows when it stops, or when an allocation of it failed
 pub record HasLeft (word : Word) (count workers worker : ℕ) (seat : Turn) (receipts : List Receipt) (refused : Bool) : Type 0 where
   pub pass : HasPass word seat
   pub stopped : refused ≡ false → HasStopped word count workers worker seat receipts
   pub wanted : refused ≡ true → WasRefused word count workers worker seat receipts
 
 -- workers that have been joined, the first ones, with nothing refused to any: as many receipts as tickets, no receipt of a
--- thread behind one that says that it has ended, and each has all its threads told ended, or a pass is spent
+-- thread after one that says that it has ended, and each has all its threads told ended, or a pass is spent
 pub record AreJoined (count workers : ℕ) (seat : Turn) (all : List (List Receipt)) : Type 0 where
   pub drawn : receipts_in all ≡ length seat.tickets
   pub last : AreAllEndsLast all

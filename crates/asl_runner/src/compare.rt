@@ -4,12 +4,13 @@ ghost use Rattle.asl_journal.specs.Recorded.{has_ended};
 ghost use Rattle.asl_runner.specs.History.{IsRight, IsWrong, entry, entry_of};
 ghost use Rattle.asl_runner.specs.Comparing.{HaveCome, IsNext, TellsTruth};
 
+use crate::limits::MAX_WORKERS;
 use crate::report::Report;
 use asl_journal::{Event, Receipt};
 use asl_machine::Machine;
 
-/// How many workers a run has at most.
-const MAX_WORKERS: usize = 8;
+/// For how many workers there is a place.
+const PLACES: usize = MAX_WORKERS as usize;
 
 /// A worker with wrong receipts: the first of which the journal shows it, or else one that has receipts left over.
 pub fn wrong_worker(report: &Report, workers: u8) -> Option<u8>
@@ -22,7 +23,7 @@ pub fn wrong_worker(report: &Report, workers: u8) -> Option<u8>
         (λ worker. (worker < workers) × ((mine : _) → slice_get report.now.receipts.items worker ≡ Some mine
         → IsWrong workers worker report.now.machine.state report.now.journal.events mine.items)) }
 {
-    let mut next = [0; MAX_WORKERS];
+    let mut next = [0; PLACES];
     for (index, event) in report.journal.events().iter().enumerate() {
         let worker = event.thread % workers;
         let at: usize = next[usize::from(worker)];
@@ -36,7 +37,7 @@ pub fn wrong_worker(report: &Report, workers: u8) -> Option<u8>
 }
 
 /// A worker that has more receipts than events, by how many of them are those of its events.
-fn left_over(report: &Report, workers: u8, next: &[usize; MAX_WORKERS]) -> Option<u8>
+fn left_over(report: &Report, workers: u8, next: &[usize; PLACES]) -> Option<u8>
     requires few { workers ≤ 8 }
     requires receipts { vec_len report.now.receipts ≡ workers }
     requires come { HaveCome workers report.now.machine.state report.now.journal.events report.now.receipts.items next.now (length report.now.journal.events) }

@@ -15,7 +15,7 @@ pub enum RunFault {
     /// A worker's thread was not started.
     #[error("Spawn")]
     Spawn,
-    /// A growth was refused.
+    /// An allocation failed.
     #[error("OutOfMemory")]
     OutOfMemory,
 }

@@ -9,7 +9,7 @@ use asl_journal::Receipt;
 use asl_turns::{TurnSeat, Turns};
 use std::alloc::Global;
 
-/// What the workers have left: their receipts, and whether a growth was refused to one of them.
+/// What the workers have left: their receipts, and whether an allocation of one of them failed.
 #[derive(Drop)]
 pub struct Gathered {
     pub receipts: Vec<Vec<Receipt>>,

@@ -5,6 +5,7 @@ mod compare;
 mod fault;
 mod gate;
 mod gathering;
+mod limits;
 mod locked;
 mod report;
 mod running;
@@ -13,5 +14,6 @@ mod worker;
 
 pub use fault::RunFault;
 pub use gate::Gate;
+pub use limits::MAX_WORKERS;
 pub use report::Report;
 pub use running::run;

@@ -1,8 +1,8 @@
 //! The machine and its journal under the lock.
 ghost use Rattle.std.specs.Prelude.{◌≡◌, ◌↔◌, ◌⊎◌, ◌<◌, ◌++◌, ◌∷◌, [], true, false, length, IfOk, IfErr, IsErrOf, OnErr};
 ghost use Rattle.asl_machine.specs.WellFormed.{MayWantMemory};
-ghost use Rattle.asl_journal.specs.Journal.{IsJournal, most_events, state_at};
-ghost use Rattle.asl_journal.specs.Recorded.{IsUnchanged, event_of, has_ended, last_state};
+ghost use Rattle.asl_journal.specs.Journal.{IsJournal, LeadsTo, most_events};
+ghost use Rattle.asl_journal.specs.Recorded.{IsUnchanged, event_of, has_ended};
 ghost use Rattle.asl_runner.specs.History.{AreRunning};
 
 use asl_journal::{Journal, JournalFault, Journaled, Receipt};
@@ -64,12 +64,12 @@ impl<'p, J: Named> Locked<'p, J> {
         ensures thread { IfOk result (λ receipt. receipt.thread ≡ t) }
         ensures event { IfOk result (λ receipt. self.new.journaled.events ≡ self.old.journaled.events ++ event_of receipt ∷ []) }
         ensures index { IfOk result (λ receipt. receipt.index ≡ length self.old.journaled.events) }
-        ensures ended { IfOk result (λ receipt. receipt.ended ≡ has_ended (last_state self.new.journaled) t) }
-        ensures gone { IsErrOf result JournalFault.BadThread ↔ (has_ended (last_state self.old.journaled) t ≡ true) }
+        ensures ended { IfOk result (λ receipt. receipt.ended ≡ has_ended self.new.journaled.state t) }
+        ensures gone { IsErrOf result JournalFault.BadThread ↔ (has_ended self.old.journaled.state t ≡ true) }
         ensures full { IsErrOf result JournalFault.JournalFull
-            ↔ ((has_ended (last_state self.old.journaled) t ≡ false) × (length self.old.journaled.events ≡ most_events)) }
+            ↔ ((has_ended self.old.journaled.state t ≡ false) × (length self.old.journaled.events ≡ most_events)) }
         ensures memory { IsErrOf result JournalFault.OutOfMemory
-            → (self.old.journaled.spare ≡ 0) ⊎ MayWantMemory J.image (last_state self.old.journaled) t }
+            → (self.old.journaled.spare ≡ 0) ⊎ MayWantMemory J.image self.old.journaled.state t }
         ensures other { IfErr result (λ fault. (fault ≡ JournalFault.JournalFull) ⊎ (fault ≡ JournalFault.BadThread)
             ⊎ (fault ≡ JournalFault.OutOfMemory)) }
         ensures err { OnErr result (IsUnchanged self.old.journaled self.new.journaled) }
@@ -86,7 +86,8 @@ impl<'p, J: Named> Locked<'p, J> {
         ensures threads { result.0.threads ≡ J.count }
         ensures journal { IsJournal J.image J.count result.0.events }
         ensures running { AreRunning result.0.events }
-        ensures machine { result.1 ≡ record { image = J.image; state = state_at J.image J.count result.0.events } }
+        ensures image { result.1.image ≡ J.image }
+        ensures leads { LeadsTo J.image J.count result.0.events result.1.state }
     {
         let Locked { journaled, of: _ } = self;
         journaled.into_parts()

@@ -1,6 +1,6 @@
 //! The run: a machine of the program under a lock, and workers that step it.
 ghost use Rattle.std.specs.Prelude.{◌≡◌, ◌<◌, ◌≤◌, ◌⊎◌, [], map, length, IfOk, IfErr, OnOk};
-ghost use Rattle.asl_journal.specs.Journal.{state_at};
+ghost use Rattle.asl_journal.specs.Journal.{LeadsTo};
 ghost use Rattle.asl_runner.specs.History.{AreAllEndsLast, AreAllTrue, AreRunning, HaveEnded, IsAsked, IsHistory};
 ghost use Rattle.asl_runner.specs.Refused.{IsRefusal};
 ghost use Rattle.asl_runner.specs.Ending.{AreAllTold, IsRun};
@@ -9,6 +9,7 @@ use crate::compare::wrong_worker;
 use crate::fault::RunFault;
 use crate::gate::Gate;
 use crate::gathering::{gather, seats};
+use crate::limits::MAX_WORKERS;
 use crate::locked::{Locked, Named};
 use crate::report::Report;
 use crate::starting::start;
@@ -19,9 +20,6 @@ use std::alloc::Global;
 use std::marker::Brand;
 use std::sync::{Mutex, Wait};
 use std::thread::Threads;
-
-/// How many workers there are at most.
-const MAX_WORKERS: u32 = 8;
 
 /// How many steps a run makes at most: as many as a journal has events.
 const MAX_STEPS: u64 = MAX_EVENTS as u64;
@@ -35,7 +33,7 @@ const MAX_STEPS: u64 = MAX_EVENTS as u64;
 /// # Errors
 ///
 /// `BadCount` where n is not 1 to as many as the program's version sets, workers not 1 to 8, or limit above 16,777,216. `Spawn`
-/// and `OutOfMemory` where a start or a growth was refused; no worker runs any more then. `Receipt(worker)`, with the report,
+/// and `OutOfMemory` where a thread could not be started or an allocation failed; no worker runs any more then. `Receipt(worker)`, with the report,
 /// where that worker's receipts are not the journal's entries of its threads, or one says that a thread has ended that has not.
 pub fn run<'p, R: Threads + Wait + Sync, G: Gate>(
     rt: &R,
@@ -49,14 +47,15 @@ pub fn run<'p, R: Threads + Wait + Sync, G: Gate>(
     ensures asked { OnOk result (IsAsked program.now n workers limit) }
     ensures threads { IfOk result (λ report. report.journal.threads ≡ n) }
     ensures history { IfOk result (λ report. IsHistory program.now n workers report.journal.events (map (λ mine. mine.items) report.receipts.items)) }
-    ensures told { IfOk result (λ report. AreAllTrue (state_at program.now n report.journal.events) (map (λ mine. mine.items) report.receipts.items)) }
+    ensures told { IfOk result (λ report. AreAllTrue report.machine.state (map (λ mine. mine.items) report.receipts.items)) }
     ensures last { IfOk result (λ report. AreAllEndsLast (map (λ mine. mine.items) report.receipts.items)) }
     ensures ends { IfOk result (λ report. AreAllTold n workers (map (λ mine. mine.items) report.receipts.items) ⊎ (report.tickets ≡ limit)) }
     ensures running { IfOk result (λ report. AreRunning report.journal.events) }
-    ensures machine { IfOk result (λ report. report.machine ≡ record { image = program.now; state = state_at program.now n report.journal.events }) }
+    ensures machine { IfOk result (λ report. report.machine.image ≡ program.now) }
+    ensures leads { IfOk result (λ report. LeadsTo program.now n report.journal.events report.machine.state) }
     ensures tickets { IfOk result (λ report. length report.journal.events ≡ report.tickets) }
     ensures limit { IfOk result (λ report. report.tickets ≤ limit) }
-    ensures end { IfOk result (λ report. HaveEnded (state_at program.now n report.journal.events) n ⊎ (report.tickets ≡ limit)) }
+    ensures end { IfOk result (λ report. HaveEnded report.machine.state n ⊎ (report.tickets ≡ limit)) }
     ensures refused { IfErr result (λ refusal. IsRefusal program.now n workers limit refusal.0 refusal.1) }
 {
     let threads = program.limits().threads;

@@ -61,7 +61,7 @@ pub fn start<R: Threads + Wait + Sync, S: Steps, G: Gate>(
     )
 }
 
-/// Starts the threads of the workers, one for each seat, and adds their handles, for which there is room.
+/// Starts the threads of the workers, one for each seat, and adds their handles, for which there is capacity.
 fn start_workers<'s, E, R: Wait + Sync, S: Steps, G: Gate>(
     scope: &Scope<'s, E>,
     rt: &'s R,

@@ -38,7 +38,7 @@ pub struct Working {
     pub from: u32,
 }
 
-/// What a worker leaves when it stops, and whether a growth was refused to it.
+/// What a worker leaves when it stops, and whether an allocation of it failed.
 #[derive(Drop)]
 pub struct Work {
     pub seat: TurnSeat,
@@ -46,7 +46,7 @@ pub struct Work {
     pub refused: bool,
 }
 
-/// How a worker goes on after a call.
+/// How a worker continues after a call.
 #[derive(Clone, Copy, Drop)]
 enum Next {
     GoOn,
@@ -54,7 +54,7 @@ enum Next {
     Refused,
 }
 
-/// The first of the worker's threads from low, which is one, to below high that goes on.
+/// The first of the worker's threads from low, which is one, to below high that continues.
 fn first_going(post: Post, going: &[bool; MAX_THREADS], low: u32, high: u32) -> Option<u8>
     requires high { high ≤ newest_threads }
     requires at { IsAt post }
@@ -73,7 +73,7 @@ fn first_going(post: Post, going: &[bool; MAX_THREADS], low: u32, high: u32) -> 
     None
 }
 
-/// A thread of the worker that goes on, in turn from the number on.
+/// A thread of the worker that continues, in turn from the number on.
 #[tactic(auto, using(crate::proofs::Own::none_before, crate::proofs::Own::own_first))]
 fn next_thread(post: Post, going: &[bool; MAX_THREADS], from: u32) -> Option<u8>
     requires at { IsAt post }
@@ -131,7 +131,7 @@ fn turn<R: Wait, S: Steps, G: Gate>(
     Next::GoOn
 }
 
-/// A thread of which the receipt says that it has ended goes on no more.
+/// A thread of which the receipt says that it has ended no longer continues.
 fn note_end(going: &mut [bool; MAX_THREADS], receipt: &Receipt)
     requires { receipt.now.thread < newest_threads }
     ensures ended { receipt.now.ended ≡ true → going.new ≡ set going.old receipt.now.thread false }
@@ -143,7 +143,7 @@ fn note_end(going: &mut [bool; MAX_THREADS], receipt: &Receipt)
 }
 
 /// What the step of the thread answered. Where the journal is full, or the thread had ended, it is a receipt that no journal
-/// has, and the thread goes on no more.
+/// has, and the thread no longer continues.
 fn stepped<R: Wait, S: Steps>(rt: &R, alloc: Global, steps: &S, thread: u8) -> Option<Receipt>
     requires { thread < S.count }
     ensures { MatchOption result (Unit {0}) (λ receipt. receipt.thread ≡ thread) }
@@ -160,7 +160,7 @@ fn stepped<R: Wait, S: Steps>(rt: &R, alloc: Global, steps: &S, thread: u8) -> O
     }
 }
 
-/// Works until all threads of the worker have ended, no ticket is left, or a growth is refused.
+/// Works until all threads of the worker have ended, no ticket is left, or an allocation fails.
 #[tactic(auto, using(crate::proofs::Own::own_first))]
 pub fn run_worker<R: Wait, S: Steps, G: Gate>(
     rt: &R,
@@ -192,7 +192,7 @@ pub fn run_worker<R: Wait, S: Steps, G: Gate>(
     unreachable!()
 }
 
-/// All threads go on.
+/// All threads continue.
 fn all_going() -> [bool; MAX_THREADS]
     ensures count { length result ≡ newest_threads }
     ensures each { (t : ℕ) → t < newest_threads → slice_get result t ≡ Some true }

@@ -128,8 +128,8 @@ impl Calls {
 }
 
 /// A gate that remembers for each of the first eight calls of two workers its number, as it was told before it, and the number
-/// of the event that it was handed behind it, from 1; and how often it was called for any other call, or before one that it had
-/// been called behind.
+/// of the event that it was handed after it, from 1; and how often it was called for any other call, or before one that it had
+/// been called after.
 #[derive(Drop)]
 struct Witness {
     called: Calls,
@@ -152,7 +152,7 @@ impl Witness {
     }
 
     /// Whether it was told of a call before each of the worker's receipts, and handed the receipts, one by one, and nothing
-    /// behind them.
+    /// after them.
     fn has_seen(&self, worker: u8, receipts: &[Receipt]) -> bool {
         for (place, call) in (0..8usize).zip(1..=8u64) {
             let receipt = receipts.get(place);
@@ -333,7 +333,7 @@ fn one_thread_of_several_workers_is_stepped_by_the_first(rt: HostRuntime) -> Res
     Ok(())
 }
 
-/// Whether the gate was told of each call of the report's two workers before it, and handed its receipt behind it, and nothing
+/// Whether the gate was told of each call of the report's two workers before it, and handed its receipt after it, and nothing
 /// else, and there are so many.
 fn is_seen(gate: &Witness, report: &Report<'_>, events: u64) -> bool {
     let mut count: usize = 0;

@@ -121,7 +121,7 @@ module _ (l : Lowered) (c : Classed) (image : Image) (made : IsImageOf l c image
   line_agrees (instr.Equals x y z) reply.Ran new at here legal (inl e) = sets x _ new tt e.sets
   line_agrees (instr.Equals x y z) reply.Ran new at here legal (inr e) = sets x _ new tt e.sets
   line_agrees (instr.GlobalAddress x g) reply.Ran new at here legal e =
-      sets x (Addr g 0) new (globes x g (h.sound.fits.instr_fits a.top.function a.top.pc h.placed.function (instr.GlobalAddress x g) h.placed.lies here).1 legal) e
+      sets x (Addr g 0) new (globes x g (h.sound.fits.instr_fits a.top.function a.top.pc h.placed.function (instr.GlobalAddress x g) h.placed.lies here).1.0 legal) e
   line_agrees (instr.FieldAddress x y d) reply.Ran new at here legal e = sets x _ new (fields x y e.cell (e.cell.offset + d) legal e.reads_address) e.sets
   line_agrees (instr.Load x y) reply.Ran new at here legal e = sets x e.value new (loads x y e.cell e.value legal e.reads_address e.there) e.sets
   line_agrees (instr.Store x y) reply.Ran new at here legal e = stores x y e.cell e.value new legal e.reads_address e.reads_value e.goes_on

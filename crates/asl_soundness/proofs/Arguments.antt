@@ -4,7 +4,7 @@ use Rattle.std.specs.Prelude.{option_and_then}
 use Rattle.asl_code.proofs.Told.{slice_get-drop}
 use Rattle.asl_code.specs.declared.value.Value.{Value}
 use Rattle.asl_code.specs.declared.value.Value.TheVariants.{Int}
-use Rattle.asl_lock_expr.specs.Expression.{pointed}
+use Rattle.asl_expression.specs.Expression.{pointed}
 use Rattle.asl_machine.specs.Calls.{first_registers, values_from}
 use Rattle.asl_machine.proofs.Lists.{get_before, replicated}
 use Rattle.asl_soundness.proofs.Protecting.{get_within}

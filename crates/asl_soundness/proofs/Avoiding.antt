@@ -14,9 +14,9 @@ use Rattle.asl_code.specs.declared.lock.Lock.TheVariants as lock
 use Rattle.asl_code.specs.declared.path.Op.{Op}
 use Rattle.asl_code.specs.declared.path.Op.TheVariants.{Deref, Off}
 use Rattle.asl_points_to.specs.Classes.{Classed}
-use Rattle.asl_lock_expr.specs.Expression.{cell_of, pointed, walked, path_cell, base_cell, cell_denoted}
+use Rattle.asl_expression.specs.Expression.{cell_of, pointed, walked, path_cell, base_cell, cell_denoted}
 use Rattle.asl_lock_expr.specs.Links.{IsOne, prefixes}
-use Rattle.asl_lock_expr.proofs.Walks.{path_append, star_reads, moved_stays}
+use Rattle.asl_expression.proofs.Paths.{path_append, star_reads, moved_stays}
 use Rattle.asl_machine.specs.State.{Activity, State, cell_at, class_of, activity_at}
 use Rattle.asl_machine.specs.Cover.{Cover, cover, is_fresh, Allows}
 use Rattle.asl_machine.specs.Request.{heap_of}

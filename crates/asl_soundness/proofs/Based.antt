@@ -47,7 +47,7 @@ dereferenced_there c (lock.Class x effect) there = none_there c
 dereferenced_there c (lock.Expr e effect) there = prefixes_there c e.base [] e.path there
 
 named : (l : Lowered) (c : Classed) (registers : ℕ) (i : Instr) → length c.globals ≡ l.globals → HasOperands l registers i → GlobalsThere c i
-named l c registers (instr.GlobalAddress a g) same has = subst (λ n. g < n) (sym same) has.1
+named l c registers (instr.GlobalAddress a g) same has = subst (λ n. g < n) (sym same) has.1.0
 named l c registers i same has = tt
 
 module _ (l : Lowered) (c : Classed) (stores : ℕ → ℕ → Bool) (k_limit : ℕ) (lay : HasLayout l) (legal : IsLegal l c) where

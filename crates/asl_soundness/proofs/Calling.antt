@@ -19,10 +19,10 @@ use Rattle.asl_lower.specs.Lowered.{Lowered}
 use Rattle.asl_lower.specs.Region.{open_at, start_of}
 use Rattle.asl_lower.specs.Regions.{Region, Body, Inside, IsIn, outermost}
 use Rattle.asl_points_to.specs.Classes.{Classed}
-use Rattle.asl_lock_expr.specs.Expression.{pointed, path_cell, base_cell}
+use Rattle.asl_expression.specs.Expression.{pointed, path_cell, base_cell}
 use Rattle.asl_lock_expr.specs.ClassOf.{MayStore, ByCall, base_class}
 use Rattle.asl_lock_expr.specs.Links.{view, IsOne, on, is_register, goes_through, renamed, renamed_on}
-use Rattle.asl_lock_expr.proofs.Paths.{no_cell_from_none}
+use Rattle.asl_expression.proofs.Paths.{no_cell_from_none}
 use Rattle.asl_lock_expr.proofs.Leaves.{call_leaves}
 use Rattle.asl_backward_flow.specs.Closed.{Family}
 use Rattle.asl_machine.specs.State.{Object, Frame, Activity, State, cell_at, class_of, written}

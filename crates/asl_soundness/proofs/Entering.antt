@@ -15,7 +15,7 @@ use Rattle.asl_lock_forest.specs.declared.node.Node.{Node}
 use Rattle.asl_lock_forest.specs.declared.node.Node.TheVariants.{Root, Class}
 use Rattle.asl_lock_forest.specs.Holding.{Holding, HoldsNothing, held, grant, covering_mode, Covers}
 use Rattle.asl_lock_forest.proofs.NinePairs.{covered_at, covers_at}
-use Rattle.asl_lock_expr.specs.Expression.{cell_denoted}
+use Rattle.asl_expression.specs.Expression.{cell_denoted}
 use Rattle.asl_lock_expr.specs.Links.{LinkContext, IsOne}
 use Rattle.asl_machine.specs.State.{Object}
 use Rattle.asl_machine.specs.Request.{heap_of, asks_of, request_of, IsAsk}

@@ -14,9 +14,9 @@ use Rattle.asl_code.specs.declared.lock.Lock.TheVariants as lock
 use Rattle.asl_code.specs.declared.path.Op.{Op}
 use Rattle.asl_code.specs.declared.path.Op.TheVariants.{Deref, Off}
 use Rattle.asl_points_to.specs.Classes.{Classed}
-use Rattle.asl_lock_expr.specs.Expression.{cell_of, pointed, moved, path_cell, base_cell, cell_denoted}
+use Rattle.asl_expression.specs.Expression.{cell_of, pointed, moved, path_cell, base_cell, cell_denoted}
 use Rattle.asl_lock_expr.specs.Links.{LinkContext, is_register, replaced}
-use Rattle.asl_lock_expr.proofs.Walks.{start_there, first_step, star_reads, moved_stays}
+use Rattle.asl_expression.proofs.Paths.{start_there, first_step, star_reads, moved_stays}
 use Rattle.asl_machine.specs.State.{Object, cell_at, class_of, new_object}
 use Rattle.asl_machine.specs.Access.{Points, AllPoint}
 use Rattle.asl_machine.specs.Request.{heap_of}

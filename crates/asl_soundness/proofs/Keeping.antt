@@ -21,7 +21,7 @@ use Rattle.asl_lock_forest.proofs.NinePairs.{covered_at, covers_at, node_at}
 use Rattle.asl_lower.specs.Lowered.{Lowered}
 use Rattle.asl_lower.specs.Regions.{Region}
 use Rattle.asl_points_to.specs.Classes.{Classed}
-use Rattle.asl_lock_expr.specs.Expression.{cell_denoted}
+use Rattle.asl_expression.specs.Expression.{cell_denoted}
 use Rattle.asl_lock_expr.specs.Links.{view, IsOne, prefixes}
 use Rattle.asl_lock_expr.proofs.Leaves.{call_leaves, prefix_left}
 use Rattle.asl_backward_flow.specs.Closed.{Family, IsClosed}

@@ -18,7 +18,7 @@ use Rattle.asl_mode_lanes.proofs.ModeLaws.{at_most_refl}
 use Rattle.asl_lock_forest.specs.Holding.{Holding, held}
 use Rattle.asl_lower.specs.Lowered.{Lowered}
 use Rattle.asl_points_to.specs.Classes.{Classed}
-use Rattle.asl_lock_expr.specs.Expression.{pointed}
+use Rattle.asl_expression.specs.Expression.{pointed}
 use Rattle.asl_lock_expr.specs.Links.{LinkContext, view, replaced, before, link}
 use Rattle.asl_machine.specs.declared.reply.Reply.{Reply}
 use Rattle.asl_machine.specs.declared.reply.Reply.TheVariants as reply
@@ -118,8 +118,8 @@ module _ (l : Lowered) (c : Classed) (stores : ℕ → ℕ → Bool) (k_limit : 
 
   -- every line of the table
   pub line_links : (i : Instr) (r : Reply) (new : State) → FitsInstr image a.top.function h.placed.function (classed c i) → Agrees c new → AllProtected k t s.objects a.top.regs (link v i n) → Line (at_of image s t a) (classed c i) r new → IsBehind new
-  line_links (instr.SetInt x m) reply.Ran new fits agrees all e = number (instr.SetInt x m) x (Int m) new all tt (lt_of x fits) refl (λ d effect. refl) e
-  line_links (instr.SetNull x) reply.Ran new fits agrees all e = number (instr.SetNull x) x Null new all tt (lt_of x fits) refl (λ d effect. refl) e
+  line_links (instr.SetInt x m) reply.Ran new fits agrees all e = number (instr.SetInt x m) x (Int m) new all tt (lt_of x fits.0) refl (λ d effect. refl) e
+  line_links (instr.SetNull x) reply.Ran new fits agrees all e = number (instr.SetNull x) x Null new all tt (lt_of x fits.0) refl (λ d effect. refl) e
   line_links (instr.Add x y z) reply.Ran new fits agrees all e = number (instr.Add x y z) x _ new all tt (lt_of x fits.0) refl (λ d effect. refl) e.sets
   line_links (instr.Subtract x y z) reply.Ran new fits agrees all e = number (instr.Subtract x y z) x _ new all tt (lt_of x fits.0) refl (λ d effect. refl) e.sets
   line_links (instr.LessThan x y z) reply.Ran new fits agrees all (inl e) = number (instr.LessThan x y z) x _ new all tt (lt_of x fits.0) refl (λ d effect. refl) e.sets
@@ -129,7 +129,7 @@ module _ (l : Lowered) (c : Classed) (stores : ℕ → ℕ → Bool) (k_limit : 
   line_links (instr.Move x y) reply.Ran new fits agrees all e =
       linked (instr.Move x y) a.depth (advanced_with x e.value a.top) s.objects new all tt (λ d effect known p. move_row k t s.objects a.top.regs x (lt_of x fits.0) d effect y e.value e.reads_value p) e.sets
   line_links (instr.GlobalAddress x g) reply.Ran new fits agrees all e =
-      linked (instr.GlobalAddress x g) a.depth (advanced_with x (Addr g 0) a.top) s.objects new all (subst (λ xs. g < length xs) made.globals fits.1) (λ d effect known p. global_row k t s.objects a.top.regs x (lt_of x fits.0) d effect g p) e
+      linked (instr.GlobalAddress x g) a.depth (advanced_with x (Addr g 0) a.top) s.objects new all (subst (λ xs. g < length xs) made.globals fits.1.0) (λ d effect known p. global_row k t s.objects a.top.regs x (lt_of x fits.0) d effect g p) e
   line_links (instr.FieldAddress x y m) reply.Ran new fits agrees all e =
       linked (instr.FieldAddress x y m) a.depth (advanced_with x (Addr e.cell.object (e.cell.offset + m)) a.top) s.objects new all tt
       (λ d effect known p. field_row k t s.objects a.top.regs x (lt_of x fits.0) d effect y m e.cell e.size e.reads_address e.sized e.inside p) e.sets

@@ -19,7 +19,7 @@ use Rattle.asl_lock_forest.specs.Holding.{Holding, held, grant, release}
 use Rattle.asl_lower.specs.Lowered.{Lowered}
 use Rattle.asl_lower.specs.Region.{is_acquire, FlowsTo, start_of}
 use Rattle.asl_points_to.specs.Classes.{Classed}
-use Rattle.asl_lock_expr.specs.Expression.{pointed}
+use Rattle.asl_expression.specs.Expression.{pointed}
 use Rattle.asl_lock_expr.specs.ClassOf.{Itself}
 use Rattle.asl_lock_expr.specs.Links.{LinkContext, replaced, before}
 use Rattle.asl_backward_flow.specs.Closed.{Family}
@@ -133,9 +133,9 @@ module _ (l : Lowered) (c : Classed) (stores : ℕ → ℕ → Bool) (k_limit : 
   called_own x first g new at fits e =
       let made = q.program.made in
       let same : e.callee ≡ function_of image g = sym (function_is image g e.callee e.is) in
-      let given : fits.1.0 ≡ e.callee = same_Some fits.1.0 e.callee (sym fits.1.1 ∙ e.is) in
-      let params : (function_of image g).params ≡ fits.1.0.params = ap (λ (f : Function). f.params) (sym same ∙ sym given) in
-      let enough : first + (function_of image g).params ≤ length a.top.regs = (let le = fits.1.2 in let reg = q.here.placed.registers in omega (arith, params, le, reg)) in
+      let given : fits.1.0.0 ≡ e.callee = same_Some fits.1.0.0 e.callee (sym fits.1.0.1 ∙ e.is) in
+      let params : (function_of image g).params ≡ fits.1.0.0.params = ap (λ (f : Function). f.params) (sym same ∙ sym given) in
+      let enough : first + (function_of image g).params ≤ length a.top.regs = (let le = fits.1.0.2 in let reg = q.here.placed.registers in omega (arith, params, le, reg)) in
       let listed : slice_get l.functions g ≡ Some (function_of image g) = ap (λ fs. slice_get fs g) (sym made.functions) ∙ e.is ∙ ap (λ f. Some f) same in
       runs (called image a x first g) s.objects s.holding new
       (calls l c stores k_limit K image s t a q x first g (function_of image g) at listed (a.top.pc + 1) _ (next_is a.top.pc) refl (ap (λ fs. start_of fs g) made.functions)
@@ -158,8 +158,8 @@ module _ (l : Lowered) (c : Classed) (stores : ℕ → ℕ → Bool) (k_limit : 
   -- every line of the table
   pub line_owned : (i : Instr) (r : Reply) (new : State) → slice_get l.code a.top.pc ≡ Some i → FitsInstr image a.top.function q.here.placed.function (classed c i) → Agrees c new →
       ((b : Activity) → activity_at new.threads t ≡ Some b → IsNestedAt l b) → Line (at_of image s t a) (classed c i) r new → IsOwned new
-  line_owned (instr.SetInt x n) reply.Ran new at fits agrees nested e = number _ x (Int n) new at (next_is a.top.pc) refl tt (lt_of x fits) refl (λ d effect. refl) e
-  line_owned (instr.SetNull x) reply.Ran new at fits agrees nested e = number _ x Null new at (next_is a.top.pc) refl tt (lt_of x fits) refl (λ d effect. refl) e
+  line_owned (instr.SetInt x n) reply.Ran new at fits agrees nested e = number _ x (Int n) new at (next_is a.top.pc) refl tt (lt_of x fits.0) refl (λ d effect. refl) e
+  line_owned (instr.SetNull x) reply.Ran new at fits agrees nested e = number _ x Null new at (next_is a.top.pc) refl tt (lt_of x fits.0) refl (λ d effect. refl) e
   line_owned (instr.Add x y z) reply.Ran new at fits agrees nested e = number _ x _ new at (next_is a.top.pc) refl tt (lt_of x fits.0) refl (λ d effect. refl) e.sets
   line_owned (instr.Subtract x y z) reply.Ran new at fits agrees nested e = number _ x _ new at (next_is a.top.pc) refl tt (lt_of x fits.0) refl (λ d effect. refl) e.sets
   line_owned (instr.LessThan x y z) reply.Ran new at fits agrees nested (inl e) = number _ x _ new at (next_is a.top.pc) refl tt (lt_of x fits.0) refl (λ d effect. refl) e.sets
@@ -169,7 +169,7 @@ module _ (l : Lowered) (c : Classed) (stores : ℕ → ℕ → Bool) (k_limit : 
   line_owned (instr.Move x y) reply.Ran new at fits agrees nested e =
       sets (instr.Move x y) x e.value new at (next_is a.top.pc) refl tt (λ d effect there all. move_row (cover s.holding a.fresh) t s.objects a.top.regs x (lt_of x fits.0) d effect y e.value e.reads_value all) e.sets
   line_owned (instr.GlobalAddress x g) reply.Ran new at fits agrees nested e =
-      sets (instr.GlobalAddress x g) x (Addr g 0) new at (next_is a.top.pc) refl (subst (λ xs. g < length xs) q.program.made.globals fits.1) (λ d effect there all. global_row (cover s.holding a.fresh) t s.objects a.top.regs x (lt_of x fits.0) d effect g all) e
+      sets (instr.GlobalAddress x g) x (Addr g 0) new at (next_is a.top.pc) refl (subst (λ xs. g < length xs) q.program.made.globals fits.1.0) (λ d effect there all. global_row (cover s.holding a.fresh) t s.objects a.top.regs x (lt_of x fits.0) d effect g all) e
   line_owned (instr.FieldAddress x y n) reply.Ran new at fits agrees nested e =
       sets (instr.FieldAddress x y n) x (Addr e.cell.object (e.cell.offset + n)) new at (next_is a.top.pc) refl tt
       (λ d effect there all. field_row (cover s.holding a.fresh) t s.objects a.top.regs x (lt_of x fits.0) d effect y n e.cell e.size e.reads_address e.sized e.inside all) e.sets

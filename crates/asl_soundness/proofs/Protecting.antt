@@ -16,11 +16,12 @@ use Rattle.asl_mode_lanes.specs.Mode.{is_at_most}
 use Rattle.asl_lock_forest.specs.declared.node.Node.TheVariants.{Root, Class, Leaf}
 use Rattle.asl_lock_forest.specs.Holding.{held, covering_mode}
 use Rattle.asl_points_to.specs.Classes.{Classed, to}
-use Rattle.asl_lock_expr.specs.Expression.{cell_of, pointed, path_cell, base_cell, cell_denoted}
+use Rattle.asl_expression.specs.Expression.{cell_of, pointed, path_cell, base_cell, cell_denoted}
 use Rattle.asl_lock_expr.specs.ClassOf.{class_of as expr_class, base_class, path_class}
 use Rattle.asl_lock_expr.specs.Links.{LinkContext, IsOne, settled, settle}
 use Rattle.asl_lock_expr.proofs.Ones.{one_left, one_right}
-use Rattle.asl_lock_expr.proofs.Walks.{class_along, value_class, start_there}
+use Rattle.asl_expression.proofs.Paths.{start_there}
+use Rattle.asl_lock_expr.proofs.Walks.{class_along, value_class}
 use Rattle.asl_machine.specs.State.{Object, class_of}
 use Rattle.asl_machine.specs.Request.{heap_of}
 use Rattle.asl_machine.specs.Cover.{is_fresh, Cover, Allows}

@@ -12,9 +12,9 @@ use Rattle.asl_code.specs.declared.lock.Expr.{Expr}
 use Rattle.asl_code.specs.declared.lock.Lock.{Lock}
 use Rattle.asl_code.specs.declared.lock.Lock.TheVariants as lock
 use Rattle.asl_code.specs.declared.path.Op.TheVariants.{Deref, Off}
-use Rattle.asl_lock_expr.specs.Expression.{cell_of, pointed, moved, path_cell, base_cell}
+use Rattle.asl_expression.specs.Expression.{cell_of, pointed, moved, path_cell, base_cell}
 use Rattle.asl_lock_expr.specs.Links.{on, is_register, replaced}
-use Rattle.asl_lock_expr.proofs.Paths.{no_cell_from_none}
+use Rattle.asl_expression.proofs.Paths.{no_cell_from_none}
 use Rattle.asl_machine.specs.State.{Object, cell_at, size_of}
 use Rattle.asl_machine.specs.Request.{heap_of}
 use Rattle.asl_machine.specs.Cover.{Cover}

@@ -15,12 +15,13 @@ use Rattle.asl_code.specs.declared.lock.Expr.{Expr}
 use Rattle.asl_code.specs.declared.lock.Lock.{Lock}
 use Rattle.asl_code.specs.declared.lock.Lock.TheVariants as lock
 use Rattle.asl_points_to.specs.Classes.{to}
-use Rattle.asl_lock_expr.specs.Expression.{pointed, path_cell, base_cell, cell_denoted}
+use Rattle.asl_expression.specs.Expression.{pointed, path_cell, base_cell, cell_denoted}
 use Rattle.asl_lock_expr.specs.ClassOf.{class_of as expr_class, base_class}
 use Rattle.asl_lock_expr.specs.Links.{LinkContext, IsOne, on, class_lock, is_register, begins_with_star, hits, goes_through, prefixes}
 use Rattle.asl_lock_expr.specs.Agrees.{IsWrite}
 use Rattle.asl_lock_expr.proofs.Ones.{one_right}
-use Rattle.asl_lock_expr.proofs.Walks.{start_there, last_hit, not_through}
+use Rattle.asl_expression.proofs.Paths.{start_there}
+use Rattle.asl_lock_expr.proofs.Walks.{last_hit, not_through}
 use Rattle.asl_lock_expr.proofs.Leaves.{not_crossed}
 use Rattle.asl_machine.specs.State.{Object, cell_at, class_of, written}
 use Rattle.asl_machine.specs.Request.{heap_of}

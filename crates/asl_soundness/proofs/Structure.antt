@@ -10,7 +10,7 @@ use Rattle.asl_lower.specs.Lowered.{Lowered}
 use Rattle.asl_lower.specs.Region.{open_at, start_of as body_start, IsBare, Main}
 use Rattle.asl_lower.specs.Facts.{HasLayout}
 use Rattle.asl_points_to.specs.Classes.{Classed, to, inside}
-use Rattle.asl_lock_expr.specs.Expression.{cell_of}
+use Rattle.asl_expression.specs.Expression.{cell_of}
 use Rattle.asl_lock_expr.specs.Agrees.{PointsTo}
 use Rattle.asl_machine.specs.declared.fault.Fault.TheVariants as fault
 use Rattle.asl_machine.specs.declared.reply.Reply.{Reply}

@@ -11,7 +11,7 @@ use Rattle.asl_mode_lanes.specs.Mode.{is_at_most}
 use Rattle.asl_lock_forest.specs.declared.node.Node.TheVariants.{Root, Class}
 use Rattle.asl_lock_forest.specs.Holding.{Holding, held, covering_mode}
 use Rattle.asl_points_to.specs.Classes.{Classed}
-use Rattle.asl_lock_expr.specs.Expression.{cell_denoted}
+use Rattle.asl_expression.specs.Expression.{cell_denoted}
 use Rattle.asl_machine.specs.State.{Object, class_of}
 use Rattle.asl_machine.specs.Request.{heap_of}
 use Rattle.asl_machine.specs.Cover.{Cover, Allows}

@@ -25,7 +25,7 @@ use Rattle.asl_emitter.specs.declared.fault.InferFault.{InferFault}
 use Rattle.asl_emitter.specs.declared.fault.InferFault.TheVariants.{Registers, CodeSize, AccessOutsideSection, TooManyClasses, TooManyLocks, OutOfMemory}
 use Rattle.asl_emitter.specs.Lists.{IsFitted}
 use Rattle.asl_emitter.specs.Inferred.{ClassedProgram, Analysis, IsInferredFor}
-use Rattle.asl_emitter.specs.Refused.{IsLowered, IsAccepted, IsRefused}
+use Rattle.asl_emitter.specs.Refused.{IsLowered, IsAccepted, IsRefusedInference}
 use Rattle.asl_theorems.proofs.Surely.{Surely, surely, then, mapped, either, each_below, least_below, Table, table}
 use Rattle.asl_theorems.proofs.Finest.{surely_classes}
 use Rattle.asl_theorems.proofs.Storing.{surely_stores}
@@ -98,7 +98,7 @@ code_region (Inside s) = (variant.Section s, refl)
 few_or_more : (m n : ℕ) → (m ≤ n) ⊎ (n < m)
 few_or_more m n = grind arith
 
-module _ (source : List ℕ) (is : List Item) (k_limit : ℕ) (parses : Parses source is) (no_image : IsAccepted is k_limit → ⊥) (no_fault : (fault : InferFault) → fault ≢ OutOfMemory → IsRefused is k_limit fault → ⊥) where
+module _ (source : List ℕ) (is : List Item) (k_limit : ℕ) (parses : Parses source is) (no_image : IsAccepted is k_limit → ⊥) (no_fault : (fault : InferFault) → fault ≢ OutOfMemory → IsRefusedInference is k_limit fault → ⊥) where
   abbrev low : Lowered
   low = lowering_of is
 

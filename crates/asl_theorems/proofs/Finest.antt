@@ -197,11 +197,11 @@ module _ (l : Lowered) (h : HasLayout l) where
     legal_at f pc fn (instr.Move a b) there in_body at o = λ x. given f b f a x fn there o.0 (λ d legal. legal.instrs f pc (instr.Move a b) in_body at)
     legal_at f pc fn (instr.FieldAddress a b k) there in_body at o = λ x. given f b f a x fn there o.0 (λ d legal. legal.instrs f pc (instr.FieldAddress a b k) in_body at)
     legal_at f pc fn (instr.GlobalAddress a g) there in_body at o = λ x e.
-        (let low = o.1 in
+        (let low = o.1.0 in
         member_given f a g x fn there o.0 (omega (arith, low)) (global_number g x e)
-        (λ d legal y k. legal.instrs f pc (instr.GlobalAddress a g) in_body at y (sym (global_of d legal g o.1) ∙ k)))
+        (λ d legal y k. legal.instrs f pc (instr.GlobalAddress a g) in_body at y (sym (global_of d legal g o.1.0) ∙ k)))
     legal_at f pc fn (instr.New a m s) there in_body at o = λ x e.
-        (let low = o.2 in
+        (let low = o.1.1.0 in
         member_given f a (l.globals + s) x fn there o.0 (omega (arith, low)) (site_number s x e)
         (λ d legal y k. legal.instrs f pc (instr.New a m s) in_body at y (sym (site_of d legal s) ∙ k)))
     legal_at f pc fn (instr.Load a b) there in_body at o = λ x y e g.

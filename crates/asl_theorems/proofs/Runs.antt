@@ -4,6 +4,8 @@ use Rattle.std.specs.Prelude.{All}
 use Rattle.std.proofs.lemmas.Option.{slice_get_within}
 use Rattle.std.proofs.lemmas.List.Elements.{All-nil, All-cons, All-head, All-tail}
 use Rattle.asl_code.specs.declared.image.Image.{Image}
+use Rattle.asl_code.specs.Verified.{IsVerified}
+use Rattle.asl_code.proofs.FitsLaws.{image_fits}
 use Rattle.asl_code.specs.Fits.{FitsImage}
 use Rattle.asl_machine.specs.declared.reply.Reply.{Reply}
 use Rattle.asl_machine.specs.State.{State}
@@ -11,39 +13,25 @@ use Rattle.asl_machine.specs.Run.{IsThreadCount, IsReached, start_of, state_afte
 use Rattle.asl_machine.specs.Step.{StepOf, Step}
 use Rattle.asl_machine.specs.StepFunction.{step_of}
 use Rattle.asl_machine.proofs.Reached.{reached_sound, reached_count}
-use Rattle.asl_machine.proofs.Runs.{step_reached}
-use Rattle.asl_machine.proofs.Table.{step_is}
+use Rattle.asl_machine.proofs.Runs.{start_reached, step_reached}
 use Rattle.asl_machine.proofs.Unique.{step_only}
 use Rattle.asl_journal.specs.declared.event.Event.{Event}
-use Rattle.asl_journal.specs.Journal.{AreThere, GoesBy, IsJournal, schedule_of, replies_in}
+use Rattle.asl_journal.specs.Journal.{AreThere, LeadsTo, IsJournal, schedule_of, replies_in}
+use Rattle.asl_journal.specs.Computed.{GoesBy}
+use Rattle.asl_journal.proofs.ByTable.{goes_of, journal_of}
 use Rattle.asl_journal.proofs.Runs.{goes_head, goes_tail, goes_cons}
 use Rattle.asl_atomicity.specs.Serial.{TakenStep, IsRun}
 use Rattle.asl_theorems.specs.Journals.{events_of}
 
 -- ---- a journal's steps are a run
 
--- events from a state on, each with the state before it
-abbrev pub steps_from : Image → State → List Event → List TakenStep
-steps_from image s [] = []
-steps_from image s (event ∷ events) =
-    record { before = s; thread = event.thread; reply = event.reply } ∷ steps_from image (step_of image s event.thread).state events
-
-pub events_run : (image : Image) (count : ℕ) (events : List Event) (s : State) → FitsImage image → IsReached image count s → AreThere count events → GoesBy image s events →
-    IsRun image s (steps_from image s events) (state_after image s (schedule_of events))
-events_run image count [] s fits reached there goes = refl
-events_run image count (e ∷ es) s fits reached there goes =
-    let here = All-head (λ (x : Event). x.thread < count) e es there in
-    let next = (step_of image s e.thread).state in (
-      refl,
-      next,
-      subst (λ (r : Reply). Step image s e.thread r next) (sym (goes_head image s e es goes))
-          (step_is image s e.thread (reached_sound image count s fits reached) (subst (λ (n : ℕ). e.thread < n) (sym (reached_count image count s reached)) here)),
-      events_run image count es next fits (step_reached image count s e.thread reached here) (All-tail (λ (x : Event). x.thread < count) e es there) (goes_tail image s e es goes),
-    )
-
-pub same_events : (image : Image) (events : List Event) (s : State) → events ≡ events_of (steps_from image s events)
-same_events image [] s = refl
-same_events image (e ∷ es) s = ap (λ (xs : List Event). e ∷ xs) (same_events image es (step_of image s e.thread).state)
+-- events by the table are those of steps
+pub steps_of : (image : Image) (events : List Event) (s end : State) → RunsBy image s (schedule_of events) (replies_in events) end →
+    (steps : List TakenStep) × IsRun image s steps end × (events ≡ events_of steps)
+steps_of image [] s end e = ([], e, refl)
+steps_of image (event ∷ events) s end runs =
+    let rest = steps_of image events runs.0 end runs.2 in
+    (record { before = s; thread = event.thread; reply = event.reply } ∷ rest.0, (refl, runs.0, runs.1, rest.1), ap (λ (xs : List Event). event ∷ xs) rest.2)
 
 -- ---- a run is a journal's
 
@@ -75,6 +63,12 @@ table_go image count (event ∷ events) s end fits reached e =
       leads = rest.leads;
     }
 
+-- events that lead to a state are a journal of a program
+pub lead_journal : (image : Image) (count : ℕ) (events : List Event) (end : State) → IsVerified image → LeadsTo image count events end → IsJournal image count events
+lead_journal image count events end v leads =
+    let g = table_go image count events (start_of image count) end (image_fits image v) (start_reached image count) leads.runs in
+    record { verified = v; there = g.there; end = end; leads = leads }
+
 -- the events of steps that go by the table go by it
 pub steps_table : (image : Image) (steps : List TakenStep) (s : State) (end : State) → IsRun image s steps end → RunsBy image s (schedule_of (events_of steps)) (replies_in (events_of steps)) end
 steps_table image [] s end e = e
@@ -101,12 +95,9 @@ there_on image count (t ∷ ts) s there =
     All-cons (λ (x : Event). x.thread < count) (record { thread = t; reply = (step_of image s t).reply }) (events_on image (step_of image s t).state ts)
     (All-head (λ u. u < count) t ts there) (there_on image count ts (step_of image s t).state (All-tail (λ u. u < count) t ts there))
 
-pub some_journal : (image : Image) (count : ℕ) (schedule : List ℕ) → IsThreadCount image count → All (λ t. t < count) schedule → IsJournal image count (events_on image (start_of image count) schedule)
-some_journal image count schedule counted there = record {
-  counted = counted;
-  there = there_on image count schedule (start_of image count) there;
-  replies = goes_on image schedule (start_of image count);
-}
+pub some_journal : (image : Image) (count : ℕ) (schedule : List ℕ) → IsVerified image → IsThreadCount image count → All (λ t. t < count) schedule → IsJournal image count (events_on image (start_of image count) schedule)
+some_journal image count schedule v counted there =
+    journal_of image count (events_on image (start_of image count) schedule) v counted (there_on image count schedule (start_of image count) there) (goes_on image schedule (start_of image count))
 
 -- the replies of a journal are those of its schedule
 only_events : (image : Image) (events : List Event) (s : State) → GoesBy image s events → events ≡ events_on image s (schedule_of events)
@@ -117,4 +108,4 @@ only_events image (e ∷ es) s goes =
 
 pub one_journal : (image : Image) (count : ℕ) (events others : List Event) → IsJournal image count events → IsJournal image count others → schedule_of events ≡ schedule_of others → events ≡ others
 one_journal image count events others p q same =
-    only_events image events (start_of image count) p.replies ∙ ap (events_on image (start_of image count)) same ∙ sym (only_events image others (start_of image count) q.replies)
+    only_events image events (start_of image count) (goes_of image count events p) ∙ ap (events_on image (start_of image count)) same ∙ sym (only_events image others (start_of image count) (goes_of image count others q))

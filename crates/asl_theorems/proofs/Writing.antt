@@ -33,12 +33,13 @@ use Rattle.asl_machine.proofs.Reached.{reached_sound, reached_count}
 use Rattle.asl_machine.proofs.Runs.{start_reached, step_reached}
 use Rattle.asl_machine.proofs.Table.{step_is}
 use Rattle.asl_code.specs.Fits.{FitsImage}
-use Rattle.asl_code.specs.Verified.{IsVerified}
 use Rattle.asl_code.proofs.FitsLaws.{image_fits}
 use Rattle.asl_code.proofs.Versions.{few_threads}
 use Rattle.asl_journal.specs.declared.event.Event.{Event}
 use Rattle.asl_journal.specs.Bytes.{IsReply, IsEvent, HasBytes}
-use Rattle.asl_journal.specs.Journal.{Log, AreThere, GoesBy, IsJournal, most_events}
+use Rattle.asl_journal.specs.Journal.{Log, AreThere, IsJournal, most_events}
+use Rattle.asl_journal.specs.Computed.{GoesBy}
+use Rattle.asl_journal.proofs.ByTable.{goes_of}
 use Rattle.asl_journal.proofs.Runs.{goes_head, goes_tail}
 use Rattle.std.proofs.lemmas.List.Elements.{All-head, All-tail}
 use Rattle.asl_theorems.proofs.Surely.{get_last}
@@ -244,7 +245,7 @@ module _ (at : At) (v : StateFits at.state) (a : ActivityFits at.activity) (few 
   zero_fits = small_fits 0 (omega arith)
 
   pub line_fits : (i : Instr) (r : Reply) (new : State) → IsInstr i → Line at i r new → Fine r new
-  line_fits (instr.SetInt to number) reply.Ran new is h = (tt, set_state at v a to (Int number) new is.1 h)
+  line_fits (instr.SetInt to number) reply.Ran new is h = (tt, set_state at v a to (Int number) new is.1.0 h)
   line_fits (instr.SetNull to) reply.Ran new is h = (tt, set_state at v a to Null new tt h)
   line_fits (instr.Move to from) reply.Ran new is h = (tt, set_state at v a to h.value new (a.top from h.value h.reads_value) h.sets)
   line_fits (instr.Add to left right) reply.Ran new is h =
@@ -274,7 +275,7 @@ module _ (at : At) (v : StateFits at.state) (a : ActivityFits at.activity) (few 
   line_fits (instr.Store address from) (reply.Fault (fault.Unprotected cell effect)) new is h = unprotected_fine address cell _ effect new h
   line_fits (instr.New to cells class) reply.Ran new is h = (
     tt,
-    subst StateFits (sym h.makes) (thread_set at.state at.thread _ (at.state.objects ++ new_object class cells ∷ []) at.state.holding v (made_fits at.state.objects cells class is.1 v.objects)
+    subst StateFits (sym h.makes) (thread_set at.state at.thread _ (at.state.objects ++ new_object class cells ∷ []) at.state.holding v (made_fits at.state.objects cells class is.1.0 v.objects)
         (record { top = set_fits at.activity.top.regs to (Addr (length at.state.objects) 0) a.top tt; below = a.below })),
   )
   line_fits (instr.New to cells class) (reply.Fault fault.Full) new is h = (tt, fail_state at v a fault.Full new h.1)
@@ -374,12 +375,12 @@ module _ (image : Image) (code : AllByRecursion IsInstr image.code) (fits : Fits
   start_fits le = record { objects = globals_fit image.globals; threads = first_fit count le }
 
 -- the bytes of a journal of a program that bytes spell
-pub journal_bytes : (image : Image) (log : Log) → IsVerified image → AllByRecursion IsInstr image.code → IsJournal image log.threads log.events → length log.events ≤ most_events → HasBytes log
-journal_bytes image log verified code j short =
-    let fits = image_fits image verified in
+pub journal_bytes : (image : Image) (log : Log) → AllByRecursion IsInstr image.code → IsJournal image log.threads log.events → length log.events ≤ most_events → HasBytes log
+journal_bytes image log code j short =
+    let fits = image_fits image j.verified in
     let few = few_threads image.version in
-    let counted = j.counted in
+    let counted = j.leads.counted in
     record {
       is_log = record { count = (counted.0, omega (arith, few, counted)); short = short; there = j.there };
-      each = events_fit image code fits log.threads log.events (start_of image log.threads) (start_reached image log.threads) (start_fits image code fits log.threads (omega (arith, few, counted))) j.there j.replies;
+      each = events_fit image code fits log.threads log.events (start_of image log.threads) (start_reached image log.threads) (start_fits image code fits log.threads (omega (arith, few, counted))) j.there (goes_of image log.threads log.events j);
     }

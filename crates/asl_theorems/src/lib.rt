@@ -22,7 +22,7 @@ ghost use Rattle.asl_machine.specs.Run.{IsThreadCount, start_of};
 ghost use Rattle.asl_machine.specs.Fresh.{AreApart};
 ghost use Rattle.asl_machine.specs.World.{SomeoneGoesOn};
 ghost use Rattle.asl_emitter.specs.Inferred.{IsInferred, IsInferredFor};
-ghost use Rattle.asl_emitter.specs.Refused.{IsAccepted, IsRefused};
+ghost use Rattle.asl_emitter.specs.Refused.{IsAccepted, IsRefusedInference};
 ghost use Rattle.asl_emitter.specs.declared.fault.InferFault.{InferFault};
 ghost use Rattle.asl_emitter.specs.declared.fault.InferFault.TheVariants.{OutOfMemory};
 ghost use Rattle.asl_assembler.specs.Text.{Spells};
@@ -30,12 +30,13 @@ ghost use Rattle.asl_assembler.specs.Canonical.{canonical_text};
 ghost use Rattle.asl_loader.specs.Bytes.{SpellsImage, text_of};
 ghost use Rattle.asl_journal.specs.declared.event.Event.{Event};
 ghost use Rattle.asl_journal.specs.Bytes.{SpellsLog, log_fields};
-ghost use Rattle.asl_journal.specs.Journal.{Log, IsJournal, most_events, schedule_of, replies_in, state_at};
+ghost use Rattle.asl_journal.specs.Journal.{Log, LeadsTo, IsJournal, most_events, schedule_of, replies_in};
+ghost use Rattle.asl_journal.specs.Computed.{state_at};
 ghost use Rattle.asl_soundness.specs.Safe.{IsSafe};
 ghost use Rattle.asl_atomicity.specs.Serial.{TakenStep, IsRun, HasSerial, MakesNoneInside};
 ghost use Rattle.asl_atomicity.specs.Renamed.{HasSerialUpTo, FindsRoomInside};
 ghost use Rattle.asl_theorems.specs.Compiled.{Compiles};
-ghost use Rattle.asl_theorems.specs.Journals.{LeadsTo, events_of};
+ghost use Rattle.asl_theorems.specs.Journals.{events_of};
 
 use asl_assembler::laws::texts_spell_one_image;
 use asl_journal::laws::journal_and_bytes_are_one;
@@ -69,21 +70,22 @@ pub fn reading_undoes_writing()
 }
 
 /// 2. The machine. Journals, of which the commands speak, are runs by the instruction table, and each such run, of as many
-/// threads as the program's version allows, is a journal's: so no computed step need be believed.
+/// threads as the program's version allows, is a journal's. Events lead to one state at the most.
 pub fn journals_are_runs_by_the_table()
     ensures table { (image : Image) (count : ℕ) (events : List Event) (end : State) → IsVerified image
-        → LeadsTo image count events end ↔ (IsJournal image count events × (end ≡ state_at image count events)) }
-    ensures some { (image : Image) (count : ℕ) (events : List Event) → IsVerified image → IsJournal image count events
-        → (steps : List TakenStep) × IsRun image (start_of image count) steps (state_at image count events) × (events ≡ events_of steps) }
-    ensures only { (image : Image) (count : ℕ) (steps : List TakenStep) (end : State) → IsVerified image → IsThreadCount image count
-        → IsRun image (start_of image count) steps end
-        → IsJournal image count (events_of steps) × (end ≡ state_at image count (events_of steps)) }
+        → LeadsTo image count events end → IsJournal image count events }
+    ensures one { (image : Image) (count : ℕ) (events : List Event) (end other : State) → IsVerified image
+        → LeadsTo image count events end → LeadsTo image count events other → end ≡ other }
+    ensures some { (image : Image) (count : ℕ) (events : List Event) (end : State) → LeadsTo image count events end
+        → (steps : List TakenStep) × IsRun image (start_of image count) steps end × (events ≡ events_of steps) }
+    ensures only { (image : Image) (count : ℕ) (steps : List TakenStep) (end : State) → IsThreadCount image count
+        → IsRun image (start_of image count) steps end → LeadsTo image count (events_of steps) end }
 {}
 
 /// It is not said of nothing. Each order of the steps of as many threads as the program's version allows has a journal, and no
 /// two. Compiled programs are verified.
 pub fn every_schedule_has_one_journal()
-    ensures some { (image : Image) (count : ℕ) (schedule : List ℕ) → IsThreadCount image count → All (λ t. t < count) schedule
+    ensures some { (image : Image) (count : ℕ) (schedule : List ℕ) → IsVerified image → IsThreadCount image count → All (λ t. t < count) schedule
         → (events : List Event) × IsJournal image count events × (schedule_of events ≡ schedule) }
     ensures one { (image : Image) (count : ℕ) (events others : List Event) → IsJournal image count events
         → IsJournal image count others → schedule_of events ≡ schedule_of others → events ≡ others }
@@ -92,17 +94,18 @@ pub fn every_schedule_has_one_journal()
 
 /// Each journal of a program that bytes spell, if it is not too long for any, has bytes. So it can be kept as a run file.
 pub fn every_journal_has_bytes()
-    ensures { (image : Image) (bytes : List ℕ) (log : Log) → SpellsImage image bytes → IsVerified image
+    ensures { (image : Image) (bytes : List ℕ) (log : Log) → SpellsImage image bytes
         → IsJournal image log.threads log.events → length log.events ≤ most_events → SpellsLog log (text_of (log_fields log)) }
 {}
 
-/// In no journal of a verified program do threads block one another all together: where an event is blocked, some running
+/// In no journal do threads block one another all together: where an event is blocked, some running
 /// thread that holds a lock has a step that is not. And at each position no two threads share what is fresh for one.
 pub fn no_journal_is_stuck()
-    ensures blocked { (image : Image) (log : Log) (k : ℕ) (event : Event) → IsVerified image → IsJournal image log.threads log.events
-        → slice_get log.events k ≡ Some event → event.reply ≡ Blocked → SomeoneGoesOn image (state_at image log.threads (take k log.events)) }
-    ensures apart { (image : Image) (log : Log) (k : ℕ) → IsVerified image → IsJournal image log.threads log.events
-        → AreApart image (state_at image log.threads (take k log.events)) }
+    ensures blocked { (image : Image) (log : Log) (k : ℕ) (event : Event) (state : State) → IsJournal image log.threads log.events
+        → LeadsTo image log.threads (take k log.events) state
+        → slice_get log.events k ≡ Some event → event.reply ≡ Blocked → SomeoneGoesOn image state }
+    ensures apart { (image : Image) (log : Log) (k : ℕ) (state : State) → IsJournal image log.threads log.events
+        → LeadsTo image log.threads (take k log.events) state → AreApart image state }
 {}
 
 /// 3. The lists. A compiled program is its source's: whatever lowering, finest classes and written classes there are of the
@@ -137,16 +140,16 @@ pub fn a_source_has_one_program()
 pub fn every_program_has_one_outcome()
     ensures image { (tree : List Item) (k_limit : ℕ) → IsAccepted tree k_limit → ¬ (¬ ((image : Image) × IsInferredFor tree k_limit image)) }
     ensures one { (tree : List Item) (k_limit : ℕ) (image other : Image) → IsInferredFor tree k_limit image → IsInferredFor tree k_limit other → image ≡ other }
-    ensures both { (tree : List Item) (k_limit : ℕ) (fault : InferFault) → IsAccepted tree k_limit → IsRefused tree k_limit fault → fault ≡ OutOfMemory }
+    ensures both { (tree : List Item) (k_limit : ℕ) (fault : InferFault) → IsAccepted tree k_limit → IsRefusedInference tree k_limit fault → fault ≡ OutOfMemory }
     ensures neither { (source : List ℕ) (tree : List Item) (k_limit : ℕ) → Parses source tree → ¬ (IsAccepted tree k_limit)
-        → ¬ ((fault : InferFault) → fault ≢ OutOfMemory → ¬ (IsRefused tree k_limit fault)) }
+        → ¬ ((fault : InferFault) → fault ≢ OutOfMemory → ¬ (IsRefusedInference tree k_limit fault)) }
     ensures classes { (source : List ℕ) (tree : List Item) (l : Lowered) → Parses source tree → IsLowering tree l → ¬ (¬ ((c : Classed) × AreClasses l c)) }
 {}
 
 /// 5. The debugger. The state that it shows at a position of a journal, the one after the first events, is the one to which the
 /// instruction table leads the program's threads by these events.
 pub fn positions_go_by_the_table()
-    ensures { (image : Image) (log : Log) (k : ℕ) (state : State) → IsVerified image → IsJournal image log.threads log.events
+    ensures { (image : Image) (log : Log) (k : ℕ) (state : State) → IsJournal image log.threads log.events
         → LeadsTo image log.threads (take k log.events) state ↔ (state ≡ state_at image log.threads (take k log.events)) }
 {}
 

@@ -9,7 +9,7 @@ use asl_journal::Journal;
 use asl_machine::{Machine, Paused};
 use std::marker::Model;
 
-/// A debugger without its program. Whoever owns both can keep the two in one value, and let the debugger go on for a while.
+/// A debugger without its program. Whoever owns both can keep the two in one value, and let the debugger continue for a while.
 #[derive(Drop)]
 pub struct PausedDebugger {
     journal: Journal,

@@ -1,4 +1,4 @@
-//! Debuggers whose journal goes on: a step behind its end, and a cut at the position.
+//! Debuggers whose journal continues: a step after its end, and a cut at the position.
 ghost use Rattle.std.specs.Prelude.{◌≡◌, ◌≢◌, ◌<◌, ◌≤◌, ◌+◌, ◌↔◌, ◌⊎◌, length, take, IfOk, IfErr, IsErrOf, OnErr};
 ghost use Rattle.asl_machine.specs.Paused.{IsRestOf};
 ghost use Rattle.asl_machine.specs.Step.{Step};
@@ -15,11 +15,11 @@ use std::alloc::Global;
 impl<'p> Debugger<'p> {
     ghost use Rattle.asl_debugger.specs.Session.{recorded, state_before};
 
-    /// At the end of the journal: steps thread t, writes the step down, and is behind it.
+    /// At the end of the journal: steps thread t, writes the step down, and is after it.
     ///
     /// # Errors
     ///
-    /// `NotAtEnd` where events follow; else `JournalFull` behind 16,777,216 events; else `BadThread` where there is no such thread;
+    /// `NotAtEnd` where events follow; else `JournalFull` after 16,777,216 events; else `BadThread` where there is no such thread;
     /// else `OutOfMemory` where an allocation failed. Then nothing has changed.
     pub fn step(&mut self, alloc: Global, t: u32) -> Result<Reply, StepFault>
         ensures event { IfOk result (λ reply. self.new ≡ recorded self.old (with_event self.old.log (record { thread = t; reply = reply })) (self.old.position + 1)) }
@@ -44,7 +44,7 @@ impl<'p> Debugger<'p> {
         self.record(alloc, t)
     }
 
-    /// Steps thread t at the end of the journal, writes the step down, and is behind it. Where a checkpoint is due there, it is made
+    /// Steps thread t at the end of the journal, writes the step down, and is after it. Where a checkpoint is due there, it is made
     /// ahead.
     fn record(&mut self, alloc: Global, t: u32) -> Result<Reply, StepFault>
         requires end { self.old.position ≡ length self.old.log.events }
@@ -82,7 +82,7 @@ impl<'p> Debugger<'p> {
     }
 }
 
-/// What is left of a copy of the machine behind a step of thread t. Only memory can fail.
+/// What is left of a copy of the machine after a step of thread t. Only memory can fail.
 fn mark_ahead(alloc: Global, machine: &Machine<'_>, t: u32) -> Result<Paused, StepFault>
     requires { t < length machine.now.state.threads }
     ensures fits { IfOk result (IsRestOf machine.now.image) }

@@ -10,12 +10,13 @@ use std::alloc::Global;
 
 impl<'p> Debugger<'p> {
     ghost use Rattle.asl_debugger.specs.Search.{IsFound};
-    ghost use Rattle.asl_debugger.specs.Session.{IsNextStop, IsLastStop, machine_before};
+    ghost use Rattle.asl_debugger.specs.Halts.{IsNextHalt, IsLastHalt};
+    ghost use Rattle.asl_debugger.specs.Session.{machine_before};
 
     /// The least later stop, or the end, and the machine there.
     pub(crate) fn next_stop(&self, alloc: Global) -> Result<(Machine<'p>, u32), DebugFault>
         requires { self.now.position < length self.now.log.events }
-        ensures stop { IfOk result (λ found. IsNextStop self.now found.1) }
+        ensures stop { IfOk result (λ found. IsNextHalt self.now found.1) }
         ensures machine { IfOk result (λ found. found.0 ≡ machine_before self.now.image self.now.log found.1) }
         ensures memory { IfErr result (λ fault. fault ≡ DebugFault.OutOfMemory) }
     {
@@ -42,7 +43,7 @@ impl<'p> Debugger<'p> {
     /// first.
     pub(crate) fn last_stop(&self, alloc: Global) -> Result<u32, DebugFault>
         requires { 0 < self.now.position }
-        ensures stop { IfOk result (λ found. IsLastStop self.now found) }
+        ensures stop { IfOk result (λ found. IsLastHalt self.now found) }
         ensures memory { IfErr result (λ fault. fault ≡ DebugFault.OutOfMemory) }
     {
         let mut until = self.position;

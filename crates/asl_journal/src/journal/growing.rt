@@ -7,17 +7,17 @@ ghost use Rattle.asl_journal.specs.Journal.{most_events, with_event};
 use crate::event::Event;
 use crate::fault::JournalFault;
 use crate::journal::Journal;
-use crate::limits::MAX_EVENTS;
+use crate::journal_limits::MAX_EVENTS;
 use asl_machine::{Machine, Reply};
 use std::alloc::Global;
 
 impl Journal {
-    /// Steps thread t of a machine with as many threads, and writes the step down. Room for the event is made before anything
+    /// Steps thread t of a machine with as many threads, and writes the step down. Capacity for the event is reserved before anything
     /// changes.
     ///
     /// # Errors
     ///
-    /// `JournalFull` behind 16,777,216 events; else `BadThread` where there is no such thread; else `OutOfMemory` where a growth was
+    /// `JournalFull` after 16,777,216 events; else `BadThread` where there is no such thread; else `OutOfMemory` where a growth was
     /// refused. Then nothing has changed.
     pub fn step(
         &mut self,

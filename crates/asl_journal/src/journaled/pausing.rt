@@ -9,7 +9,7 @@ use asl_machine::{Machine, Paused};
 use std::marker::Model;
 
 /// A machine and the journal of its run, without its program. Whoever owns both can keep the two in one value, and let the
-/// machine go on for a while.
+/// machine continue for a while.
 #[derive(Drop)]
 pub struct PausedJournaled {
     events: Vec<Event>,
@@ -38,6 +38,7 @@ impl Model for PausedJournaled {
 impl<'p> Journaled<'p> {
     /// Lets the program go. Nothing is copied, and no memory is wanted.
     pub fn pause(self) -> PausedJournaled
+        ensures state { result.machine.state ≡ self.entry.state }
         ensures count { result.count ≡ self.entry.count }
         ensures events { result.events ≡ self.entry.events }
         ensures spare { result.spare ≡ self.entry.spare }
@@ -54,6 +55,7 @@ impl<'p> Journaled<'p> {
     pub fn resume(program: &'p Program, paused: PausedJournaled) -> Journaled<'p>
         requires fits { IsRecordedRestOf program.now paused }
         ensures image { result.image ≡ program.now }
+        ensures state { result.state ≡ paused.machine.state }
         ensures count { result.count ≡ paused.count }
         ensures events { result.events ≡ paused.events }
         ensures spare { result.spare ≡ paused.spare }

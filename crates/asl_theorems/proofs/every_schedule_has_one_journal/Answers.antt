@@ -5,8 +5,8 @@ use Rattle.asl_theorems.proofs.Runs.{events_on, same_schedule, some_journal, one
 use Rattle.asl_theorems.proofs.every_schedule_has_one_journal.Goals as goal
 
 pub returns-clause-some : goal.returns-clause-some
-returns-clause-some c image count schedule counted there =
-    (events_on image (start_of image count) schedule, some_journal image count schedule counted there, same_schedule image schedule (start_of image count))
+returns-clause-some c image count schedule v counted there =
+    (events_on image (start_of image count) schedule, some_journal image count schedule v counted there, same_schedule image schedule (start_of image count))
 
 pub returns-clause-one : goal.returns-clause-one
 returns-clause-one c = one_journal

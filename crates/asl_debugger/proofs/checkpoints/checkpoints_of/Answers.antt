@@ -18,7 +18,7 @@ returns-in_err-machine-2-clause-refused c =
     let so_far = c.loop-here.invariant in
     let h = rw so_far.at at c.in_err-machine-2.ensures.refused in
     let p = err_from_is_err_and c.from_residual-in_err-machine-2.result c.from_residual-in_err-machine-2.ensures.1 in
-    rw (p.1, p.2) (h so_far.counted so_far.goes)
+    rw (p.1, p.2) (h c.first_machine.ensures.verified so_far.counted so_far.goes)
 
 pub returns-in_err-checkpoint-clause-refused : goal.returns-in_err-checkpoint-clause-refused
 returns-in_err-checkpoint-clause-refused c =
@@ -50,13 +50,13 @@ returns-in_err-_end-clause-refused c =
     let so_far = c.loop-here.invariant in
     let h = rw so_far.at at c.in_err-_end.ensures.refused in
     let p = err_from_is_err_and c.from_residual-in_err-_end.result c.from_residual-in_err-_end.ensures.1 in
-    rw (p.1, p.2) (h so_far.counted so_far.goes)
+    rw (p.1, p.2) (h c.first_machine.ensures.verified so_far.counted so_far.goes)
 
 pub returns-clause-journal : goal.returns-clause-journal
 returns-clause-journal c =
     let so_far = c.loop-here.invariant in
     let h = rw (so_far.at, c.events-events.ensures.events) at c.in_ok-_end.ensures.goes in
-    all_followed c.args.program.now c.args.journal.now so_far.counted c.events-events.ensures.log (h so_far.goes)
+    all_followed c.args.program.now c.args.journal.now c.first_machine.ensures.verified so_far.counted c.events-events.ensures.log (h so_far.goes)
 
 pub returns-clause-none_past : goal.returns-clause-none_past
 returns-clause-none_past c =

@@ -1,11 +1,11 @@
-use Rattle.std.proofs.Common.{◌<◌, ◌-◌, List, take, drop, ap, ◌∙◌}
+use Rattle.std.proofs.Common.{◌<◌, ◌+◌, ◌-◌, List, take, drop, ap, ◌∙◌}
 use Rattle.std.proofs.lemmas.List.Elements.{All-take, All-drop}
 use Rattle.asl_machine.specs.Run.{state_after}
 use Rattle.asl_machine.specs.State.{State}
 use Rattle.asl_machine.specs.View.{Configuration}
 use Rattle.asl_journal.specs.declared.event.Event.{Event}
 use Rattle.asl_journal.specs.Journal.{schedule_of}
-use Rattle.asl_journal.proofs.Replays.{no_difference}
+use Rattle.asl_journal.proofs.Replays.{none_from, differs_of}
 use Rattle.asl_debugger.specs.Session.{state_before}
 use Rattle.asl_debugger.proofs.Positions.{threads_of, state_between, goes_between, goes_from, differs_between, is_at}
 use Rattle.asl_debugger.proofs.checkpoints.machine_between.Goals as goal
@@ -34,12 +34,17 @@ returns-in-Ok-clause-goes c front =
     goes_between c.args.from.image c.args.journal.now c.args.start c.args.end c.requires.order front (rw (c.events-events.ensures.events, c.requires.from) at c.in-Ok.ensures.goes)
 
 pub returns-in-Err-Differs-clause-refused : goal.returns-in-Err-Differs-clause-refused
-returns-in-Err-Differs-clause-refused c few front =
+returns-in-Err-Differs-clause-refused c verified few front =
     let d = rw (c.in-Err-Differs.field-0-is, c.events-events.ensures.events, c.requires.from) at c.in-Err-Differs.ensures.refused in
-    (few.1, differs_between c.args.from.image c.args.journal.now c.args.start c.args.end c.requires.order c.in-Err-Differs.index front d)
+    let log = c.args.journal.now in
+    let index = c.args.start + c.in-Err-Differs.index in (
+      few.1,
+      differs_of c.args.from.image log.threads log.events index verified few c.events-events.ensures.log.there
+          (differs_between c.args.from.image log c.args.start c.args.end c.requires.order c.in-Err-Differs.index front d),
+    )
 
 pub returns-in-Err-Differs-clause-only : goal.returns-in-Err-Differs-clause-only
 returns-in-Err-Differs-clause-only c j =
     let d = rw (c.in-Err-Differs.field-0-is, c.events-events.ensures.events, c.requires.from) at c.in-Err-Differs.ensures.refused in
-    absurd (no_difference c.args.from.image (state_before c.args.from.image c.args.journal.now c.args.start) (take (c.args.end - c.args.start) (drop c.args.start c.args.journal.now.events)) c.in-Err-Differs.index
+    absurd (none_from c.args.from.image (state_before c.args.from.image c.args.journal.now c.args.start) (take (c.args.end - c.args.start) (drop c.args.start c.args.journal.now.events)) c.in-Err-Differs.index
     (goes_from c.args.from.image c.args.journal.now c.args.start c.args.end c.requires.order j) d)

@@ -1,7 +1,6 @@
 use Rattle.std.proofs.Common.{rules, inl, inr, sym, ap, ◌∙◌, arith, Vec, Global}
 use Rattle.std.proofs.lemmas.List.{length-map}
 use Rattle.asl_journal.specs.declared.event.Receipt.{Receipt}
-use Rattle.asl_machine.specs.View.{Configuration}
 use Rattle.asl_runner.specs.Ending.{all_receipts}
 use Rattle.asl_runner.proofs.Ends.{have_ended, are_right, wrong_at}
 use Rattle.asl_runner.proofs.Sizes.{as_many}
@@ -22,8 +21,10 @@ returns-in-None-clause-told g c =
     let ran = c.in-Ok-run_as.ensures.run in
     let report = c.in-Ok-run_as.report in
     let right = are_right c.args.workers report ran.dealers c.in-None.ensures in
-    let state = ap (λ (m : Configuration). m.state) ran.machine in
-    rw (← c.in-Ok.ensures.image, ← state) (λ worker mine at. (right worker mine at).said)
+    λ worker mine at. (right worker mine at).said
+
+pub returns-in-None-clause-leads : goal.returns-in-None-clause-leads
+returns-in-None-clause-leads g c = rw (← c.in-Ok.ensures.image) c.in-Ok-run_as.ensures.run.leads
 
 pub returns-in-None-clause-ends : goal.returns-in-None-clause-ends
 returns-in-None-clause-ends g c = c.in-Ok-run_as.ensures.run.end
@@ -43,9 +44,8 @@ returns-in-None-clause-end g c =
     let ran = c.in-Ok-run_as.ensures.run in
     let report = c.in-Ok-run_as.report in
     let right = are_right c.args.workers report ran.dealers c.in-None.ensures in
-    let state = ap (λ (m : Configuration). m.state) ran.machine in
     elim ran.end [
-      | inl told ↦ inl (rw (← c.in-Ok.ensures.image, ← state) (have_ended c.args.n c.args.workers report.machine.state (all_receipts report) (search (c.if-workers-eq0.false, rules)) ran.dealers (λ worker mine at. (right worker mine at).said) told))
+      | inl told ↦ inl (have_ended c.args.n c.args.workers report.machine.state (all_receipts report) (search (c.if-workers-eq0.false, rules)) ran.dealers (λ worker mine at. (right worker mine at).said) told)
       | inr all ↦ inr all
     ]
 

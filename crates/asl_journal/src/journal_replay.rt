@@ -1,8 +1,9 @@
 //! Replay: the steps of a journal, made again.
 ghost use Rattle.std.specs.Prelude.{◌≡◌, ◌≢◌, ◌≤◌, ℕ, length, IfOk, IfErr, IsErrOf, MatchBool, OnOk};
 ghost use Rattle.asl_machine.specs.Run.{state_after};
-ghost use Rattle.asl_journal.specs.Journal.{AreThere, GoesBy, IsJournal, most_events, schedule_of, state_at};
-ghost use Rattle.asl_journal.specs.Replay.{IsFollowFault, IsReplayFault, MayStopAt};
+ghost use Rattle.asl_journal.specs.Journal.{AreThere, IsJournal, LeadsTo, most_events, schedule_of};
+ghost use Rattle.asl_journal.specs.Computed.{GoesBy, IsFollowFault, MayStopAt};
+ghost use Rattle.asl_journal.specs.Replay.{IsReplayFault};
 
 use crate::event::Event;
 use crate::fault::JournalFault;
@@ -24,16 +25,16 @@ pub fn replay<'p>(
     journal: &Journal,
 ) -> Result<Machine<'p>, JournalFault>
     ensures journal { OnOk result (IsJournal program.now journal.now.threads journal.now.events) }
-    ensures machine { IfOk result (λ machine. machine ≡ record {
-      image = program.now;
-      state = state_at program.now journal.now.threads journal.now.events;
-    }) }
+    ensures image { IfOk result (λ machine. machine.image ≡ program.now) }
+    ensures leads { IfOk result (λ machine. LeadsTo program.now journal.now.threads journal.now.events machine.state) }
     ensures refused { IfErr result (λ fault. IsReplayFault program.now journal.now fault) }
     // A journal of the program is refused only because memory ran out.
     ensures only { IsJournal program.now journal.now.threads journal.now.events
         → IfErr result (λ fault. fault ≡ JournalFault.OutOfMemory) }
 {
     let machine = Machine::new(alloc, program, journal.threads())?;
+    // Its program is verified.
+    machine.threads();
     run_on(alloc, machine, journal.events())
 }
 

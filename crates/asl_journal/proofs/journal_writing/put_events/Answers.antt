@@ -1,7 +1,7 @@
 use Rattle.asl_loader.proofs.Writes.{none_written, more_at, all_written}
 use Rattle.asl_journal.specs.declared.event.Event.{Event}
 use Rattle.asl_journal.specs.Bytes.{event_fields, IsReply}
-use Rattle.asl_journal.proofs.writing.put_events.Goals as goal
+use Rattle.asl_journal.proofs.journal_writing.put_events.Goals as goal
 
 pub loop-event-init : goal.loop-event-init
 loop-event-init c = none_written Event (λ event. IsReply event.reply) event_fields c.args.out.now.items

@@ -2,7 +2,7 @@ use Rattle.std.proofs.Common.{arith}
 use Rattle.asl_code.specs.Versions.{version_for}
 use Rattle.asl_code.proofs.Versions.{small_version, version_is_there}
 use Rattle.asl_journal.proofs.Written.{log_written}
-use Rattle.asl_journal.proofs.writing.put.Goals as goal
+use Rattle.asl_journal.proofs.journal_writing.put.Goals as goal
 
 pub overflow_cast-version_for : goal.overflow_cast-version_for
 overflow_cast-version_for c = let small = small_version (version_for c.threads.result) (version_is_there c.threads.result) in omega (arith, small, c.version_for.ensures)

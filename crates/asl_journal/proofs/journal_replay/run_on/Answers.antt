@@ -2,7 +2,7 @@ use Rattle.std.proofs.Common.{ap, ◌∙◌, ℕ}
 use Rattle.asl_machine.specs.declared.reply.Reply.TheVariants.{Ran}
 use Rattle.asl_machine.specs.StepFunction.{step_of}
 use Rattle.asl_journal.proofs.Replays.{one_differs, one_followed}
-use Rattle.asl_journal.proofs.replaying.run_on.Goals as goal
+use Rattle.asl_journal.proofs.journal_replay.run_on.Goals as goal
 
 pub loop-index-preserved : goal.loop-index-preserved
 loop-index-preserved c =

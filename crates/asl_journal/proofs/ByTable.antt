@@ -1,0 +1,74 @@
+-- Journals by the instruction table, and by the computed step.
+use Rattle.std.proofs.Common.{◌≡◌, ℕ, ◌<◌, List, [], ◌∷◌, ◌++◌, length, refl, sym, subst}
+use Rattle.std.proofs.lemmas.List.Elements.{All-map}
+use Rattle.asl_code.specs.declared.image.Image.{Image}
+use Rattle.asl_code.specs.Verified.{IsVerified}
+use Rattle.asl_code.proofs.FitsLaws.{image_fits}
+use Rattle.asl_machine.specs.declared.reply.Reply.{Reply}
+use Rattle.asl_machine.specs.State.{State}
+use Rattle.asl_machine.specs.Run.{IsThreadCount, IsReached, start_of, state_after, RunsBy}
+use Rattle.asl_machine.specs.Step.{Step}
+use Rattle.asl_machine.proofs.Invariant.{start_sound, length-first_threads}
+use Rattle.asl_machine.proofs.TableRuns.{run_is, run_only}
+use Rattle.asl_journal.specs.declared.event.Event.{Event}
+use Rattle.asl_journal.specs.Journal.{AreThere, LeadsTo, IsJournal, schedule_of, replies_in}
+use Rattle.asl_journal.specs.Computed.{GoesBy, state_at}
+
+-- ---- runs by the table in two parts
+
+-- a run by the table, and one step more
+pub runs_snoc : (image : Image) (s : State) (events : List Event) (event : Event) (end new : State) → RunsBy image s (schedule_of events) (replies_in events) end → Step image end event.thread event.reply new →
+    RunsBy image s (schedule_of (events ++ event ∷ [])) (replies_in (events ++ event ∷ [])) new
+runs_snoc image s [] event end new e step = (new, subst (λ (u : State). Step image u event.thread event.reply new) e step, refl)
+runs_snoc image s (e ∷ es) event end new runs step = (runs.0, runs.1, runs_snoc image runs.0 es event end new runs.2 step)
+
+-- the first part of a run by the table leads somewhere
+pub runs_front : (image : Image) (s : State) (events others : List Event) (end : State) → RunsBy image s (schedule_of (events ++ others)) (replies_in (events ++ others)) end →
+    (u : State) × RunsBy image s (schedule_of events) (replies_in events) u
+runs_front image s [] others end runs = (s, refl)
+runs_front image s (e ∷ es) others end runs =
+    let rest = runs_front image runs.0 es others end runs.2 in
+    (rest.0, (runs.0, runs.1, rest.1))
+
+-- ---- by the computed step
+
+-- the replies of events that lead to a state are the computed ones
+pub lead_goes : (image : Image) (count : ℕ) (events : List Event) (state : State) → IsVerified image → LeadsTo image count events state → GoesBy image (start_of image count) events
+lead_goes image count events state v leads =
+    (run_only image (schedule_of events) (start_of image count) (start_sound image count (image_fits image v)) (replies_in events) state leads.runs).0
+
+pub goes_of : (image : Image) (count : ℕ) (events : List Event) → IsJournal image count events → GoesBy image (start_of image count) events
+goes_of image count events j = lead_goes image count events j.end j.verified j.leads
+
+-- and where they lead is the computed state
+pub end_is : (image : Image) (count : ℕ) (events : List Event) (state : State) → IsVerified image → LeadsTo image count events state → state ≡ state_at image count events
+end_is image count events state v leads =
+    (run_only image (schedule_of events) (start_of image count) (start_sound image count (image_fits image v)) (replies_in events) state leads.runs).1
+
+pub leads_at : (image : Image) (count : ℕ) (events : List Event) → IsJournal image count events → LeadsTo image count events (state_at image count events)
+leads_at image count events j = subst (LeadsTo image count events) (end_is image count events j.end j.verified j.leads) j.leads
+
+-- the computed run of a schedule of threads that are there goes by the table
+pub leads_of : (image : Image) (count : ℕ) (events : List Event) → IsVerified image → IsThreadCount image count → AreThere count events → GoesBy image (start_of image count) events →
+    LeadsTo image count events (state_at image count events)
+leads_of image count events v counted there goes =
+    let steps = All-map (λ (t : ℕ). t < count) (λ (event : Event). event.thread) events there in
+    let runs = run_is image count (schedule_of events) (start_of image count) (start_sound image count (image_fits image v)) (length-first_threads image count) steps in
+    record {
+      counted = counted;
+      runs = subst (λ (replies : List Reply). RunsBy image (start_of image count) (schedule_of events) replies (state_at image count events)) (sym goes) runs;
+    }
+
+pub journal_of : (image : Image) (count : ℕ) (events : List Event) → IsVerified image → IsThreadCount image count → AreThere count events → GoesBy image (start_of image count) events → IsJournal image count events
+journal_of image count events v counted there goes = record { verified = v; there = there; end = state_at image count events; leads = leads_of image count events v counted there goes }
+
+-- the computed state after a schedule of threads that are there is reached
+pub schedule_reached : (image : Image) (count : ℕ) (events : List Event) → AreThere count events → IsReached image count (state_at image count events)
+schedule_reached image count events there = record {
+  schedule = schedule_of events;
+  threads_there = All-map (λ (t : ℕ). t < count) (λ (event : Event). event.thread) events there;
+  leads = refl;
+}
+
+pub lead_reached : (image : Image) (count : ℕ) (events : List Event) (state : State) → IsJournal image count events → LeadsTo image count events state → IsReached image count state
+lead_reached image count events state j leads = subst (IsReached image count) (sym (end_is image count events state j.verified leads)) (schedule_reached image count events j.there)
