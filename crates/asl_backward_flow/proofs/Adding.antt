@@ -125,7 +125,7 @@ below_stopped r initial now new each k these all fault to is so x = record {
   over = x.over;
 }
 
--- a growth is refused between two turns
+-- an allocation fails between two turns
 pub below_refused : (r : Read) (initial now : Table) (each : ℕ → ℕ → ℕ → Lock → Type 0) (k : ℕ) (all : ℕ → ℕ → Lock → Type 0) → ((j p q : ℕ) (m : Lock) → each j p q m → all p q m)
     → AddedBelow r initial now each k → (fault : AddFault) → fault ≡ OutOfMemory → Stopped initial now all fault
 below_refused r initial now each k all to so fault is = subst (Stopped initial now all) (sym is) (record { adds = adds_as initial now _ all (λ p q m h. to h.0 p q m h.1) so.adds; over = tt })

@@ -152,10 +152,10 @@ module _ (l : Lowered) (c : Classed) (stores : ℕ → ℕ → Bool) (k_limit : 
     register n lt = (fn, there, lt)
 
     before_rough : (i : Instr) (e : Expr) (effect : Effect) → HasOperands l fn.regs i → HasBase l f e.base → AllRough f (before (seen f) i e effect)
-    before_rough (instr.Move a b) e effect ops base = replaced_rough f a e effect _ base (one_rough f (on (Reg b) e.path effect) (register b ops.1))
-    before_rough (instr.GlobalAddress a g) e effect ops base = replaced_rough f a e effect _ base (one_rough f (on (Global g) e.path effect) ops.1)
-    before_rough (instr.FieldAddress a b d) e effect ops base = replaced_rough f a e effect _ base (one_rough f (on (Reg b) (Off d ∷ e.path) effect) (register b ops.1))
-    before_rough (instr.Load a b) e effect ops base = replaced_rough f a e effect _ base (one_rough f (on (Reg b) (Deref ∷ e.path) effect) (register b ops.1))
+    before_rough (instr.Move a b) e effect ops base = replaced_rough f a e effect _ base (one_rough f (on (Reg b) e.path effect) (register b ops.1.0))
+    before_rough (instr.GlobalAddress a g) e effect ops base = replaced_rough f a e effect _ base (one_rough f (on (Global g) e.path effect) ops.1.0)
+    before_rough (instr.FieldAddress a b d) e effect ops base = replaced_rough f a e effect _ base (one_rough f (on (Reg b) (Off d ∷ e.path) effect) (register b ops.1.0))
+    before_rough (instr.Load a b) e effect ops base = replaced_rough f a e effect _ base (one_rough f (on (Reg b) (Deref ∷ e.path) effect) (register b ops.1.0))
     before_rough (instr.SetInt a n) e effect ops base = replaced_rough f a e effect [] base (none_rough f)
     before_rough (instr.SetNull a) e effect ops base = replaced_rough f a e effect [] base (none_rough f)
     before_rough (instr.Add a x y) e effect ops base = replaced_rough f a e effect [] base (none_rough f)
@@ -166,7 +166,7 @@ module _ (l : Lowered) (c : Classed) (stores : ℕ → ℕ → Bool) (k_limit : 
     before_rough (instr.Store a b) e effect ops base =
         both_rough f (cond (is_register a e.base && begins_with_star e.path) [] (lock.Expr e effect ∷ [])) (hits c (to c f a) b effect (base_class c f e.base) e.path)
         (either_rough f (is_register a e.base && begins_with_star e.path) [] (lock.Expr e effect ∷ []) (none_rough f) (one_rough f (lock.Expr e effect) base))
-        (hits_rough f b (register b ops.1) (to c f a) effect (base_class c f e.base) e.path)
+        (hits_rough f b (register b ops.1.0) (to c f a) effect (base_class c f e.base) e.path)
     before_rough (instr.Call a b g) e effect ops base =
         either_rough f _ (class_lock effect (class_of c f e)) (lock.Expr e effect ∷ []) (class_rough f effect (class_of c f e) (class_bounded f e)) (one_rough f (lock.Expr e effect) base)
     before_rough i e effect ops base = one_rough f (lock.Expr e effect) base
@@ -177,7 +177,7 @@ module _ (l : Lowered) (c : Classed) (stores : ℕ → ℕ → Bool) (k_limit : 
     link_rough i (lock.Expr e effect) ops rough = all_settle_rough f (before (seen f) i e effect) (before_rough i e effect ops rough)
 
     accesses_rough : (i : Instr) → HasOperands l fn.regs i → AllRough f (accesses (seen f) i)
-    accesses_rough (instr.Load a b) ops = settle_rough f (on (Reg b) [] Read) (register b ops.1)
+    accesses_rough (instr.Load a b) ops = settle_rough f (on (Reg b) [] Read) (register b ops.1.0)
     accesses_rough (instr.Store a b) ops = settle_rough f (on (Reg a) [] Write) (register a ops.0)
     accesses_rough i ops = none_rough f
 
@@ -227,7 +227,7 @@ module _ (l : Lowered) (c : Classed) (stores : ℕ → ℕ → Bool) (k_limit : 
 
   entered_rough : (f g into first : ℕ) (callee : entry.Function) → Operands f (instr.Call into first g) → slice_get l.functions g ≡ Some callee → (m : Lock) → Rough g m → AllRough f (renamed first callee.params m)
   entered_rough f g into first callee ops there m rough =
-      let has = ops.2.1 in
+      let has = ops.2.1.0 in
       let same : has.function ≡ callee = some_same (sym has.in_table ∙ there) in
       let within : first + callee.params ≤ ops.0.regs = subst (λ (e : entry.Function). first + e.params ≤ ops.0.regs) same has.arguments in
       renamed_rough f ops.0 ops.1 g first callee.params within m rough

@@ -1,4 +1,4 @@
--- The pcs from which control goes on to one.
+-- The pcs from which control continues to one.
 use Rattle.std.proofs.Common.{◌≡◌, ◌⊎◌, ⊎_elim, ℕ, zero, suc, Bool, ◌+◌, ◌<◌, ◌≤◌, List, [], ◌∷◌, ◌++◌, Some, length, slice_get, inl, inr, ap, sym, subst, ◌∙◌, arith}
 use Rattle.std.proofs.lemmas.Bool.Decides.{eqb_tells}
 use Rattle.std.proofs.lemmas.Option.{slice_get_within}
@@ -20,7 +20,7 @@ module _ (r : Read) (part pc : ℕ) where
   abbrev IsLast : ℕ → Type 0
   IsLast q = IsEdge r.lowered pc q × (pc ≡ q + 1)
 
-  -- there is no pc before, or it is none of the region, or control does not go on from there
+  -- there is no pc before, or it is none of the region, or control does not continue from there
   pub last_none : (pcs : List ℕ) → pcs ≡ [] → ((q : ℕ) → IsAtPoint r part q → IsLast q → ⊥) → AreBefore r part pc IsLast pcs
   last_none pcs is none = record {
     only = λ q at. absurd (nothing at.0 q (ap (λ l. slice_get l at.0) (sym is) ∙ at.1));

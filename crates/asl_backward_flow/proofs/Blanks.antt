@@ -7,6 +7,7 @@ use Rattle.asl_lane_sets.specs.NumberSet.{IsIn}
 use Rattle.asl_backward_flow.specs.declared.span.Span.{Span}
 use Rattle.asl_backward_flow.specs.declared.region_needs.RegionNeeds.{RegionNeeds}
 use Rattle.asl_backward_flow.specs.Found.{table_of, list_at, first_of, sets_of, HasPoint, IsBlankNeeds, IsBlank}
+use Rattle.asl_backward_flow.proofs.Listing.{mapped_at}
 use Rattle.asl_backward_flow.proofs.Sets.{some_same}
 
 -- the regions of the spans below a number
@@ -40,11 +41,6 @@ made_more spans below parts more s p at blank is so = record {
     pushed xs k x e each end = ⊎_elim (λ o. each k x o) (λ o. (s, ap (slice_get spans) o.0 ∙ end, subst (IsBlankNeeds s) (sym o.1) blank)) (place xs k x e)
 
 module _ {A B : Type 0} (f : A → B) where
-  pub mapped : (xs : List A) (k : ℕ) (x : A) → slice_get xs k ≡ Some x → slice_get (map f xs) k ≡ Some (f x)
-  mapped [] k x e = absurd cc
-  mapped (y ∷ xs) zero x e = ap (λ z. Some (f z)) (some_same e)
-  mapped (y ∷ xs) (suc k) x e = mapped xs k x e
-
   pub unmapped : (xs : List A) (k : ℕ) (y : B) → slice_get (map f xs) k ≡ Some y → (x : A) × (slice_get xs k ≡ Some x) × (f x ≡ y)
   unmapped [] k y e = absurd cc
   unmapped (x ∷ xs) zero y e = (x, refl, some_same e)
@@ -96,8 +92,8 @@ module _ (spans : List Span) (parts : List RegionNeeds) (list : List (ℕ × ℕ
   point_at p q s at first end =
       let x = part_at p s at in
       let blank = x.2 in
-      let first_is : first_of (table_of parts list) p ≡ s.first = ap (λ o. unwrap_or o 0) (mapped (λ (z : RegionNeeds). z.first) parts p x.0 x.1) ∙ blank.first in
-      let sets_are : sets_of (table_of parts list) p ≡ replicate (s.end - s.first) [] = ap (λ o. unwrap_or o []) (mapped (λ (z : RegionNeeds). z.needs.items) parts p x.0 x.1) ∙ blank.sets in
+      let first_is : first_of (table_of parts list) p ≡ s.first = ap (λ o. unwrap_or o 0) (mapped_at (λ (z : RegionNeeds). z.first) parts p x.0 x.1) ∙ blank.first in
+      let sets_are : sets_of (table_of parts list) p ≡ replicate (s.end - s.first) [] = ap (λ o. unwrap_or o []) (mapped_at (λ (z : RegionNeeds). z.needs.items) parts p x.0 x.1) ∙ blank.sets in
       let count : length (sets_of (table_of parts list) p) ≡ s.end - s.first = ap length sets_are ∙ length-replicate (s.end - s.first) [] in
       (q - s.first, omega (arith, first_is, first), omega (arith, count, first, end))
 

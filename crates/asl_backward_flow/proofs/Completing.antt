@@ -164,7 +164,7 @@ seeds_over r t new fault read blank x = (
   },
 )
 
--- a growth was refused before anything was found
+-- an allocation failed before anything was found
 pub refused_at_first : (r : Read) (fault : AddFault) → fault ≡ OutOfMemory → (t : Table) × Overflows r t fault
 refused_at_first r fault is = subst (λ f. (t : Table) × Overflows r t f) (sym is) (record { regions = []; firsts = []; locks = []; sets = []; list = [] }, record { over = tt; names = λ p m h. absurd (none p h.0 m h.1) })
   where

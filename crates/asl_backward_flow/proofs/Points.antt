@@ -134,8 +134,8 @@ call_there l kept pc to first g at =
     let body = layout.parted.owned pc (slice_get_within l.code pc _ at) in
     let has = layout.operands pc _ body.function (instr.Call to first g) body body.in_table at in
     let few = all_at (λ (f : entry.Function). f.regs ≤ 64) l.functions kept.few_registers _ body.function body.in_table in
-    let args = has.1.arguments in
-    record { callee = has.1.function; in_table = has.1.in_table; registers = omega (arith, few, args) }
+    let args = has.1.0.arguments in
+    record { callee = has.1.0.function; in_table = has.1.0.in_table; registers = omega (arith, few, args) }
 
 no : false ≡ true → ⊥
 no e = cc

@@ -133,7 +133,7 @@ callee_there l kept code same pc lt d to first g at =
     let here : slice_get l.code pc ≡ Some (instr.Call to first g) = ap (λ c. slice_get c pc) (sym same) ∙ slice_get-get_or code pc d lt ∙ ap Some at in
     let body = layout.parted.owned pc (subst (λ c. pc < length c) same lt) in
     let has = layout.operands pc _ body.function (instr.Call to first g) body body.in_table here in
-    slice_get_within l.functions g has.1.function has.1.in_table
+    slice_get_within l.functions g has.1.0.function has.1.0.in_table
 
 -- rows keep their number
 pub as_many : {X : Type 0} (items : X → List ℕ) (old new : List X) (n : ℕ) (r : List ℕ) → map items new ≡ slice_set (map items old) n r → length old ≡ length new
@@ -175,7 +175,7 @@ some_end rows related pc added has full = record {
   all = λ n x lt r. ⊎_elim (λ b. has.below n x b r) (λ (e : x ≡ pc). subst (IsAt (list_at rows n)) (sym e) (has.here n (full n (subst (related n) e r)))) (below_or_at x pc lt);
 }
 
--- where control goes on to is in the code
+-- where control continues to is in the code
 pub edge_there : (l : Lowered) → IsLegalLowering l → (pc : ℕ) → pc < length l.code → (i : Instr) (to : ℕ) → slice_get l.code pc ≡ Some i → FlowsTo i pc to → to < length l.code
 edge_there l kept pc lt i to at goes =
     let layout = kept_layout l kept in
@@ -188,7 +188,7 @@ at_of_contains xs x c = (c.0, slice_get-get_or xs c.0 x c.1 ∙ ap Some c.2)
 pub contains_of_at : (xs : List ℕ) (x : ℕ) → IsAt xs x → Contains xs x
 contains_of_at xs x at = (at.0, slice_get_within xs at.0 x at.1, get_or_from_slice_get xs at.0 x x at.1)
 
--- the pcs to which control goes on
+-- the pcs to which control continues
 abbrev pub Tells : Lowered → ℕ → List ℕ → Type 0
 Tells l pc next = (i : Instr) → slice_get l.code pc ≡ Some i → (to : ℕ) → Contains next to ↔ FlowsTo i pc to
 

@@ -12,7 +12,7 @@ module _ {A : Type 0} where
   pub some_same : {x y : A} → Some x ≡ Some y → x ≡ y
   some_same {x} {y} e = ap (λ o. unwrap_or o x) e
 
-  -- what stands in a list stands there with more behind it
+  -- what stands in a list stands there with more after it
   pub at_front : (xs ys : List A) (n : ℕ) (x : A) → slice_get xs n ≡ Some x → slice_get (xs ++ ys) n ≡ Some x
   at_front [] ys n x e = absurd cc
   at_front (y ∷ xs) ys zero x e = e

@@ -22,8 +22,8 @@ use Rattle.asl_backward_flow.specs.Found.{Table, table_of, list_at, AreApart, Is
 use Rattle.asl_backward_flow.specs.Follows.{Read, IsRead, IsAll, Overflows}
 use Rattle.asl_backward_flow.specs.Parts.{part, AreAtTheirNumbers, TellsAll}
 use Rattle.asl_backward_flow.proofs.Leasts.{needed_inside}
-use Rattle.asl_backward_flow.proofs.Blanks.{mapped, unmapped, some_there}
-use Rattle.asl_backward_flow.proofs.Listing.{of_part, part_of, region_one}
+use Rattle.asl_backward_flow.proofs.Blanks.{unmapped, some_there}
+use Rattle.asl_backward_flow.proofs.Listing.{mapped_at, of_part, part_of, region_one}
 use Rattle.asl_backward_flow.proofs.Sets.{some_same}
 
 module _ (r : Read) (read : IsRead r) (items : List code.RegionNeeds) (list : List (ℕ × ℕ)) (all : IsAll r (table_of items list)) where
@@ -43,16 +43,16 @@ module _ (r : Read) (read : IsRead r) (items : List code.RegionNeeds) (list : Li
   -- the region with a number has the name of the span with this number
   same_region : (k : ℕ) (d : code.RegionNeeds) (s : Span) → slice_get items k ≡ Some d → slice_get r.spans k ≡ Some s → d.region ≡ s.region
   same_region k d s at there =
-      some_same (sym (mapped (λ (z : code.RegionNeeds). z.region) items k d at) ∙ ap (λ l. slice_get l k) all.ready.regions ∙ mapped (λ (x : Span). x.region) r.spans k s there)
+      some_same (sym (mapped_at (λ (z : code.RegionNeeds). z.region) items k d at) ∙ ap (λ l. slice_get l k) all.ready.regions ∙ mapped_at (λ (x : Span). x.region) r.spans k s there)
 
   first_at : (k : ℕ) (d : code.RegionNeeds) → slice_get items k ≡ Some d → first_of t k ≡ d.first
-  first_at k d at = ap (λ o. unwrap_or o 0) (mapped (λ (z : code.RegionNeeds). z.first) items k d at)
+  first_at k d at = ap (λ o. unwrap_or o 0) (mapped_at (λ (z : code.RegionNeeds). z.first) items k d at)
 
   sets_at : (k : ℕ) (d : code.RegionNeeds) → slice_get items k ≡ Some d → sets_of t k ≡ d.needs.items
-  sets_at k d at = ap (λ o. unwrap_or o []) (mapped (λ (z : code.RegionNeeds). z.needs.items) items k d at)
+  sets_at k d at = ap (λ o. unwrap_or o []) (mapped_at (λ (z : code.RegionNeeds). z.needs.items) items k d at)
 
   locks_at : (k : ℕ) (d : code.RegionNeeds) → slice_get items k ≡ Some d → locks_of t k ≡ d.locks.keys
-  locks_at k d at = ap (λ o. unwrap_or o []) (mapped (λ (z : code.RegionNeeds). z.locks.keys) items k d at)
+  locks_at k d at = ap (λ o. unwrap_or o []) (mapped_at (λ (z : code.RegionNeeds). z.locks.keys) items k d at)
 
   told_needed : (region : Region) (q : ℕ) (m : Lock) → IsTold (map part items) region q m → Is region q m
   told_needed region q m told =
@@ -79,7 +79,7 @@ module _ (r : Read) (read : IsRead r) (items : List code.RegionNeeds) (list : Li
       let named : slice_get d.0.locks.keys has.0 ≡ Some m = ap (λ l. slice_get l has.0) (sym (locks_at k d.0 d.1)) ∙ has.2 in
       let of = part_of d.0 at.0 m (has.0, in_set, named) in
       let place : d.0.first + at.0 ≡ q = sym (at.1 ∙ ap (λ i. i + at.0) (first_at k d.0 d.1)) in
-      (k, part d.0, mapped part items k d.0 d.1, ap region_of (same_region k d.0 f.1 d.1 f.2) ∙ f.3, subst (λ x. IsInNeeds (part d.0) x m) place of)
+      (k, part d.0, mapped_at part items k d.0 d.1, ap region_of (same_region k d.0 f.1 d.1 f.2) ∙ f.3, subst (λ x. IsInNeeds (part d.0) x m) place of)
 
   tells : TellsNeeded r.lowered r.classes r.stores r.k_limit (map part items)
   tells region q m = (λ h. told_needed region q m h, λ h. needed_told region q m h)

@@ -22,6 +22,6 @@ pub record IsOverfull (l : Lowered) (c : Classed) (k_limit : ℕ) (r : Region) :
   pub many : NeedsMany l c stores k_limit r
 
 -- there is no flow for this reason
-abbrev pub IsRefused : Lowered → Classed → ℕ → FlowFault → Type 0
-IsRefused l c k_limit (TooManyLocks region) = IsOverfull l c k_limit (region_of region)
-IsRefused l c k_limit OutOfMemory = Unit {0}
+abbrev pub IsRefusedFlow : Lowered → Classed → ℕ → FlowFault → Type 0
+IsRefusedFlow l c k_limit (TooManyLocks region) = IsOverfull l c k_limit (region_of region)
+IsRefusedFlow l c k_limit OutOfMemory = Unit {0}

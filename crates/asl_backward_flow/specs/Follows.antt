@@ -1,4 +1,4 @@
--- Machinery of the proofs, not of the promise: what is needed at once, and what follows from a fact (src/step.rt).
+-- Machinery of the proofs, not of the promise: what is needed at once, and what follows from a fact (src/needs_step.rt).
 use Rattle.std.specs.Prelude.{◌≡◌, ◌⊎◌, ◌<◌, ◌≤◌, ℕ, Bool, List, length, map, Some, slice_get}
 use Rattle.asl_code.specs.declared.image.Function as entry
 use Rattle.asl_code.specs.declared.instr.Instr.{Instr}
@@ -13,7 +13,7 @@ use Rattle.asl_lock_expr.specs.Stores.{stores}
 use Rattle.asl_lock_expr.specs.Touches.{Stays}
 use Rattle.asl_backward_flow.specs.declared.region.Region.TheVariants as variant
 use Rattle.asl_backward_flow.specs.declared.span.Span.{Span}
-use Rattle.asl_backward_flow.specs.declared.analysis.Analysis.{Analysis}
+use Rattle.asl_backward_flow.specs.declared.flow_analysis.FlowAnalysis.{FlowAnalysis}
 use Rattle.asl_backward_flow.specs.declared.found.AddFault.{AddFault}
 use Rattle.asl_backward_flow.specs.Found.{Table, HasPoint, HasFact, IsAt, IsName, IsWhole, IsOver, IsNamed, Adds, Lists}
 use Rattle.asl_backward_flow.specs.Graph.{HasPc, HasRows, HasCall, IsEdge, IsJump, IsCall}
@@ -31,7 +31,7 @@ pub record Read : Type 0 where
   pub calls : List (List ℕ)
   pub regions : List (List ℕ)
 
-abbrev pub read : Analysis → Read
+abbrev pub read : FlowAnalysis → Read
 read p = record {
   lowered = p.lowering.now;
   classes = p.classes.now;
@@ -107,11 +107,11 @@ IsSeed r p q m = IsAtPoint r p q × WithFronts (IsAccessed r p q) m
 abbrev pub IsSeedIn : Read → ℕ → ℕ → ℕ → Lock → Type 0
 IsSeedIn r part p q m = (p ≡ part) × IsSeed r p q m
 
--- the lock comes from such a one, needed at the pc, over an instruction of the region from which control goes on to the pc
+-- the lock comes from such a one, needed at the pc, over an instruction of the region from which control continues to the pc
 abbrev pub IsBack : Read → ℕ → ℕ → (Lock → Type 0) → ℕ → ℕ → Lock → Type 0
 IsBack r part pc Such p q m = (p ≡ part) × IsEdge r.lowered pc q × IsAtPoint r p q × IsLinkedOf r p q Such m
 
--- pcs of the region from which control goes on to the pc, and all of them that are related so
+-- pcs of the region from which control continues to the pc, and all of them that are related so
 pub record AreBefore (r : Read) (part pc : ℕ) (related : ℕ → Type 0) (pcs : List ℕ) : Type 0 where
   pub only : (q : ℕ) → IsAt pcs q → IsAtPoint r part q × IsEdge r.lowered pc q
   pub all : (q : ℕ) → IsAtPoint r part q → related q → IsAt pcs q
@@ -180,7 +180,7 @@ pub record Added (r : Read) (old new : Table) (these : ℕ → ℕ → Lock → 
   pub adds : Adds old new these
   pub lists : Lists old new
 
--- some of these are added, and nothing else, until a region has too many locks or a growth is refused
+-- some of these are added, and nothing else, until a region has too many locks or an allocation fails
 pub record Stopped (old new : Table) (these : ℕ → ℕ → Lock → Type 0) (fault : AddFault) : Type 0 where
   pub adds : Adds old new these
   pub over : IsOver new fault

@@ -11,11 +11,11 @@ use Rattle.asl_backward_flow.specs.Found.{IsAt, list_at}
 abbrev pub HasPc : List Span → ℕ → ℕ → Type 0
 HasPc spans pc part = (s : Span) × (slice_get spans part ≡ Some s) × (s.first ≤ pc) × (pc < s.end)
 
--- control goes on from the pc to another
+-- control continues from the pc to another
 abbrev pub IsEdge : Lowered → ℕ → ℕ → Type 0
 IsEdge l to pc = (i : Instr) × (slice_get l.code pc ≡ Some i) × FlowsTo i pc to
 
--- control goes on from the pc to another that is not the next
+-- control continues from the pc to another that is not the next
 abbrev pub IsJump : Lowered → ℕ → ℕ → Type 0
 IsJump l to pc = IsEdge l to pc × (to ≢ pc + 1)
 

@@ -4,7 +4,7 @@ use crate::region::Region;
 use std::alloc::AllocError;
 use thiserror::Error;
 
-/// Why a program has no flow. The first that applies is answered; want of memory may come before
+/// Why a program has no flow. The first that applies is answered; `OutOfMemory` may come before
 /// too many locks are found, and is answered then.
 #[derive(Clone, Copy, Debug, PartialEq, Eq, Error)]
 pub enum FlowFault {

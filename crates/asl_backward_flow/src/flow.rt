@@ -44,7 +44,7 @@ impl Flow {
     ///
     /// # Errors
     ///
-    /// A growth was refused.
+    /// An allocation failed.
     pub fn at(&self, alloc: Global, region: Region, pc: u32) -> Result<Vec<Lock>, AllocError>
         ensures order { IfOk result (λ v. AreInOrder v.items) }
         ensures locks { IfOk result (λ v. (m : Lock) → IsOne v.items m ↔ IsTold self.now (region_of region) pc m) }

@@ -4,10 +4,11 @@ ghost use Rattle.asl_backward_flow.specs.Found.{table, Has, left};
 ghost use Rattle.asl_backward_flow.specs.Masked.{AreAllMasks};
 ghost use Rattle.asl_backward_flow.specs.Follows.{read, IsRead, IsFollowed, Overflows};
 
-use crate::analysis::Analysis;
+use crate::call_needs::add_entry;
+use crate::flow_analysis::FlowAnalysis;
 use crate::found::{AddFault, Found};
 use crate::masks::{Mask, no_masks};
-use crate::step::{add_back, add_entry};
+use crate::needs_step::add_back;
 use asl_lane_sets::Bits;
 use std::alloc::Global;
 
@@ -15,7 +16,7 @@ use std::alloc::Global;
 /// found on the way, so that none is made anew.
 fn follow(
     alloc: Global,
-    analysis: &Analysis,
+    analysis: &FlowAnalysis,
     point: (u16, u16),
     masks: &mut Vec<Vec<Mask>>,
     pcs: &mut Vec<u16>,
@@ -40,7 +41,7 @@ fn follow(
 }
 
 /// Adds what follows at each point on the list, also at those that are put on it on the way.
-pub fn follow_all(alloc: Global, analysis: &Analysis, found: &mut Found) -> Result<(), AddFault>
+pub fn follow_all(alloc: Global, analysis: &FlowAnalysis, found: &mut Found) -> Result<(), AddFault>
     requires analysis { IsRead (read analysis.now) }
     requires followed { IsFollowed (read analysis.now) (table found.old) (table found.old).list }
     ensures ok { OnOk result (IsFollowed (read analysis.now) (table found.new) []) }

@@ -29,7 +29,7 @@ pub struct Found {
 pub enum AddFault {
     /// The region needs too many locks.
     Many(u16),
-    /// A growth was refused.
+    /// An allocation failed.
     OutOfMemory,
 }
 

@@ -31,7 +31,7 @@ fn add_to_row(rows: &mut Vec<Vec<u16>>, number: usize, pc: u16) -> Result<(), Al
     Ok(())
 }
 
-/// Whether control goes on from a pc to another.
+/// Whether control continues from a pc to another.
 pub fn goes_on(lowering: &Lowering, pc: u16, to: u16) -> bool
     requires { pc < length lowering.now.code }
     ensures { IsTrue result ↔ IsEdge lowering.now to pc }
@@ -39,7 +39,7 @@ pub fn goes_on(lowering: &Lowering, pc: u16, to: u16) -> bool
     lowering.successors(pc).as_slice().contains(&to)
 }
 
-/// For each pc, the pcs from which control goes on to it, without the one before it.
+/// For each pc, the pcs from which control continues to it, without the one before it.
 pub fn jumps(alloc: Global, lowering: &Lowering) -> Result<Vec<Vec<u16>>, AllocError>
     ensures kept { IsLegalLowering lowering.now }
     ensures rows { IfOk result (λ rows. HasRows (map (λ r. r.items) rows.items) (IsJump lowering.now) (length lowering.now.code)) }
@@ -52,7 +52,7 @@ pub fn jumps(alloc: Global, lowering: &Lowering) -> Result<Vec<Vec<u16>>, AllocE
     Ok(rows)
 }
 
-/// Adds the pc to the rows of those to which control goes on from it, but for the next.
+/// Adds the pc to the rows of those to which control continues from it, but for the next.
 fn add_jumps(lowering: &Lowering, pc: u16, rows: &mut Vec<Vec<u16>>) -> Result<(), AllocError>
     requires kept { IsLegalLowering lowering.now }
     requires there { pc < length lowering.now.code }
@@ -62,10 +62,10 @@ fn add_jumps(lowering: &Lowering, pc: u16, rows: &mut Vec<Vec<u16>>) -> Result<(
     ensures count { OnOk result (vec_len rows.new ≡ vec_len rows.old) }
 {
     let next = lowering.successors(pc);
-    for to in next.as_slice() {
-        let to = usize::from(*to);
-        if to != usize::from(pc) + 1 {
-            add_to_row(rows, to, pc)?;
+    for target in next.as_slice() {
+        let target = usize::from(*target);
+        if target != usize::from(pc) + 1 {
+            add_to_row(rows, target, pc)?;
         }
     }
     Ok(())

@@ -1,19 +1,21 @@
 //! Which locks a region needs at each of its points: locks flow backwards over the code, from the accesses that need them.
 #![tactic(auto)]
 
-mod analysis;
+mod access_needs;
+mod call_needs;
 mod fault;
 mod flow;
+mod flow_analysis;
 mod following;
 mod found;
 mod graph;
 mod laws;
 mod masks;
+mod needs_step;
 mod region;
 mod region_needs;
 mod solve;
 mod span;
-mod step;
 
 pub use fault::FlowFault;
 pub use flow::Flow;

@@ -131,7 +131,7 @@ fn extend(view: &LinkContext, locks: &[Lock], mask: &mut Mask) -> Result<(), All
     Ok(())
 }
 
-/// Adds a number, for which room is made.
+/// Adds a number, for which capacity is reserved.
 fn add(set: &mut Bits, number: usize) -> Result<(), AllocError>
     requires { number < 2 ^ 63 }
     ensures { OnOk result ((k : ℕ) → IsIn set.new k ↔ (IsIn set.old k ⊎ (k ≡ number))) }

@@ -7,7 +7,7 @@ use std::fmt;
 pub enum Region {
     /// The body of an inner function.
     Body(u16),
-    /// A section, from behind its `acq` up to its `rel`.
+    /// A section, from after its `acq` up to its `rel`.
     Section(u16),
 }
 

@@ -1,18 +1,18 @@
 //! Which locks each region needs at each of its points.
 ghost use Rattle.std.specs.Prelude.{◌≤◌, IfOk, IfErr};
-ghost use Rattle.asl_backward_flow.specs.Flows.{IsFlow, IsRefused};
+ghost use Rattle.asl_backward_flow.specs.Flows.{IsFlow, IsRefusedFlow};
 ghost use Rattle.asl_backward_flow.specs.Found.{table, Table};
 ghost use Rattle.asl_backward_flow.specs.Follows.{read, IsRead, IsAll, Overflows};
 ghost use Rattle.asl_backward_flow.specs.Parts.{TellsAll, HasMany};
 
-use crate::analysis::Analysis;
+use crate::access_needs::add_seeds;
 use crate::fault::FlowFault;
 use crate::flow::{Flow, flow_of};
+use crate::flow_analysis::FlowAnalysis;
 use crate::following::follow_all;
 use crate::found::{AddFault, Found};
 use crate::graph::{calls, jumps, regions};
 use crate::span::spans;
-use crate::step::add_seeds;
 use asl_lock_expr::writes;
 use asl_lower::Lowering;
 use asl_points_to::Classes;
@@ -23,7 +23,7 @@ use std::alloc::Global;
 ///
 /// # Errors
 ///
-/// `TooManyLocks` with a region that needs more than 4,096 locks; `OutOfMemory` where a growth was refused.
+/// `TooManyLocks` with a region that needs more than 4,096 locks; `OutOfMemory` where an allocation failed.
 pub fn needed(
     alloc: Global,
     lowering: &Lowering,
@@ -32,14 +32,14 @@ pub fn needed(
 ) -> Result<Flow, FlowFault>
     requires { k ≤ 8 }
     ensures flow { IfOk result (IsFlow lowering.now classes.now k) }
-    ensures refused { IfErr result (IsRefused lowering.now classes.now k) }
+    ensures refused { IfErr result (IsRefusedFlow lowering.now classes.now k) }
 {
     let writes = writes(alloc, lowering, classes)?;
     let spans = spans(alloc, lowering)?;
     let jumps = jumps(alloc, lowering)?;
     let calls = calls(alloc, lowering)?;
     let regions = regions(alloc, lowering, spans.as_slice())?;
-    let analysis = Analysis {
+    let analysis = FlowAnalysis {
         lowering,
         classes,
         writes: &writes,
@@ -53,7 +53,7 @@ pub fn needed(
 }
 
 /// The flow of a program whose regions and graph are at hand.
-fn flow(alloc: Global, analysis: &Analysis) -> Result<Flow, FlowFault>
+fn flow(alloc: Global, analysis: &FlowAnalysis) -> Result<Flow, FlowFault>
     requires { IsRead (read analysis.now) }
     ensures ok { IfOk result (TellsAll (read analysis.now)) }
     ensures err { IfErr result (HasMany (read analysis.now)) }
@@ -65,7 +65,7 @@ fn flow(alloc: Global, analysis: &Analysis) -> Result<Flow, FlowFault>
 }
 
 /// The fault, with the region in place of its number.
-fn named(analysis: &Analysis, fault: AddFault) -> FlowFault
+fn named(analysis: &FlowAnalysis, fault: AddFault) -> FlowFault
     requires { (t : Table) × Overflows (read analysis.now) t fault }
     ensures { HasMany (read analysis.now) result }
 {
@@ -78,7 +78,7 @@ fn named(analysis: &Analysis, fault: AddFault) -> FlowFault
 }
 
 /// What accesses need, and all that follows from it.
-fn find(alloc: Global, analysis: &Analysis) -> Result<Found, AddFault>
+fn find(alloc: Global, analysis: &FlowAnalysis) -> Result<Found, AddFault>
     requires { IsRead (read analysis.now) }
     ensures ok { IfOk result (λ found. IsAll (read analysis.now) (table found)) }
     ensures err { IfErr result (λ fault. (t : Table) × Overflows (read analysis.now) t fault) }

@@ -7,7 +7,7 @@ use crate::region::Region;
 use asl_lower::Lowering;
 use std::alloc::{AllocError, Global};
 
-/// A region, the function in whose body it lies, its first pc, and the pc behind its last.
+/// A region, the function in whose body it lies, its first pc, and the pc after its last.
 #[derive(Clone, Copy)]
 pub struct Span {
     pub region: Region,

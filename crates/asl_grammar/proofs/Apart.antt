@@ -1,4 +1,4 @@
--- A token's bytes are read as the token where no byte that it could continue with stands behind.
+-- A token's bytes are read as the token where no byte that it could continue with stands after.
 use Rattle.std.proofs.Common.{◌≡◌, ℕ, suc, ◌<◌, ◌≤◌, List, [], ◌∷◌, ◌++◌, Bool, true, false, ◌||◌, ◌==◌, nat_le, Option, Some, None, IsTrue, is_none, refl, sym, ap, ◌∙◌, arith, length, take, drop, ⊎_elim}
 use Rattle.std.proofs.lemmas.Bool.{cond-true, cond-false, and_parts, and_from, and_left, or_left, or_from, leb-true, lt-leb, ne_eqb, eqb-true, or_cases, false_from_ne_true}
 use Rattle.asl_grammar.specs.declared.token.Mark.{Mark}

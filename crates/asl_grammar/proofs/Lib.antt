@@ -12,3 +12,4 @@ pub mod Apart
 pub mod OneFault
 pub mod Longest
 pub mod OneReading
+pub mod Words

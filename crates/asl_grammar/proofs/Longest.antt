@@ -163,7 +163,7 @@ front_by text (Some (t, n)) e = record {
 pub longest_front : (text : List ℕ) → IsFront text (front text)
 longest_front text = front_by text (front text) refl
 
--- bytes spell one token at most, which stands at the front where nothing that it could continue with stands behind
+-- bytes spell one token at most, which stands at the front where nothing that it could continue with stands after
 pub front_mark : (m : Mark) (r : List ℕ) → Apart r → front (mark_bytes m ++ r) ≡ Some (Fixed m, length (mark_bytes m))
 front_mark mark.Global r a = front_letters (codes "global") r refl a.names
 front_mark mark.Fn r a = front_letters (codes "fn") r refl a.names

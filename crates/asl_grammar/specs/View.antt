@@ -4,7 +4,7 @@ use Rattle.asl_grammar.specs.Lex.{number_value}
 use Rattle.asl_grammar.specs.declared.token.Token as code
 use Rattle.asl_grammar.specs.declared.token.Token.TheVariants as tokens
 use Rattle.asl_grammar.specs.declared.token.Spot as spot
-use Rattle.asl_grammar.specs.declared.lexer.Lexeme as lexeme
+use Rattle.asl_grammar.specs.declared.lexeme.Lexeme as lexeme
 use Rattle.asl_grammar.specs.Token.{Token, Fixed, Name, Number, Spot}
 
 -- a token with the bytes that its slice holds, a number with its value

@@ -2,8 +2,11 @@
 #![tactic(auto)]
 
 pub mod control;
+pub mod control_step;
 mod kinds;
 pub mod laws;
+pub mod lexeme;
 pub mod lexer;
 pub mod recognizer;
 pub mod token;
+pub mod value_step;

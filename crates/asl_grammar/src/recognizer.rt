@@ -10,7 +10,8 @@ ghost use Rattle.asl_grammar.specs.SeenView.{kinds_in, place_in};
 ghost use Rattle.asl_grammar.specs.Grammar.{Judges};
 ghost use Rattle.asl_grammar.specs.Depth.{IsDeep};
 
-use crate::control::{Act, Control, Kind, Opening, step};
+use crate::control::{Act, Control, Kind, Opening};
+use crate::control_step::step;
 use crate::kinds::Kinds;
 use crate::lexer::{Found, Tokens};
 use crate::token::{Mark, Token};
@@ -80,7 +81,7 @@ fn fault_at_end(control: Control<'_>, end: usize) -> Option<usize>
 ///
 /// # Errors
 ///
-/// An allocation failed: for each brace that is open behind 64 others, the function's own among them, a byte is asked
+/// An allocation failed: for each brace that is open after 64 others, the function's own among them, a byte is asked
 /// for. Then the tokens up to that brace begin a program.
 pub fn first_fault(alloc: Global, text: &[u8]) -> Result<Option<usize>, AllocError>
     ensures ok { IfOk result (Judges (tokens_of text.now) (length text.now)) }

@@ -1,8 +1,8 @@
 -- A register, or the cells of a class, that begin to point somewhere.
 use Rattle.std.proofs.Common.{◌≡◌, ◌≢◌, ℕ, ◌<◌, ◌⊎◌, inl, inr, List, length, Option, None, Some, Vec, Global, get_or, set, refl, sym, ap, ◌∙◌, subst, arith, length-set}
 use Rattle.std.proofs.lemmas.Bool.{cases_eq}
-use Rattle.asl_points_to.specs.declared.draft.Draft.{Draft}
-use Rattle.asl_points_to.specs.declared.flow.Place.{Place}
+use Rattle.asl_points_to.specs.declared.class_draft.ClassDraft.{ClassDraft}
+use Rattle.asl_points_to.specs.declared.value_flow.Place.{Place}
 use Rattle.asl_points_to.specs.Classes.{Classed, some_at, inside}
 use Rattle.asl_points_to.specs.Draft.{class_in, at, first, entry, IsDraft, IsForced, Keeps, CellsPointTo}
 use Rattle.std.proofs.lemmas.List.{get_or_read}
@@ -29,7 +29,7 @@ pub record IsPut (old new : List (List (Option ℕ))) (place : Place) (m : ℕ) 
   pub here : entry new place ≡ Some m
   pub others : (p : Place) → p ≢ place → entry new p ≡ entry old p
 
-pub put_forced : (c : Classed) (s : Draft) (rows : Vec (List (Option ℕ)) Global) (place : Place) (m : ℕ) → IsPut s.registers.items rows.items place m → IsForced c s → at c place ≡ Some (class_in c m) → IsForced c (record { sets = s.sets; registers = rows; cells = s.cells })
+pub put_forced : (c : Classed) (s : ClassDraft) (rows : Vec (List (Option ℕ)) Global) (place : Place) (m : ℕ) → IsPut s.registers.items rows.items place m → IsForced c s → at c place ≡ Some (class_in c m) → IsForced c (record { sets = s.sets; registers = rows; cells = s.cells })
 put_forced c s rows place m h f e = record {
   classes = f.classes;
   registers = λ p k is. elim (cases_place p place) [
@@ -43,7 +43,7 @@ put_forced c s rows place m h f e = record {
 }
 
 -- the draft after one in which the cells of the class of `x` pointed nowhere
-pub record IsFill (s : Draft) (x m here : ℕ) : Type 0 where
+pub record IsFill (s : ClassDraft) (x m here : ℕ) : Type 0 where
   pub draft : IsDraft s
   pub there : x < length s.sets
   pub member_there : m < length s.sets
@@ -51,7 +51,7 @@ pub record IsFill (s : Draft) (x m here : ℕ) : Type 0 where
   pub low : here < length s.sets
   pub nowhere : some_at s.cells.items here ≡ None
 
-module _ (s : Draft) (x m here : ℕ) (cells : Vec (Option ℕ) Global) (f : IsFill s x m here) (is : cells.items ≡ set s.cells.items here (Some m)) where
+module _ (s : ClassDraft) (x m here : ℕ) (cells : Vec (Option ℕ) Global) (f : IsFill s x m here) (is : cells.items ≡ set s.cells.items here (Some m)) where
   now_here : some_at cells.items here ≡ Some m
   now_here = ap (λ (xs : List (Option ℕ)). some_at xs here) is ∙ set_here s.cells.items here (Some m) (let l = f.draft.cells in let k = f.low in omega arith)
 
@@ -102,16 +102,16 @@ module _ (s : Draft) (x m here : ℕ) (cells : Vec (Option ℕ) Global) (f : IsF
       }
 
 -- what was read at the first member
-pub kept_at : (s : Draft) (here n : ℕ) (o : Option ℕ) → n ≡ length s.cells.items → here < n → o ≡ get_or s.cells.items here o → some_at s.cells.items here ≡ o
+pub kept_at : (s : ClassDraft) (here n : ℕ) (o : Option ℕ) → n ≡ length s.cells.items → here < n → o ≡ get_or s.cells.items here o → some_at s.cells.items here ≡ o
 kept_at s here n o len low is = read s.cells.items here ∙ sym (get_or_read s.cells.items here o (omega arith) is None)
 
-pub merged_points : (s new : Draft) (x m here other : ℕ) → here ≡ first s x → some_at s.cells.items here ≡ Some other → Keeps s new → first new other ≡ first new m → CellsPointTo new x m
+pub merged_points : (s new : ClassDraft) (x m here other : ℕ) → here ≡ first s x → some_at s.cells.items here ≡ Some other → Keeps s new → first new other ≡ first new m → CellsPointTo new x m
 merged_points s new x m here other e is k joined =
     let a = k.cells x other (ap (some_at s.cells.items) (sym e) ∙ is) in
     record { member = a.member; there = a.there; same = a.same ∙ joined }
 
 -- the classes have merged what pointed there before and what is to be pointed to
-pub merge_is_forced : (c : Classed) (s : Draft) (x m here other : ℕ) → here ≡ first s x → x < length s.sets → some_at s.cells.items here ≡ Some other → IsForced c s → inside c (class_in c x) ≡ Some (class_in c m) → class_in c other ≡ class_in c m
+pub merge_is_forced : (c : Classed) (s : ClassDraft) (x m here other : ℕ) → here ≡ first s x → x < length s.sets → some_at s.cells.items here ≡ Some other → IsForced c s → inside c (class_in c x) ≡ Some (class_in c m) → class_in c other ≡ class_in c m
 merge_is_forced c s x m here other e there is f points =
     let same : class_in c x ≡ class_in c here = f.classes x there ∙ ap (class_in c) (sym e) in
     let h : Some (class_in c other) ≡ Some (class_in c m) = sym (f.cells here other is) ∙ ap (inside c) (sym same) ∙ points in

@@ -3,7 +3,7 @@ use Rattle.std.proofs.Common.{◌≡◌, ◌≢◌, ℕ, ◌<◌, ◌⊎◌, inl
 use Rattle.std.proofs.Common.{Vec, Global}
 use Rattle.std.proofs.lemmas.Bool.{cases_eq}
 use Rattle.std.proofs.lemmas.List.{length-map}
-use Rattle.asl_points_to.specs.declared.draft.Draft.{Draft}
+use Rattle.asl_points_to.specs.declared.class_draft.ClassDraft.{ClassDraft}
 use Rattle.asl_points_to.specs.Classes.{Classed, some_at, inside}
 use Rattle.asl_points_to.specs.Sets.{joined}
 use Rattle.asl_points_to.specs.Draft.{class_in, first, IsDraft, IsForced, IsTakenOver, AreNext, IsMerged, IsForcedMerge}
@@ -15,7 +15,7 @@ first_joined (f ∷ fs) kept gone zero lt = refl
 first_joined (f ∷ fs) kept gone (suc m) lt = first_joined fs kept gone m lt
 
 -- a draft in which `kept` and `gone` were first members of classes, and the one after it
-pub record IsJoin (old : Draft) (sets : List ℕ) (cells : Vec (Option ℕ) Global) (left right kept gone : ℕ) (both : Option (ℕ × ℕ)) : Type 0 where
+pub record IsJoin (old : ClassDraft) (sets : List ℕ) (cells : Vec (Option ℕ) Global) (left right kept gone : ℕ) (both : Option (ℕ × ℕ)) : Type 0 where
   pub draft : IsDraft old
   pub left_there : left < length old.sets
   pub right_there : right < length old.sets
@@ -24,7 +24,7 @@ pub record IsJoin (old : Draft) (sets : List ℕ) (cells : Vec (Option ℕ) Glob
   pub sets_are : sets ≡ map (joined kept gone) old.sets
   pub taken : IsTakenOver old.cells.items cells.items kept gone both
 
-module _ (old : Draft) (sets : List ℕ) (cells : Vec (Option ℕ) Global) (left right kept gone : ℕ) (both : Option (ℕ × ℕ)) (j : IsJoin old sets cells left right kept gone both) where
+module _ (old : ClassDraft) (sets : List ℕ) (cells : Vec (Option ℕ) Global) (left right kept gone : ℕ) (both : Option (ℕ × ℕ)) (j : IsJoin old sets cells left right kept gone both) where
   first_now : (m : ℕ) → get_or sets m 0 ≡ joined kept gone (first old m)
   first_now m = ap (λ (fs : List ℕ). get_or fs m 0) j.sets_are ∙ first_joined old.sets kept gone m j.less
 
@@ -53,7 +53,7 @@ over old new sets kept gone m (Some p) stays goes e =
     let same : m ≡ p.1 = (let h : Some m ≡ Some p.1 = sym e ∙ goes.1 in cc) in
     (p.0, stays p.0 goes.0, inr (refl, ap (λ (n : ℕ). get_or sets n 0) same))
 
-next_is : (s : Draft) (both : Option (ℕ × ℕ)) (x y : ℕ) → MatchOption both ⊥ (λ p. (first s x ≡ first s p.0) × (first s y ≡ first s p.1)) → AreNext s both x y
+next_is : (s : ClassDraft) (both : Option (ℕ × ℕ)) (x y : ℕ) → MatchOption both ⊥ (λ p. (first s x ≡ first s p.0) × (first s y ≡ first s p.1)) → AreNext s both x y
 next_is s None x y h = h
 next_is s (Some p) x y h = h
 
@@ -67,10 +67,10 @@ pair_forced c old kept gone new (Some p) cells same goes =
     let h : Some (class_in c p.0) ≡ Some (class_in c p.1) = sym (cells kept p.0 goes.0) ∙ ap (inside c) same ∙ cells gone p.1 goes.1 in
     cc
 
-abbrev after : Draft → List ℕ → Vec (Option ℕ) Global → Draft
+abbrev after : ClassDraft → List ℕ → Vec (Option ℕ) Global → ClassDraft
 after old sets cells = record { sets = sets; registers = old.registers; cells = cells }
 
-pub is_merged : (old : Draft) (sets : List ℕ) (cells : Vec (Option ℕ) Global) (left right kept gone : ℕ) (both : Option (ℕ × ℕ)) → IsJoin old sets cells left right kept gone both → IsMerged old (after old sets cells) left right both
+pub is_merged : (old : ClassDraft) (sets : List ℕ) (cells : Vec (Option ℕ) Global) (left right kept gone : ℕ) (both : Option (ℕ × ℕ)) → IsJoin old sets cells left right kept gone both → IsMerged old (after old sets cells) left right both
 is_merged old sets cells left right kept gone both j =
     let t = j.taken in
     let new = after old sets cells in
@@ -104,7 +104,7 @@ cells_from old new kept gone both P t old_has goes x m e =
       ]
     ]
 
-pub is_draft : (old : Draft) (sets : List ℕ) (cells : Vec (Option ℕ) Global) (left right kept gone : ℕ) (both : Option (ℕ × ℕ)) → IsJoin old sets cells left right kept gone both → IsDraft (after old sets cells)
+pub is_draft : (old : ClassDraft) (sets : List ℕ) (cells : Vec (Option ℕ) Global) (left right kept gone : ℕ) (both : Option (ℕ × ℕ)) → IsJoin old sets cells left right kept gone both → IsDraft (after old sets cells)
 is_draft old sets cells left right kept gone both j =
     let len = same_length old sets cells left right kept gone both j in
     let P : ℕ → ℕ → Type 0 = λ x m. m < length sets in
@@ -114,7 +114,7 @@ is_draft old sets cells left right kept gone both j =
       cells_there = cells_from old.cells.items cells.items kept gone both P j.taken (λ x m e. let h = j.draft.cells_there x m e in omega arith) (λ m h. h);
     }
 
-pub is_forced : (c : Classed) (old : Draft) (sets : List ℕ) (cells : Vec (Option ℕ) Global) (left right kept gone : ℕ) (both : Option (ℕ × ℕ)) → IsJoin old sets cells left right kept gone both → IsForced c old → class_in c left ≡ class_in c right → IsForcedMerge c (after old sets cells) both
+pub is_forced : (c : Classed) (old : ClassDraft) (sets : List ℕ) (cells : Vec (Option ℕ) Global) (left right kept gone : ℕ) (both : Option (ℕ × ℕ)) → IsJoin old sets cells left right kept gone both → IsForced c old → class_in c left ≡ class_in c right → IsForcedMerge c (after old sets cells) both
 is_forced c old sets cells left right kept gone both j f e =
     let len = same_length old sets cells left right kept gone both j in
     let l = f.classes left j.left_there in

@@ -14,7 +14,7 @@ use Rattle.asl_lower.specs.Limits.{FitsTable}
 use Rattle.asl_lower.specs.Facts.{HasLayout}
 use Rattle.asl_lower.specs.LegalLowering.{IsLegalLowering}
 use Rattle.asl_lower.proofs.Layouts.{kept_layout}
-use Rattle.asl_points_to.specs.declared.draft.Draft.{Draft}
+use Rattle.asl_points_to.specs.declared.class_draft.ClassDraft.{ClassDraft}
 use Rattle.asl_points_to.specs.Classes.{Classed, some_at, to, members, Gives, IsLegalAt, IsLegal, GoInto, AreNumbered, AreClasses}
 use Rattle.asl_points_to.specs.Numbers.{AreNumbers, numbered, numbered_row, numbered_cells}
 use Rattle.asl_points_to.specs.Found.{IsSettled, IsNumbering}
@@ -64,7 +64,7 @@ in_wide numbers rows f r =
     mapped_row (numbered numbers) refl rows f r ∙ mapped_at (numbered numbers) refl (get_or rows f []) r
     ∙ ap (λ (k : ℕ). numbered numbers (some_at (get_or rows f []) k)) (let s : r ≡ 0 + r = omega arith in s)
 
-pub is_narrow : (l : Lowered) (s : Draft) (numbers firsts : List ℕ) (c : Classed) → IsNumbering l s numbers firsts c → IsNarrow l c (wide l s numbers firsts)
+pub is_narrow : (l : Lowered) (s : ClassDraft) (numbers firsts : List ℕ) (c : Classed) → IsNumbering l s numbers firsts c → IsNarrow l c (wide l s numbers firsts)
 is_narrow l s numbers firsts c n = record {
   globals = n.globals;
   sites = n.sites;
@@ -87,7 +87,7 @@ gives : (l : Lowered) (c w : Classed) → IsNarrow l c w → (f b g a : ℕ) (fn
 gives l c w n f b g a fn at lt h x e = n.more g a x fn at lt (h x (n.less f b x e))
 
 returned_below : (l : Lowered) → HasLayout l → (g pc r : ℕ) → InBody l g pc → slice_get l.code pc ≡ Some (instr.Return r) → (fn : entry.Function) × (slice_get l.functions g ≡ Some fn) × (r < fn.regs)
-returned_below l h g pc r b e = (b.function, b.in_table, h.operands pc g b.function (instr.Return r) b b.in_table e)
+returned_below l h g pc r b e = (b.function, b.in_table, (h.operands pc g b.function (instr.Return r) b b.in_table e).0)
 
 fits_at : (l : Lowered) → HasLayout l → (g : ℕ) (fn : entry.Function) → slice_get l.functions g ≡ Some fn → FitsTable fn
 fits_at l h g fn e =
@@ -135,7 +135,7 @@ narrow_goes l c w d n g = record {
   cells_go = λ x y e. g.cells_go x y (ap (λ (xs : List (Option ℕ)). some_at xs x) (sym n.cells) ∙ e);
 }
 
-pub are_classes : (l : Lowered) (s : Draft) (numbers firsts : List ℕ) (c : Classed) → IsLegalLowering l → IsSettled l s → AreNumbers s.sets numbers firsts → IsNumbering l s numbers firsts c → AreClasses l c
+pub are_classes : (l : Lowered) (s : ClassDraft) (numbers firsts : List ℕ) (c : Classed) → IsLegalLowering l → IsSettled l s → AreNumbers s.sets numbers firsts → IsNumbering l s numbers firsts c → AreClasses l c
 are_classes l s numbers firsts c kept se n is =
     let w = wide l s numbers firsts in
     let narrow = is_narrow l s numbers firsts c is in
@@ -178,7 +178,7 @@ rows_at (g ∷ fs) numbers rows n (suc k) f e =
     rows_at fs numbers rows (suc n) k f e
     ∙ ap (λ (m : ℕ). Some (numbered_row numbers (get_or rows m []) f.regs)) (let s : suc n + k ≡ n + suc k = omega arith in s)
 
-pub some_classes : (l : Lowered) (s : Draft) (numbers firsts : List ℕ) → IsLegalLowering l → IsSettled l s → AreNumbers s.sets numbers firsts → (c : Classed) × AreClasses l c × (c.count ≡ length firsts)
+pub some_classes : (l : Lowered) (s : ClassDraft) (numbers firsts : List ℕ) → IsLegalLowering l → IsSettled l s → AreNumbers s.sets numbers firsts → (c : Classed) × AreClasses l c × (c.count ≡ length firsts)
 some_classes l s numbers firsts kept se n =
     let c : Classed = record { count = length firsts; globals = take l.globals numbers; sites = drop l.globals numbers; registers = rows_of l.functions numbers s.registers.items 0; cells = numbered_cells numbers s.cells.items firsts } in (
       c,

@@ -16,8 +16,8 @@ use Rattle.asl_lower.specs.Limits.{FitsTable}
 use Rattle.asl_lower.specs.Facts.{HasLayout}
 use Rattle.asl_lower.specs.LegalLowering.{IsLegalLowering}
 use Rattle.asl_lower.proofs.Layouts.{kept_layout}
-use Rattle.asl_points_to.specs.declared.flow.Flow.{Flow}
-use Rattle.asl_points_to.specs.declared.flow.Flow.TheVariants as flow
+use Rattle.asl_points_to.specs.declared.value_flow.Flow.{Flow}
+use Rattle.asl_points_to.specs.declared.value_flow.Flow.TheVariants as flow
 use Rattle.asl_points_to.specs.Classes.{Classed, to, members, Gives, IsLegalAt}
 use Rattle.asl_points_to.specs.Draft.{class_in, Holds, IsThere}
 use Rattle.asl_points_to.specs.Flows.{place, plain_flow, argument_flows, call_flows, HasMembers, AreThere, Stands, AddsFlows, AreFlows}
@@ -46,8 +46,8 @@ of_site l c s h lt =
 plain_holds : (l : Lowered) (c : Classed) (f n : ℕ) (i : Instr) → HasMembers l c → HasOperands l n i → IsLegalAt l c f i → HoldsIf c (plain_flow l.globals f i)
 plain_holds l c f n (instr.Move a b) h o k = k
 plain_holds l c f n (instr.FieldAddress a b d) h o k = k
-plain_holds l c f n (instr.GlobalAddress a g) h o k = k (class_in c g) (of_global l c g h o.1)
-plain_holds l c f n (instr.New a m s) h o k = k (class_in c (l.globals + s)) (of_site l c s h o.2)
+plain_holds l c f n (instr.GlobalAddress a g) h o k = k (class_in c g) (of_global l c g h o.1.0)
+plain_holds l c f n (instr.New a m s) h o k = k (class_in c (l.globals + s)) (of_site l c s h o.1.1.0)
 plain_holds l c f n (instr.Load a b) h o k = k
 plain_holds l c f n (instr.Store a b) h o k = k
 plain_holds l c f n i h o k = tt
@@ -55,8 +55,8 @@ plain_holds l c f n i h o k = tt
 plain_legal : (l : Lowered) (c : Classed) (f n : ℕ) (i : Instr) → IsPlain i → HasMembers l c → HasOperands l n i → HoldsIf c (plain_flow l.globals f i) → IsLegalAt l c f i
 plain_legal l c f n (instr.Move a b) p h o k = k
 plain_legal l c f n (instr.FieldAddress a b d) p h o k = k
-plain_legal l c f n (instr.GlobalAddress a g) p h o k = λ x e. k ∙ sym (of_global l c g h o.1) ∙ e
-plain_legal l c f n (instr.New a m s) p h o k = λ x e. k ∙ sym (of_site l c s h o.2) ∙ e
+plain_legal l c f n (instr.GlobalAddress a g) p h o k = λ x e. k ∙ sym (of_global l c g h o.1.0) ∙ e
+plain_legal l c f n (instr.New a m s) p h o k = λ x e. k ∙ sym (of_site l c s h o.1.1.0) ∙ e
 plain_legal l c f n (instr.Load a b) p h o k = k
 plain_legal l c f n (instr.Store a b) p h o k = k
 plain_legal l c f n (instr.Call a b g) p h o k = absurd p
@@ -65,8 +65,8 @@ plain_legal l c f n i p h o k = tt
 plain_there : (l : Lowered) (f n : ℕ) (i : Instr) → f < length l.functions → HasOperands l n i → IsThereIf l (plain_flow l.globals f i)
 plain_there l f n (instr.Move a b) lt o = (lt, lt)
 plain_there l f n (instr.FieldAddress a b d) lt o = (lt, lt)
-plain_there l f n (instr.GlobalAddress a g) lt o = let h = o.1 in (omega arith, lt)
-plain_there l f n (instr.New a m s) lt o = let h = o.2 in (omega arith, lt)
+plain_there l f n (instr.GlobalAddress a g) lt o = let h = o.1.0 in (omega arith, lt)
+plain_there l f n (instr.New a m s) lt o = let h = o.1.1.0 in (omega arith, lt)
 plain_there l f n (instr.Load a b) lt o = (lt, lt)
 plain_there l f n (instr.Store a b) lt o = (lt, lt)
 plain_there l f n i lt o = tt
@@ -217,13 +217,13 @@ called l f i a first callee n fs d k s is same e =
     let h = facts l f i k s in
     let Has : Instr → Type 0 = λ x. HasOperands l h.function.regs x in
     let o = subst Has is h.operands in
-    let there : slice_get l.functions callee ≡ Some o.1.function = o.1.in_table in
-    let read : get_or fs n d ≡ o.1.function =
-    ap (λ (xs : List entry.Function). get_or xs n d) same ∙ ap (λ (x : ℕ). get_or l.functions x d) e ∙ get_or_from_slice_get l.functions callee o.1.function d there in
+    let there : slice_get l.functions callee ≡ Some o.1.0.function = o.1.0.in_table in
+    let read : get_or fs n d ≡ o.1.0.function =
+    ap (λ (xs : List entry.Function). get_or xs n d) same ∙ ap (λ (x : ℕ). get_or l.functions x d) e ∙ get_or_from_slice_get l.functions callee o.1.0.function d there in
     record {
       in_table = there ∙ ap Some (sym read);
-      low = slice_get_within l.functions callee o.1.function there;
-      arguments = omega (arith, ap (λ (x : entry.Function). x.params) read, o.1.arguments, h.few);
+      low = slice_get_within l.functions callee o.1.0.function there;
+      arguments = omega (arith, ap (λ (x : entry.Function). x.params) read, o.1.0.arguments, h.few);
     }
 
 -- a function of the table, read by its number, and its body

@@ -3,15 +3,15 @@ use Rattle.std.proofs.Common.{◌≡◌, ℕ, ◌+◌, ◌≤◌, ◌⊎◌, inl
 use Rattle.std.specs.List.{All, Contains}
 use Rattle.std.proofs.lemmas.List.{length_push}
 use Rattle.std.proofs.lemmas.List.Elements.{All-contains, Contains-get_or, Contains-append_left, Contains-push, Contains-push_cases}
-use Rattle.asl_points_to.specs.declared.draft.Draft.{Draft}
-use Rattle.asl_points_to.specs.declared.flow.Flow.{Flow}
+use Rattle.asl_points_to.specs.declared.class_draft.ClassDraft.{ClassDraft}
+use Rattle.asl_points_to.specs.declared.value_flow.Flow.{Flow}
 use Rattle.asl_points_to.specs.Classes.{Classed}
 use Rattle.asl_points_to.specs.Draft.{Holds, IsThere, IsDraft, IsForced, Keeps, HasFlowed, IsIdle}
 use Rattle.asl_points_to.proofs.Keeping.{keeps_itself, keeps_on, flowed_on}
 
 -- so it stands within a round: each flow has flowed, is left, or waits; and where as many are left or wait as there were, nothing
 -- has changed, and those that are left are idle
-pub record IsRound (flows : List Flow) (old now : Draft) (left waiting : List Flow) : Type 0 where
+pub record IsRound (flows : List Flow) (old now : ClassDraft) (left waiting : List Flow) : Type 0 where
   pub draft : IsDraft now
   pub keeps : Keeps old now
   pub fewer : length left + length waiting ≤ length flows
@@ -24,7 +24,7 @@ pub record IsRound (flows : List Flow) (old now : Draft) (left waiting : List Fl
 contains_none : (f : Flow) → Contains [] f → ⊥
 contains_none f h = omega (arith, h.1)
 
-pub round_begins : (flows : List Flow) (s : Draft) → IsDraft s → IsRound flows s s [] flows
+pub round_begins : (flows : List Flow) (s : ClassDraft) → IsDraft s → IsRound flows s s [] flows
 round_begins flows s d = record {
   draft = d;
   keeps = keeps_itself s;
@@ -37,7 +37,7 @@ round_begins flows s d = record {
 }
 
 -- the flow that waits last is there
-pub last_there : (flows : List Flow) (old now : Draft) (left before waiting : List Flow) (f : Flow) → waiting ≡ before ++ f ∷ [] → IsRound flows old now left waiting → All (IsThere (length old.registers.items) (length old.sets)) flows → IsThere (length now.registers.items) (length now.sets) f
+pub last_there : (flows : List Flow) (old now : ClassDraft) (left before waiting : List Flow) (f : Flow) → waiting ≡ before ++ f ∷ [] → IsRound flows old now left waiting → All (IsThere (length old.registers.items) (length old.sets)) flows → IsThere (length now.registers.items) (length now.sets) f
 last_there flows old now left before waiting f e r there =
     let W : List Flow → Type 0 = λ w. Contains w f in
     let inside = r.waiting_among f (subst W (sym e) (Contains-push before f)) in
@@ -47,7 +47,7 @@ last_there flows old now left before waiting f e r there =
     subst Q (sym r.keeps.members) (subst P (sym r.keeps.functions) h)
 
 -- it flows
-pub round_flows : (flows : List Flow) (old now new : Draft) (left before waiting : List Flow) (f : Flow) → waiting ≡ before ++ f ∷ [] → IsRound flows old now left waiting → IsDraft new → Keeps now new → HasFlowed new f → ((c : Classed) → IsForced c now → Holds c f → IsForced c new) → IsRound flows old new left before
+pub round_flows : (flows : List Flow) (old now new : ClassDraft) (left before waiting : List Flow) (f : Flow) → waiting ≡ before ++ f ∷ [] → IsRound flows old now left waiting → IsDraft new → Keeps now new → HasFlowed new f → ((c : Classed) → IsForced c now → Holds c f → IsForced c new) → IsRound flows old new left before
 round_flows flows old now new left before waiting f e r d k has forced =
     let W : List Flow → Type 0 = λ w. Contains w f in
     let inside = r.waiting_among f (subst W (sym e) (Contains-push before f)) in
@@ -71,13 +71,13 @@ round_flows flows old now new left before waiting f e r d k has forced =
     }
 
 -- it is idle
-pub round_leaves : (flows : List Flow) (old now new : Draft) (left before waiting : List Flow) (f : Flow) → waiting ≡ before ++ f ∷ [] → IsRound flows old now left waiting → new ≡ now → IsIdle now f → IsRound flows old new (left ++ f ∷ []) before
+pub round_leaves : (flows : List Flow) (old now new : ClassDraft) (left before waiting : List Flow) (f : Flow) → waiting ≡ before ++ f ∷ [] → IsRound flows old now left waiting → new ≡ now → IsIdle now f → IsRound flows old new (left ++ f ∷ []) before
 round_leaves flows old now new left before waiting f e r same idle =
     let W : List Flow → Type 0 = λ w. Contains w f in
     let inside = r.waiting_among f (subst W (sym e) (Contains-push before f)) in
     let len : length waiting ≡ length before + 1 = ap length e ∙ length_push before f in
     let more : length (left ++ f ∷ []) ≡ length left + 1 = length_push left f in
-    let P : Draft → Type 0 = λ d. IsRound flows old d (left ++ f ∷ []) before in
+    let P : ClassDraft → Type 0 = λ d. IsRound flows old d (left ++ f ∷ []) before in
     subst P (sym same) (record {
       draft = r.draft;
       keeps = r.keeps;
@@ -102,14 +102,14 @@ round_leaves flows old now new left before waiting f e r same idle =
     })
 
 -- so it stands between two rounds
-pub record IsSettling (flows : List Flow) (old now : Draft) (waiting : List Flow) : Type 0 where
+pub record IsSettling (flows : List Flow) (old now : ClassDraft) (waiting : List Flow) : Type 0 where
   pub draft : IsDraft now
   pub keeps : Keeps old now
   pub flowed : (f : Flow) → Contains flows f → HasFlowed now f ⊎ Contains waiting f
   pub among : (f : Flow) → Contains waiting f → Contains flows f
   pub forced : (c : Classed) → IsForced c old → All (Holds c) flows → IsForced c now
 
-pub settling_begins : (flows : List Flow) (s : Draft) → IsDraft s → IsSettling flows s s flows
+pub settling_begins : (flows : List Flow) (s : ClassDraft) → IsDraft s → IsSettling flows s s flows
 settling_begins flows s d =
     record { draft = d; keeps = keeps_itself s; flowed = λ f h. inr h; among = λ f h. h; forced = λ c f h. f }
 
@@ -117,21 +117,21 @@ settling_begins flows s d =
 pub all_waiting : (P : Flow → Type 0) (flows waiting : List Flow) → ((f : Flow) → Contains waiting f → Contains flows f) → All P flows → All P waiting
 all_waiting P flows waiting among h = λ k d low. All-contains P flows (get_or waiting k d) h (among (get_or waiting k d) (Contains-get_or waiting k d low))
 
-pub settles_there : (flows : List Flow) (old now : Draft) (waiting : List Flow) → IsSettling flows old now waiting → All (IsThere (length old.registers.items) (length old.sets)) flows → All (IsThere (length now.registers.items) (length now.sets)) waiting
+pub settles_there : (flows : List Flow) (old now : ClassDraft) (waiting : List Flow) → IsSettling flows old now waiting → All (IsThere (length old.registers.items) (length old.sets)) flows → All (IsThere (length now.registers.items) (length now.sets)) waiting
 settles_there flows old now waiting s h =
     let P : ℕ → Type 0 = λ n. All (IsThere n (length old.sets)) waiting in
     let Q : ℕ → Type 0 = λ n. All (IsThere (length now.registers.items) n) waiting in
     subst Q (sym s.keeps.members) (subst P (sym s.keeps.functions) (all_waiting (IsThere (length old.registers.items) (length old.sets)) flows waiting s.among h))
 
 -- a round more
-pub record IsDone (waiting : List Flow) (now new : Draft) (left : List Flow) : Type 0 where
+pub record IsDone (waiting : List Flow) (now new : ClassDraft) (left : List Flow) : Type 0 where
   pub draft : IsDraft new
   pub keeps : Keeps now new
   pub flowed : (f : Flow) → Contains waiting f → HasFlowed new f ⊎ Contains left f
   pub among : (f : Flow) → Contains left f → Contains waiting f
   pub forced : (c : Classed) → IsForced c now → All (Holds c) waiting → IsForced c new
 
-pub settling_goes : (flows : List Flow) (old now new : Draft) (waiting left : List Flow) → IsSettling flows old now waiting → IsDone waiting now new left → IsSettling flows old new left
+pub settling_goes : (flows : List Flow) (old now new : ClassDraft) (waiting left : List Flow) → IsSettling flows old now waiting → IsDone waiting now new left → IsSettling flows old new left
 settling_goes flows old now new waiting left s r = record {
   draft = r.draft;
   keeps = keeps_on old now new s.keeps r.keeps;

@@ -6,10 +6,10 @@ use Rattle.std.proofs.lemmas.Option.{slice_get-get_or, slice_get_within, get_or_
 use Rattle.asl_lower.specs.Lowered.{Lowered}
 use Rattle.asl_lower.specs.LegalLowering.{IsLegalLowering}
 use Rattle.asl_lower.proofs.Layouts.{kept_layout}
-use Rattle.asl_points_to.specs.declared.draft.Draft.{Draft}
-use Rattle.asl_points_to.specs.declared.flow.Place.{Place}
-use Rattle.asl_points_to.specs.declared.flow.Flow.{Flow}
-use Rattle.asl_points_to.specs.declared.flow.Flow.TheVariants as flow
+use Rattle.asl_points_to.specs.declared.class_draft.ClassDraft.{ClassDraft}
+use Rattle.asl_points_to.specs.declared.value_flow.Place.{Place}
+use Rattle.asl_points_to.specs.declared.value_flow.Flow.{Flow}
+use Rattle.asl_points_to.specs.declared.value_flow.Flow.TheVariants as flow
 use Rattle.asl_points_to.specs.Classes.{Classed, some_at, inside, members, IsLegal, GoInto}
 use Rattle.asl_points_to.specs.Draft.{class_in, at, first, entry, pointed, inner, Holds, IsThere, HasFlowed, IsIdle}
 use Rattle.asl_points_to.specs.Numbers.{AreNumbers, numbered, numbered_cells}
@@ -43,7 +43,7 @@ pub from_numbered : (numbers : List ℕ) (o : Option ℕ) (x : ℕ) → numbered
 from_numbered numbers None x e = absurd cc
 from_numbered numbers (Some m) x e = (m, refl, cc)
 
-abbrev pub wide : Lowered → Draft → List ℕ → List ℕ → Classed
+abbrev pub wide : Lowered → ClassDraft → List ℕ → List ℕ → Classed
 wide l s numbers firsts =
     record {
       count = length firsts;
@@ -53,7 +53,7 @@ wide l s numbers firsts =
       cells = numbered_cells numbers s.cells.items firsts;
     }
 
-module _ (l : Lowered) (s : Draft) (numbers firsts : List ℕ) (settled : IsSettled l s) (n : AreNumbers s.sets numbers firsts) where
+module _ (l : Lowered) (s : ClassDraft) (numbers firsts : List ℕ) (settled : IsSettled l s) (n : AreNumbers s.sets numbers firsts) where
   -- two members have one number exactly where they have one first member
   number_of_first : (m : ℕ) → m < length s.sets → get_or numbers (first s m) 0 ≡ get_or numbers m 0
   number_of_first m lt = (n.on (get_or numbers m 0) (first s m) (n.back m lt)).1
@@ -90,7 +90,7 @@ module _ (l : Lowered) (s : Draft) (numbers firsts : List ℕ) (settled : IsSett
   inner_there x m e = settled.draft.cells_there (first s x) m e
 
 -- each flow has what it is owed
-pub flow_holds : (l : Lowered) (s : Draft) (numbers firsts : List ℕ) → IsSettled l s → AreNumbers s.sets numbers firsts → (functions : ℕ) (f : Flow) → IsThere functions (length s.sets) f → HasFlowed s f ⊎ IsIdle s f → Holds (wide l s numbers firsts) f
+pub flow_holds : (l : Lowered) (s : ClassDraft) (numbers firsts : List ℕ) → IsSettled l s → AreNumbers s.sets numbers firsts → (functions : ℕ) (f : Flow) → IsThere functions (length s.sets) f → HasFlowed s f ⊎ IsIdle s f → Holds (wide l s numbers firsts) f
 flow_holds l s numbers firsts se n fs (flow.Member m a) t (inl h) =
     at_some l s numbers firsts se n a h.member h.there
     ∙ ap Some (same_number l s numbers firsts se n h.member m (there l s numbers firsts se n a h.member h.there) t.0 h.same ∙ sym (class_is l s numbers firsts se n m))
@@ -140,7 +140,7 @@ flow_holds l s numbers firsts se n fs (flow.Store a b) t (inr (inr h)) = λ x y 
     let no : None ≡ Some k.0 = sym h ∙ k.1 in
     absurd cc)
 
-pub wide_legal : (l : Lowered) (s : Draft) (numbers firsts : List ℕ) → IsLegalLowering l → IsSettled l s → AreNumbers s.sets numbers firsts → IsLegal l (wide l s numbers firsts)
+pub wide_legal : (l : Lowered) (s : ClassDraft) (numbers firsts : List ℕ) → IsLegalLowering l → IsSettled l s → AreNumbers s.sets numbers firsts → IsLegal l (wide l s numbers firsts)
 wide_legal l s numbers firsts kept se n =
     let len : length numbers ≡ l.globals + l.sites = n.len ∙ se.members in
     let globals : length (take l.globals numbers) ≡ l.globals = length-take l.globals numbers ∙ omega arith in
@@ -158,7 +158,7 @@ wide_legal l s numbers firsts kept se n =
           f pc i ((kept_layout l kept).parted.in_code pc f b) b e;
     }
 
-pub wide_goes : (l : Lowered) (s : Draft) (numbers firsts : List ℕ) → IsSettled l s → AreNumbers s.sets numbers firsts → (d : Classed) → IsLegal l d → GoInto (wide l s numbers firsts) d
+pub wide_goes : (l : Lowered) (s : ClassDraft) (numbers firsts : List ℕ) → IsSettled l s → AreNumbers s.sets numbers firsts → (d : Classed) → IsLegal l d → GoInto (wide l s numbers firsts) d
 wide_goes l s numbers firsts se n d legal =
     let f = se.forced d legal in
     let into : ℕ → ℕ = λ k. class_in d (get_or firsts k 0) in

@@ -1,11 +1,11 @@
--- Machinery of the proofs, not of the promise: the classes as src/draft.rt finds them, step by step: which
+-- Machinery of the proofs, not of the promise: the classes as src/class_draft.rt finds them, step by step: which
 -- members have been put into one class, and to which members registers and cells point. What contracts of the crate's calls
 -- cite is specs/Classes.
 use Rattle.std.specs.Prelude.{◌≡◌, ◌≢◌, ◌+◌, ◌<◌, ◌≤◌, ◌⊎◌, ℕ, suc, if◌then◌else◌, List, [], ◌∷◌, length, Option, None, Some, is_some, MatchOption, slice_get, slice_index, option_and_then}
-use Rattle.asl_points_to.specs.declared.flow.Place.{Place}
-use Rattle.asl_points_to.specs.declared.flow.Flow.{Flow}
-use Rattle.asl_points_to.specs.declared.flow.Flow.TheVariants as flow
-use Rattle.asl_points_to.specs.declared.draft.Draft.{Draft}
+use Rattle.asl_points_to.specs.declared.value_flow.Place.{Place}
+use Rattle.asl_points_to.specs.declared.value_flow.Flow.{Flow}
+use Rattle.asl_points_to.specs.declared.value_flow.Flow.TheVariants as flow
+use Rattle.asl_points_to.specs.declared.class_draft.ClassDraft.{ClassDraft}
 use Rattle.asl_points_to.specs.Classes.{Classed, some_at, to, inside, members}
 
 -- the class of a member, and where a register points
@@ -23,7 +23,7 @@ Holds c (flow.Load b a) = (x y : ℕ) → at c b ≡ Some x → inside c x ≡ S
 Holds c (flow.Store a b) = (x y : ℕ) → at c a ≡ Some x → at c b ≡ Some y → inside c x ≡ Some y
 
 -- the first member of a member's class
-abbrev pub first : Draft → ℕ → ℕ
+abbrev pub first : ClassDraft → ℕ → ℕ
 first s m = slice_index s.sets m
 
 -- the member to whose class a register points, and the one to whose class the cells of a member's class point
@@ -31,38 +31,38 @@ abbrev pub entry : List (List (Option ℕ)) → Place → Option ℕ
 entry registers p =
     option_and_then (λ (row : List (Option ℕ)). some_at row p.register) (slice_get registers p.function)
 
-abbrev pub pointed : Draft → Place → Option ℕ
+abbrev pub pointed : ClassDraft → Place → Option ℕ
 pointed s p = entry s.registers.items p
 
-abbrev pub inner : Draft → ℕ → Option ℕ
+abbrev pub inner : ClassDraft → ℕ → Option ℕ
 inner s m = some_at s.cells.items (first s m)
 
 -- the tables of a draft fit together: each member has a place for the cells of its class, and only members are pointed to
-pub record IsDraft (s : Draft) : Type 0 where
+pub record IsDraft (s : ClassDraft) : Type 0 where
   pub cells : length s.cells.items ≡ length s.sets
   pub pointed_there : (p : Place) (m : ℕ) → pointed s p ≡ Some m → m < length s.sets
   pub cells_there : (x m : ℕ) → some_at s.cells.items x ≡ Some m → m < length s.sets
 
 -- all that a draft says is so in the classes: members that share a class share one there, and what a register or cells point to
 -- there is the class of the member that they point to
-pub record IsForced (c : Classed) (s : Draft) : Type 0 where
+pub record IsForced (c : Classed) (s : ClassDraft) : Type 0 where
   pub classes : (m : ℕ) → m < length s.sets → class_in c m ≡ class_in c (first s m)
   pub registers : (p : Place) (m : ℕ) → pointed s p ≡ Some m → at c p ≡ Some (class_in c m)
   pub cells : (x m : ℕ) → some_at s.cells.items x ≡ Some m → inside c (class_in c x) ≡ Some (class_in c m)
 
 -- the register, or the cells of a member's class, point to the class of the member `m`
-pub record PointsTo (s : Draft) (p : Place) (m : ℕ) : Type 0 where
+pub record PointsTo (s : ClassDraft) (p : Place) (m : ℕ) : Type 0 where
   pub member : ℕ
   pub there : pointed s p ≡ Some member
   pub same : first s member ≡ first s m
 
-pub record CellsPointTo (s : Draft) (x m : ℕ) : Type 0 where
+pub record CellsPointTo (s : ClassDraft) (x m : ℕ) : Type 0 where
   pub member : ℕ
   pub there : inner s x ≡ Some member
   pub same : first s member ≡ first s m
 
 -- a draft keeps what the one before it said
-pub record Keeps (old new : Draft) : Type 0 where
+pub record Keeps (old new : ClassDraft) : Type 0 where
   pub members : length new.sets ≡ length old.sets
   pub functions : length new.registers.items ≡ length old.registers.items
   pub classes : (m n : ℕ) → first old m ≡ first old n → first new m ≡ first new n
@@ -70,33 +70,33 @@ pub record Keeps (old new : Draft) : Type 0 where
   pub cells : (x m : ℕ) → inner old x ≡ Some m → CellsPointTo new x m
 
 -- what flows, has flowed
-pub record HasLoaded (s : Draft) (b a : Place) : Type 0 where
+pub record HasLoaded (s : ClassDraft) (b a : Place) : Type 0 where
   pub address : ℕ
   pub source : ℕ
   pub address_there : pointed s b ≡ Some address
   pub source_there : inner s address ≡ Some source
   pub into : PointsTo s a source
 
-pub record HasStored (s : Draft) (a b : Place) : Type 0 where
+pub record HasStored (s : ClassDraft) (a b : Place) : Type 0 where
   pub address : ℕ
   pub source : ℕ
   pub address_there : pointed s a ≡ Some address
   pub source_there : pointed s b ≡ Some source
   pub into : CellsPointTo s address source
 
-pub record HasCopied (s : Draft) (b a : Place) : Type 0 where
+pub record HasCopied (s : ClassDraft) (b a : Place) : Type 0 where
   pub source : ℕ
   pub source_there : pointed s b ≡ Some source
   pub into : PointsTo s a source
 
-abbrev pub HasFlowed : Draft → Flow → Type 0
+abbrev pub HasFlowed : ClassDraft → Flow → Type 0
 HasFlowed s (flow.Member m a) = PointsTo s a m
 HasFlowed s (flow.Copy b a) = HasCopied s b a
 HasFlowed s (flow.Load b a) = HasLoaded s b a
 HasFlowed s (flow.Store a b) = HasStored s a b
 
 -- nothing is there to flow
-abbrev pub IsIdle : Draft → Flow → Type 0
+abbrev pub IsIdle : ClassDraft → Flow → Type 0
 IsIdle s (flow.Member m a) = ⊥
 IsIdle s (flow.Copy b a) = pointed s b ≡ None
 IsIdle s (flow.Load b a) = (address : ℕ) → pointed s b ≡ Some address → inner s address ≡ None
@@ -126,12 +126,12 @@ pub record IsTakenOver (old new : List (Option ℕ)) (kept gone : ℕ) (both : O
   pub fewer : filled new + (if is_some both then 1 else 0) ≤ filled old
 
 -- the classes of these two members are those that are still to be merged
-abbrev pub AreNext : Draft → Option (ℕ × ℕ) → ℕ → ℕ → Type 0
+abbrev pub AreNext : ClassDraft → Option (ℕ × ℕ) → ℕ → ℕ → Type 0
 AreNext s None x y = ⊥
 AreNext s (Some p) x y = (first s x ≡ first s p.0) × (first s y ≡ first s p.1)
 
 -- the classes of two members are merged; where the cells of both point somewhere, those classes are to be merged next
-pub record IsMerged (old new : Draft) (left right : ℕ) (next : Option (ℕ × ℕ)) : Type 0 where
+pub record IsMerged (old new : ClassDraft) (left right : ℕ) (next : Option (ℕ × ℕ)) : Type 0 where
   pub members : length new.sets ≡ length old.sets
   pub registers : new.registers ≡ old.registers
   pub joined : first new left ≡ first new right
@@ -140,6 +140,6 @@ pub record IsMerged (old new : Draft) (left right : ℕ) (next : Option (ℕ × 
   pub there : MatchOption next (Unit {0}) (λ p. (p.0 < length new.sets) × (p.1 < length new.sets))
 
 -- so it is in all classes in which the two members share a class
-pub record IsForcedMerge (c : Classed) (new : Draft) (next : Option (ℕ × ℕ)) : Type 0 where
+pub record IsForcedMerge (c : Classed) (new : ClassDraft) (next : Option (ℕ × ℕ)) : Type 0 where
   pub draft : IsForced c new
   pub both : MatchOption next (Unit {0}) (λ p. class_in c p.0 ≡ class_in c p.1)

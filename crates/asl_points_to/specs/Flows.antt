@@ -1,13 +1,13 @@
--- Machinery of the proofs, not of the promise: the flows of instructions, as src/flows.rt lists them.
+-- Machinery of the proofs, not of the promise: the flows of instructions, as src/value_flows.rt lists them.
 use Rattle.std.specs.Prelude.{◌≡◌, ◌+◌, ◌<◌, ℕ, zero, suc, List, [], ◌∷◌, ◌++◌, length, Option, None, Some, slice_get}
 use Rattle.std.specs.List.{All}
 use Rattle.asl_code.specs.declared.instr.Instr.{Instr}
 use Rattle.asl_code.specs.declared.instr.Instr.TheVariants as instr
 use Rattle.asl_lower.specs.Lowered.{Lowered}
 use Rattle.asl_lower.specs.Region.{InBody}
-use Rattle.asl_points_to.specs.declared.flow.Place.{Place}
-use Rattle.asl_points_to.specs.declared.flow.Flow.{Flow}
-use Rattle.asl_points_to.specs.declared.flow.Flow.TheVariants as flow
+use Rattle.asl_points_to.specs.declared.value_flow.Place.{Place}
+use Rattle.asl_points_to.specs.declared.value_flow.Flow.{Flow}
+use Rattle.asl_points_to.specs.declared.value_flow.Flow.TheVariants as flow
 use Rattle.asl_points_to.specs.Classes.{Classed, IsLegalAt}
 use Rattle.asl_points_to.specs.Draft.{Holds, IsThere}
 

@@ -4,21 +4,21 @@ use Rattle.std.specs.Prelude.{◌≡◌, ◌+◌, ◌⊎◌, ℕ, List, [], leng
 use Rattle.std.specs.List.{Contains}
 use Rattle.asl_code.specs.declared.image.Function as entry
 use Rattle.asl_lower.specs.Lowered.{Lowered}
-use Rattle.asl_points_to.specs.declared.draft.Draft.{Draft}
-use Rattle.asl_points_to.specs.declared.flow.Flow.{Flow}
+use Rattle.asl_points_to.specs.declared.class_draft.ClassDraft.{ClassDraft}
+use Rattle.asl_points_to.specs.declared.value_flow.Flow.{Flow}
 use Rattle.asl_points_to.specs.Classes.{Classed, IsLegal}
 use Rattle.asl_points_to.specs.Draft.{IsDraft, IsForced, HasFlowed, IsIdle}
 use Rattle.asl_points_to.specs.Flows.{AreFlows}
 use Rattle.asl_points_to.specs.Numbers.{numbered_row, numbered_cells}
 
 -- all flows of the program have flowed or have nothing to flow, in a draft
-pub record HasSettled (l : Lowered) (s : Draft) : Type 0 where
+pub record HasSettled (l : Lowered) (s : ClassDraft) : Type 0 where
   pub flows : List Flow
   pub are : AreFlows l (length l.code) flows
   pub each : (f : Flow) → Contains flows f → HasFlowed s f ⊎ IsIdle s f
 
 -- the draft is of the program, is settled, and what it says is so in all legal classes
-pub record IsSettled (l : Lowered) (s : Draft) : Type 0 where
+pub record IsSettled (l : Lowered) (s : ClassDraft) : Type 0 where
   pub draft : IsDraft s
   pub members : length s.sets ≡ l.globals + l.sites
   pub functions : length s.registers.items ≡ length l.functions
@@ -31,7 +31,7 @@ pub record AreRows (functions : List entry.Function) (numbers : List ℕ) (rows 
   pub each : (n : ℕ) (f : entry.Function) → slice_get functions n ≡ Some f → slice_get numbered_rows n ≡ Some (numbered_row numbers (slice_index_or rows n []) f.regs)
 
 -- the classes of a settled draft, with these numbers of its members
-pub record IsNumbering (l : Lowered) (s : Draft) (numbers firsts : List ℕ) (c : Classed) : Type 0 where
+pub record IsNumbering (l : Lowered) (s : ClassDraft) (numbers firsts : List ℕ) (c : Classed) : Type 0 where
   pub count : c.count ≡ length firsts
   pub globals : c.globals ≡ take l.globals numbers
   pub sites : c.sites ≡ drop l.globals numbers

@@ -1,4 +1,4 @@
--- Machinery of the proofs, not of the promise: the numbers of classes, as src/numbers.rt gives them.
+-- Machinery of the proofs, not of the promise: the numbers of classes, as src/class_numbers.rt gives them.
 use Rattle.std.specs.Prelude.{◌≡◌, ◌<◌, ℕ, List, length, Option, Some, map, option_map, slice_get, slice_index}
 use Rattle.std.specs.List.{range_with_len}
 use Rattle.asl_points_to.specs.Classes.{AreNumbered, some_at}

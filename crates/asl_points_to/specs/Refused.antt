@@ -6,6 +6,6 @@ use Rattle.asl_points_to.specs.declared.fault.ClassesFault.TheVariants.{TooManyC
 use Rattle.asl_points_to.specs.Classes.{Classed, AreClasses}
 
 -- the classes of the program are more than 1,024; running out of memory says nothing of the program
-abbrev pub IsRefused : Lowered → ClassesFault → Type 0
-IsRefused l TooManyClasses = (c : Classed) × AreClasses l c × (1024 < c.count)
-IsRefused l OutOfMemory = Unit {0}
+abbrev pub IsRefusedClasses : Lowered → ClassesFault → Type 0
+IsRefusedClasses l TooManyClasses = (c : Classed) × AreClasses l c × (1024 < c.count)
+IsRefusedClasses l OutOfMemory = Unit {0}

@@ -3,17 +3,17 @@
 ghost use Rattle.std.specs.Prelude.{◌≡◌, ◌↔◌, ◌+◌, ◌<◌, ◌≤◌, length, IfOk, IfErr, IsErrOf, OnOk};
 ghost use Rattle.asl_lower.specs.LegalLowering.{IsLegalLowering};
 ghost use Rattle.asl_points_to.specs.Classes.{AreClasses};
-ghost use Rattle.asl_points_to.specs.Refused.{IsRefused};
+ghost use Rattle.asl_points_to.specs.Refused.{IsRefusedClasses};
 ghost use Rattle.asl_points_to.specs.Found.{IsSettled, IsNumbering};
 ghost use Rattle.asl_points_to.specs.Numbers.{AreNumbers};
 
-use crate::draft::Draft;
+use crate::class_draft::ClassDraft;
+use crate::class_numbers::{ClassNumbers, number_classes};
+use crate::class_table::Classes;
 use crate::fault::ClassesFault;
-use crate::flows::program_flows;
-use crate::numbers::{Numbers, number_classes};
 use crate::settle::settle;
-use crate::table::Classes;
-use asl_code::limits::CLASSES;
+use crate::value_flows::program_flows;
+use asl_code::image_limits::CLASSES;
 use asl_lower::Lowering;
 use std::alloc::{AllocError, Global};
 
@@ -29,11 +29,11 @@ fn members(lowering: &Lowering) -> u32
 }
 
 /// The draft of the classes of a program in which nothing more is to flow.
-fn settled(alloc: Global, lowering: &Lowering) -> Result<Draft, AllocError>
+fn settled(alloc: Global, lowering: &Lowering) -> Result<ClassDraft, AllocError>
     ensures { IfOk result (IsSettled lowering.now) }
 {
     let flows = program_flows(alloc, lowering)?;
-    let mut draft = Draft::new(alloc, members(lowering), lowering.functions().len())?;
+    let mut draft = ClassDraft::new(alloc, members(lowering), lowering.functions().len())?;
     settle(alloc, &mut draft, flows)?;
     Ok(draft)
 }
@@ -42,8 +42,8 @@ fn settled(alloc: Global, lowering: &Lowering) -> Result<Draft, AllocError>
 fn numbered(
     alloc: Global,
     lowering: &Lowering,
-    draft: &Draft,
-    numbers: &Numbers,
+    draft: &ClassDraft,
+    numbers: &ClassNumbers,
 ) -> Result<Classes, ClassesFault>
     requires draft { IsSettled lowering.now draft.now }
     requires numbers { AreNumbers draft.now.sets numbers.now.of.items numbers.now.firsts.items }
@@ -65,7 +65,7 @@ fn numbered(
 pub fn classes(alloc: Global, lowering: &Lowering) -> Result<Classes, ClassesFault>
     ensures classes { IfOk result (AreClasses lowering.now) }
     ensures few { IfOk result (λ c. c.count ≤ 1024) }
-    ensures refused { IfErr result (IsRefused lowering.now) }
+    ensures refused { IfErr result (IsRefusedClasses lowering.now) }
 {
     let mut draft = settled(alloc, lowering)?;
     let numbers = number_classes(alloc, &mut draft.sets, members(lowering))?;

@@ -2,17 +2,17 @@
 
 ghost use Rattle.std.specs.Prelude.{◌≡◌, ◌≤◌, ◌⊎◌, IfOk, length};
 ghost use Rattle.std.specs.List.{All, Contains};
-ghost use Rattle.asl_points_to.specs.declared.flow.Flow.{Flow as FlowValue};
+ghost use Rattle.asl_points_to.specs.declared.value_flow.Flow.{Flow as FlowValue};
 ghost use Rattle.asl_points_to.specs.Classes.{Classed};
 ghost use Rattle.asl_points_to.specs.Draft.{Holds, IsThere, IsDraft, IsForced, Keeps, HasFlowed, IsIdle};
 
-use crate::draft::Draft;
-use crate::flow::Flow;
+use crate::class_draft::ClassDraft;
+use crate::value_flow::Flow;
 use std::alloc::{AllocError, Global};
 
 /// Lets each flow flow, until none of those that are left has anything to flow. A flow that has flowed once needs no other
 /// look, and each round goes the other way than the one before it.
-pub fn settle(alloc: Global, draft: &mut Draft, flows: Vec<Flow>) -> Result<(), AllocError>
+pub fn settle(alloc: Global, draft: &mut ClassDraft, flows: Vec<Flow>) -> Result<(), AllocError>
     requires draft { IsDraft draft.old }
     requires there { All (IsThere (length draft.old.registers.items) (length draft.old.sets)) flows.items }
     ensures draft { IfOk result (λ _. IsDraft draft.new) }
@@ -31,7 +31,7 @@ pub fn settle(alloc: Global, draft: &mut Draft, flows: Vec<Flow>) -> Result<(), 
 }
 
 /// Lets each flow flow that has something to flow, from the last to the first, and answers the others, the last first.
-fn round(alloc: Global, draft: &mut Draft, flows: Vec<Flow>) -> Result<Vec<Flow>, AllocError>
+fn round(alloc: Global, draft: &mut ClassDraft, flows: Vec<Flow>) -> Result<Vec<Flow>, AllocError>
     requires draft { IsDraft draft.old }
     requires there { All (IsThere (length draft.old.registers.items) (length draft.old.sets)) flows.items }
     ensures draft { IfOk result (λ _. IsDraft draft.new) }

@@ -1,4 +1,4 @@
--- Behind a token that passes no limit, what the automaton completes fits the code's tree.
+-- After a token that passes no limit, what the automaton completes fits the code's tree.
 use Rattle.std.proofs.Common.{◌≡◌, ℕ, ◌≤◌, false, Option, Some, None, ◌||◌, ◌==◌, nat_lt, length, refl, sym, ap, ◌∙◌, subst}
 use Rattle.std.proofs.lemmas.Bool.{ltb-false, or_parts}
 use Rattle.asl_grammar.specs.declared.token.Mark.TheVariants as mark

@@ -71,7 +71,7 @@ twice_function all own n k x rest e h =
     ∙ ap (λ (fs : Names). first_twice (names_in Globals (take n all)) fs no_name rest) (more_names Functions n all (DeclaresFunction x) rest e)
     ∙ not_here (names_in Functions (take n all) x) x _ h
 
--- the answer goes on after a mention that repeats none
+-- the answer continues after a mention that repeats none
 abbrev GoesOn : List Mention → List Mention → List Mention → ℕ → ℕ → ℕ → List Mention → Mention → Type 0
 GoesOn all own new n k j rest m =
     (drop j new ≡ rest) × (twice_left all new (suc n) j rest ≡ twice_left all own n k (m ∷ rest))

@@ -3,10 +3,10 @@
 use Rattle.std.specs.Prelude.{ℕ, List, Option, Some, None, map, Vec}
 use Rattle.std.specs.declared.alloc.Global.{Global}
 use Rattle.asl_syntax.specs.declared.tree.Statement as tree
-use Rattle.asl_syntax.specs.declared.build.Part as part
-use Rattle.asl_syntax.specs.declared.build.Header as header
-use Rattle.asl_syntax.specs.declared.build.Header.TheVariants as headers
-use Rattle.asl_syntax.specs.declared.build.Frame as frame
+use Rattle.asl_syntax.specs.declared.open_block.Part as part
+use Rattle.asl_syntax.specs.declared.open_block.Header as header
+use Rattle.asl_syntax.specs.declared.open_block.Header.TheVariants as headers
+use Rattle.asl_syntax.specs.declared.open_block.Frame as frame
 use Rattle.asl_syntax.specs.Tree.{Block}
 use Rattle.asl_syntax.specs.View.{statement_of, block_of}
 use Rattle.asl_syntax.specs.Built.{Header, ThenBlock, ElseBlock, WhileBlock, AtomicBlock, Part, Frame}

@@ -10,7 +10,7 @@ use Rattle.asl_syntax.specs.TokenNames.{mention_name}
 use Rattle.asl_syntax.specs.Rules.{name_places}
 use Rattle.asl_syntax.specs.Known.{IsLocal, HasArity}
 
--- the last function that the mentions declare has a parameter x: one stands among them, and no function is declared behind
+-- the last function that the mentions declare has a parameter x: one stands among them, and no function is declared after
 -- it
 pub record IsOwnParameter (ms : List Mention) (x : List ℕ) : Type 0 where
   pub before : List Mention

@@ -35,7 +35,7 @@ names_to_close (Fixed mark.CloseParen ∷ ts) = 0
 names_to_close (Name x ∷ ts) = suc (names_to_close ts)
 names_to_close (t ∷ ts) = names_to_close ts
 
--- what a name does, by the tokens behind it
+-- what a name does, by the tokens after it
 abbrev pub address_mention : List ℕ → List Token → Mention
 address_mention x (Fixed mark.OpenBracket ∷ ts) = UsesLocal x
 address_mention x _ = UsesGlobal x
@@ -78,7 +78,7 @@ is_repeated all own (DeclaresFunction x) = names_in Functions all x
 is_repeated all own (DeclaresParameter x) = names_in Parameters own x
 is_repeated all own _ = false
 
--- the mentions of a function with a place among them, after one more: a function's begin behind its name
+-- the mentions of a function with a place among them, after one more: a function's begin after its name
 abbrev pub IsOwnAfter : Mention → List Mention → List Mention → ℕ → List Mention → ℕ → Type 0
 IsOwnAfter (DeclaresFunction x) behind own k new j = (new ≡ behind) × (j ≡ 0)
 IsOwnAfter _ behind own k new j = (new ≡ own) × (j ≡ suc k)

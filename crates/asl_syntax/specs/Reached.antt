@@ -1,9 +1,9 @@
--- Machinery of the proofs, not of the promise: how far the code's one walk over a text's tokens comes (src/limit.rt). What
+-- Machinery of the proofs, not of the promise: how far the code's one walk over a text's tokens comes (src/source_limits.rt). What
 -- contracts cite is specs/Limit, and `bad_place` of docs/SOURCE.md's tokens.
 use Rattle.std.specs.Prelude.{◌≡◌, ℕ, List, [], Some, None}
 use Rattle.asl_grammar.specs.Lex.{tokens_of, bad_place}
-use Rattle.asl_syntax.specs.declared.limit.Extent as code
-use Rattle.asl_syntax.specs.declared.limit.Extent.TheVariants as reach
+use Rattle.asl_syntax.specs.declared.source_limits.Extent as code
+use Rattle.asl_syntax.specs.declared.source_limits.Extent.TheVariants as reach
 use Rattle.asl_syntax.specs.Limit.{limit_from}
 
 -- to the end with no place past a limit, to the place where no token stands, or to the first token past a limit

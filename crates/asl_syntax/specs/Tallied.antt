@@ -1,4 +1,4 @@
--- Machinery of the proofs, not of the promise: the limits of docs/SOURCE.md counted token by token, as src/limit.rt
+-- Machinery of the proofs, not of the promise: the limits of docs/SOURCE.md counted token by token, as src/source_limits.rt
 -- counts them. What public contracts cite is specs/Limit.
 use Rattle.std.specs.Prelude.{ℕ, suc, ◌-◌, Option, Some, None}
 use Rattle.asl_grammar.specs.declared.token.Mark.TheVariants as mark

@@ -1,8 +1,8 @@
--- Machinery of the proofs, not of the promise: the code's counts (src/limit.rt) as what the limits of docs/SOURCE.md
+-- Machinery of the proofs, not of the promise: the code's counts (src/source_limits.rt) as what the limits of docs/SOURCE.md
 -- count.
 use Rattle.std.specs.Option.{option_map}
 use Rattle.asl_grammar.specs.View.{token_of}
-use Rattle.asl_syntax.specs.declared.limit.Counts as code
+use Rattle.asl_syntax.specs.declared.source_limits.Counts as code
 use Rattle.asl_syntax.specs.Limit.{Tally}
 
 -- the code's counts

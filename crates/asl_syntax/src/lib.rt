@@ -3,16 +3,22 @@
 
 mod ast;
 mod build;
+mod call_arity;
+mod declared_words;
 mod fault;
 pub mod laws;
-mod limit;
 mod mentions;
 mod name;
 mod names;
 mod numbered_names;
+mod open_block;
 mod parser;
+mod printed_statements;
+mod printed_words;
 mod printer;
+mod right_side;
 mod scan;
+mod source_limits;
 pub mod tree;
 mod words;
 

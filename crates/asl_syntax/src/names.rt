@@ -1,16 +1,13 @@
 //! The rules of names.
-
 ghost use Rattle.std.specs.Prelude.{◌≡◌, map, if◌then◌else◌, Some, None, IfOk};
-ghost use Rattle.std.specs.List.{list_any};
 ghost use Rattle.std.specs.Option.{option_copied};
 ghost use Rattle.asl_syntax.specs.MentionView.{mention_of, mentions_of};
-ghost use Rattle.asl_syntax.specs.Rules.{no_name, first_twice, declared_in, names_in, unknown_use, unknown_in_function, first_unknown, parameter_counts, is_wrong_call, wrong_call_from, name_places, places_with, is_main, has_main};
-ghost use Rattle.asl_grammar.specs.Lex.{tokens_of};
+ghost use Rattle.asl_syntax.specs.Rules.{no_name, first_twice, declared_in, names_in, unknown_use, unknown_in_function, first_unknown, name_places, places_with, is_main, has_main};
 ghost use Rattle.asl_grammar.specs.Reader.{spots_left};
 ghost use Rattle.asl_syntax.specs.Mentions.{function_mentions};
 ghost use Rattle.asl_syntax.specs.View.{function_of, item_of};
 ghost use Rattle.asl_syntax.specs.declared.names.Space.TheVariants.{Globals, Functions};
-ghost use Rattle.asl_syntax.specs.NumberedNamesView.{counts_in, names_known};
+ghost use Rattle.asl_syntax.specs.NumberedNamesView.{names_known};
 
 use crate::mentions::{Mention, push_function};
 use crate::name::Name;
@@ -121,18 +118,19 @@ fn unknown_use<'a>(
     }
 }
 
-/// The first name of a function that is used and not known.
-fn unknown_in_function(
+/// The first name of a function that is used and not known. `own` is a place for its mentions, whatever is there.
+fn unknown_in_function<'a>(
     alloc: Global,
     globals: &NumberedNames<'_>,
     functions: &NumberedNames<'_>,
-    function: &Function,
+    function: &'a Function,
+    own: &mut Vec<Mention<'a>>,
 ) -> Result<Option<Name>, AllocError>
     ensures { IfOk result (λ o. o ≡ unknown_in_function (names_known globals.now) (names_known functions.now) (function_mentions (function_of function.now))) }
 {
-    let mut own = Vec::new(alloc);
-    push_function(&mut own, function)?;
-    let locals = names_in(alloc, Space::Locals, &own)?;
+    own.clear();
+    push_function(own, function)?;
+    let locals = names_in(alloc, Space::Locals, own.as_slice())?;
     for mention in own.as_slice() {
         if let Some(name) = unknown_use(globals, functions, &locals, *mention) {
             return Ok(Some(name.copy()));
@@ -151,42 +149,17 @@ pub fn unknown(
 {
     let globals = names_in(alloc, Space::Globals, mentions)?;
     let functions = names_in(alloc, Space::Functions, mentions)?;
+    let mut own = Vec::new(alloc);
     for item in items {
         if let Item::Function(function) = item {
-            if let Some(name) = unknown_in_function(alloc, &globals, &functions, function)? {
+            if let Some(name) = unknown_in_function(
+                alloc, &globals, &functions, function, &mut own,
+            )? {
                 return Ok(Some(name));
             }
         }
     }
     Ok(None)
-}
-
-/// How many parameters each function has.
-pub fn parameter_counts(alloc: Global, items: &[Item]) -> Result<NumberedNames<'_>, AllocError>
-    ensures { IfOk result (λ known. counts_in known ≡ parameter_counts (map item_of items.now)) }
-{
-    let mut known = NumberedNames::new(alloc);
-    let mut i = items.len();
-    while i > 0 {
-        i -= 1;
-        if let Item::Function(function) = &items[i] {
-            known.add(&function.name, function.parameters.len())?;
-        }
-    }
-    Ok(known)
-}
-
-/// Whether a mention is a call with too many or too few arguments.
-fn is_wrong_call(counts: &NumberedNames<'_>, mention: Mention<'_>) -> bool
-    ensures { result ≡ is_wrong_call (counts_in counts.now) (mention_of mention.entry) }
-{
-    match mention {
-        Mention::Call(f, n) => match counts.find(f) {
-            None => false,
-            Some(k) => k != n,
-        },
-        _ => false,
-    }
 }
 
 /// The place of the next name token.
@@ -196,40 +169,6 @@ pub fn next_name(tokens: &mut Tokens<'_>) -> Option<usize>
     'reading: while let Found::Token(spot) = tokens.next() {
         if let Token::Name(_) = spot.token {
             return Some(spot.at);
-        }
-    }
-    None
-}
-
-/// Whether a mention is a wrong call.
-fn has_wrong_call(counts: &NumberedNames<'_>, mentions: &[Mention<'_>]) -> bool
-    ensures { result ≡ list_any (is_wrong_call (counts_in counts.now)) (mentions_of mentions.now) }
-{
-    for mention in mentions {
-        if is_wrong_call(counts, *mention) {
-            return true;
-        }
-    }
-    false
-}
-
-/// The place of the first wrong call, where the mentions are those of the name tokens of `text` one by one. The text is
-/// read only where there is one.
-pub fn wrong_call(
-    counts: &NumberedNames<'_>,
-    mentions: &[Mention<'_>],
-    text: &[u8],
-) -> Option<usize>
-    ensures { result ≡ wrong_call_from (counts_in counts.now) (mentions_of mentions.now) (name_places (tokens_of text.now)) }
-{
-    if !has_wrong_call(counts, mentions) {
-        return None;
-    }
-    let mut tokens = Tokens::new(text);
-    for mention in mentions {
-        let at = next_name(&mut tokens)?;
-        if is_wrong_call(counts, *mention) {
-            return Some(at);
         }
     }
     None

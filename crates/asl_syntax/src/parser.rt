@@ -11,12 +11,13 @@ ghost use Rattle.asl_syntax.specs.Checked.{IsWritten};
 
 use crate::ast::Ast;
 use crate::build::build;
+use crate::call_arity::{parameter_counts, wrong_call};
 use crate::fault::SyntaxFault;
-use crate::limit::{Extent, first_limit, first_wide, reach};
 use crate::mentions::mentions;
 use crate::name::Name;
-use crate::names::{first_twice, has_main, parameter_counts, unknown, wrong_call};
+use crate::names::{first_twice, has_main, unknown};
 use crate::scan;
+use crate::source_limits::{Extent, first_limit, first_wide, reach};
 use crate::tree::Item;
 use asl_grammar::lexer::first_bad;
 use asl_grammar::recognizer::first_fault;

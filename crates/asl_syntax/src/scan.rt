@@ -1,108 +1,17 @@
 //! The rules of names, judged over the names of a text with no memory: each question reads the text again.
-
-ghost use Rattle.std.specs.Prelude.{◌≡◌, ◌<◌, ◌^◌, if◌then◌else◌, take};
+ghost use Rattle.std.specs.Prelude.{◌≡◌, ◌<◌, ◌^◌, take};
 ghost use Rattle.std.specs.Option.{option_copied};
 ghost use Rattle.asl_grammar.specs.Grammar.{bare};
 ghost use Rattle.asl_grammar.specs.Lex.{tokens_of};
-ghost use Rattle.asl_syntax.specs.Rules.{no_name, names_in, first_twice, is_wrong_call, wrong_call_from, name_places};
-ghost use Rattle.asl_syntax.specs.TokenNames.{mention_name};
-ghost use Rattle.asl_syntax.specs.Heard.{heard, is_function, declares, is_repeated, IsOwnAfter, own_part, is_unheard, own_after, first_unheard, parameters_first, heard_count, heard_main};
+ghost use Rattle.asl_syntax.specs.Rules.{no_name, first_twice, is_wrong_call, wrong_call_from, name_places};
+ghost use Rattle.asl_syntax.specs.Heard.{heard, is_repeated, IsOwnAfter, is_unheard, own_after, first_unheard, parameters_first, heard_count, heard_main};
 ghost use Rattle.asl_syntax.specs.WordView.{word_of, words_left};
-ghost use Rattle.asl_syntax.specs.declared.names.Space.TheVariants.{Locals};
 ghost use Rattle.asl_syntax.specs.declared.words.Before.TheVariants.{Plain};
 
+use crate::declared_words::{declares, is_anywhere, is_declared, is_local, name_of};
 use crate::names::{Space, next_name};
 use crate::words::{Word, Words};
 use asl_grammar::lexer::Tokens;
-
-/// Whether a word declares a function.
-fn is_function(word: Word<'_>) -> bool
-    ensures { result ≡ is_function (word_of word.entry) }
-{
-    match word {
-        Word::Function(_) => true,
-        _ => false,
-    }
-}
-
-/// The bytes of a word.
-fn name_of<'t>(word: Word<'t>) -> &'t [u8]
-    ensures { result.now ≡ mention_name (word_of word.entry) }
-{
-    match word {
-        Word::Global(x) => x,
-        Word::Function(x) => x,
-        Word::Parameter(x) => x,
-        Word::Assigned(x) => x,
-        Word::Local(x) => x,
-        Word::GlobalUse(x) => x,
-        Word::Call(x, _) => x,
-    }
-}
-
-/// Whether a word declares the name in a name space.
-fn declares(space: Space, word: Word<'_>, name: &[u8]) -> bool
-    ensures { result ≡ declares space (word_of word.entry) name.now }
-{
-    match (space, word) {
-        (Space::Globals, Word::Global(x)) => x == name,
-        (Space::Functions, Word::Function(x)) => x == name,
-        (Space::Locals, Word::Parameter(x)) => x == name,
-        (Space::Locals, Word::Assigned(x)) => x == name,
-        (Space::Parameters, Word::Parameter(x)) => x == name,
-        _ => false,
-    }
-}
-
-/// Whether one of the next `count` words declares the name.
-fn is_declared(mut words: Words<'_>, count: usize, space: Space, name: &[u8]) -> bool
-    ensures { result ≡ names_in space (take count (words_left words.entry)) name.now }
-{
-    let mut left = count;
-    'reading: while left > 0 {
-        left -= 1;
-        match words.next() {
-            None => return false,
-            Some(word) => if declares(space, word, name) {
-                return true;
-            },
-        }
-    }
-    false
-}
-
-/// Whether any further word declares the name.
-fn is_anywhere(mut words: Words<'_>, space: Space, name: &[u8]) -> bool
-    ensures { result ≡ names_in space (words_left words.entry) name.now }
-{
-    'reading: loop {
-        match words.next() {
-            None => return false,
-            Some(word) => if declares(space, word, name) {
-                return true;
-            },
-        }
-    }
-}
-
-/// Whether the name is a local of the function whose words are next.
-fn is_local(mut own: Words<'_>, name: &[u8]) -> bool
-    ensures { result ≡ names_in Locals (own_part (words_left own.entry)) name.now }
-{
-    'reading: loop {
-        match own.next() {
-            None => return false,
-            Some(word) => {
-                if is_function(word) {
-                    return false;
-                }
-                if declares(Space::Locals, word, name) {
-                    return true;
-                }
-            }
-        }
-    }
-}
 
 /// The words of a function, and how many of them are read.
 #[derive(Clone, Copy)]
@@ -128,7 +37,7 @@ fn own_with<'t>(own: Own<'t>, word: Word<'_>, behind: Words<'t>) -> Own<'t>
     }
 }
 
-/// Whether a word, the one behind `count` of all, declares a name that is declared before.
+/// Whether a word, the one after `count` of all, declares a name that is declared before.
 fn is_repeated(all: Words<'_>, count: usize, own: Own<'_>, word: Word<'_>) -> bool
     ensures { result ≡ is_repeated (take count (words_left all.entry)) (take own.entry.count (words_left own.entry.words)) (word_of word.entry) }
 {

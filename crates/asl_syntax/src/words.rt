@@ -18,7 +18,7 @@ pub enum Before {
     Plain,
     Global,
     Fn,
-    /// The head of a function, behind its name.
+    /// The head of a function, after its name.
     Head,
     Star,
     Ampersand,
@@ -86,7 +86,7 @@ fn names_to_close(mut tokens: Tokens<'_>) -> usize
     count
 }
 
-/// What a name behind `&` does: its address is taken, or, before a bracket, the address in it is moved.
+/// What a name after `&` does: its address is taken, or, before a bracket, the address in it is moved.
 fn address_word<'t>(name: &'t [u8], mut behind: Tokens<'t>) -> Word<'t>
     ensures { word_of result ≡ address_mention name.now (bare (spots_left behind.entry)) }
 {
@@ -99,7 +99,7 @@ fn address_word<'t>(name: &'t [u8], mut behind: Tokens<'t>) -> Word<'t>
     }
 }
 
-/// What a name does that the token behind it tells.
+/// What a name does that the token after it tells.
 fn plain_word<'t>(name: &'t [u8], mut behind: Tokens<'t>) -> Word<'t>
     ensures { word_of result ≡ plain_mention name.now (bare (spots_left behind.entry)) }
 {

@@ -1,5 +1,5 @@
 use Rattle.std.proofs.Common.{List, sym, subst}
-use Rattle.asl_points_to.specs.declared.flow.Flow.{Flow}
+use Rattle.asl_points_to.specs.declared.value_flow.Flow.{Flow}
 use Rattle.asl_points_to.proofs.Rounds.{IsRound, last_there, round_flows, round_leaves}
 use Rattle.asl_points_to.proofs.settle.round.Goals as goal
 

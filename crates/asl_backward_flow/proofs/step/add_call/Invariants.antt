@@ -1,7 +1,0 @@
-use Rattle.asl_backward_flow.specs.Found.{table}
-use Rattle.asl_backward_flow.specs.Follows.{read, AddedBelow}
-use Rattle.asl_backward_flow.proofs.Each.{each_call}
-use Rattle.asl_backward_flow.proofs.step.add_call.Given as goal
-
-abbrev pub invariant-loop-part : goal.invariant-loop-part
-invariant-loop-part l = AddedBelow (read l.fn.analysis) (table l.fn.found) (table l.found) (each_call (read l.fn.analysis) l.fn.pc l.fn.lock l.part-items) l.part-index

@@ -1,0 +1,222 @@
+//! What is needed at once, and what follows from what is needed.
+ghost use Rattle.std.specs.Prelude.{◌≡◌, ◌<◌, ◌+◌, ◌↔◌, ℕ, Some, length, map, slice_get, OnOk, IfOk, IfErr};
+ghost use Rattle.asl_lane_sets.specs.NumberSet.{IsIn};
+ghost use Rattle.asl_backward_flow.specs.Graph.{IsEdge};
+ghost use Rattle.asl_backward_flow.specs.Found.{table, locks_of, IsNamed};
+ghost use Rattle.asl_backward_flow.specs.Masked.{AreAllMasks};
+ghost use Rattle.asl_backward_flow.specs.Follows.{read, IsRead, IsReady, IsAtPoint, IsLinkedAlone, IsLinkedOf, StaysAt, WithFronts, At, IsBack, AreBefore, IsChosen, Added, Stopped};
+
+use crate::access_needs::{add_with_prefixes, view};
+use crate::flow_analysis::FlowAnalysis;
+use crate::found::{AddFault, Found};
+use crate::graph::goes_on;
+use crate::masks::{Mask, staying};
+use asl_code::Lock;
+use asl_lane_sets::Bits;
+use asl_lock_expr::add_links;
+use std::alloc::{AllocError, Global};
+
+/// Adds what the locks of these numbers, which are needed at the pc, become over each instruction of the region from which
+/// control continues to the pc. The list `pcs` is for these instructions, and
+/// the set `stay` for the locks that stay over one, so that none is made anew.
+pub fn add_back(
+    alloc: Global,
+    analysis: &FlowAnalysis,
+    part: u16,
+    pc: u16,
+    set: &Bits,
+    masks: &mut Vec<Vec<Mask>>,
+    pcs: &mut Vec<u16>,
+    stay: &mut Bits,
+    found: &mut Found,
+) -> Result<(), AddFault>
+    requires analysis { IsRead (read analysis.now) }
+    requires ready { IsReady (read analysis.now) (table found.old) }
+    requires there { part < length analysis.now.spans.now }
+    requires code { pc < length analysis.now.lowering.now.code }
+    requires chosen { IsChosen (locks_of (table found.old) part) set.now }
+    requires masks { AreAllMasks (read analysis.now) (table found.old) (map (λ v. v.items) masks.old.items) }
+    ensures masks { OnOk result (AreAllMasks (read analysis.now) (table found.new) (map (λ v. v.items) masks.new.items)) }
+    ensures ok { OnOk result (Added (read analysis.now) (table found.old) (table found.new)
+        (IsBack (read analysis.now) part pc (IsNamed (locks_of (table found.old) part) set.now))) }
+    ensures err { IfErr result (Stopped (table found.old) (table found.new)
+        (IsBack (read analysis.now) part pc (IsNamed (locks_of (table found.old) part) set.now))) }
+{
+    last(analysis, part, pc, pcs)?;
+    add_jumps(analysis, part, pc, pcs)?;
+    for before in pcs.as_slice() {
+        add_linked(alloc, analysis, part, *before, set, stay, masks, found)?;
+    }
+    Ok(())
+}
+
+/// Makes a list that of the pc before, if the region has it and control continues from there.
+fn last(analysis: &FlowAnalysis, part: u16, pc: u16, pcs: &mut Vec<u16>) -> Result<(), AllocError>
+    requires there { part < length analysis.now.spans.now }
+    requires code { pc < length analysis.now.lowering.now.code }
+    ensures { OnOk result (AreBefore (read analysis.now) part pc (λ q. IsEdge analysis.now.lowering.now pc q × (pc ≡ q + 1)) pcs.new.items) }
+{
+    let span = analysis.spans[usize::from(part)];
+    pcs.clear();
+    if pc > 0 && span.has(pc - 1) && goes_on(analysis.lowering, pc - 1, pc) {
+        pcs.push(pc - 1)?;
+    }
+    Ok(())
+}
+
+/// Adds the other pcs of the region from which control continues to the pc.
+fn add_jumps(
+    analysis: &FlowAnalysis,
+    part: u16,
+    pc: u16,
+    pcs: &mut Vec<u16>,
+) -> Result<(), AllocError>
+    requires analysis { IsRead (read analysis.now) }
+    requires there { part < length analysis.now.spans.now }
+    requires before { AreBefore (read analysis.now) part pc (λ q. IsEdge analysis.now.lowering.now pc q × (pc ≡ q + 1)) pcs.old.items }
+    ensures { OnOk result (AreBefore (read analysis.now) part pc (IsEdge analysis.now.lowering.now pc) pcs.new.items) }
+{
+    let span = analysis.spans[usize::from(part)];
+    if let Some(jumps) = analysis.jumps.get(usize::from(pc)) {
+        for jump in jumps.as_slice() {
+            if span.has(*jump) {
+                pcs.push(*jump)?;
+            }
+        }
+    }
+    Ok(())
+}
+
+/// Adds what the locks of these numbers become over the instruction: those that stay at once, the others one by one.
+fn add_linked(
+    alloc: Global,
+    analysis: &FlowAnalysis,
+    part: u16,
+    pc: u16,
+    set: &Bits,
+    stay: &mut Bits,
+    masks: &mut Vec<Vec<Mask>>,
+    found: &mut Found,
+) -> Result<(), AddFault>
+    requires analysis { IsRead (read analysis.now) }
+    requires ready { IsReady (read analysis.now) (table found.old) }
+    requires point { IsAtPoint (read analysis.now) part pc }
+    requires there { part < length analysis.now.spans.now }
+    requires code { pc < length analysis.now.lowering.now.code }
+    requires chosen { IsChosen (locks_of (table found.old) part) set.now }
+    requires masks { AreAllMasks (read analysis.now) (table found.old) (map (λ v. v.items) masks.old.items) }
+    ensures masks { OnOk result (AreAllMasks (read analysis.now) (table found.new) (map (λ v. v.items) masks.new.items)) }
+    ensures ok { OnOk result (Added (read analysis.now) (table found.old) (table found.new)
+        (At part pc (IsLinkedOf (read analysis.now) part pc (IsNamed (locks_of (table found.old) part) set.now)))) }
+    ensures err { IfErr result (Stopped (table found.old) (table found.new)
+        (At part pc (IsLinkedOf (read analysis.now) part pc (IsNamed (locks_of (table found.old) part) set.now)))) }
+{
+    stay_over(alloc, analysis, part, pc, set, stay, masks, found)?;
+    let changed = changed(alloc, set, stay)?;
+    found.add_numbered(part, pc, stay)?;
+    add_changed(alloc, analysis, part, pc, &changed, found)
+}
+
+/// The numbers of the first set that are none of the second.
+fn changed(alloc: Global, set: &Bits, stay: &Bits) -> Result<Bits, AllocError>
+    requires { length set.now ≡ length stay.now }
+    ensures numbers { IfOk result (λ changed. (k : ℕ) → IsIn changed k ↔ (IsIn set.now k × ¬ IsIn stay.now k)) }
+{
+    if set.within(stay) {
+        return Bits::with_len(alloc, 0);
+    }
+    set.without(stay)
+}
+
+/// Makes a set that of the numbers of the locks that stay over the instruction.
+fn stay_over(
+    alloc: Global,
+    analysis: &FlowAnalysis,
+    part: u16,
+    pc: u16,
+    set: &Bits,
+    stay: &mut Bits,
+    masks: &mut Vec<Vec<Mask>>,
+    found: &Found,
+) -> Result<(), AllocError>
+    requires ready { IsReady (read analysis.now) (table found.now) }
+    requires there { part < length analysis.now.spans.now }
+    requires code { pc < length analysis.now.lowering.now.code }
+    requires masks { AreAllMasks (read analysis.now) (table found.now) (map (λ v. v.items) masks.old.items) }
+    ensures masks { OnOk result (AreAllMasks (read analysis.now) (table found.now) (map (λ v. v.items) masks.new.items)) }
+    ensures length { OnOk result (length stay.new ≡ length set.now) }
+    ensures within { OnOk result ((n : ℕ) → IsIn stay.new n → IsIn set.now n) }
+    ensures stays { OnOk result ((m : _) → IsNamed (locks_of (table found.now) part) stay.new m → StaysAt (read analysis.now) part pc m) }
+{
+    let span = analysis.spans[usize::from(part)];
+    let view = view(analysis, span.function);
+    let instr = analysis.lowering.code()[usize::from(pc)];
+    let locks = found.parts[usize::from(part)].locks.as_slice();
+    staying(
+        alloc,
+        &view,
+        instr,
+        locks,
+        set,
+        stay,
+        &mut masks[usize::from(part)],
+    )
+}
+
+/// Adds what the locks of these numbers become over the instruction.
+fn add_changed(
+    alloc: Global,
+    analysis: &FlowAnalysis,
+    part: u16,
+    pc: u16,
+    set: &Bits,
+    found: &mut Found,
+) -> Result<(), AddFault>
+    requires analysis { IsRead (read analysis.now) }
+    requires ready { IsReady (read analysis.now) (table found.old) }
+    requires point { IsAtPoint (read analysis.now) part pc }
+    requires there { part < length analysis.now.spans.now }
+    requires code { pc < length analysis.now.lowering.now.code }
+    requires named { (n : ℕ) → IsIn set.now n → (m : _) × (slice_get (locks_of (table found.old) part) n ≡ Some m) }
+    ensures ok { OnOk result (Added (read analysis.now) (table found.old) (table found.new)
+        (At part pc (IsLinkedOf (read analysis.now) part pc (IsNamed (locks_of (table found.old) part) set.now)))) }
+    ensures err { IfErr result (Stopped (table found.old) (table found.new)
+        (At part pc (IsLinkedOf (read analysis.now) part pc (IsNamed (locks_of (table found.old) part) set.now)))) }
+{
+    let numbers = set.members(alloc)?;
+    for number in numbers.as_slice() {
+        let lock = found.lock(part, *number)?;
+        add_link(alloc, analysis, part, pc, &lock, found)?;
+    }
+    Ok(())
+}
+
+/// Adds what the lock becomes over the instruction.
+fn add_link(
+    alloc: Global,
+    analysis: &FlowAnalysis,
+    part: u16,
+    pc: u16,
+    lock: &Lock,
+    found: &mut Found,
+) -> Result<(), AddFault>
+    requires analysis { IsRead (read analysis.now) }
+    requires ready { IsReady (read analysis.now) (table found.old) }
+    requires point { IsAtPoint (read analysis.now) part pc }
+    requires there { part < length analysis.now.spans.now }
+    requires code { pc < length analysis.now.lowering.now.code }
+    ensures ok { OnOk result (Added (read analysis.now) (table found.old) (table found.new)
+        (At part pc (WithFronts (IsLinkedAlone (read analysis.now) part pc lock.now)))) }
+    ensures err { IfErr result (Stopped (table found.old) (table found.new)
+        (At part pc (WithFronts (IsLinkedAlone (read analysis.now) part pc lock.now)))) }
+{
+    let span = analysis.spans[usize::from(part)];
+    let mut locks = Vec::new(alloc);
+    add_links(
+        &view(analysis, span.function),
+        &analysis.lowering.code()[usize::from(pc)],
+        lock,
+        &mut locks,
+    )?;
+    add_with_prefixes(alloc, analysis, part, pc, locks, found)
+}

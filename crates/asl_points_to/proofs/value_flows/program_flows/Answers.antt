@@ -1,0 +1,61 @@
+use Rattle.std.proofs.Common.{ℕ, length, ap, ◌∙◌, subst, arith}
+use Rattle.asl_points_to.specs.Flows.{AreFlows}
+use Rattle.asl_points_to.proofs.Owed.{body_at, stands_in, flows_more, start_of_all}
+use Rattle.asl_lower.proofs.Layouts.{kept_layout}
+use Rattle.asl_points_to.proofs.value_flows.program_flows.Goals as goal
+
+pub overflow_add-end : goal.overflow_add-end
+overflow_add-end c =
+    let f = c.functions-function-items in
+    let b = body_at c.args.lowering.now f.result.now c.loop-number.number (record { params = 0; regs = 0; len = 0 }) f.ensures.kept f.ensures.functions c.loop-number-test.true in
+    omega (arith, b.within, b.size, c.loop-number.invariant.start)
+
+pub overflow_cast-number : goal.overflow_cast-number
+overflow_cast-number c =
+    let f = c.functions-function-items in
+    let b = body_at c.args.lowering.now f.result.now c.loop-number.number (record { params = 0; regs = 0; len = 0 }) f.ensures.kept f.ensures.functions c.loop-number-test.true in
+    omega (arith, b.number)
+
+pub offset_bounds-code-pc : goal.offset_bounds-code-pc
+offset_bounds-code-pc c =
+    let f = c.functions-function-items in
+    let b = body_at c.args.lowering.now f.result.now c.loop-number.number (record { params = 0; regs = 0; len = 0 }) f.ensures.kept f.ensures.functions c.loop-number-test.true in
+    omega (arith, b.within, b.size, c.loop-number.invariant.start)
+
+pub bounds-code-pc : goal.bounds-code-pc
+bounds-code-pc c =
+    let f = c.functions-function-items in
+    let b = body_at c.args.lowering.now f.result.now c.loop-number.number (record { params = 0; regs = 0; len = 0 }) f.ensures.kept f.ensures.functions c.loop-number-test.true in
+    omega (arith, b.within, c.loop-number.invariant.start, ap length c.code-code.ensures.code)
+
+pub push_flows-requires-clause-stands : goal.push_flows-requires-clause-stands
+push_flows-requires-clause-stands c =
+    let f = c.functions-function-items in
+    let b = body_at c.args.lowering.now f.result.now c.loop-number.number (record { params = 0; regs = 0; len = 0 }) f.ensures.kept f.ensures.functions c.loop-number-test.true in
+    (stands_in c.args.lowering.now c.loop-number.number c.loop-pc.pc _ c.code-code.result.now _ b c.code-code.ensures.code (omega (arith, c.loop-number.invariant.start)) (omega (arith, c.loop-number.invariant.start))).1
+
+pub loop-pc-preserved : goal.loop-pc-preserved
+loop-pc-preserved c =
+    let l = c.args.lowering.now in
+    let f = c.functions-function-items in
+    let b = body_at l f.result.now c.loop-number.number (record { params = 0; regs = 0; len = 0 }) f.ensures.kept f.ensures.functions c.loop-number-test.true in
+    let s = stands_in l c.loop-number.number c.loop-pc.pc _ c.code-code.result.now _ b c.code-code.ensures.code (omega (arith, c.loop-number.invariant.start)) (omega (arith, c.loop-number.invariant.start)) in
+    flows_more l (kept_layout l f.ensures.kept) c.loop-number.number c.loop-pc.pc _ c.loop-pc.flows.items _ s.3 s.2 c.loop-pc.invariant c.in_ok-push_flows.ensures
+
+pub loop-number-preserved : goal.loop-number-preserved
+loop-number-preserved c =
+    let l = c.args.lowering.now in
+    let f = c.functions-function-items in
+    let b = body_at l f.result.now c.loop-number.number (record { params = 0; regs = 0; len = 0 }) f.ensures.kept f.ensures.functions c.loop-number-test.true in
+    let P : ℕ → Type 0 = λ n. AreFlows l n c.loop-pc.flows.items in
+    record {
+      start = omega (arith, b.next, c.loop-number.invariant.start);
+      flows = subst P (omega (arith, c.loop-pc.auto.pc-end (omega arith), c.loop-pc-test.false)) c.loop-pc.invariant;
+    }
+
+pub returns : goal.returns
+returns c =
+    let l = c.args.lowering.now in
+    let f = c.functions-function-items in
+    let P : ℕ → Type 0 = λ n. AreFlows l n c.loop-number.flows.items in
+    subst P (c.loop-number.invariant.start ∙ start_of_all l c.loop-number.number f.ensures.kept (omega (arith, ap length f.ensures.functions))) c.loop-number.invariant.flows

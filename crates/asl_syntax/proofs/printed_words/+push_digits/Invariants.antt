@@ -1,0 +1,4 @@
+use Rattle.asl_syntax.proofs.printed_words.+push_digits.Given as goal
+
+abbrev pub decreases-push_digits : goal.decreases-push_digits
+decreases-push_digits l = l.number
