@@ -1,8 +1,8 @@
--- The words of a line, gathered one behind the other.
+-- The words of a line, gathered one after the other.
 use Rattle.std.proofs.Common.{◌≡◌, ℕ, zero, suc, ◌+◌, ◌-◌, ◌≤◌, List, [], ◌∷◌, ◌++◌, Option, Some, None, length, take, drop, slice_get, IfSome, Ok, IsUtf8, refl, ap, sym, subst, ◌∙◌, arith}
 use Rattle.std.proofs.lemmas.Option.{IfSome_then}
-use Rattle.asl.specs.declared.words.WordsFault.{WordsFault}
-use Rattle.asl.specs.declared.words.WordsFault.TheVariants.{NotText, OutOfMemory}
+use Rattle.asl.specs.declared.process_words.WordsFault.{WordsFault}
+use Rattle.asl.specs.declared.process_words.WordsFault.TheVariants.{NotText, OutOfMemory}
 use Rattle.asl.specs.CommandLine.{TellsWord, AreGiven, IsWordsFault, IsWordFault}
 
 first_more : {X : Type 0} (xs : List X) (m : ℕ) (x : X) → slice_get xs m ≡ Some x → take m xs ++ x ∷ [] ≡ take (suc m) xs

@@ -16,7 +16,7 @@ pub trait CommandLine {
     ///
     /// # Errors
     ///
-    /// `NotPresent` behind the last word; `TooLong` where the word is longer than the buffer.
+    /// `NotPresent` after the last word; `TooLong` where the word is longer than the buffer.
     fn word(&self, number: usize, buffer: &mut [u8]) -> Result<usize, FillError>
         ensures bound { WritesAtMost result buffer.new }
         ensures told { IfSome (known self.now) (λ words. TellsWord words number buffer.new result) };

@@ -3,7 +3,7 @@
 
 mod command_line;
 mod process;
-mod words;
+mod process_words;
 
 use command_line::SystemWords;
 use process::run_process;

@@ -4,7 +4,7 @@ ghost use Rattle.std.specs.Process.{exit_status};
 ghost use Rattle.asl.specs.Process.{EndsProcess};
 
 use crate::command_line::CommandLine;
-use crate::words::{WordsFault, process_words};
+use crate::process_words::{WordsFault, process_words};
 use asl_tool::tool;
 use std::alloc::Global;
 use std::io::{Read, Write};

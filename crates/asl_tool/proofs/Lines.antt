@@ -9,7 +9,7 @@ use Rattle.asl_tool.specs.Output.{event_lines}
 abbrev pub left_lines : List Event → ℕ → List ℕ
 left_lines events number = event_lines number (drop number events)
 
--- the next event's line, and then those behind it
+-- the next event's line, and then those after it
 pub left_lines-step : (events : List Event) (number : ℕ) (d : Event) → number < length events
     → left_lines events number
     ≡ step_line number (get_or events number d).thread (get_or events number d).reply ++ left_lines events (number + 1)

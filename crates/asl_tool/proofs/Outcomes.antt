@@ -3,6 +3,7 @@ use Rattle.std.proofs.Common.{◌≡◌, ◌≢◌, ◌↔◌, ℕ, ◌<◌, ◌
 use Rattle.std.proofs.lemmas.Bool.{both_ways, cases_Bool, cases_lt}
 use Rattle.std.proofs.lemmas.Slice.Eq.{bytes_eq-Decides}
 use Rattle.std.specs.Str.{bytes_eq}
+use Rattle.asl_code.specs.Verified.{IsVerified}
 use Rattle.asl_code.specs.Versions.{most_threads}
 use Rattle.asl_code.specs.declared.image.Image.{Image}
 use Rattle.asl_assembler.specs.declared.assembly.AsmFault.{AsmFault}
@@ -17,28 +18,30 @@ use Rattle.asl_journal.specs.declared.fault.JournalFault.{JournalFault}
 use Rattle.asl_journal.specs.declared.fault.JournalFault.TheVariants as journal
 use Rattle.asl_journal.specs.Journal.{Log, IsJournal}
 use Rattle.asl_journal.specs.Replay.{IsReplayFault}
-use Rattle.asl_journal.proofs.Replays.{one_difference, no_difference}
+use Rattle.asl_journal.proofs.ByTable.{journal_of}
+use Rattle.asl_journal.proofs.Replays.{one_difference, no_difference, differs_of}
 use Rattle.asl_journal.specs.declared.run_file.FileFault.{FileFault}
 use Rattle.asl_journal.specs.declared.run_file.FileFault.TheVariants as file
 use Rattle.asl_journal.specs.RunFile.{IsFileOutcome}
 use Rattle.asl_journal.proofs.RunFiles.{files_have_an_outcome, file_outcome_is_one, run_is_one}
 use Rattle.asl_machine.specs.Run.{start_of}
-use Rattle.asl_tool.specs.declared.program.ProgramFault.{ProgramFault}
-use Rattle.asl_tool.specs.declared.program.ProgramFault.TheVariants as program
+use Rattle.asl_tool.specs.declared.input_program.ProgramFault.{ProgramFault}
+use Rattle.asl_tool.specs.declared.input_program.ProgramFault.TheVariants as program
 use Rattle.asl_words.specs.declared.command.Command.{Command}
 use Rattle.asl_words.specs.declared.command.Command.TheVariants as command
-use Rattle.asl_tool.specs.declared.command.CommandFault.{CommandFault}
-use Rattle.asl_tool.specs.declared.command.CommandFault.TheVariants as fault
+use Rattle.asl_tool.specs.declared.command_fault.CommandFault.{CommandFault}
+use Rattle.asl_tool.specs.declared.command_fault.CommandFault.TheVariants as fault
 use Rattle.asl_tool.specs.Program.{BeginsAsImage, IsProgram, IsNoProgram}
 use Rattle.asl_tool.specs.Step.{IsRecorded, IsStepped, written}
 use Rattle.asl_words.specs.declared.debug_word.DebugWord.{DebugWord}
 use Rattle.asl_tool.specs.Debug.{IsDebugged, IsTalk, opened}
-use Rattle.asl_tool.specs.Log.{IsLogged, log_text}
+use Rattle.asl_tool.specs.Log.{IsLogged, IsLogText}
 use Rattle.asl_tool.specs.Replay.{IsTold, same_text}
-use Rattle.asl_tool.specs.Command.{IsAssembled, IsDisassembled, IsOutput, IsRefused, IsRefusedStep, IsRefusedText, IsRefusedImage, IsRefusedReplay}
+use Rattle.asl_tool.specs.Command.{IsAssembled, IsDisassembled, IsOutput, IsRefusedCommand, IsRefusedStep, IsRefusedText, IsRefusedImage, IsRefusedReplay}
 use Rattle.asl_tool.proofs.Differences.{some_difference}
 use Rattle.asl_tool.proofs.Records.{RunOutcome, run_one, some_run}
 use Rattle.asl_tool.proofs.Talks.{talk_one, some_talk}
+use Rattle.asl_tool.proofs.Traces.{log_text, is_log_text, only_log_text}
 use Rattle.asl_tool.proofs.Stored.{stored}
 use Rattle.asl_tool.specs.Outcome.{IsWantOfMemory, IsOutcome, IsSettled}
 
@@ -145,18 +148,18 @@ ReplayOutcome image log (Err f) = IsReplayFault image log f × (f ≢ journal.Ou
 
 replay_one : (image : Image) (log : Log) (o p : Result Log JournalFault) → ReplayOutcome image log o → ReplayOutcome image log p → o ≡ p
 replay_one image log (Ok a) (Ok b) x y = ap Ok (x.1 ∙ sym y.1)
-replay_one image log (Ok a) (Err journal.BadCount) x y = absurd (omega (arith, x.0.counted.1, y.0))
-replay_one image log (Ok a) (Err (journal.Differs i)) x y = absurd (no_difference image (start_of image log.threads) log.events i x.0.replies y.0.1)
+replay_one image log (Ok a) (Err journal.BadCount) x y = absurd (omega (arith, x.0.leads.counted.1, y.0))
+replay_one image log (Ok a) (Err (journal.Differs i)) x y = absurd (no_difference image log.threads log.events i x.0 y.0.1)
 replay_one image log (Ok a) (Err journal.OutOfMemory) x y = absurd (y.1 refl)
 replay_one image log (Ok a) (Err g) x y = absurd y.0.1
-replay_one image log (Err journal.BadCount) (Ok b) x y = absurd (omega (arith, y.0.counted.1, x.0))
+replay_one image log (Err journal.BadCount) (Ok b) x y = absurd (omega (arith, y.0.leads.counted.1, x.0))
 replay_one image log (Err journal.BadCount) (Err journal.BadCount) x y = refl
 replay_one image log (Err journal.BadCount) (Err (journal.Differs j)) x y = absurd (omega (arith, x.0, y.0.0))
 replay_one image log (Err journal.BadCount) (Err journal.OutOfMemory) x y = absurd (y.1 refl)
 replay_one image log (Err journal.BadCount) (Err g) x y = absurd y.0.1
-replay_one image log (Err (journal.Differs i)) (Ok b) x y = absurd (no_difference image (start_of image log.threads) log.events i y.0.replies x.0.1)
+replay_one image log (Err (journal.Differs i)) (Ok b) x y = absurd (no_difference image log.threads log.events i y.0 x.0.1)
 replay_one image log (Err (journal.Differs i)) (Err journal.BadCount) x y = absurd (omega (arith, y.0, x.0.0))
-replay_one image log (Err (journal.Differs i)) (Err (journal.Differs j)) x y = ap (λ (k : ℕ). Err (journal.Differs k)) (one_difference image (start_of image log.threads) log.events i j x.0.1 y.0.1)
+replay_one image log (Err (journal.Differs i)) (Err (journal.Differs j)) x y = ap (λ (k : ℕ). Err (journal.Differs k)) (one_difference image log.threads log.events i j x.0.1 y.0.1)
 replay_one image log (Err (journal.Differs i)) (Err journal.OutOfMemory) x y = absurd (y.1 refl)
 replay_one image log (Err (journal.Differs i)) (Err g) x y = absurd y.0.1
 replay_one image log (Err journal.OutOfMemory) p x y = absurd (x.1 refl)
@@ -203,6 +206,24 @@ replays_one text_of input o p all x y =
     let same : y.0 ≡ x.0 = file_outcome_is_one input y.0 x.0 all y.1 x.1 in
     replay_form_one text_of x.0 o p x.2 (subst (λ (q : Result (Image × Log) FileFault). ReplayForm text_of q p) same y.2)
 
+-- what `log` tells is the computed text
+log_told : (trace : Bool) (input : List ℕ) (o : Result (List ℕ) CommandFault) → MatchResult o (λ output. IsLogged input trace output) (λ f. IsRefusedReplay input f × (IsWantOfMemory f → ⊥))
+    → MatchResult o (λ output. IsTold (log_text trace) input output) (λ f. IsRefusedReplay input f × (IsWantOfMemory f → ⊥))
+log_told trace input (Ok output) x = record { image = x.image; log = x.log; run = x.run; journal = x.journal; output_is = only_log_text trace x.image x.log output x.journal x.lines }
+log_told trace input (Err f) x = x
+
+-- and the other way round
+told_log : (trace : Bool) (input : List ℕ) (o : Result (List ℕ) CommandFault) → MatchResult o (λ output. IsTold (log_text trace) input output) (λ f. IsRefusedReplay input f × (IsWantOfMemory f → ⊥))
+    → MatchResult o (λ output. IsLogged input trace output) (λ f. IsRefusedReplay input f × (IsWantOfMemory f → ⊥))
+told_log trace input (Ok output) x = record {
+  image = x.image;
+  log = x.log;
+  run = x.run;
+  journal = x.journal;
+  lines = subst (λ (text : List ℕ). IsLogText trace x.image x.log text) (sym x.output_is) (is_log_text trace x.image x.log x.journal);
+}
+told_log trace input (Err f) x = x
+
 abbrev same_of : TextOf
 same_of image log = same_text log
 
@@ -214,7 +235,7 @@ DebugOutcome image log words (Ok text) = IsJournal image log.threads log.events 
 DebugOutcome image log words (Err f) = IsReplayFault image log f × (f ≢ journal.OutOfMemory)
 
 debug_one : (image : Image) (log : Log) (words : List DebugWord) (o p : Result (List ℕ) JournalFault) → DebugOutcome image log words o → DebugOutcome image log words p → o ≡ p
-debug_one image log words (Ok a) (Ok b) x y = ap Ok (talk_one image log 0 [] [] words a b (λ place. refl) x.1 y.1)
+debug_one image log words (Ok a) (Ok b) x y = ap Ok (talk_one image log x.0 0 [] [] words a b (λ place. refl) x.1 y.1)
 debug_one image log words (Ok a) (Err g) x y = absurd (let none = replay_one image log (Ok log) (Err g) (x.0, refl) y in ok_no_err log g none)
 debug_one image log words (Err f) (Ok b) x y = absurd (let none = replay_one image log (Ok log) (Err f) (y.0, refl) x in ok_no_err log f none)
 debug_one image log words (Err f) (Err g) x y = (let same = err_one f g (replay_one image log (Err f) (Err g) x y) in ap Err same)
@@ -299,7 +320,7 @@ image_one bytes input o p all x y =
 
 -- an outcome, by its two cases
 abbrev Cases : Command → List ℕ → Result (List ℕ) CommandFault → Type 0
-Cases c input o = MatchResult o (λ output. IsOutput c input output) (λ f. IsRefused c input f × (IsWantOfMemory f → ⊥))
+Cases c input o = MatchResult o (λ output. IsOutput c input output) (λ f. IsRefusedCommand c input f × (IsWantOfMemory f → ⊥))
 
 cases : (c : Command) (input : List ℕ) (o : Result (List ℕ) CommandFault) → IsOutcome c input o → Cases c input o
 cases c input (Ok output) x = x
@@ -322,7 +343,7 @@ one_outcome texts bytes command.Replay input o p settled all x y =
     replays_one same_of input o p all (replay_is same_of input o (cases command.Replay input o x)) (replay_is same_of input p (cases command.Replay input p y))
 one_outcome texts bytes (command.Log trace) input o p settled all x y =
     let c = command.Log trace in
-    replays_one (log_text trace) input o p all (replay_is (log_text trace) input o (cases c input o x)) (replay_is (log_text trace) input p (cases c input p y))
+    replays_one (log_text trace) input o p all (replay_is (log_text trace) input o (log_told trace input o (cases c input o x))) (replay_is (log_text trace) input p (log_told trace input p (cases c input p y)))
 one_outcome texts bytes (command.Debug words) input o p settled all x y =
     let c = command.Debug words in
     debugs_one words.items input o p all (debug_is words.items input o (cases c input o x)) (debug_is words.items input p (cases c input p y))
@@ -366,6 +387,9 @@ some_program texts bytes input all =
       | inr n ↦ (let r = texts input in (from_text r.0, by_text input r.0 n r.1))
     ]
 
+verified_program : (input : List ℕ) (image : Image) → IsProgram input image → IsVerified image
+verified_program input image p = elim (begins input) [ inl y ↦ (p.as_image y).verified | inr n ↦ (p.as_text n).verified ]
+
 -- what a run's outcome is to the command
 step_run : (n : ℕ) (schedule : List ℕ) (record_it : Bool) (input : List ℕ) (image : Image) (r : Result Log JournalFault) → IsProgram input image → RunOutcome image n schedule r
     → MatchResult (from_run record_it image r) (λ output. IsStepped input n schedule record_it output) (λ f. IsRefusedStep input n schedule f × (IsWantOfMemory f → ⊥))
@@ -374,7 +398,7 @@ step_run n schedule record_it input image (Err f) p x = (record { image = image;
 
 some_step : (n : ℕ) (schedule : List ℕ) (record_it : Bool) (input : List ℕ) (q : Result Image ProgramFault) → ProgramOutcome input q
     → (o : Result (List ℕ) CommandFault) × MatchResult o (λ output. IsStepped input n schedule record_it output) (λ f. IsRefusedStep input n schedule f × (IsWantOfMemory f → ⊥))
-some_step n schedule record_it input (Ok image) p = let r = some_run image n schedule in (from_run record_it image r.0, step_run n schedule record_it input image r.0 p r.1)
+some_step n schedule record_it input (Ok image) p = let r = some_run image n schedule (verified_program input image p) in (from_run record_it image r.0, step_run n schedule record_it input image r.0 p r.1)
 some_step n schedule record_it input (Err f) p = (Err (fault.Program f), (p.0, p.1))
 
 some_replay : (text_of : TextOf) (input : List ℕ) (q : Result (Image × Log) FileFault) → IsFileOutcome input q
@@ -384,8 +408,8 @@ some_replay text_of input (Ok run) x =
       | inl many ↦ (Err (fault.Journal journal.BadCount), (record { image = run.0; log = run.1; run = x; refused = many }, λ w. absurd w))
       | inr few ↦ elim (some_difference run.0 (start_of run.0 run.1.threads) run.1.events) [
         | inl goes ↦
-            (Ok (text_of run.0 run.1), record { image = run.0; log = run.1; run = x; journal = record { counted = (x.journal.fits.is_log.count.0, few); there = x.journal.fits.is_log.there; replies = goes }; output_is = refl })
-        | inr d ↦ (Err (fault.Journal (journal.Differs d.0)), (record { image = run.0; log = run.1; run = x; refused = (few, d.1) }, λ w. absurd w))
+            (Ok (text_of run.0 run.1), record { image = run.0; log = run.1; run = x; journal = journal_of run.0 run.1.threads run.1.events x.program.verified (x.journal.fits.is_log.count.0, few) x.journal.fits.is_log.there goes; output_is = refl })
+        | inr d ↦ (Err (fault.Journal (journal.Differs d.0)), (record { image = run.0; log = run.1; run = x; refused = (few, differs_of run.0 run.1.threads run.1.events d.0 x.program.verified (x.journal.fits.is_log.count.0, few) x.journal.fits.is_log.there d.1) }, λ w. absurd w))
       ]
     ]
 some_replay text_of input (Err f) x = (Err (fault.File f), (x.0, λ w. x.1 (want_file f w)))
@@ -397,9 +421,10 @@ some_debug words input (Ok run) x =
       | inl many ↦ (Err (fault.Journal journal.BadCount), (record { image = run.0; log = run.1; run = x; refused = many }, λ w. absurd w))
       | inr few ↦ elim (some_difference run.0 (start_of run.0 run.1.threads) run.1.events) [
         | inl goes ↦
-            (let talk = some_talk run.0 run.1 0 [] words (omega arith) in
-            (Ok talk.0, record { image = run.0; log = run.1; run = x; journal = record { counted = (x.journal.fits.is_log.count.0, few); there = x.journal.fits.is_log.there; replies = goes }; talk = talk.1 }))
-        | inr d ↦ (Err (fault.Journal (journal.Differs d.0)), (record { image = run.0; log = run.1; run = x; refused = (few, d.1) }, λ w. absurd w))
+            (let own = journal_of run.0 run.1.threads run.1.events x.program.verified (x.journal.fits.is_log.count.0, few) x.journal.fits.is_log.there goes in
+            let talk = some_talk run.0 run.1 own 0 [] words (omega arith) in
+            (Ok talk.0, record { image = run.0; log = run.1; run = x; journal = own; talk = talk.1 }))
+        | inr d ↦ (Err (fault.Journal (journal.Differs d.0)), (record { image = run.0; log = run.1; run = x; refused = (few, differs_of run.0 run.1.threads run.1.events d.0 x.program.verified (x.journal.fits.is_log.count.0, few) x.journal.fits.is_log.there d.1) }, λ w. absurd w))
       ]
     ]
 some_debug words input (Err f) x = (Err (fault.File f), (x.0, λ w. x.1 (want_file f w)))
@@ -440,7 +465,7 @@ some_outcome texts bytes command.Replay input settled all =
 some_outcome texts bytes (command.Log trace) input settled all =
     let q = files_have_an_outcome input all in
     let o = some_replay (log_text trace) input q.0 q.1 in
-    (o.0, uncased (command.Log trace) input o.0 o.1)
+    (o.0, uncased (command.Log trace) input o.0 (told_log trace input o.0 o.1))
 some_outcome texts bytes (command.Debug words) input settled all =
     let q = files_have_an_outcome input all in
     let o = some_debug words.items input q.0 q.1 in
@@ -467,7 +492,7 @@ log_is_step texts bytes input file output n schedule all r = (there, back)
     there : IsLogged file false output → IsStepped input n schedule false output
     there l =
         let same = run_is_one r.image l.image r.log l.log file r.spelled l.run in
-        record { image = r.image; log = r.log; program = r.program; legal = r.legal; recorded = r.recorded; output_is = l.output_is ∙ ap (λ (g : Log). written false r.image g) (sym same.1) }
+        record { image = r.image; log = r.log; program = r.program; legal = r.legal; recorded = r.recorded; output_is = l.lines ∙ ap (λ (g : Log). written false r.image g) (sym same.1) }
 
     back : IsStepped input n schedule false output → IsLogged file false output
     back s =
@@ -478,5 +503,5 @@ log_is_step texts bytes input file output n schedule all r = (there, back)
           log = r.log;
           run = r.spelled;
           journal = subst (λ (k : ℕ). IsJournal r.image k r.log.events) (sym r.recorded.threads_are) r.recorded.journal;
-          output_is = sym (ok_same (written false r.image r.log) output one);
+          lines = sym (ok_same (written false r.image r.log) output one);
         }

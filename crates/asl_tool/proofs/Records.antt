@@ -4,6 +4,7 @@ use Rattle.std.specs.List.{AllByRecursion}
 use Rattle.std.proofs.lemmas.Bool.{cases_lt}
 use Rattle.std.proofs.lemmas.List.{take_all}
 use Rattle.std.proofs.lemmas.List.Elements.{All-from_recursion, recursion_from_All, All-take}
+use Rattle.asl_code.specs.Verified.{IsVerified}
 use Rattle.asl_code.specs.Versions.{most_threads}
 use Rattle.asl_code.specs.declared.image.Image.{Image}
 use Rattle.asl_machine.specs.declared.reply.Reply.{Reply}
@@ -14,6 +15,7 @@ use Rattle.asl_journal.specs.declared.event.Event.{Event}
 use Rattle.asl_journal.specs.declared.fault.JournalFault.{JournalFault}
 use Rattle.asl_journal.specs.declared.fault.JournalFault.TheVariants as journal
 use Rattle.asl_journal.specs.Journal.{Log, schedule_of, replies_in, most_events}
+use Rattle.asl_journal.proofs.ByTable.{goes_of, journal_of}
 use Rattle.asl_tool.specs.Step.{AllThere, IsSchedule, IsRecord, IsRefusedRun}
 
 -- ---- the journal
@@ -34,7 +36,7 @@ record_is_one : (image : Image) (n : ℕ) (schedule : List ℕ) (log other : Log
 record_is_one image n schedule log other h k =
     let threads : log.threads ≡ other.threads = h.threads_are ∙ sym k.threads_are in
     let schedules = h.schedule_is ∙ sym k.schedule_is in
-    let replies = h.journal.replies ∙ ap (replies_of image (start_of image n)) schedules ∙ sym k.journal.replies in
+    let replies = goes_of image n log.events h.journal ∙ ap (replies_of image (start_of image n)) schedules ∙ sym (goes_of image n other.events k.journal) in
     ap₂ (λ (t : ℕ) (es : List Event). record { threads = t; events = es }) threads (events_are_one log.events other.events schedules replies)
 
 -- the events of a run
@@ -57,18 +59,16 @@ unfolding made
 made_there n image s [] h = tt
 made_there n image s (t ∷ ts) h = (h.0, made_there n image (step_of image s t).state ts h.1)
 
-some_record : (image : Image) (n : ℕ) (schedule : List ℕ) → IsThreadCount image n → AllThere n schedule → (log : Log) × IsRecord image n schedule log
-some_record image n schedule count there =
+some_record : (image : Image) (n : ℕ) (schedule : List ℕ) → IsVerified image → IsThreadCount image n → AllThere n schedule → (log : Log) × IsRecord image n schedule log
+some_record image n schedule verified count there =
     let start = start_of image n in (
       record { threads = n; events = made image start schedule },
       record {
         threads_are = refl;
         schedule_is = made_by image start schedule;
-        journal = record {
-          counted = count;
-          there = All-from_recursion (λ (e : Event). e.thread < n) (made image start schedule) (made_there n image start schedule (recursion_from_All (λ t. t < n) schedule there));
-          replies = made_replies image start schedule ∙ ap (replies_of image start) (sym (made_by image start schedule));
-        };
+        journal = journal_of image n (made image start schedule) verified count
+            (All-from_recursion (λ (e : Event). e.thread < n) (made image start schedule) (made_there n image start schedule (recursion_from_All (λ t. t < n) schedule there)))
+            (made_replies image start schedule ∙ ap (replies_of image start) (sym (made_by image start schedule)));
       },
     )
 
@@ -165,15 +165,15 @@ run_one image n schedule (Ok a) (Err g) x y = absurd (legal_is_none image n sche
 run_one image n schedule (Err f) (Ok b) x y = absurd (legal_is_none image n schedule f y.0 (named image n schedule f x.0 x.1))
 run_one image n schedule (Err f) (Err g) x y = ap Err (one_name image n schedule f g (named image n schedule f x.0 x.1) (named image n schedule g y.0 y.1))
 
-pub some_run : (image : Image) (n : ℕ) (schedule : List ℕ) → (r : Result Log JournalFault) × RunOutcome image n schedule r
-some_run image n schedule =
+pub some_run : (image : Image) (n : ℕ) (schedule : List ℕ) → IsVerified image → (r : Result Log JournalFault) × RunOutcome image n schedule r
+some_run image n schedule verified =
     elim (counted image n) [
       | inl count ↦ elim (there n (take most_events schedule)) [
         | inl each ↦ elim (cases_lt most_events (length schedule)) [
           | inl long ↦ (Err journal.JournalFull, ((count, each, long), λ e. cc))
           | inr short ↦
               (let all = subst (λ (l : List ℕ). AllThere n l) (take_all most_events schedule short) each in
-              let r = some_record image n schedule count all in
+              let r = some_record image n schedule verified count all in
               (Ok r.0, (record { count = count; short = short; there = all }, r.1)))
         ]
         | inr missing ↦ (Err journal.BadThread, ((count, missing), λ e. cc))

@@ -5,11 +5,14 @@ use Rattle.std.specs.Fmt.{decimal}
 use Rattle.std.proofs.lemmas.Bool.{cases_lt, cases_eq}
 use Rattle.asl_code.specs.declared.image.Image.{Image}
 use Rattle.asl_machine.specs.State.{State, Activity, activity_at}
+use Rattle.asl_machine.specs.View.{Configuration}
 use Rattle.asl_journal.specs.declared.event.Event.{Event}
-use Rattle.asl_journal.specs.Journal.{Log}
+use Rattle.asl_journal.specs.Journal.{Log, IsJournal}
 use Rattle.asl_debugger.specs.Breaks.{has_break, is_place, HasBreak, HasNoBreak}
 use Rattle.asl_debugger.specs.Session.{Session, IsAtBreak, IsStop, IsNextStop, IsLastStop, machine_before, state_before}
+use Rattle.asl_debugger.specs.Halts.{IsHalt, IsNextHalt, IsLastHalt}
 use Rattle.asl_debugger.proofs.Places.{without_place}
+use Rattle.asl_debugger.proofs.ByTable.{is_shown, shown_is, next_stop_of, last_stop_of}
 use Rattle.asl_debugger.proofs.Halts.{IsSearching, searching_start, searching_next, found_next, IsNoneFrom, none_from_start, none_found}
 use Rattle.asl_tool.specs.declared.debugging.Answer.{Answer}
 use Rattle.asl_tool.specs.declared.debugging.Answer.TheVariants.{At, AtEnd, AtStart, NoSuchStep}
@@ -46,9 +49,7 @@ abbrev at : Image → Log → ℕ → List ℕ → Session
 at image log p bs = record { image = image; log = log; position = p; breakpoints = bs }
 
 stop_alike : (image : Image) (log : Log) (p q : ℕ) (bs cs : List ℕ) (k : ℕ) → Alike bs cs → IsStop (at image log p bs) k → IsStop (at image log q cs) k
-stop_alike image log p q bs cs k same h =
-    some_and (slice_get log.events k) (λ (e : Event). IsAtBreak bs (state_before image log k) e.thread) (λ (e : Event). IsAtBreak cs (state_before image log k) e.thread)
-    (λ e is. at_break bs cs (state_before image log k) e.thread same is) h
+stop_alike image log p q bs cs k same h = record { event = h.event; there = h.there; state = h.state; leads = h.leads; breaks = at_break bs cs h.state h.event.thread same h.breaks }
 
 next_not_before : (image : Image) (log : Log) (p : ℕ) (bs cs : List ℕ) (k j : ℕ) → Alike bs cs → IsNextStop (at image log p bs) k → IsNextStop (at image log p cs) j → k < j → ⊥
 next_not_before image log p bs cs k j same x y lt =
@@ -138,39 +139,39 @@ cleared_alike : (bs cs new other : List ℕ) (pc : ℕ) → Alike bs cs → HasN
 cleared_alike bs cs new other pc same x y place =
     x place ∙ ap (λ (b : Bool). if pc == place then false else b) (same place) ∙ sym (y place)
 
-pub talk_one : (image : Image) (log : Log) (p : ℕ) (bs cs : List ℕ) (ws : List DebugWord) (x y : List ℕ) → Alike bs cs → IsTalk (at image log p bs) ws x → IsTalk (at image log p cs) ws y → x ≡ y
-talk_one image log p bs cs [] x y same h k = h ∙ sym k
-talk_one image log p bs cs (word.Move m ∷ ws) x y same h k =
+pub talk_one : (image : Image) (log : Log) → IsJournal image log.threads log.events → (p : ℕ) (bs cs : List ℕ) (ws : List DebugWord) (x y : List ℕ) → Alike bs cs → IsTalk (at image log p bs) ws x → IsTalk (at image log p cs) ws y → x ≡ y
+talk_one image log j p bs cs [] x y same h k = h ∙ sym k
+talk_one image log j p bs cs (word.Move m ∷ ws) x y same h k =
     let a = h.3.0 in
     let b = k.3.0 in
     let one : a ≡ b = answer_one image log p bs cs m a b same h.3.1 k.3.1 in
     let left = subst (λ (s : Session). IsTalk s ws h.2) (h.3.2 ∙ arrives image log p bs a) h.4 in
     let right = subst (λ (s : Session). IsTalk s ws k.2) (k.3.2 ∙ arrives image log p cs b ∙ ap (λ (c : Answer). at image log (place_of p c) cs) (sym one)) k.4 in
-    h.5 ∙ ap₂ (λ (u v : List ℕ). u ++ v) (h.3.3 ∙ ap answer_text one ∙ sym k.3.3) (talk_one image log (place_of p a) bs cs ws h.2 k.2 same left right) ∙ sym k.5
-talk_one image log p bs cs (word.Break pc ∷ ws) x y same h k =
+    h.5 ∙ ap₂ (λ (u v : List ℕ). u ++ v) (h.3.3 ∙ ap answer_text one ∙ sym k.3.3) (talk_one image log j (place_of p a) bs cs ws h.2 k.2 same left right) ∙ sym k.5
+talk_one image log j p bs cs (word.Break pc ∷ ws) x y same h k =
     let left = subst (λ (s : Session). IsTalk s ws h.2) h.3.0 h.4 in
     let right = subst (λ (s : Session). IsTalk s ws k.2) k.3.0 k.4 in
-    h.5 ∙ ap₂ (λ (u v : List ℕ). u ++ v) (h.3.2 ∙ sym k.3.2) (talk_one image log p h.0.breakpoints k.0.breakpoints ws h.2 k.2 (broken_alike bs cs h.0.breakpoints k.0.breakpoints pc same h.3.1 k.3.1) left right) ∙ sym k.5
-talk_one image log p bs cs (word.Clear pc ∷ ws) x y same h k =
+    h.5 ∙ ap₂ (λ (u v : List ℕ). u ++ v) (h.3.2 ∙ sym k.3.2) (talk_one image log j p h.0.breakpoints k.0.breakpoints ws h.2 k.2 (broken_alike bs cs h.0.breakpoints k.0.breakpoints pc same h.3.1 k.3.1) left right) ∙ sym k.5
+talk_one image log j p bs cs (word.Clear pc ∷ ws) x y same h k =
     let left = subst (λ (s : Session). IsTalk s ws h.2) h.3.0 h.4 in
     let right = subst (λ (s : Session). IsTalk s ws k.2) k.3.0 k.4 in
-    h.5 ∙ ap₂ (λ (u v : List ℕ). u ++ v) (h.3.2 ∙ sym k.3.2) (talk_one image log p h.0.breakpoints k.0.breakpoints ws h.2 k.2 (cleared_alike bs cs h.0.breakpoints k.0.breakpoints pc same h.3.1 k.3.1) left right) ∙ sym k.5
-talk_one image log p bs cs (word.View ∷ ws) x y same h k =
+    h.5 ∙ ap₂ (λ (u v : List ℕ). u ++ v) (h.3.2 ∙ sym k.3.2) (talk_one image log j p h.0.breakpoints k.0.breakpoints ws h.2 k.2 (cleared_alike bs cs h.0.breakpoints k.0.breakpoints pc same h.3.1 k.3.1) left right) ∙ sym k.5
+talk_one image log j p bs cs (word.View ∷ ws) x y same h k =
     let left = subst (λ (s : Session). IsTalk s ws h.2) h.3.0 h.4 in
     let right = subst (λ (s : Session). IsTalk s ws k.2) k.3.0 k.4 in
-    h.5 ∙ ap₂ (λ (u v : List ℕ). u ++ v) (h.3.1 ∙ sym k.3.1) (talk_one image log p bs cs ws h.2 k.2 same left right) ∙ sym k.5
-talk_one image log p bs cs (word.Asks ∷ ws) x y same h k =
+    h.5 ∙ ap₂ (λ (u v : List ℕ). u ++ v) (h.3.3 ∙ ap (λ (m : Configuration). view_text m) (shown_is (at image log p bs) j h.3.1 h.3.2 ∙ sym (shown_is (at image log p cs) j k.3.1 k.3.2)) ∙ sym k.3.3) (talk_one image log j p bs cs ws h.2 k.2 same left right) ∙ sym k.5
+talk_one image log j p bs cs (word.Asks ∷ ws) x y same h k =
     let left = subst (λ (s : Session). IsTalk s ws h.2) h.3.0 h.4 in
     let right = subst (λ (s : Session). IsTalk s ws k.2) k.3.0 k.4 in
-    h.5 ∙ ap₂ (λ (u v : List ℕ). u ++ v) (h.3.1 ∙ sym k.3.1) (talk_one image log p bs cs ws h.2 k.2 same left right) ∙ sym k.5
-talk_one image log p bs cs (word.Stack ∷ ws) x y same h k =
+    h.5 ∙ ap₂ (λ (u v : List ℕ). u ++ v) (h.3.3 ∙ ap (λ (m : Configuration). asks_text m) (shown_is (at image log p bs) j h.3.1 h.3.2 ∙ sym (shown_is (at image log p cs) j k.3.1 k.3.2)) ∙ sym k.3.3) (talk_one image log j p bs cs ws h.2 k.2 same left right) ∙ sym k.5
+talk_one image log j p bs cs (word.Stack ∷ ws) x y same h k =
     let left = subst (λ (s : Session). IsTalk s ws h.2) h.3.0 h.4 in
     let right = subst (λ (s : Session). IsTalk s ws k.2) k.3.0 k.4 in
-    h.5 ∙ ap₂ (λ (u v : List ℕ). u ++ v) (h.3.1 ∙ sym k.3.1) (talk_one image log p bs cs ws h.2 k.2 same left right) ∙ sym k.5
-talk_one image log p bs cs (word.Objects ∷ ws) x y same h k =
+    h.5 ∙ ap₂ (λ (u v : List ℕ). u ++ v) (h.3.3 ∙ ap (λ (m : Configuration). stack_text m.state) (shown_is (at image log p bs) j h.3.1 h.3.2 ∙ sym (shown_is (at image log p cs) j k.3.1 k.3.2)) ∙ sym k.3.3) (talk_one image log j p bs cs ws h.2 k.2 same left right) ∙ sym k.5
+talk_one image log j p bs cs (word.Objects ∷ ws) x y same h k =
     let left = subst (λ (s : Session). IsTalk s ws h.2) h.3.0 h.4 in
     let right = subst (λ (s : Session). IsTalk s ws k.2) k.3.0 k.4 in
-    h.5 ∙ ap₂ (λ (u v : List ℕ). u ++ v) (h.3.1 ∙ sym k.3.1) (talk_one image log p bs cs ws h.2 k.2 same left right) ∙ sym k.5
+    h.5 ∙ ap₂ (λ (u v : List ℕ). u ++ v) (h.3.3 ∙ ap (λ (m : Configuration). objects_text m.state) (shown_is (at image log p bs) j h.3.1 h.3.2 ∙ sym (shown_is (at image log p cs) j k.3.1 k.3.2)) ∙ sym k.3.3) (talk_one image log j p bs cs ws h.2 k.2 same left right) ∙ sym k.5
 
 -- ---- there is an answer
 
@@ -182,12 +183,12 @@ dec_true : (b : Bool) → IsTrue b ⊎ (IsTrue b → ⊥)
 dec_true true = inl refl
 dec_true false = inr (λ e. cc)
 
-dec_stop : (s : Session) (k : ℕ) → IsStop s k ⊎ (IsStop s k → ⊥)
+dec_stop : (s : Session) (k : ℕ) → IsHalt s k ⊎ (IsHalt s k → ⊥)
 dec_stop s k =
     dec_some_and (slice_get s.log.events k) (λ (e : Event). IsAtBreak s.breakpoints (state_before s.image s.log k) e.thread)
     (λ e. dec_some_and (activity_at (state_before s.image s.log k).threads e.thread) (λ (a : Activity). IsTrue (has_break s.breakpoints a.top.pc)) (λ a. dec_true (has_break s.breakpoints a.top.pc)))
 
-next_from : (s : Session) (gap k : ℕ) → k + gap ≡ length s.log.events → IsSearching s (machine_before s.image s.log k) k → (j : ℕ) × IsNextStop s j
+next_from : (s : Session) (gap k : ℕ) → k + gap ≡ length s.log.events → IsSearching s (machine_before s.image s.log k) k → (j : ℕ) × IsNextHalt s j
 next_from s zero k e h = (k, found_next s (machine_before s.image s.log k) k h (inr (let end : k ≡ length s.log.events = omega (arith, e) in end)))
 next_from s (suc gap) k e h =
     elim (dec_stop s k) [
@@ -195,12 +196,12 @@ next_from s (suc gap) k e h =
       | inr away ↦ next_from s gap (k + 1) (omega (arith, e)) (searching_next s (machine_before s.image s.log k) (machine_before s.image s.log (k + 1)) k (omega (arith, e)) h away refl)
     ]
 
-some_next : (s : Session) → s.position < length s.log.events → (k : ℕ) × IsNextStop s k
+some_next : (s : Session) → s.position < length s.log.events → (k : ℕ) × IsNextHalt s k
 some_next s lt =
     let gap : (s.position + 1) + (length s.log.events - (s.position + 1)) ≡ length s.log.events = omega (arith, lt) in
     next_from s (length s.log.events - (s.position + 1)) (s.position + 1) gap (searching_start s (machine_before s.image s.log (s.position + 1)) lt refl)
 
-last_from : (s : Session) (until : ℕ) → 0 < s.position → IsNoneFrom s until → (k : ℕ) × IsLastStop s k
+last_from : (s : Session) (until : ℕ) → 0 < s.position → IsNoneFrom s until → (k : ℕ) × IsLastHalt s k
 last_from s zero some h = (0, none_found s some h)
 last_from s (suc until) some h =
     elim (dec_stop s until) [
@@ -215,7 +216,7 @@ last_from s (suc until) some h =
       | inr away ↦ last_from s until some (record {
         within = omega (arith, h.within);
         none_between = λ j low high. elim (cases_lt j (suc until)) [
-          | inl before ↦ (let same : until ≡ j = omega (arith, low, before) in subst (λ (n : ℕ). IsStop s n → ⊥) same away)
+          | inl before ↦ (let same : until ≡ j = omega (arith, low, before) in subst (λ (n : ℕ). IsHalt s n → ⊥) same away)
           | inr past ↦ h.none_between j past high
         ];
       })
@@ -225,31 +226,31 @@ last_from s (suc until) some h =
 abbrev SomeAnswer : Session → Move → Type 0
 SomeAnswer s m = (a : Answer) × IsAnswer s m a × (place_of s.position a ≤ length s.log.events)
 
-some_answer : (s : Session) (m : Move) → s.position ≤ length s.log.events → SomeAnswer s m
-some_answer s (step.Goto k) within =
+some_answer : (s : Session) (m : Move) → IsJournal s.image s.log.threads s.log.events → s.position ≤ length s.log.events → SomeAnswer s m
+some_answer s (step.Goto k) j within =
     elim (cases_lt (length s.log.events) k) [
       | inl past ↦ (NoSuchStep, past, within)
       | inr there ↦ (At k, (there, refl), there)
     ]
-some_answer s step.Forward within =
+some_answer s step.Forward j within =
     elim (cases_eq s.position (length s.log.events)) [
       | inl end ↦ (AtEnd, end, within)
       | inr more ↦ (let lt : s.position < length s.log.events = omega (arith, within, more) in (At (s.position + 1), (lt, refl), omega (arith, lt)))
     ]
-some_answer s step.Back within =
+some_answer s step.Back j within =
     elim (cases_eq s.position 0) [
       | inl start ↦ (AtStart, start, within)
       | inr more ↦ (At (s.position - 1), omega (arith, more), omega (arith, within))
     ]
-some_answer s step.Next within =
+some_answer s step.Next j within =
     elim (cases_eq s.position (length s.log.events)) [
       | inl end ↦ (AtEnd, end, within)
-      | inr more ↦ (let k = some_next s (omega (arith, within, more)) in (At k.0, k.1, k.1.within))
+      | inr more ↦ (let k = some_next s (omega (arith, within, more)) in (At k.0, next_stop_of s j k.0 k.1, k.1.within))
     ]
-some_answer s step.Previous within =
+some_answer s step.Previous j within =
     elim (cases_eq s.position 0) [
       | inl start ↦ (AtStart, start, within)
-      | inr more ↦ (let k = last_from s s.position (omega (arith, more)) (none_from_start s) in (At k.0, k.1, omega (arith, k.1.earlier, within)))
+      | inr more ↦ (let k = last_from s s.position (omega (arith, more)) (none_from_start s) in (At k.0, last_stop_of s j k.0 k.1, omega (arith, k.1.earlier, within)))
     ]
 
 abbrev break_text : ℕ → List ℕ
@@ -275,31 +276,31 @@ put_place pc bs place = by (is_place pc)
     by true = either (pc == place) (has_break bs place)
     by false = refl
 
-pub some_talk : (image : Image) (log : Log) (p : ℕ) (bs : List ℕ) (ws : List DebugWord) → p ≤ length log.events → (text : List ℕ) × IsTalk (at image log p bs) ws text
-some_talk image log p bs [] within = ([], refl)
-some_talk image log p bs (word.Move m ∷ ws) within =
-    let a = some_answer (at image log p bs) m within in
-    let rest = some_talk image log (place_of p a.0) bs ws a.2 in
+pub some_talk : (image : Image) (log : Log) → IsJournal image log.threads log.events → (p : ℕ) (bs : List ℕ) (ws : List DebugWord) → p ≤ length log.events → (text : List ℕ) × IsTalk (at image log p bs) ws text
+some_talk image log j p bs [] within = ([], refl)
+some_talk image log j p bs (word.Move m ∷ ws) within =
+    let a = some_answer (at image log p bs) m j within in
+    let rest = some_talk image log j (place_of p a.0) bs ws a.2 in
     (answer_text a.0 ++ rest.0, (at image log (place_of p a.0) bs, answer_text a.0, rest.0, (a.0, a.1, sym (arrives image log p bs a.0), refl), rest.1, refl))
-some_talk image log p bs (word.Break pc ∷ ws) within =
-    let rest = some_talk image log p (with_place pc bs) ws within in
+some_talk image log j p bs (word.Break pc ∷ ws) within =
+    let rest = some_talk image log j p (with_place pc bs) ws within in
     (break_text pc ++ rest.0, (at image log p (with_place pc bs), break_text pc, rest.0, (refl, put_place pc bs, refl), rest.1, refl))
-some_talk image log p bs (word.Clear pc ∷ ws) within =
-    let rest = some_talk image log p (without pc bs) ws within in
+some_talk image log j p bs (word.Clear pc ∷ ws) within =
+    let rest = some_talk image log j p (without pc bs) ws within in
     (clear_text pc ++ rest.0, (at image log p (without pc bs), clear_text pc, rest.0, (refl, (λ place. without_place pc place bs), refl), rest.1, refl))
-some_talk image log p bs (word.View ∷ ws) within =
-    let rest = some_talk image log p bs ws within in
+some_talk image log j p bs (word.View ∷ ws) within =
+    let rest = some_talk image log j p bs ws within in
     let shown = view_text (machine_before image log p) in
-    (shown ++ rest.0, (at image log p bs, shown, rest.0, (refl, refl), rest.1, refl))
-some_talk image log p bs (word.Asks ∷ ws) within =
-    let rest = some_talk image log p bs ws within in
+    (shown ++ rest.0, (at image log p bs, shown, rest.0, (refl, machine_before image log p, is_shown (at image log p bs) j (machine_before image log p) refl, refl), rest.1, refl))
+some_talk image log j p bs (word.Asks ∷ ws) within =
+    let rest = some_talk image log j p bs ws within in
     let shown = asks_text (machine_before image log p) in
-    (shown ++ rest.0, (at image log p bs, shown, rest.0, (refl, refl), rest.1, refl))
-some_talk image log p bs (word.Stack ∷ ws) within =
-    let rest = some_talk image log p bs ws within in
+    (shown ++ rest.0, (at image log p bs, shown, rest.0, (refl, machine_before image log p, is_shown (at image log p bs) j (machine_before image log p) refl, refl), rest.1, refl))
+some_talk image log j p bs (word.Stack ∷ ws) within =
+    let rest = some_talk image log j p bs ws within in
     let shown = stack_text (state_before image log p) in
-    (shown ++ rest.0, (at image log p bs, shown, rest.0, (refl, refl), rest.1, refl))
-some_talk image log p bs (word.Objects ∷ ws) within =
-    let rest = some_talk image log p bs ws within in
+    (shown ++ rest.0, (at image log p bs, shown, rest.0, (refl, machine_before image log p, is_shown (at image log p bs) j (machine_before image log p) refl, refl), rest.1, refl))
+some_talk image log j p bs (word.Objects ∷ ws) within =
+    let rest = some_talk image log j p bs ws within in
     let shown = objects_text (state_before image log p) in
-    (shown ++ rest.0, (at image log p bs, shown, rest.0, (refl, refl), rest.1, refl))
+    (shown ++ rest.0, (at image log p bs, shown, rest.0, (refl, machine_before image log p, is_shown (at image log p bs) j (machine_before image log p) refl, refl), rest.1, refl))

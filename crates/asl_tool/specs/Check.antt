@@ -11,9 +11,9 @@ use Rattle.asl_atomicity.specs.Renamed.{HasSerialRunsUpTo}
 use Rattle.asl_check.specs.Refused as lists
 use Rattle.asl_syntax.specs.declared.fault.SyntaxFault.{SyntaxFault}
 use Rattle.asl_check.specs.declared.fault.CheckFault.{CheckFault}
-use Rattle.asl_tool.specs.declared.program.ProgramFault.{ProgramFault}
-use Rattle.asl_tool.specs.declared.command.CommandFault.{CommandFault}
-use Rattle.asl_tool.specs.declared.command.CommandFault.TheVariants as fault
+use Rattle.asl_tool.specs.declared.input_program.ProgramFault.{ProgramFault}
+use Rattle.asl_tool.specs.declared.command_fault.CommandFault.{CommandFault}
+use Rattle.asl_tool.specs.declared.command_fault.CommandFault.TheVariants as fault
 use Rattle.asl_tool.specs.Program.{IsProgram, IsNoProgram}
 
 -- ---- the two sides of an input
@@ -30,7 +30,7 @@ pub record HasSides (input source program : List ℕ) : Type 0 where
 -- ---- what is checked
 
 -- the first side is a source, the second a program with so many lists. The program is the source's but for its lists, and these are
--- enough for what its sections need, with paths of at most so many operations; no run of it faults for want of a lock, and its
+-- enough for what its sections need, with paths of at most so many operations; no run of it faults for a missing lock, and its
 -- sections are atomic
 pub record AreEnough (source program : List ℕ) (k_limit sections : ℕ) : Type 0 where
   pub tree : List Item
@@ -70,9 +70,9 @@ pub record HasOtherLists (source program : List ℕ) (k_limit : ℕ) (cause : Ch
   pub image : Image
   pub parsed : Parses source tree
   pub read : IsProgram program image
-  pub refused : lists.IsRefused tree k_limit image cause
+  pub refused : lists.IsRefusedLists tree k_limit image cause
 
--- what each refusal says of the two sides; want of memory for the line comes only where the lists are enough
+-- what each refusal says of the two sides; lack of memory for the line comes only where the lists are enough
 abbrev pub IsRefusedPair : List ℕ → List ℕ → ℕ → CommandFault → Type 0
 IsRefusedPair source program k_limit (fault.Source cause) = syntax.IsFault source cause
 IsRefusedPair source program k_limit (fault.Program cause) = HasNoProgram source program cause

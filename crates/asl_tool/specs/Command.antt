@@ -7,11 +7,11 @@ use Rattle.asl_assembler.specs.Faults as text
 use Rattle.asl_loader.specs.Bytes.{SpellsImage}
 use Rattle.asl_loader.specs.Faults.{IsProgramImage}
 use Rattle.asl_loader.specs.Faults as bytes
-use Rattle.asl_tool.specs.declared.program.ProgramFault.TheVariants as program
+use Rattle.asl_tool.specs.declared.input_program.ProgramFault.TheVariants as program
 use Rattle.asl_words.specs.declared.command.Command.{Command}
 use Rattle.asl_words.specs.declared.command.Command.TheVariants as command
-use Rattle.asl_tool.specs.declared.command.CommandFault.{CommandFault}
-use Rattle.asl_tool.specs.declared.command.CommandFault.TheVariants as fault
+use Rattle.asl_tool.specs.declared.command_fault.CommandFault.{CommandFault}
+use Rattle.asl_tool.specs.declared.command_fault.CommandFault.TheVariants as fault
 use Rattle.asl_tool.specs.Program.{IsNoProgram}
 use Rattle.asl_diagnose.specs.RefusalText.{IsTold}
 use Rattle.asl_explain.specs.Told.{IsText}
@@ -58,7 +58,7 @@ abbrev pub IsRunFile : Command → List ℕ → List ℕ → Type 0
 IsRunFile (command.Step threads schedule record_it) input output = record_it ≡ true → IsRecorded input threads schedule.items output
 IsRunFile c input output = Unit {0}
 
--- what each refusal of `step` says of the input; want of memory for the output comes only where the input is a program that
+-- what each refusal of `step` says of the input; lack of memory for the output comes only where the input is a program that
 -- may run over the schedule
 abbrev pub IsRefusedStep : List ℕ → ℕ → List ℕ → CommandFault → Type 0
 IsRefusedStep input threads schedule (fault.Program cause) = IsNoProgram input cause
@@ -66,13 +66,13 @@ IsRefusedStep input threads schedule (fault.Journal cause) = HasRefusedRun input
 IsRefusedStep input threads schedule fault.OutOfMemory = IsSteppable input threads schedule
 IsRefusedStep input threads schedule f = ⊥
 
--- what each refusal of `asm` says of the text; want of memory for the image comes only where the text is a program
+-- what each refusal of `asm` says of the text; lack of memory for the image comes only where the text is a program
 abbrev pub IsRefusedText : List ℕ → CommandFault → Type 0
 IsRefusedText input (fault.Program (program.Text cause)) = text.IsFault input cause
 IsRefusedText input fault.OutOfMemory = (image : Image) × IsProgramText input image
 IsRefusedText input f = ⊥
 
--- what each refusal of `dis` says of the image; want of memory for the text comes only where the bytes are a program's image
+-- what each refusal of `dis` says of the image; lack of memory for the text comes only where the bytes are a program's image
 abbrev pub IsRefusedImage : List ℕ → CommandFault → Type 0
 IsRefusedImage input (fault.Program (program.Image cause)) = bytes.IsFault input cause
 IsRefusedImage input fault.OutOfMemory = (image : Image) × IsProgramImage input image
@@ -80,13 +80,13 @@ IsRefusedImage input f = ⊥
 
 -- what each refusal of `map` says of the source
 abbrev pub IsRefusedMap : List ℕ → CommandFault → Type 0
-IsRefusedMap input (fault.Map cause) = map.IsRefused input cause
+IsRefusedMap input (fault.Map cause) = map.IsRefusedMapping input cause
 IsRefusedMap input f = ⊥
 
 -- what each refusal of `explain` says of the source
 abbrev pub IsRefusedExplain : List ℕ → ℕ → CommandFault → Type 0
-IsRefusedExplain input k_limit (fault.Source cause) = explain.IsRefused input k_limit (why.Source cause)
-IsRefusedExplain input k_limit (fault.Infer cause) = explain.IsRefused input k_limit (why.Infer cause)
+IsRefusedExplain input k_limit (fault.Source cause) = explain.IsRefusedExplanation input k_limit (why.Source cause)
+IsRefusedExplain input k_limit (fault.Infer cause) = explain.IsRefusedExplanation input k_limit (why.Infer cause)
 IsRefusedExplain input k_limit f = ⊥
 
 -- `diagnose` refuses no input: memory may run out, and that is all
@@ -102,15 +102,15 @@ IsRefusedReplay input (fault.Journal cause) = HasRefusedReplay input cause
 IsRefusedReplay input f = ⊥
 
 -- what each refusal of a command says of the input
-abbrev pub IsRefused : Command → List ℕ → CommandFault → Type 0
-IsRefused (command.Step threads schedule record_it) input f = IsRefusedStep input threads schedule.items f
-IsRefused command.Assemble input f = IsRefusedText input f
-IsRefused command.Disassemble input f = IsRefusedImage input f
-IsRefused (command.Compile k_limit as_text) input f = IsRefusedSource input k_limit f
-IsRefused (command.Check k_limit) input f = IsRefusedCheck input k_limit f
-IsRefused command.Map input f = IsRefusedMap input f
-IsRefused (command.Explain k_limit all) input f = IsRefusedExplain input k_limit f
-IsRefused (command.Diagnose assembly k_limit) input f = IsRefusedDiagnose f
-IsRefused command.Replay input f = IsRefusedReplay input f
-IsRefused (command.Log trace) input f = IsRefusedReplay input f
-IsRefused (command.Debug words) input f = IsRefusedReplay input f
+abbrev pub IsRefusedCommand : Command → List ℕ → CommandFault → Type 0
+IsRefusedCommand (command.Step threads schedule record_it) input f = IsRefusedStep input threads schedule.items f
+IsRefusedCommand command.Assemble input f = IsRefusedText input f
+IsRefusedCommand command.Disassemble input f = IsRefusedImage input f
+IsRefusedCommand (command.Compile k_limit as_text) input f = IsRefusedSource input k_limit f
+IsRefusedCommand (command.Check k_limit) input f = IsRefusedCheck input k_limit f
+IsRefusedCommand command.Map input f = IsRefusedMap input f
+IsRefusedCommand (command.Explain k_limit all) input f = IsRefusedExplain input k_limit f
+IsRefusedCommand (command.Diagnose assembly k_limit) input f = IsRefusedDiagnose f
+IsRefusedCommand command.Replay input f = IsRefusedReplay input f
+IsRefusedCommand (command.Log trace) input f = IsRefusedReplay input f
+IsRefusedCommand (command.Debug words) input f = IsRefusedReplay input f

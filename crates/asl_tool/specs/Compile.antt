@@ -13,11 +13,11 @@ use Rattle.asl_atomicity.specs.Serial.{HasSerialRuns}
 use Rattle.asl_atomicity.specs.Renamed.{HasSerialRunsUpTo}
 use Rattle.asl_assembler.specs.Canonical.{canonical_text}
 use Rattle.asl_loader.specs.Bytes.{SpellsImage}
-use Rattle.asl_tool.specs.declared.command.CommandFault.{CommandFault}
-use Rattle.asl_tool.specs.declared.command.CommandFault.TheVariants as fault
+use Rattle.asl_tool.specs.declared.command_fault.CommandFault.{CommandFault}
+use Rattle.asl_tool.specs.declared.command_fault.CommandFault.TheVariants as fault
 
 -- the source is a program's, and this image is inferred for it, with paths of at most so many operations; no run of the
--- image faults for want of a lock, and its sections are atomic
+-- image faults for a missing lock, and its sections are atomic
 pub record IsProgramFor (source : List ℕ) (k_limit : ℕ) (image : Image) : Type 0 where
   pub tree : List Item
   pub parsed : Parses source tree
@@ -38,7 +38,7 @@ pub record IsCompiled (source : List ℕ) (k_limit : ℕ) (as_text : Bool) (outp
   pub program : IsProgramFor source k_limit image
   pub written : IsProgramWritten as_text image output
 
--- what each refusal of `compile` says of the source; want of memory for the output comes only where a program is inferred for
+-- what each refusal of `compile` says of the source; lack of memory for the output comes only where a program is inferred for
 -- the source
 abbrev pub IsRefusedSource : List ℕ → ℕ → CommandFault → Type 0
 IsRefusedSource source k_limit (fault.Source cause) = syntax.IsFault source cause

@@ -5,7 +5,8 @@ use Rattle.asl_code.specs.declared.image.Image.{Image}
 use Rattle.asl_journal.specs.Journal.{Log, IsJournal}
 use Rattle.asl_journal.specs.RunFile.{SpellsRun}
 use Rattle.asl_debugger.specs.Breaks.{HasBreak, HasNoBreak}
-use Rattle.asl_debugger.specs.Session.{Session, IsNextStop, IsLastStop, machine_before, state_before, moved, with_breaks}
+use Rattle.asl_machine.specs.View.{Configuration}
+use Rattle.asl_debugger.specs.Session.{Session, IsNextStop, IsLastStop, IsShown, moved, with_breaks}
 use Rattle.asl_debugger.specs.declared.fault.DebugFault.{DebugFault}
 use Rattle.asl_debugger.specs.declared.fault.DebugFault.TheVariants as fault
 use Rattle.asl_tool.specs.declared.debugging.Answer.{Answer}
@@ -52,10 +53,10 @@ Says s (word.Break pc) next text =
     (next ≡ with_breaks s next.breakpoints) × HasBreak s.breakpoints next.breakpoints pc × (text ≡ codes "break " ++ decimal pc ++ 10 ∷ [])
 Says s (word.Clear pc) next text =
     (next ≡ with_breaks s next.breakpoints) × HasNoBreak s.breakpoints next.breakpoints pc × (text ≡ codes "clear " ++ decimal pc ++ 10 ∷ [])
-Says s word.View next text = (next ≡ s) × (text ≡ view_text (machine_before s.image s.log s.position))
-Says s word.Asks next text = (next ≡ s) × (text ≡ asks_text (machine_before s.image s.log s.position))
-Says s word.Stack next text = (next ≡ s) × (text ≡ stack_text (state_before s.image s.log s.position))
-Says s word.Objects next text = (next ≡ s) × (text ≡ objects_text (state_before s.image s.log s.position))
+Says s word.View next text = (next ≡ s) × (machine : Configuration) × IsShown s machine × (text ≡ view_text machine)
+Says s word.Asks next text = (next ≡ s) × (machine : Configuration) × IsShown s machine × (text ≡ asks_text machine)
+Says s word.Stack next text = (next ≡ s) × (machine : Configuration) × IsShown s machine × (text ≡ stack_text machine.state)
+Says s word.Objects next text = (next ≡ s) × (machine : Configuration) × IsShown s machine × (text ≡ objects_text machine.state)
 
 -- the texts that answer the words, one after the other
 abbrev pub IsTalk : Session → List DebugWord → List ℕ → Type 0
@@ -75,11 +76,11 @@ pub record IsDebugged (input : List ℕ) (words : List DebugWord) (output : List
   pub journal : IsJournal image log.threads log.events
   pub talk : IsTalk (opened image log) words output
 
--- Machinery of private functions: a word's text is added behind the text before it.
+-- Machinery of private functions: a word's text is added after the text before it.
 abbrev pub Follows : Session → DebugWord → Session → List ℕ → List ℕ → Type 0
 Follows s w next old new = (added : List ℕ) × Says s w next added × (new ≡ old ++ added)
 
--- Machinery of private functions: why a move is refused; of want of memory nothing is said.
+-- Machinery of private functions: why a move is refused; of lack of memory nothing is said.
 abbrev pub IsNoMove : Session → Move → DebugFault → Type 0
 IsNoMove s m fault.AtEnd = IsAnswer s m AtEnd
 IsNoMove s m fault.AtStart = IsAnswer s m AtStart

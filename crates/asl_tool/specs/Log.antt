@@ -1,16 +1,20 @@
 -- What the command `log` answers (docs/JOURNAL.md, "Reading a run").
-use Rattle.std.specs.Prelude.{ℕ, Bool, true, false, List}
+use Rattle.std.specs.Prelude.{◌≡◌, ℕ, Bool, true, false, List}
 use Rattle.asl_code.specs.declared.image.Image.{Image}
 use Rattle.asl_machine.specs.Run.{start_of}
-use Rattle.asl_journal.specs.Journal.{Log}
-use Rattle.asl_tool.specs.Output.{event_lines, trace_lines}
-use Rattle.asl_tool.specs.Replay.{IsTold}
+use Rattle.asl_journal.specs.Journal.{Log, IsJournal}
+use Rattle.asl_journal.specs.RunFile.{SpellsRun}
+use Rattle.asl_tool.specs.Output.{event_lines, AreTraced}
 
--- the lines of a journal of the program, without the places of its steps or with them
-abbrev pub log_text : Bool → Image → Log → List ℕ
-log_text false image log = event_lines 0 log.events
-log_text true image log = trace_lines image (start_of image log.threads) 0 log.events
+-- the text is the lines of a journal of the program, without the places of its steps or with them
+abbrev pub IsLogText : Bool → Image → Log → List ℕ → Type 0
+IsLogText false image log text = text ≡ event_lines 0 log.events
+IsLogText true image log text = AreTraced image (start_of image log.threads) 0 log.events text
 
 -- the input is a run file whose journal is one of its program, and the output is its lines
-abbrev pub IsLogged : List ℕ → Bool → List ℕ → Type 0
-IsLogged input trace output = IsTold (log_text trace) input output
+pub record IsLogged (input : List ℕ) (trace : Bool) (output : List ℕ) : Type 0 where
+  pub image : Image
+  pub log : Log
+  pub run : SpellsRun image log input
+  pub journal : IsJournal image log.threads log.events
+  pub lines : IsLogText trace image log output

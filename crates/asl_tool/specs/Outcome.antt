@@ -11,12 +11,12 @@ use Rattle.asl_check.specs.declared.fault.CheckFault.TheVariants as check
 use Rattle.asl_journal.specs.declared.fault.JournalFault.TheVariants as journal
 use Rattle.asl_journal.specs.declared.run_file.FileFault.TheVariants as file
 use Rattle.asl_runner.specs.declared.fault.RunFault.TheVariants as run
-use Rattle.asl_tool.specs.declared.program.ProgramFault.TheVariants as program
+use Rattle.asl_tool.specs.declared.input_program.ProgramFault.TheVariants as program
 use Rattle.asl_words.specs.declared.command.Command.{Command}
 use Rattle.asl_words.specs.declared.command.Command.TheVariants as command
-use Rattle.asl_tool.specs.declared.command.CommandFault.{CommandFault}
-use Rattle.asl_tool.specs.declared.command.CommandFault.TheVariants as fault
-use Rattle.asl_tool.specs.Command.{IsOutput, IsRefused}
+use Rattle.asl_tool.specs.declared.command_fault.CommandFault.{CommandFault}
+use Rattle.asl_tool.specs.declared.command_fault.CommandFault.TheVariants as fault
+use Rattle.asl_tool.specs.Command.{IsOutput, IsRefusedCommand}
 
 -- memory ran out, wherever: that is no outcome of the input
 abbrev pub IsWantOfMemory : CommandFault → Type 0
@@ -39,7 +39,7 @@ IsWantOfMemory f = ⊥
 -- the command's output for the input, or the refusal that the input meets
 abbrev pub IsOutcome : Command → List ℕ → Result (List ℕ) CommandFault → Type 0
 IsOutcome command input (Ok output) = IsOutput command input output
-IsOutcome command input (Err f) = IsRefused command input f × (IsWantOfMemory f → ⊥)
+IsOutcome command input (Err f) = IsRefusedCommand command input f × (IsWantOfMemory f → ⊥)
 
 -- the input alone settles the command's outcome: not that of `compile` and of `check`, which name any one of the regions that need
 -- too many locks; of `map`, `explain` and `diagnose` it is not said

@@ -5,8 +5,8 @@ use Rattle.asl_assembler.specs.Faults.{IsProgramText}
 use Rattle.asl_assembler.specs.Faults as text
 use Rattle.asl_loader.specs.Faults.{IsProgramImage}
 use Rattle.asl_loader.specs.Faults as bytes
-use Rattle.asl_tool.specs.declared.program.ProgramFault.{ProgramFault}
-use Rattle.asl_tool.specs.declared.program.ProgramFault.TheVariants as fault
+use Rattle.asl_tool.specs.declared.input_program.ProgramFault.{ProgramFault}
+use Rattle.asl_tool.specs.declared.input_program.ProgramFault.TheVariants as fault
 
 -- the input begins with the letters of an image
 abbrev pub BeginsAsImage : List ℕ → Type 0

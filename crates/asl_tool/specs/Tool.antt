@@ -9,12 +9,12 @@ use Rattle.asl_words.specs.declared.command.RunArguments.{RunArguments}
 use Rattle.asl_words.specs.declared.command.Invocation.{Invocation}
 use Rattle.asl_words.specs.declared.command.Invocation.TheVariants.{Alone, Run, Help, Version, WrongUsage}
 use Rattle.asl_words.specs.Words.{AsksFor}
-use Rattle.asl_tool.specs.declared.command.CommandFault.{CommandFault}
+use Rattle.asl_tool.specs.declared.command_fault.CommandFault.{CommandFault}
 use Rattle.asl_tool.specs.declared.streams.TheConstants.{MAX_INPUT}
 use Rattle.asl_tool.specs.declared.exit_status.ToolFault.{ToolFault}
 use Rattle.asl_tool.specs.declared.exit_status.ToolFault.TheVariants as fault
 use Rattle.asl_tool.specs.Streams.{AppendsPart, IsReadFault}
-use Rattle.asl_tool.specs.Command.{IsOutput, IsRunFile, IsRefused}
+use Rattle.asl_tool.specs.Command.{IsOutput, IsRunFile, IsRefusedCommand}
 use Rattle.asl_tool.specs.Work.{IsWorkOutput, IsRefusedWork}
 
 -- what a command makes of an input, and why it may refuse to
@@ -24,7 +24,7 @@ pub record Promise : Type 1 where
 
 -- the promise of a command that waits for nobody
 abbrev pub of_command : Command → Promise
-of_command command = record { output = λ input output. IsOutput command input output × IsRunFile command input output; refusal = IsRefused command }
+of_command command = record { output = λ input output. IsOutput command input output × IsRunFile command input output; refusal = IsRefusedCommand command }
 
 -- the promise of the command `run`
 abbrev pub of_team : RunArguments → Promise
@@ -57,7 +57,7 @@ pub record RefusesInput (unwritten : Type 0) (known : Option (List ℕ)) (promis
   pub refused : promise.refusal input cause
   pub nothing : unwritten
 
--- what each fault leaves: all but one of the writer leave the writer as it was. Want of memory for the words is no fault of a
+-- what each fault leaves: all but one of the writer leave the writer as it was. Lack of memory for the words is no fault of a
 -- command
 abbrev pub Refuses : Type 0 → Option (List ℕ) → Option (List ℕ) → Option (List ℕ) → Promise → ToolFault → Type 0
 Refuses unwritten known old new promise (fault.Read cause) = IsReadFault known cause × unwritten

@@ -2,8 +2,8 @@
 ghost use Rattle.std.specs.Prelude.{◌≡◌, Some, IfOk, IfErr, MatchOption, slice_get, string_bytes, take};
 ghost use Rattle.asl_tool.specs.Check.{AreEnough, HasNoSides, HasSides, IsChecked, IsRefusedCheck, IsRefusedPair, checked_line};
 
-use crate::command::CommandFault;
-use crate::program::read_program;
+use crate::command_fault::CommandFault;
+use crate::input_program::read_program;
 use asl_check::check;
 use asl_syntax::parse;
 use asl_words::PathLimit;
@@ -78,7 +78,7 @@ fn line_of(alloc: Global, sections: usize) -> Result<String, AllocError>
     format!(in alloc; "checked {sections} sections\n")
 }
 
-/// What is before the first byte 0 of the input, and what is behind it, if there is one.
+/// What is before the first byte 0 of the input, and what is after it, if there is one.
 fn sides_of(input: &[u8]) -> Option<(&[u8], &[u8])>
     ensures { MatchOption result (HasNoSides input.now) (λ sides. HasSides input.now sides.0.now sides.1.now) }
 {
@@ -95,9 +95,9 @@ fn sides_of(input: &[u8]) -> Option<(&[u8], &[u8])>
 fn first_zero(input: &[u8]) -> Option<usize>
     ensures { MatchOption result (HasNoSides input.now) (λ at. (slice_get input.now at ≡ Some 0) × HasNoSides (take at input.now)) }
 {
-    for (at, byte) in input.iter().enumerate() {
+    for (place, byte) in input.iter().enumerate() {
         if *byte == 0 {
-            return Some(at);
+            return Some(place);
         }
     }
     None

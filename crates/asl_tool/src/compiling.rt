@@ -2,7 +2,7 @@
 ghost use Rattle.std.specs.Prelude.{IfOk, IfErr};
 ghost use Rattle.asl_tool.specs.Compile.{IsCompiled, IsProgramFor, IsProgramWritten, IsRefusedSource};
 
-use crate::command::CommandFault;
+use crate::command_fault::CommandFault;
 use asl_assembler::disassemble;
 use asl_code::Program;
 use asl_emitter::infer;

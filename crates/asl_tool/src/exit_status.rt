@@ -3,9 +3,10 @@ ghost use Rattle.std.specs.Prelude.{◌≡◌, ◌≤◌, length, map, Some, OnO
 ghost use Rattle.asl_tool.specs.declared.streams.TheConstants.{MAX_INPUT};
 ghost use Rattle.asl_tool.specs.Tool.{AsksForWork, EndsAlone, EndsWith, IsCommandStatus, IsTextStatus, Refuses, WritesOutput, of_command, of_team};
 
-use crate::command::{CommandFault, output_of};
+use crate::command_fault::CommandFault;
 use crate::run::run_output;
 use crate::streams::{ReadFault, WriteFault, read_whole, write_whole};
+use crate::tool_command::output_of;
 use asl_words::{Command, Invocation, RunArguments, read_words};
 use std::alloc::Global;
 use std::io::{Read, Write};

@@ -1,7 +1,7 @@
 //! Laws of the commands, as functions that do nothing: what each ensures is the law.
 ghost use Rattle.std.specs.Prelude.{◌≡◌, ◌<◌, ◌↔◌, ℕ, false, List, All, Result};
 ghost use Rattle.asl_words.specs.declared.command.Command.{Command};
-ghost use Rattle.asl_tool.specs.declared.command.CommandFault.{CommandFault};
+ghost use Rattle.asl_tool.specs.declared.command_fault.CommandFault.{CommandFault};
 ghost use Rattle.asl_tool.specs.Log.{IsLogged};
 ghost use Rattle.asl_tool.specs.Outcome.{IsOutcome, IsSettled};
 ghost use Rattle.asl_tool.specs.Step.{IsRecorded, IsStepped};
@@ -10,7 +10,7 @@ use asl_assembler::laws::texts_have_one_outcome;
 pub use asl_journal::laws::{run_and_bytes_are_one, run_files_have_one_outcome};
 use asl_loader::laws::bytes_have_one_outcome;
 
-/// A command has exactly one outcome for the bytes of an input: one output, or one refusal. Want of memory is none. `compile`
+/// A command has exactly one outcome for the bytes of an input: one output, or one refusal. Lack of memory is none. `compile`
 /// and `check` are left out: where several regions need too many locks, they name any of them. Of `map`, `explain` and `diagnose` it is not said.
 pub fn commands_have_one_outcome()
     ensures some { (command : Command) (input : List ℕ) → IsSettled command → All (λ b. b < 256) input

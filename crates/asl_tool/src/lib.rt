@@ -2,21 +2,24 @@
 #![tactic(auto)]
 
 mod checking;
-mod command;
+mod command_fault;
 mod compiling;
 mod debugging;
 mod exit_status;
+mod input_program;
 pub mod laws;
 mod logging;
-mod program;
-mod replaying;
+mod replay_command;
 mod run;
+mod run_commands;
 mod spacing;
-mod step;
+mod step_command;
 mod streams;
+mod tool_command;
 
 pub use asl_journal::{FileFault, get_run, put_run};
-pub use command::{CommandFault, output_of};
+pub use command_fault::CommandFault;
 pub use exit_status::{tool, tool_alone};
-pub use program::ProgramFault;
+pub use input_program::ProgramFault;
 pub use streams::{ReadFault, WriteFault, read_whole, write_whole};
+pub use tool_command::output_of;

@@ -4,10 +4,10 @@ ghost use Rattle.asl_machine.specs.Run.{start_of};
 ghost use Rattle.asl_machine.specs.StepFunction.{step_of};
 ghost use Rattle.asl_journal.specs.Journal.{IsJournal};
 ghost use Rattle.asl_journal.specs.Replay.{IsReplayFault};
-ghost use Rattle.asl_tool.specs.Log.{log_text};
-ghost use Rattle.asl_tool.specs.Output.{trace_lines};
+ghost use Rattle.asl_tool.specs.Log.{IsLogText};
+ghost use Rattle.asl_tool.specs.Output.{AreTraced};
 
-use crate::step::lines_of;
+use crate::step_command::lines_of;
 use asl_code::Program;
 use asl_journal::{Event, Journal, JournalFault, replay};
 use asl_machine::Machine;
@@ -23,7 +23,7 @@ pub fn logged_text(
     trace: bool,
 ) -> Result<String, JournalFault>
     ensures journal { OnOk result (IsJournal program.now journal.now.threads journal.now.events) }
-    ensures text { IfOk result (λ text. string_bytes text ≡ log_text trace program.now journal.now) }
+    ensures text { IfOk result (λ text. IsLogText trace program.now journal.now (string_bytes text)) }
     ensures err { IfErr result (λ fault. IsReplayFault program.now journal.now fault) }
 {
     let _machine = replay(alloc, program, journal)?;
@@ -41,7 +41,7 @@ fn told(
     trace: bool,
 ) -> Result<String, AllocError>
     requires { IsJournal program.now journal.now.threads journal.now.events }
-    ensures { IfOk result (λ text. string_bytes text ≡ log_text trace program.now journal.now) }
+    ensures { IfOk result (λ text. IsLogText trace program.now journal.now (string_bytes text)) }
 {
     if trace {
         traced(alloc, program, journal.threads(), journal.events())
@@ -58,7 +58,7 @@ fn traced(
     events: &[Event],
 ) -> Result<String, AllocError>
     requires { IsJournal program.now threads events.now }
-    ensures { IfOk result (λ text. string_bytes text ≡ trace_lines program.now (start_of program.now threads) 0 events.now) }
+    ensures { IfOk result (λ text. AreTraced program.now (start_of program.now threads) 0 events.now (string_bytes text)) }
 {
     let mut machine = first_machine(alloc, program, threads)?;
     let mut text = String::new(alloc);

@@ -3,8 +3,9 @@ ghost use Rattle.std.specs.Prelude.{IfOk, IfErr, OnOk};
 ghost use Rattle.asl_runner.specs.History.{IsAsked};
 ghost use Rattle.asl_tool.specs.Work.{IsRefusedRunOf, IsRefusedWork, IsWorkOutput, IsWorked};
 
-use crate::command::{CommandFault, written};
-use crate::program::read_program;
+use crate::command_fault::CommandFault;
+use crate::input_program::read_program;
+use crate::run_commands::written;
 use asl_code::Program;
 use asl_journal::{Journal, Receipt};
 use asl_runner::{Gate, RunFault, run};

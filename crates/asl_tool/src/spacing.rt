@@ -1,5 +1,5 @@
 //! How far the checkpoints of `debug` are apart: near, but no more of them than a budget of memory allows.
-ghost use Rattle.std.specs.Prelude.{◌<◌};
+ghost use Rattle.std.specs.Prelude.{◌≡◌, ◌≤◌, ◌*◌, ◌/◌, ◌⊎◌};
 
 use asl_code::{Instr, Program};
 use asl_journal::{Journal, replay};
@@ -27,7 +27,7 @@ const OBJECTS: u64 = 65_536;
 /// How many events lie between two checkpoints: 1,024, or as many as keep the checkpoints within the budget. A machine has no fewer
 /// objects later than earlier; so where a program makes objects, and might make too many, the run is replayed to count them.
 pub fn spacing_of(alloc: Global, program: &Program, journal: &Journal) -> u32
-    ensures { 0 < result }
+    ensures { 1024 ≤ result }
 {
     let events = journal.events().len() as u64;
     let stacks = stack_bytes(program, journal.threads());
@@ -44,9 +44,11 @@ pub fn spacing_of(alloc: Global, program: &Program, journal: &Journal) -> u32
     }
 }
 
-/// The spacing at which checkpoints of so many bytes are within the budget.
+/// The spacing at which checkpoints of so many bytes each are within the budget, over so many events: at most the 268,435,456
+/// bytes of the budget come on the checkpoints of all events, but for one checkpoint, unless there is no greater spacing.
 fn spacing_for(events: u64, bytes: u64) -> u32
-    ensures { 0 < result }
+    ensures least { 1024 ≤ result }
+    ensures budget { (result ≡ 4294967295) ⊎ ((events * bytes) / 268435456 ≤ result) }
 {
     let needed = (events.saturating_mul(bytes) / BUDGET).min(u64::from(u32::MAX));
     (needed as u32).max(LEAST)

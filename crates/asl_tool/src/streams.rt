@@ -33,7 +33,7 @@ pub struct WriteFault;
 ///
 /// # Errors
 ///
-/// `TooLong`, `Read`, or `OutOfMemory` where a growth was refused: the input is then read on and not kept, so that want of
+/// `TooLong`, `Read`, or `OutOfMemory` where an allocation failed: the input is then read on and not kept, so that want of
 /// memory hides neither an input that is too long nor a reader that fails.
 pub fn read_whole<R: Read>(alloc: Global, reader: &mut R) -> Result<Vec<u8>, ReadFault>
     ensures whole { IfOk result (λ all. IfSome (R.remaining reader.old) (λ bytes. all.items ≡ bytes)) }
@@ -57,7 +57,7 @@ pub fn read_whole<R: Read>(alloc: Global, reader: &mut R) -> Result<Vec<u8>, Rea
     Err(ReadFault::TooLong)
 }
 
-/// What was kept with the bytes behind it, as long as there is memory for all.
+/// What was kept with the bytes after it, as long as there is memory for all.
 fn with_bytes(kept: Option<Vec<u8>>, bytes: &[u8]) -> Option<Vec<u8>>
     ensures { (front : List ℕ) → IfSome kept (λ all. all.items ≡ front) → IfSome result (λ all. all.items ≡ front ++ bytes.now) }
 {

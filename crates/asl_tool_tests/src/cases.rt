@@ -21,7 +21,7 @@ const HEAD: &str = "version 1; classes 2; global 0; global 1; entry 0; fn 1 6";
 /// A program and a run of it.
 struct Case {
     name: &'static str,
-    /// The lines behind the first ones, parted by `; `: the entry function's instructions, and what else there is.
+    /// The lines after the first ones, parted by `; `: the entry function's instructions, and what else there is.
     code: &'static str,
     /// The thread and the reply of each step, parted by `; `.
     run: &'static str,
@@ -83,7 +83,7 @@ fn is_run(alloc: Global, program: &str, run: &str) -> Option<bool> {
     Some(output.as_slice() == wanted.as_bytes())
 }
 
-/// Whether the lines, behind the first ones, run so.
+/// Whether the lines, after the first ones, run so.
 fn is_right(alloc: Global, lines: &[&str], run: &str) -> Option<bool> {
     let program = lines.join(alloc, "; ").ok()?;
     is_run(alloc, program.as_str(), run)

@@ -87,7 +87,7 @@ fn steps(alloc: Global, count: u32) -> Result<Vec<u32>, AllocError> {
     Ok(schedule)
 }
 
-/// What is printed of the lines behind the first ones, over so many steps.
+/// What is printed of the lines after the first ones, over so many steps.
 fn output_of_steps(alloc: Global, code: &str, count: u32) -> Option<Vec<u8>> {
     let schedule = steps(alloc, count).ok()?;
     let program = [HEAD, code].join(alloc, "; ").ok()?;

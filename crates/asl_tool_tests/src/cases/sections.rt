@@ -39,7 +39,7 @@ static PAIRS: [(&str, &str, &str); 32] = [
     ("root write", "expr r1 .1 write", "ran"),
 ];
 
-/// The lines behind the first ones, up to the first section's locks.
+/// The lines after the first ones, up to the first section's locks.
 const ENTRY: &str = "new r1, 1, 0; jz r0, 4; acq 1; ret r0; acq 0; ret r0; list";
 
 /// The run that enters the section of the first locks, then that of the second, and then once more where that was blocked.

@@ -49,7 +49,7 @@ static PAIRS: [(&str, &str, &str, &str); 42] = [
     ("new r1, 1, 0", "new r2, 1, 0", "eq", "int 0"),
 ];
 
-/// What a run replies to the instruction that gives this answer, and behind it.
+/// What a run replies to the instruction that gives this answer, and after it.
 fn replies(alloc: Global, answer: &str) -> Result<String, AllocError> {
     if answer.starts_with("fault") {
         ["0 ran; 0 ran; 0 ", answer, "; 0 ended"].concat(alloc)

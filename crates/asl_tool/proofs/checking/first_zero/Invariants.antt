@@ -2,5 +2,5 @@ use Rattle.std.proofs.Common.{take}
 use Rattle.asl_tool.specs.Check.{HasNoSides}
 use Rattle.asl_tool.proofs.checking.first_zero.Given as goal
 
-abbrev pub invariant-loop-at : goal.invariant-loop-at
-invariant-loop-at l = HasNoSides (take l.at l.input)
+abbrev pub invariant-loop-place : goal.invariant-loop-place
+invariant-loop-place l = HasNoSides (take l.place l.input)

@@ -1,6 +1,8 @@
-use Rattle.std.proofs.Common.{ℕ, ◌<◌, get_or, string_bytes, subst, sym}
+use Rattle.std.proofs.Common.{ℕ, ◌<◌, List, get_or, string_bytes, subst, sym}
+use Rattle.asl_machine.specs.Run.{start_of}
 use Rattle.asl_machine.specs.declared.reply.Reply.TheVariants.{Ran}
-use Rattle.asl_tool.proofs.Traces.{HasTraced, none_traced, one_traced, all_traced}
+use Rattle.asl_tool.proofs.Traces.{HasTraced, none_traced, one_traced, all_traced, traced_journal}
+use Rattle.asl_tool.specs.Output.{AreTraced}
 use Rattle.asl_tool.proofs.logging.traced.Goals as goal
 
 pub loop-number-init : goal.loop-number-init
@@ -21,5 +23,7 @@ loop-number-preserved c =
 
 pub returns : goal.returns
 returns c =
-    all_traced c.args.program.now c.args.threads c.args.events.now c.loop-number.machine c.loop-number.number (string_bytes c.loop-number.text)
-    c.loop-number-test.false c.loop-number.invariant
+    let image = c.args.program.now in
+    let events = c.args.events.now in
+    let all = all_traced image c.args.threads events c.loop-number.machine c.loop-number.number (string_bytes c.loop-number.text) c.loop-number-test.false c.loop-number.invariant in
+    subst (λ (text : List ℕ). AreTraced image (start_of image c.args.threads) 0 events text) (sym all) (traced_journal image c.args.threads events c.requires)

@@ -1,6 +1,6 @@
 //! The words that a process was started with, as texts.
 ghost use Rattle.std.specs.Prelude.{◌≡◌, ℕ, List, IfOk, IfErr, IfSome, map, option_map, slice_get, string_bytes, IsUtf8};
-ghost use Rattle.asl.specs.declared.words.WordsFault.TheVariants.{NotText, OutOfMemory};
+ghost use Rattle.asl.specs.declared.process_words.WordsFault.TheVariants.{NotText, OutOfMemory};
 ghost use Rattle.asl.specs.CommandLine.{AreGiven, IsWordsFault, IsWordFault};
 
 use crate::command_line::CommandLine;

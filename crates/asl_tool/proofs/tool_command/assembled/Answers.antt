@@ -1,5 +1,5 @@
 use Rattle.std.proofs.Common.{rules}
-use Rattle.asl_tool.proofs.command.assembled.Goals as goal
+use Rattle.asl_tool.proofs.tool_command.assembled.Goals as goal
 
 pub returns-in-Err-clause-err : goal.returns-in-Err-clause-err
 returns-in-Err-clause-err c = search rules

@@ -1,7 +1,7 @@
 use Rattle.std.proofs.Common.{◌≡◌, take, refl, ◌∙◌, arith}
-use Rattle.asl.specs.declared.words.WordsFault.TheVariants.{NotText}
+use Rattle.asl.specs.declared.process_words.WordsFault.TheVariants.{NotText}
 use Rattle.asl.proofs.Lines.{told_no_text, written_back}
-use Rattle.asl.proofs.words.process_word.Goals as goal
+use Rattle.asl.proofs.process_words.process_word.Goals as goal
 
 pub returns-in-Err-clause-err : goal.returns-in-Err-clause-err
 returns-in-Err-clause-err g c =

@@ -1,6 +1,6 @@
 use Rattle.std.proofs.Common.{◌≡◌, ◌+◌, ◌++◌, length, take}
 use Rattle.asl_journal.specs.Journal.{schedule_of}
-use Rattle.asl_tool.proofs.step.make_steps.Given as goal
+use Rattle.asl_tool.proofs.step_command.make_steps.Given as goal
 
 -- the steps so far are made
 abbrev pub invariant-loop-thread : goal.invariant-loop-thread

@@ -1,5 +1,5 @@
 use Rattle.std.proofs.Common.{◌≡◌, ◌-◌, ◌≤◌, IfSome, drop, map, string_bytes, take}
-use Rattle.asl.proofs.words.process_words.Given as goal
+use Rattle.asl.proofs.process_words.process_words.Given as goal
 
 abbrev pub invariant-loop-number : goal.invariant-loop-number
 invariant-loop-number g l = record {

@@ -1,7 +1,7 @@
 use Rattle.std.proofs.Common.{ℕ, List, arith, refl, subst}
 use Rattle.asl_tool.specs.Step.{AllThere}
 use Rattle.asl_tool.proofs.Schedules.{first_steps, few_steps}
-use Rattle.asl_tool.proofs.step.judge.Goals as goal
+use Rattle.asl_tool.proofs.step_command.judge.Goals as goal
 
 pub returns-then-not-all_there : goal.returns-then-not-all_there
 returns-then-not-all_there c =

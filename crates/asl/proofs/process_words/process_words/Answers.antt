@@ -2,7 +2,7 @@ use Rattle.std.proofs.Common.{◌≡◌, ◌++◌, ◌∷◌, [], map, option_ma
 use Rattle.std.proofs.lemmas.List.{map-append}
 use Rattle.std.proofs.lemmas.Option.{IfSome_then}
 use Rattle.asl.proofs.Lines.{words_fault, words_more}
-use Rattle.asl.proofs.words.process_words.Goals as goal
+use Rattle.asl.proofs.process_words.process_words.Goals as goal
 
 pub returns-in-Err-clause-err : goal.returns-in-Err-clause-err
 returns-in-Err-clause-err g c = words_fault (g.L.CommandLine.known c.args.line.now) c.loop-number.number c.in-Err.fault c.loop-number.invariant.behind c.in-Err.ensures.err
