@@ -28,7 +28,7 @@ use Rattle.asl_check.specs.declared.fault.CheckFault.{CheckFault}
 use Rattle.asl_check.specs.declared.fault.CheckFault.TheVariants.{Infer, OtherCode, Uncovered, Unguarded, OutOfMemory}
 use Rattle.asl_soundness.specs.Safe.{ListsCover}
 use Rattle.asl_check.specs.Checked.{IsUnderOne, reads_of, IsCodeOf, IsOtherCode, AreGuarded, IsFirstLacking, IsFirstOpen}
-use Rattle.asl_check.specs.Refused.{IsChecked, IsRefused, IsOutOfMemory}
+use Rattle.asl_check.specs.Refused.{IsChecked, IsRefusedLists, IsOutOfMemory}
 
 -- what holds of one analysis of a tree holds of each
 module _ (is : List Item) (l : Lowered) (c : Classed) (stores : ℕ → ℕ → Bool) (lowers : IsLowering is l) (are : AreClasses l c) (tells : TellsStores l c stores) (P : Lowered → Classed → (ℕ → ℕ → Bool) → Type 0) where
@@ -97,7 +97,7 @@ pub not_open : (l : Lowered) (c : Classed) (lists : List (List Lock)) (section :
 not_open l c lists section a guarded h =
     h.first.bare (guarded section (slice_get_within l.sections section h.is h.in_table) h.is h.list h.in_table h.listed a (one_got (reads_of h.list) h.first.index a h.first.at))
 
-pub checked_only : (is : List Item) (k_limit : ℕ) (image : Image) (fault : CheckFault) → IsChecked is k_limit image → IsRefused is k_limit image fault → IsOutOfMemory fault
+pub checked_only : (is : List Item) (k_limit : ℕ) (image : Image) (fault : CheckFault) → IsChecked is k_limit image → IsRefusedLists is k_limit image fault → IsOutOfMemory fault
 checked_only is k_limit image (Infer fault) h r = accepted is k_limit fault h.covered.of_tree.accepted r
 checked_only is k_limit image (OtherCode pc) h r =
     let a = h.covered.of_tree.analysis in let q = a.program in
@@ -113,5 +113,5 @@ checked_only is k_limit image (Unguarded section x) h r =
     (same_analysis is q.lowering q.classes a.stores q.lowers q.are_classes a.tells (λ l c s. IsFirstOpen l c image.lists section x) r.covered.of_tree.analysis r.open_at))
 checked_only is k_limit image OutOfMemory h r = tt
 
-pub only_memory : (is : List Item) (k : Lowered) (k_limit : ℕ) (image : Image) → IsLowering is k → IsLegalLowering k → IsAccepted is k_limit → IsInferredFor is k_limit image → (fault : CheckFault) → IsRefused is k_limit image fault → IsOutOfMemory fault
+pub only_memory : (is : List Item) (k : Lowered) (k_limit : ℕ) (image : Image) → IsLowering is k → IsLegalLowering k → IsAccepted is k_limit → IsInferredFor is k_limit image → (fault : CheckFault) → IsRefusedLists is k_limit image fault → IsOutOfMemory fault
 only_memory is k k_limit image lowers kept accept h fault refused = checked_only is k_limit image fault (inferred_checked is k k_limit image lowers kept accept h) refused

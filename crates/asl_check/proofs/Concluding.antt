@@ -12,7 +12,7 @@ use Rattle.asl_check.specs.declared.fault.CheckFault.{CheckFault}
 use Rattle.asl_check.specs.declared.fault.CheckFault.TheVariants.{Infer, OtherCode, Uncovered, Unguarded, OutOfMemory}
 use Rattle.asl_check.specs.Checked.{IsCodeOf, AreGuarded, IsOtherCode}
 use Rattle.asl_check.specs.KnownLists.{AreCovered, IsUncovered, IsUnguarded}
-use Rattle.asl_check.specs.Refused.{IsOfTree, IsChecked, IsOther, IsRefused}
+use Rattle.asl_check.specs.Refused.{IsOfTree, IsChecked, IsOther, IsRefusedLists}
 use Rattle.asl_check.proofs.Covering.{stand_over, bare_lacking}
 
 module _ (is : List Item) (l : Lowered) (c : Classed) (k_limit : ℕ) (parts : List RegionNeeds) (lowers : IsLowering is l) (are : AreClasses l c) (flow : IsFlow l c k_limit parts) (accepted : IsAccepted is k_limit) where
@@ -32,7 +32,7 @@ module _ (is : List Item) (l : Lowered) (c : Classed) (k_limit : ℕ) (parts : L
         guarded = guarded;
       }
 
-  pub is_unguarded : (image : Image) → IsCodeOf l c image → AreCovered l c parts image.lists (length l.sections) → (fault : CheckFault) → IsUnguarded l c image.lists fault → IsRefused is k_limit image fault
+  pub is_unguarded : (image : Image) → IsCodeOf l c image → AreCovered l c parts image.lists (length l.sections) → (fault : CheckFault) → IsUnguarded l c image.lists fault → IsRefusedLists is k_limit image fault
   is_unguarded image code covered (Unguarded section lock) h = record {
     covered = record { of_tree = record { accepted = accepted; analysis = analysis; code = code }; over = stand_over l c flow.stores k_limit parts image flow.tells covered };
     open_at = h;
@@ -42,7 +42,7 @@ module _ (is : List Item) (l : Lowered) (c : Classed) (k_limit : ℕ) (parts : L
   is_unguarded image code covered (OtherCode pc) h = absurd h
   is_unguarded image code covered OutOfMemory h = of_tree image code
 
-  pub is_uncovered : (image : Image) → IsCodeOf l c image → (fault : CheckFault) → IsUncovered l c parts image.lists fault → IsRefused is k_limit image fault
+  pub is_uncovered : (image : Image) → IsCodeOf l c image → (fault : CheckFault) → IsUncovered l c parts image.lists fault → IsRefusedLists is k_limit image fault
   is_uncovered image code (Uncovered section lock) h = record {
     of_tree = record { accepted = accepted; analysis = analysis; code = code };
     lacking = bare_lacking l c flow.stores k_limit parts image.lists section lock flow.tells h;

@@ -1,4 +1,4 @@
--- Lists that stand over what the flow tells stand over what is needed, and a program with such lists never faults for want of a lock.
+-- Lists that cover what the flow tells cover what is needed, and a program with such lists never faults for a missing lock.
 use Rattle.std.proofs.Common.{◌≡◌, ◌↔◌, ◌+◌, ℕ, suc, Bool, List, Some, length, slice_get, ap, sym, ◌∙◌, subst, inl, inr, arith}
 use Rattle.std.proofs.lemmas.Option.{slice_get_within}
 use Rattle.asl_code.specs.declared.image.Image.{Image}
@@ -31,13 +31,13 @@ use Rattle.asl_emitter.proofs.Making.{told_needed}
 use Rattle.asl_check.specs.Checked.{AreUnder, IsFirstBare, reads_of, IsCodeOf, FirstListsCover, AreGuarded, IsFirstLacking, IsFirstOpen}
 use Rattle.asl_check.specs.KnownLists.{AreCovered, IsBare}
 
--- a list that stands over what the flow says at an entry stands over what the parts tell there
+-- a list that covers what the flow says at an entry covers what the parts tell there
 pub under_told : (c : Classed) (f : ℕ) (list given needed : List Lock) (parts : List RegionNeeds) (n acquire entry : ℕ) → given ≡ needed → ((a : Lock) → IsOne needed a ↔ IsTold parts (Inside n) (entry + 1) a) → entry ≡ acquire →
     AreUnder c f list (IsOne given) → AreUnder c f list (IsTold parts (Inside n) (acquire + 1))
 under_told c f list given needed parts n acquire entry is tells same under a told =
     under a (subst (λ (xs : List Lock). IsOne xs a) (sym is) ((tells a).1 (subst (λ q. IsTold parts (Inside n) (q + 1) a) (sym same) told)))
 
--- what stands over a lock stands over all for which that one does
+-- what covers a lock covers all for which that one does
 does_effect : (c : Classed) (f : ℕ) (a b : Lock) → SufficesFor c f a b → IsTrue (covers_effect (effect_of a) (effect_of b))
 does_effect c f (lock.Class x e) (lock.Class y g) d = d.1
 does_effect c f (lock.Class x e) (lock.Expr b g) d = d.1
@@ -66,7 +66,7 @@ stands_all : (c : Classed) (f : ℕ) (m a b : Lock) → CoversLock c f m a → I
 stands_all c f m a b p (inl e) = subst (CoversLock c f m) e p
 stands_all c f m a b p (inr d) = stands_trans c f m a b p d
 
--- so a list that stands over what is left of a set stands over the set
+-- so a list that covers what is left of a set covers the set
 pub under_reduced : (c : Classed) (f : ℕ) (list given reduced : List Lock) → IsReduced c f (IsOne given) reduced → AreUnder c f list (IsOne reduced) → AreUnder c f list (IsOne given)
 under_reduced c f list given reduced r under a o =
     let k = reduced_covers c f (IsOne given) reduced r a o in
@@ -109,7 +109,7 @@ guarded_more l c lists n s listed list reads given old there at is same all unde
         subst (λ (u : Section). AreUnder c u.function ls (IsOne (reads_of ls))) one
         (subst (λ (xs : List Lock). AreUnder c s.function xs (IsOne (reads_of xs))) (is ∙ two) over)
 
--- the first of the locks that are read over which no lock of the list stands
+-- the first of the locks that are read that no lock of the list covers
 pub open_lock : (l : Lowered) (c : Classed) (lists : List (List Lock)) (n : ℕ) (s : Section) (listed list reads given : List Lock) (lock copy : Lock) → AreGuarded l c lists n →
     slice_get l.sections n ≡ Some s → slice_get lists n ≡ Some listed → list ≡ listed → given ≡ reads → reads ≡ reads_of list →
     copy ≡ lock → IsFirstBare c s.function list given lock → IsFirstOpen l c lists n copy
@@ -129,7 +129,7 @@ entry_told : (parts : List RegionNeeds) (n acquire entry : ℕ) (given all : Lis
 entry_told parts n acquire entry given all have tells same a =
     subst (λ q. IsOne given a ↔ IsTold parts (Inside n) (q + 1) a) same (subst (λ (xs : List Lock). IsOne xs a ↔ IsTold parts (Inside n) (entry + 1) a) (sym have) (tells a))
 
--- the first of the locks that are told over which no lock of the list stands
+-- the first of the locks that are told that no lock of the list covers
 pub bare_lock : (l : Lowered) (c : Classed) (parts : List RegionNeeds) (lists : List (List Lock)) (n : ℕ) (s : Section) (listed list given all reduced handed : List Lock) (entry : ℕ) (lock copy : Lock) → AreCovered l c parts lists n →
     slice_get l.sections n ≡ Some s → slice_get lists n ≡ Some listed → list ≡ listed → given ≡ all → ((a : Lock) → IsOne all a ↔ IsTold parts (Inside n) (entry + 1) a) → entry ≡ s.acquire →
     IsReduced c s.function (IsOne given) reduced → handed ≡ reduced → copy ≡ lock → IsFirstBare c s.function list handed lock → IsBare l c parts lists n copy
@@ -145,7 +145,7 @@ bare_lock l c parts lists n s listed list given all reduced handed entry lock co
       (subst (λ (xs : List Lock). IsFirstBare c s.function list xs copy) second (subst (λ (a : Lock). IsFirstBare c s.function list handed a) (sym copied) first));
 }
 
--- lists that stand over what is told stand over what is needed
+-- lists that cover what is reported cover what is needed
 pub over_first : (l : Lowered) (c : Classed) (stores : ℕ → ℕ → Bool) (k_limit : ℕ) (parts : List RegionNeeds) (lists : List (List Lock)) (so_many : ℕ) → TellsNeeded l c stores k_limit parts →
     AreCovered l c parts lists so_many → FirstListsCover l c (Needed l c stores k_limit) lists so_many
 over_first l c stores k_limit parts lists so_many tells covered n lt s list there at a needed =
@@ -156,7 +156,7 @@ pub stand_over : (l : Lowered) (c : Classed) (stores : ℕ → ℕ → Bool) (k_
 stand_over l c stores k_limit parts image tells covered n s list a there at needed =
     over_first l c stores k_limit parts image.lists (length l.sections) tells covered n (slice_get_within l.sections n s there) s list there at a needed
 
--- and the first lock that is told and lacking is the first that is needed and lacking
+-- and the first lock that is reported and lacking is the first that is needed and lacking
 pub bare_lacking : (l : Lowered) (c : Classed) (stores : ℕ → ℕ → Bool) (k_limit : ℕ) (parts : List RegionNeeds) (lists : List (List Lock)) (n : ℕ) (lock : Lock) → TellsNeeded l c stores k_limit parts →
     IsBare l c parts lists n lock → IsFirstLacking l c (Needed l c stores k_limit) lists n lock
 bare_lacking l c stores k_limit parts lists n lock tells h = record {
@@ -183,14 +183,14 @@ image_of l c image are verified m = record {
   code = m.code;
 }
 
--- where its lists stand over what is told, it is analysed
+-- where its lists cover what is reported, it is analysed
 pub covered_analysed : (l : Lowered) (c : Classed) (k_limit : ℕ) (parts : List RegionNeeds) (image : Image) → IsLegalLowering l → AreClasses l c → IsVerified image → (flow : IsFlow l c k_limit parts) → IsCodeOf l c image →
     AreCovered l c parts image.lists (length l.sections) → IsAnalysed l c flow.stores k_limit (Needed l c flow.stores k_limit) image
 covered_analysed l c k_limit parts image kept are verified flow m covered =
     needed_analysed l c flow.stores k_limit image kept (image_of l c image are verified m) (λ f x may. (flow.written f x).1 may)
     (stand_over l c flow.stores k_limit parts image flow.tells covered)
 
--- and it never faults for want of a lock
+-- and it never faults for a missing lock
 pub covered_sound : (l : Lowered) (c : Classed) (k_limit : ℕ) (parts : List RegionNeeds) (image : Image) → IsLegalLowering l → AreClasses l c → IsVerified image → IsFlow l c k_limit parts → IsCodeOf l c image →
     AreCovered l c parts image.lists (length l.sections) → NeverFaultsForLocks image
 covered_sound l c k_limit parts image kept are verified flow m covered =

@@ -1,4 +1,4 @@
--- An image whose lists stand over what their own expressions read is guarded: who is granted the list of a section covers the
+-- An image whose lists cover what their own expressions read is guarded: who is granted the list of a section covers the
 -- cells that its expressions read.
 use Rattle.std.proofs.Common.{◌≡◌, ◌<◌, ℕ, suc, Bool, List, [], ◌∷◌, ◌++◌, Option, None, Some, length, get_or, slice_get, unwrap_or, refl, ap, ◌∙◌, subst, inl, inr, arith}
 use Rattle.std.specs.Prelude.{All}

@@ -16,7 +16,7 @@ use Rattle.asl_emitter.proofs.Fits.{reduced_one}
 use Rattle.asl_check.specs.declared.fault.CheckFault.{CheckFault}
 use Rattle.asl_check.specs.declared.fault.CheckFault.TheVariants.{Infer, OtherCode, Uncovered, Unguarded, OutOfMemory}
 use Rattle.asl_check.specs.Checked.{IsFirstBare, IsFirstOther, reads_of, IsCodeOf, IsOtherCode, IsFirstLacking, IsFirstOpen}
-use Rattle.asl_check.specs.Refused.{IsRefused, IsOfProgram}
+use Rattle.asl_check.specs.Refused.{IsRefusedLists, IsOfProgram}
 use Rattle.asl_check.proofs.Complete.{same_analysis, one_got, not_other, not_lacking}
 
 apart : (m n : ℕ) → (m ≡ n) ⊎ ((m < n) ⊎ (n < m))
@@ -97,7 +97,7 @@ one_open l c lists m n a b p q =
         (subst (λ (ys : List Lock). IsFirstBare c p.is.function ys (reads_of ys) b) xs
         (subst (λ (t : Section). IsFirstBare c t.function q.list (reads_of q.list) b) s q.first))
 
-pub one_refusal : (is : List Item) (k_limit : ℕ) (image : Image) (fault other : CheckFault) → IsOfProgram fault → IsOfProgram other → IsRefused is k_limit image fault → IsRefused is k_limit image other → fault ≡ other
+pub one_refusal : (is : List Item) (k_limit : ℕ) (image : Image) (fault other : CheckFault) → IsOfProgram fault → IsOfProgram other → IsRefusedLists is k_limit image fault → IsRefusedLists is k_limit image other → fault ≡ other
 one_refusal is k_limit image (Infer f) other d e p q = absurd d
 one_refusal is k_limit image OutOfMemory other d e p q = absurd d
 one_refusal is k_limit image (OtherCode m) (Infer g) d e p q = absurd e

@@ -15,7 +15,7 @@ use Rattle.asl_soundness.specs.Coded.{classed}
 use Rattle.asl_soundness.specs.Covering.{CoversLock}
 use Rattle.asl_emitter.specs.Lists.{Locks, IsReduced}
 
--- a lock of the list stands over this one
+-- a lock of the list covers this one
 abbrev pub IsUnderOne : Classed → ℕ → List Lock → Lock → Type 0
 IsUnderOne c f list n = (m : Lock) × IsOne list m × CoversLock c f m n
 
@@ -23,7 +23,7 @@ IsUnderOne c f list n = (m : Lock) × IsOne list m × CoversLock c f m n
 abbrev pub AreUnder : Classed → ℕ → List Lock → Locks → Type 0
 AreUnder c f list given = (n : Lock) → given n → IsUnderOne c f list n
 
--- the lock is the first of these over which no lock of the list stands
+-- the lock is the first of these that no lock of the list covers
 pub record IsFirstBare (c : Classed) (f : ℕ) (list locks : List Lock) (lock : Lock) : Type 0 where
   pub index : ℕ
   pub at : slice_get locks index ≡ Some lock
@@ -59,7 +59,7 @@ IsOtherCode l c image pc =
     IsFirstOther image.code (map (classed c) l.code) pc
     ⊎ ((image.code ≡ map (classed c) l.code) × (¬ HasTables l c image) × (pc ≡ length image.code))
 
--- of the first sections, so many of them, the lists stand over what the family has behind the `acq`
+-- of the first sections, so many of them, the lists cover what the family has after the `acq`
 abbrev pub FirstListsCover : Lowered → Classed → Family → List (List Lock) → ℕ → Type 0
 FirstListsCover l c K lists so_many =
     (n : ℕ) → n < so_many → (s : Section) (list : List Lock) → slice_get l.sections n ≡ Some s → slice_get lists n ≡ Some list →
@@ -71,8 +71,8 @@ AreGuarded l c lists so_many =
     (n : ℕ) → n < so_many → (s : Section) (list : List Lock) → slice_get l.sections n ≡ Some s → slice_get lists n ≡ Some list →
     AreUnder c s.function list (IsOne (reads_of list))
 
--- the section is the first whose list does not stand over what the family has behind its `acq`, and the lock is the first in the
--- order of lists, of those that no other of them absorbs, over which no lock of the list stands
+-- the section is the first whose list does not cover what the family has after its `acq`, and the lock is the first in the
+-- order of lists, of those that no other of them absorbs, that no lock of the list covers
 pub record IsFirstLacking (l : Lowered) (c : Classed) (K : Family) (lists : List (List Lock)) (section : ℕ) (lock : Lock) : Type 0 where
   pub is : Section
   pub in_table : slice_get l.sections section ≡ Some is
@@ -83,8 +83,8 @@ pub record IsFirstLacking (l : Lowered) (c : Classed) (K : Family) (lists : List
   pub reduced : IsReduced c is.function (K (Inside section) (suc is.acquire)) needed
   pub first : IsFirstBare c is.function list needed lock
 
--- the section is the first whose list does not stand over what its own expressions read, and the lock is the first that they read
--- over which no lock of the list stands
+-- the section is the first whose list does not cover what its own expressions read, and the lock is the first that they read
+-- that no lock of the list covers
 pub record IsFirstOpen (l : Lowered) (c : Classed) (lists : List (List Lock)) (section : ℕ) (lock : Lock) : Type 0 where
   pub is : Section
   pub in_table : slice_get l.sections section ≡ Some is

@@ -11,7 +11,7 @@ use Rattle.asl_check.specs.declared.fault.CheckFault.{CheckFault}
 use Rattle.asl_check.specs.declared.fault.CheckFault.TheVariants.{Uncovered, Unguarded, OutOfMemory}
 use Rattle.asl_check.specs.Checked.{AreUnder, IsFirstBare, IsFirstOpen}
 
--- the lists of the first sections, so many of them, stand over what the parts of the flow tell behind the `acq`
+-- the lists of the first sections, so many of them, cover what the parts of the flow tell after the `acq`
 abbrev pub AreCovered : Lowered → Classed → List RegionNeeds → List (List Lock) → ℕ → Type 0
 AreCovered l c parts lists so_many =
     (n : ℕ) → n < so_many → (s : Section) (list : List Lock) → slice_get l.sections n ≡ Some s → slice_get lists n ≡ Some list →
@@ -28,13 +28,13 @@ pub record IsBare (l : Lowered) (c : Classed) (parts : List RegionNeeds) (lists 
   pub reduced : IsReduced c is.function (IsTold parts (Inside section) (is.acquire + 1)) needed
   pub first : IsFirstBare c is.function list needed lock
 
--- what is answered where the lists do not stand over what the parts tell
+-- what is answered where the lists do not cover what the parts tell
 abbrev pub IsUncovered : Lowered → Classed → List RegionNeeds → List (List Lock) → CheckFault → Type 0
 IsUncovered l c parts lists (Uncovered section lock) = IsBare l c parts lists section lock
 IsUncovered l c parts lists OutOfMemory = Unit {0}
 IsUncovered l c parts lists fault = ⊥
 
--- what is answered where they do not stand over what they read
+-- what is answered where they do not cover what they read
 abbrev pub IsUnguarded : Lowered → Classed → List (List Lock) → CheckFault → Type 0
 IsUnguarded l c lists (Unguarded section lock) = IsFirstOpen l c lists section lock
 IsUnguarded l c lists OutOfMemory = Unit {0}

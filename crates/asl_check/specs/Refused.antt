@@ -5,7 +5,7 @@ use Rattle.asl_code.specs.declared.lock.Lock.{Lock}
 use Rattle.asl_syntax.specs.Tree.{Item}
 use Rattle.asl_backward_flow.specs.Needed.{Needed}
 use Rattle.asl_emitter.specs.Inferred.{Analysis}
-use Rattle.asl_emitter.specs.Refused.{IsAccepted, IsRefused as IsNotInferred}
+use Rattle.asl_emitter.specs.Refused.{IsAccepted, IsRefusedInference as IsNotInferred}
 use Rattle.asl_emitter.specs.declared.fault.InferFault.TheVariants as infer
 use Rattle.asl_soundness.specs.Safe.{ListsCover}
 use Rattle.asl_check.specs.declared.fault.CheckFault.{CheckFault}
@@ -18,7 +18,7 @@ pub record IsOfTree (is : List Item) (k_limit : ℕ) (image : Image) : Type 0 wh
   pub analysis : Analysis is
   pub code : IsCodeOf analysis.program.lowering analysis.program.classes image
 
--- and its lists stand over what its sections need, with paths of at most so many operations
+-- and its lists cover what its sections need, with paths of at most so many operations
 pub record IsCovered (is : List Item) (k_limit : ℕ) (image : Image) : Type 0 where
   pub of_tree : IsOfTree is k_limit image
   pub over :
@@ -52,12 +52,12 @@ pub record Reads (is : List Item) (k_limit : ℕ) (image : Image) (section : ℕ
   pub open_at : IsFirstOpen covered.of_tree.analysis.program.lowering covered.of_tree.analysis.program.classes image.lists section lock
 
 -- the program is not checked for this reason; out of memory hides no fault of the tree, and no code that is another's
-abbrev pub IsRefused : List Item → ℕ → Image → CheckFault → Type 0
-IsRefused is k_limit image (Infer fault) = IsNotInferred is k_limit fault
-IsRefused is k_limit image (OtherCode pc) = IsOther is k_limit image pc
-IsRefused is k_limit image (Uncovered section lock) = Lacks is k_limit image section lock
-IsRefused is k_limit image (Unguarded section lock) = Reads is k_limit image section lock
-IsRefused is k_limit image OutOfMemory = IsOfTree is k_limit image
+abbrev pub IsRefusedLists : List Item → ℕ → Image → CheckFault → Type 0
+IsRefusedLists is k_limit image (Infer fault) = IsNotInferred is k_limit fault
+IsRefusedLists is k_limit image (OtherCode pc) = IsOther is k_limit image pc
+IsRefusedLists is k_limit image (Uncovered section lock) = Lacks is k_limit image section lock
+IsRefusedLists is k_limit image (Unguarded section lock) = Reads is k_limit image section lock
+IsRefusedLists is k_limit image OutOfMemory = IsOfTree is k_limit image
 
 -- the memory ran out
 abbrev pub IsOutOfMemory : CheckFault → Type 0

@@ -6,9 +6,9 @@ ghost use Rattle.asl_atomicity.specs.Serial.{HasSerialRuns};
 ghost use Rattle.asl_atomicity.specs.Renamed.{HasSerialRunsUpTo};
 ghost use Rattle.asl_emitter.specs.Inferred.{IsInferredFor};
 ghost use Rattle.asl_emitter.specs.Refused.{IsAccepted};
-ghost use Rattle.asl_check.specs.Refused.{IsChecked, IsRefused, IsOutOfMemory};
+ghost use Rattle.asl_check.specs.Refused.{IsChecked, IsRefusedLists, IsOutOfMemory};
 
-use crate::analysis::analyse;
+use crate::check_analysis::analyse;
 use crate::coded::other_code;
 use crate::covered::{cover, guard};
 use crate::fault::CheckFault;
@@ -17,22 +17,22 @@ use asl_syntax::Ast;
 use std::alloc::Global;
 
 /// Accepts a program of the newest version that is the tree's but for its lists, and whose lists are enough: for each lock that a
-/// section needs, with paths of at most `k` operations, a lock of its list stands over it, and over each cell that an expression
-/// of the list reads when it is evaluated. No run of such a program ever faults for want of a lock, for a section that was not
+/// section needs, with paths of at most `k` operations, a lock of its list covers it, and over each cell that an expression
+/// of the list reads when it is evaluated. No run of such a program ever faults for a missing lock, for a section that was not
 /// entered, or for one left open; and each run in which no section runs out of objects ends as one whose sections do not
 /// interleave, up to the numbers of objects: the very same where no step inside a section is a `new`. The program that is inferred
 /// for the tree with the same `k` is accepted.
 ///
 /// # Errors
 ///
-/// The first fault, in the order of `CheckFault`; `OutOfMemory` where a growth was refused.
+/// The first fault, in the order of `CheckFault`; `OutOfMemory` where an allocation failed.
 pub fn check(alloc: Global, ast: &Ast, program: &Program, k: u32) -> Result<(), CheckFault>
     requires { k ≤ 8 }
     ensures checked { IfOk result (λ _. IsChecked (tree_of ast.now) k program.now) }
     ensures sound { IfOk result (λ _. NeverFaultsForLocks program.now) }
     ensures atomic { IfOk result (λ _. (count : ℕ) → HasSerialRuns program.now count) }
     ensures atomic_up_to_numbers { IfOk result (λ _. (count : ℕ) → HasSerialRunsUpTo program.now count) }
-    ensures refused { IfErr result (IsRefused (tree_of ast.now) k program.now) }
+    ensures refused { IfErr result (IsRefusedLists (tree_of ast.now) k program.now) }
     ensures inferred { IsAccepted (tree_of ast.now) k → IsInferredFor (tree_of ast.now) k program.now → IfErr result IsOutOfMemory }
 {
     let analysis = analyse(alloc, ast, k)?;

@@ -1,4 +1,4 @@
-//! Whether the list of each section stands over what the section needs, and over what its own expressions read.
+//! Whether the list of each section covers what the section needs, and over what its own expressions read.
 ghost use Rattle.std.specs.Prelude.{◌≡◌, IfOk, IfErr, length};
 ghost use Rattle.asl_check.specs.Checked.{AreGuarded, reads_of};
 ghost use Rattle.asl_check.specs.KnownLists.{AreCovered, IsUncovered, IsUnguarded};
@@ -20,7 +20,7 @@ fn copied(lock: &Lock) -> Result<Lock, AllocError>
     lock.clone()
 }
 
-/// Whether each list stands over what is needed after the `acq` of its section. Else the first section whose list does not is named,
+/// Whether each list covers what is needed after the `acq` of its section. Else the first section whose list does not is named,
 /// and the first lock that it lacks, of those that no other absorbs.
 pub fn cover(
     alloc: Global,
@@ -56,7 +56,7 @@ fn reads(alloc: Global, list: &[Lock]) -> Result<Vec<Lock>, AllocError>
     Ok(reads)
 }
 
-/// Whether each list stands over what its own expressions read. Else the first section whose list does not is named, and the first
+/// Whether each list covers what its own expressions read. Else the first section whose list does not is named, and the first
 /// lock that it lacks.
 pub fn guard(
     alloc: Global,

@@ -1,4 +1,4 @@
-//! Which lock stands over another.
+//! Which lock covers another.
 ghost use Rattle.std.specs.Prelude.{◌↔◌, IsTrue, MatchOption};
 ghost use Rattle.asl_lock_expr.specs.Links.{IsOne};
 ghost use Rattle.asl_soundness.specs.Covering.{CoversLock};
@@ -8,7 +8,7 @@ use asl_code::Lock;
 use asl_emitter::{covers, suffices_for};
 use asl_points_to::Classes;
 
-/// Whether the first lock stands over the second in a function.
+/// Whether the first lock covers the second in a function.
 fn covers_lock(classes: &Classes, function: u16, lock: &Lock, other: &Lock) -> bool
     ensures { IsTrue result ↔ CoversLock classes.now function lock.now other.now }
 {
@@ -18,7 +18,7 @@ fn covers_lock(classes: &Classes, function: u16, lock: &Lock, other: &Lock) -> b
     }
 }
 
-/// Whether a lock of the list stands over this one.
+/// Whether a lock of the list covers this one.
 fn is_under_one(classes: &Classes, function: u16, list: &[Lock], lock: &Lock) -> bool
     ensures { IsTrue result ↔ IsUnderOne classes.now function list.now lock.now }
 {
@@ -30,7 +30,7 @@ fn is_under_one(classes: &Classes, function: u16, list: &[Lock], lock: &Lock) ->
     false
 }
 
-/// The first of the locks over which no lock of the list stands.
+/// The first of the locks that no lock of the list covers.
 pub fn first_bare<'a>(
     classes: &Classes,
     function: u16,

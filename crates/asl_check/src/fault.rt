@@ -18,12 +18,12 @@ pub enum CheckFault {
     /// the same, and the version or a table is not.
     #[error("OtherCode({0})")]
     OtherCode(usize),
-    /// The section of this number needs the lock, and no lock of its list stands over it: the first such section, and of the locks
+    /// The section of this number needs the lock, and no lock of its list covers it: the first such section, and of the locks
     /// that it needs, but for those that another of them absorbs, the first in the order of locks.
     #[error("Uncovered({0}, {lock})", lock = Spelled(.1))]
     Uncovered(u16, Lock),
     /// An expression of the list of the section of this number reads the cell of the lock when it is evaluated, and no lock of the
-    /// list stands over it: the first such section, and its first such lock in the order in which they are read. Each list is
+    /// list covers it: the first such section, and its first such lock in the order in which they are read. Each list is
     /// enough for what its section needs.
     #[error("Unguarded({0}, {lock})", lock = Spelled(.1))]
     Unguarded(u16, Lock),

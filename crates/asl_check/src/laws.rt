@@ -6,7 +6,7 @@ ghost use Rattle.asl_syntax.specs.Parsed.{Parses};
 ghost use Rattle.asl_emitter.specs.Inferred.{IsInferredFor};
 ghost use Rattle.asl_emitter.specs.Refused.{IsAccepted};
 ghost use Rattle.asl_check.specs.declared.fault.CheckFault.{CheckFault};
-ghost use Rattle.asl_check.specs.Refused.{IsChecked, IsRefused, IsOutOfMemory, IsOfProgram};
+ghost use Rattle.asl_check.specs.Refused.{IsChecked, IsRefusedLists, IsOutOfMemory, IsOfProgram};
 
 /// The lists that are inferred for an accepted program are enough for it, with paths of as many operations.
 pub fn inferred_lists_are_enough()
@@ -17,11 +17,11 @@ pub fn inferred_lists_are_enough()
 /// A program that is checked is refused only where the memory ran out.
 pub fn checked_programs_have_no_fault()
     ensures { (tree : List Item) (k_limit : ℕ) (image : Image) (fault : CheckFault) → IsChecked tree k_limit image
-        → IsRefused tree k_limit image fault → IsOutOfMemory fault }
+        → IsRefusedLists tree k_limit image fault → IsOutOfMemory fault }
 {}
 
 /// A program has one refusal of its code and its lists at the most: the first.
 pub fn refusals_of_lists_are_one()
     ensures { (tree : List Item) (k_limit : ℕ) (image : Image) (fault other : CheckFault) → IsOfProgram fault → IsOfProgram other
-        → IsRefused tree k_limit image fault → IsRefused tree k_limit image other → fault ≡ other }
+        → IsRefusedLists tree k_limit image fault → IsRefusedLists tree k_limit image other → fault ≡ other }
 {}

@@ -1,7 +1,7 @@
 //! Whether lock lists that were made by other means are enough for a program.
 #![tactic(auto)]
 
-mod analysis;
+mod check_analysis;
 mod checked;
 mod coded;
 mod covered;

@@ -1,4 +1,4 @@
--- The kinds of token with which the automaton goes on.
+-- The kinds of token with which the automaton continues.
 use Rattle.std.proofs.Common.{◌≡◌, ◌⊎◌, inl, inr, ℕ, ◌+◌, ◌<◌, ◌≤◌, length, List, [], ◌∷◌, ◌++◌, Bool, true, false, refl, sym, ap, ◌∙◌, subst, cond, take, get_or}
 use Rattle.std.specs.List.{Contains, filter}
 use Rattle.std.proofs.lemmas.List.Elements.{filter_more, filter_passes, All-contains}
@@ -55,7 +55,7 @@ among_filter p [] x h e = absurd h
 among_filter p (y ∷ ys) x (inl same) e = kept p y x ys (p y) refl e (inl same)
 among_filter p (y ∷ ys) x (inr there) e = kept p y x ys (p y) refl e (inr (among_filter p ys x there e))
 
--- whether the automaton goes on with a kind
+-- whether the automaton continues with a kind
 abbrev pub goes_on : Place → TokenKind → Bool
 goes_on p k = is_accepted p (sample_of k)
 

@@ -1,4 +1,4 @@
--- The kind of a token decides whether the automaton goes on with it, and what is said where it stops.
+-- The kind of a token decides whether the automaton continues with it, and what is said where it stops.
 use Rattle.std.proofs.Common.{◌≡◌, ◌↔◌, ℕ, List, [], ◌∷◌, ◌++◌, Bool, true, IsTrue, Option, Some, None, is_some, refl, sym, ◌∙◌, subst}
 use Rattle.std.proofs.lemmas.List.{append-nil}
 use Rattle.asl_grammar.specs.declared.control.Kind.{Kind}

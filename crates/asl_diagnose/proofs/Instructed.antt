@@ -32,7 +32,7 @@ feeds_counted text =
 pub lines_few : (text : List ℕ) → length (lines_of text) ≤ line_behind text
 lines_few text = omega (arith, few text, feeds_counted text)
 
--- a wrong line that is not there is behind the last one
+-- a wrong line that is not there is after the last one
 pub too_early : (text : List ℕ) (number : ℕ) → IsBadLine (lines_of text) number → (0 < number → line_behind text < number) → number ≡ length (lines_of text) + 1
 too_early text number h late =
     elim h.here [

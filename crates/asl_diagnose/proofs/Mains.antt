@@ -18,7 +18,7 @@ function_next x Function t e = (refl, e)
 function_next x Parameter t e = absurd cc
 function_next x Nothing t e = absurd cc
 
--- the tokens before it, and those behind it
+-- the tokens before it, and those after it
 record IsFound (x : List ℕ) (next : Declares) (ss : List Spot) (at : ℕ) : Type 0 where
   before : List Spot
   behind : List Spot

@@ -19,7 +19,7 @@ use Rattle.asl_syntax.specs.Spelled.{line_meaning, stmt_meaning, block_meaning, 
 use Rattle.asl_diagnose.specs.declared.declared.Seen.{Seen}
 use Rattle.asl_diagnose.specs.declared.declared.Declares.{Declares}
 use Rattle.asl_diagnose.specs.declared.declared.Declares.TheVariants.{Global, Function, Parameter, Nothing}
-use Rattle.asl_diagnose.specs.declared.declared.Word.TheVariants as word
+use Rattle.asl_diagnose.specs.declared.word_place.Word.TheVariants as word
 use Rattle.asl_diagnose.specs.Places.{is_word, declares_behind}
 use Rattle.asl_diagnose.specs.SeenView.{seen_nothing, cell, noted_as, noted_if, entered_if, passed, again, is_twice}
 
@@ -191,7 +191,7 @@ abbrev Later : List ℕ → List Spot → Type 0
 Later x ss =
     (ms : List Mention) (gs fs ps : Names) (s : Seen) → told s.next (bare ss) ≡ all_said ms → first_twice gs fs ps ms ≡ Some x → Keeps x gs fs ps s → is_twice x s ss ≡ true
 
--- behind another token than a name
+-- after another token than a name
 fixed_parameter : (d : Declares) (m : Mark) → declares_behind d (Fixed m) ≡ Parameter → (d ≡ Parameter) × (is_word word.Fn (Fixed m) ≡ false)
 fixed_parameter d mark.Global h = absurd cc
 fixed_parameter d mark.Fn h = absurd cc
@@ -230,7 +230,7 @@ same_behind Function n = refl
 same_behind Parameter n = refl
 same_behind Nothing n = refl
 
--- behind a name that is no declaration
+-- after a name that is no declaration
 not_parameter : (d e : Declares) (y : List ℕ) → d ≡ e → (declares_behind e (Name y) ≡ Parameter → ⊥) → declares_behind d (Name y) ≡ Parameter → ⊥
 not_parameter d e y same none h = none (ap (λ (u : Declares). declares_behind u (Name y)) (sym same) ∙ h)
 

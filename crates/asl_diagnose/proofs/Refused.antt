@@ -1,4 +1,4 @@
--- The words at which refusals are told are there.
+-- The words at which refusals are reported are there.
 use Rattle.std.proofs.Common.{◌≡◌, ℕ, ◌<◌, Bool, List, Some, slice_get, true, subst, arith}
 use Rattle.std.proofs.lemmas.Option.{slice_get_within, slice_get-get_or}
 use Rattle.asl_code.specs.declared.instr.Instr.{Instr}
@@ -18,9 +18,9 @@ use Rattle.asl_backward_flow.specs.Needed.{NeedsMany}
 use Rattle.asl_backward_flow.specs.declared.region.Region.TheVariants as variant
 use Rattle.asl_backward_flow.proofs.Leasts.{needed_inside}
 use Rattle.asl_points_to.specs.Classes.{Classed}
-use Rattle.asl_emitter.specs.Refused.{IsRefused}
+use Rattle.asl_emitter.specs.Refused.{IsRefusedInference}
 use Rattle.asl_emitter.specs.declared.fault.InferFault.TheVariants as infer
-use Rattle.asl_diagnose.specs.declared.declared.Word.TheVariants as word
+use Rattle.asl_diagnose.specs.declared.word_place.Word.TheVariants as word
 use Rattle.asl_diagnose.specs.Places.{words_in, IsOverfull}
 use Rattle.asl_diagnose.specs.SeenView.{has_name, is_twice, seen_nothing}
 use Rattle.asl_diagnose.proofs.There.{functions_there, sections_there, crowded_there}
@@ -37,12 +37,12 @@ unknown_there text x h =
     use_there h.tree (tokens_of text) x h.spelled.spelled (unknown_first h.tree x h.name)
 
 -- a function with too many registers
-pub registers_there : (text : List ℕ) (tree : List Item) (k number : ℕ) → Parses text tree → IsRefused tree k (infer.Registers number) → number < words_in word.Fn (tokens_of text)
+pub registers_there : (text : List ℕ) (tree : List Item) (k number : ℕ) → Parses text tree → IsRefusedInference tree k (infer.Registers number) → number < words_in word.Fn (tokens_of text)
 registers_there text tree k number p h =
     omega (arith, crowded_there 0 number (functions_of tree) h, functions_there tree (tokens_of text) p.spelled.spelled)
 
 -- an access
-pub access_there : (text : List ℕ) (tree : List Item) (k function pc : ℕ) → Parses text tree → IsRefused tree k (infer.AccessOutsideSection function pc) → 0 < words_in word.Star (tokens_of text)
+pub access_there : (text : List ℕ) (tree : List Item) (k function pc : ℕ) → Parses text tree → IsRefusedInference tree k (infer.AccessOutsideSection function pc) → 0 < words_in word.Star (tokens_of text)
 access_there text tree k function pc p h =
     let a = h.1.2.access in
     let P : List Instr → Type 0 = λ code. slice_get code pc ≡ Some a.instruction in
@@ -56,13 +56,13 @@ region_inside l c stores k_limit r h =
     let k = needed_inside l c stores k_limit r one.0 _ one.1 in
     (k.0, one.0, k.1)
 
-pub section_there : (text : List ℕ) (tree : List Item) (k number : ℕ) → Parses text tree → IsRefused tree k (infer.TooManyLocks (variant.Section number)) → number < words_in word.Atomic (tokens_of text)
+pub section_there : (text : List ℕ) (tree : List Item) (k number : ℕ) → Parses text tree → IsRefusedInference tree k (infer.TooManyLocks (variant.Section number)) → number < words_in word.Atomic (tokens_of text)
 section_there text tree k number p h =
     let a = h.analysis in
     let i = region_inside a.program.lowering a.program.classes a.stores k (Inside number) h.many in
     omega (arith, slice_get_within a.program.lowering.sections number i.2.is i.2.in_table, a.program.lowers.sections, sections_there tree (tokens_of text) p.spelled.spelled)
 
-pub body_there : (text : List ℕ) (tree : List Item) (k number : ℕ) → Parses text tree → IsRefused tree k (infer.TooManyLocks (variant.Body number)) → number < words_in word.Fn (tokens_of text)
+pub body_there : (text : List ℕ) (tree : List Item) (k number : ℕ) → Parses text tree → IsRefusedInference tree k (infer.TooManyLocks (variant.Body number)) → number < words_in word.Fn (tokens_of text)
 body_there text tree k number p h =
     let a = h.analysis in
     let i = region_inside a.program.lowering a.program.classes a.stores k (Body number) h.many in

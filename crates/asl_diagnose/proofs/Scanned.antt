@@ -6,7 +6,7 @@ use Rattle.std.specs.List.{Contains}
 use Rattle.std.proofs.lemmas.Slice.Eq.{bytes_eq-Decides}
 use Rattle.std.proofs.lemmas.List.Elements.{All-nil, All-push}
 use Rattle.asl_grammar.specs.Token.{Token, Fixed, Name, Number, Spot}
-use Rattle.asl_diagnose.specs.declared.declared.Word.TheVariants as word
+use Rattle.asl_diagnose.specs.declared.word_place.Word.TheVariants as word
 use Rattle.asl_diagnose.specs.declared.declared.Declares.{Declares}
 use Rattle.asl_diagnose.specs.declared.declared.Declares.TheVariants.{Global, Function, Parameter, Nothing}
 use Rattle.asl_diagnose.specs.declared.declared.Seen.{Seen}

@@ -1,7 +1,7 @@
 -- A name or a word that is looked for among tokens: the first from a place on, or else the last before it.
 use Rattle.std.proofs.Common.{◌≡◌, ℕ, suc, List, [], ◌∷◌, ◌++◌, Bool, true, false, ◌||◌, if◌then◌else◌, Option, Some, None, IfSome, IfNone, refl, sym, ap, ◌∙◌}
 use Rattle.asl_grammar.specs.Token.{Spot}
-use Rattle.asl_diagnose.specs.declared.declared.Word.{Word}
+use Rattle.asl_diagnose.specs.declared.word_place.Word.{Word}
 use Rattle.asl_diagnose.specs.declared.declared.Declares.{Declares}
 use Rattle.asl_diagnose.specs.declared.declared.Declares.TheVariants.{Nothing}
 use Rattle.asl_diagnose.specs.Places.{is_named, is_word, words_in, declares_behind, IsNameAt, IsSomeWordAt}

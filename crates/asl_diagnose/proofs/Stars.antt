@@ -15,7 +15,7 @@ use Rattle.asl_lower.specs.Lowered.{first_argument}
 use Rattle.asl_lower.specs.Place.{Place, next, entered, origin, past_stmt, past_block, past_function}
 use Rattle.asl_lower.specs.Region.{is_access}
 use Rattle.asl_lower.specs.Layout.{moves, stmt_code, block_code, else_code, function_code, functions_code}
-use Rattle.asl_diagnose.specs.declared.declared.Word.TheVariants as word
+use Rattle.asl_diagnose.specs.declared.word_place.Word.TheVariants as word
 use Rattle.asl_diagnose.specs.Places.{words_in}
 use Rattle.asl_diagnose.proofs.There.{count, counted, names_count}
 

@@ -35,7 +35,7 @@ stuck_viable before t w e n v =
     let b : run (state_of []) (before ++ t ∷ v.more) ≡ Some (state_of p.program) = program_runs (before ++ t ∷ v.more) p in
     cc
 
--- the automaton with trees goes on where the one without does
+-- the automaton with trees continues where the one without does
 same_some : (o : Option State) (s : Option (Control × Act)) (p : Place) → place_of_option o ≡ placed s p.kinds → is_some s ≡ is_some o
 same_some None None p e = refl
 same_some None (Some (c, a)) p e = cc

@@ -1,4 +1,4 @@
--- What is told of a refusal, of its parts.
+-- What is reported of a refusal, of its parts.
 use Rattle.std.proofs.Common.{◌≡◌, ◌≢◌, ℕ, List, sym, subst}
 use Rattle.asl_syntax.specs.declared.fault.SyntaxFault.{SyntaxFault}
 use Rattle.asl_syntax.specs.declared.fault.SyntaxFault.TheVariants as syntax
@@ -7,7 +7,7 @@ use Rattle.asl_syntax.specs.Tree.{Item}
 use Rattle.asl_syntax.specs.Parsed.{Parses}
 use Rattle.asl_emitter.specs.declared.fault.InferFault.{InferFault}
 use Rattle.asl_emitter.specs.declared.fault.InferFault.TheVariants as infer
-use Rattle.asl_emitter.specs.Refused.{IsRefused}
+use Rattle.asl_emitter.specs.Refused.{IsRefusedInference}
 use Rattle.asl_diagnose.specs.declared.diagnosis.Refusal.{Refusal}
 use Rattle.asl_diagnose.specs.declared.diagnosis.Refusal.TheVariants as refusal
 use Rattle.asl_diagnose.specs.declared.diagnosis.Diagnosis.{Diagnosis}
@@ -20,9 +20,9 @@ syntax_told source k d fault h real e place expected position = record {
   position = position;
 }
 
-pub infer_told : (source : List ℕ) (k : ℕ) (d : Diagnosis) (fault : InferFault) (tree : List Item) → Parses source tree → IsRefused tree k fault → fault ≢ infer.OutOfMemory → d.refusal ≡ refusal.Infer fault → IsInferPlace source fault d.at → IsPosition source d.at d.line d.column → IsSourceDiagnosis source k d
+pub infer_told : (source : List ℕ) (k : ℕ) (d : Diagnosis) (fault : InferFault) (tree : List Item) → Parses source tree → IsRefusedInference tree k fault → fault ≢ infer.OutOfMemory → d.refusal ≡ refusal.Infer fault → IsInferPlace source fault d.at → IsPosition source d.at d.line d.column → IsSourceDiagnosis source k d
 infer_told source k d fault tree p h real e place position = record {
-  refusal = subst (λ (r : Refusal). IsSourceRefusal source k r) (sym e) (record { tree = tree; parses = p; refused = h; real = real });
+  refusal = subst (λ (r : Refusal). IsSourceRefusal source k r) (sym e) (record { tree = tree; parsed = p; refused = h }, real);
   place = subst (λ (r : Refusal). IsSourcePlace source r d) (sym e) place;
   position = position;
 }

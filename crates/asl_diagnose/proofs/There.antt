@@ -11,8 +11,8 @@ use Rattle.asl_syntax.specs.Spelled.{right_meaning, line_meaning, stmt_meaning, 
 use Rattle.asl_lower.specs.Place.{Place, next, entered, origin, past_moves, past_value, past_stmt, past_block, past_else, past_function, past_functions}
 use Rattle.asl_lower.specs.Names.{registers_of}
 use Rattle.asl_lower.specs.Refused.{first_crowded}
-use Rattle.asl_diagnose.specs.declared.declared.Word.{Word}
-use Rattle.asl_diagnose.specs.declared.declared.Word.TheVariants as word
+use Rattle.asl_diagnose.specs.declared.word_place.Word.{Word}
+use Rattle.asl_diagnose.specs.declared.word_place.Word.TheVariants as word
 use Rattle.asl_diagnose.specs.Places.{is_word, words_in}
 
 -- one for a token that is the word

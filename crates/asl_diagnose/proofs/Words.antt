@@ -2,7 +2,7 @@
 use Rattle.std.proofs.Common.{◌≡◌, ℕ, suc, ◌+◌, ◌-◌, ◌≤◌, List, [], ◌∷◌, ◌++◌, Bool, true, false, refl, sym, ap, ◌∙◌, arith, if◌then◌else◌}
 use Rattle.std.proofs.lemmas.List.{append-nil}
 use Rattle.asl_grammar.specs.Token.{Spot}
-use Rattle.asl_diagnose.specs.declared.declared.Word.{Word}
+use Rattle.asl_diagnose.specs.declared.word_place.Word.{Word}
 use Rattle.asl_diagnose.specs.Places.{is_word, words_in, IsWordAt}
 use Rattle.asl_diagnose.proofs.Tokens.{split_on}
 

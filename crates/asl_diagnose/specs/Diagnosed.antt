@@ -1,4 +1,4 @@
--- What is told of a text that is refused: why, where it is, its line and column, and with what a program goes on there.
+-- What is reported of a text that is refused: why, where it is, its line and column, and with what a program continues there.
 use Rattle.std.specs.Prelude.{◌≡◌, ◌≢◌, ℕ, ◌+◌, ◌≤◌, ◌⊎◌, List, Bool, codes, length, take, Option, IsSomeAnd, MatchOption}
 use Rattle.asl_grammar.specs.Lex.{tokens_of}
 use Rattle.asl_syntax.specs.declared.fault.SyntaxFault.{SyntaxFault}
@@ -8,8 +8,7 @@ use Rattle.asl_syntax.specs.Parsed.{Parses}
 use Rattle.asl_syntax.specs.Fault.{IsFault as IsSyntaxFault}
 use Rattle.asl_emitter.specs.declared.fault.InferFault.{InferFault}
 use Rattle.asl_emitter.specs.declared.fault.InferFault.TheVariants as infer
-use Rattle.asl_emitter.specs.Refused.{IsRefused}
-use Rattle.asl_emitter.specs.Sources.{IsAcceptedSource}
+use Rattle.asl_emitter.specs.Sources.{IsAcceptedSource, HasRefusedTree}
 use Rattle.asl_backward_flow.specs.declared.region.Region.{Region}
 use Rattle.asl_backward_flow.specs.declared.region.Region.TheVariants as region
 use Rattle.asl_assembler.specs.declared.assembly.AsmFault.{AsmFault}
@@ -21,26 +20,19 @@ use Rattle.asl_diagnose.specs.declared.diagnosis.Refusal.{Refusal}
 use Rattle.asl_diagnose.specs.declared.diagnosis.Refusal.TheVariants as refusal
 use Rattle.asl_diagnose.specs.declared.diagnosis.Diagnosis.{Diagnosis}
 use Rattle.asl_diagnose.specs.declared.kind.TokenKind.{TokenKind}
-use Rattle.asl_diagnose.specs.declared.declared.Word.TheVariants as word
+use Rattle.asl_diagnose.specs.declared.word_place.Word.TheVariants as word
 use Rattle.asl_diagnose.specs.Position.{line_behind, IsColumn, IsLineFront}
 use Rattle.asl_diagnose.specs.Instructions.{instructions_in, IsInstructionLine, pc_of}
 use Rattle.asl_diagnose.specs.Expected.{IsStop}
 use Rattle.asl_diagnose.specs.Places.{IsNameAt, IsWordAt, IsSomeWordAt, IsFunctionAt, AreDeclaredAt, IsOverfull}
 
--- the source is a program for which no lists are inferred
-pub record IsNotInferred (source : List ℕ) (k : ℕ) (fault : InferFault) : Type 0 where
-  pub tree : List Item
-  pub parses : Parses source tree
-  pub refused : IsRefused tree k fault
-  pub real : fault ≢ infer.OutOfMemory
-
 -- the source is refused so
 abbrev pub IsSourceRefusal : List ℕ → ℕ → Refusal → Type 0
 IsSourceRefusal source k (refusal.Syntax fault) = IsSyntaxFault source fault × (fault ≢ syntax.OutOfMemory)
-IsSourceRefusal source k (refusal.Infer fault) = IsNotInferred source k fault
+IsSourceRefusal source k (refusal.Infer fault) = HasRefusedTree source k fault × (fault ≢ infer.OutOfMemory)
 IsSourceRefusal source k (refusal.Asm fault) = ⊥
 
--- where a missing `main` is told: at a function `main`, which then has another number of parameters, and where there is none, at the
+-- where a missing `main` is reported: at a function `main`, which then has another number of parameters, and where there is none, at the
 -- text's end
 abbrev pub IsMainPlace : List ℕ → ℕ → Type 0
 IsMainPlace text at =
@@ -60,7 +52,7 @@ IsSyntaxPlace text (syntax.Arity place) first at = at ≡ place
 IsSyntaxPlace text syntax.NoMain first at = IsMainPlace text at
 IsSyntaxPlace text syntax.OutOfMemory first at = Unit {0}
 
--- with what a program goes on there, where the fault is that none goes on as the text does
+-- with what a program continues there, where the fault is that none continues as the text does
 abbrev pub IsExpectedFor : List ℕ → SyntaxFault → List TokenKind → Bool → Type 0
 IsExpectedFor text (syntax.Grammar place) kinds may_end = IsStop (tokens_of text) (length text) place kinds may_end
 IsExpectedFor text _ kinds may_end = Unit {0}
@@ -87,7 +79,7 @@ IsInferPlace text infer.TooManyClasses at = at ≡ length text
 IsInferPlace text (infer.TooManyLocks r) at = IsRegionPlace text r at
 IsInferPlace text infer.OutOfMemory at = Unit {0}
 
--- where a refusal of a source is, and with what a program goes on there
+-- where a refusal of a source is, and with what a program continues there
 abbrev pub IsSourcePlace : List ℕ → Refusal → Diagnosis → Type 0
 IsSourcePlace text (refusal.Syntax fault) d =
     IsSyntaxPlace text fault d.first d.at × IsExpectedFor text fault d.expected.items d.may_end
@@ -99,7 +91,7 @@ pub record IsPosition (text : List ℕ) (at number from_one : ℕ) : Type 0 wher
   pub line : number ≡ line_behind (take at text)
   pub column : IsColumn (take at text) from_one
 
--- what is told of a source that is refused
+-- what is reported of a source that is refused
 pub record IsSourceDiagnosis (source : List ℕ) (k : ℕ) (d : Diagnosis) : Type 0 where
   pub refusal : IsSourceRefusal source k d.refusal
   pub place : IsSourcePlace source d.refusal d
@@ -120,14 +112,14 @@ IsInstructionPlace text pc at line =
     (IsInstructionLine (lines_of text) pc line × IsLineFront text line at)
     ⊎ ((instructions_in (lines_of text) ≤ pc) × (at ≡ length text) × (line ≡ line_behind (take at text)))
 
--- the line that is told, and the place in it: those of a wrong line; those of the instruction that breaks a rule; and for a rule of
+-- the line that is reported, and the place in it: those of a wrong line; those of the instruction that breaks a rule; and for a rule of
 -- the whole image those of some place
 abbrev pub IsAssemblyPlace : List ℕ → AsmFault → ℕ → ℕ → Type 0
 IsAssemblyPlace text (asm.Line number) at line = (line ≡ number) × IsLinePlace text number at
 IsAssemblyPlace text (asm.Verify cause) at line = MatchOption (pc_of cause) (line ≡ line_behind (take at text)) (λ pc. IsInstructionPlace text pc at line)
 IsAssemblyPlace text asm.OutOfMemory at line = Unit {0}
 
--- what is told of an assembly text that is refused
+-- what is reported of an assembly text that is refused
 pub record IsAssemblyDiagnosis (text : List ℕ) (d : Diagnosis) : Type 0 where
   pub fault : AsmFault
   pub refusal : d.refusal ≡ refusal.Asm fault

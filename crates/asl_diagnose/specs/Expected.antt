@@ -1,4 +1,4 @@
--- With which kinds of token a program goes on where a text stops being the beginning of one (docs/SOURCE.md, "Grammar").
+-- With which kinds of token a program continues where a text stops being the beginning of one (docs/SOURCE.md, "Grammar").
 use Rattle.std.specs.Prelude.{◌↔◌, ℕ, List, [], ◌∷◌, ◌++◌, Bool, IsTrue}
 use Rattle.std.specs.List.{Contains}
 use Rattle.asl_grammar.specs.Token.{Token, Fixed, Name, Number, Spot}
@@ -16,7 +16,7 @@ kind_of (Number n) = kind.Number
 abbrev pub GoOn : List Token → List TokenKind → Type 0
 GoOn before kinds = (t : Token) → Contains kinds (kind_of t) ↔ IsViable (before ++ t ∷ [])
 
--- the tokens stop being the beginning of a program at this place; behind those before it a program goes on with these kinds of
+-- the tokens stop being the beginning of a program at this place; after those before it a program continues with these kinds of
 -- token, and ends there or not
 pub record IsStop (ss : List Spot) (end at : ℕ) (kinds : List TokenKind) (may_end : Bool) : Type 0 where
   pub fault : IsGrammarFault ss end at

@@ -5,8 +5,8 @@ use Rattle.asl_grammar.specs.declared.token.Mark.TheVariants as mark
 use Rattle.asl_grammar.specs.Token.{Token, Fixed, Name, Spot}
 use Rattle.asl_syntax.specs.Tree.{Item, functions_of}
 use Rattle.asl_lower.specs.Place.{origin, past_functions}
-use Rattle.asl_diagnose.specs.declared.declared.Word.{Word}
-use Rattle.asl_diagnose.specs.declared.declared.Word.TheVariants as word
+use Rattle.asl_diagnose.specs.declared.word_place.Word.{Word}
+use Rattle.asl_diagnose.specs.declared.word_place.Word.TheVariants as word
 use Rattle.asl_diagnose.specs.declared.declared.Declares.{Declares}
 use Rattle.asl_diagnose.specs.declared.declared.Declares.TheVariants.{Global, Function, Parameter, Nothing}
 
@@ -49,7 +49,7 @@ pub record IsWordAt (ss : List Spot) (w : Word) (number at : ℕ) : Type 0 where
 abbrev pub IsSomeWordAt : List Spot → Word → ℕ → Type 0
 IsSomeWordAt ss w at = (number : ℕ) × IsWordAt ss w number at
 
--- what the next name declares: behind `global` a global, behind `fn` a function, and from a function's name to the parenthesis that
+-- what the next name declares: after `global` a global, after `fn` a function, and from a function's name to the parenthesis that
 -- closes a parameter
 abbrev pub declares_behind : Declares → Token → Declares
 declares_behind next (Fixed mark.Global) = Global
@@ -60,12 +60,12 @@ declares_behind Parameter (Name x) = Parameter
 declares_behind next (Name x) = Nothing
 declares_behind next t = next
 
--- the same behind tokens
+-- the same after tokens
 abbrev pub declares_from : Declares → List Spot → Declares
 declares_from next [] = next
 declares_from next (s ∷ ss) = declares_from (declares_behind next s.token) ss
 
--- what a name behind these tokens declares
+-- what a name after these tokens declares
 abbrev pub declares : List Spot → Declares
 declares before = declares_from Nothing before
 
@@ -76,7 +76,7 @@ pub record IsFunctionAt (ss : List Spot) (x : List ℕ) (at : ℕ) : Type 0 wher
   pub split : ss ≡ before ++ named x at ∷ behind
   pub function : declares before ≡ Function
 
--- a parameter's function goes on over these tokens: no `fn` stands among them; others have no such bound
+-- a parameter's function continues over these tokens: no `fn` stands among them; others have no such bound
 abbrev pub SameFunction : Declares → List Spot → Type 0
 SameFunction Parameter ss = All (λ (s : Spot). is_word word.Fn s.token ≡ false) ss
 SameFunction what ss = Unit {0}

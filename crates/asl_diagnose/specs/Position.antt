@@ -7,23 +7,23 @@ use Rattle.asl_assembler.specs.Words.{is_separator}
 abbrev pub is_feed : ℕ → Bool
 is_feed b = b == 10
 
--- the line behind these bytes, from 1
+-- the line after these bytes, from 1
 abbrev pub line_behind : List ℕ → ℕ
 line_behind before = suc (count_by is_feed before)
 
--- the last line of these bytes begins there: at their front or behind a line feed, and none stands from there on
+-- the last line of these bytes begins there: at their front or after a line feed, and none stands from there on
 pub record IsLineStart (before : List ℕ) (start : ℕ) : Type 0 where
   pub within : start ≤ length before
   pub begins : (start ≡ 0) ⊎ (slice_index before (start - 1) ≡ 10)
   pub none : (i : ℕ) → start ≤ i → i < length before → slice_index before i ≢ 10
 
--- the column behind these bytes, from 1: how many of them their last line has, and one more
+-- the column after these bytes, from 1: how many of them their last line has, and one more
 pub record IsColumn (before : List ℕ) (column : ℕ) : Type 0 where
   pub start : ℕ
   pub line : IsLineStart before start
   pub counted : start + column ≡ suc (length before)
 
--- the line of this number begins there: at the front of the text or behind a line feed
+-- the line of this number begins there: at the front of the text or after a line feed
 pub record BeginsLine (text : List ℕ) (number start : ℕ) : Type 0 where
   pub within : start ≤ length text
   pub begins : (start ≡ 0) ⊎ (slice_index text (start - 1) ≡ 10)

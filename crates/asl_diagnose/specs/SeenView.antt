@@ -2,7 +2,7 @@
 use Rattle.std.specs.Prelude.{ℕ, List, [], ◌∷◌, Bool, false, ◌||◌, Option, Some, None, is_some, if◌then◌else◌}
 use Rattle.asl_grammar.specs.Token.{Token, Spot}
 use Rattle.asl_diagnose.specs.declared.declared.Seen.{Seen}
-use Rattle.asl_diagnose.specs.declared.declared.Word.TheVariants as word
+use Rattle.asl_diagnose.specs.declared.word_place.Word.TheVariants as word
 use Rattle.asl_diagnose.specs.declared.declared.Declares.{Declares}
 use Rattle.asl_diagnose.specs.declared.declared.Declares.TheVariants.{Global, Function, Parameter, Nothing}
 use Rattle.asl_diagnose.specs.Places.{is_named, is_word, declares_behind}
@@ -28,7 +28,7 @@ noted_as s at Nothing = s
 abbrev pub noted : Seen → ℕ → Seen
 noted s at = noted_as s at s.next
 
--- behind the name, if it is the name
+-- after the name, if it is the name
 abbrev pub noted_if : Bool → Seen → ℕ → Seen
 noted_if b s at = if b then noted s at else s
 
@@ -36,7 +36,7 @@ noted_if b s at = if b then noted s at else s
 abbrev pub entered_if : Bool → Seen → Seen
 entered_if b s = if b then record s { parameter = None } else s
 
--- behind one more token
+-- after one more token
 abbrev pub passed : List ℕ → Seen → Spot → Seen
 passed x s spot =
     let t = entered_if (is_word word.Fn spot.token) (noted_if (is_named x spot.token) s spot.at) in

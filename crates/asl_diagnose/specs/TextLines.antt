@@ -2,8 +2,8 @@
 -- instruction of a number.
 use Rattle.std.specs.Prelude.{◌≡◌, ◌<◌, ℕ, suc, ◌-◌, ◌==◌, List, [], ◌∷◌, length, Option, Some, None, if◌then◌else◌}
 use Rattle.asl_assembler.specs.Words.{lines_of}
-use Rattle.asl_diagnose.specs.declared.lines.TextLines as rows
-use Rattle.asl_diagnose.specs.declared.lines.TextLine as row
+use Rattle.asl_diagnose.specs.declared.text_lines.TextLines as rows
+use Rattle.asl_diagnose.specs.declared.text_lines.TextLine as row
 use Rattle.asl_diagnose.specs.Instructions.{is_instruction}
 
 abbrev pub rows_left : rows.TextLines → ℕ

@@ -6,7 +6,7 @@ use Rattle.asl_grammar.specs.Grammar.{IsProgram, IsViable, bare}
 use Rattle.asl_grammar.specs.Automaton.{Control, ItemStart}
 use Rattle.asl_grammar.specs.Seen.{Place, step_at, next_place}
 use Rattle.asl_grammar.specs.SeenView.{place_in}
-use Rattle.asl_diagnose.specs.declared.walk.Walk as walk
+use Rattle.asl_diagnose.specs.declared.token_walk.Walk as walk
 use Rattle.asl_diagnose.specs.declared.kind.TokenKind.{TokenKind}
 use Rattle.asl_diagnose.specs.declared.kind.TokenKind.TheVariants as kind
 
@@ -20,11 +20,11 @@ sample_of (kind.Fixed m) = Fixed m
 sample_of kind.Name = Name (120 ∷ [])
 sample_of kind.Number = Number 1
 
--- whether the automaton goes on with a token
+-- whether the automaton continues with a token
 abbrev pub is_accepted : Place → Token → Bool
 is_accepted p t = is_some (step_at p t)
 
--- the listed kinds are those with which the automaton goes on
+-- the listed kinds are those with which the automaton continues
 abbrev pub ListsAccepted : Place → List TokenKind → Type 0
 ListsAccepted p kinds = (k : TokenKind) → Contains kinds k ↔ IsTrue (is_accepted p (sample_of k))
 
@@ -36,12 +36,12 @@ MayEndAt _ = ⊥
 abbrev pub MayEnd : Place → Type 0
 MayEnd p = MayEndAt p.control
 
--- no token is left, or the automaton does not go on with the next one
+-- no token is left, or the automaton does not continue with the next one
 abbrev pub IsStuck : Place → List Spot → Type 0
 IsStuck p [] = Unit {0}
 IsStuck p (s ∷ ss) = next_place p s.token ≡ None
 
--- the automaton goes on with a token exactly where some program begins with these tokens and it, and may end exactly where they
+-- the automaton continues with a token exactly where some program begins with these tokens and it, and may end exactly where they
 -- are a program
 pub record Stands (before : List Token) (p : Place) : Type 0 where
   pub begins : IsViable before

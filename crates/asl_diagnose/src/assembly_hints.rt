@@ -2,9 +2,9 @@
 
 use crate::bytes::push_quoted;
 use crate::forms::{WORDS, form, may_stand, turn_at, turn_text};
-use crate::lines::{TextLines, first_word};
 use crate::listing::{end_of_body, listing_at, whole};
 use crate::near::Nearest;
+use crate::text_lines::{TextLines, first_word};
 use asl_assembler::AsmFault;
 use asl_code::VerifyFault;
 use std::alloc::{AllocError, Global};

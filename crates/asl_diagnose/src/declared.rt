@@ -1,12 +1,11 @@
 //! Where names are declared, by the tokens of a text.
-
-ghost use Rattle.std.specs.Prelude.{◌≡◌, ◌≤◌, false, IfSome, IfNone};
+ghost use Rattle.std.specs.Prelude.{◌≡◌, false, IfSome, IfNone};
 ghost use Rattle.asl_grammar.specs.Lex.{tokens_of};
 ghost use Rattle.asl_grammar.specs.View.{token_of};
-ghost use Rattle.asl_diagnose.specs.Places.{declares_behind, is_named, is_word, words_in, IsNameAt, IsWordAt, IsSomeWordAt, AreDeclaredAt};
-ghost use Rattle.asl_diagnose.specs.SeenView.{has_name, is_twice, seen_nothing, is_function, first_function};
-ghost use Rattle.asl_diagnose.specs.declared.declared.Declares.TheVariants.{Nothing};
+ghost use Rattle.asl_diagnose.specs.Places.{declares_behind, AreDeclaredAt};
+ghost use Rattle.asl_diagnose.specs.SeenView.{is_twice, seen_nothing};
 
+use crate::word_place::{Word, is_named, is_word};
 use asl_grammar::lexer::{Found, Tokens};
 use asl_grammar::token::{Mark, Spot, Token};
 
@@ -19,7 +18,7 @@ pub enum Declares {
     Nothing,
 }
 
-/// What the next name declares behind a token.
+/// What the next name declares after a token.
 pub fn declares_behind(next: Declares, token: Token<'_>) -> Declares
     ensures { result ≡ declares_behind next (token_of token.entry) }
 {
@@ -109,16 +108,6 @@ impl Seen {
     }
 }
 
-/// Whether a token is this name.
-pub fn is_named(token: Token<'_>, name: &[u8]) -> bool
-    ensures { result ≡ is_named name.now (token_of token.entry) }
-{
-    match token {
-        Token::Name(x) => x == name,
-        _ => false,
-    }
-}
-
 /// The places of the first two declarations of a name in one name space.
 pub fn twice_places(text: &[u8], name: &[u8]) -> Option<(usize, usize)>
     ensures some { IfSome result (λ places. AreDeclaredAt (tokens_of text.now) name.now places.0 places.1) }
@@ -146,159 +135,4 @@ pub fn declares_at(text: &[u8], at: usize) -> Declares {
         next = declares_behind(next, spot.token);
     }
     Declares::Nothing
-}
-
-/// Whether the next name is a function's, and a token is this name.
-fn is_function(next: Declares, token: Token<'_>, name: &[u8]) -> bool
-    ensures { result ≡ is_function name.now next (token_of token.entry) }
-{
-    match next {
-        Declares::Function => is_named(token, name),
-        _ => false,
-    }
-}
-
-/// The place of the name of the first function of this name.
-pub fn function_place(text: &[u8], name: &[u8]) -> Option<usize>
-    ensures { result ≡ first_function name.now Nothing (tokens_of text.now) }
-{
-    let mut tokens = Tokens::new(text);
-    let mut next = Declares::Nothing;
-    'reading: while let Found::Token(spot) = tokens.next() {
-        if is_function(next, spot.token, name) {
-            return Some(spot.at);
-        }
-        next = declares_behind(next, spot.token);
-    }
-    None
-}
-
-/// The head of a function: where its name stands, and how many parameters it has.
-#[derive(Clone, Copy)]
-pub struct Head {
-    pub at: usize,
-    pub parameters: usize,
-}
-
-/// The head of the function of a name; of two of one name that of the first.
-pub fn head_of(text: &[u8], name: &[u8]) -> Option<Head> {
-    let mut tokens = Tokens::new(text);
-    let mut next = Declares::Nothing;
-    let mut head = None;
-    'reading: while let Found::Token(spot) = tokens.next() {
-        head = match head {
-            None => match next {
-                Declares::Function if is_named(spot.token, name) => Some(Head {
-                    at: spot.at,
-                    parameters: 0,
-                }),
-                _ => None,
-            },
-            Some(found) => match spot.token {
-                Token::Name(_) => Some(Head {
-                    at: found.at,
-                    parameters: found.parameters.saturating_add(1),
-                }),
-                Token::Fixed(Mark::CloseParen) => return head,
-                _ => head,
-            },
-        };
-        next = declares_behind(next, spot.token);
-    }
-    head
-}
-
-/// A word or symbol that is counted.
-#[derive(Clone, Copy)]
-pub enum Word {
-    Fn,
-    Atomic,
-    Star,
-}
-
-/// Whether a token is the word.
-fn is_word(word: Word, token: Token<'_>) -> bool
-    ensures { result ≡ is_word word (token_of token.entry) }
-{
-    match token {
-        Token::Fixed(Mark::Fn) => matches!(word, Word::Fn),
-        Token::Fixed(Mark::Atomic) => matches!(word, Word::Atomic),
-        Token::Fixed(Mark::Star) => matches!(word, Word::Star),
-        _ => false,
-    }
-}
-
-/// The place of a word with so many of it before.
-pub fn numbered(text: &[u8], word: Word, number: usize) -> Option<usize>
-    ensures some { IfSome result (IsWordAt (tokens_of text.now) word number) }
-    ensures none { IfNone result (words_in word (tokens_of text.now) ≤ number) }
-{
-    let mut tokens = Tokens::new(text);
-    let mut left = number;
-    'reading: while let Found::Token(spot) = tokens.next() {
-        if is_word(word, spot.token) {
-            if left == 0 {
-                return Some(spot.at);
-            }
-            left -= 1;
-        }
-    }
-    None
-}
-
-/// The place of a name: the first from a place on, or else the last before it.
-pub fn name_near(text: &[u8], name: &[u8], from: usize) -> Option<usize>
-    ensures some { IfSome result (IsNameAt (tokens_of text.now) name.now) }
-    ensures none { IfNone result (has_name name.now (tokens_of text.now) ≡ false) }
-{
-    let mut tokens = Tokens::new(text);
-    let mut last = None;
-    'reading: while let Found::Token(spot) = tokens.next() {
-        if is_named(spot.token, name) {
-            if spot.at >= from {
-                return Some(spot.at);
-            }
-            last = Some(spot.at);
-        }
-    }
-    last
-}
-
-/// The place of a word: the first from a place on, or else the last before it.
-pub fn word_near(text: &[u8], word: Word, from: usize) -> Option<usize>
-    ensures some { IfSome result (IsSomeWordAt (tokens_of text.now) word) }
-    ensures none { IfNone result (words_in word (tokens_of text.now) ≡ 0) }
-{
-    let mut tokens = Tokens::new(text);
-    let mut last = None;
-    'reading: while let Found::Token(spot) = tokens.next() {
-        if is_word(word, spot.token) {
-            if spot.at >= from {
-                return Some(spot.at);
-            }
-            last = Some(spot.at);
-        }
-    }
-    last
-}
-
-/// Whether a token is this word or symbol.
-pub fn is_mark(token: Token<'_>, word: Mark) -> bool {
-    match token {
-        Token::Fixed(mark) => mark as u8 == word as u8,
-        _ => false,
-    }
-}
-
-/// The name that stands at a place or first behind it.
-pub fn name_from(text: &[u8], at: usize) -> &[u8] {
-    let mut tokens = Tokens::new(text);
-    'reading: while let Found::Token(spot) = tokens.next() {
-        if spot.at >= at {
-            if let Token::Name(name) = spot.token {
-                return name;
-            }
-        }
-    }
-    &text[..0]
 }

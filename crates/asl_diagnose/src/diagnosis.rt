@@ -1,4 +1,4 @@
-//! What is told of a text that is refused.
+//! What is reported of a text that is refused.
 
 use crate::kind::TokenKind;
 use crate::most::Bringers;
@@ -17,7 +17,7 @@ pub enum Refusal {
     Asm(AsmFault),
 }
 
-/// What is told of a text that is refused.
+/// What is reported of a text that is refused.
 #[derive(Drop)]
 pub struct Diagnosis {
     /// Why it is refused.
@@ -28,7 +28,7 @@ pub struct Diagnosis {
     pub line: usize,
     /// The place in its line, in bytes from 1.
     pub column: usize,
-    /// For `Grammar` the kinds of token with which a program goes on there, else none.
+    /// For `Grammar` the kinds of token with which a program continues there, else none.
     pub expected: Vec<TokenKind>,
     /// For `Grammar` whether a program may end there.
     pub may_end: bool,

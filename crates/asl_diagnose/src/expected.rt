@@ -1,4 +1,4 @@
-//! The kinds of token with which a program goes on where a text stops being the beginning of one.
+//! The kinds of token with which a program continues where a text stops being the beginning of one.
 
 ghost use Rattle.std.specs.Prelude.{◌≡◌, ℕ, ◌↔◌, length, true, IfOk, IsTrue};
 ghost use Rattle.std.specs.List.{Contains};
@@ -10,13 +10,13 @@ ghost use Rattle.asl_diagnose.specs.WalkView.{walk_place, sample_of, is_accepted
 ghost use Rattle.asl_diagnose.specs.declared.kind.TokenKind.{TokenKind};
 
 use crate::kind::{ALL_KINDS, TokenKind};
-use crate::walk::Walk;
+use crate::token_walk::Walk;
 use asl_grammar::control::Control;
 use asl_grammar::lexer::{Found, Tokens};
 use asl_grammar::token::Token;
 use std::alloc::{AllocError, Global};
 
-/// With what a program goes on at a place.
+/// With what a program continues at a place.
 #[derive(Drop)]
 pub struct Expected {
     /// The kinds of token.
@@ -25,7 +25,7 @@ pub struct Expected {
     pub may_end: bool,
 }
 
-/// Behind the tokens of a text as far as they begin a program.
+/// After the tokens of a text as far as they begin a program.
 ///
 /// # Errors
 ///
@@ -54,7 +54,7 @@ fn sample(kind: TokenKind) -> Token<'static>
     }
 }
 
-/// The kinds of token with which a program goes on.
+/// The kinds of token with which a program continues.
 fn accepted(alloc: Global, walk: &Walk<'_>) -> Result<Vec<TokenKind>, AllocError>
     ensures { IfOk result (λ kinds. ListsAccepted (walk_place walk.now) kinds.items) }
 {
@@ -74,7 +74,7 @@ fn may_end(walk: &Walk<'_>) -> bool
     matches!(walk.control, Control::ItemStart)
 }
 
-/// With what a program goes on where a text stops being the beginning of one.
+/// With what a program continues where a text stops being the beginning of one.
 ///
 /// # Errors
 ///

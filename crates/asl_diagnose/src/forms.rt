@@ -1,6 +1,6 @@
 //! What a line of an assembly text may be.
 
-use crate::lines::{TextLines, first_word};
+use crate::text_lines::{TextLines, first_word};
 
 /// Which line comes next.
 #[derive(Clone, Copy, PartialEq, Eq)]
@@ -13,7 +13,7 @@ pub enum Turn {
     Locks,
 }
 
-/// Which line comes behind one with this first word.
+/// Which line comes after one with this first word.
 pub fn turn_behind(turn: Turn, word: &[u8]) -> Turn {
     match word {
         b"version" => Turn::Classes,

@@ -1,35 +1,44 @@
-//! A refusal as a compiler's user expects it: the line, the place in it, what may stand there, and how to go on.
+//! A refusal as a compiler's user expects it: the line, the place in it, what may stand there, and how to continue.
 #![tactic(auto)]
 
-mod assembly;
 mod assembly_hints;
+mod assembly_refusal;
 mod bytes;
-mod code;
+mod code_statement;
 mod declared;
 mod diagnosis;
 mod expected;
+mod fault_row;
 mod forms;
+mod function_head;
 mod grammar_hints;
+mod infer_hints;
+mod infer_place;
+mod item_hints;
 mod kind;
-mod limit;
-mod lines;
 mod listing;
 mod most;
-mod name;
+mod name_role;
 mod near;
+mod overfull;
+mod passed_limit;
 mod place;
+mod refusal_name;
+mod refusal_text;
 mod region_lines;
 mod sentence;
-mod size;
-mod source;
 mod source_hints;
-mod spelling;
+mod source_refusal;
+mod syntax_place;
+mod text_lines;
+mod token_walk;
 mod used;
-mod walk;
+mod value_hints;
+mod word_place;
 
-pub use assembly::diagnose_assembly;
+pub use assembly_refusal::diagnose_assembly;
 pub use diagnosis::{Diagnosis, Refusal};
 pub use kind::TokenKind;
 pub use most::Bringers;
-pub use source::diagnose_source;
-pub use spelling::{diagnosed, spell};
+pub use refusal_text::{diagnosed, spell};
+pub use source_refusal::diagnose_source;

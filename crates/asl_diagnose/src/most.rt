@@ -25,7 +25,7 @@ const DIVISIONS: usize = 5;
 pub struct Bringers {
     /// The place of the first of them.
     pub from: usize,
-    /// The place behind the last of them.
+    /// The place after the last of them.
     pub to: usize,
     /// How many there are.
     pub count: usize,

@@ -3,7 +3,7 @@
 ghost use Rattle.std.specs.Prelude.{◌≤◌, IfOk, IfSome};
 
 use crate::declared::Declares;
-use crate::used::{Before, Role};
+use crate::name_role::{Before, Role};
 use asl_grammar::lexer::{Found, Tokens};
 use asl_grammar::token::{Mark, Token};
 use std::alloc::{AllocError, Global};

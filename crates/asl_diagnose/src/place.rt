@@ -21,7 +21,7 @@ pub fn line(text: &[u8], at: usize) -> usize
     feeds + 1
 }
 
-/// Where the last line of some bytes begins: behind their last line feed, or at their front.
+/// Where the last line of some bytes begins: after their last line feed, or at their front.
 fn last_line(bytes: &[u8]) -> usize
     ensures { IsLineStart bytes.now result }
 {
@@ -34,7 +34,7 @@ fn last_line(bytes: &[u8]) -> usize
     start
 }
 
-/// Where the line of a place begins: behind the last line feed before it, or at the front of the text.
+/// Where the line of a place begins: after the last line feed before it, or at the front of the text.
 pub fn line_start(text: &[u8], at: usize) -> usize
     ensures { IsLineStart (take at text.now) result }
 {

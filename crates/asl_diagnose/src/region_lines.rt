@@ -1,6 +1,6 @@
 //! The assignments and the stores of a region, by the tokens of a text.
 
-use crate::declared::{Word, numbered};
+use crate::word_place::{Word, numbered};
 use asl_backward_flow::Region;
 use asl_grammar::lexer::{Found, Tokens};
 use asl_grammar::token::{Mark, Spot, Token};
@@ -11,9 +11,9 @@ use std::alloc::{AllocError, Global};
 pub struct Line {
     /// The place of its first byte.
     pub from: usize,
-    /// The place behind its semicolon.
+    /// The place after its semicolon.
     pub to: usize,
-    /// The place behind the `=` of an assignment, that of the `*` of a store.
+    /// The place after the `=` of an assignment, that of the `*` of a store.
     pub value: usize,
     pub is_store: bool,
 }

@@ -1,11 +1,14 @@
 //! The sentence of a refusal of a source.
 
 use crate::bytes::push_quoted;
-use crate::code::{code_len, statement_of};
-use crate::declared::{Declares, Word, declares_at, head_of, name_from, numbered, word_near};
+use crate::code_statement::{code_len, statement_of};
+use crate::declared::{Declares, declares_at};
+use crate::function_head::head_of;
 use crate::kind::mark_text;
-use crate::limit::limit_text;
-use crate::used::{Role, function_around, registers, role_at};
+use crate::name_role::{Role, role_at};
+use crate::passed_limit::limit_text;
+use crate::used::{function_around, registers};
+use crate::word_place::{Word, name_from, numbered, word_near};
 use asl_backward_flow::Region;
 use asl_emitter::InferFault;
 use asl_grammar::lexer::{Found, Tokens};
@@ -13,7 +16,7 @@ use asl_grammar::token::{Mark, Spot, Token};
 use asl_syntax::SyntaxFault;
 use std::alloc::{AllocError, Global};
 
-/// The first token that begins at a place or behind it.
+/// The first token that begins at a place or after it.
 pub fn next_token(text: &[u8], at: usize) -> Option<Spot<'_>> {
     let mut tokens = Tokens::new(text);
     'reading: while let Found::Token(spot) = tokens.next() {

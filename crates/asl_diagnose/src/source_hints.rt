@@ -1,23 +1,23 @@
 //! What helps against a refusal of a source, a line each.
 
 use crate::bytes::{push_bytes, push_quoted};
-use crate::code::{call_outside, statement_of};
-use crate::declared::{head_of, name_from};
 use crate::diagnosis::Diagnosis;
 use crate::expected::stop;
+use crate::function_head::head_of;
 use crate::grammar_hints::{Stop, grammar_hint};
 use crate::kind::{TokenKind, kind_text};
+use crate::name_role::{Role, role_at};
 use crate::near::nearest_name;
 use crate::place::{column, line};
-use crate::sentence::{function_name, next_token, plural};
-use crate::used::{Role, function_around, is_global, is_local_at, registers, role_at};
-use asl_emitter::InferFault;
+use crate::sentence::{next_token, plural};
+use crate::used::{is_global, is_local_at};
+use crate::word_place::name_from;
 use asl_grammar::recognizer::settled;
 use asl_syntax::SyntaxFault;
 use std::alloc::{AllocError, Global};
 
 /// Adds a line, unless it is empty.
-fn push_hint(out: &mut String, hint: &str) -> Result<(), AllocError> {
+pub(crate) fn push_hint(out: &mut String, hint: &str) -> Result<(), AllocError> {
     if hint.is_empty() {
         return Ok(());
     }
@@ -26,7 +26,7 @@ fn push_hint(out: &mut String, hint: &str) -> Result<(), AllocError> {
 }
 
 /// Adds the line and the column of a place.
-fn push_place(out: &mut String, text: &[u8], at: usize) -> Result<(), AllocError> {
+pub(crate) fn push_place(out: &mut String, text: &[u8], at: usize) -> Result<(), AllocError> {
     let line = line(text, at);
     let column = column(text, at);
     write!(out, "{line}:{column}")
@@ -83,7 +83,7 @@ fn token_hint(text: &[u8], at: usize) -> &'static str {
     }
 }
 
-/// Adds the kinds of token with which a program goes on.
+/// Adds the kinds of token with which a program continues.
 fn push_expected(out: &mut String, told: &Diagnosis) -> Result<(), AllocError> {
     let kinds = told.expected.as_slice();
     if kinds.is_empty() {
@@ -220,7 +220,7 @@ fn push_head(out: &mut String, text: &[u8], name: &[u8]) -> Result<(), AllocErro
     out.push_str("\n")
 }
 
-/// From a function's name to the parenthesis behind its parameters.
+/// From a function's name to the parenthesis after its parameters.
 fn head_bytes(text: &[u8], at: usize) -> &[u8] {
     let rest = &text[at.min(text.len())..];
     let len = rest.iter().take_while(|byte| **byte != b')').count();
@@ -239,96 +239,4 @@ fn push_main_hints(out: &mut String, text: &[u8]) -> Result<(), AllocError> {
         out,
         "each thread runs `fn main(t) { .. return t; }`, where t is the number of the thread",
     )
-}
-
-/// Adds what helps where no lists are inferred for a program.
-pub fn push_infer_hints(
-    alloc: Global,
-    out: &mut String,
-    text: &[u8],
-    fault: InferFault,
-    told: &Diagnosis,
-) -> Result<(), AllocError> {
-    match fault {
-        InferFault::Registers(function) => {
-            let (locals, arguments) = registers(alloc, text, usize::from(function))?;
-            write!(
-                out,
-                "{locals} for its parameters and the names that it sets, {arguments} for the arguments of its longest call\n"
-            )
-        }
-        InferFault::AccessOutsideSection(function, _) => {
-            push_access_hints(alloc, out, text, usize::from(function))
-        }
-        InferFault::TooManyLocks(_) => {
-            push_bringers(out, text, told)?;
-            push_hint(out, "shorter paths are fewer: try a smaller K, as --k 0")
-        }
-        InferFault::CodeSize => push_size_hint(alloc, out, text),
-        InferFault::TooManyClasses | InferFault::OutOfMemory => Ok(()),
-    }
-}
-
-/// Adds where the first instruction that is too many stands.
-fn push_size_hint(alloc: Global, out: &mut String, text: &[u8]) -> Result<(), AllocError> {
-    let Some(at) = statement_of(alloc, text, 65_535)? else {
-        return Ok(());
-    };
-    out.push_str("the first instruction that is too many is of the statement at ")?;
-    push_place(out, text, at)?;
-    out.push_str("\n")
-}
-
-/// Adds which statements bring most of the locks of a region, if some do.
-fn push_bringers(out: &mut String, text: &[u8], told: &Diagnosis) -> Result<(), AllocError> {
-    let Some(found) = &told.bringers else {
-        return Ok(());
-    };
-    let first = line(text, found.from);
-    let last = line(text, found.to);
-    let left = found.left;
-    if found.count == 1 {
-        write!(out, "line {first} ")?;
-        push_quoted(out, line_bytes(text, found.from, found.to))?;
-        out.push_str(" brings most of them: without it ")?;
-    } else {
-        write!(
-            out,
-            "lines {first} to {last} bring most of them: without them "
-        )?;
-    }
-    let word = plural(left, "lock is", "locks are");
-    write!(out, "{left} {word} needed\n")
-}
-
-/// The bytes of a statement, without its semicolon.
-fn line_bytes(text: &[u8], from: usize, to: usize) -> &[u8] {
-    let (before, _) = text.split_at(to.saturating_sub(1).min(text.len()));
-    let (_, bytes) = before.split_at(from.min(before.len()));
-    bytes
-}
-
-/// Adds why the function of an access runs outside sections.
-fn push_access_hints(
-    alloc: Global,
-    out: &mut String,
-    text: &[u8],
-    function: usize,
-) -> Result<(), AllocError> {
-    let name = function_name(text, function);
-    if name == b"main".as_slice() {
-        return push_hint(
-            out,
-            "mark the statements that belong together by `atomic { .. }`",
-        );
-    }
-    if let Some(at) = call_outside(alloc, text, name)? {
-        push_quoted(out, name)?;
-        out.push_str(" is called outside sections at ")?;
-        push_place(out, text, at)?;
-        out.push_str(" in ")?;
-        push_quoted(out, function_around(text, at))?;
-        out.push_str("\n")?;
-    }
-    push_hint(out, "put the access, or that call, into `atomic { .. }`")
 }

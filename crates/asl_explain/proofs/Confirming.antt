@@ -12,18 +12,18 @@ use Rattle.asl_lock_expr.specs.Stores.{stores}
 use Rattle.asl_backward_flow.specs.declared.region.Region.TheVariants as variant
 use Rattle.asl_backward_flow.specs.Needed.{RegionNeeds, region_of}
 use Rattle.asl_backward_flow.proofs.Leasts.{needed_inside}
-use Rattle.asl_explain.specs.declared.analysis.Analysis.{Analysis}
-use Rattle.asl_explain.specs.declared.value.Step.{Step}
+use Rattle.asl_explain.specs.declared.explain_analysis.ExplainAnalysis.{ExplainAnalysis}
+use Rattle.asl_explain.specs.declared.explained_value.Step.{Step}
 use Rattle.asl_explain.specs.Chains.{Needs, StandsAt, IsEntry}
 use Rattle.asl_explain.specs.Analysed.{read, IsAnalysed}
 
 -- what a part of the flow says is needed
-pub needed_told : (a : Analysis) → IsAnalysed a → (r : Region) (place pc number : ℕ) (lock : Lock) (p : RegionNeeds) → slice_get a.flow place ≡ Some p → p.region ≡ r → slice_get p.locks number ≡ Some lock
+pub needed_told : (a : ExplainAnalysis) → IsAnalysed a → (r : Region) (place pc number : ℕ) (lock : Lock) (p : RegionNeeds) → slice_get a.flow place ≡ Some p → p.region ≡ r → slice_get p.locks number ≡ Some lock
     → ((k : ℕ) × (slice_get p.needs k ≡ Some (pc, number))) → Needs (read a) r pc lock
 needed_told a known r place pc number lock p at same own there = (known.tells r pc lock).0 (place, p, at, same, (number, there.0, there.1, own))
 
 -- the instruction at a pc at which a region needs a lock
-pub stands_here : (a : Analysis) (r : Region) (pc f : ℕ) (i : Instr) (lock : Lock) → Needs (read a) r pc lock → ((function q : ℕ) → IsIn a.lowering r function q → Some f ≡ Some function) → slice_get a.lowering.code pc ≡ Some i
+pub stands_here : (a : ExplainAnalysis) (r : Region) (pc f : ℕ) (i : Instr) (lock : Lock) → Needs (read a) r pc lock → ((function q : ℕ) → IsIn a.lowering r function q → Some f ≡ Some function) → slice_get a.lowering.code pc ≡ Some i
     → StandsAt (read a) r pc f i
 stands_here a r pc f i lock needed tells at =
     let is = needed_inside a.lowering a.classes (stores a.writes) a.k_limit r pc lock needed in
@@ -44,7 +44,7 @@ one_settled v [] n h = absurd h
 one_settled v (m ∷ ms) n h = ⊎_elim (λ k. (m, inl refl, k)) (λ k. let t = one_settled v ms n k in (t.0, inr t.1, t.2)) (one_either (settle v m) (flat_map (settle v) ms) n h)
 
 -- a lock at a callee's entry, which becomes the step's at the call
-pub entry_of : {E : Type 0} (a : Analysis) (before s : Step) (f to first callee params : ℕ) (i : Instr) → StandsAt (read a) (region_of s.region) s.pc f i → i ≡ instr.Call to first callee → before.region ≡ variant.Body callee
+pub entry_of : {E : Type 0} (a : ExplainAnalysis) (before s : Step) (f to first callee params : ℕ) (i : Instr) → StandsAt (read a) (region_of s.region) s.pc f i → i ≡ instr.Call to first callee → before.region ≡ variant.Body callee
     → (e : entry.Function) × (slice_get a.lowering.functions callee ≡ Some e) × (e.params ≡ params) × Needs (read a) (Body callee) (start_of a.lowering.functions callee) before.lock
     → (v : LinkContext) → v ≡ view a.classes (stores a.writes) a.k_limit f → (result : Result Bool E) → IfOk result (λ b. IsTrue b → IsOne (flat_map (settle v) (renamed first params before.lock)) s.lock)
     → IfOk result (λ b. IsTrue b → IsEntry (read a) before s)

@@ -13,8 +13,8 @@ use Rattle.asl_lock_expr.specs.Stores.{stores}
 use Rattle.asl_lock_expr.specs.Order.{AreInOrder}
 use Rattle.asl_backward_flow.specs.Needed.{IsTold}
 use Rattle.asl_emitter.proofs.Reducing.{one_of_more, more_of_one}
-use Rattle.asl_explain.specs.declared.analysis.Analysis.{Analysis}
-use Rattle.asl_explain.specs.declared.value.Ended.{Ended}
+use Rattle.asl_explain.specs.declared.explain_analysis.ExplainAnalysis.{ExplainAnalysis}
+use Rattle.asl_explain.specs.declared.explained_value.Ended.{Ended}
 use Rattle.asl_explain.specs.Chains.{Read, Needs, IsOn, IsDropped}
 use Rattle.asl_explain.specs.Explained.{IsEnding, IsEnded, AreEnded, AreAllEnded}
 use Rattle.asl_explain.specs.Analysed.{read, IsAnalysed, IsMadeAt, HasAdded, AreEndedBelow, AreEndedOf}
@@ -94,7 +94,7 @@ none_of v to cells site (Root effect) on = absurd on
 some_same : {X : Type 0} {x y : X} → Some x ≡ Some y → x ≡ y
 some_same e = cc
 
-module _ (a : Analysis) (number : ℕ) (s : Section) (there : slice_get a.lowering.sections number ≡ Some s) where
+module _ (a : ExplainAnalysis) (number : ℕ) (s : Section) (there : slice_get a.lowering.sections number ≡ Some s) where
   pub dropped : (pc to : ℕ) (l : Lock) → IsMadeAt (read a) s pc to → IsOn to l → Needs (read a) (Inside number) (suc pc) l → IsDropped (read a) number pc l
   dropped pc to l made on needed = record {
     function = s.function;

@@ -11,11 +11,11 @@ use Rattle.asl_soundness.specs.Coded.{classed}
 use Rattle.asl_emitter.specs.Inferred.{IsInferred}
 use Rattle.asl_emitter.specs.BuiltImage.{AreFitted}
 use Rattle.asl_emitter.proofs.Making.{made_inferred}
-use Rattle.asl_explain.specs.declared.analysis.Analysis.{Analysis}
-use Rattle.asl_explain.specs.declared.value.Listed.{Listed}
-use Rattle.asl_explain.specs.declared.value.Lists.{Lists}
-use Rattle.asl_explain.specs.declared.value.Lists.TheVariants.{Inferred, TooManyLocks}
-use Rattle.asl_explain.specs.declared.value.Explanation.{Explanation}
+use Rattle.asl_explain.specs.declared.explain_analysis.ExplainAnalysis.{ExplainAnalysis}
+use Rattle.asl_explain.specs.declared.explained_value.Listed.{Listed}
+use Rattle.asl_explain.specs.declared.explained_value.Lists.{Lists}
+use Rattle.asl_explain.specs.declared.explained_value.Lists.TheVariants.{Inferred, TooManyLocks}
+use Rattle.asl_explain.specs.declared.explained_value.Explanation.{Explanation}
 use Rattle.asl_explain.specs.Chains.{Read}
 use Rattle.asl_explain.specs.Explained.{AreExplained, AreListsAt, IsExplained, IsExplanation}
 use Rattle.asl_explain.specs.Told.{IsText}
@@ -64,7 +64,7 @@ explained_lists x lists sections many all image is = record {
   each = λ n s ls i d stands at one. let list = there sections lists n ls (all.count ∙ sym many) at in (all.each n s list.0 ls stands list.1 at).each i d one;
 }
 
-module _ (source : List ℕ) (k : ℕ) (a : Analysis) (of : IsOfSource source k a) where
+module _ (source : List ℕ) (k : ℕ) (a : ExplainAnalysis) (of : IsOfSource source k a) where
   lists_at : (k_limit : ℕ) (l : Lists) → AreFittedAt a.lowering a.classes k_limit l → AreListsAt of.tree k_limit l
   lists_at k_limit (Inferred lists) fitted =
       let flow = fitted.1 in (

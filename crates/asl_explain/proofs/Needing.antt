@@ -4,15 +4,15 @@ use Rattle.asl_code.specs.declared.lock.Lock.{Lock}
 use Rattle.asl_lower.specs.declared.section.Section.{Section}
 use Rattle.asl_lock_expr.specs.Links.{IsOne}
 use Rattle.asl_emitter.proofs.Reducing.{one_of_more, more_of_one}
-use Rattle.asl_explain.specs.declared.value.Need.{Need}
-use Rattle.asl_explain.specs.declared.value.Chain.{Chain}
-use Rattle.asl_explain.specs.declared.value.Listed.{Listed}
+use Rattle.asl_explain.specs.declared.explained_value.Need.{Need}
+use Rattle.asl_explain.specs.declared.explained_value.Chain.{Chain}
+use Rattle.asl_explain.specs.declared.explained_value.Listed.{Listed}
 use Rattle.asl_explain.specs.Chains.{Read, IsChain}
 use Rattle.asl_explain.specs.Explained.{AreChains, IsNeed, AreNeeds, IsOneOf, IsListed}
 use Rattle.asl_backward_flow.specs.Flows.{IsFlow}
 use Rattle.asl_emitter.specs.BuiltImage.{AreFitted}
-use Rattle.asl_explain.specs.declared.analysis.Analysis.{Analysis}
-use Rattle.asl_explain.specs.declared.value.Lists.TheVariants.{Inferred}
+use Rattle.asl_explain.specs.declared.explain_analysis.ExplainAnalysis.{ExplainAnalysis}
+use Rattle.asl_explain.specs.declared.explained_value.Lists.TheVariants.{Inferred}
 use Rattle.asl_explain.specs.Analysed.{IsAnalysed, AreListed, AreSections, AreFittedAt}
 use Rattle.asl_explain.proofs.Ends.{get_more, at_old, at_end, length_more, all_more, map_more}
 
@@ -85,6 +85,6 @@ sections_more x lists n s list old new ls is stands at all one = record {
         (subst (λ (xs : List Listed). AreListed x n s list xs) same one)))
 
 -- the lists that are fitted to the flow of an analysis are those of its length
-pub fitted_own : (a : Analysis) → IsAnalysed a → (k_limit : ℕ) (lists : List (List Lock)) → k_limit ≡ a.k_limit → AreFitted a.lowering a.classes a.flow (length a.lowering.sections) lists
+pub fitted_own : (a : ExplainAnalysis) → IsAnalysed a → (k_limit : ℕ) (lists : List (List Lock)) → k_limit ≡ a.k_limit → AreFitted a.lowering a.classes a.flow (length a.lowering.sections) lists
     → AreFittedAt a.lowering a.classes k_limit (Inferred lists)
 fitted_own a known k_limit lists same fitted = (a.flow, subst (λ n. IsFlow a.lowering a.classes n a.flow) (sym same) known.flow, fitted)

@@ -2,7 +2,7 @@
 use Rattle.std.proofs.Common.{◌≡◌, ◌+◌, ◌<◌, ◌≤◌, ℕ, zero, suc, List, [], ◌∷◌, ◌++◌, length, map, take, get_or, append_assoc, refl, sym, ap, ◌∙◌, subst, arith}
 use Rattle.std.specs.List.{flat_map}
 use Rattle.std.proofs.lemmas.List.{take_more, take_all}
-use Rattle.asl_explain.specs.declared.value.Listed.{Listed}
+use Rattle.asl_explain.specs.declared.explained_value.Listed.{Listed}
 use Rattle.asl_explain.specs.Told.{StandIn, section_words, count_words, lock_words, told_of, told_from}
 use Rattle.asl_explain.specs.Telling.{Tells}
 use Rattle.asl_explain.proofs.Ends.{map_more}
@@ -11,7 +11,7 @@ pub append_none : {X : Type 0} (xs : List X) → xs ++ [] ≡ xs
 append_none [] = refl
 append_none (x ∷ xs) = ap (λ ys. x ∷ ys) (append_none xs)
 
--- pieces that stand in a text stand in it with more before and behind it
+-- pieces that stand in a text stand in it with more before and after it
 stand_behind : (ps : List (List ℕ)) (old more : List ℕ) → StandIn ps more → StandIn ps (old ++ more)
 stand_behind [] old more h = tt
 stand_behind (p ∷ ps) old more h = (

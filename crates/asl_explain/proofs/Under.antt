@@ -1,4 +1,4 @@
--- The locks of a list that a lock stands over.
+-- The locks of a list that a lock covers.
 use Rattle.std.proofs.Common.{◌≡◌, ◌↔◌, ◌+◌, ◌<◌, ◌≤◌, ◌⊎◌, ⊎_elim, ℕ, List, [], ◌∷◌, ◌++◌, length, take, get_or, inl, inr, sym, ◌∙◌, subst}
 use Rattle.std.proofs.lemmas.List.{take_all}
 use Rattle.asl_code.specs.declared.lock.Lock.{Lock}

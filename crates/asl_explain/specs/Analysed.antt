@@ -1,4 +1,4 @@
--- Machinery of the proofs, not of the promise: what is known of an analysis (src/analysis.rt).
+-- Machinery of the proofs, not of the promise: what is known of an analysis (src/explain_analysis.rt).
 use Rattle.std.specs.Prelude.{◌≡◌, ◌↔◌, ◌<◌, ◌≤◌, ◌⊎◌, ℕ, List, length, map, Some, IfSome, slice_get}
 use Rattle.asl_code.specs.declared.instr.Instr.TheVariants.{New}
 use Rattle.asl_code.specs.declared.lock.Lock.{Lock}
@@ -13,30 +13,30 @@ use Rattle.asl_lock_expr.specs.Order.{AreInOrder}
 use Rattle.asl_lock_expr.specs.Stores.{stores}
 use Rattle.asl_lock_expr.specs.ClassOf.{TellsStores}
 use Rattle.asl_backward_flow.specs.Needed.{TellsNeeded, region_of}
-use Rattle.asl_explain.specs.declared.analysis.Analysis.{Analysis}
+use Rattle.asl_explain.specs.declared.explain_analysis.ExplainAnalysis.{ExplainAnalysis}
 use Rattle.asl_backward_flow.specs.Needed.{RegionNeeds}
 use Rattle.asl_backward_flow.specs.Flows.{IsFlow, IsOverfull}
 use Rattle.asl_emitter.specs.BuiltImage.{AreFitted}
-use Rattle.asl_explain.specs.declared.value.Listed.{Listed}
-use Rattle.asl_explain.specs.declared.value.Ended.{Ended}
-use Rattle.asl_explain.specs.declared.value.Lists.{Lists}
-use Rattle.asl_explain.specs.declared.value.Lists.TheVariants.{Inferred, TooManyLocks}
-use Rattle.asl_explain.specs.declared.value.Explanation.{Explanation}
+use Rattle.asl_explain.specs.declared.explained_value.Listed.{Listed}
+use Rattle.asl_explain.specs.declared.explained_value.Ended.{Ended}
+use Rattle.asl_explain.specs.declared.explained_value.Lists.{Lists}
+use Rattle.asl_explain.specs.declared.explained_value.Lists.TheVariants.{Inferred, TooManyLocks}
+use Rattle.asl_explain.specs.declared.explained_value.Explanation.{Explanation}
 use Rattle.asl_explain.specs.Chains.{Read}
 use Rattle.asl_explain.specs.Explained.{IsListed, IsEnding, AreEnded, AreAllEnded}
 
 -- what the needs of an analysis are read against
-abbrev pub read : Analysis → Read
+abbrev pub read : ExplainAnalysis → Read
 read a = record { lowered = a.lowering; classes = a.classes; stores = stores a.writes; k_limit = a.k_limit }
 
 -- its flow tells what is needed, and is that of its length; its sets tell where functions store to
-pub record IsAnalysed (a : Analysis) : Type 0 where
+pub record IsAnalysed (a : ExplainAnalysis) : Type 0 where
   pub short : a.k_limit ≤ 8
   pub written : TellsStores a.lowering a.classes (stores a.writes)
   pub tells : TellsNeeded a.lowering a.classes (stores a.writes) a.k_limit a.flow
   pub flow : IsFlow a.lowering a.classes a.k_limit a.flow
 
--- the locks of a section's list, in their order, with what each stands over
+-- the locks of a section's list, in their order, with what each covers
 pub record AreListed (x : Read) (section : ℕ) (is : Section) (list : List Lock) (ls : List Listed) : Type 0 where
   pub locks : map (λ (d : Listed). d.lock) ls ≡ list
   pub each : (n : ℕ) (d : Listed) → slice_get ls n ≡ Some d → IsListed x section is d
@@ -80,7 +80,7 @@ abbrev pub AreEachFitted : Lowered → Classed → List Lists → Type 0
 AreEachFitted l c all = (k_limit : ℕ) (lists : Lists) → slice_get all k_limit ≡ Some lists → AreFittedAt l c k_limit lists
 
 -- the explanation that is made of an analysis
-pub record IsMade (a : Analysis) (e : Explanation) : Type 0 where
+pub record IsMade (a : ExplainAnalysis) (e : Explanation) : Type 0 where
   pub lists : List (List Lock)
   pub fitted : AreFitted a.lowering a.classes a.flow (length a.lowering.sections) lists
   pub sections : AreSections (read a) lists (length a.lowering.sections) e.sections
@@ -89,7 +89,7 @@ pub record IsMade (a : Analysis) (e : Explanation) : Type 0 where
   pub each : (k_limit : ℕ) (l : Lists) → slice_get e.by_length k_limit ≡ Some l → AreFittedAt a.lowering a.classes k_limit l
 
 -- it is the analysis of the source's tree
-pub record IsOfSource (source : List ℕ) (k_limit : ℕ) (a : Analysis) : Type 0 where
+pub record IsOfSource (source : List ℕ) (k_limit : ℕ) (a : ExplainAnalysis) : Type 0 where
   pub tree : List Item
   pub parsed : Parses source tree
   pub lowers : IsLowering tree a.lowering

@@ -12,9 +12,9 @@ use Rattle.asl_lower.specs.Regions.{Region, Body, Inside, IsIn}
 use Rattle.asl_points_to.specs.Classes.{Classed}
 use Rattle.asl_lock_expr.specs.Links.{view, IsOne, link, settle, accesses, renamed, dereferenced}
 use Rattle.asl_backward_flow.specs.Needed.{Needed, region_of}
-use Rattle.asl_explain.specs.declared.value.Step.{Step}
-use Rattle.asl_explain.specs.declared.value.Why.{Why}
-use Rattle.asl_explain.specs.declared.value.Why.TheVariants.{Accessed, Linked, Entered, Dereferenced}
+use Rattle.asl_explain.specs.declared.explained_value.Step.{Step}
+use Rattle.asl_explain.specs.declared.explained_value.Why.{Why}
+use Rattle.asl_explain.specs.declared.explained_value.Why.TheVariants.{Accessed, Linked, Entered, Dereferenced}
 
 -- what needs are read against: the program, its classes, whether a function may store to a class, and how long a path may be
 pub record Read : Type 0 where

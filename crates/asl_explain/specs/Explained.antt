@@ -11,18 +11,18 @@ use Rattle.asl_lock_expr.specs.Order.{AreInOrder}
 use Rattle.asl_soundness.specs.Covering.{CoversLock}
 use Rattle.asl_emitter.specs.declared.fault.InferFault.TheVariants as infer
 use Rattle.asl_emitter.specs.Inferred.{Analysis, IsInferredFor}
-use Rattle.asl_emitter.specs.Refused.{IsAccepted, IsRefused as IsNotInferred}
+use Rattle.asl_emitter.specs.Refused.{IsAccepted, IsRefusedInference as IsNotInferred}
 use Rattle.asl_emitter.specs.Sources.{HasRefusedTree}
 use Rattle.asl_explain.specs.declared.fault.ExplainFault.{ExplainFault}
 use Rattle.asl_explain.specs.declared.fault.ExplainFault.TheVariants.{Source, Infer}
-use Rattle.asl_explain.specs.declared.value.Chain.{Chain}
-use Rattle.asl_explain.specs.declared.value.Need.{Need}
-use Rattle.asl_explain.specs.declared.value.Listed.{Listed}
-use Rattle.asl_explain.specs.declared.value.Ending.{Ending}
-use Rattle.asl_explain.specs.declared.value.Ended.{Ended}
-use Rattle.asl_explain.specs.declared.value.Lists.{Lists}
-use Rattle.asl_explain.specs.declared.value.Lists.TheVariants.{Inferred, TooManyLocks}
-use Rattle.asl_explain.specs.declared.value.Explanation.{Explanation}
+use Rattle.asl_explain.specs.declared.explained_value.Chain.{Chain}
+use Rattle.asl_explain.specs.declared.explained_value.Need.{Need}
+use Rattle.asl_explain.specs.declared.explained_value.Listed.{Listed}
+use Rattle.asl_explain.specs.declared.explained_value.Ending.{Ending}
+use Rattle.asl_explain.specs.declared.explained_value.Ended.{Ended}
+use Rattle.asl_explain.specs.declared.explained_value.Lists.{Lists}
+use Rattle.asl_explain.specs.declared.explained_value.Lists.TheVariants.{Inferred, TooManyLocks}
+use Rattle.asl_explain.specs.declared.explained_value.Explanation.{Explanation}
 use Rattle.asl_explain.specs.Chains.{Read, Needs, IsChain, IsDropped}
 
 -- each of the chains comes from an access to the lock at the section's start
@@ -41,12 +41,12 @@ AreNeeds x section is needs = (n : ℕ) (d : Need) → slice_get needs n ≡ Som
 abbrev pub IsOneOf : List Need → Lock → Type 0
 IsOneOf needs lock = (n : ℕ) × (d : Need) × (slice_get needs n ≡ Some d) × (d.lock ≡ lock)
 
--- under the lock stand the needs that it stands over, and no others
+-- under the lock stand the needs that it covers, and no others
 pub record IsListed (x : Read) (section : ℕ) (is : Section) (d : Listed) : Type 0 where
   pub needs : AreNeeds x section is d.needs
   pub under : (lock : Lock) → IsOneOf d.needs lock ↔ (Needs x (Inside section) (suc is.acquire) lock × CoversLock x.classes is.function d.lock lock)
 
--- the lists of the image, and under each lock what it stands over
+-- the lists of the image, and under each lock what it covers
 pub record AreExplained (x : Read) (image : Image) (sections : List (List Listed)) : Type 0 where
   pub lists : map (λ (ls : List Listed). map (λ (d : Listed). d.lock) ls) sections ≡ image.lists
   pub each : (section : ℕ) (is : Section) (ls : List Listed) (n : ℕ) (d : Listed) → slice_get x.lowered.sections section ≡ Some is → slice_get sections section ≡ Some ls →
@@ -57,7 +57,7 @@ pub record IsEnding (x : Read) (section : ℕ) (lock : Lock) (e : Ending) : Type
   pub chain : IsChain x section lock e.chain.steps
   pub dropped : IsDropped x section e.pc lock
 
--- the lock ends at a `new` of the section, and at the one that is told, if one is
+-- the lock ends at a `new` of the section, and at the one that is reported, if one is
 pub record IsEnded (x : Read) (section : ℕ) (e : Ended) : Type 0 where
   pub dropped : (pc : ℕ) × IsDropped x section pc e.lock
   pub told : IfSome e.ending (IsEnding x section e.lock)
@@ -104,6 +104,6 @@ pub record IsExplanation (source : List ℕ) (k_limit : ℕ) (e : Explanation) :
   pub explained : IsExplained tree k_limit e
 
 -- what each refusal says of the source
-abbrev pub IsRefused : List ℕ → ℕ → ExplainFault → Type 0
-IsRefused source k_limit (Source cause) = syntax.IsFault source cause
-IsRefused source k_limit (Infer cause) = HasRefusedTree source k_limit cause
+abbrev pub IsRefusedExplanation : List ℕ → ℕ → ExplainFault → Type 0
+IsRefusedExplanation source k_limit (Source cause) = syntax.IsFault source cause
+IsRefusedExplanation source k_limit (Infer cause) = HasRefusedTree source k_limit cause

@@ -6,11 +6,11 @@ ghost use Rattle.asl_explain.specs.Chains.{IsOn, IsDropped};
 ghost use Rattle.asl_explain.specs.Explained.{IsEnding, AreEnded, AreAllEnded};
 ghost use Rattle.asl_explain.specs.Analysed.{read, IsAnalysed, HasAdded, AreEndedOf};
 
-use crate::analysis::Analysis;
 use crate::confirm::{is_ending, is_on, made_at, made_inside};
+use crate::explain_analysis::ExplainAnalysis;
+use crate::explained_value::{Ended, Ending};
 use crate::links::copied;
 use crate::search::Searcher;
-use crate::value::{Ended, Ending};
 use asl_backward_flow::Region;
 use asl_code::{Items, Lock};
 use asl_lock_expr::add_in_order;
@@ -43,7 +43,7 @@ fn add_on(register: u8, all: &[Lock], locks: &mut Vec<Lock>) -> Result<(), Alloc
 /// Adds the locks that the section of a number needs after a `new` at the pc that sets the register on which they begin.
 fn add_ended(
     alloc: Global,
-    analysis: &Analysis,
+    analysis: &ExplainAnalysis,
     number: u16,
     section: Section,
     pc: u16,
@@ -67,7 +67,7 @@ fn add_ended(
 /// The locks that a section needs after a `new` of it that sets the register on which they begin, each once, in order.
 fn ended_locks(
     alloc: Global,
-    analysis: &Analysis,
+    analysis: &ExplainAnalysis,
     number: u16,
     section: Section,
 ) -> Result<Vec<Lock>, AllocError>
@@ -83,7 +83,11 @@ fn ended_locks(
 }
 
 /// The pcs of the `new` of a section.
-fn news_of(alloc: Global, analysis: &Analysis, section: Section) -> Result<Vec<u16>, AllocError> {
+fn news_of(
+    alloc: Global,
+    analysis: &ExplainAnalysis,
+    section: Section,
+) -> Result<Vec<u16>, AllocError> {
     let mut news = Vec::new(alloc);
     for pc in section.acquire..section.release {
         if made_at(analysis, pc).is_some() {
@@ -96,7 +100,7 @@ fn news_of(alloc: Global, analysis: &Analysis, section: Section) -> Result<Vec<u
 /// The `new` and the chain that a search found, if the chain comes to the lock after the `new`, and the lock ends there.
 fn confirmed_ending(
     alloc: Global,
-    analysis: &Analysis,
+    analysis: &ExplainAnalysis,
     number: u16,
     section: Section,
     lock: &Lock,
@@ -119,7 +123,7 @@ fn confirmed_ending(
 /// A lock that the section of a number needs after a `new`, with the cheapest chain that comes to it there, if a search finds one.
 fn find_ended(
     alloc: Global,
-    analysis: &Analysis,
+    analysis: &ExplainAnalysis,
     searcher: &mut Searcher,
     number: u16,
     section: Section,
@@ -142,7 +146,7 @@ fn find_ended(
 /// These locks, each with the cheapest chain that comes to it after a `new` of the section of a number, if a search finds one.
 fn all_ended(
     alloc: Global,
-    analysis: &Analysis,
+    analysis: &ExplainAnalysis,
     searcher: &mut Searcher,
     number: u16,
     section: Section,
@@ -163,7 +167,7 @@ fn all_ended(
 /// The locks that end at a `new` of the section of a number.
 fn ended_of(
     alloc: Global,
-    analysis: &Analysis,
+    analysis: &ExplainAnalysis,
     searcher: &mut Searcher,
     number: u16,
     section: Section,
@@ -180,7 +184,7 @@ fn ended_of(
 /// For each section the locks that end at a `new` of it.
 pub fn ended_of_sections(
     alloc: Global,
-    analysis: &Analysis,
+    analysis: &ExplainAnalysis,
     searcher: &mut Searcher,
 ) -> Result<Items<Items<Ended>>, AllocError>
     requires { IsAnalysed analysis.now }

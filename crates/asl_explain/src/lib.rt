@@ -1,23 +1,25 @@
 //! Why the lists of a program are as they are: each lock with the statements that need it, and how it came to the section's start.
 #![tactic(auto)]
 
-mod analysis;
 mod confirm;
+mod confirm_step;
 mod ended;
 mod events;
+mod explain_analysis;
+mod explained_source;
+mod explained_text;
+mod explained_value;
 mod fault;
 mod links;
+mod lists_by_length;
+mod lock_words;
 mod making;
 mod notes;
-mod places;
+mod region_table;
 mod search;
-mod source;
-mod table;
-mod telling;
+mod source_places;
 mod text;
-mod value;
-mod words;
 
+pub use explained_source::{explain, explained};
+pub use explained_value::{Chain, Ended, Ending, Explanation, Listed, Lists, Need, Step, Why};
 pub use fault::ExplainFault;
-pub use source::{explain, explained};
-pub use value::{Chain, Ended, Ending, Explanation, Listed, Lists, Need, Step, Why};

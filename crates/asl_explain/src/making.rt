@@ -1,22 +1,21 @@
 //! Why the lists of a program are as they are.
-ghost use Rattle.std.specs.Prelude.{◌≡◌, ◌≤◌, ◌↔◌, ℕ, suc, Some, IfOk, OnOk, IsTrue, length, slice_get};
+ghost use Rattle.std.specs.Prelude.{◌≡◌, ◌↔◌, suc, IfOk, IsTrue, length};
 ghost use Rattle.asl_code.specs.declared.lock.Lock.{Lock as AnyLock};
 ghost use Rattle.asl_lower.specs.Regions.{Inside};
 ghost use Rattle.asl_lock_expr.specs.Links.{IsOne};
 ghost use Rattle.asl_soundness.specs.Covering.{CoversLock};
-ghost use Rattle.asl_explain.specs.declared.value.Lists.{Lists as AnyLists};
-ghost use Rattle.asl_explain.specs.declared.value.Lists.TheVariants.{Inferred};
 ghost use Rattle.asl_explain.specs.Chains.{Needs};
 ghost use Rattle.asl_explain.specs.Explained.{AreChains, AreNeeds, IsListed, IsOneOf};
-ghost use Rattle.asl_explain.specs.Analysed.{read, IsAnalysed, AreListed, AreSections, AreEachFitted, AreFittedAt, IsMade};
+ghost use Rattle.asl_explain.specs.Analysed.{read, IsAnalysed, AreListed, AreSections, IsMade};
 
-use crate::analysis::Analysis;
 use crate::confirm::is_chain;
 use crate::ended::ended_of_sections;
+use crate::explain_analysis::ExplainAnalysis;
+use crate::explained_value::{Chain, Explanation, Listed, Need};
 use crate::links::copied;
+use crate::lists_by_length::by_length;
 use crate::search::Searcher;
-use crate::value::{Chain, Explanation, Listed, Lists, Need};
-use asl_backward_flow::{FlowFault, Region, needed};
+use asl_backward_flow::Region;
 use asl_code::{Items, Lock};
 use asl_emitter::{covers, lists, suffices_for};
 use asl_lower::Section;
@@ -26,7 +25,7 @@ use std::alloc::{AllocError, Global};
 /// Those of the chains that come to a lock at the section's start: all, as far as a search is right.
 fn confirmed(
     alloc: Global,
-    analysis: &Analysis,
+    analysis: &ExplainAnalysis,
     section: u16,
     lock: &Lock,
     found: Vec<Chain>,
@@ -43,7 +42,7 @@ fn confirmed(
     Ok(Items::from_vec(chains))
 }
 
-/// Whether the first lock stands over the second in a function.
+/// Whether the first lock covers the second in a function.
 fn covers_lock(classes: &Classes, function: u16, lock: &Lock, other: &Lock) -> bool
     ensures { IsTrue result ↔ CoversLock classes.now function lock.now other.now }
 {
@@ -53,7 +52,7 @@ fn covers_lock(classes: &Classes, function: u16, lock: &Lock, other: &Lock) -> b
     }
 }
 
-/// Those of the locks that a lock stands over, in their order.
+/// Those of the locks that a lock covers, in their order.
 fn under(
     alloc: Global,
     classes: &Classes,
@@ -75,7 +74,7 @@ fn under(
 /// A lock with the chains that come to it at the section's start.
 fn find_need(
     alloc: Global,
-    analysis: &Analysis,
+    analysis: &ExplainAnalysis,
     searcher: &mut Searcher,
     number: u16,
     section: Section,
@@ -95,7 +94,7 @@ fn find_need(
 /// The locks, each with the chains that come to it at the section's start.
 fn needs_of(
     alloc: Global,
-    analysis: &Analysis,
+    analysis: &ExplainAnalysis,
     searcher: &mut Searcher,
     number: u16,
     section: Section,
@@ -116,7 +115,7 @@ fn needs_of(
 /// A lock of the list of a section, which needs all these at its start.
 fn list_lock(
     alloc: Global,
-    analysis: &Analysis,
+    analysis: &ExplainAnalysis,
     searcher: &mut Searcher,
     number: u16,
     section: Section,
@@ -138,7 +137,7 @@ fn list_lock(
 /// The locks of the list of a section, which needs all these at its start.
 fn all_listed(
     alloc: Global,
-    analysis: &Analysis,
+    analysis: &ExplainAnalysis,
     searcher: &mut Searcher,
     number: u16,
     section: Section,
@@ -159,7 +158,7 @@ fn all_listed(
 /// The locks of the list of a section.
 fn explained_section(
     alloc: Global,
-    analysis: &Analysis,
+    analysis: &ExplainAnalysis,
     searcher: &mut Searcher,
     number: u16,
     section: Section,
@@ -176,7 +175,7 @@ fn explained_section(
 /// For each section the locks of its list.
 fn explained_sections(
     alloc: Global,
-    analysis: &Analysis,
+    analysis: &ExplainAnalysis,
     searcher: &mut Searcher,
     lists: &[Items<Lock>],
 ) -> Result<Items<Items<Listed>>, AllocError>
@@ -193,62 +192,8 @@ fn explained_sections(
     Ok(Items::from_vec(sections))
 }
 
-/// The lists with paths of at most so many operations.
-fn lists_at(alloc: Global, analysis: &Analysis, k_limit: u32) -> Result<Lists, AllocError>
-    requires analysed { IsAnalysed analysis.now }
-    requires short { k_limit ≤ 8 }
-    ensures { IfOk result (AreFittedAt analysis.now.lowering analysis.now.classes k_limit) }
-{
-    let (lowering, classes) = (&analysis.lowering, &analysis.classes);
-    match needed(alloc, lowering, classes, k_limit) {
-        Ok(flow) => Ok(Lists::Inferred(lists(alloc, lowering, classes, &flow)?)),
-        Err(FlowFault::TooManyLocks(region)) => Ok(Lists::TooManyLocks(region)),
-        Err(FlowFault::OutOfMemory) => Err(AllocError),
-    }
-}
-
-/// Adds the lists with paths of at most so many operations, for each number from the first up to the last, which is left out.
-fn add_lists(
-    alloc: Global,
-    analysis: &Analysis,
-    first: u32,
-    last: u32,
-    by_length: &mut Vec<Lists>,
-) -> Result<(), AllocError>
-    requires analysed { IsAnalysed analysis.now }
-    requires order { first ≤ last }
-    requires short { last ≤ 9 }
-    requires count { length by_length.old.items ≡ first }
-    requires each { AreEachFitted analysis.now.lowering analysis.now.classes by_length.old.items }
-    ensures count { OnOk result (length by_length.new.items ≡ last) }
-    ensures each { OnOk result (AreEachFitted analysis.now.lowering analysis.now.classes by_length.new.items) }
-{
-    for k_limit in first..last {
-        by_length.push(lists_at(alloc, analysis, k_limit)?)?;
-    }
-    Ok(())
-}
-
-/// The lists with paths of at most 0 to 8 operations; those of as many as the analysis has are at hand.
-fn by_length(
-    alloc: Global,
-    analysis: &Analysis,
-    own: Items<Items<Lock>>,
-) -> Result<Items<Lists>, AllocError>
-    requires analysed { IsAnalysed analysis.now }
-    requires own { AreFittedAt analysis.now.lowering analysis.now.classes analysis.now.k_limit (Inferred own) }
-    ensures count { IfOk result (λ lists. length lists ≡ 9) }
-    ensures each { IfOk result (AreEachFitted analysis.now.lowering analysis.now.classes) }
-{
-    let mut by_length = Vec::new(alloc);
-    add_lists(alloc, analysis, 0, analysis.k_limit, &mut by_length)?;
-    by_length.push(Lists::Inferred(own))?;
-    add_lists(alloc, analysis, analysis.k_limit + 1, 9, &mut by_length)?;
-    Ok(Items::from_vec(by_length))
-}
-
 /// Why the lists of a program are as they are.
-pub fn explanation_of(alloc: Global, analysis: &Analysis) -> Result<Explanation, AllocError>
+pub fn explanation_of(alloc: Global, analysis: &ExplainAnalysis) -> Result<Explanation, AllocError>
     requires { IsAnalysed analysis.now }
     ensures { IfOk result (IsMade analysis.now) }
 {

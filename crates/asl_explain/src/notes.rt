@@ -1,9 +1,9 @@
 //! Why a lock changes at a step, in words.
 
+use crate::explained_value::{Step, Why};
 use crate::links::front_of;
+use crate::lock_words::cell;
 use crate::text::Teller;
-use crate::value::{Step, Why};
-use crate::words::cell;
 use asl_backward_flow::Region;
 use asl_code::{Base, Expr, Instr, Lock, Op};
 use asl_lock_expr::class_of;

@@ -3,15 +3,15 @@ ghost use Rattle.asl_explain.specs.Analysed.{IsAnalysed};
 
 mod chains;
 mod point;
+mod points;
 mod ways;
 
-use crate::analysis::Analysis;
 use crate::confirm::{is_on, made_at};
 use crate::events::{Events, find_events};
-use crate::links::is_accessed;
-use crate::search::point::{Point, lock_of, narrow, needed_point, point_of};
-use crate::table::{Table, make_table};
-use crate::value::{Chain, Ending, Why};
+use crate::explain_analysis::ExplainAnalysis;
+use crate::explained_value::{Chain, Ending, Why};
+use crate::region_table::{RegionTable, make_table};
+use crate::search::point::{Point, narrow, needed_point};
 use asl_backward_flow::Region;
 use asl_code::Lock;
 use asl_lower::Section;
@@ -43,7 +43,7 @@ pub(crate) struct Access {
 
 /// One search.
 #[derive(Drop)]
-pub(crate) struct Search {
+pub(crate) struct LockSearch {
     waiting: BTreeMap<Waiting, Option<usize>>,
     seen: HashSet<Point>,
     changes: Vec<Change>,
@@ -59,12 +59,12 @@ pub struct Searcher {
     /// For each function the place of its body in the flow, if it is an inner function.
     bodies: Vec<Option<u16>>,
     /// The tables of the regions that a search came to, by their places in the flow.
-    tables: Vec<Option<Table>>,
+    tables: Vec<Option<RegionTable>>,
 }
 
 /// The search of a point.
-fn search_from(alloc: Global) -> Search {
-    Search {
+fn search_from(alloc: Global) -> LockSearch {
+    LockSearch {
         waiting: BTreeMap::new(alloc),
         seen: HashSet::new(alloc),
         changes: Vec::new(alloc),
@@ -75,7 +75,7 @@ fn search_from(alloc: Global) -> Search {
 
 impl Searcher {
     /// The searcher of a program.
-    pub fn new(alloc: Global, analysis: &Analysis) -> Result<Searcher, AllocError> {
+    pub fn new(alloc: Global, analysis: &ExplainAnalysis) -> Result<Searcher, AllocError> {
         let mut bodies = Vec::new(alloc);
         let mut function = 0;
         for _ in analysis.lowering.functions() {
@@ -93,7 +93,7 @@ impl Searcher {
     /// The chains of a lock that the section of a number needs at its start, one for each statement that needs it, the cheapest first.
     pub fn chains(
         &mut self,
-        analysis: &Analysis,
+        analysis: &ExplainAnalysis,
         number: u16,
         section: Section,
         lock: &Lock,
@@ -117,7 +117,7 @@ impl Searcher {
     /// lock begins, if there is such a chain: `news` has the pcs of the section's `new`.
     pub fn ending(
         &mut self,
-        analysis: &Analysis,
+        analysis: &ExplainAnalysis,
         number: u16,
         section: Section,
         news: &[u16],
@@ -138,8 +138,8 @@ impl Searcher {
     /// Puts a lock among those that wait after each of these `new` that sets the register on which the lock begins.
     fn wait_after_all(
         &self,
-        analysis: &Analysis,
-        search: &mut Search,
+        analysis: &ExplainAnalysis,
+        search: &mut LockSearch,
         place: u16,
         news: &[u16],
         lock: &Lock,
@@ -157,8 +157,8 @@ impl Searcher {
     /// Puts a lock among those that wait if the region at a place needs it after the `new` at a pc, which is noted as its last change.
     fn wait_after(
         &self,
-        analysis: &Analysis,
-        search: &mut Search,
+        analysis: &ExplainAnalysis,
+        search: &mut LockSearch,
         place: u16,
         pc: u16,
         lock: &Lock,
@@ -179,28 +179,7 @@ impl Searcher {
         self.wait(analysis, search, to, 0, 0, Some(last))
     }
 
-    /// Looks at the points that wait until so many statements are found.
-    fn go_on(
-        &mut self,
-        analysis: &Analysis,
-        search: &mut Search,
-        most: usize,
-    ) -> Result<(), AllocError>
-        requires { IsAnalysed analysis.now }
-    {
-        for _ in 0..u64::MAX {
-            if search.accesses.len() >= most {
-                break;
-            }
-            let Some((waiting, last)) = search.waiting.pop_first() else {
-                break;
-            };
-            self.look_at(analysis, search, waiting, last)?;
-        }
-        Ok(())
-    }
-
-    fn table_of(&self, place: u16) -> Option<&Table> {
+    fn table_of(&self, place: u16) -> Option<&RegionTable> {
         match self.tables.get(usize::from(place)) {
             Some(Some(table)) => Some(table),
             _ => None,
@@ -210,7 +189,7 @@ impl Searcher {
     /// Sees to it that there is a table of the region at a place.
     fn prepare(
         &mut self,
-        analysis: &Analysis,
+        analysis: &ExplainAnalysis,
         place: u16,
         region: Region,
         function: u16,
@@ -232,103 +211,6 @@ impl Searcher {
         )?;
         if let Some(slot) = self.tables.get_mut(usize::from(place)) {
             *slot = Some(new);
-        }
-        Ok(())
-    }
-
-    /// Puts the next point at which something may happen to a lock among those that wait.
-    fn wait(
-        &self,
-        analysis: &Analysis,
-        search: &mut Search,
-        from: Point,
-        changes: u32,
-        instructions: u32,
-        last: Option<usize>,
-    ) -> Result<(), AllocError> {
-        let (Some(table), Some(lock)) = (self.table_of(from.place), lock_of(analysis, from)) else {
-            return Ok(());
-        };
-        let Some(pc) = self
-            .events
-            .next(analysis.lowering.code(), table.function, lock, from.pc)
-        else {
-            return Ok(());
-        };
-        let number = usize::from(from.number);
-        let Some(point) = point_of(analysis, from.place, pc, number) else {
-            return Ok(());
-        };
-        if search.seen.contains(&point) {
-            return Ok(());
-        }
-        let passed = u32::from(pc.saturating_sub(from.pc));
-        let waiting = Waiting {
-            changes,
-            instructions: instructions.saturating_add(passed),
-            point,
-        };
-        if !search.waiting.contains_key(&waiting) {
-            search.waiting.insert(waiting, last)?;
-        }
-        Ok(())
-    }
-
-    /// Looks where a point leads.
-    fn look_at(
-        &mut self,
-        analysis: &Analysis,
-        search: &mut Search,
-        waiting: Waiting,
-        last: Option<usize>,
-    ) -> Result<(), AllocError>
-        requires { IsAnalysed analysis.now }
-    {
-        let point = waiting.point;
-        if !search.seen.insert(point)? {
-            return Ok(());
-        }
-        self.enter(analysis, point)?;
-        self.note_access(analysis, search, point, last)?;
-        let ways = self.ways(analysis, point)?;
-        for way in ways {
-            let mut changes = waiting.changes;
-            let mut newest = last;
-            if let Some(why) = way.why {
-                changes = changes.saturating_add(1);
-                newest = Some(search.changes.len());
-                search.changes.push(Change {
-                    point,
-                    why,
-                    earlier: last,
-                })?;
-            }
-            let instructions = waiting.instructions.saturating_add(1);
-            self.wait(analysis, search, way.to, changes, instructions, newest)?;
-        }
-        Ok(())
-    }
-
-    /// Notes the statement of a point, if it needs the point's lock itself and is not noted yet.
-    fn note_access(
-        &self,
-        analysis: &Analysis,
-        search: &mut Search,
-        point: Point,
-        last: Option<usize>,
-    ) -> Result<(), AllocError>
-        requires { IsAnalysed analysis.now }
-    {
-        let (Some(table), Some(lock)) = (self.table_of(point.place), lock_of(analysis, point))
-        else {
-            return Ok(());
-        };
-        let Some(instr) = analysis.lowering.code().get(usize::from(point.pc)) else {
-            return Ok(());
-        };
-        let view = analysis.view(table.function);
-        if is_accessed(self.alloc, &view, instr, lock)? && search.statements.insert(point.pc)? {
-            search.accesses.push(Access { point, last })?;
         }
         Ok(())
     }

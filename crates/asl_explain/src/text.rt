@@ -4,10 +4,10 @@ mod chains;
 mod classes;
 mod lists;
 
-use crate::analysis::Analysis;
-use crate::places::Places;
-use crate::value::{Ended, Ending, Explanation, Listed};
-use crate::words::lock_words;
+use crate::explain_analysis::ExplainAnalysis;
+use crate::explained_value::{Ended, Ending, Explanation, Listed};
+use crate::lock_words::lock_words;
+use crate::source_places::Places;
 use asl_backward_flow::Region;
 use asl_code::{Base, Lock};
 use asl_lower::Section;
@@ -20,13 +20,13 @@ const MAX_NAMED: usize = 8;
 /// What stands in place of the line and the statement of an instruction.
 const NO_PLACE: &str = "                                       ";
 
-/// What is written of: the analysis of a source with its names and places, and how much is told.
+/// What is written of: the analysis of a source with its names and places, and how much is reported.
 #[derive(Clone, Copy)]
 pub struct Teller<'a> {
     pub alloc: Global,
-    pub analysis: &'a Analysis,
+    pub analysis: &'a ExplainAnalysis,
     pub places: &'a Places<'a>,
-    /// Whether every chain is told.
+    /// Whether every chain is reported.
     pub all: bool,
 }
 
@@ -46,7 +46,7 @@ fn pad(text: &mut String, from: usize, width: usize) -> Result<(), AllocError> {
     pad_behind(text, len, width)
 }
 
-/// Adds blanks behind something so long, until both are so wide; one at least.
+/// Adds blanks after something so long, until both are so wide; one at least.
 fn pad_behind(text: &mut String, len: usize, width: usize) -> Result<(), AllocError> {
     for _ in len..width {
         text.push_str(" ")?;
@@ -111,7 +111,7 @@ impl Teller<'_> {
         Ok(text)
     }
 
-    /// What comes behind the locks of a section.
+    /// What comes after the locks of a section.
     pub fn rest_of_section(
         &self,
         number: usize,

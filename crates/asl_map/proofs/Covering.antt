@@ -12,8 +12,8 @@ use Rattle.asl_lower.specs.Names.{scope_of}
 use Rattle.asl_lower.specs.Place.{Place, origin, next, entered, past_block, past_stmt, past_else, past_function, past_functions}
 use Rattle.asl_lower.specs.Lowered.{Lowered, IsLoweredStmt, IsLoweredBlock, IsLoweredElse, AreLoweredFunctions}
 use Rattle.asl_map.specs.declared.map.Map.{Map}
-use Rattle.asl_map.specs.declared.piece.Kind.TheVariants as kind
-use Rattle.asl_map.specs.declared.piece.Piece.{Piece}
+use Rattle.asl_map.specs.declared.text_piece.Kind.TheVariants as kind
+use Rattle.asl_map.specs.declared.text_piece.Piece.{Piece}
 use Rattle.asl_map.specs.Pieces.{piece, behind}
 use Rattle.asl_map.specs.Placed.{head_of, IsPlacedStmt, IsPlacedBlock, IsPlacedElse, ArePlaced}
 use Rattle.asl_map.specs.Origin.{IsFunctionAt, Stands, Body, Later, OfIf, OfElse, OfWhile, OfAtomic, IsOwn, IsOfStatement, IsOfReturn}
@@ -86,7 +86,7 @@ mutual
         | inr past ↦ block_comes t number f b (behind (stmt_on s []) ss) (past_stmt (stmt_meaning s) p) pc (Later s b ss p st) lo.1 at.1 past high
       ]
 
-  -- behind the first block of an `if`
+  -- after the first block of an `if`
   else_comes : (t : About) (number : ℕ) (f : Function) (x : List ℕ) (a : w.Block) (e : w.Else) (b : w.Block) (ss : List Spot) (p : Place) (pc : ℕ) → Here t number f (w.IfStmt x a e) b ss p
       → IsPlacedElse t.pieces e (behind (block_on a []) (drop 3 ss)) (past_block (block_meaning a) (next p))
       → IsLoweredElse (scope_of t.items number f) t.lowered (else_meaning e) (past_block (block_meaning a) (next p))

@@ -16,9 +16,9 @@ use Rattle.asl_lower.proofs.Sized.{block_sized, functions_sized}
 use Rattle.asl_lower.proofs.Slices.{StandAt, splits, stands_whole}
 use Rattle.asl_points_to.specs.Classes.{Classed, AreClasses}
 use Rattle.asl_map.specs.declared.map.Map.{Map}
-use Rattle.asl_map.specs.declared.piece.Kind.TheVariants as kind
-use Rattle.asl_map.specs.declared.piece.Named.{Named}
-use Rattle.asl_map.specs.declared.piece.Piece.{Piece}
+use Rattle.asl_map.specs.declared.text_piece.Kind.TheVariants as kind
+use Rattle.asl_map.specs.declared.text_piece.Named.{Named}
+use Rattle.asl_map.specs.declared.text_piece.Piece.{Piece}
 use Rattle.asl_map.specs.Pieces.{first_place, piece, behind}
 use Rattle.asl_map.specs.Taken.{past_end, piece_of}
 use Rattle.asl_map.specs.Placed.{head_of, IsPlacedBlock, IsPlacedFunction, ArePlaced}
@@ -35,7 +35,7 @@ abbrev front : w.Function → List Token
 front f =
     Fixed mark.Fn ∷ Name f.name ∷ Fixed mark.OpenParen ∷ names_on f.parameters (Fixed mark.CloseParen ∷ [])
 
--- what stands behind the body
+-- what stands after the body
 abbrev tail : w.Function → List Token → List Token
 tail f rest =
     Fixed mark.Return ∷ Name f.returned ∷ Fixed mark.Semicolon ∷ Fixed mark.CloseBrace ∷ rest

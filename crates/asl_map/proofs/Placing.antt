@@ -13,9 +13,9 @@ use Rattle.asl_lower.specs.Place.{Place, next, entered, past_block, past_stmt}
 use Rattle.asl_lower.specs.Size.{stmt_size, block_size, else_size}
 use Rattle.asl_lower.proofs.Sized.{stmt_sized, block_sized}
 use Rattle.asl_lower.proofs.Slices.{StandAt, splits}
-use Rattle.asl_map.specs.declared.piece.Kind.{Kind}
-use Rattle.asl_map.specs.declared.piece.Kind.TheVariants as kind
-use Rattle.asl_map.specs.declared.piece.Piece.{Piece}
+use Rattle.asl_map.specs.declared.text_piece.Kind.{Kind}
+use Rattle.asl_map.specs.declared.text_piece.Kind.TheVariants as kind
+use Rattle.asl_map.specs.declared.text_piece.Piece.{Piece}
 use Rattle.asl_map.specs.Pieces.{first_place, piece, behind}
 use Rattle.asl_map.specs.Taken.{past_end, piece_of, brace_of}
 use Rattle.asl_map.specs.Walked.{stmt_rest, block_rest, stmt_pieces, block_pieces, else_pieces}

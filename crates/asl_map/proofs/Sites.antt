@@ -8,8 +8,8 @@ use Rattle.asl_code.specs.declared.instr.Instr.TheVariants as instr
 use Rattle.asl_lower.specs.Lowered.{Lowered}
 use Rattle.asl_lower.specs.Region.{is_new, sites_before}
 use Rattle.asl_lower.specs.Facts.{IsNumbered}
-use Rattle.asl_map.specs.declared.piece.Area.{Area}
-use Rattle.asl_map.specs.declared.piece.Piece.{Piece}
+use Rattle.asl_map.specs.declared.text_piece.Area.{Area}
+use Rattle.asl_map.specs.declared.text_piece.Piece.{Piece}
 use Rattle.asl_map.specs.Areas.{area_at}
 
 pub record Found (l : Lowered) (pieces : List Piece) (pc : ℕ) (areas : List Area) : Type 0 where

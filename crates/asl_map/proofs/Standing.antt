@@ -1,4 +1,4 @@
--- Where in a text a statement ends: the walk finds the tokens behind those that the grammar gives it.
+-- Where in a text a statement ends: the walk finds the tokens after those that the grammar gives it.
 use Rattle.std.proofs.Common.{◌≡◌, ℕ, suc, ◌+◌, Bool, true, false, cond, List, [], ◌∷◌, ◌++◌, length, drop, refl, sym, ap, ◌∙◌, subst, arith, length-append, drop-drop}
 use Rattle.asl_grammar.specs.declared.token.Mark.TheVariants as mark
 use Rattle.asl_grammar.specs.declared.control.Operator.TheVariants.{Add, Subtract, IsLess, IsEqual}
@@ -160,7 +160,7 @@ block_no_else (w.More s b) ts none = stmt_no_else s (block_on b ts)
 
 -- ---- what is left
 
--- what is left is what stands behind so many tokens, and begins with these
+-- what is left is what stands after so many tokens, and begins with these
 pub record Left (n : ℕ) (ts : List Token) (ss rest : List Spot) : Type 0 where
   pub behind : rest ≡ drop n ss
   pub tokens : bare rest ≡ ts
@@ -245,7 +245,7 @@ mutual
       let others = block_left b ts (stmt_rest (stmt_meaning s) ss) none first.tokens in
       left_more (length (stmt_on s [])) (length (block_on b [])) (length (block_on (w.More s b) [])) us ts ss (stmt_rest (stmt_meaning s) ss) _ (omega (arith, stmt_count s (block_on b []))) first others
 
-  -- behind the first block of an `if`, its brace first
+  -- after the first block of an `if`, its brace first
   pub else_left : (y : w.Else) (ts : List Token) (ss : List Spot) → starts_else ts ≡ false → bare ss ≡ Fixed mark.CloseBrace ∷ else_on y ts → Left (suc (length (else_on y []))) ts ss (else_rest (else_meaning y) ss)
   else_left w.NoElse ts ss none e =
       let brace = drop_one (Fixed mark.CloseBrace) ts ss e in

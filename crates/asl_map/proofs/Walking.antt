@@ -3,8 +3,8 @@ use Rattle.std.proofs.Common.{◌≡◌, ℕ, zero, suc, ◌+◌, ◌<◌, List,
 use Rattle.asl_grammar.specs.Token.{Spot}
 use Rattle.asl_syntax.specs.declared.tree.Statement as tree
 use Rattle.asl_syntax.specs.View.{block_of}
-use Rattle.asl_map.specs.declared.piece.Kind.TheVariants as kind
-use Rattle.asl_map.specs.declared.piece.Piece.{Piece}
+use Rattle.asl_map.specs.declared.text_piece.Kind.TheVariants as kind
+use Rattle.asl_map.specs.declared.text_piece.Piece.{Piece}
 use Rattle.asl_map.specs.Taken.{past_end, brace_of}
 use Rattle.asl_map.specs.Walked.{block_pieces, block_rest, else_pieces, else_rest}
 

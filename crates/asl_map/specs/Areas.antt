@@ -5,17 +5,17 @@ use Rattle.asl_code.specs.declared.instr.Instr.TheVariants as instr
 use Rattle.asl_lower.specs.declared.section.Section.{Section}
 use Rattle.asl_lower.specs.Lowered.{Lowered}
 use Rattle.asl_lower.specs.Region.{owner_of}
-use Rattle.asl_map.specs.declared.piece.Area.{Area}
-use Rattle.asl_map.specs.declared.piece.Piece.{Piece}
+use Rattle.asl_map.specs.declared.text_piece.Area.{Area}
+use Rattle.asl_map.specs.declared.text_piece.Piece.{Piece}
 
--- the places from which on and behind which the piece of an instruction stands
+-- the places from which on and after which the piece of an instruction stands
 abbrev pub from_at : List Piece → ℕ → ℕ
 from_at pieces pc = option_map_or (λ (x : Piece). x.from) (slice_get pieces pc) 0
 
 abbrev pub to_at : List Piece → ℕ → ℕ
 to_at pieces pc = option_map_or (λ (x : Piece). x.to) (slice_get pieces pc) 0
 
--- from the `atomic` of a section to behind its last brace
+-- from the `atomic` of a section to after its last brace
 abbrev pub section_area : List Piece → Section → Area
 section_area pieces s = record { function = s.function; from = from_at pieces s.acquire; to = to_at pieces s.release }
 

@@ -54,10 +54,10 @@ pub record IsMapText (source text : List ℕ) : Type 0 where
   pub spelled : text ≡ map_text is
 
 -- why a source has no map; where memory is wanting for the map itself, the source has a lowering and its classes
-abbrev pub IsRefused : List ℕ → MapFault → Type 0
-IsRefused source (fault.Source cause) = syntax.IsFault source cause
-IsRefused source (fault.Lower cause) = (tree : List Item) × Parses source tree × lower.IsRefused tree cause
-IsRefused source (fault.Classes cause) =
-    (tree : List Item) × (l : Lowered) × Parses source tree × IsLowering tree l × points.IsRefused l cause
-IsRefused source fault.OutOfMemory =
+abbrev pub IsRefusedMapping : List ℕ → MapFault → Type 0
+IsRefusedMapping source (fault.Source cause) = syntax.IsFault source cause
+IsRefusedMapping source (fault.Lower cause) = (tree : List Item) × Parses source tree × lower.IsRefusedLowering tree cause
+IsRefusedMapping source (fault.Classes cause) =
+    (tree : List Item) × (l : Lowered) × Parses source tree × IsLowering tree l × points.IsRefusedClasses l cause
+IsRefusedMapping source fault.OutOfMemory =
     (tree : List Item) × (l : Lowered) × (c : Classed) × Parses source tree × IsLowering tree l × AreClasses l c

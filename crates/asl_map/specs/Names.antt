@@ -2,7 +2,7 @@
 use Rattle.std.specs.Prelude.{ℕ, List, Option, option_map, option_and_then, slice_get, Vec}
 use Rattle.std.specs.declared.alloc.Global.{Global}
 use Rattle.asl_map.specs.declared.map.Map.{Map}
-use Rattle.asl_map.specs.declared.piece.Named.{Named}
+use Rattle.asl_map.specs.declared.text_piece.Named.{Named}
 
 -- the name of a function
 abbrev pub function_name : Map → ℕ → Option (List ℕ)

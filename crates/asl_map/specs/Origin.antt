@@ -9,8 +9,8 @@ use Rattle.asl_syntax.specs.Spelled.{line_meaning, stmt_meaning, block_meaning, 
 use Rattle.asl_lower.specs.Names.{scope_of, register}
 use Rattle.asl_lower.specs.Place.{Place, origin, next, entered, past_block, past_stmt, past_function}
 use Rattle.asl_lower.specs.Lowered.{Lowered, Has, IsLoweredStmt}
-use Rattle.asl_map.specs.declared.piece.Kind.TheVariants as kind
-use Rattle.asl_map.specs.declared.piece.Piece.{Piece}
+use Rattle.asl_map.specs.declared.text_piece.Kind.TheVariants as kind
+use Rattle.asl_map.specs.declared.text_piece.Piece.{Piece}
 use Rattle.asl_map.specs.Pieces.{piece, behind}
 use Rattle.asl_map.specs.Placed.{head_of}
 
@@ -22,7 +22,7 @@ IsFunctionAt (w.GlobalItem x ∷ is) ss p f ts q = IsFunctionAt is (drop 3 ss) p
 IsFunctionAt (w.FunctionItem g ∷ is) ss p f ts q =
     ((f ≡ g) × (ts ≡ ss) × (q ≡ p)) ⊎ IsFunctionAt is (behind (function_on g []) ss) (past_function (function_meaning g) p) f ts q
 
--- a block of the program, or what is left of one behind some of its statements, stands at the tokens, and its code begins at the
+-- a block of the program, or what is left of one after some of its statements, stands at the tokens, and its code begins at the
 -- place
 pub data Stands (program : List w.Item) (text : List Spot) : w.Block → List Spot → Place → Type 0 where
   Body : (f : w.Function) (ss : List Spot) (p : Place) → IsFunctionAt program text origin f ss p → Stands program text f.body (behind (head_of f) ss) p
@@ -34,7 +34,7 @@ pub data Stands (program : List w.Item) (text : List Spot) : w.Block → List Sp
   OfAtomic : (a b : w.Block) (ss : List Spot) (p : Place) → Stands program text (w.More (w.AtomicStmt a) b) ss p → Stands program text a (drop 2 ss) (entered p)
 
 -- the statement stands at the tokens, and its code begins at the place: the instruction at the pc is its own, and of no statement in
--- it, and the piece is the statement, or what stands before its block, or the brace behind it
+-- it, and the piece is the statement, or what stands before its block, or the brace after it
 abbrev pub IsOwn : w.Stmt → List Spot → Place → ℕ → Piece → Type 0
 IsOwn (w.Simple l) ss p pc x =
     (p.pc ≤ pc) × (pc < (past_stmt (line_meaning l) p).pc) × (x ≡ piece kind.Line (length (line_on l []) + 1) ss)

@@ -1,6 +1,6 @@
 -- Where in the text the code of a program comes from (docs/SOURCE.md, "The map"). Each statement stands at its tokens, and its code begins
 -- at its place, as specs/Lowered of asl_lower puts it there; its instructions have the piece of text that is the statement, or what
--- stands before its block, or the brace behind it.
+-- stands before its block, or the brace after it.
 use Rattle.std.specs.Prelude.{◌≡◌, ℕ, suc, ◌+◌, ◌-◌, ◌<◌, ◌≤◌, List, [], ◌∷◌, length, drop, Some, slice_get}
 use Rattle.asl_grammar.specs.declared.token.Mark.TheVariants as mark
 use Rattle.asl_grammar.specs.Token.{Token, Fixed, Name, Spot}
@@ -9,8 +9,8 @@ use Rattle.asl_grammar.specs.Spelling.{names_on, line_on, stmt_on, block_on, fun
 use Rattle.asl_syntax.specs.Spelled.{line_meaning, stmt_meaning, block_meaning, function_meaning}
 use Rattle.asl_lower.specs.Place.{Place, next, entered, past_block, past_stmt, past_function}
 use Rattle.asl_map.specs.declared.map.Map.{Map}
-use Rattle.asl_map.specs.declared.piece.Kind.TheVariants as kind
-use Rattle.asl_map.specs.declared.piece.Piece.{Piece}
+use Rattle.asl_map.specs.declared.text_piece.Kind.TheVariants as kind
+use Rattle.asl_map.specs.declared.text_piece.Piece.{Piece}
 use Rattle.asl_map.specs.Pieces.{first_place, piece, behind}
 
 -- the instruction at the place has the piece
@@ -57,7 +57,7 @@ abbrev pub head_of : w.Function → List Token
 head_of f =
     Fixed mark.Fn ∷ Name f.name ∷ Fixed mark.OpenParen ∷ names_on f.parameters (Fixed mark.CloseParen ∷ Fixed mark.OpenBrace ∷ [])
 
--- the function has its name and stands from its `fn` to behind its last brace; its body has its pieces, and its `ret` the whole
+-- the function has its name and stands from its `fn` to after its last brace; its body has its pieces, and its `ret` the whole
 -- `return x;`
 pub record IsPlacedFunction (m : Map) (number : ℕ) (f : w.Function) (ss : List Spot) (p : Place) : Type 0 where
   pub stands : slice_get m.functions.items number ≡ Some (record { name = f.name; from = first_place ss; to = first_place (drop (length (function_on f []) - 1) ss) + 1 })

@@ -6,8 +6,8 @@ use Rattle.asl_grammar.specs.declared.token.Mark.TheVariants as mark
 use Rattle.asl_grammar.specs.Token.{Token, Fixed, Spot}
 use Rattle.asl_grammar.specs.View.{spot_of}
 use Rattle.asl_grammar.specs.Reader.{spots_left, bytes_left}
-use Rattle.asl_map.specs.declared.piece.Kind.{Kind}
-use Rattle.asl_map.specs.declared.piece.Piece.{Piece}
+use Rattle.asl_map.specs.declared.text_piece.Kind.{Kind}
+use Rattle.asl_map.specs.declared.text_piece.Piece.{Piece}
 use Rattle.asl_map.specs.Pieces.{first_place}
 
 -- a semicolon or an opening brace
@@ -16,12 +16,12 @@ is_end (Fixed mark.Semicolon) = true
 is_end (Fixed mark.OpenBrace) = true
 is_end _ = false
 
--- the place behind the first of these, 0 where there is none
+-- the place after the first of these, 0 where there is none
 abbrev pub end_place : List Spot → ℕ
 end_place [] = 0
 end_place (s ∷ ss) = if is_end s.token then s.at + 1 else end_place ss
 
--- the tokens behind it
+-- the tokens after it
 abbrev pub past_end : List Spot → List Spot
 past_end [] = []
 past_end (s ∷ ss) = if is_end s.token then ss else past_end ss

@@ -3,11 +3,11 @@ use Rattle.std.specs.Prelude.{ℕ, zero, suc, List, [], ◌∷◌, ◌++◌, Boo
 use Rattle.std.specs.Fmt.{decimal}
 use Rattle.std.specs.declared.alloc.Global.{Global}
 use Rattle.asl_map.specs.declared.map.Map.{Map}
-use Rattle.asl_map.specs.declared.piece.Kind.{Kind}
-use Rattle.asl_map.specs.declared.piece.Kind.TheVariants as kind
-use Rattle.asl_map.specs.declared.piece.Piece.{Piece}
-use Rattle.asl_map.specs.declared.piece.Area.{Area}
-use Rattle.asl_map.specs.declared.piece.Named.{Named}
+use Rattle.asl_map.specs.declared.text_piece.Kind.{Kind}
+use Rattle.asl_map.specs.declared.text_piece.Kind.TheVariants as kind
+use Rattle.asl_map.specs.declared.text_piece.Piece.{Piece}
+use Rattle.asl_map.specs.declared.text_piece.Area.{Area}
+use Rattle.asl_map.specs.declared.text_piece.Named.{Named}
 
 -- a text for each, where they are numbered from the first number on
 abbrev pub numbered : {A : Type 0} → (ℕ → A → List ℕ) → ℕ → List A → List ℕ

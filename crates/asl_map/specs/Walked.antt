@@ -1,22 +1,22 @@
 -- Machinery of the proofs, not of the promise: the pieces of all instructions of a program and where its functions stand, as
--- src/walk.rt finds them. What contracts promise is specs/Mapped.
+-- src/code_walk.rt finds them. What contracts promise is specs/Mapped.
 use Rattle.std.specs.Prelude.{◌≡◌, ◌+◌, List, [], ◌∷◌, ◌++◌, drop, replicate, if◌then◌else◌}
 use Rattle.asl_grammar.specs.Token.{Spot}
 use Rattle.asl_grammar.specs.Reader.{spots_left}
 use Rattle.asl_syntax.specs.Tree.{Statement, AssignStatement, StoreStatement, OutStatement, IfStatement, WhileStatement, AtomicStatement, Block, NoMore, Then, Function, Item, GlobalItem, FunctionItem}
 use Rattle.asl_lower.specs.Size.{value_size}
-use Rattle.asl_map.specs.declared.piece.Kind.TheVariants as kind
-use Rattle.asl_map.specs.declared.piece.Piece.{Piece}
-use Rattle.asl_map.specs.declared.piece.Named.{Named}
-use Rattle.asl_map.specs.declared.walk.Walker.{Walker}
+use Rattle.asl_map.specs.declared.text_piece.Kind.TheVariants as kind
+use Rattle.asl_map.specs.declared.text_piece.Piece.{Piece}
+use Rattle.asl_map.specs.declared.text_piece.Named.{Named}
+use Rattle.asl_map.specs.declared.walker.Walker.{Walker}
 use Rattle.asl_map.specs.Pieces.{first_place}
 use Rattle.asl_map.specs.Taken.{past_end, piece_of, brace_of, is_else}
 
--- the tokens behind an empty `else`, if there is one
+-- the tokens after an empty `else`, if there is one
 abbrev pub past_no_else : List Spot → List Spot
 past_no_else ss = if is_else ss then drop 1 (past_end ss) else ss
 
--- the tokens behind a statement, a block, and what follows the first block of an `if`, the brace first
+-- the tokens after a statement, a block, and what follows the first block of an `if`, the brace first
 abbrev mutual
   pub stmt_rest : Statement → List Spot → List Spot
   stmt_rest (AssignStatement x v) ss = past_end ss
@@ -56,7 +56,7 @@ abbrev mutual
   else_pieces (Then s b) ss =
       brace_of kind.If ss ∷ (stmt_pieces s (past_end (drop 1 ss)) ++ block_pieces b (stmt_rest s (past_end (drop 1 ss))))
 
--- the tokens from the `return` of a function on, and behind its last brace
+-- the tokens from the `return` of a function on, and after its last brace
 abbrev pub return_rest : Function → List Spot → List Spot
 return_rest f ss = block_rest f.body (past_end ss)
 

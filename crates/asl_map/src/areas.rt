@@ -4,7 +4,7 @@ ghost use Rattle.std.specs.Prelude.{◌≡◌, map, IfOk};
 ghost use Rattle.asl_lower.specs.Region.{is_new};
 ghost use Rattle.asl_map.specs.Areas.{from_at, to_at, section_area, AreSites};
 
-use crate::piece::{Area, Piece};
+use crate::text_piece::{Area, Piece};
 use asl_code::Instr;
 use asl_lower::{Lowering, Section, numbers_follow_the_code};
 use std::alloc::{AllocError, Global};
@@ -19,7 +19,7 @@ fn from_at(pieces: &[Piece], pc: usize) -> usize
     }
 }
 
-/// The place behind the piece of an instruction.
+/// The place after the piece of an instruction.
 fn to_at(pieces: &[Piece], pc: usize) -> usize
     ensures { result ≡ to_at pieces.now pc }
 {
@@ -29,7 +29,7 @@ fn to_at(pieces: &[Piece], pc: usize) -> usize
     }
 }
 
-/// Where a section stands: from its `atomic` to behind its last brace.
+/// Where a section stands: from its `atomic` to after its last brace.
 fn section_area(pieces: &[Piece], section: &Section) -> Area
     ensures { result ≡ section_area pieces.now section.now }
 {

@@ -2,7 +2,7 @@
 ghost use Rattle.std.specs.Prelude.{◌≡◌, ℕ, ◌⊎◌, List, Some, slice_get};
 ghost use Rattle.asl_grammar.specs.Lex.{tokens_of};
 ghost use Rattle.asl_map.specs.declared.map.Map.{Map};
-ghost use Rattle.asl_map.specs.declared.piece.Piece.{Piece};
+ghost use Rattle.asl_map.specs.declared.text_piece.Piece.{Piece};
 ghost use Rattle.asl_map.specs.Mapped.{IsMapped};
 ghost use Rattle.asl_map.specs.Origin.{IsOfStatement, IsOfReturn};
 

@@ -2,21 +2,22 @@
 #![tactic(auto)]
 
 mod areas;
+mod code_walk;
 mod fault;
 mod laws;
-mod lines;
 mod map;
+mod map_lines;
+mod map_names;
+mod map_text;
 mod members;
-mod names;
-mod piece;
-mod reach;
-mod spelling;
-mod walk;
+mod run_functions;
+mod text_piece;
+mod walker;
 mod whole;
 
 pub use fault::MapFault;
 pub use laws::each_instruction_is_of_a_statement;
 pub use map::Map;
-pub use piece::{Area, Kind, Named, Piece};
-pub use spelling::spell;
+pub use map_text::spell;
+pub use text_piece::{Area, Kind, Named, Piece};
 pub use whole::{map_of, mapped};

@@ -1,6 +1,6 @@
 //! The map of a source.
 
-use crate::piece::{Area, Named, Piece};
+use crate::text_piece::{Area, Named, Piece};
 use asl_lower::Marks;
 use asl_syntax::Name;
 

@@ -6,16 +6,17 @@ ghost use Rattle.asl_syntax.specs.Parsed.{Parses};
 ghost use Rattle.asl_lower.specs.Lowered.{IsLowering};
 ghost use Rattle.asl_points_to.specs.Classes.{AreClasses};
 ghost use Rattle.asl_map.specs.BuiltMap.{IsMade};
-ghost use Rattle.asl_map.specs.Mapped.{IsMapped, IsMapText, IsRefused};
+ghost use Rattle.asl_map.specs.Mapped.{IsMapped, IsMapText, IsRefusedMapping};
 
 use crate::areas::{section_areas, site_areas};
+use crate::code_walk::walk_items;
 use crate::fault::MapFault;
 use crate::map::Map;
+use crate::map_names::{global_names, register_names};
+use crate::map_text::spell;
 use crate::members::{global_classes, site_classes};
-use crate::names::{global_names, register_names};
-use crate::reach::reached;
-use crate::spelling::spell;
-use crate::walk::{Walker, walk_items};
+use crate::run_functions::reached;
+use crate::walker::Walker;
 use asl_grammar::lexer::Tokens;
 use asl_lower::{Lowering, lower};
 use asl_points_to::{Classes, classes};
@@ -58,10 +59,10 @@ fn made(
 ///
 /// # Errors
 ///
-/// The first fault of the text, of its lowering and of its classes, in this order; `OutOfMemory` where a growth was refused.
+/// The first fault of the text, of its lowering and of its classes, in this order; `OutOfMemory` where an allocation failed.
 pub fn map_of(alloc: Global, source: &[u8]) -> Result<Map, MapFault>
     ensures mapped { IfOk result (IsMapped source.now) }
-    ensures refused { IfErr result (IsRefused source.now) }
+    ensures refused { IfErr result (IsRefusedMapping source.now) }
 {
     let ast = match parse(alloc, source) {
         Ok(ast) => ast,
@@ -85,7 +86,7 @@ pub fn map_of(alloc: Global, source: &[u8]) -> Result<Map, MapFault>
 /// Those of `map_of`.
 pub fn mapped(alloc: Global, source: &[u8]) -> Result<String, MapFault>
     ensures mapped { IfOk result (λ text. IsMapText source.now (string_bytes text)) }
-    ensures refused { IfErr result (IsRefused source.now) }
+    ensures refused { IfErr result (IsRefusedMapping source.now) }
 {
     let map = map_of(alloc, source)?;
     Ok(spell(alloc, &map)?)

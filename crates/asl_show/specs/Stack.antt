@@ -9,7 +9,7 @@ use Rattle.asl_machine.specs.Frames.{frame_at, frame_reg_at, place_of}
 use Rattle.asl_show.specs.Replies.{value_text}
 use Rattle.asl_show.specs.Lines.{lines_from}
 
--- the line of a frame: its thread, its number from the top, its function, and where it goes on
+-- the line of a frame: its thread, its number from the top, its function, and where it continues
 abbrev pub frame_line : ℕ → ℕ → FramePlace → List ℕ
 frame_line t index f =
     codes "frame " ++ decimal t ++ codes " " ++ decimal index ++ codes " fn " ++ decimal f.function ++ codes " pc " ++ decimal f.pc ++ 10 ∷ []

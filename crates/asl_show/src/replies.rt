@@ -1,9 +1,11 @@
 //! Replies as text.
-ghost use Rattle.std.specs.Prelude.{◌≡◌, ◌++◌, OnOk, string_bytes};
+ghost use Rattle.std.specs.Prelude.{◌≡◌, ◌++◌, OnOk, codes, string_bytes};
+ghost use Rattle.std.specs.Fmt.{decimal};
 ghost use Rattle.asl_show.specs.Replies.{address_text, value_text, effect_text, access_text, fault_text, reply_text, step_line};
 
 use asl_code::{Cell, Effect, Value};
 use asl_machine::{Fault, Reply};
+use itoa::Buffer;
 use std::alloc::AllocError;
 
 /// Appends an address: the object, a point, the offset.
@@ -13,7 +15,7 @@ pub fn push_address(text: &mut String, object: u16, offset: u8) -> Result<(), Al
     write!(text, "{object}.{offset}")
 }
 
-/// Appends a value: its kind, and the number or the address behind it.
+/// Appends a value: its kind, and the number or the address after it.
 pub fn push_value(text: &mut String, value: Value) -> Result<(), AllocError>
     ensures { OnOk result (string_bytes text.new ≡ string_bytes text.old ++ value_text value) }
 {
@@ -94,7 +96,18 @@ pub fn push_line(
 ) -> Result<(), AllocError>
     ensures { OnOk result (string_bytes text.new ≡ string_bytes text.old ++ step_line number thread reply) }
 {
-    write!(text, "{number} {thread} ")?;
+    push_numbers(text, number, thread)?;
     push_reply(text, reply)?;
     text.push_str("\n")
+}
+
+/// Adds the number of a step and its thread, with a space after each.
+pub fn push_numbers(text: &mut String, number: usize, thread: u8) -> Result<(), AllocError>
+    ensures { OnOk result (string_bytes text.new ≡ string_bytes text.old ++ decimal number ++ codes " " ++ decimal thread ++ codes " ") }
+{
+    let mut digits = Buffer::new();
+    text.push_str(digits.format(number))?;
+    text.push_str(" ")?;
+    text.push_str(digits.format(thread))?;
+    text.push_str(" ")
 }

@@ -4,7 +4,7 @@ ghost use Rattle.asl_show.specs.Lines.{lines_from};
 ghost use Rattle.asl_show.specs.Stack.{frame_text, local_at, stack_of, stack_text};
 
 use crate::replies::push_value;
-use asl_code::limits::REGS;
+use asl_code::image_limits::REGS;
 use asl_machine::Machine;
 use std::alloc::AllocError;
 

@@ -3,7 +3,7 @@ ghost use Rattle.std.specs.Prelude.{◌≡◌, ◌<◌, ◌++◌, length, OnOk, 
 ghost use Rattle.asl_machine.specs.State.{activity_at};
 ghost use Rattle.asl_show.specs.Trace.{before_text, trace_line};
 
-use crate::replies::push_reply;
+use crate::replies::{push_numbers, push_reply};
 use asl_machine::{Machine, Reply};
 use std::alloc::AllocError;
 
@@ -19,7 +19,7 @@ pub fn push_trace_line(
     requires { thread < length machine.now.state.threads }
     ensures { OnOk result (string_bytes text.new ≡ string_bytes text.old ++ trace_line machine.now.state number thread reply) }
 {
-    write!(text, "{number} {thread} ")?;
+    push_numbers(text, number, thread)?;
     push_before(text, machine, u32::from(thread))?;
     text.push_str(" ")?;
     push_reply(text, reply)?;

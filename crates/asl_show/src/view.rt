@@ -7,7 +7,7 @@ ghost use Rattle.asl_show.specs.View.{fresh_line, fresh_text, holding_text, plac
 use crate::nodes::{About, push_nodes};
 use crate::objects::push_cells;
 use crate::replies::{push_fault, push_value};
-use asl_code::limits::REGS;
+use asl_code::image_limits::REGS;
 use asl_machine::{Machine, Status};
 use std::alloc::AllocError;
 

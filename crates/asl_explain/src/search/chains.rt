@@ -1,9 +1,9 @@
 //! The chains of a search, made of the changes on the way.
 
-use crate::analysis::Analysis;
+use crate::explain_analysis::ExplainAnalysis;
+use crate::explained_value::{Chain, Ending, Step, Why};
 use crate::search::point::{Point, lock_of};
-use crate::search::{Access, Search, Searcher};
-use crate::value::{Chain, Ending, Step, Why};
+use crate::search::{Access, LockSearch, Searcher};
 use asl_code::Items;
 use std::alloc::AllocError;
 
@@ -11,8 +11,8 @@ impl Searcher {
     /// The `new` and the chain of the first statement that was found.
     pub(crate) fn ending_of(
         &self,
-        analysis: &Analysis,
-        search: &Search,
+        analysis: &ExplainAnalysis,
+        search: &LockSearch,
     ) -> Result<Option<Ending>, AllocError> {
         let Some(access) = search.accesses.first() else {
             return Ok(None);
@@ -32,8 +32,8 @@ impl Searcher {
     /// The chains of the statements that were found.
     pub(crate) fn chains_of(
         &self,
-        analysis: &Analysis,
-        search: &Search,
+        analysis: &ExplainAnalysis,
+        search: &LockSearch,
     ) -> Result<Vec<Chain>, AllocError> {
         let mut chains = Vec::new(self.alloc);
         for access in &search.accesses {
@@ -48,8 +48,8 @@ impl Searcher {
     /// The steps of the chain of a statement.
     pub(crate) fn steps(
         &self,
-        analysis: &Analysis,
-        search: &Search,
+        analysis: &ExplainAnalysis,
+        search: &LockSearch,
         access: Access,
     ) -> Result<Vec<Step>, AllocError> {
         let mut steps = Vec::new(self.alloc);
@@ -71,7 +71,7 @@ impl Searcher {
     /// Adds a step with the lock of a point.
     pub(crate) fn add_step(
         &self,
-        analysis: &Analysis,
+        analysis: &ExplainAnalysis,
         point: Point,
         why: Why,
         steps: &mut Vec<Step>,

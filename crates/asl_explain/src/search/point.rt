@@ -1,6 +1,6 @@
 //! Locks that regions need, as points of a search: the place of the region in the flow, a pc, and the lock's number.
 
-use crate::analysis::Analysis;
+use crate::explain_analysis::ExplainAnalysis;
 use asl_code::Lock;
 
 /// A lock that the region at a place of the flow needs at a pc, by its number there.
@@ -22,13 +22,23 @@ pub(crate) fn narrow(place: Option<usize>) -> Option<u16> {
 }
 
 /// The point of a lock that the region at a place needs at a pc.
-pub(crate) fn needed_point(analysis: &Analysis, place: u16, pc: u16, lock: &Lock) -> Option<Point> {
+pub(crate) fn needed_point(
+    analysis: &ExplainAnalysis,
+    place: u16,
+    pc: u16,
+    lock: &Lock,
+) -> Option<Point> {
     let number = analysis.flow.number(usize::from(place), lock)?;
     point_of(analysis, place, pc, number)
 }
 
 /// The point of the lock of a number, if the region at a place needs it at a pc.
-pub(crate) fn point_of(analysis: &Analysis, place: u16, pc: u16, number: usize) -> Option<Point> {
+pub(crate) fn point_of(
+    analysis: &ExplainAnalysis,
+    place: u16,
+    pc: u16,
+    number: usize,
+) -> Option<Point> {
     if number < 65536
         && analysis
             .flow
@@ -45,7 +55,7 @@ pub(crate) fn point_of(analysis: &Analysis, place: u16, pc: u16, number: usize) 
 }
 
 /// The lock of a point.
-pub(crate) fn lock_of(analysis: &Analysis, point: Point) -> Option<&Lock> {
+pub(crate) fn lock_of(analysis: &ExplainAnalysis, point: Point) -> Option<&Lock> {
     analysis
         .flow
         .locks(usize::from(point.place))

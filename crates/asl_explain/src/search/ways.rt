@@ -3,12 +3,12 @@
 ghost use Rattle.std.specs.Prelude.{◌≤◌};
 ghost use Rattle.asl_explain.specs.Analysed.{IsAnalysed};
 
-use crate::analysis::Analysis;
+use crate::explain_analysis::ExplainAnalysis;
+use crate::explained_value::Why;
 use crate::links::{based_back, entered_back, is_kept, is_link};
+use crate::region_table::RegionTable;
 use crate::search::Searcher;
 use crate::search::point::{Point, lock_of, needed_point, point_of};
-use crate::table::Table;
-use crate::value::Why;
 use asl_backward_flow::Region;
 use asl_code::{Base, Instr, Lock};
 use asl_lock_expr::LinkContext;
@@ -23,7 +23,11 @@ pub(crate) struct Way {
 
 impl Searcher {
     /// Sees to it that there is a table of what is called at a point.
-    pub(crate) fn enter(&mut self, analysis: &Analysis, point: Point) -> Result<(), AllocError> {
+    pub(crate) fn enter(
+        &mut self,
+        analysis: &ExplainAnalysis,
+        point: Point,
+    ) -> Result<(), AllocError> {
         if let Some(Instr::Call { function, .. }) = analysis
             .lowering
             .code()
@@ -38,7 +42,11 @@ impl Searcher {
     }
 
     /// The ways on from a point.
-    pub(crate) fn ways(&self, analysis: &Analysis, point: Point) -> Result<Vec<Way>, AllocError>
+    pub(crate) fn ways(
+        &self,
+        analysis: &ExplainAnalysis,
+        point: Point,
+    ) -> Result<Vec<Way>, AllocError>
         requires { IsAnalysed analysis.now }
     {
         let mut ways = Vec::new(self.alloc);
@@ -64,8 +72,8 @@ impl Searcher {
     /// Adds the ways to the locks at the same pc whose evaluation reads the cell of the point's.
     pub(crate) fn add_longer(
         &self,
-        analysis: &Analysis,
-        table: &Table,
+        analysis: &ExplainAnalysis,
+        table: &RegionTable,
         point: Point,
         ways: &mut Vec<Way>,
     ) -> Result<(), AllocError> {
@@ -86,7 +94,7 @@ impl Searcher {
     /// Adds the way to the entry of the function that is called at a point.
     pub(crate) fn add_entry(
         &self,
-        analysis: &Analysis,
+        analysis: &ExplainAnalysis,
         instr: &Instr,
         point: Point,
         lock: &Lock,
@@ -121,10 +129,10 @@ impl Searcher {
     /// Adds the ways over an instruction to the locks after it that become the point's.
     pub(crate) fn add_linked(
         &self,
-        analysis: &Analysis,
+        analysis: &ExplainAnalysis,
         view: &LinkContext,
         instr: &Instr,
-        table: &Table,
+        table: &RegionTable,
         point: Point,
         lock: &Lock,
         next: u16,
@@ -170,7 +178,7 @@ impl Searcher {
     /// Adds the way over an instruction to another lock after it, if that is needed there and becomes the point's.
     pub(crate) fn add_changed(
         &self,
-        analysis: &Analysis,
+        analysis: &ExplainAnalysis,
         view: &LinkContext,
         instr: &Instr,
         point: Point,

@@ -1,8 +1,8 @@
 //! The lines of the chains under a lock.
 
+use crate::explained_value::{Chain, Listed, Need, Step, Why};
 use crate::notes::note_of;
 use crate::text::{MAX_NAMED, NO_PLACE, Teller, narrow, pad, pad_behind, plural, write_line};
-use crate::value::{Chain, Listed, Need, Step, Why};
 use asl_code::{Base, Lock};
 use std::alloc::{AllocError, Global};
 use std::fmt::Write;
@@ -43,7 +43,7 @@ pub(crate) fn push_left(text: &mut String, left: usize) -> Result<(), AllocError
     )
 }
 
-/// What a lock of a list stands over, itself first.
+/// What a lock of a list covers, itself first.
 pub(crate) fn ordered(alloc: Global, listed: &Listed) -> Result<Vec<&Need>, AllocError> {
     let mut needs = Vec::new(alloc);
     for need in listed.needs.as_slice() {
@@ -59,7 +59,7 @@ pub(crate) fn ordered(alloc: Global, listed: &Listed) -> Result<Vec<&Need>, Allo
     Ok(needs)
 }
 
-/// Whether a step is that of an argument, which is told with the instruction that sets the argument's register.
+/// Whether a step is that of an argument, which is reported with the instruction that sets the argument's register.
 pub(crate) fn is_argument(step: &Step) -> bool {
     match (step.why, &step.lock) {
         (Why::Entered, Lock::Expr(expr, _)) => match expr.base {

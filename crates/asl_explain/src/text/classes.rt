@@ -1,7 +1,7 @@
 //! Why expressions became classes, and what is in a class.
 
+use crate::explained_value::Listed;
 use crate::text::{MAX_NAMED, Teller, narrow, pad, pad_behind, plural};
-use crate::value::Listed;
 use asl_backward_flow::Region;
 use asl_code::{Instr, Lock};
 use asl_emitter::{MAX_LOCKS, reduce};
@@ -56,7 +56,7 @@ impl Teller<'_> {
         Ok(text)
     }
 
-    /// What comes behind the spelling of a lock of a list: what a class has, and the chains.
+    /// What comes after the spelling of a lock of a list: what a class has, and the chains.
     pub fn behind_spelling(&self, function: u16, listed: &Listed) -> Result<String, AllocError> {
         let mut text = String::new(self.alloc);
         match &listed.lock {
@@ -118,7 +118,7 @@ impl Teller<'_> {
         Ok(())
     }
 
-    /// Adds the first of these texts, or all of them if they are to be told.
+    /// Adds the first of these texts, or all of them if they are to be reported.
     pub(crate) fn push_named(&self, text: &mut String, names: &[String]) -> Result<(), AllocError> {
         let mut shown = names.len();
         if shown > MAX_NAMED && !self.all {

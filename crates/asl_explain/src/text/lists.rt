@@ -1,7 +1,7 @@
 //! The lists with paths of each length, those that are the same in one line.
 
+use crate::explained_value::{Explanation, Lists};
 use crate::text::{Teller, pad};
-use crate::value::{Explanation, Lists};
 use std::alloc::AllocError;
 use std::fmt::Write;
 

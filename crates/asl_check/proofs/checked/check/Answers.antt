@@ -8,7 +8,7 @@ use Rattle.asl_atomicity.specs.Renamed.{HasSerialRunsUpTo}
 use Rattle.asl_check.specs.declared.fault.CheckFault.TheVariants.{OtherCode}
 use Rattle.asl_check.specs.Checked.{AreGuarded}
 use Rattle.asl_check.specs.KnownLists.{AreCovered, IsUncovered, IsUnguarded}
-use Rattle.asl_check.specs.Refused.{IsChecked, IsRefused, IsOutOfMemory}
+use Rattle.asl_check.specs.Refused.{IsChecked, IsRefusedLists, IsOutOfMemory}
 use Rattle.asl_check.proofs.Covering.{covered_analysed, covered_sound}
 use Rattle.asl_check.proofs.Guarding.{guarded_serial, guarded_serial_up_to}
 use Rattle.asl_emitter.proofs.Outcomes.{accepted}
@@ -72,7 +72,7 @@ returns-clause-refused c =
     let a = c.in_ok-analysis.analysis in
     let e = c.in_ok-analysis.ensures in
     let covered = subst (λ (ls : List (List Lock)). AreCovered a.lowering a.classes a.flow ls (length a.lowering.sections)) c.lists-lists.ensures.lists c.in_ok-cover.ensures.covered in
-    IfErr-weaker c.guard.result (IsUnguarded a.lowering a.classes c.lists-lists.result.now) (IsRefused (tree_of c.args.ast.now) c.args.k c.args.program.now)
+    IfErr-weaker c.guard.result (IsUnguarded a.lowering a.classes c.lists-lists.result.now) (IsRefusedLists (tree_of c.args.ast.now) c.args.k c.args.program.now)
     (λ x h. is_unguarded (tree_of c.args.ast.now) a.lowering a.classes c.args.k a.flow e.lowering e.classes e.flow e.accepted c.args.program.now c.in_default.ensures covered x
     (subst (λ (ls : List (List Lock)). IsUnguarded a.lowering a.classes ls x) c.lists-lists.ensures.lists h)) c.guard.ensures.unguarded
 
@@ -88,12 +88,12 @@ returns-in-Some-clause-inferred c = λ accept h.
 
 pub returns-in_err-cover-clause-inferred : goal.returns-in_err-cover-clause-inferred
 returns-in_err-cover-clause-inferred c = λ accept h.
-    IfErr-weaker c.from_residual-in_err-cover.result (IsRefused (tree_of c.args.ast.now) c.args.k c.args.program.now) IsOutOfMemory
+    IfErr-weaker c.from_residual-in_err-cover.result (IsRefusedLists (tree_of c.args.ast.now) c.args.k c.args.program.now) IsOutOfMemory
     (λ x r. only_memory (tree_of c.args.ast.now) c.in_ok-analysis.analysis.lowering c.args.k c.args.program.now c.in_ok-analysis.ensures.lowering c.in_ok-analysis.ensures.kept accept h x r)
     (returns-in_err-cover-clause-refused c)
 
 pub returns-clause-inferred : goal.returns-clause-inferred
 returns-clause-inferred c = λ accept h.
-    IfErr-weaker c.guard.result (IsRefused (tree_of c.args.ast.now) c.args.k c.args.program.now) IsOutOfMemory
+    IfErr-weaker c.guard.result (IsRefusedLists (tree_of c.args.ast.now) c.args.k c.args.program.now) IsOutOfMemory
     (λ x r. only_memory (tree_of c.args.ast.now) c.in_ok-analysis.analysis.lowering c.args.k c.args.program.now c.in_ok-analysis.ensures.lowering c.in_ok-analysis.ensures.kept accept h x r)
     (returns-clause-refused c)

@@ -1,4 +1,4 @@
--- what is left stands behind the tokens that were read, which lead to the place
+-- what is left stands after the tokens that were read, which lead to the place
 use Rattle.asl_grammar.specs.Lex.{tokens_of}
 use Rattle.asl_grammar.specs.Reader.{bytes_left, spots_left}
 use Rattle.asl_grammar.proofs.Deepening.{IsBehind}

@@ -1,5 +1,5 @@
 use Rattle.std.proofs.Common.{◌≡◌, ◌<◌, ℕ, suc, Some, slice_get}
-use Rattle.asl_explain.specs.declared.value.Step.{Step}
+use Rattle.asl_explain.specs.declared.explained_value.Step.{Step}
 use Rattle.asl_explain.specs.Chains.{Follows}
 use Rattle.asl_explain.specs.Analysed.{read}
 use Rattle.asl_explain.proofs.confirm.all_follow.Given as goal

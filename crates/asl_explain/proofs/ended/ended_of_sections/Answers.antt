@@ -2,7 +2,7 @@ use Rattle.std.proofs.Common.{◌≡◌, List, Some, length, slice_get, get_or, 
 use Rattle.std.proofs.lemmas.Option.{slice_get-get_or}
 use Rattle.asl_lower.specs.declared.section.Section.{Section}
 use Rattle.asl_lower.proofs.Layouts.{kept_layout}
-use Rattle.asl_explain.specs.declared.value.Ended.{Ended}
+use Rattle.asl_explain.specs.declared.explained_value.Ended.{Ended}
 use Rattle.asl_explain.specs.Analysed.{read}
 use Rattle.asl_explain.specs.Explained.{AreAllEnded}
 use Rattle.asl_explain.proofs.Dropping.{below_more, below_all}

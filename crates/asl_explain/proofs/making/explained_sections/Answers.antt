@@ -2,7 +2,7 @@ use Rattle.std.proofs.Common.{◌≡◌, List, Some, length, slice_get, get_or, 
 use Rattle.std.proofs.lemmas.Option.{slice_get-get_or, slice_get_read}
 use Rattle.asl_lower.specs.declared.section.Section.{Section}
 use Rattle.asl_lower.proofs.Layouts.{kept_layout}
-use Rattle.asl_explain.specs.declared.value.Listed.{Listed}
+use Rattle.asl_explain.specs.declared.explained_value.Listed.{Listed}
 use Rattle.asl_explain.specs.Analysed.{read, AreSections}
 use Rattle.asl_explain.proofs.Needing.{sections_more}
 use Rattle.asl_explain.proofs.making.explained_sections.Goals as goal

@@ -1,5 +1,5 @@
 use Rattle.std.proofs.Common.{◌∙◌, ap, Vec, Global, arith}
-use Rattle.asl_map.specs.declared.piece.Area.{Area}
+use Rattle.asl_map.specs.declared.text_piece.Area.{Area}
 use Rattle.asl_map.proofs.Sites.{more_found, same_found, area_is}
 use Rattle.asl_map.proofs.areas.site_areas.Goals as goal
 use Rattle.asl_map.proofs.areas.site_areas.Goals.{then-is_new+in_ok-push, else-is_new}

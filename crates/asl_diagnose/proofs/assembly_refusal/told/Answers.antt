@@ -1,0 +1,12 @@
+use Rattle.std.proofs.Common.{refl}
+use Rattle.asl_diagnose.proofs.assembly_refusal.told.Goals as goal
+
+pub returns : goal.returns
+returns c = record {
+  fault = c.args.fault;
+  refusal = refl;
+  holds = c.requires.fault;
+  real = c.requires.real;
+  place = c.fault_place-at.ensures;
+  column = c.column-column.ensures;
+}

@@ -1,0 +1,34 @@
+use Rattle.std.proofs.Common.{◌∙◌, ap, subst, arith}
+use Rattle.asl_syntax.specs.AstView.{tree_of}
+use Rattle.asl_emitter.specs.Refused.{IsRefusedInference}
+use Rattle.asl_emitter.specs.declared.fault.InferFault.{InferFault}
+use Rattle.asl_emitter.specs.declared.fault.InferFault.TheVariants as infer
+use Rattle.asl_diagnose.proofs.Refused.{registers_there, overfull_there, access_there, section_there, body_there}
+use Rattle.asl_diagnose.proofs.infer_place.infer_place.Goals as goal
+
+pub word_place-requires : goal.word_place-requires
+word_place-requires c =
+    let P : InferFault → Type 0 = λ f. IsRefusedInference (tree_of c.args.ast.now) c.requires.refused.0 f in
+    omega (arith, c.from.ensures, registers_there c.args.source.now (tree_of c.args.ast.now) c.requires.refused.0 c.in-Registers.function c.requires.parses (subst P c.in-Registers.is c.requires.refused.1))
+
+pub overfull_function-requires : goal.overfull_function-requires
+overfull_function-requires c =
+    let P : InferFault → Type 0 = λ f. IsRefusedInference (tree_of c.args.ast.now) c.requires.refused.0 f in
+    (subst P c.in-CodeSize.is c.requires.refused.1).1
+
+pub word_place-requires-in-CodeSize : goal.word_place-requires-in-CodeSize
+word_place-requires-in-CodeSize c =
+    overfull_there c.args.source.now (tree_of c.args.ast.now) _ c.requires.parses c.overfull_function.ensures
+
+pub access_place-requires : goal.access_place-requires
+access_place-requires c =
+    let P : InferFault → Type 0 = λ f. IsRefusedInference (tree_of c.args.ast.now) c.requires.refused.0 f in
+    access_there c.args.source.now (tree_of c.args.ast.now) c.requires.refused.0 _ _ c.requires.parses (subst P c.in-AccessOutsideSection.is c.requires.refused.1)
+
+pub region_place-requires : goal.region_place-requires
+region_place-requires c =
+    let P : InferFault → Type 0 = λ f. IsRefusedInference (tree_of c.args.ast.now) c.requires.refused.0 f in
+    record {
+      section = λ n e. section_there c.args.source.now (tree_of c.args.ast.now) c.requires.refused.0 n c.requires.parses (subst P (c.in-TooManyLocks.is ∙ ap infer.TooManyLocks e) c.requires.refused.1);
+      body = λ n e. body_there c.args.source.now (tree_of c.args.ast.now) c.requires.refused.0 n c.requires.parses (subst P (c.in-TooManyLocks.is ∙ ap infer.TooManyLocks e) c.requires.refused.1);
+    }

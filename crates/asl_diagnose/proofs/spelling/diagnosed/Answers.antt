@@ -1,4 +1,0 @@
-use Rattle.asl_diagnose.proofs.spelling.diagnosed.Goals as goal
-
-pub returns : goal.returns
-returns c = record { told = c.in_ok-told.told; answer = c.in_ok-told.ensures; spelled = c.in_ok-text.ensures }

@@ -1,0 +1,158 @@
+//! What is reported of a source that is refused.
+ghost use Rattle.std.specs.Prelude.{◌≡◌, ◌≢◌, ◌≤◌, ℕ, false, IfOk};
+ghost use Rattle.asl_syntax.specs.AstView.{tree_of};
+ghost use Rattle.asl_syntax.specs.Parsed.{Parses};
+ghost use Rattle.asl_syntax.specs.Fault.{IsFault};
+ghost use Rattle.asl_emitter.specs.Refused.{IsRefusedInference};
+ghost use Rattle.asl_diagnose.specs.Diagnosed.{IsSourceDiagnosed, IsSourceDiagnosis, IsExpectedFor, IsInferPlace, IsPosition};
+
+use crate::diagnosis::{Diagnosis, Refusal};
+use crate::expected::{Expected, expected_behind};
+use crate::infer_place::infer_place;
+use crate::most::{Bringers, find_bringers};
+use crate::place::{column, line};
+use crate::syntax_place::syntax_place;
+use asl_emitter::{InferFault, infer};
+use asl_syntax::{Ast, SyntaxFault, parse};
+use std::alloc::{AllocError, Global};
+
+/// What is reported of a source, for paths of at most `k` operations: nothing where a program is inferred for it.
+///
+/// # Errors
+///
+/// An allocation failed.
+pub fn diagnose_source(
+    alloc: Global,
+    source: &[u8],
+    k: u32,
+) -> Result<Option<Diagnosis>, AllocError>
+    requires { k ≤ 8 }
+    ensures { IfOk result (IsSourceDiagnosed source.now k) }
+{
+    match parse(alloc, source) {
+        Ok(ast) => diagnose_tree(alloc, source, &ast, k),
+        Err(fault) => Ok(Some(told_syntax(alloc, source, fault)?)),
+    }
+}
+
+/// What is reported of a source that is a program.
+fn diagnose_tree(
+    alloc: Global,
+    source: &[u8],
+    ast: &Ast,
+    k: u32,
+) -> Result<Option<Diagnosis>, AllocError>
+    requires small { k ≤ 8 }
+    requires parses { Parses source.now (tree_of ast.now) }
+    ensures { IfOk result (IsSourceDiagnosed source.now k) }
+{
+    match infer(alloc, ast, k) {
+        Ok(program) => {
+            let _ = program;
+            Ok(None)
+        }
+        Err(fault) => Ok(Some(told_infer(alloc, source, ast, fault, k)?)),
+    }
+}
+
+/// Whether memory was all that was wanting.
+fn is_memory(fault: &SyntaxFault) -> bool
+    ensures { result ≡ false → fault.now ≢ SyntaxFault.OutOfMemory }
+{
+    matches!(fault, SyntaxFault::OutOfMemory)
+}
+
+/// What is reported of a source that is no program.
+fn told_syntax(alloc: Global, source: &[u8], fault: SyntaxFault) -> Result<Diagnosis, AllocError>
+    requires { IsFault source.now fault }
+    ensures { IfOk result (λ told. (k : ℕ) → IsSourceDiagnosis source.now k told) }
+{
+    if is_memory(&fault) {
+        return Err(AllocError);
+    }
+    let expected = expected_for(alloc, source, &fault)?;
+    let (at, first) = syntax_place(source, &fault);
+    let line = line(source, at);
+    let column = column(source, at);
+    Ok(Diagnosis {
+        refusal: Refusal::Syntax(fault),
+        at,
+        line,
+        column,
+        expected: expected.kinds,
+        may_end: expected.may_end,
+        first,
+        bringers: None,
+    })
+}
+
+/// With what a program continues, where the fault is that none does.
+fn expected_for(alloc: Global, source: &[u8], fault: &SyntaxFault) -> Result<Expected, AllocError>
+    requires { IsFault source.now fault.now }
+    ensures { IfOk result (λ e. IsExpectedFor source.now fault.now e.kinds.items e.may_end) }
+{
+    match fault {
+        SyntaxFault::Grammar(_) => expected_behind(alloc, source),
+        _ => Ok(Expected {
+            kinds: Vec::new(alloc),
+            may_end: false,
+        }),
+    }
+}
+
+/// What is reported of a program for which no lists are inferred.
+fn told_infer(
+    alloc: Global,
+    source: &[u8],
+    ast: &Ast,
+    fault: InferFault,
+    k: u32,
+) -> Result<Diagnosis, AllocError>
+    requires small { k ≤ 8 }
+    requires parses { Parses source.now (tree_of ast.now) }
+    requires refused { IsRefusedInference (tree_of ast.now) k fault }
+    ensures real { IfOk result (λ _. fault ≢ InferFault.OutOfMemory) }
+    ensures refusal { IfOk result (λ told. told.refusal ≡ Refusal.Infer fault) }
+    ensures place { IfOk result (λ told. IsInferPlace source.now fault told.at) }
+    ensures position { IfOk result (λ told. IsPosition source.now told.at told.line told.column) }
+{
+    if is_memory_of(fault) {
+        return Err(AllocError);
+    }
+    let at = infer_place(alloc, source, ast, fault)?;
+    let bringers = bringers_for(alloc, source, fault, k)?;
+    let line = line(source, at);
+    let column = column(source, at);
+    Ok(Diagnosis {
+        refusal: Refusal::Infer(fault),
+        at,
+        line,
+        column,
+        expected: Vec::new(alloc),
+        may_end: false,
+        first: None,
+        bringers,
+    })
+}
+
+/// The statements that bring most of the locks, where a region needs too many.
+fn bringers_for(
+    alloc: Global,
+    source: &[u8],
+    fault: InferFault,
+    k: u32,
+) -> Result<Option<Bringers>, AllocError>
+    requires { k ≤ 8 }
+{
+    match fault {
+        InferFault::TooManyLocks(region) => find_bringers(alloc, source, region, k),
+        _ => Ok(None),
+    }
+}
+
+/// Whether memory was all that was wanting.
+fn is_memory_of(fault: InferFault) -> bool
+    ensures { result ≡ false → fault ≢ InferFault.OutOfMemory }
+{
+    matches!(fault, InferFault::OutOfMemory)
+}

@@ -1,0 +1,64 @@
+//! The place of a fault of a text that is no program.
+ghost use Rattle.std.specs.Prelude.{◌≡◌, true};
+ghost use Rattle.asl_grammar.specs.Lex.{tokens_of};
+ghost use Rattle.asl_syntax.specs.Fault.{IsFault};
+ghost use Rattle.asl_diagnose.specs.SeenView.{has_name, is_twice, seen_nothing};
+ghost use Rattle.asl_diagnose.specs.Places.{IsNameAt};
+ghost use Rattle.asl_diagnose.specs.Diagnosed.{IsSyntaxPlace, IsMainPlace};
+
+use crate::declared::twice_places;
+use crate::function_head::function_place;
+use crate::used::unknown_place;
+use crate::word_place::name_near;
+use asl_syntax::{Name, SyntaxFault};
+
+/// The place of a fault, and of a second declaration the place of the first.
+pub(crate) fn syntax_place(source: &[u8], fault: &SyntaxFault) -> (usize, Option<usize>)
+    requires { IsFault source.now fault.now }
+    ensures { IsSyntaxPlace source.now fault.now result.1 result.0 }
+{
+    match fault {
+        SyntaxFault::NotAscii(at)
+        | SyntaxFault::Token(at)
+        | SyntaxFault::Grammar(at)
+        | SyntaxFault::Limit(at)
+        | SyntaxFault::Arity(at) => (*at, None),
+        SyntaxFault::Twice(name) => twice_place(source, name),
+        SyntaxFault::Unknown(name) => (use_place(source, name), None),
+        SyntaxFault::NoMain => (main_place(source), None),
+        SyntaxFault::OutOfMemory => (source.len(), None),
+    }
+}
+
+/// The place of the second declaration of a name, and that of the first.
+fn twice_place(source: &[u8], name: &Name) -> (usize, Option<usize>)
+    requires { is_twice name.now seen_nothing (tokens_of source.now) ≡ true }
+    ensures { IsSyntaxPlace source.now (SyntaxFault.Twice name.now) result.1 result.0 }
+{
+    match twice_places(source, name.as_slice()) {
+        Some((first, second)) => (second, Some(first)),
+        None => unreachable!(),
+    }
+}
+
+/// The place of a use of a name that is nowhere declared.
+fn use_place(source: &[u8], name: &Name) -> usize
+    requires { has_name name.now (tokens_of source.now) ≡ true }
+    ensures { IsNameAt (tokens_of source.now) name.now result }
+{
+    let from = unknown_place(source, name.as_slice()).unwrap_or(0);
+    match name_near(source, name.as_slice(), from) {
+        Some(at) => at,
+        None => unreachable!(),
+    }
+}
+
+/// The name of the first function `main`, or the end of a text that has none.
+fn main_place(source: &[u8]) -> usize
+    ensures { IsMainPlace source.now result }
+{
+    match function_place(source, b"main") {
+        Some(at) => at,
+        None => source.len(),
+    }
+}

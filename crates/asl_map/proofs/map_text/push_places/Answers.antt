@@ -1,0 +1,13 @@
+use Rattle.std.proofs.Common.{get_or, refl, arith}
+use Rattle.asl_map.specs.declared.text_piece.Kind.TheVariants as kind
+use Rattle.asl_map.proofs.Told.{none_told, more_told, all_told}
+use Rattle.asl_map.proofs.map_text.push_places.Goals as goal
+
+pub loop-number-init : goal.loop-number-init
+loop-number-init c = none_told _ _ _
+
+pub loop-number-preserved : goal.loop-number-preserved
+loop-number-preserved c = more_told _ _ _ (record { from = 0; to = 0; kind = kind.Line }) (get_or c.args.pieces.now c.loop-number.number (record { from = 0; to = 0; kind = kind.Line })) _ _ _ (omega arith) refl c.in_ok-push_place.ensures c.loop-number.invariant
+
+pub returns : goal.returns
+returns c = all_told _ _ _ _ _ (omega arith) c.loop-number.invariant

@@ -1,7 +1,0 @@
-use Rattle.std.proofs.Common.{string_bytes}
-use Rattle.asl_map.specs.Text.{site_member}
-use Rattle.asl_map.proofs.Told.{Told}
-use Rattle.asl_map.proofs.spelling.push_site_members.Given as goal
-
-abbrev pub invariant-loop-number : goal.invariant-loop-number
-invariant-loop-number l = Told (site_member l.class) l.members l.number (string_bytes l.initial.text) (string_bytes l.text)
