@@ -124,7 +124,7 @@ typedef struct asl_place {
   uint32_t events;
 } asl_place;
 
-/* The functions of the library. They want pointers that are not NULL, but with length or room 0; the functions behind them, which have
+/* The functions of the library. They want pointers that are not NULL, but with length or room 0; the functions below them, which have
  * their names without `_nonnull`, test that first. */
 uint32_t asl_session_open_nonnull(const uint8_t *program, size_t length, uint32_t threads, asl_session *session);
 uint32_t asl_session_close_nonnull(asl_session *session);
@@ -154,8 +154,8 @@ static inline uint32_t asl_session_close(asl_session *session) {
   return asl_session_close_nonnull(session);
 }
 
-/* Steps the thread in the state at the end of the journal, appends the event, and is behind it. A step that is blocked, or of a thread
- * that has ended, is an event too. Returns 0, 3, 14, 15, 4 or 2. */
+/* Steps the thread in the state at the end of the journal, appends the event, and is at the position after it. A step that is
+ * blocked, or of a thread that has ended, is an event too. Returns 0, 3, 14, 15, 4 or 2. */
 static inline uint32_t asl_session_step(asl_session *session, uint32_t thread) {
   if (!session) return ASL_BAD_HANDLE;
   return asl_session_step_nonnull(session, thread);
@@ -167,7 +167,7 @@ static inline uint32_t asl_session_go(asl_session *session, uint32_t k) {
   return asl_session_go_nonnull(session, k);
 }
 
-/* Goes to position k, and forgets the events behind it. Returns 0, 3, 13 or 2. */
+/* Goes to position k, and forgets the events after it. Returns 0, 3, 13 or 2. */
 static inline uint32_t asl_session_cut(asl_session *session, uint32_t k) {
   if (!session) return ASL_BAD_HANDLE;
   return asl_session_cut_nonnull(session, k);

@@ -9,7 +9,7 @@ use Rattle.std.proofs.alloc.Global.TheLaws as heap
 use Rattle.asl_lock_forest.specs.contracts.forest.Forest as Forest
 use Rattle.asl_lock_forest.proofs.forest.Forest.TheLaws as forest
 use Rattle.asl_foreign.specs.contracts.open_box.OpenBox as OpenBox
-use Rattle.asl_c.specs.contracts.slot.Slot as Held
+use Rattle.asl_c.specs.contracts.forest_slot.Slot as Held
 
 abbrev pub E : Bx
 E = record { row = Forest.the_row; laws = forest.the_row_laws; al = record { row = Heap.the_row; laws = heap.the_row_laws; g = ghosts; d = dict; drops = impl [] tnil dnil } }

@@ -6,7 +6,7 @@ use Rattle.asl_mode_lanes.specs.declared.mode.Mode.{Mode}
 use Rattle.asl_mode_lanes.specs.Row.{mode_of}
 use Rattle.asl_lock_forest.specs.declared.node.Node.{Node}
 use Rattle.asl_lock_forest.specs.declared.node.Node.TheVariants.{Root, Class, Leaf}
-use Rattle.asl_c.specs.declared.ask.Ask.{Ask}
+use Rattle.asl_c.specs.declared.c_request.Ask.{Ask}
 
 -- the node: kind 0 is the root, 1 a class, 2 the leaf of a cell
 abbrev pub node_of : Ask → Node

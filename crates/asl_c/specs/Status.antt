@@ -11,7 +11,7 @@ use Rattle.asl_lock_forest.specs.declared.node.Node.TheVariants.{Root, Class, Le
 use Rattle.asl_lock_forest.specs.Held.{Held}
 use Rattle.asl_lock_forest.specs.Holding.{Holding, held}
 use Rattle.asl_lock_forest.specs.Request.{names_once, asks_modes, asks_parents}
-use Rattle.asl_c.specs.declared.ask.Ask.{Ask}
+use Rattle.asl_c.specs.declared.c_request.Ask.{Ask}
 use Rattle.asl_c.specs.Asks.{node_of, ask_of}
 
 -- the status of the first test that fails, and 0 where none does
@@ -61,7 +61,7 @@ acquire_fault forest thread asks = first_failing (
 unfoldable pub release_fault : ℕ → ℕ → ℕ
 release_fault threads thread = first_failing ((nat_lt thread threads, 4) ∷ [])
 
--- why it cannot be told in which mode the thread holds the node
+-- why it cannot be determined in which mode the thread holds the node
 unfoldable pub mode_fault : ℕ → ℕ → ℕ → Ask → ℕ
 mode_fault classes threads thread at = first_failing (
     (nat_lt thread threads, 4)
@@ -69,6 +69,6 @@ mode_fault classes threads thread at = first_failing (
     ∷ (is_there classes (node_of at), 6)
     ∷ [])
 
--- why it cannot be told whether the thread covers the cell
+-- why it cannot be determined whether the thread covers the cell
 unfoldable pub covers_fault : ℕ → ℕ → ℕ → Ask → ℕ
 covers_fault classes threads thread at = first_failing ((nat_lt thread threads, 4) ∷ (nat_lt at.class classes, 6) ∷ [])

@@ -23,7 +23,7 @@ abbrev pub SaysWhyNot : List ℕ → ℕ → Type 0
 SaysWhyNot words status = ((status ≡ 253) × ¬ (IsUtf8 words)) ⊎ (((status ≡ 254) × IsUtf8 words × 0 < length words) ⊎ ((status ≡ 255) × AsksForWork (words_of words)))
 
 -- the call did nothing, and the status says why
-pub record IsRefused (words output errors output_now errors_now : List ℕ) (answer : Answer) : Type 0 where
+pub record IsRefusedCall (words output errors output_now errors_now : List ℕ) (answer : Answer) : Type 0 where
   pub why : SaysWhyNot words answer.status
   pub output_kept : output_now ≡ output
   pub errors_kept : errors_now ≡ errors
@@ -33,4 +33,4 @@ pub record IsRefused (words output errors output_now errors_now : List ℕ) (ans
 -- what the call leaves
 abbrev pub IsAnswered : List ℕ → List ℕ → List ℕ → List ℕ → List ℕ → List ℕ → Answer → Type 0
 IsAnswered words input output errors output_now errors_now answer =
-    IsDone words input output errors output_now errors_now answer ⊎ IsRefused words output errors output_now errors_now answer
+    IsDone words input output errors output_now errors_now answer ⊎ IsRefusedCall words output errors output_now errors_now answer

@@ -4,7 +4,7 @@ ghost use Rattle.asl_tool.specs.Tool.{AsksForWork, EndsAlone};
 ghost use Rattle.asl_call.specs.Words.{words_of};
 ghost use Rattle.asl_call.specs.Called.{SaysWhyNot, IsAnswered};
 
-use crate::words::split;
+use crate::call_words::split;
 use asl_foreign::put_front;
 use asl_tool::tool_alone;
 use std::alloc::Global;

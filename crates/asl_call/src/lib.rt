@@ -2,6 +2,6 @@
 #![tactic(auto)]
 
 mod call;
-mod words;
+mod call_words;
 
 pub use call::Answer;

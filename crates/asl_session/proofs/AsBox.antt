@@ -9,7 +9,7 @@ use Rattle.std.proofs.alloc.Global.TheLaws as heap
 use Rattle.asl_session.specs.contracts.session.Session as Session
 use Rattle.asl_session.proofs.session.Session.TheLaws as session
 use Rattle.asl_foreign.specs.contracts.open_box.OpenBox as OpenBox
-use Rattle.asl_session.specs.contracts.slot.Slot as Held
+use Rattle.asl_session.specs.contracts.session_slot.Slot as Held
 
 abbrev pub E : Bx
 E = record { row = Session.the_row; laws = session.the_row_laws; al = record { row = Heap.the_row; laws = heap.the_row_laws; g = ghosts; d = dict; drops = impl [] tnil dnil } }

@@ -5,11 +5,11 @@ use Rattle.asl_journal.specs.declared.event.Event.{Event}
 use Rattle.asl_show.specs.Replies.{step_line}
 use Rattle.asl_session.specs.Pages.{event_lines}
 
--- the lines of what is left behind so many events
+-- the lines of what is left after so many events
 abbrev pub left_lines : ℕ → List Event → ℕ → List ℕ
 left_lines first events index = event_lines (first + index) (drop index events)
 
--- the next event's line, and then those behind it
+-- the next event's line, and then those after it
 pub left_lines-step : (first : ℕ) (events : List Event) (index : ℕ) (d : Event) → index < length events
     → left_lines first events index
     ≡ step_line (first + index) (get_or events index d).thread (get_or events index d).reply ++ left_lines first events (index + 1)

@@ -27,7 +27,7 @@ pub record IsOpened (bytes : List ℕ) (threads : ℕ) (session : Session) : Typ
   pub counted : IsThreadCount program threads
   pub at_start : session ≡ record { image = program; log = record { threads = threads; events = [] }; position = 0; breakpoints = [] }
 
--- the outcome of the bytes is a fault other than want of memory: as an image where they begin as one, else as a text
+-- the outcome of the bytes is a fault other than lack of memory: as an image where they begin as one, else as a text
 abbrev pub IsNoProgram : List ℕ → Type 0
 IsNoProgram bytes =
     (BeginsAsImage bytes × ((fault : LoadFault) × image.IsOutcome bytes (Err fault))) ⊎ ((BeginsAsImage bytes → ⊥) × ((fault : AsmFault) × text.IsOutcome bytes (Err fault)))

@@ -1,4 +1,4 @@
--- What is told of a session as text (docs/JOURNAL.md, "Words of the debugger" and "log").
+-- What is reported of a session as text (docs/JOURNAL.md, "Words of the debugger" and "log").
 use Rattle.std.specs.Prelude.{ℕ, suc, List, [], ◌∷◌, ◌++◌, drop, length, min}
 use Rattle.asl_machine.specs.View.{Configuration}
 use Rattle.asl_journal.specs.declared.event.Event.{Event}
@@ -27,6 +27,6 @@ abbrev pub event_lines : ℕ → List Event → List ℕ
 event_lines number [] = []
 event_lines number (event ∷ events) = step_line number event.thread event.reply ++ event_lines (suc number) events
 
--- the lines of the events behind the first so many, with the numbers that they have among all
+-- the lines of the events after the first so many, with the numbers that they have among all
 abbrev pub log_text : ℕ → List Event → List ℕ
 log_text first events = event_lines (min first (length events)) (drop (min first (length events)) events)

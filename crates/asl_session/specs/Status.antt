@@ -25,7 +25,7 @@ move_status (Ok done) = 0
 move_status (Err debug.NoSuchStep) = 13
 move_status (Err fault) = 2
 
--- the session behind a step of the thread with this reply, which is written down
+-- the session after a step of the thread with this reply, which is written down
 pub record IsBehindStep (s : Session) (t : ℕ) (reply : Reply) (new : Session) : Type 0 where
   pub event : new ≡ recorded s (with_event s.log (record { thread = t; reply = reply })) (s.position + 1)
   pub step : Step s.image (state_before s.image s.log s.position) t reply (state_before new.image new.log new.position)
@@ -51,17 +51,17 @@ pub record IsMovedTo (s wanted : Session) (k status : ℕ) (new : Session) : Typ
 abbrev pub IsGone : Session → ℕ → ℕ → Session → Type 0
 IsGone s k status new = IsMovedTo s (moved s k) k status new
 
--- 0: the position is k, and the events behind it are forgotten
+-- 0: the position is k, and the events after it are forgotten
 abbrev pub IsCut : Session → ℕ → ℕ → Session → Type 0
 IsCut s k status new = IsMovedTo s (recorded s (record { threads = s.log.threads; events = take k s.log.events }) k) k status new
 
--- 0: the buffer holds the text as far as it has room, and its whole length is told. Else it is 2: there was no memory
+-- 0: the buffer holds the text as far as it has room, and its whole length is reported. Else it is 2: there was no memory
 pub record IsTold (text old new : List ℕ) (told status : ℕ) : Type 0 where
   pub done : status ≡ 0 → Holds text old new × (told ≡ length text)
   pub other : (status ≡ 0) ⊎ (status ≡ 2)
 
 -- 0: there are bytes that spell the session's program and its whole journal, wherever its position is; the buffer holds them as far as
--- it has room, and their whole length is told. Else it is 2: there was no memory
+-- it has room, and their whole length is reported. Else it is 2: there was no memory
 pub record IsRunFileTold (s : Session) (old new : List ℕ) (told status : ℕ) : Type 0 where
   pub done : status ≡ 0 → (file : List ℕ) × SpellsRun s.image s.log file × Holds file old new × (told ≡ length file)
   pub other : (status ≡ 0) ⊎ (status ≡ 2)

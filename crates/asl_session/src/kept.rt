@@ -5,8 +5,8 @@ ghost use Rattle.asl_session.specs.Status.{IsCut, IsGone, IsStepped};
 
 use crate::pages::Page;
 use crate::session::Session;
+use crate::session_answers::Place;
 use crate::status::{move_status, step_status};
-use crate::telling::Place;
 use core::mem::replace_with;
 use std::alloc::{AllocError, Global};
 
@@ -28,7 +28,7 @@ pub fn go(alloc: Global, session: &mut Session, k: u32) -> u32
     move_status(answer)
 }
 
-/// Goes to the position, and forgets the events behind it.
+/// Goes to the position, and forgets the events after it.
 pub fn cut(alloc: Global, session: &mut Session, k: u32) -> u32
     ensures cut { IsCut session.old k result session.new }
     ensures other { result ≢ 3 }

@@ -68,7 +68,7 @@ impl Session {
         Ok(Session { program, debugger })
     }
 
-    /// At the end of the journal: steps the thread of the call, writes the step down, and is behind it.
+    /// At the end of the journal: steps the thread of the call, writes the step down, and is after it.
     pub fn step(self, call: (Global, u32)) -> (Session, Result<Reply, StepFault>)
         ensures event { IfOk result.1 (λ reply. result.0 ≡ recorded self (with_event self.log (record { thread = call.1; reply = reply })) (self.position + 1)) }
         ensures step { IfOk result.1 (λ reply. Step self.image (state_before self.image self.log self.position) call.1 reply
@@ -103,7 +103,7 @@ impl Session {
         (Session { program, debugger }, answer)
     }
 
-    /// Goes to the position of the call, and forgets the events behind it.
+    /// Goes to the position of the call, and forgets the events after it.
     pub fn cut(self, call: (Global, u32)) -> (Session, Result<(), DebugFault>)
         ensures cuts { OnOk result.1 (result.0 ≡ recorded self (record { threads = self.log.threads; events = take call.1 self.log.events }) call.1) }
         ensures none { IsErrOf result.1 DebugFault.NoSuchStep ↔ (length self.log.events < call.1) }
@@ -118,7 +118,7 @@ impl Session {
         (Session { program, debugger }, answer)
     }
 
-    /// What is told of the machine at the position.
+    /// What is reported of the machine at the position.
     ///
     /// # Errors
     ///
@@ -199,7 +199,7 @@ fn first(alloc: Global, program: &Program, threads: u32) -> Result<PausedDebugge
     }
 }
 
-/// Goes to position k, and forgets the events behind it.
+/// Goes to position k, and forgets the events after it.
 fn go_and_cut(alloc: Global, debugger: &mut Debugger<'_>, k: u32) -> Result<(), DebugFault>
     ensures cuts { OnOk result (debugger.new ≡ recorded debugger.old (record { threads = debugger.old.log.threads; events = take k debugger.old.log.events }) k) }
     ensures none { IsErrOf result DebugFault.NoSuchStep ↔ (length debugger.old.log.events < k) }
