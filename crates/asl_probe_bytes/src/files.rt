@@ -1,4 +1,4 @@
-//! Images as bytes: `bytes B ..` gives them, and `set PLACE B` changes one or puts one behind the last. On what is given: `load` (what is
+//! Images as bytes: `bytes B ..` gives them, and `set PLACE B` changes one or puts one after the last. On what is given: `load` (what is
 //! loaded is stored again, and must be the same), `cut N`, `cuts` (at each place), `changes`: of each byte changed to each other
 //! value, how often what is answered.
 use asl_loader::{LoadFault, load, store};

@@ -1,6 +1,6 @@
 //! A debugger over the journal of two threads of an assembly text. `open SPACING SCHEDULE` opens one: how many events there are.
-//! On it `goto K`, `forward`, `back`, `next`, `previous` (the refusal, if there is one, and the position behind it), `break PC`,
-//! `clear PC`, `fresh` (whether the objects 1 and 2 are so for threads 0 and 1, in the order 1 0, 1 1, 2 0, 2 1), `all` (whether each position shows, behind each
+//! On it `goto K`, `forward`, `back`, `next`, `previous` (the refusal, if there is one, and the position after it), `break PC`,
+//! `clear PC`, `fresh` (whether the objects 1 and 2 are so for threads 0 and 1, in the order 1 0, 1 1, 2 0, 2 1), `all` (whether each position shows, after each
 //! other, what a new replay leads to), `visit K ..` (whether these do). Without it `differing K SPACING SCHEDULE` (the journal with another reply at
 //! K: the refusal, and how many events come back), `crowded N SPACING` (no events, N threads: the refusal, and the threads).
 use crate::runs::{journal_of, replayed_from};

@@ -1,6 +1,6 @@
 //! Journals of an assembly text. `start N` starts a machine of N threads that writes its steps down; on it `step T ..` (receipts: the
 //! number, the thread, the reply, and `ends` where the thread has ended), `run T N` (N steps without a word), `events`, `reserve N`,
-//! `cell`, `all_ran` (whether each event is a step of thread 0 that ran). Of a run of two threads: `put SCHEDULE` (its bytes), `replay SCHEDULE`, `follow K SCHEDULE` (from behind K events),
+//! `cell`, `all_ran` (whether each event is a step of thread 0 that ran). Of a run of two threads: `put SCHEDULE` (its bytes), `replay SCHEDULE`, `follow K SCHEDULE` (from after K events),
 //! `differs K SCHEDULE` (with another reply at K), `last SCHEDULE`. And `empty N`, a journal without events.
 use crate::runs::{empty_met, is_followed, is_replayed, journal_of, last_event, refused_at};
 use asl_assembler::assemble;
@@ -125,7 +125,7 @@ fn have_run(events: &[Event]) -> bool {
     true
 }
 
-/// Whether the capacity that is asked for is there, and one less behind a step.
+/// Whether the capacity that is asked for is there, and one less after a step.
 fn put_reserved(
     alloc: Global,
     journaled: &mut Journaled<'_>,

@@ -26,7 +26,7 @@ pub fn is_replayed(alloc: Global, program: &Program, schedule: &[u8]) -> Option<
     Some(shows_same(&replayed, &machine))
 }
 
-/// The machine behind so many steps of the schedule, by a new replay.
+/// The machine after so many steps of the schedule, by a new replay.
 pub fn replayed_from<'p>(
     alloc: Global,
     program: &'p Program,
@@ -38,7 +38,7 @@ pub fn replayed_from<'p>(
     replay(alloc, program, &journal).ok()
 }
 
-/// The journal's events behind so many, as a journal of their own.
+/// The journal's events after so many, as a journal of their own.
 fn rest_of(alloc: Global, journal: &Journal, steps: usize) -> Option<Journal> {
     let (_first, rest) = journal.events().split_at_checked(steps)?;
     let mut events = Vec::new(alloc);
@@ -56,7 +56,7 @@ fn followed<'p>(alloc: Global, from: &Machine<'p>, rest: &Journal) -> Option<Mac
     follow(alloc, from, rest.events()).ok()
 }
 
-/// Whether the rest of the journal leads, from behind so many of its events, where replay of the whole does.
+/// Whether the rest of the journal leads, from after so many of its events, where replay of the whole does.
 pub fn is_followed(alloc: Global, program: &Program, schedule: &[u8], steps: u32) -> Option<bool> {
     let journal = journal_of(alloc, program, schedule)?;
     let rest = rest_of(alloc, &journal, steps as usize)?;

@@ -1,7 +1,7 @@
 -- What evaluations see of a heap whose only object has the number 1.
 use Rattle.std.specs.Prelude.{ℕ, ◌==◌, List, Option, None, Some, length, slice_get, if◌then◌else◌}
 use Rattle.asl_code.specs.declared.value.Value.{Value}
-use Rattle.asl_lock_expr.specs.Expression.{Seen}
+use Rattle.asl_expression.specs.Expression.{Seen}
 
 abbrev pub one_object : List Value → Seen
 one_object cells =

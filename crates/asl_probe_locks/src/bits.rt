@@ -63,7 +63,7 @@ fn multiples(alloc: Global, text: &str) -> Result<Bits, AllocError> {
     Ok(set)
 }
 
-/// Makes the set again where a growth is refused.
+/// Makes the set again where an allocation fails.
 fn made(alloc: Global, len: usize) -> Result<Bits, AllocError> {
     match Bits::with_len(alloc, len) {
         Err(_refused) => Bits::with_len(alloc, len),

@@ -1,7 +1,7 @@
 //! A forest of locks: `new CLASSES THREADS` makes one in which nothing is held; `copy` keeps a copy, and `swap` goes to it and
 //! back. On the one used: `acquire T NODE MODE ..`, `grant T NODE MODE ..`, `release T`, `held T NODE`, `free T NODE MODE`,
 //! `covers T O.P CLASS EFFECT`, and of two nodes `same NODE NODE`. A thread that acquires gives back first what it holds.
-//! Where a growth is refused, everything told must be as before, and the same call is made again.
+//! Where an allocation fails, everything told must be as before, and the same call is made again.
 ghost use Rattle.std.specs.Prelude.{◌≡◌, ◌≤◌, ◌<◌, IsTrue};
 ghost use Rattle.asl_code.specs.Versions.{newest_threads};
 ghost use Rattle.asl_lock_forest.specs.Holding.{HoldsNothing};

@@ -2,7 +2,7 @@
 //! is taken up again, and `use I` goes to the
 //! I-th. On that: `step T..`, `see T`, `object I`, `objects`, `threads`, `globals`, `held T NODE`, `fresh T I`, `cell O.P`. What `pace`
 //! has counts the steps that are blocked.
-//! Where a growth is refused, everything told must be as before, and the same call is made again.
+//! Where an allocation fails, everything told must be as before, and the same call is made again.
 use crate::pace;
 use asl_assembler::{AsmFault, assemble};
 use asl_code::{Cell, Program};

@@ -14,7 +14,7 @@ pub fn put_line(line: &str, out: &mut String) -> Result<(), AllocError> {
     out.push('\n')
 }
 
-/// Writes a word behind the others of its line.
+/// Writes a word after the others of its line.
 pub fn put_word(word: &str, out: &mut String) -> Result<(), AllocError> {
     if !out.ends_with('\n') {
         out.push(' ')?;
@@ -22,7 +22,7 @@ pub fn put_word(word: &str, out: &mut String) -> Result<(), AllocError> {
     out.push_str(word)
 }
 
-/// Writes a number behind the others of its line.
+/// Writes a number after the others of its line.
 pub fn put_number(number: usize, out: &mut String) -> Result<(), AllocError> {
     put_word("", out)?;
     write!(out, "{number}")
