@@ -237,7 +237,7 @@ function waitingChanged() {
   } else due.working ||= setTimeout(() => { byId('working').hidden = false; changed('size'); }, SOON);
 }
 
-// After a choice by the mouse the keys are the workbench's again; by keyboard one goes on choosing, and leaves by Escape.
+// After a choice by the mouse the keys are the workbench's again; by keyboard one continues choosing, and leaves by Escape.
 const leave = ({ target }) => { if (!target.matches(':focus-visible')) target.blur(); };
 const resize = by => { changeTextSize(by); changed('size'); };
 

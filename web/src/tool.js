@@ -1,10 +1,10 @@
-// The toolchain that the page carries: gzip in base64. And a worker that has the same, made of the text that the page carries for it.
+// The toolchain that the page carries: gzip in base 85. And a worker that has the same, made of the text that the page carries for it.
 
 import { loadAsl } from '../asl.mjs';
+import { fromBase85 } from './base85.js';
 
-export async function loadTool(base64) {
-  const packed = Uint8Array.from(atob(base64), c => c.charCodeAt(0));
-  const stream = new Blob([packed]).stream().pipeThrough(new DecompressionStream('gzip'));
+export async function loadTool(letters) {
+  const stream = new Blob([fromBase85(letters)]).stream().pipeThrough(new DecompressionStream('gzip'));
   const module = await WebAssembly.compile(await new Response(stream).arrayBuffer());
   return { module, call: await loadAsl(module) };
 }
