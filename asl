@@ -120,11 +120,11 @@ take_back() {
   rm -rf "$1"
 }
 
-# prove NAME SUM JOBS BUILT..: proves a crate in a view, a folder with links to what is built already: rt lets nobody else work
-# in the crates that a run stands on, so in one folder crates that share a lower one would wait for each other
+# prove NAME SUM JOBS NICENESS BUILT..: proves a crate in a view, a folder with links to what is built already: rt lets nobody else
+# work in the crates that a run stands on, so in one folder crates that share a lower one would wait for each other
 prove() {
-  local name=$1 sum=$2 jobs=$3 low view=$own/views/$1 status=0
-  shift 3
+  local name=$1 sum=$2 jobs=$3 niceness=$4 low view=$own/views/$1 status=0
+  shift 4
   take_back "$view" "$name"
   links_to "$view" "$name" src specs proofs
   for low in "$@"; do
@@ -135,7 +135,7 @@ prove() {
   cp "$root/HANDLES" "$view/HANDLES"
   # the view has no `out` of its own before this: take_back would put it in the place of the crate's
   [ ! -d "$root/crates/$name/out" ] || mv "$root/crates/$name/out" "$view/crates/$name/out"
-  (cd "$view/crates/$name" && exec rt lib --jobs "$jobs") >"$own/build-$name.log" 2>&1 </dev/null || status=$?
+  (cd "$view/crates/$name" && exec nice -n "$niceness" rt lib --jobs "$jobs") >"$own/build-$name.log" 2>&1 </dev/null || status=$?
   take_back "$view" "$name"
   [ "$status" != 0 ] || echo "$sum" >"$root/crates/$name/out/proved-from"
   return $status
@@ -199,10 +199,19 @@ ready() {
   done | sort -rn | cut -d' ' -f2
 }
 
-# begin NAME JOBS: proves the crate in a group of processes of its own
+# leads NAME: no crate that is being proved has a longer chain above it
+leads() {
+  local other
+  for other in "${builds[@]}"; do [ "${height[$other]}" -le "${height[$1]}" ] || return 1; done
+}
+
+# begin NAME PROCESSORS: proves the crate in a group of processes of its own. The crate that leads, for which most others wait, may
+# use all processors; the others have two processes each, which give way to it
 begin() {
+  local jobs=$2 niceness=0
+  leads "$1" || { jobs=$(($2 < 2 ? $2 : 2)) niceness=5; }
   set -m
-  if [ "$1" = asl ]; then link & else prove "$1" "${sums[$1]}" "$2" "${built[@]}" & fi
+  if [ "$1" = asl ]; then link & else prove "$1" "${sums[$1]}" "$jobs" "$niceness" "${built[@]}" & fi
   set +m
   builds[$!]=$1
   began[$1]=$SECONDS
@@ -226,15 +235,14 @@ fail() {
 }
 
 build_crates() {
-  local most busy name pid
+  local most name pid
   local -a now
   most=$(crates_at_a_time)
   echo "asl: ${#waits_for[@]} of ${#names[@]} crates are to be proved and built first, up to $most side by side; elsewhere this took $(spell "$(seconds_left "$most")")" >&2
   while [ ${#waits_for[@]} -gt 0 ] || [ ${#builds[@]} -gt 0 ]; do
     mapfile -t now < <(ready)
-    busy=$((${#builds[@]} + ${#now[@]}))
     for name in "${now[@]}"; do
-      [ ${#builds[@]} -ge "$most" ] || begin "$name" "$(((most + busy - 1) / busy))"
+      [ ${#builds[@]} -ge "$most" ] || begin "$name" "$most"
     done
     [ ${#builds[@]} -gt 0 ] || { echo "asl: crates.txt has crates that stand on one another" >&2; exit 1; }
     if wait -n -p pid "${!builds[@]}"; then :; else
