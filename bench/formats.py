@@ -181,7 +181,7 @@ def judge_run(data):
 
 
 def judge_text(data):
-    """The first refusal of what is no text: its first line that is not blank, which is no `version`, or the end."""
+    """The first refusal of what is not an assembly text: its first line that is not blank, which is no `version`, or the end."""
     lines = data.split(b"\n")
     if not lines[-1]:
         lines.pop()

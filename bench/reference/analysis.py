@@ -54,7 +54,7 @@ class Root:
 class Merging:
     """The least legal classes, found by merging members where an instruction is owed that two are one.
 
-    Members are the globals, and behind them the sites. A class is known by its first member while it grows. A slot is a
+    Members are the globals, and after them the sites. A class is known by its first member while it grows. A slot is a
     register of a function, `(function, register)`, or the cells of a class, which is then the class's first member."""
 
     def __init__(self, lowered):
@@ -151,7 +151,7 @@ class Analysis:
         return self.register_classes.get((function, expr.number))
 
     def walk(self, function, expr):
-        """The class before each step of the path, and behind the last one; None from where it has none on."""
+        """The class before each step of the path, and after the last one; None from where it has none on."""
         classes = [self.base_class(function, expr)]
         for step in expr.path:
             classes.append(self.cell_classes.get(classes[-1]) if step == "*" else classes[-1])
@@ -190,7 +190,7 @@ class Analysis:
                     self.inner.add(one.d)
 
     def link(self, pc, lock):
-        """The locks that a lock behind the instruction becomes before it."""
+        """The locks that a lock after the instruction becomes before it."""
         one, function = self.lowered.code[pc], self.function_at[pc]
         if not isinstance(lock, Expr):
             return [lock]
@@ -293,7 +293,7 @@ class Analysis:
         return {lock for lock in locks if not any(self.absorbs(function, one, lock) for one in locks)}
 
     def list_of(self, number):
-        """The section's list: what is needed behind its `acq`, reduced, and in one order."""
+        """The section's list: what is needed after its `acq`, reduced, and in one order."""
         section = self.lowered.sections[number]
         function = section.function
         locks = self.reduced(function, self.needed["section", number].get(section.acq + 1, set()))

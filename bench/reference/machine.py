@@ -132,7 +132,7 @@ class Machine:
             return Reply("fault", failed.fault)
 
     def set(self, frame, register, value):
-        """Gives the register its value, and goes on to the next instruction."""
+        """Gives the register its value, and continues at the next instruction."""
         frame.registers[register] = value
         frame.pc += 1
 

@@ -41,7 +41,7 @@ class Instruction:
 
 @dataclass
 class Body:
-    """A function's part of the code: its first pc, the pc behind its `ret`, and the register that it returns."""
+    """A function's part of the code: its first pc, the pc after its `ret`, and the register that it returns."""
 
     parameters: int
     registers: int
@@ -83,7 +83,7 @@ class Parser:
             raise ValueError(f"{token} expected, not {found}")
 
     def takes(self, token):
-        """Whether the token stands here; if so, it is behind us then."""
+        """Whether the token stands here; if so, it has been passed then."""
         is_there = self.sees(token)
         self.at += is_there
         return is_there

@@ -165,7 +165,7 @@ int main(int count, char **words) {
   must(status == ASL_OK && length <= ROOM, "log");
   fwrite(text, 1, length, stdout);
   must(asl_session_go(&session, events / 3) == ASL_OK, "back");
-  write_run_file(&session, words[2]); /* of all events, though it is behind the first third */
+  write_run_file(&session, words[2]); /* of all events, though it is after the first third */
   must(asl_session_cut(&session, events / 2) == ASL_OK, "cut in the middle");
   write_run_file(&session, words[3]);
   must(asl_session_close(&session) == ASL_OK && asl_session_close(&session) == ASL_BAD_HANDLE, "close");
