@@ -31,8 +31,8 @@ async function connect(url, heard) {
     const told = JSON.parse(message.data);
     if (waiting.has(told.id)) { waiting.get(told.id)(told); waiting.delete(told.id); } else heard(told);
   };
-  const send = (method, params) => new Promise((done, fail) => {
-    const id = ++last, late = setTimeout(() => { waiting.delete(id); fail(new Error('Firefox gives no answer to ' + method)); }, PATIENCE);
+  const send = (method, params, patience = PATIENCE) => new Promise((done, fail) => {
+    const id = ++last, late = setTimeout(() => { waiting.delete(id); fail(new Error('Firefox gives no answer to ' + method)); }, patience);
     waiting.set(id, told => { clearTimeout(late); done(told); });
     socket.send(JSON.stringify({ id, method, params }));
   });
@@ -59,13 +59,22 @@ export async function openFirefox(binary = process.env.FIREFOX || 'firefox-esr')
   await send('session.subscribe', { events: ['log.entryAdded', 'network.beforeRequestSent'] });
   // The first window never has the focus, without which no key presses a button; one that is made has it.
   const { context } = (await send('browsingContext.create', { type: 'window' })).result;
-  const run = async expression => {
-    const { result, error, message } = await send('script.evaluate', { expression, target: { context }, awaitPromise: true });
+  const run = async (expression, patience) => {
+    const { result, error, message } = await send('script.evaluate', { expression, target: { context }, awaitPromise: true }, patience);
     if (error) throw new Error(message);
     if (result.type === 'exception') throw new Error(result.exceptionDetails.text);
     return plain(result.result);
   };
   const frames = () => run(`new Promise(done => { requestAnimationFrame(() => requestAnimationFrame(() => setTimeout(done))); setTimeout(done, 2000); })`);
+  // Goes to a page, three times at most, until it answers the question whether it is there.
+  const goTo = async (url, question) => {
+    for (let time = 0; time < 3; time++) {
+      await send('browsingContext.navigate', { context, url, wait: 'none' }, 5_000).catch(() => {});
+      for (const late = performance.now() + 20_000; performance.now() < late; await sleep(50))
+        if (await run(question, 5_000).catch(() => false)) return true;
+    }
+    return false;
+  };
   const press = (type, actions) => send('input.performActions', { context, actions: [{ type, id: type, actions }] });
   return {
     name: 'Firefox ' + capabilities.browserVersion, errors, requests, run, sleep, frames,
@@ -78,11 +87,10 @@ export async function openFirefox(binary = process.env.FIREFOX || 'firefox-esr')
       await press('pointer', [{ type: 'pointerMove', x: Math.round(x), y: Math.round(y) }, { type: 'pointerDown', button: 0 },
         { type: 'pointerUp', button: 0 }]);
     },
+    // An answer to a navigation may be lost, so no answer is waited for: the page itself is asked whether it is there.
     async open(url, ready) {
-      await send('browsingContext.navigate', { context, url: 'about:blank', wait: 'complete' });
-      await send('browsingContext.navigate', { context, url, wait: 'complete' });
-      for (let i = 0; i < 200; i++) { if (await run(ready).catch(() => false)) return; await sleep(50); }
-      throw new Error('not ready: ' + url + ' ' + errors.join('; '));
+      if (!await goTo('about:blank', "location.href === 'about:blank'") || !await goTo(url, ready))
+        throw new Error('not ready: ' + url + ' ' + errors.join('; '));
     },
     async strike(key, shift = false) {
       const value = KEYS[key] || key, hold = type => (shift ? [{ type, value: '\uE008' }] : []);

@@ -33,7 +33,8 @@ export async function part(name, work) {
   console.log(failed === before ? 'ok    ' : 'BAD   ', name, Math.round(performance.now() - start) + ' ms');
 }
 
-export const open = (fragment = '') => browser.open(PAGE + fragment, READY);
+// A page that is ready may not be painted yet, and its buttons are as its text has them.
+export async function open(fragment = '') { await browser.open(PAGE + fragment, READY); await calm(); }
 export const settled = async () => { await browser.sleep(150); await calm(); };
 export const at = () => run('[workbench.bench.position, workbench.bench.run.length]');
 export const textOf = selector => run(`document.querySelector(${JSON.stringify(selector)})?.textContent || ''`);
