@@ -31,6 +31,10 @@ one_in locks more is m = (λ h. subst (λ l. IsOne l m) is h, λ h. subst (λ l.
 pub stands_at : {A : Type 0} (xs ys : List A) (n k : ℕ) (d : A) → ys ≡ xs → n ≡ k → k < length xs → slice_get xs k ≡ Some (get_or ys n d)
 stands_at xs ys n k d same is lt = slice_get-get_or xs k d lt ∙ ap Some (ap (λ j. get_or xs j d) (sym is) ∙ ap (λ zs. get_or zs n d) (sym same))
 
+-- what is read at a place of a list that has it
+pub read_at : {A : Type 0} (xs : List A) (n : ℕ) (x : A) → n < length xs → x ≡ get_or xs n x → slice_get xs n ≡ Some x
+read_at xs n x lt is = stands_at xs xs n n x refl refl lt ∙ ap Some (sym is)
+
 module _ (r : Read) (part pc : ℕ) (s : Span) (i : Instr) (there : slice_get r.spans part ≡ Some s) (stands : slice_get r.lowered.code pc ≡ Some i) (v : LinkContext) (is : v ≡ seen r s.function) where
   pub accessed_list : (first locks : List Lock) → first ≡ [] → locks ≡ first ++ accesses v i → (m : Lock) → IsOne locks m ↔ IsAccessed r part pc m
   accessed_list first locks none made m = (

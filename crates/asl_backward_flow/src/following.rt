@@ -7,37 +7,30 @@ ghost use Rattle.asl_backward_flow.specs.Follows.{read, IsRead, IsFollowed, Over
 use crate::call_needs::add_entry;
 use crate::flow_analysis::FlowAnalysis;
 use crate::found::{AddFault, Found};
-use crate::masks::{Mask, no_masks};
 use crate::needs_step::add_back;
-use asl_lane_sets::Bits;
+use crate::scratch::{Scratch, no_scratch};
 use std::alloc::Global;
 
-/// Adds what follows from all that is needed at a point that was taken off the list. The list and the two sets are for what is
-/// found on the way, so that none is made anew.
+/// Adds what follows from all that is needed at a point that was taken off the list.
 fn follow(
     alloc: Global,
     analysis: &FlowAnalysis,
     point: (u16, u16),
-    masks: &mut Vec<Vec<Mask>>,
-    pcs: &mut Vec<u16>,
-    set: &mut Bits,
-    stay: &mut Bits,
+    scratch: &mut Scratch,
     found: &mut Found,
 ) -> Result<(), AddFault>
     requires analysis { IsRead (read analysis.now) }
     requires there { (n : _) × Has (table found.old) point.0 point.1 n }
     requires followed { IsFollowed (read analysis.now) (table found.old) (point ∷ (table found.old).list) }
-    requires masks { AreAllMasks (read analysis.now) (table found.old) (map (λ v. v.items) masks.old.items) }
-    ensures masks { OnOk result (AreAllMasks (read analysis.now) (table found.new) (map (λ v. v.items) masks.new.items)) }
+    requires masks { AreAllMasks (read analysis.now) (table found.old) (map (λ v. v.items) scratch.old.masks.items) }
+    ensures masks { OnOk result (AreAllMasks (read analysis.now) (table found.new) (map (λ v. v.items) scratch.new.masks.items)) }
     ensures ok { OnOk result (IsFollowed (read analysis.now) (table found.new) (table found.new).list) }
     ensures less { OnOk result (left (table found.new) ≤ left (table found.old)) }
     ensures err { IfErr result (Overflows (read analysis.now) (table found.new)) }
 {
-    found.needs(point.0, point.1, set)?;
-    add_back(
-        alloc, analysis, point.0, point.1, set, masks, pcs, stay, found,
-    )?;
-    add_entry(alloc, analysis, point.0, point.1, set, found)
+    found.needs(point.0, point.1, &mut scratch.set)?;
+    add_back(alloc, analysis, point.0, point.1, scratch, found)?;
+    add_entry(alloc, analysis, point.0, point.1, &scratch.set, found)
 }
 
 /// Adds what follows at each point on the list, also at those that are put on it on the way.
@@ -47,14 +40,9 @@ pub fn follow_all(alloc: Global, analysis: &FlowAnalysis, found: &mut Found) -> 
     ensures ok { OnOk result (IsFollowed (read analysis.now) (table found.new) []) }
     ensures err { IfErr result (Overflows (read analysis.now) (table found.new)) }
 {
-    let mut masks = no_masks(alloc, analysis.spans.len())?;
-    let mut pcs = Vec::new(alloc);
-    let mut set = Bits::with_len(alloc, 0)?;
-    let mut stay = Bits::with_len(alloc, 0)?;
+    let mut scratch = no_scratch(alloc, analysis.spans.len())?;
     while let Some(point) = found.list.pop() {
-        follow(
-            alloc, analysis, point, &mut masks, &mut pcs, &mut set, &mut stay, found,
-        )?;
+        follow(alloc, analysis, point, &mut scratch, found)?;
     }
     Ok(())
 }

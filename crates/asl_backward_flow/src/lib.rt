@@ -14,6 +14,7 @@ mod masks;
 mod needs_step;
 mod region;
 mod region_needs;
+mod scratch;
 mod solve;
 mod span;
 

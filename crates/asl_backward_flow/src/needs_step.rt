@@ -10,42 +10,41 @@ use crate::access_needs::{add_with_prefixes, view};
 use crate::flow_analysis::FlowAnalysis;
 use crate::found::{AddFault, Found};
 use crate::graph::goes_on;
-use crate::masks::{Mask, staying};
+use crate::masks::staying;
+use crate::scratch::Scratch;
 use asl_code::Lock;
 use asl_lane_sets::Bits;
 use asl_lock_expr::add_links;
 use std::alloc::{AllocError, Global};
 
 /// Adds what the locks of these numbers, which are needed at the pc, become over each instruction of the region from which
-/// control continues to the pc. The list `pcs` is for these instructions, and
-/// the set `stay` for the locks that stay over one, so that none is made anew.
+/// control continues to the pc.
 pub fn add_back(
     alloc: Global,
     analysis: &FlowAnalysis,
     part: u16,
     pc: u16,
-    set: &Bits,
-    masks: &mut Vec<Vec<Mask>>,
-    pcs: &mut Vec<u16>,
-    stay: &mut Bits,
+    scratch: &mut Scratch,
     found: &mut Found,
 ) -> Result<(), AddFault>
     requires analysis { IsRead (read analysis.now) }
     requires ready { IsReady (read analysis.now) (table found.old) }
     requires there { part < length analysis.now.spans.now }
     requires code { pc < length analysis.now.lowering.now.code }
-    requires chosen { IsChosen (locks_of (table found.old) part) set.now }
-    requires masks { AreAllMasks (read analysis.now) (table found.old) (map (λ v. v.items) masks.old.items) }
-    ensures masks { OnOk result (AreAllMasks (read analysis.now) (table found.new) (map (λ v. v.items) masks.new.items)) }
+    requires chosen { IsChosen (locks_of (table found.old) part) scratch.old.set }
+    requires masks { AreAllMasks (read analysis.now) (table found.old) (map (λ v. v.items) scratch.old.masks.items) }
+    ensures set { scratch.new.set ≡ scratch.old.set }
+    ensures masks { OnOk result (AreAllMasks (read analysis.now) (table found.new) (map (λ v. v.items) scratch.new.masks.items)) }
     ensures ok { OnOk result (Added (read analysis.now) (table found.old) (table found.new)
-        (IsBack (read analysis.now) part pc (IsNamed (locks_of (table found.old) part) set.now))) }
+        (IsBack (read analysis.now) part pc (IsNamed (locks_of (table found.old) part) scratch.old.set))) }
     ensures err { IfErr result (Stopped (table found.old) (table found.new)
-        (IsBack (read analysis.now) part pc (IsNamed (locks_of (table found.old) part) set.now))) }
+        (IsBack (read analysis.now) part pc (IsNamed (locks_of (table found.old) part) scratch.old.set))) }
 {
-    last(analysis, part, pc, pcs)?;
-    add_jumps(analysis, part, pc, pcs)?;
-    for before in pcs.as_slice() {
-        add_linked(alloc, analysis, part, *before, set, stay, masks, found)?;
+    last(analysis, part, pc, &mut scratch.pcs)?;
+    add_jumps(analysis, part, pc, &mut scratch.pcs)?;
+    for number in 0..scratch.pcs.len() {
+        let before = scratch.pcs[number];
+        add_linked(alloc, analysis, part, before, scratch, found)?;
     }
     Ok(())
 }
@@ -93,9 +92,7 @@ fn add_linked(
     analysis: &FlowAnalysis,
     part: u16,
     pc: u16,
-    set: &Bits,
-    stay: &mut Bits,
-    masks: &mut Vec<Vec<Mask>>,
+    scratch: &mut Scratch,
     found: &mut Found,
 ) -> Result<(), AddFault>
     requires analysis { IsRead (read analysis.now) }
@@ -103,17 +100,19 @@ fn add_linked(
     requires point { IsAtPoint (read analysis.now) part pc }
     requires there { part < length analysis.now.spans.now }
     requires code { pc < length analysis.now.lowering.now.code }
-    requires chosen { IsChosen (locks_of (table found.old) part) set.now }
-    requires masks { AreAllMasks (read analysis.now) (table found.old) (map (λ v. v.items) masks.old.items) }
-    ensures masks { OnOk result (AreAllMasks (read analysis.now) (table found.new) (map (λ v. v.items) masks.new.items)) }
+    requires chosen { IsChosen (locks_of (table found.old) part) scratch.old.set }
+    requires masks { AreAllMasks (read analysis.now) (table found.old) (map (λ v. v.items) scratch.old.masks.items) }
+    ensures set { scratch.new.set ≡ scratch.old.set }
+    ensures pcs { scratch.new.pcs ≡ scratch.old.pcs }
+    ensures masks { OnOk result (AreAllMasks (read analysis.now) (table found.new) (map (λ v. v.items) scratch.new.masks.items)) }
     ensures ok { OnOk result (Added (read analysis.now) (table found.old) (table found.new)
-        (At part pc (IsLinkedOf (read analysis.now) part pc (IsNamed (locks_of (table found.old) part) set.now)))) }
+        (At part pc (IsLinkedOf (read analysis.now) part pc (IsNamed (locks_of (table found.old) part) scratch.old.set)))) }
     ensures err { IfErr result (Stopped (table found.old) (table found.new)
-        (At part pc (IsLinkedOf (read analysis.now) part pc (IsNamed (locks_of (table found.old) part) set.now)))) }
+        (At part pc (IsLinkedOf (read analysis.now) part pc (IsNamed (locks_of (table found.old) part) scratch.old.set)))) }
 {
-    stay_over(alloc, analysis, part, pc, set, stay, masks, found)?;
-    let changed = changed(alloc, set, stay)?;
-    found.add_numbered(part, pc, stay)?;
+    stay_over(alloc, analysis, part, pc, scratch, found)?;
+    let changed = changed(alloc, &scratch.set, &scratch.stay)?;
+    found.add_numbered(part, pc, &scratch.stay)?;
     add_changed(alloc, analysis, part, pc, &changed, found)
 }
 
@@ -128,25 +127,25 @@ fn changed(alloc: Global, set: &Bits, stay: &Bits) -> Result<Bits, AllocError>
     set.without(stay)
 }
 
-/// Makes a set that of the numbers of the locks that stay over the instruction.
+/// Finds which of the locks that are needed stay over the instruction.
 fn stay_over(
     alloc: Global,
     analysis: &FlowAnalysis,
     part: u16,
     pc: u16,
-    set: &Bits,
-    stay: &mut Bits,
-    masks: &mut Vec<Vec<Mask>>,
+    scratch: &mut Scratch,
     found: &Found,
 ) -> Result<(), AllocError>
     requires ready { IsReady (read analysis.now) (table found.now) }
     requires there { part < length analysis.now.spans.now }
     requires code { pc < length analysis.now.lowering.now.code }
-    requires masks { AreAllMasks (read analysis.now) (table found.now) (map (λ v. v.items) masks.old.items) }
-    ensures masks { OnOk result (AreAllMasks (read analysis.now) (table found.now) (map (λ v. v.items) masks.new.items)) }
-    ensures length { OnOk result (length stay.new ≡ length set.now) }
-    ensures within { OnOk result ((n : ℕ) → IsIn stay.new n → IsIn set.now n) }
-    ensures stays { OnOk result ((m : _) → IsNamed (locks_of (table found.now) part) stay.new m → StaysAt (read analysis.now) part pc m) }
+    requires masks { AreAllMasks (read analysis.now) (table found.now) (map (λ v. v.items) scratch.old.masks.items) }
+    ensures set { scratch.new.set ≡ scratch.old.set }
+    ensures pcs { scratch.new.pcs ≡ scratch.old.pcs }
+    ensures masks { OnOk result (AreAllMasks (read analysis.now) (table found.now) (map (λ v. v.items) scratch.new.masks.items)) }
+    ensures length { OnOk result (length scratch.new.stay ≡ length scratch.old.set) }
+    ensures within { OnOk result ((n : ℕ) → IsIn scratch.new.stay n → IsIn scratch.old.set n) }
+    ensures stays { OnOk result ((m : _) → IsNamed (locks_of (table found.now) part) scratch.new.stay m → StaysAt (read analysis.now) part pc m) }
 {
     let span = analysis.spans[usize::from(part)];
     let view = view(analysis, span.function);
@@ -157,9 +156,9 @@ fn stay_over(
         &view,
         instr,
         locks,
-        set,
-        stay,
-        &mut masks[usize::from(part)],
+        &scratch.set,
+        &mut scratch.stay,
+        &mut scratch.masks[usize::from(part)],
     )
 }
 

@@ -17,17 +17,17 @@ add_back-requires-clause-chosen c = chosen (read c.args.analysis.now) c.requires
 pub returns-clause-ok : goal.returns-clause-ok
 returns-clause-ok c =
     next_ok (read c.args.analysis.now) c.requires.analysis (table c.args.found.now) (table c.add_entry.new.found) c.args.point c.requires.followed c.needs.new.into c.in_ok-needs.ensures c.add_entry.result
-    (follows_ok (read c.args.analysis.now) (table c.args.found.now) (table c.add_back.new.found) (table c.add_entry.new.found) c.args.point.0 c.args.point.1 c.needs.new.into (chosen (read c.args.analysis.now) c.requires.analysis (table c.args.found.now) (table c.args.found.now) c.args.point c.requires.followed c.needs.new.into c.in_ok-needs.ensures) c.in_ok-add_back.ensures.ok c.add_entry.result c.add_entry.ensures.ok)
+    (follows_ok (read c.args.analysis.now) (table c.args.found.now) (table c.add_back.new.found) (table c.add_entry.new.found) c.args.point.0 c.args.point.1 c.needs.new.into (chosen (read c.args.analysis.now) c.requires.analysis (table c.args.found.now) (table c.args.found.now) c.args.point c.requires.followed c.needs.new.into c.in_ok-needs.ensures) c.in_ok-add_back.ensures.ok c.add_entry.result (rw c.add_back.ensures.set at c.add_entry.ensures.ok))
 
 pub returns-clause-less : goal.returns-clause-less
 returns-clause-less c =
     next_less (read c.args.analysis.now) c.requires.analysis (table c.args.found.now) (table c.add_entry.new.found) c.args.point c.requires.followed c.needs.new.into c.in_ok-needs.ensures c.add_entry.result
-    (follows_ok (read c.args.analysis.now) (table c.args.found.now) (table c.add_back.new.found) (table c.add_entry.new.found) c.args.point.0 c.args.point.1 c.needs.new.into (chosen (read c.args.analysis.now) c.requires.analysis (table c.args.found.now) (table c.args.found.now) c.args.point c.requires.followed c.needs.new.into c.in_ok-needs.ensures) c.in_ok-add_back.ensures.ok c.add_entry.result c.add_entry.ensures.ok)
+    (follows_ok (read c.args.analysis.now) (table c.args.found.now) (table c.add_back.new.found) (table c.add_entry.new.found) c.args.point.0 c.args.point.1 c.needs.new.into (chosen (read c.args.analysis.now) c.requires.analysis (table c.args.found.now) (table c.args.found.now) c.args.point c.requires.followed c.needs.new.into c.in_ok-needs.ensures) c.in_ok-add_back.ensures.ok c.add_entry.result (rw c.add_back.ensures.set at c.add_entry.ensures.ok))
 
 pub returns-clause-err : goal.returns-clause-err
 returns-clause-err c =
     next_err (read c.args.analysis.now) c.requires.analysis (table c.args.found.now) (table c.add_entry.new.found) c.args.point c.requires.followed c.needs.new.into c.in_ok-needs.ensures c.add_entry.result
-    (follows_err (read c.args.analysis.now) (table c.args.found.now) (table c.add_back.new.found) (table c.add_entry.new.found) c.args.point.0 c.args.point.1 c.needs.new.into (chosen (read c.args.analysis.now) c.requires.analysis (table c.args.found.now) (table c.args.found.now) c.args.point c.requires.followed c.needs.new.into c.in_ok-needs.ensures) c.in_ok-add_back.ensures.ok c.add_entry.result c.add_entry.ensures.err)
+    (follows_err (read c.args.analysis.now) (table c.args.found.now) (table c.add_back.new.found) (table c.add_entry.new.found) c.args.point.0 c.args.point.1 c.needs.new.into (chosen (read c.args.analysis.now) c.requires.analysis (table c.args.found.now) (table c.args.found.now) c.args.point c.requires.followed c.needs.new.into c.in_ok-needs.ensures) c.in_ok-add_back.ensures.ok c.add_entry.result (rw c.add_back.ensures.set at c.add_entry.ensures.err))
 
 pub returns-in_err-add_back-clause-err : goal.returns-in_err-add_back-clause-err
 returns-in_err-add_back-clause-err c =
@@ -40,7 +40,7 @@ add_entry-requires-clause-there c = point_in_spans (read c.args.analysis.now) c.
 
 pub add_entry-requires-clause-named : goal.add_entry-requires-clause-named
 add_entry-requires-clause-named c =
-    (chosen_still (read c.args.analysis.now) (table c.args.found.now) (table c.add_back.new.found) (table c.add_back.new.found) c.args.point.0 c.args.point.1 c.needs.new.into (chosen (read c.args.analysis.now) c.requires.analysis (table c.args.found.now) (table c.args.found.now) c.args.point c.requires.followed c.needs.new.into c.in_ok-needs.ensures) c.in_ok-add_back.ensures.ok).named
+    rw c.add_back.ensures.set (chosen_still (read c.args.analysis.now) (table c.args.found.now) (table c.add_back.new.found) (table c.add_back.new.found) c.args.point.0 c.args.point.1 c.needs.new.into (chosen (read c.args.analysis.now) c.requires.analysis (table c.args.found.now) (table c.args.found.now) c.args.point c.requires.followed c.needs.new.into c.in_ok-needs.ensures) c.in_ok-add_back.ensures.ok).named
 
 pub returns-clause-masks : goal.returns-clause-masks
-returns-clause-masks c = masks_later (read c.args.analysis.now) (table c.add_back.new.found) (table c.add_entry.new.found) (map (λ v. v.items) c.add_back.new.masks.items) _ c.in_ok-add_back.ensures.masks c.add_entry.result c.add_entry.ensures.ok
+returns-clause-masks c = masks_later (read c.args.analysis.now) (table c.add_back.new.found) (table c.add_entry.new.found) (map (λ v. v.items) c.add_back.new.scratch.masks.items) _ c.in_ok-add_back.ensures.masks c.add_entry.result c.add_entry.ensures.ok

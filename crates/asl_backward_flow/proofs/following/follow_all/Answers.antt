@@ -7,7 +7,7 @@ use Rattle.asl_backward_flow.proofs.Masking.{masks_none}
 use Rattle.asl_backward_flow.proofs.following.follow_all.Goals as goal
 
 pub loop-point-init : goal.loop-point-init
-loop-point-init c = record { followed = c.requires.followed; masks = masks_none (read c.args.analysis.now) (table c.args.found.now) _ _ c.in_ok-masks.ensures refl }
+loop-point-init c = record { followed = c.requires.followed; masks = masks_none (read c.args.analysis.now) (table c.args.found.now) _ _ c.in_ok-scratch.ensures refl }
 
 pub follow-requires-clause-there : goal.follow-requires-clause-there
 follow-requires-clause-there c =

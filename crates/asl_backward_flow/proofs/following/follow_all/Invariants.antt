@@ -7,7 +7,7 @@ use Rattle.asl_backward_flow.proofs.following.follow_all.Given as goal
 abbrev pub invariant-loop-point : goal.invariant-loop-point
 invariant-loop-point l = record {
   followed : IsFollowed (read l.analysis) (table l.found) (table l.found).list;
-  masks : AreAllMasks (read l.analysis) (table l.found) (map (λ v. v.items) l.masks.items);
+  masks : AreAllMasks (read l.analysis) (table l.found) (map (λ v. v.items) l.scratch.masks.items);
 }
 
 abbrev pub decreases-loop-point : goal.decreases-loop-point

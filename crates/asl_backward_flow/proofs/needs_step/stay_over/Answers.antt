@@ -25,10 +25,10 @@ staying-requires c =
     let within : c.args.part < length c.args.found.now.parts.items = omega (arith, parts, c.requires.there, length-map c.args.found.now.parts.items (λ (z : RegionNeeds). z.locks.keys)) in
     let locks_are = locks_before c.args.found.now.parts.items c.args.part c.from-3.result c.index.result.now (heap_items c.args.found.now.list) c.from-3.ensures within c.index.ensures ∙ sym c.as_slice-locks.ensures.keys in
     let count = c.requires.masks.count in
-    let room : c.args.part < length c.args.masks.now.items = omega (arith, count, c.requires.there, length-map c.args.masks.now.items items_of) in
-    let at = stands_at c.args.masks.now.items c.args.masks.now.items c.from-4.result c.args.part c.index_mut.result.now refl c.from-4.ensures room ∙ ap Some (sym c.index_mut.ensures.value) in
-    masks_of (read c.args.analysis.now) (table c.args.found.now) c.args.part _ there c.as_slice-locks.result.now locks_are (seen_by c.view-view.result) c.view-view.ensures (map items_of c.args.masks.now.items) c.index_mut.result.now.items
-    (mapped_at items_of c.args.masks.now.items c.args.part c.index_mut.result.now at) c.requires.masks
+    let room : c.args.part < length c.args.scratch.now.masks.items = omega (arith, count, c.requires.there, length-map c.args.scratch.now.masks.items items_of) in
+    let at = stands_at c.args.scratch.now.masks.items c.args.scratch.now.masks.items c.from-4.result c.args.part c.index_mut.result.now refl c.from-4.ensures room ∙ ap Some (sym c.index_mut.ensures.value) in
+    masks_of (read c.args.analysis.now) (table c.args.found.now) c.args.part _ there c.as_slice-locks.result.now locks_are (seen_by c.view-view.result) c.view-view.ensures (map items_of c.args.scratch.now.masks.items) c.index_mut.result.now.items
+    (mapped_at items_of c.args.scratch.now.masks.items c.args.part c.index_mut.result.now at) c.requires.masks
 
 pub returns-clause-masks : goal.returns-clause-masks
 returns-clause-masks c =
@@ -38,9 +38,9 @@ returns-clause-masks c =
     let locks_are = locks_before c.args.found.now.parts.items c.args.part c.from-3.result c.index.result.now (heap_items c.args.found.now.list) c.from-3.ensures within c.index.ensures ∙ sym c.as_slice-locks.ensures.keys in
     on_more c.staying.result _ _
     (λ is.
-    subst (AreAllMasks (read c.args.analysis.now) (table c.args.found.now)) (sym (map_set items_of c.args.masks.now.items c.from-4.result c.staying.new.masks))
-    (subst (λ n. AreAllMasks (read c.args.analysis.now) (table c.args.found.now) (slice_set (map items_of c.args.masks.now.items) n c.staying.new.masks.items)) (sym c.from-4.ensures)
-    (masks_back (read c.args.analysis.now) (table c.args.found.now) c.args.part _ there c.as_slice-locks.result.now locks_are (seen_by c.view-view.result) c.view-view.ensures (map items_of c.args.masks.now.items) c.staying.new.masks.items is c.requires.masks)))
+    subst (AreAllMasks (read c.args.analysis.now) (table c.args.found.now)) (sym (map_set items_of c.args.scratch.now.masks.items c.from-4.result c.staying.new.masks))
+    (subst (λ n. AreAllMasks (read c.args.analysis.now) (table c.args.found.now) (slice_set (map items_of c.args.scratch.now.masks.items) n c.staying.new.masks.items)) (sym c.from-4.ensures)
+    (masks_back (read c.args.analysis.now) (table c.args.found.now) c.args.part _ there c.as_slice-locks.result.now locks_are (seen_by c.view-view.result) c.view-view.ensures (map items_of c.args.scratch.now.masks.items) c.staying.new.masks.items is c.requires.masks)))
     c.staying.ensures.masks
 
 pub returns-clause-stays : goal.returns-clause-stays

@@ -1,0 +1,31 @@
+//! What the search for needed locks uses again at each point, so that nothing is made anew there.
+ghost use Rattle.std.specs.Prelude.{◌≡◌, IfOk, map, replicate, []};
+
+use crate::masks::{Mask, no_masks};
+use asl_lane_sets::Bits;
+use std::alloc::{AllocError, Global};
+
+/// What the search uses again at each point.
+#[derive(Drop)]
+pub struct Scratch {
+    /// For each region, which of its locks an instruction may concern.
+    pub masks: Vec<Vec<Mask>>,
+    /// The instructions from which control continues to the point.
+    pub pcs: Vec<u16>,
+    /// The numbers of the locks that are needed at the point.
+    pub set: Bits,
+    /// Those of them that stay over an instruction.
+    pub stay: Bits,
+}
+
+/// Nothing found yet, of so many regions.
+pub fn no_scratch(alloc: Global, count: usize) -> Result<Scratch, AllocError>
+    ensures { IfOk result (λ s. map (λ v. v.items) s.masks.items ≡ replicate count []) }
+{
+    Ok(Scratch {
+        masks: no_masks(alloc, count)?,
+        pcs: Vec::new(alloc),
+        set: Bits::with_len(alloc, 0)?,
+        stay: Bits::with_len(alloc, 0)?,
+    })
+}
