@@ -1,3 +1,4 @@
+pub mod Ascii
 pub mod Whole
 pub mod Numbers
 pub mod Tallying

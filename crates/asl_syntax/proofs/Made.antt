@@ -7,8 +7,9 @@ use Rattle.asl_grammar.specs.Lex.{tokens_of, bad_place}
 use Rattle.asl_syntax.specs.Tree.{Item}
 use Rattle.asl_syntax.specs.Limit.{tally_of, limit_from, first_place, byte_over, most_bytes}
 use Rattle.asl_syntax.specs.Built.{no_stack}
-use Rattle.asl_syntax.specs.Parsed.{first_wide, IsSpelled}
+use Rattle.asl_syntax.specs.Parsed.{IsSpelled}
 use Rattle.asl_syntax.specs.Checked.{IsWritten}
+use Rattle.asl_syntax.proofs.Ascii.{ascii}
 use Rattle.asl_syntax.proofs.Whole.{read_from}
 use Rattle.asl_syntax.proofs.Building.{read_whole, read_built}
 use Rattle.asl_syntax.proofs.Tallying.{over_is_limit}
@@ -29,11 +30,11 @@ within o n e h =
     ap (λ p. first_place p (byte_over n)) e ∙ cond-false (nat_lt most_bytes n) _ _ (le-ltb most_bytes n h)
 
 -- a text that is read whole
-pub spelled : (text : List ℕ) (tree : List Item) → first_wide text ≡ None → length text ≤ most_bytes → Some tree ≡ read_from (tally_of []) ItemStart no_stack (tokens_of text) (bad_place text) → IsSpelled text tree
-spelled text tree a b e =
+pub spelled : (text : List ℕ) (tree : List Item) → length text ≤ most_bytes → Some tree ≡ read_from (tally_of []) ItemStart no_stack (tokens_of text) (bad_place text) → IsSpelled text tree
+spelled text tree b e =
     let h = read_whole (tokens_of text) (tally_of []) ItemStart no_stack (bad_place text) tree (sym e) in
     record {
-      lexed = record { ascii = a; tokens = h.tokens };
+      lexed = record { ascii = ascii text h.tokens; tokens = h.tokens };
       spelled = spells_built (tokens_of text) tree h.built;
       limits = within (limit_from [] (tokens_of text)) (length text) (sym (over_is_limit (tokens_of text) []) ∙ h.limits) b;
     }
@@ -53,7 +54,7 @@ never text e w =
     let m = e ∙ tokens ∙ read_built (tokens_of text) (tally_of []) ItemStart no_stack within ∙ built_meaning (tokens_of text) w.program.program w.program.spelled in
     cc
 
--- what is answered of a text with as many bytes as it may have, all of them ASCII
-pub told : {A : Type 0} (view : A → List Item) (text : List ℕ) (o : Option A) → first_wide text ≡ None → length text ≤ most_bytes → option_map view o ≡ read_from (tally_of []) ItemStart no_stack (tokens_of text) (bad_place text) → MatchOption o (IsWritten text → ⊥) (λ v. IsSpelled text (view v))
-told view text None a b e = never text e
-told view text (Some v) a b e = spelled text (view v) a b e
+-- what is answered of a text with as many bytes as it may have
+pub told : {A : Type 0} (view : A → List Item) (text : List ℕ) (o : Option A) → length text ≤ most_bytes → option_map view o ≡ read_from (tally_of []) ItemStart no_stack (tokens_of text) (bad_place text) → MatchOption o (IsWritten text → ⊥) (λ v. IsSpelled text (view v))
+told view text None b e = never text e
+told view text (Some v) b e = spelled text (view v) b e

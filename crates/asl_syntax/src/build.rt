@@ -14,7 +14,7 @@ mod lines;
 
 use crate::name::Name;
 use crate::open_block::{Frame, Header, Part, make_header, no_part, push, settle, shut};
-use crate::source_limits::{Counts, MAX_BYTES, first_wide};
+use crate::source_limits::{Counts, MAX_BYTES};
 use crate::tree::{Function, Item, Statement, Value};
 use asl_grammar::control::{Act, Control, Kind, Opening};
 use asl_grammar::control_step::step;
@@ -201,7 +201,7 @@ impl Builder {
 pub fn build(alloc: Global, text: &[u8]) -> Result<Option<Vec<Item>>, AllocError>
     ensures { IfOk result (λ items. MatchOption items (IsWritten text.now → ⊥) (λ v. IsSpelled text.now (items_of v))) }
 {
-    if first_wide(text).is_some() || text.len() > MAX_BYTES {
+    if text.len() > MAX_BYTES {
         return Ok(None);
     }
     let mut tokens = Tokens::new(text);

@@ -1,4 +1,4 @@
-use Rattle.std.proofs.Common.{rules, arith, ◌≡◌, None, Some, true, false, sym, ◌∙◌, subst}
+use Rattle.std.proofs.Common.{arith, ◌≡◌, None, Some, true, false, sym, ◌∙◌, subst}
 use Rattle.asl_grammar.specs.Reader.{spots_left, bad_left}
 use Rattle.asl_grammar.specs.View.{spot_of}
 use Rattle.asl_grammar.specs.ControlView.{control_of}
@@ -7,7 +7,6 @@ use Rattle.asl_syntax.specs.TallyView.{tally_in}
 use Rattle.asl_syntax.specs.Built.{next}
 use Rattle.asl_syntax.specs.BuilderView.{stack_of, state_in}
 use Rattle.asl_syntax.proofs.Fitting.{ControlFits, keeps_fitting}
-use Rattle.asl_syntax.specs.Parsed.{first_wide}
 use Rattle.asl_syntax.specs.View.{items_of}
 use Rattle.asl_syntax.proofs.Building.{same_next, stopped_over, stopped_token, at_last}
 use Rattle.asl_syntax.proofs.Made.{never, told}
@@ -42,9 +41,8 @@ returns-in-None c =
 
 pub returns-in-End : goal.returns-in-End
 returns-in-End c =
-    let ascii : first_wide c.args.text.now ≡ None = search rules in
     let whole = at_last (tally_in c.reading.counts) (control_of c.reading.control) (stack_of c.reading.builder) _ (spots_left c.reading.tokens) (bad_left c.reading.tokens) None c.reading.invariant.same c.in-End.ensures.found.0 c.in-End.ensures.found.1 in
-    told items_of c.args.text.now c.into_items.result ascii (omega (arith, c.if-text-gt-MAX_BYTES.false)) (c.into_items.ensures ∙ whole)
+    told items_of c.args.text.now c.into_items.result (omega (arith, c.if-text-gt-MAX_BYTES.false)) (c.into_items.ensures ∙ whole)
 
 pub returns-in-Bad : goal.returns-in-Bad
 returns-in-Bad c =
