@@ -11,9 +11,8 @@ use Rattle.asl_code.specs.declared.lock.Lock.{Lock}
 use Rattle.asl_code.specs.declared.lock.Lock.TheVariants as lock
 use Rattle.asl_code.specs.declared.path.Op.{Op}
 use Rattle.asl_code.specs.declared.path.Op.TheVariants as op
-use Rattle.asl_code.specs.Operands.{operands}
-use Rattle.asl_code.specs.declared.operand.Operand.{Operand}
-use Rattle.asl_code.specs.declared.operand.Operand.TheVariants as operand
+use Rattle.asl_code.specs.Operands.{Operand, operands}
+use Rattle.asl_code.specs.Operands as operand
 use Rattle.asl_code.specs.Spelling.{IsNumber, IsInstr}
 use Rattle.asl_assembler.specs.declared.line.Line.TheVariants as line
 use Rattle.asl_assembler.specs.Words.{lines_of}

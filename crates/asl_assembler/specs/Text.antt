@@ -1,9 +1,8 @@
 -- Which assembly text spells which image, and which line of a text is wrong (docs/ASSEMBLY.md). See docs/DECISIONS.md.
 use Rattle.std.specs.Prelude.{◌≡◌, ℕ, ◌+◌, ◌-◌, ◌<◌, ◌≤◌, ◌^◌, ◌⊎◌, List, [], ◌∷◌, ◌++◌, length, map, take, min}
 use Rattle.std.specs.List.{flat_map}
-use Rattle.asl_code.specs.Operands.{operands}
-use Rattle.asl_code.specs.declared.operand.Operand.{Operand}
-use Rattle.asl_code.specs.declared.operand.Operand.TheVariants as operand
+use Rattle.asl_code.specs.Operands.{Operand, operands}
+use Rattle.asl_code.specs.Operands as operand
 use Rattle.asl_code.specs.Versions.{IsVersion}
 use Rattle.asl_code.specs.declared.image.Image.{Image}
 use Rattle.asl_code.specs.declared.image.Function.{Function}

@@ -7,9 +7,8 @@ use Rattle.std.proofs.lemmas.Option.{slice_get_within}
 use Rattle.std.proofs.lemmas.Bool.{cases_Bool, and_parts, and_from, leb-true, ltb-true, le-leb, lt-ltb, eq-eqb, cond-true, cond-false}
 use Rattle.asl_code.specs.Bodies.{Body, bodies_from, first_of, is_inside, body_of}
 use Rattle.asl_code.specs.Fits.{LiesIn, FitsFunction, FitsOperand, FitsInstr, FitsImage, FitsBase, FitsLock, HasBase, HasLock}
-use Rattle.asl_code.specs.Operands.{operands}
-use Rattle.asl_code.specs.declared.operand.Operand.{Operand}
-use Rattle.asl_code.specs.declared.operand.Operand.TheVariants as operand
+use Rattle.asl_code.specs.Operands.{Operand, operands}
+use Rattle.asl_code.specs.Operands as operand
 use Rattle.asl_code.specs.Rules.{body_at}
 use Rattle.asl_code.specs.Verified.{keeps_limits, keeps_counts, keeps_function_limits, keeps_list_limit, has_base, has_lock, has_tables, has_entry, has_range, has_ranges, has_end, has_ends, is_end, target_there, has_target, register_there, has_registers, entry_there, has_operands, has_base_register, has_lock_base, bases_there, has_list_bases, is_failure, fails_at, IsVerified}
 use Rattle.asl_code.specs.Versions.{most_locks}

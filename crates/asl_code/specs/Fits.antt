@@ -4,9 +4,8 @@
 use Rattle.std.specs.Prelude.{◌≡◌, ℕ, ◌+◌, ◌<◌, ◌≤◌, false, List, length, Some, slice_get, All}
 use Rattle.std.specs.List.{AllByRecursion}
 use Rattle.asl_code.specs.Bodies.{first_of, total_len}
-use Rattle.asl_code.specs.Operands.{operands}
-use Rattle.asl_code.specs.declared.operand.Operand.{Operand}
-use Rattle.asl_code.specs.declared.operand.Operand.TheVariants as operand
+use Rattle.asl_code.specs.Operands.{Operand, operands}
+use Rattle.asl_code.specs.Operands as operand
 use Rattle.asl_code.specs.Verified.{is_end}
 use Rattle.asl_code.specs.Versions.{IsVersion, most_locks}
 use Rattle.asl_code.specs.declared.image.Function.{Function}

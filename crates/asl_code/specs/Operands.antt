@@ -1,10 +1,22 @@
 -- Which operands each instruction has (docs/INSTRUCTIONS.md). What an operand must be is said by its kind alone: as a number
 -- of its type in Spelling, and in an image in Verified and Fits.
-use Rattle.std.specs.Prelude.{List, [], ◌∷◌}
+use Rattle.std.specs.Prelude.{ℕ, ℤ, List, [], ◌∷◌}
 use Rattle.asl_code.specs.declared.instr.Instr.{Instr}
 use Rattle.asl_code.specs.declared.instr.Instr.TheVariants as instr
-use Rattle.asl_code.specs.declared.operand.Operand.{Operand}
-use Rattle.asl_code.specs.declared.operand.Operand.TheVariants.{Register, Integer, Global, Offset, Cells, Class, Target, Callee, Locks}
+
+-- an operand of an instruction, by its kind: a register of the frame, an integer, a global, by how many cells an address
+-- moves, how many cells a new object has and its class, the place of the whole code that a jump goes to, the function that is
+-- called with the first of the registers that it takes, and a lock list
+pub data Operand : Type 0 where
+  Register : ℕ → Operand
+  Integer : ℤ → Operand
+  Global : ℕ → Operand
+  Offset : ℕ → Operand
+  Cells : ℕ → Operand
+  Class : ℕ → Operand
+  Target : ℕ → Operand
+  Callee : ℕ → ℕ → Operand
+  Locks : ℕ → Operand
 
 -- the operands of an instruction, in the order in which its row of the table has them
 abbrev pub operands : Instr → List Operand

@@ -9,7 +9,6 @@ mod instr_bytes;
 mod items;
 mod laws;
 mod lock;
-mod operand;
 mod path;
 mod places;
 mod program;
@@ -30,7 +29,6 @@ pub use laws::{
     verified_images_fit,
 };
 pub use lock::{Base, Expr, Lock};
-pub use operand::Operand;
 pub use path::{Op, Path};
 pub use program::Program;
 pub use value::{Cell, Effect, Value};

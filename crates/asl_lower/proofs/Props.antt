@@ -1,9 +1,8 @@
 -- The facts of a lowering are propositions, so they come out of what a `Lowering` keeps.
 use Rattle.std.proofs.Common.{◌≡◌, ℕ, ◌+◌, ◌<◌, ◌≤◌, Option, Some, slice_get, List, [], ◌∷◌, sym, ap, ◌∙◌}
 use Rattle.std.specs.List.{AllByRecursion}
-use Rattle.asl_code.specs.Operands.{operands}
-use Rattle.asl_code.specs.declared.operand.Operand.{Operand}
-use Rattle.asl_code.specs.declared.operand.Operand.TheVariants as operand
+use Rattle.asl_code.specs.Operands.{Operand, operands}
+use Rattle.asl_code.specs.Operands as operand
 use Rattle.asl_code.specs.declared.image.Function as entry
 use Rattle.asl_code.specs.declared.instr.Instr.{Instr}
 use Rattle.asl_code.specs.declared.instr.Instr.TheVariants as instr

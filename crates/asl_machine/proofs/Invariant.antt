@@ -18,9 +18,8 @@ use Rattle.asl_code.specs.declared.value.Value.{Value}
 use Rattle.asl_code.specs.declared.value.Value.TheVariants.{Int, Null, Addr}
 use Rattle.asl_code.specs.declared.value.Cell.{Cell}
 use Rattle.asl_code.specs.declared.value.Effect.TheVariants.{Read, Write}
-use Rattle.asl_code.specs.Operands.{operands}
-use Rattle.asl_code.specs.declared.operand.Operand.{Operand}
-use Rattle.asl_code.specs.declared.operand.Operand.TheVariants as operand
+use Rattle.asl_code.specs.Operands.{Operand, operands}
+use Rattle.asl_code.specs.Operands as operand
 use Rattle.asl_code.specs.Fits.{FitsImage, FitsOperand, FitsInstr, FitsLock, HasLock, LiesIn}
 use Rattle.asl_code.specs.Verified.{is_end}
 use Rattle.asl_code.proofs.FitsLaws.{lies_within}
