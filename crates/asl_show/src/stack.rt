@@ -5,11 +5,9 @@ ghost use Rattle.asl_show.specs.Stack.{frame_text, local_at, stack_of, stack_tex
 
 use crate::replies::push_value;
 use asl_code::image_limits::REGS;
-use asl_machine::Machine;
+use asl_machine::{MAX_FRAMES, Machine};
 use std::alloc::AllocError;
 
-/// How many frames a thread has at most.
-const MAX_FRAMES: u32 = 256;
 /// How many registers a frame has at most.
 const MAX_REGISTERS: u32 = REGS as u32;
 
@@ -27,7 +25,7 @@ fn push_frames(text: &mut String, machine: &Machine<'_>, t: u32) -> Result<(), A
     requires { t < length machine.now.state.threads }
     ensures { OnOk result (string_bytes text.new ≡ string_bytes text.old ++ stack_of machine.now.state t) }
 {
-    for index in 0..MAX_FRAMES {
+    for index in 0..MAX_FRAMES as u32 {
         push_frame(text, machine, t, index)?;
     }
     Ok(())

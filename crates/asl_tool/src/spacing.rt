@@ -3,7 +3,7 @@ ghost use Rattle.std.specs.Prelude.{◌≡◌, ◌≤◌, ◌*◌, ◌/◌, ◌�
 
 use asl_code::{Instr, Program};
 use asl_journal::{Journal, replay};
-use asl_machine::Machine;
+use asl_machine::{MAX_FRAMES, Machine};
 use std::alloc::Global;
 
 /// How many events lie between two checkpoints at least.
@@ -19,9 +19,7 @@ const WORD: u64 = 8;
 
 const FRAME: u64 = 64;
 
-/// How many frames a thread has at most, and how many objects there are at most.
-const FRAMES: u64 = 256;
-
+/// How many objects there are at most.
 const OBJECTS: u64 = 65_536;
 
 /// How many events lie between two checkpoints: 1,024, or as many as keep the checkpoints within the budget. A machine has no fewer
@@ -60,7 +58,7 @@ fn stack_bytes(program: &Program, threads: u32) -> u64 {
         .code()
         .iter()
         .any(|instr| matches!(instr, Instr::Call { .. }));
-    let frames = if calls { FRAMES } else { 1 };
+    let frames = if calls { MAX_FRAMES as u64 } else { 1 };
     let registers = program
         .functions()
         .iter()
