@@ -12,7 +12,7 @@ use crate::place::{column, line};
 use crate::sentence::{next_token, plural};
 use crate::used::{is_global, is_local_at};
 use crate::word_place::name_from;
-use asl_grammar::recognizer::settled;
+use asl_grammar::control_step::settled;
 use asl_syntax::SyntaxFault;
 use std::alloc::{AllocError, Global};
 

@@ -8,8 +8,7 @@ ghost use Rattle.asl_grammar.specs.SeenView.{place_in};
 ghost use Rattle.asl_diagnose.specs.WalkView.{walk_place, is_accepted};
 
 use asl_grammar::control::{Act, Control, Kind, Opening};
-use asl_grammar::control_step::step;
-use asl_grammar::recognizer::settled;
+use asl_grammar::control_step::{settled, step};
 use asl_grammar::token::{Spot, Token};
 use std::alloc::{AllocError, Global};
 

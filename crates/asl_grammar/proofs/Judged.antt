@@ -10,8 +10,8 @@ use Rattle.asl_grammar.specs.Spelling.{program_on}
 use Rattle.asl_grammar.specs.Automaton.{Opening, OfIf, OfElse, OfWhile, OfAtomic, Control, ItemStart, AfterThen, Act, Keep, Declare, Start, Parameter, Argument, Emit, EmitCall, Begin, Close, Finish, step}
 use Rattle.asl_grammar.proofs.Stacks.{Frame, Stack, State, state_of, apply, close_frames, else_header, kind_of, header_kind, ready, ready_then, moved, next_ready, next, run, run_with, whole, whole_at}
 use Rattle.asl_grammar.specs.Grammar.{IsProgram, IsViable, IsGrammarFault, bare, Judges}
-use Rattle.asl_grammar.specs.Seen.{Place, innermost, settled, settled_by, opening_kind, outer_kinds, kinds_after, placed, next_place, fault_at_end}
-use Rattle.asl_grammar.proofs.Stopping.{start_place, fault_with, fault_from}
+use Rattle.asl_grammar.specs.Seen.{Place, start_place, innermost, settled, settled_by, opening_kind, outer_kinds, kinds_after, placed, next_place, fault_at_end}
+use Rattle.asl_grammar.proofs.Stopping.{fault_with, fault_from}
 use Rattle.asl_grammar.proofs.Complete.{run_program}
 use Rattle.asl_grammar.proofs.Sound.{Fits, Kept, run_keeps}
 use Rattle.asl_grammar.proofs.Viable.{CanEnd, can_end, run-append}
@@ -190,6 +190,13 @@ judged_from (s ∷ rest) before end w e =
 -- the automaton's answer: the tokens are a program, or it is the place of the first with which none continues
 pub judged : (ss : List Spot) (end : ℕ) → Judges ss end (fault_from start_place ss end)
 judged ss end = judged_from ss [] end (state_of []) refl
+
+-- the answer stays the same after a token
+pub goes_on : (p q : Place) (x : Spot) (rest left : List Spot) (end : ℕ) (all : Option ℕ) → fault_from p rest end ≡ all → rest ≡ x ∷ left → Some q ≡ next_place p x.token → fault_from q left end ≡ all
+goes_on p q x rest left end all h e n =
+    ap (λ (o : Option Place). fault_with o x.at (λ w. fault_from w left end)) n
+    ∙ ap (λ (ss : List Spot). fault_from p ss end) (sym e)
+    ∙ h
 
 -- the answer where the recogniser stops, and at the end
 pub stopped : (all rest left : List Spot) (end : ℕ) (p : Place) (s : Spot) → fault_from p rest end ≡ fault_from start_place all end → rest ≡ s ∷ left → None ≡ next_place p s.token → Judges all end (Some s.at)

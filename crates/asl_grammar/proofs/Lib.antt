@@ -5,7 +5,9 @@ pub mod Sound
 pub mod Scan
 pub mod Viable
 pub mod Judged
-pub mod Deepening
+pub mod Walked
+pub mod Again
+pub mod InPlace
 pub mod Reading
 pub mod Real
 pub mod Apart

@@ -1,12 +1,7 @@
 -- Where the automaton without trees stops.
 use Rattle.std.proofs.Common.{ℕ, List, [], ◌∷◌, Option, Some, None}
 use Rattle.asl_grammar.specs.Token.{Spot}
-use Rattle.asl_grammar.specs.Automaton.{ItemStart}
 use Rattle.asl_grammar.specs.Seen.{Place, next_place, fault_at_end}
-
--- before a program
-abbrev pub start_place : Place
-start_place = record { control = ItemStart; kinds = [] }
 
 -- the place itself, or what is answered after a token
 abbrev pub fault_with : Option Place → ℕ → (Place → Option ℕ) → Option ℕ

@@ -3,7 +3,6 @@ pub mod Written
 pub mod Spelling
 pub mod Lex
 pub mod Grammar
-pub mod Depth
 pub mod View
 pub mod Bytes
 pub mod Readings
@@ -13,3 +12,4 @@ pub mod Reader
 pub mod ControlView
 pub mod Seen
 pub mod SeenView
+pub mod Recent

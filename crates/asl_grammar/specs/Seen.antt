@@ -1,7 +1,7 @@
 -- Machinery of the proofs, not of the promise: the automaton of docs/SOURCE.md's grammar without the trees: the control
 -- and the kinds of the open blocks, and where it may end. What contracts about texts say of the place where it stops is
 -- `IsGrammarFault` of specs/Grammar.
-use Rattle.std.specs.Prelude.{ℕ, ◌≤◌, List, [], ◌∷◌, Option, Some, None, length}
+use Rattle.std.specs.Prelude.{ℕ, List, [], ◌∷◌, Option, Some, None}
 use Rattle.asl_grammar.specs.declared.token.Mark.TheVariants as mark
 use Rattle.asl_grammar.specs.declared.control.Kind.{Kind}
 use Rattle.asl_grammar.specs.declared.control.Kind.TheVariants.{Body, Then, Inner}
@@ -12,6 +12,10 @@ use Rattle.asl_grammar.specs.Automaton.{Opening, OfIf, OfElse, OfWhile, OfAtomic
 pub record Place : Type 0 where
   pub control : Control
   pub kinds : List Kind
+
+-- before a program
+abbrev pub start_place : Place
+start_place = record { control = ItemStart; kinds = [] }
 
 -- the kind of the innermost block
 abbrev pub innermost : List Kind → Kind
@@ -46,16 +50,6 @@ kinds_after (Begin o) ks = opening_kind o ∷ ks
 kinds_after Close ks = outer_kinds ks
 kinds_after _ ks = ks
 
--- an act opens a block
-abbrev pub IsBegin : Act → Type 0
-IsBegin (Begin o) = Unit {0}
-IsBegin _ = ⊥
-
--- a step, if there is one, opens a block where 63 are open
-abbrev pub OpensFull : Option (Control × Act) → List Kind → Type 0
-OpensFull None ks = ⊥
-OpensFull (Some (c, a)) ks = IsBegin a × (63 ≤ length ks)
-
 -- a step, if there is one
 abbrev pub placed : Option (Control × Act) → List Kind → Option Place
 placed None ks = None
@@ -68,10 +62,6 @@ step_at p t = step (settled p.control t) (innermost p.kinds) t
 -- one token
 abbrev pub next_place : Place → Token → Option Place
 next_place p t = placed (step_at p t) p.kinds
-
--- the token opens a block where 63 are open
-abbrev pub IsFull : Place → Token → Type 0
-IsFull p t = OpensFull (step_at p t) p.kinds
 
 -- a program may end only before an item
 abbrev pub fault_at_end : Control → ℕ → Option ℕ

@@ -2,8 +2,9 @@
 ghost use Rattle.std.specs.Prelude.{◌≡◌};
 ghost use Rattle.std.specs.Option.{option_map};
 ghost use Rattle.asl_grammar.specs.Automaton.{ItemStart, FirstParameter, AfterParameter, BodyEnd, StatementStart, AfterThen, Target, step, item_step};
+ghost use Rattle.asl_grammar.specs.Seen.{settled, opening_kind, fault_at_end};
 ghost use Rattle.asl_grammar.specs.View.{token_of};
-ghost use Rattle.asl_grammar.specs.ControlView.{control_of, transition_of};
+ghost use Rattle.asl_grammar.specs.ControlView.{control_of, opening_of, transition_of};
 
 use crate::control::{Act, Control, Kind, Line, Opening, Transition};
 use crate::token::{Mark, Token};
@@ -191,5 +192,40 @@ pub fn step<'t>(control: Control<'t>, kind: Kind, token: Token<'t>) -> Option<Tr
             _ => None,
         },
         _ => item_step(control, token),
+    }
+}
+
+/// The control after the block of an `if`, once the next token is known: only an `else` belongs to the `if`.
+#[inline(always)]
+pub fn settled<'t>(control: Control<'t>, token: Token<'t>) -> Control<'t>
+    ensures { control_of result ≡ settled (control_of control.entry) (token_of token.entry) }
+{
+    match control {
+        Control::AfterThen => match token {
+            Token::Fixed(Mark::Else) => control,
+            _ => Control::StatementStart,
+        },
+        _ => control,
+    }
+}
+
+/// The kind of a block that opens.
+#[inline(always)]
+pub(crate) fn opening_kind(opening: Opening<'_>) -> Kind
+    ensures { result ≡ opening_kind (opening_of opening.entry) }
+{
+    match opening {
+        Opening::OfIf(_) => Kind::Then,
+        _ => Kind::Inner,
+    }
+}
+
+/// The fault of a text that ends at `control`.
+pub(crate) fn fault_at_end(control: Control<'_>, end: usize) -> Option<usize>
+    ensures { result ≡ fault_at_end (control_of control.entry) end }
+{
+    match control {
+        Control::ItemStart => None,
+        _ => Some(end),
     }
 }

@@ -3,6 +3,7 @@
 
 pub mod control;
 pub mod control_step;
+mod in_place;
 mod kinds;
 pub mod laws;
 pub mod lexeme;

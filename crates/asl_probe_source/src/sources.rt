@@ -15,7 +15,7 @@ pub fn answer(alloc: Global, calls: &str, out: &mut String) -> Result<(), AllocE
         match call {
             "tokens" => put_tokens(text.as_bytes(), out)?,
             "first_bad" => put_place(first_bad(text.as_bytes()), out)?,
-            "first_fault" => put_first_fault(alloc, text.as_bytes(), out)?,
+            "first_fault" => put_place(first_fault(alloc, text.as_bytes()), out)?,
             "parse_once" => put_outcome(parse(alloc, text.as_bytes()), out)?,
             _ => answer_parsed(alloc, call, text.as_bytes(), out)?,
         }
@@ -52,14 +52,6 @@ fn put_place(place: Option<usize>, out: &mut String) -> Result<(), AllocError> {
         Some(place) => write!(out, "{place}\n"),
         None => put_line("none", out),
     }
-}
-
-fn put_first_fault(alloc: Global, text: &[u8], out: &mut String) -> Result<(), AllocError> {
-    let place = match first_fault(alloc, text) {
-        Err(_refused) => first_fault(alloc, text)?,
-        Ok(place) => place,
-    };
-    put_place(place, out)
 }
 
 fn put_outcome(outcome: Result<Ast, SyntaxFault>, out: &mut String) -> Result<(), AllocError> {

@@ -25,7 +25,7 @@ tree_read tree s u p =
 fault_read : (tree : List Item) → IsSound tree → (e : code.SyntaxFault) → IsFault (printed tree) e → ((e ≡ Limit 1048576) × 1048576 < length (printed tree)) ⊎ (e ≡ OutOfMemory)
 fault_read tree s e h =
     ⊎_elim
-    (λ great. ⊎_elim (λ f. inl (f, great)) (⊎_elim inr (λ f. cc)) (one_fault_at_most (printed tree) e (Limit 1048576) h (too_long tree s great)))
+    (λ great. inl (one_fault_at_most (printed tree) e (Limit 1048576) h (too_long tree s great), great))
     (λ small. inr (no_fault (printed tree) tree e (read_back tree s small) h))
     (cases_lt 1048576 (length (printed tree)))
 

@@ -2,7 +2,8 @@
 use Rattle.std.proofs.Common.{◌≡◌, ℕ, ◌⊎◌, List, Bool, true, false, Option, Some, None, length, refl, inl, inr, map}
 use Rattle.asl_grammar.specs.Lex.{tokens_of, bad_place}
 use Rattle.asl_grammar.specs.Grammar.{IsProgram, Judges, bare}
-use Rattle.asl_grammar.proofs.Stopping.{start_place, fault_from}
+use Rattle.asl_grammar.specs.Seen.{start_place}
+use Rattle.asl_grammar.proofs.Stopping.{fault_from}
 use Rattle.asl_grammar.proofs.Judged.{judged}
 use Rattle.asl_syntax.specs.declared.fault.SyntaxFault.TheVariants as fault
 use Rattle.asl_syntax.specs.Tree.{Item}

@@ -1,9 +1,10 @@
 -- A text has one outcome at most: a tree, or one fault.
-use Rattle.std.proofs.Common.{◌≡◌, ℕ, ◌⊎◌, List, Bool, true, false, Option, Some, None, length, refl, sym, ap, ◌∙◌, inl, inr, ⊎_elim}
+use Rattle.std.proofs.Common.{◌≡◌, ℕ, List, Bool, true, false, Option, Some, None, length, refl, sym, ap, ◌∙◌}
 use Rattle.asl_grammar.specs.Token.{Spot}
 use Rattle.asl_grammar.specs.Lex.{tokens_of, bad_place}
 use Rattle.asl_grammar.specs.Grammar.{IsProgram, IsGrammarFault, Judges, bare}
-use Rattle.asl_grammar.proofs.Stopping.{start_place, fault_from}
+use Rattle.asl_grammar.specs.Seen.{start_place}
+use Rattle.asl_grammar.proofs.Stopping.{fault_from}
 use Rattle.asl_grammar.specs.Automaton.{ItemStart}
 use Rattle.asl_grammar.proofs.Judged.{judged}
 use Rattle.asl_grammar.proofs.OneFault.{one_fault}
@@ -84,48 +85,47 @@ found_tree text t p =
     (found_none fault.Unknown (unknown t) _ None p.unknown
     (found_none fault.Arity (wrong_call t (tokens_of text)) _ None p.arity (ap main_fault p.main))))
 
--- a fault is found, or it is running out of memory
-abbrev IsSaid : List ℕ → code.SyntaxFault → Type 0
-IsSaid text e = (text_fault text ≡ Some e) ⊎ (e ≡ fault.OutOfMemory)
+-- what is found of a text: its fault, and none where memory ran out
+abbrev finding : code.SyntaxFault → Option code.SyntaxFault
+finding fault.OutOfMemory = None
+finding e = Some e
 
-found_fault : (text : List ℕ) (e : code.SyntaxFault) → IsFault text e → IsSaid text e
-found_fault text (fault.NotAscii at) h = inl (found_some fault.NotAscii (first_wide text) _ at h)
+found_fault : (text : List ℕ) (e : code.SyntaxFault) → IsFault text e → text_fault text ≡ finding e
+found_fault text (fault.NotAscii at) h = found_some fault.NotAscii (first_wide text) _ at h
 found_fault text (fault.Token at) h =
-    inl (found_none fault.NotAscii (first_wide text) _ _ h.ascii (found_some fault.Token (bad_place text) _ at h.place))
+    found_none fault.NotAscii (first_wide text) _ _ h.ascii (found_some fault.Token (bad_place text) _ at h.place)
 found_fault text (fault.Grammar at) h =
-    inl (after_lexed text _ h.lexed (found_some fault.Grammar (grammar_place text) _ at (same_place text at (grammar_place text) (judged (tokens_of text) (length text)) h.place)))
+    after_lexed text _ h.lexed (found_some fault.Grammar (grammar_place text) _ at (same_place text at (grammar_place text) (judged (tokens_of text) (length text)) h.place))
 found_fault text (fault.Limit at) h =
-    inl (after_lexed text _ h.lexed
+    after_lexed text _ h.lexed
     (found_none fault.Grammar (grammar_place text) _ _ (in_program text h.program)
-    (found_some fault.Limit (first_limit text) _ at h.place)))
+    (found_some fault.Limit (first_limit text) _ at h.place))
 found_fault text (fault.Twice x) h =
-    inl (after_spelled text h.tree _ h.spelled (found_some fault.Twice (twice h.tree) _ x h.name))
+    after_spelled text h.tree _ h.spelled (found_some fault.Twice (twice h.tree) _ x h.name)
 found_fault text (fault.Unknown x) h =
-    inl (after_spelled text h.tree _ h.spelled
+    after_spelled text h.tree _ h.spelled
     (found_none fault.Twice (twice h.tree) _ _ h.once
-    (found_some fault.Unknown (unknown h.tree) _ x h.name)))
+    (found_some fault.Unknown (unknown h.tree) _ x h.name))
 found_fault text (fault.Arity at) h =
-    inl (after_spelled text h.tree _ h.spelled
+    after_spelled text h.tree _ h.spelled
     (found_none fault.Twice (twice h.tree) _ _ h.once
     (found_none fault.Unknown (unknown h.tree) _ _ h.known
-    (found_some fault.Arity (wrong_call h.tree (tokens_of text)) _ at h.place))))
+    (found_some fault.Arity (wrong_call h.tree (tokens_of text)) _ at h.place)))
 found_fault text fault.NoMain h =
-    inl (after_spelled text h.tree _ h.spelled
+    after_spelled text h.tree _ h.spelled
     (found_none fault.Twice (twice h.tree) _ _ h.once
     (found_none fault.Unknown (unknown h.tree) _ _ h.known
-    (found_none fault.Arity (wrong_call h.tree (tokens_of text)) _ _ h.arity (ap main_fault h.none)))))
-found_fault text fault.OutOfMemory h = inr refl
+    (found_none fault.Arity (wrong_call h.tree (tokens_of text)) _ _ h.arity (ap main_fault h.none))))
+found_fault text fault.OutOfMemory h = found_tree text h.tree h.parses
+
+same_finding : (e f : code.SyntaxFault) → finding e ≡ finding f → e ≡ f
+same_finding fault.OutOfMemory fault.OutOfMemory h = refl
+same_finding fault.OutOfMemory f h = cc
+same_finding e fault.OutOfMemory h = cc
+same_finding e f h = cc
+
+pub one_fault_at_most : (text : List ℕ) (e f : code.SyntaxFault) → IsFault text e → IsFault text f → e ≡ f
+one_fault_at_most text e f p q = same_finding e f (sym (found_fault text e p) ∙ found_fault text f q)
 
 pub no_fault : (text : List ℕ) (t : List Item) (e : code.SyntaxFault) → Parses text t → IsFault text e → e ≡ fault.OutOfMemory
-no_fault text t e p h =
-    ⊎_elim (λ f. let g : Some e ≡ None = sym f ∙ found_tree text t p in cc) (λ f. f) (found_fault text e h)
-
-same_fault : (e f : code.SyntaxFault) (o : Option code.SyntaxFault) → o ≡ Some e → o ≡ Some f → e ≡ f
-same_fault e f o p q = let g : Some e ≡ Some f = sym p ∙ q in cc
-
-pub one_fault_at_most : (text : List ℕ) (e f : code.SyntaxFault) → IsFault text e → IsFault text f → (e ≡ f) ⊎ ((e ≡ fault.OutOfMemory) ⊎ (f ≡ fault.OutOfMemory))
-one_fault_at_most text e f p q =
-    ⊎_elim
-    (λ a. ⊎_elim (λ b. inl (same_fault e f (text_fault text) a b)) (λ b. inr (inr b)) (found_fault text f q))
-    (λ a. inr (inl a))
-    (found_fault text e p)
+no_fault text t e p h = one_fault_at_most text e fault.OutOfMemory h (record { tree = t; parses = p })

@@ -1,9 +1,8 @@
 -- What each fault says of a text: no fault before it in the list applies, and it names the first place (docs/SOURCE.md,
 -- "Refusals").
-use Rattle.std.specs.Prelude.{◌≡◌, ◌⊎◌, ℕ, List, Some, None, length, false}
+use Rattle.std.specs.Prelude.{◌≡◌, ℕ, List, Some, None, length, false}
 use Rattle.asl_grammar.specs.Lex.{tokens_of, bad_place}
 use Rattle.asl_grammar.specs.Grammar.{IsProgram, IsGrammarFault, bare}
-use Rattle.asl_grammar.specs.Depth.{IsDeep}
 use Rattle.asl_syntax.specs.declared.fault.SyntaxFault as code
 use Rattle.asl_syntax.specs.declared.fault.SyntaxFault.TheVariants as fault
 use Rattle.asl_syntax.specs.Tree.{Item}
@@ -61,13 +60,7 @@ pub record IsWithoutMain (text : List ℕ) : Type 0 where
   pub arity : wrong_call tree (tokens_of text) ≡ None
   pub none : has_main tree ≡ false
 
--- running out of memory hides no fault of a program: the text has none. Only after the beginning of a program that has more
--- than 64 braces open does it take memory to tell whether the text is one
-pub record IsOutOfMemory (text : List ℕ) : Type 0 where
-  pub lexed : IsLexed text
-  pub hidden : HasTree text ⊎ IsDeep (tokens_of text)
-
--- the fault that a text has
+-- the fault that a text has; running out of memory hides none, so the text has a tree
 abbrev pub IsFault : List ℕ → code.SyntaxFault → Type 0
 IsFault text (fault.NotAscii at) = IsWide text at
 IsFault text (fault.Token at) = IsNoToken text at
@@ -77,4 +70,4 @@ IsFault text (fault.Twice x) = IsTwice text x
 IsFault text (fault.Unknown x) = IsUnknown text x
 IsFault text (fault.Arity at) = IsArity text at
 IsFault text fault.NoMain = IsWithoutMain text
-IsFault text fault.OutOfMemory = IsOutOfMemory text
+IsFault text fault.OutOfMemory = HasTree text

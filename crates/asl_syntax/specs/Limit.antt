@@ -1,10 +1,9 @@
 -- The limits of a source text, each at the token that goes past it (docs/SOURCE.md, "Refusals"). Contracts cite
 -- `first_limit`.
-use Rattle.std.specs.Prelude.{ℕ, suc, List, [], ◌∷◌, Bool, false, Option, Some, None, if◌then◌else◌, ◌==◌, nat_lt, nat_le, ◌||◌, length, min}
+use Rattle.std.specs.Prelude.{ℕ, suc, List, [], ◌∷◌, Bool, false, Option, Some, None, if◌then◌else◌, ◌==◌, nat_lt, nat_le, ◌||◌, ◌-◌, length, min}
 use Rattle.asl_grammar.specs.declared.token.Mark.TheVariants as mark
 use Rattle.asl_grammar.specs.Token.{Token, Fixed, Name, Number, Spot}
 use Rattle.asl_grammar.specs.Lex.{tokens_of}
-use Rattle.asl_grammar.specs.Depth.{open_braces}
 
 -- In each definition the tokens before a place stand with the last one first.
 
@@ -23,6 +22,13 @@ abbrev pub atomics_in : List Token → ℕ
 atomics_in [] = 0
 atomics_in (Fixed mark.Atomic ∷ ts) = suc (atomics_in ts)
 atomics_in (t ∷ ts) = atomics_in ts
+
+-- how many braces are open
+abbrev pub open_braces : List Token → ℕ
+open_braces [] = 0
+open_braces (Fixed mark.OpenBrace ∷ ts) = suc (open_braces ts)
+open_braces (Fixed mark.CloseBrace ∷ ts) = open_braces ts - 1
+open_braces (t ∷ ts) = open_braces ts
 
 -- one more name, in the head of a function
 abbrev pub one_more : Option ℕ → Option ℕ

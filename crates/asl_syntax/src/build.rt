@@ -17,9 +17,8 @@ use crate::open_block::{Frame, Header, Part, make_header, no_part, push, settle,
 use crate::source_limits::{Counts, MAX_BYTES};
 use crate::tree::{Function, Item, Statement, Value};
 use asl_grammar::control::{Act, Control, Kind, Opening};
-use asl_grammar::control_step::step;
+use asl_grammar::control_step::{settled, step};
 use asl_grammar::lexer::{Found, Tokens};
-use asl_grammar::recognizer::settled;
 use asl_grammar::token::{Mark, Token};
 use std::alloc::{AllocError, Global};
 use std::mem;

@@ -31,7 +31,7 @@ pub enum SyntaxFault {
     /// There is no function `main` of one parameter.
     #[error("NoMain")]
     NoMain,
-    /// Memory for the tree ran out, of a text that has no fault or that has more than 64 braces open at once.
+    /// Memory for the tree ran out, of a text that has no fault.
     #[error("OutOfMemory")]
     OutOfMemory,
 }

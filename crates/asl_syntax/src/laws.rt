@@ -89,9 +89,9 @@ pub fn a_printed_ast_is_read_back(ast: &Ast)
     ensures answer { (r : Result Ast SyntaxFault) → IfOk r (λ a. Parses (printed (tree_of ast.now)) (tree_of a)) → IfErr r (IsFault (printed (tree_of ast.now))) → IsReadBack (tree_of ast.now) (printed (tree_of ast.now)) r }
 {}
 
-/// A text has one outcome: a tree, or one fault. Running out of memory is not a fault of a text, and may stand beside its outcome.
+/// A text has one outcome: a tree, or one fault. Running out of memory is not a fault of a text, and stands beside a tree alone.
 pub fn a_text_has_one_outcome()
     ensures some { (text : List ℕ) → HasTree text ⊎ HasFault text }
     ensures tree { (text : List ℕ) (t : List Item) (e : SyntaxFault) → Parses text t → IsFault text e → e ≡ OutOfMemory }
-    ensures fault { (text : List ℕ) (e f : SyntaxFault) → IsFault text e → IsFault text f → (e ≡ f) ⊎ ((e ≡ OutOfMemory) ⊎ (f ≡ OutOfMemory)) }
+    ensures fault { (text : List ℕ) (e f : SyntaxFault) → IsFault text e → IsFault text f → e ≡ f }
 {}

@@ -48,7 +48,7 @@ fn check_text(alloc: Global, text: &[u8]) -> Result<(), SyntaxFault>
     ensures err { IfErr result (IsFault text.now) }
 {
     let over = check_tokens(text)?;
-    if let Some(at) = first_fault(alloc, text)? {
+    if let Some(at) = first_fault(alloc, text) {
         return Err(SyntaxFault::Grammar(at));
     }
     if let Some(at) = first_limit(text, over) {
@@ -137,8 +137,7 @@ fn find_fault(alloc: Global, items: &[Item], text: &[u8]) -> Option<SyntaxFault>
 ///
 /// # Errors
 ///
-/// The first fault; `OutOfMemory` where an allocation failed that the tree needs, and then only for a text that has no fault,
-/// or one with more than 64 braces open at once.
+/// The first fault; `OutOfMemory` where an allocation failed that the tree needs, and then only for a text that has no fault.
 pub fn parse(alloc: Global, text: &[u8]) -> Result<Ast, SyntaxFault>
     ensures ok { IfOk result (λ a. Parses text.now (tree_of a)) }
     ensures err { IfErr result (IsFault text.now) }
