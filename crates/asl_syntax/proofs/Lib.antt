@@ -36,3 +36,8 @@ pub mod Scanned
 pub mod Agreed
 pub mod Short
 pub mod Placed
+pub mod EachLimit
+pub mod LimitCounts
+pub mod LimitNumbers
+pub mod LimitBraces
+pub mod WithinLimits

@@ -20,6 +20,8 @@ ghost use Rattle.asl_syntax.specs.Rules.{twice, unknown, wrong_call};
 ghost use Rattle.asl_syntax.specs.DeclaredOnce.{AreDeclaredOnce};
 ghost use Rattle.asl_syntax.specs.Known.{AreKnown, HaveArity};
 ghost use Rattle.asl_syntax.specs.FirstFault.{IsFirstTwice, IsFirstUnknown, IsFirstWrongCall};
+ghost use Rattle.asl_syntax.specs.Limit.{first_limit};
+ghost use Rattle.asl_syntax.specs.WithinLimits.{IsWithinLimits};
 ghost use Rattle.asl_syntax.specs.TokenNames.{token_names, mention_name};
 ghost use Rattle.asl_syntax.specs.Writing.{writing};
 ghost use Rattle.asl_syntax.specs.Printed.{spaced, printed};
@@ -52,6 +54,13 @@ pub fn faults_of_names_are_the_first()
     ensures twice { (t : List Item) (x : List ℕ) → twice t ≡ Some x → IsFirstTwice t x }
     ensures unknown { (t : List Item) (x : List ℕ) → unknown t ≡ Some x → IsFirstUnknown t x }
     ensures arity { (t : List Item) (ss : List Spot) (at : ℕ) → Spells t (bare ss) → twice t ≡ None → unknown t ≡ None → wrong_call t ss ≡ Some at → IsFirstWrongCall t ss at }
+{}
+
+/// The text of a program passes no limit exactly where it has at most 1,048,576 bytes and its tree is within the limits: it
+/// has few functions, globals and sections, each function has few parameters, few blocks stand in one another, each name is
+/// short, and each number is in its range.
+pub fn limits_are_of_the_tree()
+    ensures { (t : List Item) (text : List ℕ) → Spells t (bare (tokens_of text)) → (first_limit text ≡ None) ↔ ((length text ≤ 1048576) × IsWithinLimits t) }
 {}
 
 /// A tree is printed as tokens that spell it.
