@@ -13,7 +13,7 @@ root=$(cd "$(dirname "$(readlink -f "${BASH_SOURCE[0]}")")" && pwd)
 own=$root/crates/asl/out
 binary=$own/asl
 log=$own/build.log
-# the sum of the sources that the binary was built from
+# the sum of the sources that the binary was built from, and its own
 built_from=$own/built-from
 # the logic in which the program says that it was proved
 logic=dac8208d650f15bf
@@ -82,10 +82,18 @@ is_stale() {
     while read -r name _; do
       [ -z "$(find "$root/crates/$name" -name out -prune -o -type f -newer "$binary" -print -quit)" ] || return 0
     done < <(crates_below)
-    sum_of_all >"$built_from"
+    note_built "$(sum_of_all)"
   fi
-  [ "$(<"$built_from")" != "$(sum_of_all)" ]
+  local sources='' own_sum=''
+  read -r sources own_sum <"$built_from" || :
+  [ "$sources" != "$(sum_of_all)" ] || { [ -n "$own_sum" ] && [ "$own_sum" != "$(sum_of_binary)" ]; }
 }
+
+sum_of_binary() { sha256sum <"$binary" | cut -c1-64; }
+
+# note_built SUM: the binary was built from the sources of this sum. One that rt puts in its place later, perhaps from other sources,
+# does not count
+note_built() { echo "$1 $(sum_of_binary)" >"$built_from"; }
 
 # is_proved NAME SUM: a build has proved the crate from just these sources
 is_proved() {
@@ -284,7 +292,7 @@ build() {
   build_crates
   trap - EXIT HUP INT TERM
   # where a source was changed meanwhile, this is not its sum, and the next call builds again
-  echo "$sum" >"$built_from"
+  note_built "$sum"
 }
 
 # asks_for_help WORD..: the words ask for a page or the version, so nothing is read
