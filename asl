@@ -6,13 +6,14 @@
 # crates/asl/out/build.log.
 #
 # usage: ./asl WORD..              runs the program
-#        ./asl --unproved WORD..   runs the sources at once, with nothing proved: after a minute, and up to 1 MiB of output
+#        ./asl --unproved WORD..   runs the sources at once, with nothing proved: after a minute or two, with up to 64 MiB of input and
+#                                  1 MiB of output
 set -eu
 root=$(cd "$(dirname "$(readlink -f "${BASH_SOURCE[0]}")")" && pwd)
 own=$root/crates/asl/out
 binary=$own/asl
 log=$own/build.log
-# the sum of the sources that the binary was built from
+# the sum of the sources that the binary was built from, and its own
 built_from=$own/built-from
 # the logic in which the program says that it was proved
 logic=dac8208d650f15bf
@@ -81,10 +82,18 @@ is_stale() {
     while read -r name _; do
       [ -z "$(find "$root/crates/$name" -name out -prune -o -type f -newer "$binary" -print -quit)" ] || return 0
     done < <(crates_below)
-    sum_of_all >"$built_from"
+    note_built "$(sum_of_all)"
   fi
-  [ "$(<"$built_from")" != "$(sum_of_all)" ]
+  local sources='' own_sum=''
+  read -r sources own_sum <"$built_from" || :
+  [ "$sources" != "$(sum_of_all)" ] || { [ -n "$own_sum" ] && [ "$own_sum" != "$(sum_of_binary)" ]; }
 }
+
+sum_of_binary() { sha256sum <"$binary" | cut -c1-64; }
+
+# note_built SUM: the binary was built from the sources of this sum. One that rt puts in its place later, perhaps from other sources,
+# does not count
+note_built() { echo "$1 $(sum_of_binary)" >"$built_from"; }
 
 # is_proved NAME SUM: a build has proved the crate from just these sources
 is_proved() {
@@ -278,21 +287,37 @@ build() {
   trap 'exit 143' TERM
   plan
   sum=$(sum_of_all)
-  rm -f "$built_from"
+  # (not removed: where there is no sum, a program counts that is not older than its sources)
+  echo unfinished >"$built_from"
   build_crates
   trap - EXIT HUP INT TERM
   # where a source was changed meanwhile, this is not its sum, and the next call builds again
-  echo "$sum" >"$built_from"
+  note_built "$sum"
+}
+
+# asks_for_help WORD..: the words ask for a page or the version, so nothing is read
+asks_for_help() {
+  local word
+  for word in "$@"; do
+    case $word in --help | -h | --version | -V) return 0 ;; esac
+  done
+  return 1
 }
 
 # the sources as they stand, with nothing proved: what rt says itself is shown only where it has no answer
 run_unproved() {
-  local said status=0
+  local said given status=0
   needs_kit
   echo "asl: nothing is proved of this run" >&2
   said=$(mktemp)
-  # shellcheck disable=SC2064  # the name of now
-  trap "rm -f '$said'" EXIT
+  given=$(mktemp)
+  # shellcheck disable=SC2064  # the names of now
+  trap "rm -f '$said' '$given'" EXIT
+  # rt does not wait for an input that takes long, and what comes by a pipe may be of such a run, too: so it is read to its end first
+  if [ -p /dev/stdin ] && ! asks_for_help "$@"; then
+    cat >"$given"
+    exec <"$given"
+  fi
   (cd "$root/crates/asl" && exec rt try --seconds 3600 -- "$@") 2>"$said" || status=$?
   if [[ $(tail -n 1 "$said") == run=ended* ]]; then sed '/^checked: ended status=/,$d' "$said" >&2; else cat "$said" >&2; fi
   exit "$status"

@@ -35,7 +35,7 @@ enum {
   ASL_RUN_WAITS = 255          /* the words ask for `run`, which starts threads */
 };
 
-/* Does what the program does for these words, which stand in `words` with a line feed between two; `words_length` 0 is no words.
+/* Does what the program does for these words, which are in `words` with a line feed between two; `words_length` 0 is no words.
  * `input` is what the program would read. `output` and `errors` get as much of its output and of its standard error as they have
  * room for, from their front on; their other bytes stay. Where `answer` tells more than there was room for, call again with more.
  * Calls may overlap in time. */
@@ -107,7 +107,7 @@ typedef struct asl_session {
   void *at;
 } asl_session;
 
-/* Of the others than 0 and 2 the first that applies, in the order in which they stand at a function, is returned, and 2 only where none
+/* Of the others than 0 and 2 the first that applies, in the order in which they are listed at a function, is returned, and 2 only where none
  * does; asl_session_open alone may run out of memory before it knows of 12 and 11. Unless it is ASL_OK, nothing has changed and nothing
  * was written. */
 enum {
@@ -115,7 +115,7 @@ enum {
   ASL_NO_SUCH_STEP = 13, /* the journal has no such position */
   ASL_NOT_AT_END = 14,   /* events follow the position: cut first */
   ASL_JOURNAL_FULL = 15, /* the journal has 16,777,216 events */
-  ASL_NULL_POINTER = 16  /* NULL where something is to stand; NULL for a session is ASL_BAD_HANDLE */
+  ASL_NULL_POINTER = 16  /* NULL for what is to be read or written; NULL for a session is ASL_BAD_HANDLE */
 };
 
 /* Where a session is: how many events lead to the machine that is shown, and how many the journal has. */

@@ -1,18 +1,62 @@
 #!/usr/bin/env -S node --experimental-wasm-memory64
 // The program `asl` where no kit is: node --experimental-wasm-memory64 web/cli.mjs compile --text < examples/counter.asl
 // `run` is not here, since it starts threads. The module is asl.wasm beside this file, or in the folder out/ there.
-import { existsSync, readFileSync, writeSync } from 'node:fs';
+import { existsSync, readFileSync, readSync, writeSync } from 'node:fs';
 import { loadAsl } from './asl.mjs';
 
 const MODULE = ['asl.wasm', 'out/asl.wasm'].map(name => new URL(name, import.meta.url)).find(path => existsSync(path));
+const MOST_INPUT = 268435456;
+const HELP = ['--help', '-h', '--version', '-V'];
 
 function writeAll(stream, bytes) {
   for (let at = 0; at < bytes.length;) at += writeSync(stream, bytes, at);
 }
 
-const asl = await loadAsl(readFileSync(process.env.ASL_WASM || MODULE));
-const { status, output, errors } = asl(process.argv.slice(2), readFileSync(0));
-if (status === 255) writeAll(2, Buffer.from('asl: run starts threads, which the module cannot\n'));
-writeAll(1, output);
-writeAll(2, Buffer.from(errors));
-process.exitCode = status === 255 ? 2 : status;
+// Says how it ends; a standard error that fails changes no status.
+function end(status, errors) {
+  process.exitCode = status;
+  try {
+    writeAll(2, Buffer.from(errors));
+  } catch { /* the status says it */ }
+}
+
+// Standard input to its end, or what refuses it.
+function input() {
+  const parts = [];
+  for (let length = 0; length <= MOST_INPUT;) {
+    const part = Buffer.allocUnsafe(1 << 20), got = readSync(0, part, 0, part.length, null);
+    if (!got) return { bytes: Buffer.concat(parts, length) };
+    parts.push(part.subarray(0, got));
+    length += got;
+  }
+  return { refusal: 'TooLong' };
+}
+
+function given() {
+  try {
+    return input();
+  } catch {
+    return { refusal: 'Read' };
+  }
+}
+
+// The words are judged before the input is read, and help reads none.
+function answer(asl, words) {
+  const judged = asl(words, new Uint8Array(0));
+  if (judged.status >= 2 || words.some(word => HELP.includes(word))) return judged;
+  const { bytes, refusal } = given();
+  return refusal ? { status: 1, output: [], errors: `asl: ${refusal}\n` } : asl(words, bytes);
+}
+
+function run(asl, words) {
+  const { status, output, errors } = answer(asl, words);
+  if (status === 255) return end(2, 'asl: run starts threads, which the module cannot\n');
+  try {
+    writeAll(1, output);
+  } catch {
+    return end(1, 'asl: Write\n');
+  }
+  return end(status, errors);
+}
+
+run(await loadAsl(readFileSync(process.env.ASL_WASM || MODULE)), process.argv.slice(2));
