@@ -33,7 +33,7 @@ taken_kind (suc n) = Then
 -- of the open blocks, those that stand in `from` others or more, but in fewer than `to`, have their kinds in their places
 abbrev pub IsKept : List Kind → List Kind → ℕ → ℕ → Type 0
 IsKept kinds ks from to = (level : ℕ) → from ≤ level → level < to → level < length ks →
-    slice_index_or kinds (level % 256) Body ≡ slice_index_or (reverse ks) level Body
+    slice_index_or kinds (level % 1024) Body ≡ slice_index_or (reverse ks) level Body
 
 -- what is kept is true of these open blocks, as far as they stand in fewer than `to` others
 pub record IsRecent (r : recent.Recent) (ks : List Kind) (to : ℕ) : Type 0 where

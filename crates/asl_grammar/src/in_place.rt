@@ -17,7 +17,7 @@ use crate::lexer::{Found, Tokens};
 use crate::token::Token;
 
 /// Of how many open blocks the kinds are kept.
-const SPAN: usize = 256;
+const SPAN: usize = 1024;
 
 /// How many blocks are open, and the kinds of the innermost ones: that of a block which stands in n others at n modulo the
 /// span. Of the outer ones, as many as are lost, the kinds are not there.
@@ -68,7 +68,7 @@ impl Recent {
         requires { self.old.depth + 1 < 2 ^ 64 }
         ensures recent { (ks : List Kind) → IsRecent self.old ks to → IsRecent self.new (kind ∷ ks) to }
         ensures depth { self.new.depth ≡ self.old.depth + 1 }
-        ensures lost { self.new.lost ≤ max self.old.lost (to - 256) }
+        ensures lost { self.new.lost ≤ max self.old.lost (to - 1024) }
     {
         if self.depth < to {
             self.kinds[self.depth % SPAN] = kind;
@@ -82,7 +82,7 @@ impl Recent {
         requires { self.old.depth + 1 < 2 ^ 64 }
         ensures recent { (ks : List Kind) → IsRecent self.old ks to → IsRecent self.new (kinds_after (act_of act.entry) ks) to }
         ensures depth { self.new.depth ≤ self.old.depth + 1 }
-        ensures lost { self.new.lost ≤ max self.old.lost (to - 256) }
+        ensures lost { self.new.lost ≤ max self.old.lost (to - 1024) }
     {
         match act {
             Act::Begin(opening) => self.push(opening_kind(opening), to),
@@ -103,7 +103,7 @@ impl Recent {
         ensures next { (ks : List Kind) → IsRecent self.old ks to
             → IsAfter (step (settled (control_of control.entry) (token_of token.entry)) kind (token_of token.entry)) ks to result self.new }
         ensures depth { self.new.depth ≤ self.old.depth + 1 }
-        ensures lost { self.new.lost ≤ max self.old.lost (to - 256) }
+        ensures lost { self.new.lost ≤ max self.old.lost (to - 1024) }
     {
         let transition = step(settled(control, token), kind, token)?;
         self.nest(transition.act, to);

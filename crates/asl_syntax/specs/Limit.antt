@@ -1,5 +1,5 @@
 -- The limits of a source text, each at the token that goes past it (docs/SOURCE.md, "Refusals"). Contracts cite
--- `first_limit`.
+-- `first_limit`; what it means of a tree is said by the law limits_are_of_the_tree.
 use Rattle.std.specs.Prelude.{ℕ, suc, List, [], ◌∷◌, Bool, false, Option, Some, None, if◌then◌else◌, ◌==◌, nat_lt, nat_le, ◌||◌, ◌-◌, length, min}
 use Rattle.asl_grammar.specs.declared.token.Mark.TheVariants as mark
 use Rattle.asl_grammar.specs.Token.{Token, Fixed, Name, Number, Spot}

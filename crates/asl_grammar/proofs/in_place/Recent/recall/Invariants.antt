@@ -11,7 +11,7 @@ abbrev pub invariant-again : goal.invariant-again
 invariant-again l = record {
   again : (p : Place) → place_after l.count (tokens_of l.fn.text) ≡ Some p → IsAgain l.control l.recent l.depth l.left (spots_left l.tokens) p;
   room : l.recent.depth + l.left ≤ l.count;
-  lost : l.recent.lost ≤ l.depth - 256;
+  lost : l.recent.lost ≤ l.depth - 1024;
 }
 
 abbrev pub decreases-again : goal.decreases-again
