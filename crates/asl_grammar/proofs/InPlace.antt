@@ -1,25 +1,16 @@
 -- What a reader without memory has found after some tokens, and what it finds when it reads them again.
 use Rattle.std.proofs.Common.{◌≡◌, ℕ, zero, suc, ◌+◌, ◌-◌, ◌<◌, ◌≤◌, List, [], ◌∷◌, Option, Some, None, length, drop, refl, sym, ap, ◌∙◌, subst, arith}
 use Rattle.asl_grammar.specs.declared.control.Control as code
-use Rattle.asl_grammar.specs.declared.control.Opening as opening
-use Rattle.asl_grammar.specs.declared.control.Act as act
-use Rattle.asl_grammar.specs.declared.control.Act.TheVariants as acts
 use Rattle.asl_grammar.specs.declared.control.Kind.{Kind}
 use Rattle.asl_grammar.specs.declared.in_place.Recent.{Recent}
 use Rattle.asl_grammar.specs.Token.{Spot}
 use Rattle.asl_grammar.specs.Automaton.{Control, Act, step}
-use Rattle.asl_grammar.specs.ControlView.{control_of, act_of}
+use Rattle.asl_grammar.specs.ControlView.{control_of}
 use Rattle.asl_grammar.specs.Seen.{Place, start_place, innermost, settled, kinds_after, placed, step_at}
 use Rattle.asl_grammar.specs.Recent.{walk, place_after, taken_kind, IsRecent, HasInnermost, IsAfter}
 use Rattle.asl_grammar.proofs.Stopping.{fault_from}
 use Rattle.asl_grammar.proofs.Walked.{walk_more, drop_next, walk_fault, reads}
 use Rattle.asl_grammar.proofs.Again.{AreOpened, IsSeenAs, still_opened, seen_step, leads}
-
--- an act that neither opens a block nor closes one
-pub quiet : (a : act.Act) (ks : List Kind) → ((o : opening.Opening) → a ≡ acts.Begin o → ⊥) → (a ≡ acts.Close → ⊥) → kinds_after (act_of a) ks ≡ ks
-quiet (acts.Begin o) ks b d = absurd (b o refl)
-quiet acts.Close ks b d = absurd (d refl)
-quiet _ ks b d = refl
 
 -- ---- the first reading
 
@@ -39,6 +30,7 @@ reached_fault all count c r rest to end h =
     ap (λ (ss : List Spot). fault_from (place_at c h.kinds) ss end) (sym h.left)
     ∙ walk_fault count start_place (place_at c h.kinds) all end h.walked
 
+-- reading the text again leaves the number of open blocks
 pub kept_depth : (all : List Spot) (count : ℕ) (c : code.Control) (r k : Recent) (rest : List Spot) (to : ℕ) → IsReached all count c r rest to → ((p : Place) (n : ℕ) → place_after count all ≡ Some p → IsRecent r p.kinds n → IsRecent k p.kinds n × HasInnermost k) → k.depth ≡ r.depth
 kept_depth all count c r k rest to h keeps =
     (keeps (place_at c h.kinds) to h.walked h.recent).0.depth ∙ sym h.recent.depth
