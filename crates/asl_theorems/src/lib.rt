@@ -82,13 +82,15 @@ pub fn journals_are_runs_by_the_table()
 {}
 
 /// It is not said of nothing. Each order of the steps of as many threads as the program's version allows has a journal, and no
-/// two. Compiled programs are verified.
+/// two. Compiled programs are verified. Of others this is not so: a thread may be where the table has no line.
 pub fn every_schedule_has_one_journal()
     ensures some { (image : Image) (count : ℕ) (schedule : List ℕ) → IsVerified image → IsThreadCount image count → All (λ t. t < count) schedule
         → (events : List Event) × IsJournal image count events × (schedule_of events ≡ schedule) }
     ensures one { (image : Image) (count : ℕ) (events others : List Event) → IsJournal image count events
         → IsJournal image count others → schedule_of events ≡ schedule_of others → events ≡ others }
     ensures verified { (source : List ℕ) (k_limit : ℕ) (image : Image) → Compiles source k_limit image → IsVerified image }
+    ensures others { ¬ ((image : Image) (count : ℕ) (schedule : List ℕ) → IsThreadCount image count → All (λ t. t < count) schedule
+        → (events : List Event) × ((end : State) × LeadsTo image count events end × (schedule_of events ≡ schedule))) }
 {}
 
 /// Each journal of a program that bytes spell, if it is not too long for any, has bytes. So it can be kept as a run file.
