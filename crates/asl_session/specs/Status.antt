@@ -1,7 +1,7 @@
 -- What a call on a session answers, and what it leaves of it (docs/EMBEDDING.md, "Sessions from C").
 use Rattle.std.specs.Prelude.{◌≡◌, ◌≢◌, ◌<◌, ◌≤◌, ◌+◌, ◌↔◌, ◌⊎◌, ℕ, List, length, take, Result, Ok, Err}
 use Rattle.asl_machine.specs.declared.reply.Reply.{Reply}
-use Rattle.asl_journal.specs.Journal.{most_events, with_event}
+use Rattle.asl_journal.specs.Journal.{IsJournal, most_events, with_event}
 use Rattle.asl_journal.specs.RunFile.{SpellsRun}
 use Rattle.asl_debugger.specs.declared.fault.StepFault.{StepFault}
 use Rattle.asl_debugger.specs.declared.fault.StepFault.TheVariants as step
@@ -26,10 +26,11 @@ move_status (Ok done) = 0
 move_status (Err debug.NoSuchStep) = 13
 move_status (Err fault) = 2
 
--- the session after a step of the thread with this reply, which is written down
+-- the session after a step of the thread with this reply, which is written down; its events are a journal of the program
 pub record IsBehindStep (s : Session) (t : ℕ) (reply : Reply) (new : Session) : Type 0 where
   pub event : new ≡ recorded s (with_event s.log (record { thread = t; reply = reply })) (s.position + 1)
   pub step : IsStepBetween s new t reply
+  pub journal : IsJournal new.image new.log.threads new.log.events
 
 -- 0: the thread has stepped. Else nothing has changed, and it is 14: events follow; else 15: the journal is full; else 4: there is
 -- no such thread; else 2: there was no memory

@@ -2,7 +2,7 @@
 ghost use Rattle.std.specs.Prelude.{◌≡◌, ◌≢◌, ◌<◌, ◌≤◌, ◌+◌, ◌↔◌, ◌⊎◌, [], length, take, IfOk, IfErr, IsErrOf, OnOk, OnErr, string_bytes};
 ghost use Rattle.asl_code.specs.Versions.{most_threads};
 ghost use Rattle.asl_machine.specs.Run.{IsThreadCount};
-ghost use Rattle.asl_journal.specs.Journal.{most_events, with_event};
+ghost use Rattle.asl_journal.specs.Journal.{IsJournal, most_events, with_event};
 ghost use Rattle.asl_journal.specs.RunFile.{SpellsRun};
 ghost use Rattle.asl_debugger.specs.Session.{IsStepBetween, moved, recorded};
 ghost use Rattle.asl_debugger.specs.Paused.{IsSessionRestOf};
@@ -77,6 +77,7 @@ impl Session {
         ensures stranger { IsErrOf result.1 StepFault.BadThread
             ↔ ((self.position ≡ length self.log.events) × (length self.log.events < most_events) × (self.log.threads ≤ call.1)) }
         ensures err { OnErr result.1 (result.0 ≡ self) }
+        ensures journal { IsJournal result.0.image result.0.log.threads result.0.log.events }
     {
         let (alloc, t) = call;
         let Session { program, debugger } = self;
