@@ -10,7 +10,8 @@ use Rattle.asl_journal.specs.Journal.{Log, IsJournal}
 use Rattle.asl_journal.proofs.ByTable.{leads_at, end_is}
 use Rattle.asl_journal.proofs.Runs.{prefix_is_journal}
 use Rattle.asl_debugger.specs.Halts.{MayWantMemoryBefore, IsHalt, IsNextHalt, IsLastHalt}
-use Rattle.asl_debugger.specs.Session.{Session, IsStateAt, IsShown, MayWantMemoryAt, IsAtBreak, IsStop, IsNextStop, IsLastStop, state_before, machine_before}
+use Rattle.asl_debugger.specs.Computed.{state_before, machine_before}
+use Rattle.asl_debugger.specs.Session.{Session, IsStateAt, IsShown, MayWantMemoryAt, IsAtBreak, IsStop, IsNextStop, IsLastStop}
 use Rattle.asl_debugger.proofs.Positions.{is_at}
 
 module _ (image : Image) (log : Log) (j : IsJournal image log.threads log.events) where

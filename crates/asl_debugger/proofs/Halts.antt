@@ -6,7 +6,8 @@ use Rattle.std.proofs.lemmas.Option.{slice_get-get_or}
 use Rattle.asl_machine.specs.View.{Configuration}
 use Rattle.asl_journal.specs.declared.event.Event.{Event}
 use Rattle.asl_debugger.specs.Halts.{IsHalt, IsNextHalt, IsLastHalt}
-use Rattle.asl_debugger.specs.Session.{Session, IsAtBreak, machine_before, state_before}
+use Rattle.asl_debugger.specs.Computed.{machine_before, state_before}
+use Rattle.asl_debugger.specs.Session.{Session, IsAtBreak}
 use Rattle.asl_debugger.specs.Search.{IsFound}
 
 abbrev StopsBy : Session → ℕ → Option Event → Type 0

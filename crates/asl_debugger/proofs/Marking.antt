@@ -8,7 +8,7 @@ use Rattle.asl_machine.specs.View.{Configuration}
 use Rattle.asl_machine.specs.Paused.{Rest, IsRestOf}
 use Rattle.asl_journal.specs.Journal.{Log}
 use Rattle.asl_debugger.specs.declared.trail.Mark.{Mark}
-use Rattle.asl_debugger.specs.Session.{machine_before}
+use Rattle.asl_debugger.specs.Computed.{machine_before}
 use Rattle.asl_debugger.specs.Checkpoints.{AreMarks, IsMarkOf}
 use Rattle.asl_debugger.proofs.Marks.{mark_of}
 

@@ -15,7 +15,7 @@ use Rattle.asl_journal.proofs.Replays.{no_difference}
 use Rattle.asl_debugger.specs.declared.fault.DebugFault.{DebugFault}
 use Rattle.asl_debugger.specs.declared.fault.DebugFault.TheVariants.{AtEnd, AtStart, NoSuchStep, Differs, OutOfMemory, BadCount}
 use Rattle.asl_debugger.specs.Opening.{IsOpenFault}
-use Rattle.asl_debugger.specs.Session.{machine_before, state_before}
+use Rattle.asl_debugger.specs.Computed.{machine_before, state_before}
 use Rattle.asl_debugger.proofs.Positions.{is_at}
 use Rattle.asl_debugger.specs.declared.trail.Mark.{Mark}
 use Rattle.asl_debugger.specs.Checkpoints.{IsMark, AreCheckpoints, IsDebuggerState}

@@ -13,11 +13,12 @@ use Rattle.asl_machine.specs.StepFunction.{step_of}
 use Rattle.asl_machine.proofs.Reached.{reached_count}
 use Rattle.asl_journal.specs.declared.event.Event.{Event}
 use Rattle.asl_journal.specs.Journal.{Log, IsLog, AreThere, IsJournal, schedule_of}
-use Rattle.asl_journal.specs.Computed.{GoesBy, DiffersFrom}
+use Rattle.asl_journal.specs.Computed.{GoesBy}
 use Rattle.asl_journal.proofs.ByTable.{goes_of}
+use Rattle.asl_journal.proofs.Replays.{DiffersBy}
 use Rattle.asl_journal.proofs.Runs.{state_events, state_snoc, goes_append, goes_back, prefix_is_journal}
 use Rattle.asl_debugger.specs.Halts.{MayWantMemoryBefore}
-use Rattle.asl_debugger.specs.Session.{state_before, machine_before}
+use Rattle.asl_debugger.specs.Computed.{state_before, machine_before}
 use Rattle.asl_debugger.specs.declared.trail.Mark.{Mark}
 use Rattle.asl_debugger.specs.Checkpoints.{IsDebuggerState, AreMarks}
 
@@ -63,8 +64,8 @@ module _ (image : Image) (log : Log) (start end : ℕ) (le : start ≤ end) wher
       (subst (GoesBy image (start_of image log.threads)) (events_between log.events start end le) (goes_of image log.threads (take end log.events) (prefix_is_journal image log.threads end log.events j)))
 
   -- the first event that differs, between, is the first that differs
-  pub differs_between : (index : ℕ) → GoesBy image (start_of image log.threads) (take start log.events) → DiffersFrom image (state_before image log start) (take (end - start) (drop start log.events)) index
-      → DiffersFrom image (start_of image log.threads) log.events (start + index)
+  pub differs_between : (index : ℕ) → GoesBy image (start_of image log.threads) (take start log.events) → DiffersBy image (state_before image log start) (take (end - start) (drop start log.events)) index
+      → DiffersBy image (start_of image log.threads) log.events (start + index)
   differs_between index front d =
       let count = end - start in
       let slice = take count (drop start log.events) in

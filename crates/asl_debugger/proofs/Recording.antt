@@ -6,6 +6,7 @@ use Rattle.std.proofs.lemmas.List.{take_all, take-take, take-append-le, length-t
 use Rattle.std.proofs.lemmas.List.Elements.{All-push, All-take, All-weaker, All-contains, All-contains_itself}
 use Rattle.std.proofs.lemmas.Option.{slice_get_within}
 use Rattle.asl_code.specs.declared.image.Image.{Image}
+use Rattle.asl_code.proofs.FitsLaws.{image_fits}
 use Rattle.asl_machine.specs.declared.reply.Reply.{Reply}
 use Rattle.asl_machine.specs.State.{State}
 use Rattle.asl_machine.specs.View.{Configuration}
@@ -13,14 +14,20 @@ use Rattle.asl_machine.specs.Paused.{Rest, IsRestOf}
 use Rattle.asl_machine.specs.Run.{start_of, state_after}
 use Rattle.asl_machine.specs.Step.{Step}
 use Rattle.asl_machine.specs.StepFunction.{step_of}
+use Rattle.asl_machine.specs.WellFormed.{SatisfiesInvariant}
+use Rattle.asl_machine.proofs.Invariant.{start_sound}
+use Rattle.asl_machine.proofs.Unique.{step_only}
 use Rattle.asl_journal.specs.declared.event.Event.{Event}
 use Rattle.asl_journal.specs.Journal.{Log, IsLog, IsJournal, most_events, schedule_of, with_event}
 use Rattle.asl_journal.proofs.ByTable.{goes_of, journal_of}
+use Rattle.asl_journal.proofs.Replays.{run_sound}
 use Rattle.asl_journal.proofs.Runs.{state_snoc, goes_snoc, prefix_is_journal}
-use Rattle.asl_debugger.specs.Session.{state_before, machine_before}
+use Rattle.asl_debugger.specs.Computed.{state_before, machine_before}
+use Rattle.asl_debugger.specs.Session.{IsStateAt, IsStepBetween}
 use Rattle.asl_debugger.specs.declared.trail.Mark.{Mark}
 use Rattle.asl_debugger.specs.Checkpoints.{IsMark, IsMarkOf, AreCheckpoints, AreMarks, IsDebuggerState}
 use Rattle.asl_debugger.proofs.Marks.{each_pushed, longer, number_there}
+use Rattle.asl_debugger.proofs.ByTable.{leads_before}
 use Rattle.asl_debugger.proofs.Positions.{is_at}
 
 -- a checkpoint that is there stands before the end
@@ -33,7 +40,7 @@ stands_before length_of count spacing index none_past lt =
 -- one more event by thread t, and the machine after it
 module _ (image : Image) (log : Log) (spacing position : ℕ) (checkpoints : List Rest) (marks : List Mark) (machine new : Configuration) (t : ℕ) (reply : Reply)
     (kept : IsDebuggerState image log spacing checkpoints marks machine position) (end : position ≡ length log.events) (room : length log.events < most_events) (there : t < log.threads)
-    (same : new.image ≡ machine.image) (said : reply ≡ (step_of machine.image machine.state t).reply) (steps : new.state ≡ (step_of machine.image machine.state t).state) where
+    (same : new.image ≡ machine.image) (step : Step machine.image machine.state t reply new.state) where
   abbrev event : Event
   event = record { thread = t; reply = reply }
 
@@ -51,6 +58,19 @@ module _ (image : Image) (log : Log) (spacing position : ℕ) (checkpoints : Lis
 
   of_image : machine.image ≡ image
   of_image = ap (λ (m : Configuration). m.image) kept.shown
+
+  -- the step is the computed one, since the state is a journal's
+  sound : SatisfiesInvariant machine.image machine.state
+  sound =
+      let at_start = start_sound image log.threads (image_fits image kept.journal.verified) in
+      subst (λ (i : Image). SatisfiesInvariant i machine.state) (sym of_image)
+      (subst (SatisfiesInvariant image) (sym at_end) (run_sound image (schedule_of log.events) (start_of image log.threads) at_start))
+
+  said : reply ≡ (step_of machine.image machine.state t).reply
+  said = (step_only machine.image machine.state t sound reply new.state step).0
+
+  steps : new.state ≡ (step_of machine.image machine.state t).state
+  steps = (step_only machine.image machine.state t sound reply new.state step).1
 
   is_log : IsLog more
   is_log = record { count = kept.is_log.count; short = omega (arith, one_more); there = All-push (λ (e : Event). e.thread < log.threads) log.events event kept.is_log.there there }
@@ -72,12 +92,22 @@ module _ (image : Image) (log : Log) (spacing position : ℕ) (checkpoints : Lis
       ∙ ap (λ (i : Image). (step_of i machine.state t).state) (sym of_image)
 
   -- the step that the machine made leads from the state at the position to the one after the event
-  pub step_behind : Step machine.image machine.state t reply new.state → Step image (state_before image log position) t reply (state_before new.image more (position + 1))
-  step_behind is =
-      let from : Step image (state_before image log position) t reply new.state = subst (λ (m : Configuration). Step m.image m.state t reply new.state) kept.shown is in
+  step_behind : Step image (state_before image log position) t reply (state_before new.image more (position + 1))
+  step_behind =
+      let from : Step image (state_before image log position) t reply new.state = subst (λ (m : Configuration). Step m.image m.state t reply new.state) kept.shown step in
       let to : new.state ≡ state_before image more (position + 1) = steps ∙ sym state_behind in
       let there : Step image (state_before image log position) t reply (state_before image more (position + 1)) = subst (λ (s : State). Step image (state_before image log position) t reply s) to from in
       subst (λ (i : Image). Step image (state_before image log position) t reply (state_before i more (position + 1))) (sym (same ∙ of_image)) there
+
+  pub step_between : (breakpoints : List ℕ) → IsStepBetween (record { image = image; log = log; position = position; breakpoints = breakpoints })
+      (record { image = new.image; log = more; position = position + 1; breakpoints = breakpoints }) t reply
+  step_between breakpoints = record {
+    before = state_before image log position;
+    from = leads_before image log kept.journal position;
+    after = state_before new.image more (position + 1);
+    to = subst (λ (i : Image). IsStateAt i more (position + 1) (state_before i more (position + 1))) (sym (same ∙ of_image)) (leads_before image more journal (position + 1));
+    step = step_behind;
+  }
 
   shown : new ≡ machine_before image more (position + 1)
   shown = is_at new image (state_before image more (position + 1)) (same ∙ of_image) (steps ∙ sym state_behind)

@@ -5,7 +5,7 @@ use Rattle.asl_machine.specs.View.{Configuration}
 use Rattle.asl_machine.specs.Paused.{Rest, IsRestOf}
 use Rattle.asl_journal.specs.Journal.{Log, IsLog, IsJournal}
 use Rattle.asl_debugger.specs.declared.trail.Mark.{Mark}
-use Rattle.asl_debugger.specs.Session.{machine_before, state_before}
+use Rattle.asl_debugger.specs.Computed.{machine_before, state_before}
 
 -- this is left of the machine at the position
 pub record IsMark (image : Image) (log : Log) (k : ℕ) (rest : Rest) : Type 0 where

@@ -3,7 +3,8 @@ use Rattle.std.specs.Prelude.{◌≡◌, ◌<◌, ◌≤◌, ◌⊎◌, ℕ, len
 use Rattle.asl_code.specs.declared.image.Image.{Image}
 use Rattle.asl_machine.specs.WellFormed.{MayWantMemory}
 use Rattle.asl_journal.specs.Journal.{Log}
-use Rattle.asl_debugger.specs.Session.{Session, IsAtBreak, state_before}
+use Rattle.asl_debugger.specs.Computed.{state_before}
+use Rattle.asl_debugger.specs.Session.{Session, IsAtBreak}
 
 -- the step of the event after this position may need memory in the state there
 abbrev pub MayWantMemoryBefore : Image → Log → ℕ → Type 0

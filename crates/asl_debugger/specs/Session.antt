@@ -2,12 +2,13 @@
 -- "The debugger").
 use Rattle.std.specs.Prelude.{◌≡◌, ◌<◌, ◌≤◌, ◌⊎◌, ℕ, IsTrue, List, length, take, slice_get, Some, IsSomeAnd}
 use Rattle.asl_code.specs.declared.image.Image.{Image}
+use Rattle.asl_machine.specs.declared.reply.Reply.{Reply}
+use Rattle.asl_machine.specs.Step.{Step}
 use Rattle.asl_machine.specs.WellFormed.{MayWantMemory}
 use Rattle.asl_machine.specs.State.{State, activity_at}
 use Rattle.asl_machine.specs.View.{Configuration}
 use Rattle.asl_journal.specs.declared.event.Event.{Event}
 use Rattle.asl_journal.specs.Journal.{Log, LeadsTo}
-use Rattle.asl_journal.specs.Computed.{state_at}
 use Rattle.asl_debugger.specs.Breaks.{has_break}
 
 -- a program, a journal of it, the position that is shown, and the breakpoints
@@ -25,6 +26,15 @@ IsStateAt image log k state = LeadsTo image log.threads (take k log.events) stat
 pub record IsShown (s : Session) (machine : Configuration) : Type 0 where
   pub image : machine.image ≡ s.image
   pub state : IsStateAt s.image s.log s.position machine.state
+
+-- the thread makes a step, with this reply, from the state at the position of one session to the state at that of another: by a line
+-- of the instruction table
+pub record IsStepBetween (old new : Session) (t : ℕ) (reply : Reply) : Type 0 where
+  pub before : State
+  pub from : IsStateAt old.image old.log old.position before
+  pub after : State
+  pub to : IsStateAt new.image new.log new.position after
+  pub step : Step old.image before t reply after
 
 -- there is an event after this position, and its step may need memory in the state there
 pub record MayWantMemoryAt (image : Image) (log : Log) (k : ℕ) : Type 0 where
@@ -70,10 +80,3 @@ pub record IsLastStop (s : Session) (k : ℕ) : Type 0 where
   pub earlier : k < s.position
   pub none_between : (j : ℕ) → k < j → j < s.position → ¬ IsStop s j
   pub stops : IsStop s k ⊎ (k ≡ 0)
-
--- Machinery: the state at a position of a journal, computed, and the machine there.
-abbrev pub state_before : Image → Log → ℕ → State
-state_before image log k = state_at image log.threads (take k log.events)
-
-abbrev pub machine_before : Image → Log → ℕ → Configuration
-machine_before image log k = record { image = image; state = state_before image log k }

@@ -8,7 +8,7 @@ ghost use Rattle.asl_journal.specs.Journal.{IsJournal, IsLog};
 ghost use Rattle.asl_debugger.specs.Checkpoints.{AreCheckpoints, IsDebuggerState};
 ghost use Rattle.asl_debugger.specs.Opening.{IsOpenFault};
 ghost use Rattle.asl_debugger.specs.Halts.{MayWantMemoryBefore};
-ghost use Rattle.asl_debugger.specs.Session.{machine_before, state_before};
+ghost use Rattle.asl_debugger.specs.Computed.{machine_before, state_before};
 
 use crate::fault::DebugFault;
 use asl_code::Program;
@@ -50,6 +50,8 @@ pub fn machine_between<'p>(
         → IfErr result (λ fault. fault ≡ DebugFault.OutOfMemory) }
 {
     let events = journal.events();
+    // Its program is verified, and its state is reached.
+    from.threads();
     match run_on(alloc, from, &events[start..end]) {
         Ok(machine) => Ok(machine),
         Err(JournalFault::Differs(index)) => Err(DebugFault::Differs(start as u32 + index)),

@@ -52,7 +52,7 @@ impl<'p> Model for Debugger<'p> {
 }
 
 impl<'p> Debugger<'p> {
-    ghost use Rattle.asl_debugger.specs.Session.{IsNextStop, IsLastStop, IsShown, MayWantMemoryAt, machine_before, moved, with_breaks};
+    ghost use Rattle.asl_debugger.specs.Session.{IsNextStop, IsLastStop, IsShown, MayWantMemoryAt, moved, with_breaks};
 
     /// A debugger at position 0 of the journal, if it is one of the program. Else it is handed back. A copy of the machine
     /// is kept every `spacing` events, at least 1; a smaller spacing takes more memory and makes moves quicker, and changes
@@ -218,10 +218,11 @@ impl<'p> Debugger<'p> {
         clear_break(&mut self.breakpoints, pc);
     }
 
-    /// The machine at the position: the events before it lead there, each by a line of the instruction table.
+    /// The machine at the position: the events before it lead there, each by a line of the instruction table. The debugger's log is a
+    /// journal of its program, so there is no other.
     pub fn view(&self) -> &Machine<'p>
-        ensures machine { result.now ≡ machine_before self.now.image self.now.log self.now.position }
         ensures shown { IsShown self.now result.now }
+        ensures journal { IsJournal self.now.image self.now.log.threads self.now.log.events }
     {
         &self.machine
     }

@@ -3,7 +3,7 @@ ghost use Rattle.std.specs.Prelude.{◌≡◌, ◌<◌, ◌≤◌, All, length, 
 ghost use Rattle.asl_code.specs.declared.image.Image.{Image};
 ghost use Rattle.asl_journal.specs.Journal.{IsJournal, Log};
 ghost use Rattle.asl_debugger.specs.Checkpoints.{AreMarks};
-ghost use Rattle.asl_debugger.specs.Session.{machine_before, state_before};
+ghost use Rattle.asl_debugger.specs.Computed.{machine_before, state_before};
 
 use crate::checkpoints::{machine_between, rest_of};
 use crate::fault::DebugFault;

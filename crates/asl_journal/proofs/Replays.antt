@@ -17,65 +17,56 @@ use Rattle.asl_machine.specs.StepFunction.{step_of}
 use Rattle.asl_machine.specs.WellFormed.{MayWantMemory, SatisfiesInvariant}
 use Rattle.asl_machine.specs.Step.{Step}
 use Rattle.asl_machine.proofs.Invariant.{start_sound, step_sound}
-use Rattle.asl_machine.proofs.Reached.{step_count, reached_sound, reached_count}
+use Rattle.asl_machine.proofs.Reached.{reached_sound, reached_count}
 use Rattle.asl_machine.proofs.Table.{step_is}
 use Rattle.asl_machine.proofs.Unique.{step_only}
 use Rattle.asl_journal.specs.declared.event.Event.{Event}
 use Rattle.asl_journal.specs.declared.fault.JournalFault.{JournalFault}
 use Rattle.asl_journal.specs.declared.fault.JournalFault.TheVariants as faults
-use Rattle.asl_journal.specs.Journal.{Log, AreThere, LeadsTo, IsJournal, schedule_of}
-use Rattle.asl_journal.specs.Computed.{GoesBy, state_at, DiffersFrom, IsFollowFault, MayStopAt}
-use Rattle.asl_journal.specs.Replay.{DiffersAt, IsReplayFault}
-use Rattle.asl_journal.proofs.ByTable.{goes_of, journal_of, leads_of, schedule_reached, end_is, lead_goes}
-use Rattle.asl_journal.proofs.Runs.{state_snoc, goes_snoc, goes_back, goes_head}
+use Rattle.asl_journal.specs.Journal.{Log, AreThere, LeadsFrom, LeadsTo, IsJournal, schedule_of}
+use Rattle.asl_journal.specs.Computed.{GoesBy, state_at}
+use Rattle.asl_journal.specs.Replay.{DiffersAt, DiffersFrom, IsFollowFault, IsReplayFault, MayStopAt}
+use Rattle.asl_journal.proofs.ByTable.{runs_snoc, run_computed, goes_of, leads_of, schedule_reached}
+use Rattle.asl_journal.proofs.Runs.{goes_back, goes_head}
 
 -- the machine has made the steps of the first events, so many, and each replied as it says
 pub record HasFollowed (from now : Configuration) (events : List Event) (index : ℕ) : Type 0 where
   pub image : now.image ≡ from.image
-  pub state : now.state ≡ state_after from.image from.state (schedule_of (take index events))
-  pub goes : GoesBy from.image from.state (take index events)
+  pub leads : LeadsFrom from.image from.state (take index events) now.state
   pub count : length now.state.threads ≡ length from.state.threads
 
 pub none_followed : (from : Configuration) (events : List Event) → HasFollowed from from events 0
-none_followed from events = record { image = refl; state = refl; goes = refl; count = refl }
+none_followed from events = record { image = refl; leads = refl; count = refl }
 
 pub one_followed : (from now new : Configuration) (events : List Event) (index : ℕ) (d : Event) (reply : Reply) → index < length events → HasFollowed from now events index
-    → new.image ≡ now.image → reply ≡ (step_of now.image now.state (get_or events index d).thread).reply → new.state ≡ (step_of now.image now.state (get_or events index d).thread).state → reply ≡ (get_or events index d).reply
+    → new.image ≡ now.image → Step now.image now.state (get_or events index d).thread reply new.state → length new.state.threads ≡ length now.state.threads → reply ≡ (get_or events index d).reply
     → HasFollowed from new events (index + 1)
-one_followed from now new events index d reply lt h image said state same =
+one_followed from now new events index d reply lt h image step count same =
     let event : Event = get_or events index d in
     let more : take (index + 1) events ≡ take index events ++ event ∷ [] = take_more events index d lt in
-    let here : step_of now.image now.state event.thread ≡ step_of from.image (state_after from.image from.state (schedule_of (take index events))) event.thread =
-    ap (λ (i : Image). step_of i now.state event.thread) h.image ∙ ap (λ (s : State). step_of from.image s event.thread) h.state in
+    let here = subst (λ (r : Reply). Step from.image now.state event.thread r new.state) same (subst (λ (i : Image). Step i now.state event.thread reply new.state) h.image step) in
     record {
       image = image ∙ h.image;
-      state = rw more (state ∙ ap (λ r. r.state) here ∙ sym (state_snoc from.image from.state (take index events) event));
-      goes = rw more (goes_snoc from.image from.state (take index events) event h.goes (sym same ∙ said ∙ ap (λ r. r.reply) here));
-      count = ap (λ (s : State). length s.threads) state ∙ step_count now.image now.state event.thread ∙ h.count;
+      leads = subst (λ (es : List Event). LeadsFrom from.image from.state es new.state) (sym more) (runs_snoc from.image from.state (take index events) event now.state new.state h.leads here);
+      count = count ∙ h.count;
     }
 
--- a machine is its program in its state
-pub is_at : (machine : Configuration) (image : Image) (s : State) → machine.image ≡ image → machine.state ≡ s → machine ≡ record { image = image; state = s }
-is_at machine image s p q = rw (← p, ← q) refl
+pub all_followed : (from now : Configuration) (events : List Event) (index : ℕ) → length events ≤ index → HasFollowed from now events index → LeadsFrom from.image from.state events now.state
+all_followed from now events index le h = subst (λ (es : List Event). LeadsFrom from.image from.state es now.state) (take_all index events le) h.leads
 
-pub all_followed : (from now : Configuration) (events : List Event) (index : ℕ) → length events ≤ index → HasFollowed from now events index
-    → GoesBy from.image from.state events × (now ≡ record { image = from.image; state = state_after from.image from.state (schedule_of events) })
-all_followed from now events index le h =
-    let all : take index events ≡ events = take_all index events le in
-    let state : now.state ≡ state_after from.image from.state (schedule_of events) = h.state ∙ ap (λ (es : List Event). state_after from.image from.state (schedule_of es)) all in
-    (subst (GoesBy from.image from.state) all h.goes, is_at now from.image (state_after from.image from.state (schedule_of events)) h.image state)
-
-pub one_differs : (from now : Configuration) (events : List Event) (index : ℕ) (d : Event) (reply : Reply) → index < length events → HasFollowed from now events index
-    → reply ≡ (step_of now.image now.state (get_or events index d).thread).reply → reply ≢ (get_or events index d).reply → DiffersFrom from.image from.state events index
-one_differs from now events index d reply lt h said other =
+pub one_differs : (from now : Configuration) (events : List Event) (index : ℕ) (d : Event) (reply : Reply) (new : State) → index < length events → HasFollowed from now events index
+    → Step now.image now.state (get_or events index d).thread reply new → reply ≢ (get_or events index d).reply → DiffersFrom from.image from.state events index
+one_differs from now events index d reply new lt h step other =
     let event : Event = get_or events index d in
-    let here : step_of now.image now.state event.thread ≡ step_of from.image (state_after from.image from.state (schedule_of (take index events))) event.thread =
-    ap (λ (i : Image). step_of i now.state event.thread) h.image ∙ ap (λ (s : State). step_of from.image s event.thread) h.state in
     record {
       event = event;
       at = slice_get-get_or events index d lt;
-      before = h.goes;
-      differs = λ e. other (said ∙ ap (λ r. r.reply) here ∙ sym e);
+      state = now.state;
+      before = h.leads;
+      reply = reply;
+      new = new;
+      step = subst (λ (i : Image). Step i now.state event.thread reply new) h.image step;
+      differs = λ e. other (sym e);
     }
 
 -- where the step of the next event may want memory
@@ -86,12 +77,41 @@ may_stop from now events index d lt h wants =
     record {
       event = event;
       at = slice_get-get_or events index d lt;
-      before = h.goes;
-      wants = subst (λ (s : State). MayWantMemory from.image s event.thread) h.state (subst (λ (i : Image). MayWantMemory i now.state event.thread) h.image wants);
+      state = now.state;
+      before = h.leads;
+      wants = subst (λ (i : Image). MayWantMemory i now.state event.thread) h.image wants;
+    }
+
+-- ---- by the computed step
+
+-- The first event that differs from the computed run from the state on: those before it are of the run, and to this one the run
+-- replies something else.
+pub record DiffersBy (image : Image) (s : State) (events : List Event) (index : ℕ) : Type 0 where
+  pub event : Event
+  pub at : slice_get events index ≡ Some event
+  pub before : GoesBy image s (take index events)
+  pub differs : event.reply ≢ (step_of image (state_after image s (schedule_of (take index events))) event.thread).reply
+
+pub run_sound : (image : Image) (schedule : List ℕ) (s : State) → SatisfiesInvariant image s → SatisfiesInvariant image (state_after image s schedule)
+run_sound image [] s sound = sound
+run_sound image (t ∷ ts) s sound = run_sound image ts (step_of image s t).state (step_sound image s t sound)
+
+-- from a sound state on, the first event that differs by the table is the first that differs from the computed run
+pub differs_computed : (image : Image) (s : State) (events : List Event) (index : ℕ) → SatisfiesInvariant image s → DiffersFrom image s events index → DiffersBy image s events index
+differs_computed image s events index sound d =
+    let first = run_computed image s d.state (take index events) sound d.before in
+    let there = run_sound image (schedule_of (take index events)) s sound in
+    let step = subst (λ (u : State). Step image u d.event.thread d.reply d.new) first.1 d.step in
+    let only = step_only image (state_after image s (schedule_of (take index events))) d.event.thread there d.reply d.new step in
+    record {
+      event = d.event;
+      at = d.at;
+      before = first.0;
+      differs = λ e. d.differs (e ∙ sym only.0);
     }
 
 -- events of a run differ from it nowhere
-pub none_from : (image : Image) (s : State) (events : List Event) (index : ℕ) → GoesBy image s events → DiffersFrom image s events index → ⊥
+pub none_from : (image : Image) (s : State) (events : List Event) (index : ℕ) → GoesBy image s events → DiffersBy image s events index → ⊥
 none_from image s events index goes d =
     let split : events ≡ take index events ++ drop index events = sym (take-append-drop index events) in
     let rest : GoesBy image (state_after image s (schedule_of (take index events))) (drop index events) = goes_back image s (take index events) (drop index events) (subst (GoesBy image s) split goes) in
@@ -99,27 +119,29 @@ none_from image s events index goes d =
     let front : drop index events ≡ d.event ∷ drop (suc index) events = drop-cons events index d.event lt ∙ ap (λ (e : Event). e ∷ drop (suc index) events) (get_or_from_slice_get events index d.event d.event d.at) in
     d.differs (goes_head image (state_after image s (schedule_of (take index events))) d.event (drop (suc index) events) (subst (GoesBy image (state_after image s (schedule_of (take index events)))) front rest))
 
--- what stops a replay of a run is lack of memory
-pub only_memory : {T : Type 0} (image : Image) (s : State) (events : List Event) (r : Result T JournalFault) → GoesBy image s events → IfErr r (IsFollowFault image s events) → IfErr r (λ fault. fault ≡ faults.OutOfMemory)
-only_memory image s events (Ok t) goes is = tt
-only_memory image s events (Err faults.JournalFull) goes is = absurd is
-only_memory image s events (Err faults.BadCount) goes is = absurd is
-only_memory image s events (Err faults.BadThread) goes is = absurd is
-only_memory image s events (Err (faults.Differs index)) goes is = absurd (none_from image s events index goes is)
-only_memory image s events (Err faults.Magic) goes is = absurd is
-only_memory image s events (Err faults.Version) goes is = absurd is
-only_memory image s events (Err (faults.Truncated at)) goes is = absurd is
-only_memory image s events (Err (faults.BadField at)) goes is = absurd is
-only_memory image s events (Err (faults.Trailing at)) goes is = absurd is
-only_memory image s events (Err faults.OutOfMemory) goes is = refl
+-- what stops a replay of events that lead somewhere is lack of memory
+pub only_memory : {T : Type 0} (image : Image) (s end : State) (events : List Event) (r : Result T JournalFault) → SatisfiesInvariant image s → LeadsFrom image s events end → IfErr r (IsFollowFault image s events)
+    → IfErr r (λ fault. fault ≡ faults.OutOfMemory)
+only_memory image s end events (Ok t) sound leads is = tt
+only_memory image s end events (Err faults.JournalFull) sound leads is = absurd is
+only_memory image s end events (Err faults.BadCount) sound leads is = absurd is
+only_memory image s end events (Err faults.BadThread) sound leads is = absurd is
+only_memory image s end events (Err (faults.Differs index)) sound leads is =
+    absurd (none_from image s events index (run_computed image s end events sound leads).0 (differs_computed image s events index sound is))
+only_memory image s end events (Err faults.Magic) sound leads is = absurd is
+only_memory image s end events (Err faults.Version) sound leads is = absurd is
+only_memory image s end events (Err (faults.Truncated at)) sound leads is = absurd is
+only_memory image s end events (Err (faults.BadField at)) sound leads is = absurd is
+only_memory image s end events (Err (faults.Trailing at)) sound leads is = absurd is
+only_memory image s end events (Err faults.OutOfMemory) sound leads is = refl
 
 -- the same, where the machine is said to be at this state of this program
-pub only_memory_at : {T : Type 0} (machine : Configuration) (events : List Event) (image : Image) (s : State) (others : List Event) (r : Result T JournalFault) → machine.image ≡ image → machine.state ≡ s → events ≡ others
-    → GoesBy image s others → IfErr r (IsFollowFault machine.image machine.state events) → IfErr r (λ fault. fault ≡ faults.OutOfMemory)
-only_memory_at machine events image s others r p q e goes is = only_memory machine.image machine.state events r (rw (p, q, e) goes) is
+pub only_memory_at : {T : Type 0} (machine : Configuration) (events : List Event) (image : Image) (s end : State) (others : List Event) (r : Result T JournalFault) → machine.image ≡ image → machine.state ≡ s → events ≡ others
+    → SatisfiesInvariant image s → LeadsFrom image s others end → IfErr r (IsFollowFault machine.image machine.state events) → IfErr r (λ fault. fault ≡ faults.OutOfMemory)
+only_memory_at machine events image s end others r p q e sound leads is = only_memory machine.image machine.state end events r (rw (p, q) sound) (rw (p, q, e) leads) is
 
 -- no earlier event differs than the first that does
-earlier : (image : Image) (s : State) (events : List Event) (index later : ℕ) → index < later → DiffersFrom image s events index → DiffersFrom image s events later → ⊥
+earlier : (image : Image) (s : State) (events : List Event) (index later : ℕ) → index < later → DiffersBy image s events index → DiffersBy image s events later → ⊥
 earlier image s events index later lt d other =
     let within = slice_get_within events later other.event other.at in
     let short : index < length (take later events) = omega (arith, length-take later events) in
@@ -138,7 +160,7 @@ earlier image s events index later lt d other =
     take_of_take (suc i) (suc n) (e ∷ es) lt = ap (λ (xs : List Event). e ∷ xs) (take_of_take i n es (omega arith))
 
 -- one event is the first that differs
-pub one_from : (image : Image) (s : State) (events : List Event) (index other : ℕ) → DiffersFrom image s events index → DiffersFrom image s events other → index ≡ other
+pub one_from : (image : Image) (s : State) (events : List Event) (index other : ℕ) → DiffersBy image s events index → DiffersBy image s events other → index ≡ other
 one_from image s events index other d e =
     elim (cases_lt index other) [
       | inl lt ↦ absurd (earlier image s events index other lt d e)
@@ -156,7 +178,7 @@ event_there count events index event there at =
     subst (λ (e : Event). e.thread < count) (get_or_from_slice_get events index event event at) (there index event (slice_get_within events index event at))
 
 -- the first event that differs from the computed run of a journal's threads differs by the table
-pub differs_of : (image : Image) (count : ℕ) (events : List Event) (index : ℕ) → IsVerified image → IsThreadCount image count → AreThere count events → DiffersFrom image (start_of image count) events index → DiffersAt image count events index
+pub differs_of : (image : Image) (count : ℕ) (events : List Event) (index : ℕ) → IsVerified image → IsThreadCount image count → AreThere count events → DiffersBy image (start_of image count) events index → DiffersAt image count events index
 differs_of image count events index v counted there d =
     let first = All-take (λ (e : Event). e.thread < count) index events there in
     let state = state_at image count (take index events) in
@@ -175,24 +197,11 @@ differs_of image count events index v counted there d =
       differs = d.differs;
     }
 
-run_sound : (image : Image) (schedule : List ℕ) (s : State) → SatisfiesInvariant image s → SatisfiesInvariant image (state_after image s schedule)
-run_sound image [] s sound = sound
-run_sound image (t ∷ ts) s sound = run_sound image ts (step_of image s t).state (step_sound image s t sound)
-
 -- and the other way round
-differs_from : (image : Image) (count : ℕ) (events : List Event) (index : ℕ) → DiffersAt image count events index → DiffersFrom image (start_of image count) events index
+differs_from : (image : Image) (count : ℕ) (events : List Event) (index : ℕ) → DiffersAt image count events index → DiffersBy image (start_of image count) events index
 differs_from image count events index d =
-    let state = state_at image count (take index events) in
-    let same : d.state ≡ state = end_is image count (take index events) d.state d.verified d.before in
-    let sound = run_sound image (schedule_of (take index events)) (start_of image count) (start_sound image count (image_fits image d.verified)) in
-    let step = subst (λ (u : State). Step image u d.event.thread d.reply d.new) same d.step in
-    let only = step_only image state d.event.thread sound d.reply d.new step in
-    record {
-      event = d.event;
-      at = d.at;
-      before = lead_goes image count (take index events) d.state d.verified d.before;
-      differs = λ e. d.differs (e ∙ sym only.0);
-    }
+    differs_computed image (start_of image count) events index (start_sound image count (image_fits image d.verified))
+    (record { event = d.event; at = d.at; state = d.state; before = d.before.runs; reply = d.reply; new = d.new; step = d.step; differs = d.differs })
 
 -- no event of a journal differs
 pub no_difference : (image : Image) (count : ℕ) (events : List Event) (index : ℕ) → IsJournal image count events → DiffersAt image count events index → ⊥
@@ -207,28 +216,36 @@ one_difference image count events index other d e = one_from image (start_of ima
 -- what a machine that starts as a journal's has followed
 module _ (image : Image) (log : Log) (verified : IsVerified image) (counted : IsThreadCount image log.threads) (there : AreThere log.threads log.events) (start : Configuration) (i : start.image ≡ image)
     (s : start.state ≡ start_of image log.threads) where
-  goes_there : GoesBy start.image start.state log.events → GoesBy image (start_of image log.threads) log.events
-  goes_there goes = subst (λ (u : State). GoesBy image u log.events) s (subst (λ (j : Image). GoesBy j start.state log.events) i goes)
+  leads_there : (end : State) → LeadsFrom start.image start.state log.events end → LeadsTo image log.threads log.events end
+  leads_there end leads = record {
+    counted = counted;
+    runs = subst (λ (u : State). LeadsFrom image u log.events end) s (subst (λ (j : Image). LeadsFrom j start.state log.events end) i leads);
+  }
 
-  is_there : start ≡ record { image = image; state = start_of image log.threads }
-  is_there = is_at start image (start_of image log.threads) i s
+  pub replayed_journal : (r : Result Configuration JournalFault) → IfOk r (λ behind. LeadsFrom start.image start.state log.events behind.state) → OnOk r (IsJournal image log.threads log.events)
+  replayed_journal (Ok behind) leads = record { verified = verified; there = there; end = behind.state; leads = leads_there behind.state leads }
+  replayed_journal (Err f) leads = tt
 
-  pub replayed_journal : {T : Type 0} (r : Result T JournalFault) → OnOk r (GoesBy start.image start.state log.events) → OnOk r (IsJournal image log.threads log.events)
-  replayed_journal (Ok x) goes = journal_of image log.threads log.events verified counted there (goes_there goes)
-  replayed_journal (Err f) goes = tt
-
-  pub replayed_leads : (r : Result Configuration JournalFault) → OnOk r (GoesBy start.image start.state log.events)
-      → IfOk r (λ behind. behind ≡ record { image = start.image; state = state_after start.image start.state (schedule_of log.events) }) → IfOk r (λ behind. LeadsTo image log.threads log.events behind.state)
-  replayed_leads (Ok behind) goes is =
-      let at : behind.state ≡ state_at image log.threads log.events =
-      ap (λ (m : Configuration). m.state) is ∙ ap (λ (m : Configuration). state_after m.image m.state (schedule_of log.events)) is_there in
-      subst (LeadsTo image log.threads log.events) (sym at) (leads_of image log.threads log.events verified counted there (goes_there goes))
-  replayed_leads (Err f) goes is = tt
+  pub replayed_leads : (r : Result Configuration JournalFault) → IfOk r (λ behind. LeadsFrom start.image start.state log.events behind.state) → IfOk r (λ behind. LeadsTo image log.threads log.events behind.state)
+  replayed_leads (Ok behind) leads = leads_there behind.state leads
+  replayed_leads (Err f) leads = tt
 
   pub replayed_refused : {T : Type 0} (r : Result T JournalFault) → IfErr r (IsFollowFault start.image start.state log.events) → IfErr r (IsReplayFault image log)
   replayed_refused (Ok x) is = tt
   replayed_refused (Err (faults.Differs index)) is =
-      let from = subst (λ (u : State). DiffersFrom image u log.events index) s (subst (λ (j : Image). DiffersFrom j start.state log.events index) i is) in
-      (counted.1, differs_of image log.threads log.events index verified counted there from)
+      let d = subst (λ (u : State). DiffersFrom image u log.events index) s (subst (λ (j : Image). DiffersFrom j start.state log.events index) i is) in (
+        counted.1,
+        record {
+          verified = verified;
+          event = d.event;
+          at = d.at;
+          state = d.state;
+          before = record { counted = counted; runs = d.before };
+          reply = d.reply;
+          new = d.new;
+          step = d.step;
+          differs = d.differs;
+        },
+      )
   replayed_refused (Err faults.OutOfMemory) is = (counted.1, tt)
   replayed_refused (Err f) is = absurd is

@@ -5,13 +5,13 @@ use Rattle.std.proofs.lemmas.List.Elements.{All-take}
 use Rattle.asl_code.specs.declared.image.Image.{Image}
 use Rattle.asl_machine.specs.declared.reply.Reply.{Reply}
 use Rattle.asl_machine.specs.State.{State}
-use Rattle.asl_machine.specs.Run.{start_of, state_after, RunsBy}
+use Rattle.asl_machine.specs.Run.{start_of, state_after}
 use Rattle.asl_machine.specs.StepFunction.{step_of}
 use Rattle.asl_machine.proofs.Runs.{state_after-append}
 use Rattle.asl_journal.specs.declared.event.Event.{Event}
-use Rattle.asl_journal.specs.Journal.{schedule_of, replies_in, IsJournal}
+use Rattle.asl_journal.specs.Journal.{schedule_of, IsJournal, LeadsFrom}
 use Rattle.asl_journal.specs.Computed.{GoesBy}
-use Rattle.asl_journal.proofs.ByTable.{runs_front}
+use Rattle.asl_journal.proofs.ByTable.{runs_parts}
 
 pub schedule_append : (es fs : List Event) → schedule_of (es ++ fs) ≡ schedule_of es ++ schedule_of fs
 schedule_append [] fs = refl
@@ -35,10 +35,6 @@ pub goes_append : (image : Image) (s : State) (es fs : List Event) → GoesBy im
 goes_append image s [] fs a b = b
 goes_append image s (e ∷ es) fs a b = goes_cons image s e (es ++ fs) (goes_head image s e es a) (goes_append image (step_of image s e.thread).state es fs (goes_tail image s e es a) b)
 
-pub goes_front : (image : Image) (s : State) (es fs : List Event) → GoesBy image s (es ++ fs) → GoesBy image s es
-goes_front image s [] fs h = refl
-goes_front image s (e ∷ es) fs h = goes_cons image s e es (goes_head image s e (es ++ fs) h) (goes_front image (step_of image s e.thread).state es fs (goes_tail image s e (es ++ fs) h))
-
 pub goes_back : (image : Image) (s : State) (es fs : List Event) → GoesBy image s (es ++ fs) → GoesBy image (state_after image s (schedule_of es)) fs
 goes_back image s [] fs h = h
 goes_back image s (e ∷ es) fs h = goes_back image (step_of image s e.thread).state es fs (goes_tail image s e (es ++ fs) h)
@@ -53,8 +49,8 @@ goes_snoc image s es e a b = goes_append image s es (e ∷ []) a (goes_cons imag
 -- the first events of a journal are one
 pub prefix_is_journal : (image : Image) (count k : ℕ) (events : List Event) → IsJournal image count events → IsJournal image count (take k events)
 prefix_is_journal image count k events j =
-    let whole = subst (λ (es : List Event). RunsBy image (start_of image count) (schedule_of es) (replies_in es) j.end) (sym (take-append-drop k events)) j.leads.runs in
-    let front = runs_front image (start_of image count) (take k events) (drop k events) j.end whole in
+    let whole = subst (λ (es : List Event). LeadsFrom image (start_of image count) es j.end) (sym (take-append-drop k events)) j.leads.runs in
+    let front = runs_parts image (start_of image count) j.end (take k events) (drop k events) whole in
     record {
       verified = j.verified;
       there = All-take (λ (e : Event). e.thread < count) k events j.there;

@@ -60,11 +60,14 @@ schedule_of events = map (λ event. event.thread) events
 abbrev pub replies_in : List Event → List Reply
 replies_in events = map (λ event. event.reply) events
 
--- so many threads of the program may start, and these events lead them to the state: each is a step of its thread, with a reply
--- that the instruction table gives it there
+-- the events lead from one state to another: each is a step of its thread, with a reply that the instruction table gives it there
+abbrev pub LeadsFrom : Image → State → List Event → State → Type 0
+LeadsFrom image s events end = RunsBy image s (schedule_of events) (replies_in events) end
+
+-- so many threads of the program may start, and these events lead them to the state
 pub record LeadsTo (image : Image) (count : ℕ) (events : List Event) (state : State) : Type 0 where
   pub counted : IsThreadCount image count
-  pub runs : RunsBy image (start_of image count) (schedule_of events) (replies_in events) state
+  pub runs : LeadsFrom image (start_of image count) events state
 
 -- the events are a journal of the program with so many threads: the image is a program's, each event is of a thread that is
 -- there, and the events lead its threads to some state

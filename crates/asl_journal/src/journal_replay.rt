@@ -1,9 +1,8 @@
 //! Replay: the steps of a journal, made again.
 ghost use Rattle.std.specs.Prelude.{◌≡◌, ◌≢◌, ◌≤◌, ℕ, length, IfOk, IfErr, IsErrOf, MatchBool, OnOk};
-ghost use Rattle.asl_machine.specs.Run.{state_after};
-ghost use Rattle.asl_journal.specs.Journal.{AreThere, IsJournal, LeadsTo, most_events, schedule_of};
-ghost use Rattle.asl_journal.specs.Computed.{GoesBy, IsFollowFault, MayStopAt};
-ghost use Rattle.asl_journal.specs.Replay.{IsReplayFault};
+ghost use Rattle.asl_machine.specs.State.{State};
+ghost use Rattle.asl_journal.specs.Journal.{AreThere, IsJournal, LeadsFrom, LeadsTo, most_events};
+ghost use Rattle.asl_journal.specs.Replay.{IsFollowFault, IsReplayFault, MayStopAt};
 
 use crate::event::Event;
 use crate::fault::JournalFault;
@@ -50,16 +49,15 @@ pub fn follow<'p>(
 ) -> Result<Machine<'p>, JournalFault>
     requires there { AreThere (length from.now.state.threads) events.now }
     requires short { length events.now ≤ most_events }
-    ensures goes { OnOk result (GoesBy from.now.image from.now.state events.now) }
-    ensures machine { IfOk result (λ machine. machine ≡ record {
-      image = from.now.image;
-      state = state_after from.now.image from.now.state (schedule_of events.now);
-    }) }
+    ensures image { IfOk result (λ machine. machine.image ≡ from.now.image) }
+    ensures leads { IfOk result (λ machine. LeadsFrom from.now.image from.now.state events.now machine.state) }
     ensures refused { IfErr result (λ fault. IsFollowFault from.now.image from.now.state events.now fault) }
-    // Events of the machine's run are refused only because memory ran out.
-    ensures only { GoesBy from.now.image from.now.state events.now
+    // Events that lead somewhere are refused only because memory ran out.
+    ensures only { (end : State) → LeadsFrom from.now.image from.now.state events.now end
         → IfErr result (λ fault. fault ≡ JournalFault.OutOfMemory) }
 {
+    // Its program is verified, and its state is reached.
+    from.threads();
     let machine = from.try_copy(alloc)?;
     run_on(alloc, machine, events)
 }
@@ -77,11 +75,8 @@ pub fn run_on<'p>(
 ) -> Result<Machine<'p>, JournalFault>
     requires there { AreThere (length machine.state.threads) events.now }
     requires short { length events.now ≤ most_events }
-    ensures goes { OnOk result (GoesBy machine.entry.image machine.entry.state events.now) }
-    ensures machine { IfOk result (λ behind. behind ≡ record {
-      image = machine.entry.image;
-      state = state_after machine.entry.image machine.entry.state (schedule_of events.now);
-    }) }
+    ensures image { IfOk result (λ behind. behind.image ≡ machine.entry.image) }
+    ensures leads { IfOk result (λ behind. LeadsFrom machine.entry.image machine.entry.state events.now behind.state) }
     ensures refused { IfErr result (λ fault. IsFollowFault machine.entry.image machine.entry.state events.now fault) }
     ensures memory { IsErrOf result JournalFault.OutOfMemory
         → (index : ℕ) × MayStopAt machine.entry.image machine.entry.state events.now index }

@@ -8,7 +8,7 @@ ghost use Rattle.asl_journal.specs.declared.event.Event.{Event};
 ghost use Rattle.asl_journal.specs.Bytes.{LogOfSpellingIsOne, SpellingOfLogIsOne};
 ghost use Rattle.asl_journal.specs.Faults.{BytesHaveAnOutcome, OutcomeIsOne};
 ghost use Rattle.asl_journal.specs.Computed.{GoesBy, state_at};
-ghost use Rattle.asl_journal.specs.Journal.{AreThere, IsJournal, LeadsTo, schedule_of};
+ghost use Rattle.asl_journal.specs.Journal.{AreThere, IsJournal, LeadsFrom, LeadsTo, schedule_of};
 ghost use Rattle.asl_journal.specs.Replay.{DiffersAt};
 ghost use Rattle.asl_journal.specs.RunFile.{RunOfSpellingIsOne, SpellingOfRunIsOne, FilesHaveAnOutcome, FileOutcomeIsOne};
 
@@ -38,7 +38,7 @@ pub fn run_files_have_one_outcome()
 
 /// The replies of a journal, which goes by the instruction table, are the computed ones of its schedule, and it leads to the
 /// computed state, and to no other. Events of threads that are there whose replies are the computed ones are a journal. The state
-/// where a journal leads is reached.
+/// where a journal leads is reached. The same holds of events from any reached state on.
 pub fn journals_are_computed()
     ensures computed { (image : Image) (count : ℕ) (events : List Event) → IsJournal image count events
         → GoesBy image (start_of image count) events × LeadsTo image count events (state_at image count events) }
@@ -48,18 +48,19 @@ pub fn journals_are_computed()
         → AreThere count events → GoesBy image (start_of image count) events → IsJournal image count events }
     ensures reached { (image : Image) (count : ℕ) (events : List Event) (state : State) → IsJournal image count events
         → LeadsTo image count events state → IsReached image count state }
+    ensures from { (image : Image) (count : ℕ) (s end : State) (events : List Event) → IsVerified image → IsReached image count s
+        → LeadsFrom image s events end → GoesBy image s events × (end ≡ state_after image s (schedule_of events)) }
+    ensures onwards { (image : Image) (count : ℕ) (s : State) (events : List Event) → IsVerified image → IsReached image count s
+        → AreThere count events → GoesBy image s events → LeadsFrom image s events (state_after image s (schedule_of events)) }
 {}
 
-/// A run in two parts: the events of the whole are a run's where the first are, and the others are from where the first
-/// lead.
+/// Events in two parts lead from one state to another exactly where the first part leads from the one to some state between, and
+/// the second from there to the other.
 pub fn runs_have_parts()
-    ensures state { (image : Image) (s : State) (first rest : List Event) → state_after image s (schedule_of (first ++ rest))
-        ≡ state_after image (state_after image s (schedule_of first)) (schedule_of rest) }
-    ensures together { (image : Image) (s : State) (first rest : List Event) → GoesBy image s first
-        → GoesBy image (state_after image s (schedule_of first)) rest → GoesBy image s (first ++ rest) }
-    ensures first { (image : Image) (s : State) (first rest : List Event) → GoesBy image s (first ++ rest) → GoesBy image s first }
-    ensures rest { (image : Image) (s : State) (first rest : List Event) → GoesBy image s (first ++ rest)
-        → GoesBy image (state_after image s (schedule_of first)) rest }
+    ensures together { (image : Image) (s middle end : State) (first rest : List Event) → LeadsFrom image s first middle
+        → LeadsFrom image middle rest end → LeadsFrom image s (first ++ rest) end }
+    ensures parts { (image : Image) (s end : State) (first rest : List Event) → LeadsFrom image s (first ++ rest) end
+        → (middle : State) × LeadsFrom image s first middle × LeadsFrom image middle rest end }
 {}
 
 /// The first events of a journal of a program, however many, are one too.

@@ -2,13 +2,12 @@
 use Rattle.std.proofs.Common.{◌≡◌, ◌≢◌, ℕ, ◌+◌, ◌<◌, ◌≤◌, ◌⊎◌, length, refl, arith}
 use Rattle.std.specs.Prelude.{◌↔◌, Result, Ok, Err, IfOk, OnOk, OnErr, IsErrOf}
 use Rattle.asl_machine.specs.declared.reply.Reply.{Reply}
-use Rattle.asl_machine.specs.Step.{Step}
-use Rattle.asl_journal.specs.Journal.{most_events, with_event}
+use Rattle.asl_journal.specs.Journal.{IsJournal, most_events, with_event}
 use Rattle.asl_debugger.specs.declared.fault.StepFault.{StepFault}
 use Rattle.asl_debugger.specs.declared.fault.StepFault.TheVariants as step
 use Rattle.asl_debugger.specs.declared.fault.DebugFault.{DebugFault}
 use Rattle.asl_debugger.specs.declared.fault.DebugFault.TheVariants as debug
-use Rattle.asl_debugger.specs.Session.{Session, recorded, state_before}
+use Rattle.asl_debugger.specs.Session.{Session, IsStepBetween, recorded}
 use Rattle.asl_session.specs.Status.{step_status, move_status, IsBehindStep, IsStepped, IsMovedTo}
 
 through : {A B C : Type 0} → (A ↔ B) → (B ↔ C) → A ↔ C
@@ -46,13 +45,13 @@ step_others (Err step.JournalFull) = search arith
 
 step_made : (s new : Session) (t : ℕ) (a : Result Reply StepFault)
     → IfOk a (λ reply. new ≡ recorded s (with_event s.log (record { thread = t; reply = reply })) (s.position + 1))
-    → IfOk a (λ reply. Step s.image (state_before s.image s.log s.position) t reply (state_before new.image new.log new.position))
-    → step_status a ≡ 0 → (reply : Reply) × IsBehindStep s t reply new
-step_made s new t (Ok reply) event steps zero = (reply, record { event = event; step = steps })
-step_made s new t (Err step.OutOfMemory) event steps zero = absurd (omega arith)
-step_made s new t (Err step.BadThread) event steps zero = absurd (omega arith)
-step_made s new t (Err step.NotAtEnd) event steps zero = absurd (omega arith)
-step_made s new t (Err step.JournalFull) event steps zero = absurd (omega arith)
+    → IfOk a (λ reply. IsStepBetween s new t reply)
+    → IsJournal new.image new.log.threads new.log.events → step_status a ≡ 0 → (reply : Reply) × IsBehindStep s t reply new
+step_made s new t (Ok reply) event steps journal zero = (reply, record { event = event; step = steps; journal = journal })
+step_made s new t (Err step.OutOfMemory) event steps journal zero = absurd (omega arith)
+step_made s new t (Err step.BadThread) event steps journal zero = absurd (omega arith)
+step_made s new t (Err step.NotAtEnd) event steps journal zero = absurd (omega arith)
+step_made s new t (Err step.JournalFull) event steps journal zero = absurd (omega arith)
 
 step_kept : (P : Type 0) (a : Result Reply StepFault) → OnErr a P → step_status a ≢ 0 → P
 step_kept P (Ok reply) same some = absurd (some refl)
@@ -68,13 +67,13 @@ step_other (Err step.JournalFull) = λ e. omega arith
 
 pub stepped : (s new : Session) (t : ℕ) (a : Result Reply StepFault)
     → IfOk a (λ reply. new ≡ recorded s (with_event s.log (record { thread = t; reply = reply })) (s.position + 1))
-    → IfOk a (λ reply. Step s.image (state_before s.image s.log s.position) t reply (state_before new.image new.log new.position))
+    → IfOk a (λ reply. IsStepBetween s new t reply)
     → (IsErrOf a step.NotAtEnd ↔ (s.position ≢ length s.log.events))
     → (IsErrOf a step.JournalFull ↔ ((s.position ≡ length s.log.events) × (length s.log.events ≡ most_events)))
     → (IsErrOf a step.BadThread ↔ ((s.position ≡ length s.log.events) × (length s.log.events < most_events) × (s.log.threads ≤ t)))
-    → OnErr a (new ≡ s) → IsStepped s t (step_status a) new
-stepped s new t a event steps end full stranger err = record {
-  done = step_made s new t a event steps;
+    → OnErr a (new ≡ s) → IsJournal new.image new.log.threads new.log.events → IsStepped s t (step_status a) new
+stepped s new t a event steps end full stranger err journal = record {
+  done = step_made s new t a event steps journal;
   end = through (end_told a) end;
   full = through (full_told a) full;
   stranger = through (stranger_told a) stranger;

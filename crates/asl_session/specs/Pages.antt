@@ -1,8 +1,9 @@
 -- What is reported of a session as text (docs/JOURNAL.md, "Words of the debugger" and "log").
-use Rattle.std.specs.Prelude.{ℕ, suc, List, [], ◌∷◌, ◌++◌, drop, length, min}
+use Rattle.std.specs.Prelude.{◌≡◌, ℕ, suc, List, [], ◌∷◌, ◌++◌, drop, length, min}
 use Rattle.asl_machine.specs.View.{Configuration}
 use Rattle.asl_journal.specs.declared.event.Event.{Event}
-use Rattle.asl_debugger.specs.Session.{Session, machine_before}
+use Rattle.asl_journal.specs.Journal.{IsJournal}
+use Rattle.asl_debugger.specs.Session.{Session, IsShown}
 use Rattle.asl_show.specs.Replies.{step_line}
 use Rattle.asl_show.specs.View.{view_text}
 use Rattle.asl_show.specs.Asks.{asks_text}
@@ -18,9 +19,12 @@ page_text Asks m = asks_text m
 page_text Stack m = stack_text m.state
 page_text Objects m = objects_text m.state
 
--- the page of the machine at the session's position
-abbrev pub text_of : Page → Session → List ℕ
-text_of page s = page_text page (machine_before s.image s.log s.position)
+-- the text is the page of the machine at the session's position; the events are a journal of the program, so there is one such machine
+pub record IsPage (page : Page) (s : Session) (text : List ℕ) : Type 0 where
+  pub journal : IsJournal s.image s.log.threads s.log.events
+  pub machine : Configuration
+  pub shown : IsShown s machine
+  pub spelled : text ≡ page_text page machine
 
 -- the lines of events, numbered from the given number on, as the command `log` prints them
 abbrev pub event_lines : ℕ → List Event → List ℕ

@@ -1,15 +1,16 @@
 -- What a call on a session answers, and what it leaves of it (docs/EMBEDDING.md, "Sessions from C").
 use Rattle.std.specs.Prelude.{◌≡◌, ◌≢◌, ◌<◌, ◌≤◌, ◌+◌, ◌↔◌, ◌⊎◌, ℕ, List, length, take, Result, Ok, Err}
 use Rattle.asl_machine.specs.declared.reply.Reply.{Reply}
-use Rattle.asl_machine.specs.Step.{Step}
-use Rattle.asl_journal.specs.Journal.{most_events, with_event}
+use Rattle.asl_journal.specs.Journal.{IsJournal, most_events, with_event}
 use Rattle.asl_journal.specs.RunFile.{SpellsRun}
 use Rattle.asl_debugger.specs.declared.fault.StepFault.{StepFault}
 use Rattle.asl_debugger.specs.declared.fault.StepFault.TheVariants as step
 use Rattle.asl_debugger.specs.declared.fault.DebugFault.{DebugFault}
 use Rattle.asl_debugger.specs.declared.fault.DebugFault.TheVariants as debug
 use Rattle.asl_foreign.specs.Buffer.{Holds}
-use Rattle.asl_debugger.specs.Session.{Session, moved, recorded, state_before}
+use Rattle.asl_debugger.specs.Session.{Session, IsStepBetween, moved, recorded}
+use Rattle.asl_session.specs.declared.pages.Page.{Page}
+use Rattle.asl_session.specs.Pages.{IsPage}
 
 -- the status of a step's answer
 abbrev pub step_status : Result Reply StepFault → ℕ
@@ -25,10 +26,11 @@ move_status (Ok done) = 0
 move_status (Err debug.NoSuchStep) = 13
 move_status (Err fault) = 2
 
--- the session after a step of the thread with this reply, which is written down
+-- the session after a step of the thread with this reply, which is written down; its events are a journal of the program
 pub record IsBehindStep (s : Session) (t : ℕ) (reply : Reply) (new : Session) : Type 0 where
   pub event : new ≡ recorded s (with_event s.log (record { thread = t; reply = reply })) (s.position + 1)
-  pub step : Step s.image (state_before s.image s.log s.position) t reply (state_before new.image new.log new.position)
+  pub step : IsStepBetween s new t reply
+  pub journal : IsJournal new.image new.log.threads new.log.events
 
 -- 0: the thread has stepped. Else nothing has changed, and it is 14: events follow; else 15: the journal is full; else 4: there is
 -- no such thread; else 2: there was no memory
@@ -58,6 +60,12 @@ IsCut s k status new = IsMovedTo s (recorded s (record { threads = s.log.threads
 -- 0: the buffer holds the text as far as it has room, and its whole length is reported. Else it is 2: there was no memory
 pub record IsTold (text old new : List ℕ) (told status : ℕ) : Type 0 where
   pub done : status ≡ 0 → Holds text old new × (told ≡ length text)
+  pub other : (status ≡ 0) ⊎ (status ≡ 2)
+
+-- 0: the buffer holds the page of the machine at the session's position, as far as it has room, and its whole length is reported. Else
+-- it is 2: there was no memory
+pub record IsPageTold (page : Page) (s : Session) (old new : List ℕ) (told status : ℕ) : Type 0 where
+  pub done : status ≡ 0 → (text : List ℕ) × IsPage page s text × Holds text old new × (told ≡ length text)
   pub other : (status ≡ 0) ⊎ (status ≡ 2)
 
 -- 0: there are bytes that spell the session's program and its whole journal, wherever its position is; the buffer holds them as far as

@@ -1,6 +1,6 @@
 //! Calls on a session in its place, which it leaves while it works.
 ghost use Rattle.std.specs.Prelude.{◌≡◌, ◌≢◌, length, IfOk, string_bytes};
-ghost use Rattle.asl_session.specs.Pages.{text_of};
+ghost use Rattle.asl_session.specs.Pages.{IsPage};
 ghost use Rattle.asl_session.specs.Status.{IsCut, IsGone, IsStepped};
 
 use crate::pages::Page;
@@ -40,7 +40,7 @@ pub fn cut(alloc: Global, session: &mut Session, k: u32) -> u32
 /// The page of the machine that is shown.
 pub fn tell(alloc: Global, session: &mut Session, page: Page) -> Result<String, AllocError>
     ensures same { session.new ≡ session.old }
-    ensures text { IfOk result (λ text. string_bytes text ≡ text_of page session.old) }
+    ensures text { IfOk result (λ text. IsPage page session.old (string_bytes text)) }
 {
     replace_with(session, (alloc, page), Session::tell)
 }

@@ -2,12 +2,11 @@
 ghost use Rattle.std.specs.Prelude.{◌≡◌, ◌≢◌, ◌<◌, ◌≤◌, ◌+◌, ◌↔◌, ◌⊎◌, [], length, take, IfOk, IfErr, IsErrOf, OnOk, OnErr, string_bytes};
 ghost use Rattle.asl_code.specs.Versions.{most_threads};
 ghost use Rattle.asl_machine.specs.Run.{IsThreadCount};
-ghost use Rattle.asl_machine.specs.Step.{Step};
-ghost use Rattle.asl_journal.specs.Journal.{most_events, with_event};
+ghost use Rattle.asl_journal.specs.Journal.{IsJournal, most_events, with_event};
 ghost use Rattle.asl_journal.specs.RunFile.{SpellsRun};
-ghost use Rattle.asl_debugger.specs.Session.{moved, recorded, state_before};
+ghost use Rattle.asl_debugger.specs.Session.{IsStepBetween, moved, recorded};
 ghost use Rattle.asl_debugger.specs.Paused.{IsSessionRestOf};
-ghost use Rattle.asl_session.specs.Pages.{text_of, log_text};
+ghost use Rattle.asl_session.specs.Pages.{IsPage, log_text};
 
 use crate::pages::{Page, lines_from, page_of};
 use asl_code::Program;
@@ -71,14 +70,14 @@ impl Session {
     /// At the end of the journal: steps the thread of the call, writes the step down, and is after it.
     pub fn step(self, call: (Global, u32)) -> (Session, Result<Reply, StepFault>)
         ensures event { IfOk result.1 (λ reply. result.0 ≡ recorded self (with_event self.log (record { thread = call.1; reply = reply })) (self.position + 1)) }
-        ensures step { IfOk result.1 (λ reply. Step self.image (state_before self.image self.log self.position) call.1 reply
-            (state_before result.0.image result.0.log result.0.position)) }
+        ensures step { IfOk result.1 (λ reply. IsStepBetween self result.0 call.1 reply) }
         ensures end { IsErrOf result.1 StepFault.NotAtEnd ↔ (self.position ≢ length self.log.events) }
         ensures full { IsErrOf result.1 StepFault.JournalFull
             ↔ ((self.position ≡ length self.log.events) × (length self.log.events ≡ most_events)) }
         ensures stranger { IsErrOf result.1 StepFault.BadThread
             ↔ ((self.position ≡ length self.log.events) × (length self.log.events < most_events) × (self.log.threads ≤ call.1)) }
         ensures err { OnErr result.1 (result.0 ≡ self) }
+        ensures journal { IsJournal result.0.image result.0.log.threads result.0.log.events }
     {
         let (alloc, t) = call;
         let Session { program, debugger } = self;
@@ -125,7 +124,7 @@ impl Session {
     /// An allocation failed.
     pub fn tell(self, call: (Global, Page)) -> (Session, Result<String, AllocError>)
         ensures same { result.0 ≡ self }
-        ensures text { IfOk result.1 (λ text. string_bytes text ≡ text_of call.1 self) }
+        ensures text { IfOk result.1 (λ text. IsPage call.1 self (string_bytes text)) }
     {
         let (alloc, page) = call;
         let Session { program, debugger } = self;

@@ -1,10 +1,11 @@
 -- A journal is a run by the table, and every schedule has one.
-use Rattle.std.proofs.Common.{◌≡◌, ℕ, ◌<◌, List, [], ◌∷◌, Some, None, length, slice_get, refl, ap, ap₂, sym, ◌∙◌, subst}
+use Rattle.std.proofs.Common.{◌≡◌, ℕ, ◌<◌, List, [], ◌∷◌, Some, None, length, slice_get, refl, ap, ap₂, sym, ◌∙◌, subst, arith}
 use Rattle.std.specs.Prelude.{All}
 use Rattle.std.proofs.lemmas.Option.{slice_get_within}
 use Rattle.std.proofs.lemmas.List.Elements.{All-nil, All-cons, All-head, All-tail}
 use Rattle.asl_code.specs.declared.image.Image.{Image}
 use Rattle.asl_code.specs.Verified.{IsVerified}
+use Rattle.asl_code.specs.Versions.{most_threads, limits_of}
 use Rattle.asl_code.proofs.FitsLaws.{image_fits}
 use Rattle.asl_code.specs.Fits.{FitsImage}
 use Rattle.asl_machine.specs.declared.reply.Reply.{Reply}
@@ -109,3 +110,27 @@ only_events image (e ∷ es) s goes =
 pub one_journal : (image : Image) (count : ℕ) (events others : List Event) → IsJournal image count events → IsJournal image count others → schedule_of events ≡ schedule_of others → events ≡ others
 one_journal image count events others p q same =
     only_events image events (start_of image count) (goes_of image count events p) ∙ ap (events_on image (start_of image count)) same ∙ sym (only_events image others (start_of image count) (goes_of image count others q))
+
+-- ---- and of other programs not each has
+
+-- a program with no code, which is not verified
+abbrev pub bare : Image
+bare = record { version = 1; classes = 0; globals = []; functions = []; start = 0; code = []; lists = [] }
+
+-- one thread of it may start
+pub few : IsThreadCount bare 1
+unfolding most_threads limits_of
+few = (omega arith, omega arith)
+
+pub only_first : All (λ (t : ℕ). t < 1) (0 ∷ [])
+only_first = All-cons (λ (t : ℕ). t < 1) 0 [] (omega arith) (All-nil (λ (t : ℕ). t < 1))
+
+-- and is where no line of the table applies
+no_line : (r : Reply) (new : State) → Step bare (start_of bare 1) 0 r new → ⊥
+no_line r new h = absurd cc
+
+pub none_of_bare : (events : List Event) (end : State) → LeadsTo bare 1 events end → schedule_of events ≡ 0 ∷ [] → ⊥
+none_of_bare [] end leads e = absurd cc
+none_of_bare (event ∷ events) end leads e =
+    let first : event.thread ≡ 0 = cc in
+    no_line event.reply leads.runs.0 (subst (λ (t : ℕ). Step bare (start_of bare 1) t event.reply leads.runs.0) first leads.runs.1)

@@ -2,7 +2,7 @@
 //! contract of a function that does nothing. Read them in order: first what the whole is for, then as the README tells it.
 #![tactic(auto)]
 
-ghost use Rattle.std.specs.Prelude.{◌≡◌, ◌≢◌, ◌<◌, ◌≤◌, ◌↔◌, ℕ, suc, Bool, List, [], All, Some, length, take, slice_get};
+ghost use Rattle.std.specs.Prelude.{◌≡◌, ◌≢◌, ◌<◌, ◌≤◌, ℕ, suc, Bool, List, [], All, Some, length, take, slice_get};
 ghost use Rattle.asl_code.specs.declared.image.Image.{Image};
 ghost use Rattle.asl_code.specs.declared.lock.Lock.{Lock};
 ghost use Rattle.asl_code.specs.Verified.{IsVerified};
@@ -31,7 +31,6 @@ ghost use Rattle.asl_loader.specs.Bytes.{SpellsImage, text_of};
 ghost use Rattle.asl_journal.specs.declared.event.Event.{Event};
 ghost use Rattle.asl_journal.specs.Bytes.{SpellsLog, log_fields};
 ghost use Rattle.asl_journal.specs.Journal.{Log, LeadsTo, IsJournal, most_events, schedule_of, replies_in};
-ghost use Rattle.asl_journal.specs.Computed.{state_at};
 ghost use Rattle.asl_soundness.specs.Safe.{IsSafe};
 ghost use Rattle.asl_atomicity.specs.Serial.{TakenStep, IsRun, HasSerial, MakesNoneInside};
 ghost use Rattle.asl_atomicity.specs.Renamed.{HasSerialUpTo, FindsRoomInside};
@@ -83,13 +82,15 @@ pub fn journals_are_runs_by_the_table()
 {}
 
 /// It is not said of nothing. Each order of the steps of as many threads as the program's version allows has a journal, and no
-/// two. Compiled programs are verified.
+/// two. Compiled programs are verified. Of others this is not so: a thread may be where the table has no line.
 pub fn every_schedule_has_one_journal()
     ensures some { (image : Image) (count : ℕ) (schedule : List ℕ) → IsVerified image → IsThreadCount image count → All (λ t. t < count) schedule
         → (events : List Event) × IsJournal image count events × (schedule_of events ≡ schedule) }
     ensures one { (image : Image) (count : ℕ) (events others : List Event) → IsJournal image count events
         → IsJournal image count others → schedule_of events ≡ schedule_of others → events ≡ others }
     ensures verified { (source : List ℕ) (k_limit : ℕ) (image : Image) → Compiles source k_limit image → IsVerified image }
+    ensures others { ¬ ((image : Image) (count : ℕ) (schedule : List ℕ) → IsThreadCount image count → All (λ t. t < count) schedule
+        → (events : List Event) × ((end : State) × LeadsTo image count events end × (schedule_of events ≡ schedule))) }
 {}
 
 /// Each journal of a program that bytes spell, if it is not too long for any, has bytes. So it can be kept as a run file.
@@ -146,11 +147,13 @@ pub fn every_program_has_one_outcome()
     ensures classes { (source : List ℕ) (tree : List Item) (l : Lowered) → Parses source tree → IsLowering tree l → ¬ (¬ ((c : Classed) × AreClasses l c)) }
 {}
 
-/// 5. The debugger. The state that it shows at a position of a journal, the one after the first events, is the one to which the
-/// instruction table leads the program's threads by these events.
+/// 5. The debugger. At each position of a journal there is a state to which the instruction table leads the program's threads by the
+/// events before it, and one only: the one that the debugger shows there.
 pub fn positions_go_by_the_table()
-    ensures { (image : Image) (log : Log) (k : ℕ) (state : State) → IsJournal image log.threads log.events
-        → LeadsTo image log.threads (take k log.events) state ↔ (state ≡ state_at image log.threads (take k log.events)) }
+    ensures some { (image : Image) (log : Log) (k : ℕ) → IsJournal image log.threads log.events
+        → (state : State) × LeadsTo image log.threads (take k log.events) state }
+    ensures one { (image : Image) (log : Log) (k : ℕ) (state other : State) → IsJournal image log.threads log.events
+        → LeadsTo image log.threads (take k log.events) state → LeadsTo image log.threads (take k log.events) other → state ≡ other }
 {}
 
 /// 8. Atomicity. Each run of a compiled program, and so each of its journals, has a serial one: the same state in the end, the

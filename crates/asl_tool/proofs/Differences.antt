@@ -15,7 +15,8 @@ use Rattle.asl_machine.specs.StepFunction.{same_value}
 use Rattle.asl_machine.specs.StepFunction.{step_of}
 use Rattle.asl_machine.proofs.PackedValues.{same_is, same_self}
 use Rattle.asl_journal.specs.declared.event.Event.{Event}
-use Rattle.asl_journal.specs.Computed.{GoesBy, DiffersFrom}
+use Rattle.asl_journal.specs.Computed.{GoesBy}
+use Rattle.asl_journal.proofs.Replays.{DiffersBy}
 use Rattle.asl_journal.proofs.Runs.{goes_cons}
 
 -- they are the same, or they are not
@@ -81,7 +82,7 @@ same_replies (reply.Fault f) (reply.Fault g) = same_by reply.Fault f g (λ e. cc
 same_replies x y = inr (λ e. cc)
 
 -- the events go by the run, or some event is the first that differs
-pub some_difference : (image : Image) (s : State) (events : List Event) → GoesBy image s events ⊎ ((index : ℕ) × DiffersFrom image s events index)
+pub some_difference : (image : Image) (s : State) (events : List Event) → GoesBy image s events ⊎ ((index : ℕ) × DiffersBy image s events index)
 some_difference image s [] = inl refl
 some_difference image s (e ∷ es) =
     elim (same_replies e.reply (step_of image s e.thread).reply) [

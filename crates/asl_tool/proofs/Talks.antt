@@ -9,7 +9,8 @@ use Rattle.asl_machine.specs.View.{Configuration}
 use Rattle.asl_journal.specs.declared.event.Event.{Event}
 use Rattle.asl_journal.specs.Journal.{Log, IsJournal}
 use Rattle.asl_debugger.specs.Breaks.{has_break, is_place, HasBreak, HasNoBreak}
-use Rattle.asl_debugger.specs.Session.{Session, IsAtBreak, IsStop, IsNextStop, IsLastStop, machine_before, state_before}
+use Rattle.asl_debugger.specs.Computed.{machine_before, state_before}
+use Rattle.asl_debugger.specs.Session.{Session, IsAtBreak, IsStop, IsNextStop, IsLastStop}
 use Rattle.asl_debugger.specs.Halts.{IsHalt, IsNextHalt, IsLastHalt}
 use Rattle.asl_debugger.proofs.Places.{without_place}
 use Rattle.asl_debugger.proofs.ByTable.{is_shown, shown_is, next_stop_of, last_stop_of}

@@ -9,7 +9,8 @@ use asl_machine::Machine;
 use std::alloc::Global;
 
 impl<'p> Debugger<'p> {
-    ghost use Rattle.asl_debugger.specs.Session.{machine_before, moved};
+    ghost use Rattle.asl_debugger.specs.Computed.{machine_before};
+    ghost use Rattle.asl_debugger.specs.Session.{moved};
 
     /// Goes to position k. A move back leaves marks on its way, and keeps no others than those between the checkpoint before k and k.
     pub(crate) fn show(&mut self, alloc: Global, k: u32) -> Result<(), DebugFault>

@@ -13,7 +13,7 @@ use asl_machine::{Machine, Paused, Reply};
 use std::alloc::Global;
 
 impl<'p> Debugger<'p> {
-    ghost use Rattle.asl_debugger.specs.Session.{recorded, state_before};
+    ghost use Rattle.asl_debugger.specs.Session.{IsStepBetween, recorded};
 
     /// At the end of the journal: steps thread t, writes the step down, and is after it.
     ///
@@ -23,8 +23,7 @@ impl<'p> Debugger<'p> {
     /// else `OutOfMemory` where an allocation failed. Then nothing has changed.
     pub fn step(&mut self, alloc: Global, t: u32) -> Result<Reply, StepFault>
         ensures event { IfOk result (λ reply. self.new ≡ recorded self.old (with_event self.old.log (record { thread = t; reply = reply })) (self.old.position + 1)) }
-        ensures step { IfOk result (λ reply. Step self.old.image (state_before self.old.image self.old.log self.old.position) t reply
-            (state_before self.new.image self.new.log self.new.position)) }
+        ensures step { IfOk result (λ reply. IsStepBetween self.old self.new t reply) }
         ensures end { IsErrOf result StepFault.NotAtEnd ↔ (self.old.position ≢ length self.old.log.events) }
         ensures full { IsErrOf result StepFault.JournalFull
             ↔ ((self.old.position ≡ length self.old.log.events) × (length self.old.log.events ≡ most_events)) }
@@ -51,8 +50,7 @@ impl<'p> Debugger<'p> {
         requires room { length self.old.log.events < most_events }
         requires thread { t < self.old.log.threads }
         ensures event { IfOk result (λ reply. self.new ≡ recorded self.old (with_event self.old.log (record { thread = t; reply = reply })) (self.old.position + 1)) }
-        ensures step { IfOk result (λ reply. Step self.old.image (state_before self.old.image self.old.log self.old.position) t reply
-            (state_before self.new.image self.new.log self.new.position)) }
+        ensures step { IfOk result (λ reply. IsStepBetween self.old self.new t reply) }
         ensures memory { IfErr result (λ fault. fault ≡ StepFault.OutOfMemory) }
         ensures err { OnErr result (self.new ≡ self.old) }
     {
@@ -110,8 +108,6 @@ fn write_step(
     requires thread { t < journal.old.threads }
     ensures event { IfOk result (λ reply. journal.new ≡ with_event journal.old (record { thread = t; reply = reply })) }
     ensures step { IfOk result (λ reply. Step machine.old.image machine.old.state t reply machine.new.state) }
-    ensures reply { IfOk result (λ reply. reply ≡ (step_of machine.old.image machine.old.state t).reply) }
-    ensures state { IfOk result (λ _. machine.new.state ≡ (step_of machine.old.image machine.old.state t).state) }
     ensures image { machine.new.image ≡ machine.old.image }
     ensures memory { IfErr result (λ fault. fault ≡ StepFault.OutOfMemory) }
     ensures err { OnErr result (journal.new ≡ journal.old) }

@@ -11,7 +11,7 @@ use std::alloc::Global;
 impl<'p> Debugger<'p> {
     ghost use Rattle.asl_debugger.specs.Search.{IsFound};
     ghost use Rattle.asl_debugger.specs.Halts.{IsNextHalt, IsLastHalt};
-    ghost use Rattle.asl_debugger.specs.Session.{machine_before};
+    ghost use Rattle.asl_debugger.specs.Computed.{machine_before};
 
     /// The least later stop, or the end, and the machine there.
     pub(crate) fn next_stop(&self, alloc: Global) -> Result<(Machine<'p>, u32), DebugFault>

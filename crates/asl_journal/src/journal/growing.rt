@@ -1,7 +1,6 @@
 //! Journals that grow with their machine, and that are cut.
 ghost use Rattle.std.specs.Prelude.{◌≡◌, ◌<◌, ◌≤◌, ◌↔◌, ◌⊎◌, ◌++◌, ◌∷◌, [], length, take, IfOk, IfErr, IsErrOf, OnErr};
 ghost use Rattle.asl_machine.specs.Step.{Step};
-ghost use Rattle.asl_machine.specs.StepFunction.{step_of};
 ghost use Rattle.asl_journal.specs.Journal.{most_events, with_event};
 
 use crate::event::Event;
@@ -28,8 +27,6 @@ impl Journal {
         requires threads { length machine.old.state.threads ≡ self.old.threads }
         ensures event { IfOk result (λ reply. self.new ≡ with_event self.old (record { thread = t; reply = reply })) }
         ensures step { IfOk result (λ reply. Step machine.old.image machine.old.state t reply machine.new.state) }
-        ensures reply { IfOk result (λ reply. reply ≡ (step_of machine.old.image machine.old.state t).reply) }
-        ensures state { IfOk result (λ _. machine.new.state ≡ (step_of machine.old.image machine.old.state t).state) }
         ensures image { machine.new.image ≡ machine.old.image }
         ensures full { IsErrOf result JournalFault.JournalFull ↔ (length self.old.events ≡ most_events) }
         ensures stranger { IsErrOf result JournalFault.BadThread ↔ ((length self.old.events < most_events) × (self.old.threads ≤ t)) }

@@ -1,7 +1,7 @@
 //! What tells of a session, which stays as it is.
 ghost use Rattle.std.specs.Prelude.{◌≡◌, ◌≢◌, ◌↔◌, true, false, length, if◌then◌else◌};
-ghost use Rattle.asl_session.specs.Pages.{text_of, log_text};
-ghost use Rattle.asl_session.specs.Status.{IsRunFileTold, IsTold};
+ghost use Rattle.asl_session.specs.Pages.{log_text};
+ghost use Rattle.asl_session.specs.Status.{IsPageTold, IsRunFileTold, IsTold};
 
 use crate::kept;
 use crate::pages::Page;
@@ -49,7 +49,7 @@ pub extern "C" fn asl_session_view_nonnull(
     ensures live { handle.new.live ≡ handle.old.live }
     ensures same { handle.old.live ≡ true → handle.new.slot.session ≡ handle.old.slot.session }
     ensures no_session { result ≡ 3 ↔ handle.old.live ≡ false }
-    ensures told { handle.old.live ≡ true → IsTold (text_of Page.View handle.old.slot.session) text.old text.new whole.new result }
+    ensures told { handle.old.live ≡ true → IsPageTold Page.View handle.old.slot.session text.old text.new whole.new result }
     ensures unwritten { result ≢ 0 → (text.new ≡ text.old) × (whole.new ≡ whole.old) }
 {
     match handle.take(alloc) {
@@ -76,7 +76,7 @@ pub extern "C" fn asl_session_asks_nonnull(
     ensures live { handle.new.live ≡ handle.old.live }
     ensures same { handle.old.live ≡ true → handle.new.slot.session ≡ handle.old.slot.session }
     ensures no_session { result ≡ 3 ↔ handle.old.live ≡ false }
-    ensures told { handle.old.live ≡ true → IsTold (text_of Page.Asks handle.old.slot.session) text.old text.new whole.new result }
+    ensures told { handle.old.live ≡ true → IsPageTold Page.Asks handle.old.slot.session text.old text.new whole.new result }
     ensures unwritten { result ≢ 0 → (text.new ≡ text.old) × (whole.new ≡ whole.old) }
 {
     match handle.take(alloc) {
@@ -103,7 +103,7 @@ pub extern "C" fn asl_session_stack_nonnull(
     ensures live { handle.new.live ≡ handle.old.live }
     ensures same { handle.old.live ≡ true → handle.new.slot.session ≡ handle.old.slot.session }
     ensures no_session { result ≡ 3 ↔ handle.old.live ≡ false }
-    ensures told { handle.old.live ≡ true → IsTold (text_of Page.Stack handle.old.slot.session) text.old text.new whole.new result }
+    ensures told { handle.old.live ≡ true → IsPageTold Page.Stack handle.old.slot.session text.old text.new whole.new result }
     ensures unwritten { result ≢ 0 → (text.new ≡ text.old) × (whole.new ≡ whole.old) }
 {
     match handle.take(alloc) {
@@ -130,7 +130,7 @@ pub extern "C" fn asl_session_objects_nonnull(
     ensures live { handle.new.live ≡ handle.old.live }
     ensures same { handle.old.live ≡ true → handle.new.slot.session ≡ handle.old.slot.session }
     ensures no_session { result ≡ 3 ↔ handle.old.live ≡ false }
-    ensures told { handle.old.live ≡ true → IsTold (text_of Page.Objects handle.old.slot.session) text.old text.new whole.new result }
+    ensures told { handle.old.live ≡ true → IsPageTold Page.Objects handle.old.slot.session text.old text.new whole.new result }
     ensures unwritten { result ≢ 0 → (text.new ≡ text.old) × (whole.new ≡ whole.old) }
 {
     match handle.take(alloc) {

@@ -1,11 +1,12 @@
-use Rattle.std.proofs.Common.{take, sym, subst}
-use Rattle.asl_journal.specs.Journal.{LeadsTo}
-use Rattle.asl_journal.proofs.ByTable.{end_is, leads_at}
+use Rattle.std.proofs.Common.{take, sym, ◌∙◌}
+use Rattle.asl_journal.proofs.ByTable.{end_is}
 use Rattle.asl_journal.proofs.Runs.{prefix_is_journal}
 use Rattle.asl_theorems.proofs.positions_go_by_the_table.Goals as goal
 
 pub returns : goal.returns
-returns c = λ image log k state j. (
-  λ h. end_is image log.threads (take k log.events) state j.verified h,
-  λ e. subst (LeadsTo image log.threads (take k log.events)) (sym e) (leads_at image log.threads (take k log.events) (prefix_is_journal image log.threads k log.events j)),
-)
+returns c = record {
+  some = λ image log k j. let front = prefix_is_journal image log.threads k log.events j in (front.end, front.leads);
+  one = λ image log k state other j here there.
+      let events = take k log.events in
+      end_is image log.threads events state j.verified here ∙ sym (end_is image log.threads events other j.verified there);
+}

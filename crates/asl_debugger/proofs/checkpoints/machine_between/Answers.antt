@@ -1,12 +1,14 @@
 use Rattle.std.proofs.Common.{◌<◌, ◌+◌, ◌-◌, List, take, drop, ap, ◌∙◌}
 use Rattle.std.proofs.lemmas.List.Elements.{All-take, All-drop}
+use Rattle.asl_code.proofs.FitsLaws.{image_fits}
 use Rattle.asl_machine.specs.Run.{state_after}
 use Rattle.asl_machine.specs.State.{State}
-use Rattle.asl_machine.specs.View.{Configuration}
+use Rattle.asl_machine.proofs.Reached.{reached_sound}
 use Rattle.asl_journal.specs.declared.event.Event.{Event}
 use Rattle.asl_journal.specs.Journal.{schedule_of}
-use Rattle.asl_journal.proofs.Replays.{none_from, differs_of}
-use Rattle.asl_debugger.specs.Session.{state_before}
+use Rattle.asl_journal.proofs.ByTable.{reached_computed}
+use Rattle.asl_journal.proofs.Replays.{none_from, differs_of, differs_computed}
+use Rattle.asl_debugger.specs.Computed.{state_before}
 use Rattle.asl_debugger.proofs.Positions.{threads_of, state_between, goes_between, goes_from, differs_between, is_at}
 use Rattle.asl_debugger.proofs.checkpoints.machine_between.Goals as goal
 
@@ -21,21 +23,28 @@ pub returns-in-Ok-clause-machine : goal.returns-in-Ok-clause-machine
 returns-in-Ok-clause-machine c =
     let from = c.args.from in
     let log = c.args.journal.now in
-    let told = c.in-Ok.ensures.machine in
     let slice = λ (es : List Event). take (c.args.end - c.args.start) (drop c.args.start es) in
-    is_at c.in-Ok.machine from.image (state_before from.image log c.args.end) (ap (λ (m : Configuration). m.image) told)
-    (ap (λ (m : Configuration). m.state) told
+    let told = reached_computed from.image c.threads.result from.state c.in-Ok.machine.state (slice c.events-events.result.now) c.threads.ensures.verified c.threads.ensures.reached c.in-Ok.ensures.leads in
+    is_at c.in-Ok.machine from.image (state_before from.image log c.args.end) c.in-Ok.ensures.image
+    (told.1
     ∙ ap (λ (es : List Event). state_after from.image from.state (schedule_of (slice es))) c.events-events.ensures.events
     ∙ ap (λ (s : State). state_after from.image s (schedule_of (slice log.events))) c.requires.from
     ∙ state_between from.image log c.args.start c.args.end c.requires.order)
 
 pub returns-in-Ok-clause-goes : goal.returns-in-Ok-clause-goes
 returns-in-Ok-clause-goes c front =
-    goes_between c.args.from.image c.args.journal.now c.args.start c.args.end c.requires.order front (rw (c.events-events.ensures.events, c.requires.from) at c.in-Ok.ensures.goes)
+    let from = c.args.from in
+    let slice = take (c.args.end - c.args.start) (drop c.args.start c.events-events.result.now) in
+    let told = reached_computed from.image c.threads.result from.state c.in-Ok.machine.state slice c.threads.ensures.verified c.threads.ensures.reached c.in-Ok.ensures.leads in
+    goes_between from.image c.args.journal.now c.args.start c.args.end c.requires.order front (rw (c.events-events.ensures.events, c.requires.from) at told.0)
 
 pub returns-in-Err-Differs-clause-refused : goal.returns-in-Err-Differs-clause-refused
 returns-in-Err-Differs-clause-refused c verified few front =
-    let d = rw (c.in-Err-Differs.field-0-is, c.events-events.ensures.events, c.requires.from) at c.in-Err-Differs.ensures.refused in
+    let from = c.args.from in
+    let slice = take (c.args.end - c.args.start) (drop c.args.start c.events-events.result.now) in
+    let sound = reached_sound from.image c.threads.result from.state (image_fits from.image c.threads.ensures.verified) c.threads.ensures.reached in
+    let told = differs_computed from.image from.state slice c.in-Err-Differs.index sound (rw c.in-Err-Differs.field-0-is at c.in-Err-Differs.ensures.refused) in
+    let d = rw (c.events-events.ensures.events, c.requires.from) at told in
     let log = c.args.journal.now in
     let index = c.args.start + c.in-Err-Differs.index in (
       few.1,
@@ -45,6 +54,10 @@ returns-in-Err-Differs-clause-refused c verified few front =
 
 pub returns-in-Err-Differs-clause-only : goal.returns-in-Err-Differs-clause-only
 returns-in-Err-Differs-clause-only c j =
-    let d = rw (c.in-Err-Differs.field-0-is, c.events-events.ensures.events, c.requires.from) at c.in-Err-Differs.ensures.refused in
+    let from = c.args.from in
+    let slice = take (c.args.end - c.args.start) (drop c.args.start c.events-events.result.now) in
+    let sound = reached_sound from.image c.threads.result from.state (image_fits from.image c.threads.ensures.verified) c.threads.ensures.reached in
+    let told = differs_computed from.image from.state slice c.in-Err-Differs.index sound (rw c.in-Err-Differs.field-0-is at c.in-Err-Differs.ensures.refused) in
+    let d = rw (c.events-events.ensures.events, c.requires.from) at told in
     absurd (none_from c.args.from.image (state_before c.args.from.image c.args.journal.now c.args.start) (take (c.args.end - c.args.start) (drop c.args.start c.args.journal.now.events)) c.in-Err-Differs.index
     (goes_from c.args.from.image c.args.journal.now c.args.start c.args.end c.requires.order j) d)

@@ -1,6 +1,6 @@
 use Rattle.std.proofs.Common.{◌≡◌, ◌≤◌, ◌-◌}
 use Rattle.asl_debugger.specs.Checkpoints.{AreMarks}
-use Rattle.asl_debugger.specs.Session.{machine_before}
+use Rattle.asl_debugger.specs.Computed.{machine_before}
 use Rattle.asl_debugger.proofs.trail.machine_by_marks.Given as goal
 
 abbrev pub invariant-loop-here : goal.invariant-loop-here

@@ -1,9 +1,10 @@
 use Rattle.std.proofs.Common.{ℕ, List, length, ap, subst, sym, ◌∙◌}
 use Rattle.asl_code.specs.Verified.{IsVerified}
+use Rattle.asl_code.proofs.FitsLaws.{image_fits}
 use Rattle.asl_machine.specs.Run.{start_of}
+use Rattle.asl_machine.proofs.Invariant.{start_sound}
 use Rattle.asl_journal.specs.declared.event.Event.{Event}
 use Rattle.asl_journal.specs.Journal.{AreThere}
-use Rattle.asl_journal.proofs.ByTable.{goes_of}
 use Rattle.asl_journal.proofs.Recordings.{machine_count, in_count}
 use Rattle.asl_journal.proofs.Replays.{only_memory_at, replayed_journal, replayed_leads, replayed_refused}
 use Rattle.asl_journal.proofs.journal_replay.replay.Goals as goal
@@ -20,7 +21,7 @@ returns-clause-journal c =
     let n = c.args.journal.now.threads in
     let counted = in_count c.args.program.now n (rw (← c.threads.ensures.threads) (λ taken. cc (told.count.1 taken))) in
     replayed_journal c.args.program.now c.args.journal.now (subst IsVerified told.image c.threads-2.ensures.verified) counted c.events.ensures.log.there c.in_ok-machine.machine told.image (rw (← c.threads.ensures.threads) told.start) c.run_on.result
-    (rw (← c.events.ensures.events) c.run_on.ensures.goes)
+    (rw (← c.events.ensures.events) c.run_on.ensures.leads)
 
 pub returns-clause-leads : goal.returns-clause-leads
 returns-clause-leads c =
@@ -28,13 +29,13 @@ returns-clause-leads c =
     let n = c.args.journal.now.threads in
     let counted = in_count c.args.program.now n (rw (← c.threads.ensures.threads) (λ taken. cc (told.count.1 taken))) in
     replayed_leads c.args.program.now c.args.journal.now (subst IsVerified told.image c.threads-2.ensures.verified) counted c.events.ensures.log.there c.in_ok-machine.machine told.image (rw (← c.threads.ensures.threads) told.start) c.run_on.result
-    (rw (← c.events.ensures.events) c.run_on.ensures.goes) (rw (← c.events.ensures.events) c.run_on.ensures.machine)
+    (rw (← c.events.ensures.events) c.run_on.ensures.leads)
 
 pub returns-clause-only : goal.returns-clause-only
 returns-clause-only c j =
-    only_memory_at c.in_ok-machine.machine c.events.result.now c.args.program.now (start_of c.args.program.now c.args.journal.now.threads) c.args.journal.now.events c.run_on.result
+    only_memory_at c.in_ok-machine.machine c.events.result.now c.args.program.now (start_of c.args.program.now c.args.journal.now.threads) j.end c.args.journal.now.events c.run_on.result
     c.in_ok-machine.ensures.image (c.in_ok-machine.ensures.start ∙ ap (start_of c.args.program.now) c.threads.ensures.threads) c.events.ensures.events
-    (goes_of c.args.program.now c.args.journal.now.threads c.args.journal.now.events j) c.run_on.ensures.refused
+    (start_sound c.args.program.now c.args.journal.now.threads (image_fits c.args.program.now j.verified)) j.leads.runs c.run_on.ensures.refused
 
 pub returns-clause-refused : goal.returns-clause-refused
 returns-clause-refused c =

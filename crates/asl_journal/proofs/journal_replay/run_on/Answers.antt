@@ -1,18 +1,41 @@
-use Rattle.std.proofs.Common.{ap, ◌∙◌, ℕ}
+use Rattle.std.proofs.Common.{ap, subst, length, get_or, inl, inr, Err, ◌∙◌, ◌<◌, ℕ, arith}
+use Rattle.std.proofs.lemmas.List.Elements.{All-get_or}
+use Rattle.asl_machine.specs.declared.fault.MachineFault.{MachineFault}
 use Rattle.asl_machine.specs.declared.reply.Reply.TheVariants.{Ran}
-use Rattle.asl_machine.specs.StepFunction.{step_of}
-use Rattle.asl_journal.proofs.Replays.{one_differs, one_followed}
+use Rattle.asl_machine.specs.State.{State}
+use Rattle.asl_machine.specs.Step.{Step}
+use Rattle.asl_machine.specs.WellFormed.{MayWantMemory}
+use Rattle.asl_machine.proofs.Reached.{step_count}
+use Rattle.asl_journal.specs.declared.event.Event.{Event}
+use Rattle.asl_journal.proofs.Replays.{may_stop, one_differs, one_followed}
 use Rattle.asl_journal.proofs.journal_replay.run_on.Goals as goal
 
 pub loop-index-preserved : goal.loop-index-preserved
 loop-index-preserved c =
     let told = c.in_ok-reply.ensures in
-    one_followed c.args.machine c.loop-index.machine c.step.new.self c.args.events.now c.loop-index.index (record { thread = 0; reply = Ran }) c.in_ok-reply.reply c.loop-index-test.true c.loop-index.invariant told.image
-    (told.reply ∙ ap (λ (t : ℕ). (step_of c.loop-index.machine.image c.loop-index.machine.state t).reply) c.from.ensures)
-    (told.state ∙ ap (λ (t : ℕ). (step_of c.loop-index.machine.image c.loop-index.machine.state t).state) c.from.ensures)
-    c.if-not-are_same.ensures
+    let old = c.loop-index.machine in
+    let new = c.step.new.self in
+    one_followed c.args.machine old new c.args.events.now c.loop-index.index (record { thread = 0; reply = Ran }) c.in_ok-reply.reply c.loop-index-test.true c.loop-index.invariant told.image
+    (subst (λ (t : ℕ). Step old.image old.state t c.in_ok-reply.reply new.state) c.from.ensures told.step) (ap (λ (s : State). length s.threads) told.state ∙ step_count old.image old.state c.from.result) c.if-not-are_same.ensures
 
 pub returns-then-not-are_same-clause-refused : goal.returns-then-not-are_same-clause-refused
 returns-then-not-are_same-clause-refused c =
-    one_differs c.args.machine c.loop-index.machine c.args.events.now c.loop-index.index (record { thread = 0; reply = Ran }) c.in_ok-reply.reply c.loop-index-test.true c.loop-index.invariant
-    (c.in_ok-reply.ensures.reply ∙ ap (λ (t : ℕ). (step_of c.loop-index.machine.image c.loop-index.machine.state t).reply) c.from.ensures) c.if-not-are_same.ensures
+    let old = c.loop-index.machine in
+    let new = c.step.new.self in
+    one_differs c.args.machine old c.args.events.now c.loop-index.index (record { thread = 0; reply = Ran }) c.in_ok-reply.reply new.state c.loop-index-test.true c.loop-index.invariant
+    (subst (λ (t : ℕ). Step old.image old.state t c.in_ok-reply.reply new.state) c.from.ensures c.in_ok-reply.ensures.step) c.if-not-are_same.ensures
+
+pub returns-in_err-reply-clause-memory : goal.returns-in_err-reply-clause-memory
+returns-in_err-reply-clause-memory c =
+    λ wanted.
+    let first : Event = record { thread = 0; reply = Ran } in
+    let told = c.in_err-reply.ensures in
+    let old = c.loop-index.machine in
+    let events = c.args.events.now in
+    let here : (get_or events c.loop-index.index first).thread < length old.state.threads =
+    rw c.loop-index.invariant.count (All-get_or (λ (e : Event). e.thread < length c.args.machine.state.threads) events c.loop-index.index first c.loop-index-test.true c.requires.there) in
+    let wants : MayWantMemory old.image old.state c.from.result = elim told.other [
+      | inl bad ↦ let few = told.thread.0 (ap (λ (f : MachineFault). Err f) bad) in absurd (omega (arith, few, here, c.from.ensures))
+      | inr memory ↦ told.memory (ap (λ (f : MachineFault). Err f) memory)
+    ] in
+    (c.loop-index.index, may_stop c.args.machine old events c.loop-index.index first c.loop-index-test.true c.loop-index.invariant (subst (λ (t : ℕ). MayWantMemory old.image old.state t) c.from.ensures wants))

@@ -2,7 +2,7 @@ use Rattle.std.proofs.Common.{◌≡◌, ◌≤◌, length, ap, sym, subst, arit
 use Rattle.asl_code.specs.declared.image.Image.{Image}
 use Rattle.asl_machine.specs.View.{Configuration}
 use Rattle.asl_debugger.specs.Checkpoints.{AreMarks}
-use Rattle.asl_debugger.specs.Session.{machine_before}
+use Rattle.asl_debugger.specs.Computed.{machine_before}
 use Rattle.asl_debugger.proofs.Positions.{kept_at}
 use Rattle.asl_debugger.proofs.debugger.Debugger.go_back.Goals as goal
 

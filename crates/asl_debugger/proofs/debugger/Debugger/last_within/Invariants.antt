@@ -1,6 +1,6 @@
 use Rattle.std.proofs.Common.{◌≡◌}
 use Rattle.asl_debugger.specs.Search.{IsFound}
-use Rattle.asl_debugger.specs.Session.{machine_before}
+use Rattle.asl_debugger.specs.Computed.{machine_before}
 use Rattle.asl_debugger.proofs.debugger.Debugger.last_within.Given as goal
 
 abbrev pub invariant-loop-k : goal.invariant-loop-k

@@ -3,7 +3,7 @@ use Rattle.asl_machine.specs.View.{Configuration}
 use Rattle.asl_machine.specs.Paused.{Rest}
 use Rattle.asl_journal.specs.Journal.{most_events}
 use Rattle.asl_debugger.proofs.Positions.{threads_of}
-use Rattle.asl_debugger.proofs.Recording.{kept_with, kept_behind, step_behind}
+use Rattle.asl_debugger.proofs.Recording.{kept_with, kept_behind, step_between}
 use Rattle.asl_debugger.proofs.debugger.Debugger.record.Goals as goal
 
 pub mark_ahead-requires : goal.mark_ahead-requires
@@ -28,7 +28,7 @@ invariant_of-self-then-next-len c =
     let items : c.push_reserved.new.self.items ≡ d.checkpoints.items ++ ahead ∷ [] = c.push_reserved.ensures.items ∙ ap (λ (rs : List Rest). rs ++ ahead ∷ []) c.in_ok-reserve.ensures.items in
     let due : d.position + 1 ≡ length d.checkpoints.items * d.spacing = c.if-next-len.true ∙ ap (λ (n : ℕ). n * d.spacing) (c.len.ensures ∙ d.checkpoints.ok.0) in
     rw (told.event, items) (kept_with d.machine.image d.journal d.spacing d.position d.checkpoints.items d.marks.items d.machine c.write_step.new.machine c.args.t c.in_ok-reply.reply c.self.invariant end room there
-    told.image told.reply told.state ahead due c.in_ok-ahead.ensures.fits c.in_ok-ahead.ensures.state)
+    told.image told.step ahead due c.in_ok-ahead.ensures.fits c.in_ok-ahead.ensures.state)
 
 pub write_step-requires-else-next-len-clause-threads :
     goal.write_step-requires-else-next-len-clause-threads
@@ -45,7 +45,7 @@ invariant_of-self-else-next-len c =
     let there : c.args.t < d.journal.threads = rw (← c.self.view_is) at c.requires.thread in
     let none_due = λ (e : d.position + 1 ≡ length d.checkpoints.items * d.spacing). c.if-next-len.false (e ∙ sym (ap (λ (n : ℕ). n * d.spacing) (c.len.ensures ∙ d.checkpoints.ok.0))) in
     rw told.event (kept_behind d.machine.image d.journal d.spacing d.position d.checkpoints.items d.marks.items d.machine c.write_step-else-next-len.new.machine c.args.t c.in_ok-reply-2.reply c.self.invariant end room
-    there told.image told.reply told.state none_due)
+    there told.image told.step none_due)
 
 pub returns-in_ok-reply-clause-step : goal.returns-in_ok-reply-clause-step
 returns-in_ok-reply-clause-step c =
@@ -54,8 +54,8 @@ returns-in_ok-reply-clause-step c =
     let end : d.position ≡ length d.journal.events = rw (← c.self.view_is) at c.requires.end in
     let room : length d.journal.events < most_events = rw (← c.self.view_is) at c.requires.room in
     let there : c.args.t < d.journal.threads = rw (← c.self.view_is) at c.requires.thread in
-    rw (← c.self.view_is, told.event) (step_behind d.machine.image d.journal d.spacing d.position d.checkpoints.items d.marks.items d.machine c.write_step.new.machine c.args.t c.in_ok-reply.reply c.self.invariant end room
-    there told.image told.reply told.state told.step)
+    rw (← c.self.view_is, told.event) (step_between d.machine.image d.journal d.spacing d.position d.checkpoints.items d.marks.items d.machine c.write_step.new.machine c.args.t c.in_ok-reply.reply c.self.invariant end room
+    there told.image told.step d.breakpoints.items)
 
 pub returns-in_ok-reply-2-clause-step : goal.returns-in_ok-reply-2-clause-step
 returns-in_ok-reply-2-clause-step c =
@@ -64,5 +64,5 @@ returns-in_ok-reply-2-clause-step c =
     let end : d.position ≡ length d.journal.events = rw (← c.self.view_is) at c.requires.end in
     let room : length d.journal.events < most_events = rw (← c.self.view_is) at c.requires.room in
     let there : c.args.t < d.journal.threads = rw (← c.self.view_is) at c.requires.thread in
-    rw (← c.self.view_is, told.event) (step_behind d.machine.image d.journal d.spacing d.position d.checkpoints.items d.marks.items d.machine c.write_step-else-next-len.new.machine c.args.t c.in_ok-reply-2.reply
-    c.self.invariant end room there told.image told.reply told.state told.step)
+    rw (← c.self.view_is, told.event) (step_between d.machine.image d.journal d.spacing d.position d.checkpoints.items d.marks.items d.machine c.write_step-else-next-len.new.machine c.args.t c.in_ok-reply-2.reply
+    c.self.invariant end room there told.image told.step d.breakpoints.items)

@@ -1,7 +1,7 @@
 use Rattle.std.proofs.Common.{◌≡◌, ap, subst}
 use Rattle.asl_code.specs.declared.image.Image.{Image}
 use Rattle.asl_machine.specs.View.{Configuration}
-use Rattle.asl_debugger.specs.Session.{machine_before}
+use Rattle.asl_debugger.specs.Computed.{machine_before}
 use Rattle.asl_debugger.proofs.Positions.{kept_at}
 use Rattle.asl_debugger.proofs.debugger.Debugger.show.Goals as goal
 

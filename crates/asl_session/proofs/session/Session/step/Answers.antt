@@ -17,3 +17,15 @@ invariant_of-result c =
     (λ (reply : Reply). new ≡ recorded old (with_event old.log (record { thread = c.args.call.1; reply = reply })) (old.position + 1))
     (ap image c.resume-debugger.ensures) (λ r e. ap image e) c.step-reply.ensures.event c.step-reply.ensures.err)
     c.pause-debugger.ensures.fits
+
+pub returns-clause-journal : goal.returns-clause-journal
+returns-clause-journal c =
+    let old = c.resume-debugger.result in
+    let new = c.step-reply.new.self in
+    let image = λ (s : Session). s.image in
+    let fits = subst (λ (i : Image). IsSessionRestOf i c.pause-debugger.result)
+    (program_stays c.step-reply.result c.self.inside.program old new
+    (λ (reply : Reply). new ≡ recorded old (with_event old.log (record { thread = c.args.call.1; reply = reply })) (old.position + 1))
+    (ap image c.resume-debugger.ensures) (λ r e. ap image e) c.step-reply.ensures.event c.step-reply.ensures.err)
+    c.pause-debugger.ensures.fits in
+    fits.kept.journal
