@@ -150,6 +150,8 @@ pub extern "C" fn asl_forest_try_acquire(
     ensures memory { result ≡ 2 → CanGrant handle.old.slot.forest.holding thread (map ask_of asks.now) }
     ensures asks { result ≡ 2 → 0 < length asks.now }
     ensures kept { result ≢ 0 → handle.old.live ≡ true → handle.new.slot.forest ≡ handle.old.slot.forest }
+    ensures classes { handle.old.live ≡ true → handle.new.slot.forest.classes ≡ handle.old.slot.forest.classes }
+    ensures threads { handle.old.live ≡ true → handle.new.slot.forest.threads ≡ handle.old.slot.forest.threads }
 {
     let classes = handle.classes;
     let threads = handle.threads;
@@ -189,6 +191,8 @@ pub extern "C" fn asl_forest_release(alloc: Global, handle: &mut Handle, thread:
     ensures told { result ≡ (if handle.old.live then release_fault handle.old.slot.forest.threads thread else 3) }
     ensures done { result ≡ 0 → handle.new.slot.forest.holding ≡ release handle.old.slot.forest.holding thread }
     ensures kept { result ≢ 0 → handle.old.live ≡ true → handle.new.slot.forest ≡ handle.old.slot.forest }
+    ensures classes { handle.old.live ≡ true → handle.new.slot.forest.classes ≡ handle.old.slot.forest.classes }
+    ensures threads { handle.old.live ≡ true → handle.new.slot.forest.threads ≡ handle.old.slot.forest.threads }
 {
     let classes = handle.classes;
     let threads = handle.threads;

@@ -9,7 +9,10 @@ pub mod Sought
 pub mod Mains
 pub mod There
 pub mod Stars
-pub mod Uses
+pub mod Behind
+pub mod Roles
+pub mod Firsts
+pub mod TokenOn
 pub mod Marked
 pub mod Instructed
 pub mod Sizes

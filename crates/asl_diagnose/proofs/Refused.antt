@@ -1,7 +1,6 @@
 -- The words at which refusals are reported are there.
-use Rattle.std.proofs.Common.{◌≡◌, ℕ, ◌<◌, Bool, List, Some, slice_get, true, subst, arith}
+use Rattle.std.proofs.Common.{◌≡◌, ℕ, ◌<◌, Bool, List, Some, None, true, sym, ◌∙◌, subst, arith}
 use Rattle.std.proofs.lemmas.Option.{slice_get_within, slice_get-get_or}
-use Rattle.asl_code.specs.declared.instr.Instr.{Instr}
 use Rattle.asl_code.specs.declared.lock.Lock.{Lock}
 use Rattle.asl_code.specs.declared.lock.Lock.TheVariants as lock
 use Rattle.asl_code.specs.declared.value.Effect.TheVariants as effect
@@ -10,8 +9,7 @@ use Rattle.asl_syntax.specs.declared.fault.SyntaxFault.TheVariants as syntax
 use Rattle.asl_syntax.specs.Tree.{Item, functions_of}
 use Rattle.asl_syntax.specs.Parsed.{Parses}
 use Rattle.asl_syntax.specs.Fault.{IsFault}
-use Rattle.asl_syntax.proofs.FirstUnknown.{unknown_first}
-use Rattle.asl_lower.specs.Lowered.{Lowered}
+use Rattle.asl_lower.specs.Lowered.{Lowered, IsLowering}
 use Rattle.asl_lower.specs.Regions.{Region, Body, Inside, IsIn}
 use Rattle.asl_lower.proofs.Laid.{code_is}
 use Rattle.asl_backward_flow.specs.Needed.{NeedsMany}
@@ -21,20 +19,31 @@ use Rattle.asl_points_to.specs.Classes.{Classed}
 use Rattle.asl_emitter.specs.Refused.{IsRefusedInference}
 use Rattle.asl_emitter.specs.declared.fault.InferFault.TheVariants as infer
 use Rattle.asl_diagnose.specs.declared.word_place.Word.TheVariants as word
-use Rattle.asl_diagnose.specs.Places.{words_in, IsOverfull}
-use Rattle.asl_diagnose.specs.SeenView.{has_name, is_twice, seen_nothing}
+use Rattle.asl_diagnose.specs.Places.{accesses_before, words_in, IsNameAt, IsWordAt, IsOverfull}
+use Rattle.asl_diagnose.specs.Diagnosed.{IsAccessPlace}
+use Rattle.asl_diagnose.specs.SeenView.{is_twice, seen_nothing}
+use Rattle.asl_diagnose.specs.Unknown.{IsUnknownPlace}
 use Rattle.asl_diagnose.proofs.There.{functions_there, sections_there, crowded_there}
 use Rattle.asl_diagnose.proofs.Stars.{star_there}
-use Rattle.asl_diagnose.proofs.Uses.{use_there}
+use Rattle.asl_diagnose.proofs.Firsts.{first_use_in, unknown_found}
 use Rattle.asl_diagnose.proofs.Marked.{repeated_there}
+
+none_some : (at : ℕ) → None ≡ Some at → ⊥
+none_some at e = absurd cc
 
 -- a name that is declared twice, and one that is nowhere declared
 pub twice_there : (text x : List ℕ) → IsFault text (syntax.Twice x) → is_twice x seen_nothing (tokens_of text) ≡ true
 twice_there text x h = repeated_there h.tree (tokens_of text) x h.spelled.spelled h.name
 
-pub unknown_there : (text x : List ℕ) → IsFault text (syntax.Unknown x) → has_name x (tokens_of text) ≡ true
-unknown_there text x h =
-    use_there h.tree (tokens_of text) x h.spelled.spelled (unknown_first h.tree x h.name)
+pub unknown_there : (text x : List ℕ) → IsFault text (syntax.Unknown x) → first_use_in x (tokens_of text) ≡ None → ⊥
+unknown_there text x h none =
+    let f = unknown_found h.tree (tokens_of text) x h.spelled.spelled h.name in
+    none_some f.0 (sym none ∙ f.1.found)
+
+pub unknown_placed : (text x : List ℕ) (at : ℕ) → IsFault text (syntax.Unknown x) → Some at ≡ first_use_in x (tokens_of text) → IsNameAt (tokens_of text) x at → IsUnknownPlace text x at
+unknown_placed text x at h e named =
+    let f = unknown_found h.tree (tokens_of text) x h.spelled.spelled h.name in
+    record { name = named; tree = h.tree; spelled = h.spelled; place = f.1.is ∙ sym (e ∙ f.1.found) }
 
 -- a function with too many registers
 pub registers_there : (text : List ℕ) (tree : List Item) (k number : ℕ) → Parses text tree → IsRefusedInference tree k (infer.Registers number) → number < words_in word.Fn (tokens_of text)
@@ -42,11 +51,18 @@ registers_there text tree k number p h =
     omega (arith, crowded_there 0 number (functions_of tree) h, functions_there tree (tokens_of text) p.spelled.spelled)
 
 -- an access
-pub access_there : (text : List ℕ) (tree : List Item) (k function pc : ℕ) → Parses text tree → IsRefusedInference tree k (infer.AccessOutsideSection function pc) → 0 < words_in word.Star (tokens_of text)
-access_there text tree k function pc p h =
+pub access_there : (text : List ℕ) (tree : List Item) (k function pc number : ℕ) → Parses text tree → IsRefusedInference tree k (infer.AccessOutsideSection function pc) → ((l : Lowered) → IsLowering tree l → number ≡ accesses_before l.code pc)
+    → number < words_in word.Star (tokens_of text)
+access_there text tree k function pc number p h e =
     let a = h.1.2.access in
-    let P : List Instr → Type 0 = λ code. slice_get code pc ≡ Some a.instruction in
-    star_there tree (tokens_of text) pc a.instruction p.spelled.spelled (subst P (code_is tree h.1.0 h.1.1) a.stands) a.access
+    omega (arith, e h.1.0 h.1.1, star_there tree (tokens_of text) h.1.0.code pc a.instruction p.spelled.spelled (code_is tree h.1.0 h.1.1) a.stands a.access)
+
+-- and so is its place
+pub access_placed : (text : List ℕ) (tree : List Item) (k function pc number at : ℕ) → Parses text tree → IsRefusedInference tree k (infer.AccessOutsideSection function pc) → ((l : Lowered) → IsLowering tree l → number ≡ accesses_before l.code pc)
+    → IsWordAt (tokens_of text) word.Star number at → IsAccessPlace text pc at
+access_placed text tree k function pc number at p h e w =
+    let P : ℕ → Type 0 = λ n. IsWordAt (tokens_of text) word.Star n at in
+    record { tree = tree; parses = p; lowered = h.1.0; lowering = h.1.1; place = subst P (e h.1.0 h.1.1) w }
 
 -- a region that needs many locks has a place
 region_inside : (l : Lowered) (c : Classed) (stores : ℕ → ℕ → Bool) (k_limit : ℕ) (r : Region) → NeedsMany l c stores k_limit r → (f : ℕ) × (pc : ℕ) × IsIn l r f pc

@@ -1,5 +1,6 @@
--- Each access of a program's code has its `*` in the text.
-use Rattle.std.proofs.Common.{◌≡◌, ℕ, zero, suc, ◌+◌, ◌<◌, ◌≤◌, Bool, true, false, IsTrue, if◌then◌else◌, List, [], ◌∷◌, ◌++◌, Some, length, map, slice_get, refl, ap, ◌∙◌, arith}
+-- Each access of a program's code has its `*` in the text, and so has the one at a pc.
+use Rattle.std.proofs.Common.{◌≡◌, ℕ, zero, suc, ◌+◌, ◌<◌, ◌≤◌, Bool, true, false, IsTrue, if◌then◌else◌, List, [], ◌∷◌, ◌++◌, Some, length, take, cond, map, slice_get, refl, ap, ◌∙◌, arith}
+use Rattle.std.proofs.lemmas.List.Sums.{sum_by-cons}
 use Rattle.asl_code.specs.declared.instr.Instr.{Instr}
 use Rattle.asl_code.specs.declared.instr.Instr.TheVariants as instr
 use Rattle.asl_grammar.specs.declared.token.Mark.TheVariants as mark
@@ -16,22 +17,22 @@ use Rattle.asl_lower.specs.Place.{Place, next, entered, origin, past_stmt, past_
 use Rattle.asl_lower.specs.Region.{is_access}
 use Rattle.asl_lower.specs.Layout.{moves, stmt_code, block_code, else_code, function_code, functions_code}
 use Rattle.asl_diagnose.specs.declared.word_place.Word.TheVariants as word
-use Rattle.asl_diagnose.specs.Places.{words_in}
+use Rattle.asl_diagnose.specs.Places.{accesses_before, words_in}
 use Rattle.asl_diagnose.proofs.There.{count, counted, names_count}
 
-abbrev weight : Bool → ℕ
+abbrev pub weight : Bool → ℕ
 weight b = if b then 1 else 0
 
 -- how many accesses there are
-abbrev accesses : List Instr → ℕ
+abbrev pub accesses : List Instr → ℕ
 accesses [] = 0
 accesses (i ∷ is) = weight (is_access i) + accesses is
 
-both : (xs ys : List Instr) → accesses (xs ++ ys) ≡ accesses xs + accesses ys
+pub both : (xs ys : List Instr) → accesses (xs ++ ys) ≡ accesses xs + accesses ys
 both [] ys = omega arith
 both (x ∷ xs) ys = omega (arith, both xs ys)
 
-no_moves : (sc : Scope) (args : List (List ℕ)) (to : ℕ) → accesses (moves sc args to) ≡ 0
+pub no_moves : (sc : Scope) (args : List (List ℕ)) (to : ℕ) → accesses (moves sc args to) ≡ 0
 no_moves sc [] to = refl
 no_moves sc (a ∷ rest) to = omega (arith, no_moves sc rest (suc to))
 
@@ -92,16 +93,29 @@ items_stars tree number (w.FunctionItem f ∷ is) p =
     let q : Place = past_function (function_meaning f) p in
     omega (arith, both (function_code tree number (function_meaning f) p) (functions_code tree (suc number) (functions_of (map item_meaning is)) q), function_stars tree number f (program_on is []) p, items_stars tree (suc number) is q)
 
--- an instruction that is an access is one of them
-some_access : (code : List Instr) (pc : ℕ) (i : Instr) → slice_get code pc ≡ Some i → IsTrue (is_access i) → 0 < accesses code
-some_access [] pc i e a = absurd cc
-some_access (x ∷ code) zero i e a =
+-- how many of the first instructions are accesses
+abbrev pub counted_to : ℕ → List Instr → ℕ
+counted_to zero code = 0
+counted_to (suc n) [] = 0
+counted_to (suc n) (i ∷ code) = weight (is_access i) + counted_to n code
+
+pub counted_is : (n : ℕ) (code : List Instr) → accesses_before code n ≡ counted_to n code
+counted_is zero code = refl
+counted_is (suc n) [] = refl
+counted_is (suc n) (i ∷ code) =
+    sum_by-cons (λ (j : Instr). cond (is_access j) 1 0) i (take n code) ∙ ap (λ (m : ℕ). weight (is_access i) + m) (counted_is n code)
+
+-- those before one that is an access are fewer than all
+fewer : (code : List Instr) (pc : ℕ) (i : Instr) → slice_get code pc ≡ Some i → IsTrue (is_access i) → counted_to pc code < accesses code
+fewer [] pc i e a = absurd cc
+fewer (x ∷ code) zero i e a =
     let same : x ≡ i = cc in
     let here : is_access x ≡ true = ap is_access same ∙ a in
     omega (arith, ap weight here)
-some_access (x ∷ code) (suc pc) i e a = omega (arith, some_access code pc i e a)
+fewer (x ∷ code) (suc pc) i e a = omega (arith, fewer code pc i e a)
 
--- the text of a program whose code has an access has a `*`
-pub star_there : (tree : List Item) (ss : List Spot) (pc : ℕ) (i : Instr) → Spells tree (bare ss) → slice_get (functions_code tree 0 (functions_of tree) origin) pc ≡ Some i → IsTrue (is_access i) → 0 < words_in word.Star ss
-star_there tree ss pc i h e a =
-    omega (arith, some_access (functions_code tree 0 (functions_of tree) origin) pc i e a, items_stars tree 0 h.written origin, ap (count word.Star) h.spelled, ap (λ (t : List Item). accesses (functions_code tree 0 (functions_of t) origin)) h.meaning, counted word.Star ss)
+-- a text has more `*` than its code has accesses before one
+pub star_there : (tree : List Item) (ss : List Spot) (code : List Instr) (pc : ℕ) (i : Instr) → Spells tree (bare ss) → code ≡ functions_code tree 0 (functions_of tree) origin → slice_get code pc ≡ Some i → IsTrue (is_access i)
+    → accesses_before code pc < words_in word.Star ss
+star_there tree ss code pc i h same e a =
+    omega (arith, counted_is pc code, fewer code pc i e a, ap accesses same, items_stars tree 0 h.written origin, ap (count word.Star) h.spelled, ap (λ (t : List Item). accesses (functions_code tree 0 (functions_of t) origin)) h.meaning, counted word.Star ss)

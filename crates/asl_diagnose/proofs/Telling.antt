@@ -1,5 +1,5 @@
 -- What is reported of a refusal, of its parts.
-use Rattle.std.proofs.Common.{◌≡◌, ◌≢◌, ℕ, List, sym, subst}
+use Rattle.std.proofs.Common.{◌≡◌, ◌≢◌, ℕ, List, None, sym, subst}
 use Rattle.asl_syntax.specs.declared.fault.SyntaxFault.{SyntaxFault}
 use Rattle.asl_syntax.specs.declared.fault.SyntaxFault.TheVariants as syntax
 use Rattle.asl_syntax.specs.Fault.{IsFault}
@@ -11,18 +11,26 @@ use Rattle.asl_emitter.specs.Refused.{IsRefusedInference}
 use Rattle.asl_diagnose.specs.declared.diagnosis.Refusal.{Refusal}
 use Rattle.asl_diagnose.specs.declared.diagnosis.Refusal.TheVariants as refusal
 use Rattle.asl_diagnose.specs.declared.diagnosis.Diagnosis.{Diagnosis}
-use Rattle.asl_diagnose.specs.Diagnosed.{IsSourceRefusal, IsSourcePlace, IsSyntaxPlace, IsExpectedFor, IsInferPlace, IsPosition, IsSourceDiagnosis}
+use Rattle.asl_diagnose.specs.Diagnosed.{IsSourceRefusal, IsSourcePlace, IsSyntaxPlace, IsExpectedFor, IsInferPlace, IsPosition, IsSourceDiagnosis, HasFirst, HasKinds, HasBringers}
 
-pub syntax_told : (source : List ℕ) (k : ℕ) (d : Diagnosis) (fault : SyntaxFault) → IsFault source fault → fault ≢ syntax.OutOfMemory → d.refusal ≡ refusal.Syntax fault → IsSyntaxPlace source fault d.first d.at → IsExpectedFor source fault d.expected.items d.may_end → IsPosition source d.at d.line d.column → IsSourceDiagnosis source k d
-syntax_told source k d fault h real e place expected position = record {
+pub syntax_told : (source : List ℕ) (k : ℕ) (d : Diagnosis) (fault : SyntaxFault) → IsFault source fault → fault ≢ syntax.OutOfMemory → d.refusal ≡ refusal.Syntax fault → IsSyntaxPlace source fault d.first d.at → IsExpectedFor source fault d.expected.items d.may_end → IsPosition source d.at d.line d.column
+    → HasFirst (refusal.Syntax fault) d.first → HasKinds (refusal.Syntax fault) d.expected.items d.may_end → d.bringers ≡ None → IsSourceDiagnosis source k d
+syntax_told source k d fault h real e place expected position first kinds bringers = record {
   refusal = subst (λ (r : Refusal). IsSourceRefusal source k r) (sym e) (h, real);
   place = subst (λ (r : Refusal). IsSourcePlace source r d) (sym e) (place, expected);
   position = position;
+  first = subst (λ (r : Refusal). HasFirst r d.first) (sym e) first;
+  kinds = subst (λ (r : Refusal). HasKinds r d.expected.items d.may_end) (sym e) kinds;
+  bringers = subst (λ (r : Refusal). HasBringers source k r d.bringers) (sym e) bringers;
 }
 
-pub infer_told : (source : List ℕ) (k : ℕ) (d : Diagnosis) (fault : InferFault) (tree : List Item) → Parses source tree → IsRefusedInference tree k fault → fault ≢ infer.OutOfMemory → d.refusal ≡ refusal.Infer fault → IsInferPlace source fault d.at → IsPosition source d.at d.line d.column → IsSourceDiagnosis source k d
-infer_told source k d fault tree p h real e place position = record {
+pub infer_told : (source : List ℕ) (k : ℕ) (d : Diagnosis) (fault : InferFault) (tree : List Item) → Parses source tree → IsRefusedInference tree k fault → fault ≢ infer.OutOfMemory → d.refusal ≡ refusal.Infer fault → IsInferPlace source fault d.at → IsPosition source d.at d.line d.column
+    → HasFirst d.refusal d.first → HasKinds d.refusal d.expected.items d.may_end → HasBringers source k d.refusal d.bringers → IsSourceDiagnosis source k d
+infer_told source k d fault tree p h real e place position first kinds bringers = record {
   refusal = subst (λ (r : Refusal). IsSourceRefusal source k r) (sym e) (record { tree = tree; parsed = p; refused = h }, real);
   place = subst (λ (r : Refusal). IsSourcePlace source r d) (sym e) place;
   position = position;
+  first = first;
+  kinds = kinds;
+  bringers = bringers;
 }

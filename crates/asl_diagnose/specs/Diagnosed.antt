@@ -1,11 +1,12 @@
 -- What is reported of a text that is refused: why, where it is, its line and column, and with what a program continues there.
-use Rattle.std.specs.Prelude.{◌≡◌, ◌≢◌, ℕ, ◌+◌, ◌≤◌, ◌⊎◌, List, Bool, codes, length, take, Option, IsSomeAnd, MatchOption}
+use Rattle.std.specs.Prelude.{◌≡◌, ◌≢◌, ℕ, ◌+◌, ◌≤◌, ◌⊎◌, List, [], Bool, false, codes, length, take, Option, None, IfSome, IsSomeAnd, MatchOption}
 use Rattle.asl_grammar.specs.Lex.{tokens_of}
 use Rattle.asl_syntax.specs.declared.fault.SyntaxFault.{SyntaxFault}
 use Rattle.asl_syntax.specs.declared.fault.SyntaxFault.TheVariants as syntax
 use Rattle.asl_syntax.specs.Tree.{Item}
 use Rattle.asl_syntax.specs.Parsed.{Parses}
 use Rattle.asl_syntax.specs.Fault.{IsFault as IsSyntaxFault}
+use Rattle.asl_lower.specs.Lowered.{Lowered, IsLowering}
 use Rattle.asl_emitter.specs.declared.fault.InferFault.{InferFault}
 use Rattle.asl_emitter.specs.declared.fault.InferFault.TheVariants as infer
 use Rattle.asl_emitter.specs.Sources.{IsAcceptedSource, HasRefusedTree}
@@ -20,11 +21,14 @@ use Rattle.asl_diagnose.specs.declared.diagnosis.Refusal.{Refusal}
 use Rattle.asl_diagnose.specs.declared.diagnosis.Refusal.TheVariants as refusal
 use Rattle.asl_diagnose.specs.declared.diagnosis.Diagnosis.{Diagnosis}
 use Rattle.asl_diagnose.specs.declared.kind.TokenKind.{TokenKind}
+use Rattle.asl_diagnose.specs.declared.most.Bringers.{Bringers}
 use Rattle.asl_diagnose.specs.declared.word_place.Word.TheVariants as word
 use Rattle.asl_diagnose.specs.Position.{line_behind, IsColumn, IsLineFront}
 use Rattle.asl_diagnose.specs.Instructions.{instructions_in, IsInstructionLine, pc_of}
 use Rattle.asl_diagnose.specs.Expected.{IsStop}
-use Rattle.asl_diagnose.specs.Places.{IsNameAt, IsWordAt, IsSomeWordAt, IsFunctionAt, AreDeclaredAt, IsOverfull}
+use Rattle.asl_diagnose.specs.Brought.{AreBringers}
+use Rattle.asl_diagnose.specs.Unknown.{IsUnknownPlace}
+use Rattle.asl_diagnose.specs.Places.{accesses_before, IsWordAt, IsFunctionAt, AreDeclaredAt, IsOverfull}
 
 -- the source is refused so
 abbrev pub IsSourceRefusal : List ℕ → ℕ → Refusal → Type 0
@@ -40,14 +44,14 @@ IsMainPlace text at =
     ⊎ (((other : ℕ) → ¬ IsFunctionAt (tokens_of text) (codes "main") other) × (at ≡ length text))
 
 -- where a fault of a text that is no program is: at its own place; a name that is declared a second time at that declaration; an
--- unknown name at a token that is the name
+-- unknown name at its first use
 abbrev pub IsSyntaxPlace : List ℕ → SyntaxFault → Option ℕ → ℕ → Type 0
 IsSyntaxPlace text (syntax.NotAscii place) first at = at ≡ place
 IsSyntaxPlace text (syntax.Token place) first at = at ≡ place
 IsSyntaxPlace text (syntax.Grammar place) first at = at ≡ place
 IsSyntaxPlace text (syntax.Limit place) first at = at ≡ place
 IsSyntaxPlace text (syntax.Twice x) first at = IsSomeAnd first (λ one. AreDeclaredAt (tokens_of text) x one at)
-IsSyntaxPlace text (syntax.Unknown x) first at = IsNameAt (tokens_of text) x at
+IsSyntaxPlace text (syntax.Unknown x) first at = IsUnknownPlace text x at
 IsSyntaxPlace text (syntax.Arity place) first at = at ≡ place
 IsSyntaxPlace text syntax.NoMain first at = IsMainPlace text at
 IsSyntaxPlace text syntax.OutOfMemory first at = Unit {0}
@@ -70,11 +74,19 @@ pub record IsOverfullPlace (text : List ℕ) (at : ℕ) : Type 0 where
   pub overfull : IsOverfull tree number
   pub place : IsWordAt (tokens_of text) word.Fn number at
 
--- where a fault of a program is: a function at its `fn`, an access at a `*`, too many classes at the text's end
+-- the `*` of the load or store at a pc: as many stand before it as the code of the text's program has loads and stores before the pc
+pub record IsAccessPlace (text : List ℕ) (pc at : ℕ) : Type 0 where
+  pub tree : List Item
+  pub parses : Parses text tree
+  pub lowered : Lowered
+  pub lowering : IsLowering tree lowered
+  pub place : IsWordAt (tokens_of text) word.Star (accesses_before lowered.code pc) at
+
+-- where a fault of a program is: a function at its `fn`, an access at its `*`, too many classes at the text's end
 abbrev pub IsInferPlace : List ℕ → InferFault → ℕ → Type 0
 IsInferPlace text (infer.Registers function) at = IsWordAt (tokens_of text) word.Fn function at
 IsInferPlace text infer.CodeSize at = IsOverfullPlace text at
-IsInferPlace text (infer.AccessOutsideSection function pc) at = IsSomeWordAt (tokens_of text) word.Star at
+IsInferPlace text (infer.AccessOutsideSection function pc) at = IsAccessPlace text pc at
 IsInferPlace text infer.TooManyClasses at = at ≡ length text
 IsInferPlace text (infer.TooManyLocks r) at = IsRegionPlace text r at
 IsInferPlace text infer.OutOfMemory at = Unit {0}
@@ -86,6 +98,21 @@ IsSourcePlace text (refusal.Syntax fault) d =
 IsSourcePlace text (refusal.Infer fault) d = IsInferPlace text fault d.at
 IsSourcePlace text (refusal.Asm fault) d = Unit {0}
 
+-- a first place is told of a second declaration alone
+abbrev pub HasFirst : Refusal → Option ℕ → Type 0
+HasFirst (refusal.Syntax (syntax.Twice x)) first = Unit {0}
+HasFirst _ first = first ≡ None
+
+-- kinds of token are told alone where a text stops being the beginning of a program
+abbrev pub HasKinds : Refusal → List TokenKind → Bool → Type 0
+HasKinds (refusal.Syntax (syntax.Grammar place)) kinds may_end = Unit {0}
+HasKinds _ kinds may_end = (kinds ≡ []) × (may_end ≡ false)
+
+-- statements are told of a region that needs too many locks alone, and bring most of them
+abbrev pub HasBringers : List ℕ → ℕ → Refusal → Option Bringers → Type 0
+HasBringers text k (refusal.Infer (infer.TooManyLocks r)) told = IfSome told (AreBringers text k r)
+HasBringers text k _ told = told ≡ None
+
 -- the line and the column of a place, both from 1
 pub record IsPosition (text : List ℕ) (at number from_one : ℕ) : Type 0 where
   pub line : number ≡ line_behind (take at text)
@@ -96,6 +123,9 @@ pub record IsSourceDiagnosis (source : List ℕ) (k : ℕ) (d : Diagnosis) : Typ
   pub refusal : IsSourceRefusal source k d.refusal
   pub place : IsSourcePlace source d.refusal d
   pub position : IsPosition source d.at d.line d.column
+  pub first : HasFirst d.refusal d.first
+  pub kinds : HasKinds d.refusal d.expected.items d.may_end
+  pub bringers : HasBringers source k d.refusal d.bringers
 
 -- what is answered for a source: nothing where it is accepted
 abbrev pub IsSourceDiagnosed : List ℕ → ℕ → Option Diagnosis → Type 0
@@ -106,17 +136,25 @@ abbrev pub IsLinePlace : List ℕ → ℕ → ℕ → Type 0
 IsLinePlace text number at =
     IsLineFront text number at ⊎ ((number ≡ length (lines_of text) + 1) × (at ≡ length text))
 
+-- the text's end, and its line
+abbrev pub IsEndPlace : List ℕ → ℕ → ℕ → Type 0
+IsEndPlace text at line = (at ≡ length text) × (line ≡ line_behind (take at text))
+
 -- where the instruction of a number is, with its line; or the text's end, where it has not so many
 abbrev pub IsInstructionPlace : List ℕ → ℕ → ℕ → ℕ → Type 0
 IsInstructionPlace text pc at line =
     (IsInstructionLine (lines_of text) pc line × IsLineFront text line at)
-    ⊎ ((instructions_in (lines_of text) ≤ pc) × (at ≡ length text) × (line ≡ line_behind (take at text)))
+    ⊎ ((instructions_in (lines_of text) ≤ pc) × IsEndPlace text at line)
+
+-- where a line is; or the text's end
+abbrev pub IsRulePlace : List ℕ → ℕ → ℕ → Type 0
+IsRulePlace text at line = IsLineFront text line at ⊎ IsEndPlace text at line
 
 -- the line that is reported, and the place in it: those of a wrong line; those of the instruction that breaks a rule; and for a rule of
--- the whole image those of some place
+-- the whole image those of some line
 abbrev pub IsAssemblyPlace : List ℕ → AsmFault → ℕ → ℕ → Type 0
 IsAssemblyPlace text (asm.Line number) at line = (line ≡ number) × IsLinePlace text number at
-IsAssemblyPlace text (asm.Verify cause) at line = MatchOption (pc_of cause) (line ≡ line_behind (take at text)) (λ pc. IsInstructionPlace text pc at line)
+IsAssemblyPlace text (asm.Verify cause) at line = MatchOption (pc_of cause) (IsRulePlace text at line) (λ pc. IsInstructionPlace text pc at line)
 IsAssemblyPlace text asm.OutOfMemory at line = Unit {0}
 
 -- what is reported of an assembly text that is refused
@@ -127,6 +165,9 @@ pub record IsAssemblyDiagnosis (text : List ℕ) (d : Diagnosis) : Type 0 where
   pub real : fault ≢ asm.OutOfMemory
   pub place : IsAssemblyPlace text fault d.at d.line
   pub column : IsColumn (take d.at text) d.column
+  pub first : d.first ≡ None
+  pub kinds : HasKinds d.refusal d.expected.items d.may_end
+  pub bringers : d.bringers ≡ None
 
 -- what is answered for an assembly text: nothing where it is a program
 abbrev pub IsAssemblyDiagnosed : List ℕ → Option Diagnosis → Type 0

@@ -1,5 +1,7 @@
 pub mod RefusalText
 pub mod Diagnosed
+pub mod Brought
+pub mod Unknown
 pub mod Names
 pub mod Position
 pub mod Expected
@@ -8,4 +10,6 @@ pub mod Instructions
 -- Machinery of the proofs, not of the promise:
 pub mod TextLines
 pub mod SeenView
+pub mod AccessView
+pub mod UsesView
 pub mod WalkView

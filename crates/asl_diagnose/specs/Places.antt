@@ -1,10 +1,12 @@
 -- Places of names and words among the tokens of a text.
-use Rattle.std.specs.Prelude.{◌≡◌, ◌≢◌, ◌<◌, ◌≤◌, ℕ, List, [], ◌∷◌, ◌++◌, suc, Bool, true, false, bytes_eq, if◌then◌else◌, length, take}
+use Rattle.std.specs.Prelude.{◌≡◌, ◌≢◌, ◌<◌, ◌≤◌, ℕ, List, [], ◌∷◌, ◌++◌, suc, Bool, true, false, bytes_eq, if◌then◌else◌, length, take, count_by}
 use Rattle.std.specs.List.{All, Contains}
+use Rattle.asl_code.specs.declared.instr.Instr.{Instr}
 use Rattle.asl_grammar.specs.declared.token.Mark.TheVariants as mark
 use Rattle.asl_grammar.specs.Token.{Token, Fixed, Name, Spot}
 use Rattle.asl_syntax.specs.Tree.{Item, functions_of}
 use Rattle.asl_lower.specs.Place.{origin, past_functions}
+use Rattle.asl_lower.specs.Region.{is_access}
 use Rattle.asl_diagnose.specs.declared.word_place.Word.{Word}
 use Rattle.asl_diagnose.specs.declared.word_place.Word.TheVariants as word
 use Rattle.asl_diagnose.specs.declared.declared.Declares.{Declares}
@@ -45,9 +47,9 @@ pub record IsWordAt (ss : List Spot) (w : Word) (number at : ℕ) : Type 0 where
   pub place : here.at ≡ at
   pub counted : words_in w before ≡ number
 
--- the word stands there
-abbrev pub IsSomeWordAt : List Spot → Word → ℕ → Type 0
-IsSomeWordAt ss w at = (number : ℕ) × IsWordAt ss w number at
+-- how many loads and stores stand before the pc
+abbrev pub accesses_before : List Instr → ℕ → ℕ
+accesses_before code pc = count_by is_access (take pc code)
 
 -- what the next name declares: after `global` a global, after `fn` a function, and from a function's name to the parenthesis that
 -- closes a parameter

@@ -42,11 +42,6 @@ passed x s spot =
     let t = entered_if (is_word word.Fn spot.token) (noted_if (is_named x spot.token) s spot.at) in
     record t { next = declares_behind s.next spot.token }
 
--- some token is the name
-abbrev pub has_name : List ℕ → List Spot → Bool
-has_name x [] = false
-has_name x (s ∷ ss) = is_named x s.token || has_name x ss
-
 -- the next name is a function's, and the token is the name
 abbrev pub is_function : List ℕ → Declares → Token → Bool
 is_function x Function t = is_named x t

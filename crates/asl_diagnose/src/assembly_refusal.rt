@@ -6,7 +6,7 @@ ghost use Rattle.asl_assembler.specs.Faults.{IsFault};
 ghost use Rattle.asl_assembler.specs.Text.{IsBadLine};
 ghost use Rattle.asl_assembler.specs.Words.{lines_of};
 ghost use Rattle.asl_diagnose.specs.Position.{IsLineFront};
-ghost use Rattle.asl_diagnose.specs.Diagnosed.{IsAssemblyDiagnosed, IsAssemblyDiagnosis, IsAssemblyPlace, IsInstructionPlace, IsLinePlace};
+ghost use Rattle.asl_diagnose.specs.Diagnosed.{IsAssemblyDiagnosed, IsAssemblyDiagnosis, IsAssemblyPlace, IsEndPlace, IsInstructionPlace, IsLinePlace, IsRulePlace};
 
 use crate::diagnosis::{Diagnosis, Refusal};
 use crate::fault_row::fault_row;
@@ -102,10 +102,7 @@ fn verify_place(text: &[u8], cause: VerifyFault) -> (usize, usize)
         | VerifyFault::Table
         | VerifyFault::NoEntry
         | VerifyFault::FunctionRange
-        | VerifyFault::FallsOut => {
-            let at = rule_place(text, cause);
-            (at, line(text, at))
-        }
+        | VerifyFault::FallsOut => rule_place(text, cause),
     }
 }
 
@@ -115,8 +112,15 @@ fn instruction_place(text: &[u8], pc: usize) -> (usize, usize)
 {
     match instruction_row(text, pc) {
         Some(number) => (row_front(text, number), number),
-        None => (text.len(), line(text, text.len())),
+        None => end_place(text),
     }
+}
+
+/// The end of a text, and its line.
+fn end_place(text: &[u8]) -> (usize, usize)
+    ensures { IsEndPlace text.now result.0 result.1 }
+{
+    (text.len(), line(text, text.len()))
 }
 
 /// The first word of a line.
@@ -131,13 +135,15 @@ fn row_front(text: &[u8], number: usize) -> usize
     }
 }
 
-/// The first word of a line by which a rule of the whole image is broken, or the end of the text.
-fn rule_place(text: &[u8], cause: VerifyFault) -> usize {
+/// The first word of a line by which a rule of the whole image is broken, and the line, or the end of the text.
+fn rule_place(text: &[u8], cause: VerifyFault) -> (usize, usize)
+    ensures { IsRulePlace text.now result.0 result.1 }
+{
     match fault_row(text, cause) {
         Some(number) => match line_begin(text, number) {
-            Some(start) => front(text, start),
-            None => text.len(),
+            Some(start) => (front(text, start), number),
+            None => end_place(text),
         },
-        None => text.len(),
+        None => end_place(text),
     }
 }

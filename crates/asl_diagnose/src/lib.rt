@@ -1,6 +1,7 @@
 //! A refusal as a compiler's user expects it: the line, the place in it, what may stand there, and how to continue.
 #![tactic(auto)]
 
+mod accesses;
 mod assembly_hints;
 mod assembly_refusal;
 mod bytes;
@@ -32,6 +33,7 @@ mod source_refusal;
 mod syntax_place;
 mod text_lines;
 mod token_walk;
+mod unknown;
 mod used;
 mod value_hints;
 mod word_place;

@@ -1,6 +1,9 @@
 //! Which statements of a region bring most of its locks.
 
-ghost use Rattle.std.specs.Prelude.{◌≤◌};
+ghost use Rattle.std.specs.Prelude.{◌≡◌, ◌≤◌, true, IfOk, IfSome};
+ghost use Rattle.asl_syntax.specs.AstView.{tree_of};
+ghost use Rattle.asl_backward_flow.specs.Needed.{region_of};
+ghost use Rattle.asl_diagnose.specs.Brought.{AreBringers, HasFlow, HasLocks, IsFilledIn, IsKept, NeedsSoMany};
 
 use crate::region_lines::{Line, region_lines};
 use asl_backward_flow::{Flow, Region, needed};
@@ -36,6 +39,7 @@ pub struct Bringers {
 /// What the regions of a program need.
 fn flow_of(alloc: Global, ast: &Ast, k: u32) -> Result<Flow, InferFault>
     requires { k ≤ 8 }
+    ensures { IfOk result (HasFlow (tree_of ast.now) k) }
 {
     let lowering = lower(alloc, ast)?;
     let classes = classes(alloc, &lowering)?;
@@ -50,6 +54,7 @@ fn count_locks(
     k: u32,
 ) -> Result<Option<usize>, AllocError>
     requires { k ≤ 8 }
+    ensures { IfOk result (λ count. IfSome count (NeedsSoMany text.now k region)) }
 {
     let ast = match parse(alloc, text) {
         Ok(ast) => ast,
@@ -57,12 +62,19 @@ fn count_locks(
         Err(_) => return Ok(None),
     };
     match flow_of(alloc, &ast, k) {
-        Ok(flow) => Ok(Some(match flow.place(region) {
-            Some(place) => flow.locks(place).len(),
-            None => 0,
-        })),
+        Ok(flow) => Ok(Some(locks_of(&flow, region))),
         Err(InferFault::OutOfMemory) => Err(AllocError),
         Err(_) => Ok(None),
+    }
+}
+
+/// How many different locks a region needs.
+fn locks_of(flow: &Flow, region: Region) -> usize
+    ensures { HasLocks flow.now (region_of region) result }
+{
+    match flow.place(region) {
+        Some(place) => flow.locks(place).len(),
+        None => 0,
     }
 }
 
@@ -92,6 +104,28 @@ fn left_at(line: &Line, at: usize) -> u8 {
     }
 }
 
+/// Whether a byte stays, or filling stands for it at a place where it may.
+fn is_kept(from: usize, to: usize, at: usize, old: u8, new: u8) -> bool
+    ensures { result ≡ true → IsKept from to at old new }
+{
+    old == new || (from <= at && at < to && (new == b' ' || new == b'0' || new == b';'))
+}
+
+/// Whether a text is another one with filling for what stands between two places.
+fn is_filled_in(text: &[u8], from: usize, to: usize, rest: &[u8]) -> bool
+    ensures { result ≡ true → IsFilledIn text.now from to rest.now }
+{
+    if rest.len() != text.len() {
+        return false;
+    }
+    for (at, byte) in text.iter().enumerate() {
+        if !is_kept(from, to, at, *byte, rest[at]) {
+            return false;
+        }
+    }
+    true
+}
+
 /// So many lines from a number on, as far as they are there.
 fn part_of(lines: &[Line], from: usize, count: usize) -> &[Line] {
     let (_, part) = lines.split_at(from.min(lines.len()));
@@ -107,11 +141,15 @@ fn brought(
     lines: &[Line],
 ) -> Result<Option<Bringers>, AllocError>
     requires { k ≤ 8 }
+    ensures { IfOk result (λ found. IfSome found (AreBringers text.now k region)) }
 {
     let (Some(first), Some(last)) = (lines.first(), lines.last()) else {
         return Ok(None);
     };
     let rest = without(alloc, text, lines)?;
+    if !is_filled_in(text, first.from, last.to, rest.as_slice()) {
+        return Ok(None);
+    }
     match count_locks(alloc, rest.as_slice(), region, k)? {
         Some(left) if left <= FEW => Ok(Some(Bringers {
             from: first.from,
@@ -133,6 +171,7 @@ fn best_part(
     lines: &[Line],
 ) -> Result<Option<(Bringers, usize)>, AllocError>
     requires { k ≤ 8 }
+    ensures { IfOk result (λ best. IfSome best (λ part. AreBringers text.now k region part.0)) }
 {
     let size = lines.len().saturating_add(PARTS - 1) / PARTS;
     let mut best: Option<(Bringers, usize)> = None;
@@ -157,6 +196,7 @@ pub fn find_bringers(
     k: u32,
 ) -> Result<Option<Bringers>, AllocError>
     requires { k ≤ 8 }
+    ensures { IfOk result (λ found. IfSome found (AreBringers text.now k region)) }
 {
     let lines = region_lines(alloc, text, region)?;
     let mut found = None;

@@ -1,7 +1,11 @@
 //! What a name does where it stands in a text.
+ghost use Rattle.std.specs.Prelude.{◌≡◌};
+ghost use Rattle.asl_grammar.specs.Grammar.{bare};
+ghost use Rattle.asl_grammar.specs.Reader.{spots_left};
+ghost use Rattle.asl_grammar.specs.View.{token_of};
+ghost use Rattle.asl_diagnose.specs.UsesView.{declares_as, first_mark, role_in_body, sets_local, sign_behind};
 
 use crate::declared::{Declares, declares_behind};
-use crate::word_place::{is_mark, is_named};
 use asl_grammar::lexer::{Found, Tokens};
 use asl_grammar::token::{Mark, Token};
 
@@ -20,69 +24,113 @@ pub enum Role {
     Call,
 }
 
-/// What stands before a token.
-#[derive(Clone, Copy)]
-pub struct Before<'t> {
-    next: Declares,
-    last: Option<Token<'t>>,
+/// A symbol that says what the name after it does.
+#[derive(Clone, Copy, PartialEq, Eq)]
+pub enum Sign {
+    Ampersand,
+    Star,
+    Other,
 }
 
-impl<'t> Before<'t> {
-    /// Nothing.
-    pub fn new() -> Before<'t> {
-        Before {
-            next: Declares::Nothing,
-            last: None,
-        }
+/// The sign that a token is.
+fn sign_behind(token: Token<'_>) -> Sign
+    ensures { result ≡ sign_behind (token_of token.entry) }
+{
+    match token {
+        Token::Fixed(Mark::Ampersand) => Sign::Ampersand,
+        Token::Fixed(Mark::Star) => Sign::Star,
+        _ => Sign::Other,
     }
+}
 
-    /// The token too.
-    pub fn pass(&mut self, token: Token<'t>) {
-        self.next = declares_behind(self.next, token);
-        self.last = Some(token);
-    }
-
-    /// Whether the last token is this word or symbol.
-    pub fn is_last(&self, mark: Mark) -> bool {
-        match self.last {
-            Some(token) => is_mark(token, mark),
-            None => false,
-        }
-    }
-
-    /// What a name does here, with these tokens after it.
-    pub fn role(&self, behind: &Tokens<'t>) -> Role {
-        match self.next {
-            Declares::Nothing => self.use_with(next_mark(behind)),
-            next => Role::Declares(next),
-        }
-    }
-
-    /// The same of a name in a body, with this word or symbol after it.
-    fn use_with(&self, behind: Option<Mark>) -> Role {
-        if self.is_last(Mark::Ampersand) {
-            return match behind {
-                Some(Mark::OpenBracket) => Role::Local,
-                _ => Role::GlobalUse,
-            };
-        }
-        match behind {
-            Some(Mark::OpenParen) => Role::Call,
-            Some(Mark::Becomes) if !self.is_last(Mark::Star) => Role::Assigned,
-            _ => Role::Local,
-        }
+/// What a name in a body does after a sign, with this word or symbol after it.
+fn role_in_body(sign: Sign, behind: Option<Mark>) -> Role
+    ensures { result ≡ role_in_body sign behind }
+{
+    match (sign, behind) {
+        (Sign::Ampersand, Some(Mark::OpenBracket)) => Role::Local,
+        (Sign::Ampersand, _) => Role::GlobalUse,
+        (Sign::Star | Sign::Other, Some(Mark::OpenParen)) => Role::Call,
+        (Sign::Other, Some(Mark::Becomes)) => Role::Assigned,
+        (Sign::Star | Sign::Other, _) => Role::Local,
     }
 }
 
 /// The word or symbol that is next, if one is.
-fn next_mark(tokens: &Tokens<'_>) -> Option<Mark> {
-    let mut ahead = *tokens;
+fn next_mark(tokens: Tokens<'_>) -> Option<Mark>
+    ensures { result ≡ first_mark (bare (spots_left tokens.entry)) }
+{
+    let mut ahead = tokens;
     match ahead.next() {
         Found::Token(spot) => match spot.token {
             Token::Fixed(mark) => Some(mark),
-            _ => None,
+            Token::Name(_) => None,
+            Token::Number(_) => None,
         },
-        _ => None,
+        Found::End => None,
+        Found::Bad(_) => None,
+    }
+}
+
+/// Whether a name that does this is declared so.
+pub fn declares_as(what: Declares, role: Role) -> bool
+    ensures { result ≡ declares_as what role }
+{
+    matches!(
+        (what, role),
+        (Declares::Global, Role::Declares(Declares::Global))
+            | (Declares::Function, Role::Declares(Declares::Function))
+    )
+}
+
+/// Whether a name that does this is a local of its function.
+pub fn sets_local(role: Role) -> bool
+    ensures { result ≡ sets_local role }
+{
+    matches!(role, Role::Declares(Declares::Parameter) | Role::Assigned)
+}
+
+/// What stands before a token.
+#[derive(Clone, Copy)]
+pub struct Before {
+    /// What the next name declares.
+    pub next: Declares,
+    /// What the last token is.
+    pub sign: Sign,
+}
+
+impl Before {
+    ghost use Rattle.asl_diagnose.specs.Places.{declares_behind};
+    ghost use Rattle.asl_diagnose.specs.UsesView.{first_mark, role_of, sign_behind};
+
+    /// Nothing.
+    pub fn new() -> Before
+        ensures { result ≡ record { next = Declares.Nothing; sign = Sign.Other } }
+    {
+        Before {
+            next: Declares::Nothing,
+            sign: Sign::Other,
+        }
+    }
+
+    /// The token too.
+    pub fn pass(&mut self, token: Token<'_>)
+        ensures { self.new ≡ record { next = declares_behind self.old.next (token_of token.entry); sign = sign_behind (token_of token.entry) } }
+    {
+        self.next = declares_behind(self.next, token);
+        self.sign = sign_behind(token);
+    }
+
+    /// What a name does here, with these tokens after it.
+    pub fn role(self, behind: Tokens<'_>) -> Role
+        ensures { result ≡ role_of self.next self.sign (first_mark (bare (spots_left behind.entry))) }
+    {
+        match self.next {
+            Declares::Nothing => role_in_body(self.sign, next_mark(behind)),
+            Declares::Global => Role::Declares(Declares::Global),
+            Declares::Function => Role::Declares(Declares::Function),
+            Declares::Parameter => Role::Declares(Declares::Parameter),
+        }
     }
 }
 
@@ -92,22 +140,9 @@ pub fn role_at(text: &[u8], at: usize) -> Role {
     let mut before = Before::new();
     'reading: while let Found::Token(spot) = tokens.next() {
         if spot.at >= at {
-            return before.role(&tokens);
+            return before.role(tokens);
         }
         before.pass(spot.token);
     }
     Role::Local
-}
-
-/// Whether a name does this anywhere.
-pub(crate) fn has_role(text: &[u8], name: &[u8], role: Role) -> bool {
-    let mut tokens = Tokens::new(text);
-    let mut before = Before::new();
-    'reading: while let Found::Token(spot) = tokens.next() {
-        if is_named(spot.token, name) && before.role(&tokens) == role {
-            return true;
-        }
-        before.pass(spot.token);
-    }
-    false
 }

@@ -96,7 +96,7 @@ pub fn nearest_name<'t>(
                 found = Nearest::new();
             }
             Token::Name(other) => {
-                if declares_for(wanted, before.role(&tokens)) {
+                if declares_for(wanted, before.role(tokens)) {
                     found.try_name(alloc, name, other)?;
                 }
             }

@@ -84,7 +84,7 @@ fn jumps_of_if(second: &[Statement]) -> usize
 }
 
 /// How many instructions the code of a value has.
-fn value_size(value: &Value) -> usize
+pub(crate) fn value_size(value: &Value) -> usize
     ensures { result ≡ value_size (value_of value.now) }
 {
     match value {

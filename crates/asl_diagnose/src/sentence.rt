@@ -8,7 +8,7 @@ use crate::kind::mark_text;
 use crate::name_role::{Role, role_at};
 use crate::passed_limit::limit_text;
 use crate::used::{function_around, registers};
-use crate::word_place::{Word, name_from, numbered, word_near};
+use crate::word_place::{Word, name_from, numbered};
 use asl_backward_flow::Region;
 use asl_emitter::InferFault;
 use asl_grammar::lexer::{Found, Tokens};
@@ -215,7 +215,7 @@ fn push_locks_sentence(out: &mut String, text: &[u8], region: Region) -> Result<
 /// Whether the instruction at a pc reads or writes.
 fn access_text(alloc: Global, text: &[u8], pc: usize) -> Result<&'static str, AllocError> {
     let at = statement_of(alloc, text, pc)?.unwrap_or(0);
-    Ok(if word_near(text, Word::Star, at) == Some(at) {
+    Ok(if matches!(text.get(at), Some(b'*')) {
         "a cell is written here, and no section is open"
     } else {
         "a cell is read here, and no section is open"

@@ -4,7 +4,7 @@ ghost use Rattle.asl_syntax.specs.AstView.{tree_of};
 ghost use Rattle.asl_syntax.specs.Parsed.{Parses};
 ghost use Rattle.asl_syntax.specs.Fault.{IsFault};
 ghost use Rattle.asl_emitter.specs.Refused.{IsRefusedInference};
-ghost use Rattle.asl_diagnose.specs.Diagnosed.{IsSourceDiagnosed, IsSourceDiagnosis, IsExpectedFor, IsInferPlace, IsPosition};
+ghost use Rattle.asl_diagnose.specs.Diagnosed.{IsSourceDiagnosed, IsSourceDiagnosis, IsExpectedFor, IsInferPlace, IsPosition, HasFirst, HasKinds, HasBringers};
 
 use crate::diagnosis::{Diagnosis, Refusal};
 use crate::expected::{Expected, expected_behind};
@@ -89,11 +89,19 @@ fn told_syntax(alloc: Global, source: &[u8], fault: SyntaxFault) -> Result<Diagn
 /// With what a program continues, where the fault is that none does.
 fn expected_for(alloc: Global, source: &[u8], fault: &SyntaxFault) -> Result<Expected, AllocError>
     requires { IsFault source.now fault.now }
-    ensures { IfOk result (λ e. IsExpectedFor source.now fault.now e.kinds.items e.may_end) }
+    ensures stop { IfOk result (λ e. IsExpectedFor source.now fault.now e.kinds.items e.may_end) }
+    ensures others { IfOk result (λ e. HasKinds (Refusal.Syntax fault.now) e.kinds.items e.may_end) }
 {
     match fault {
         SyntaxFault::Grammar(_) => expected_behind(alloc, source),
-        _ => Ok(Expected {
+        SyntaxFault::NotAscii(_)
+        | SyntaxFault::Token(_)
+        | SyntaxFault::Limit(_)
+        | SyntaxFault::Twice(_)
+        | SyntaxFault::Unknown(_)
+        | SyntaxFault::Arity(_)
+        | SyntaxFault::NoMain
+        | SyntaxFault::OutOfMemory => Ok(Expected {
             kinds: Vec::new(alloc),
             may_end: false,
         }),
@@ -115,11 +123,14 @@ fn told_infer(
     ensures refusal { IfOk result (λ told. told.refusal ≡ Refusal.Infer fault) }
     ensures place { IfOk result (λ told. IsInferPlace source.now fault told.at) }
     ensures position { IfOk result (λ told. IsPosition source.now told.at told.line told.column) }
+    ensures first { IfOk result (λ told. HasFirst told.refusal told.first) }
+    ensures kinds { IfOk result (λ told. HasKinds told.refusal told.expected.items told.may_end) }
+    ensures bringers { IfOk result (λ told. HasBringers source.now k told.refusal told.bringers) }
 {
     if is_memory_of(fault) {
         return Err(AllocError);
     }
-    let at = infer_place(alloc, source, ast, fault)?;
+    let at = infer_place(source, ast, fault);
     let bringers = bringers_for(alloc, source, fault, k)?;
     let line = line(source, at);
     let column = column(source, at);
@@ -143,10 +154,15 @@ fn bringers_for(
     k: u32,
 ) -> Result<Option<Bringers>, AllocError>
     requires { k ≤ 8 }
+    ensures { IfOk result (HasBringers source.now k (Refusal.Infer fault)) }
 {
     match fault {
         InferFault::TooManyLocks(region) => find_bringers(alloc, source, region, k),
-        _ => Ok(None),
+        InferFault::Registers(_)
+        | InferFault::CodeSize
+        | InferFault::AccessOutsideSection(_, _)
+        | InferFault::TooManyClasses
+        | InferFault::OutOfMemory => Ok(None),
     }
 }
 

@@ -2,20 +2,21 @@
 ghost use Rattle.std.specs.Prelude.{◌≡◌, true};
 ghost use Rattle.asl_grammar.specs.Lex.{tokens_of};
 ghost use Rattle.asl_syntax.specs.Fault.{IsFault};
-ghost use Rattle.asl_diagnose.specs.SeenView.{has_name, is_twice, seen_nothing};
-ghost use Rattle.asl_diagnose.specs.Places.{IsNameAt};
-ghost use Rattle.asl_diagnose.specs.Diagnosed.{IsSyntaxPlace, IsMainPlace};
+ghost use Rattle.asl_diagnose.specs.SeenView.{is_twice, seen_nothing};
+ghost use Rattle.asl_diagnose.specs.Unknown.{IsUnknownPlace};
+ghost use Rattle.asl_diagnose.specs.Diagnosed.{IsSyntaxPlace, IsMainPlace, HasFirst};
+ghost use Rattle.asl_diagnose.specs.declared.diagnosis.Refusal.TheVariants as refusal;
 
 use crate::declared::twice_places;
 use crate::function_head::function_place;
-use crate::used::unknown_place;
-use crate::word_place::name_near;
+use crate::unknown::unknown_place;
 use asl_syntax::{Name, SyntaxFault};
 
 /// The place of a fault, and of a second declaration the place of the first.
 pub(crate) fn syntax_place(source: &[u8], fault: &SyntaxFault) -> (usize, Option<usize>)
     requires { IsFault source.now fault.now }
-    ensures { IsSyntaxPlace source.now fault.now result.1 result.0 }
+    ensures place { IsSyntaxPlace source.now fault.now result.1 result.0 }
+    ensures first { HasFirst (refusal.Syntax fault.now) result.1 }
 {
     match fault {
         SyntaxFault::NotAscii(at)
@@ -41,13 +42,12 @@ fn twice_place(source: &[u8], name: &Name) -> (usize, Option<usize>)
     }
 }
 
-/// The place of a use of a name that is nowhere declared.
+/// The place of the first use of a name that is nowhere declared.
 fn use_place(source: &[u8], name: &Name) -> usize
-    requires { has_name name.now (tokens_of source.now) ≡ true }
-    ensures { IsNameAt (tokens_of source.now) name.now result }
+    requires { IsFault source.now (SyntaxFault.Unknown name.now) }
+    ensures { IsUnknownPlace source.now name.now result }
 {
-    let from = unknown_place(source, name.as_slice()).unwrap_or(0);
-    match name_near(source, name.as_slice(), from) {
+    match unknown_place(source, name.as_slice()) {
         Some(at) => at,
         None => unreachable!(),
     }

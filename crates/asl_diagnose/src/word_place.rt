@@ -1,9 +1,8 @@
 //! The place of a name, a word or a symbol in the tokens of a text.
-ghost use Rattle.std.specs.Prelude.{◌≡◌, ◌≤◌, false, IfSome, IfNone};
+ghost use Rattle.std.specs.Prelude.{◌≡◌, ◌≤◌, IfSome, IfNone};
 ghost use Rattle.asl_grammar.specs.Lex.{tokens_of};
 ghost use Rattle.asl_grammar.specs.View.{token_of};
-ghost use Rattle.asl_diagnose.specs.Places.{is_named, is_word, words_in, IsNameAt, IsWordAt, IsSomeWordAt};
-ghost use Rattle.asl_diagnose.specs.SeenView.{has_name};
+ghost use Rattle.asl_diagnose.specs.Places.{is_named, is_word, words_in, IsWordAt};
 
 use asl_grammar::lexer::{Found, Tokens};
 use asl_grammar::token::{Mark, Token};
@@ -54,42 +53,6 @@ pub fn numbered(text: &[u8], word: Word, number: usize) -> Option<usize>
         }
     }
     None
-}
-
-/// The place of a name: the first from a place on, or else the last before it.
-pub fn name_near(text: &[u8], name: &[u8], from: usize) -> Option<usize>
-    ensures some { IfSome result (IsNameAt (tokens_of text.now) name.now) }
-    ensures none { IfNone result (has_name name.now (tokens_of text.now) ≡ false) }
-{
-    let mut tokens = Tokens::new(text);
-    let mut last = None;
-    'reading: while let Found::Token(spot) = tokens.next() {
-        if is_named(spot.token, name) {
-            if spot.at >= from {
-                return Some(spot.at);
-            }
-            last = Some(spot.at);
-        }
-    }
-    last
-}
-
-/// The place of a word: the first from a place on, or else the last before it.
-pub fn word_near(text: &[u8], word: Word, from: usize) -> Option<usize>
-    ensures some { IfSome result (IsSomeWordAt (tokens_of text.now) word) }
-    ensures none { IfNone result (words_in word (tokens_of text.now) ≡ 0) }
-{
-    let mut tokens = Tokens::new(text);
-    let mut last = None;
-    'reading: while let Found::Token(spot) = tokens.next() {
-        if is_word(word, spot.token) {
-            if spot.at >= from {
-                return Some(spot.at);
-            }
-            last = Some(spot.at);
-        }
-    }
-    last
 }
 
 /// Whether a token is this word or symbol.

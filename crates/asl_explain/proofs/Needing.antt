@@ -1,5 +1,5 @@
 -- Needs of a section with one more, and the lists of the length that an analysis has.
-use Rattle.std.proofs.Common.{◌≡◌, ◌↔◌, ◌+◌, ◌<◌, ⊎_elim, ℕ, zero, suc, List, [], ◌∷◌, ◌++◌, length, map, take, get_or, Some, slice_get, inl, inr, sym, ap, ◌∙◌, subst, arith}
+use Rattle.std.proofs.Common.{◌≡◌, ◌↔◌, ◌+◌, ◌<◌, ⊎_elim, ℕ, zero, suc, List, [], ◌∷◌, ◌++◌, length, map, take, get_or, Some, slice_get, inl, inr, refl, sym, ap, ◌∙◌, subst, arith}
 use Rattle.asl_code.specs.declared.lock.Lock.{Lock}
 use Rattle.asl_lower.specs.declared.section.Section.{Section}
 use Rattle.asl_lock_expr.specs.Links.{IsOne}
@@ -8,7 +8,7 @@ use Rattle.asl_explain.specs.declared.explained_value.Need.{Need}
 use Rattle.asl_explain.specs.declared.explained_value.Chain.{Chain}
 use Rattle.asl_explain.specs.declared.explained_value.Listed.{Listed}
 use Rattle.asl_explain.specs.Chains.{Read, IsChain}
-use Rattle.asl_explain.specs.Explained.{AreChains, IsNeed, AreNeeds, IsOneOf, IsListed}
+use Rattle.asl_explain.specs.Explained.{AreChains, IsNeed, AreNeeds, IsOneOf, IsListed, locks_of}
 use Rattle.asl_backward_flow.specs.Flows.{IsFlow}
 use Rattle.asl_emitter.specs.BuiltImage.{AreFitted}
 use Rattle.asl_explain.specs.declared.explain_analysis.ExplainAnalysis.{ExplainAnalysis}
@@ -57,6 +57,10 @@ pub taken_more : (xs : List Lock) (i : ℕ) (d lock : Lock) → i < length xs �
 taken_more xs i d lock lt is =
     let one : suc i ≡ i + 1 = omega arith in
     subst (λ n. take n xs ≡ take i xs ++ lock ∷ []) one (taken_suc xs i d lock lt is)
+
+pub same_more : (old new : List Need) (d : Need) → new ≡ old ++ d ∷ [] → (locks : List Lock) (i : ℕ) (e : Lock) → i < length locks → d.lock ≡ get_or locks i e → locks_of old ≡ take i locks → locks_of new ≡ take (i + 1) locks
+same_more old new d is locks i e lt same before =
+    ap locks_of is ∙ map_more (λ (x : Need). x.lock) old d ∙ ap (λ (xs : List Lock). xs ++ d.lock ∷ []) before ∙ ap (λ (m : Lock). take i locks ++ m ∷ []) same ∙ sym (taken_more locks i e (get_or locks i e) lt refl)
 
 -- one section more
 pub sections_more : (x : Read) (lists : List (List Lock)) (n : ℕ) (s : Section) (list : List Lock) (old new : List (List Listed)) (ls : List Listed) → new ≡ old ++ ls ∷ [] → slice_get x.lowered.sections n ≡ Some s → slice_get lists n ≡ Some list

@@ -1,9 +1,11 @@
 -- The locks of a list that a lock covers.
-use Rattle.std.proofs.Common.{◌≡◌, ◌↔◌, ◌+◌, ◌<◌, ◌≤◌, ◌⊎◌, ⊎_elim, ℕ, List, [], ◌∷◌, ◌++◌, length, take, get_or, inl, inr, sym, ◌∙◌, subst}
+use Rattle.std.proofs.Common.{◌≡◌, ◌↔◌, ◌+◌, ◌<◌, ◌≤◌, ◌⊎◌, ⊎_elim, ℕ, List, [], ◌∷◌, ◌++◌, length, take, get_or, inl, inr, refl, sym, ◌∙◌, subst, arith, zero, suc}
+use Rattle.std.specs.declared.cmp.Ordering.TheVariants.{Less}
 use Rattle.std.proofs.lemmas.List.{take_all}
 use Rattle.asl_code.specs.declared.lock.Lock.{Lock}
 use Rattle.asl_lock_expr.specs.Links.{IsOne}
-use Rattle.asl_emitter.proofs.Reducing.{one_of_more, more_of_one}
+use Rattle.asl_lock_expr.specs.Order.{lock_cmp, AreInOrder}
+use Rattle.asl_emitter.proofs.Reducing.{one_at, one_of_more, more_of_one}
 
 -- one of a list with one more at its end
 pub one_of_end : (xs : List Lock) (y n : Lock) → IsOne (xs ++ y ∷ []) n → IsOne xs n ⊎ (y ≡ n)
@@ -19,6 +21,23 @@ end_of_one (x ∷ xs) y n (inl (inl e)) = inl e
 end_of_one (x ∷ xs) y n (inl (inr h)) = inr (end_of_one xs y n (inl h))
 end_of_one (x ∷ xs) y n (inr e) = inr (end_of_one xs y n (inr e))
 
+-- a lock behind a list in order, of which each comes before it
+in_order_end : (xs : List Lock) (y : Lock) → AreInOrder xs → ((b : Lock) → IsOne xs b → lock_cmp b y ≡ Less) → AreInOrder (xs ++ y ∷ [])
+in_order_end [] y h f = (λ b o. absurd o, tt)
+in_order_end (x ∷ xs) y h f = (
+  λ b o.
+      ⊎_elim (λ k. h.0 b k) (λ (e : y ≡ b). subst (λ (m : Lock). lock_cmp x m ≡ Less) e (f x (inl refl))) (one_of_end xs y b o),
+  in_order_end xs y h.1 (λ b o. f b (inr o)),
+)
+
+-- in a list in order what stands before a place comes before what stands there
+before_place : (all : List Lock) (i : ℕ) (d n : Lock) → i < length all → AreInOrder all → IsOne (take i all) n → lock_cmp n (get_or all i d) ≡ Less
+before_place [] i d n lt h o = absurd (omega (arith, lt))
+before_place (x ∷ all) zero d n lt h o = absurd o
+before_place (x ∷ all) (suc i) d n lt h (inl e) =
+    subst (λ (m : Lock). lock_cmp m (get_or all i d) ≡ Less) e (h.0 (get_or all i d) (one_at all i d (omega (arith, lt))))
+before_place (x ∷ all) (suc i) d n lt h (inr o) = before_place all i d n (omega (arith, lt)) h.1 o
+
 module _ (Over : Lock → Type 0) (all : List Lock) (i : ℕ) (d lock : Lock) (lt : i < length all) (is : get_or all i d ≡ lock) where
   pub under_more : (old new : List Lock) → new ≡ old ++ lock ∷ [] → Over lock → ((n : Lock) → IsOne old n ↔ (IsOne (take i all) n × Over n))
       → (n : Lock) → IsOne new n ↔ (IsOne (take (i + 1) all) n × Over n)
@@ -31,11 +50,19 @@ module _ (Over : Lock → Type 0) (all : List Lock) (i : ℕ) (d lock : Lock) (l
         (end_of_one old lock n (⊎_elim (λ o. inl ((before n).1 (o, p.1))) (λ e. inr (sym is ∙ e)) (one_of_more all i d n lt p.0))),
   )
 
+  pub order_more : (old new : List Lock) → new ≡ old ++ lock ∷ [] → ((n : Lock) → IsOne old n ↔ (IsOne (take i all) n × Over n)) → (AreInOrder all → AreInOrder old) → AreInOrder all → AreInOrder new
+  order_more old new at before h o =
+      subst AreInOrder (sym at)
+      (in_order_end old lock (h o) (λ b one. subst (λ (m : Lock). lock_cmp b m ≡ Less) is (before_place all i d b lt o ((before b).0 one).0)))
+
   pub under_same : (old new : List Lock) → new ≡ old → ¬ Over lock → ((n : Lock) → IsOne old n ↔ (IsOne (take i all) n × Over n)) → (n : Lock) → IsOne new n ↔ (IsOne (take (i + 1) all) n × Over n)
   under_same old new at not before n = (
     λ h. let p = (before n).0 (subst (λ (xs : List Lock). IsOne xs n) at h) in (more_of_one all i d n lt (inl p.0), p.1),
     λ p. subst (λ (xs : List Lock). IsOne xs n) (sym at) (⊎_elim (λ o. (before n).1 (o, p.1)) (λ e. absurd (not (subst Over (sym (sym is ∙ e)) p.1))) (one_of_more all i d n lt p.0)),
   )
+
+pub order_same : (all old new : List Lock) → new ≡ old → (AreInOrder all → AreInOrder old) → AreInOrder all → AreInOrder new
+order_same all old new at h o = subst AreInOrder (sym at) (h o)
 
 pub one_taken : (xs : List Lock) (i : ℕ) (n : Lock) → length xs ≤ i → IsOne (take i xs) n ↔ IsOne xs n
 one_taken xs i n le = subst (λ (ys : List Lock). IsOne ys n ↔ IsOne xs n) (sym (take_all i xs le)) (λ h. h, λ h. h)

@@ -32,8 +32,9 @@ pub record StandsAt (x : Read) (r : Region) (pc f : ℕ) (i : Instr) : Type 0 wh
   pub inside : IsIn x.lowered r f pc
   pub stands : slice_get x.lowered.code pc ≡ Some i
 
--- the step's instruction is a load or a store, which needs the step's lock itself
+-- the step's instruction is a load or a store, which needs the step's lock itself, and the step names this reason
 pub record IsAccess (x : Read) (s : Step) : Type 0 where
+  pub why : s.why ≡ Accessed
   pub function : ℕ
   pub instruction : Instr
   pub at : StandsAt x (region_of s.region) s.pc function instruction

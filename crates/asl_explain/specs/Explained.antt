@@ -41,10 +41,15 @@ AreNeeds x section is needs = (n : ℕ) (d : Need) → slice_get needs n ≡ Som
 abbrev pub IsOneOf : List Need → Lock → Type 0
 IsOneOf needs lock = (n : ℕ) × (d : Need) × (slice_get needs n ≡ Some d) × (d.lock ≡ lock)
 
--- under the lock stand the needs that it covers, and no others
+-- the locks of needs
+abbrev pub locks_of : List Need → List Lock
+locks_of needs = map (λ (d : Need). d.lock) needs
+
+-- under the lock stand the needs that it covers, and no others, each once
 pub record IsListed (x : Read) (section : ℕ) (is : Section) (d : Listed) : Type 0 where
   pub needs : AreNeeds x section is d.needs
   pub under : (lock : Lock) → IsOneOf d.needs lock ↔ (Needs x (Inside section) (suc is.acquire) lock × CoversLock x.classes is.function d.lock lock)
+  pub order : AreInOrder (locks_of d.needs)
 
 -- the lists of the image, and under each lock what it covers
 pub record AreExplained (x : Read) (image : Image) (sections : List (List Listed)) : Type 0 where

@@ -90,7 +90,7 @@ fn is_needed_after(analysis: &ExplainAnalysis, region: Region, pc: u16, lock: &L
     false
 }
 
-/// Whether the step's instruction is a load or a store that needs the step's lock itself.
+/// Whether the step's instruction is a load or a store that needs the step's lock itself, and the step names this reason.
 pub(crate) fn is_access(
     alloc: Global,
     analysis: &ExplainAnalysis,
@@ -99,6 +99,9 @@ pub(crate) fn is_access(
     requires { IsAnalysed analysis.now }
     ensures { IfOk result (λ b. IsTrue b → IsAccess (read analysis.now) step.now) }
 {
+    if step.why != Why::Accessed {
+        return Ok(false);
+    }
     let Some(here) = find_here(analysis, step) else {
         return Ok(false);
     };

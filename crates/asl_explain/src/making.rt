@@ -3,9 +3,10 @@ ghost use Rattle.std.specs.Prelude.{◌≡◌, ◌↔◌, suc, IfOk, IsTrue, len
 ghost use Rattle.asl_code.specs.declared.lock.Lock.{Lock as AnyLock};
 ghost use Rattle.asl_lower.specs.Regions.{Inside};
 ghost use Rattle.asl_lock_expr.specs.Links.{IsOne};
+ghost use Rattle.asl_lock_expr.specs.Order.{AreInOrder};
 ghost use Rattle.asl_soundness.specs.Covering.{CoversLock};
 ghost use Rattle.asl_explain.specs.Chains.{Needs};
-ghost use Rattle.asl_explain.specs.Explained.{AreChains, AreNeeds, IsListed, IsOneOf};
+ghost use Rattle.asl_explain.specs.Explained.{AreChains, AreNeeds, IsListed, IsOneOf, locks_of};
 ghost use Rattle.asl_explain.specs.Analysed.{read, IsAnalysed, AreListed, AreSections, IsMade};
 
 use crate::confirm::is_chain;
@@ -60,7 +61,8 @@ fn under(
     lock: &Lock,
     all: &[Lock],
 ) -> Result<Vec<Lock>, AllocError>
-    ensures { IfOk result (λ v. (n : AnyLock) → IsOne v.items n ↔ (IsOne all.now n × CoversLock classes.now function lock.now n)) }
+    ensures locks { IfOk result (λ v. (n : AnyLock) → IsOne v.items n ↔ (IsOne all.now n × CoversLock classes.now function lock.now n)) }
+    ensures order { IfOk result (λ v. AreInOrder all.now → AreInOrder v.items) }
 {
     let mut under = Vec::new(alloc);
     for other in all {
@@ -104,6 +106,7 @@ fn needs_of(
     requires needed { (n : AnyLock) → IsOne locks.now n → Needs (read analysis.now) (Inside number) (suc section.acquire) n }
     ensures needs { IfOk result (AreNeeds (read analysis.now) number section) }
     ensures locks { IfOk result (λ needs. (n : AnyLock) → IsOneOf needs n ↔ IsOne locks.now n) }
+    ensures same { IfOk result (λ needs. locks_of needs ≡ locks.now) }
 {
     let mut needs = Vec::new(alloc);
     for lock in locks {
@@ -124,6 +127,7 @@ fn list_lock(
 ) -> Result<Listed, AllocError>
     requires analysed { IsAnalysed analysis.now }
     requires all { (n : AnyLock) → IsOne all.now n ↔ Needs (read analysis.now) (Inside number) (suc section.acquire) n }
+    requires order { AreInOrder all.now }
     ensures lock { IfOk result (λ d. d.lock ≡ lock.now) }
     ensures listed { IfOk result (IsListed (read analysis.now) number section) }
 {
@@ -146,6 +150,7 @@ fn all_listed(
 ) -> Result<Items<Listed>, AllocError>
     requires analysed { IsAnalysed analysis.now }
     requires all { (n : AnyLock) → IsOne all.now n ↔ Needs (read analysis.now) (Inside number) (suc section.acquire) n }
+    requires order { AreInOrder all.now }
     ensures { IfOk result (AreListed (read analysis.now) number section list.now) }
 {
     let mut listed_locks = Vec::new(alloc);

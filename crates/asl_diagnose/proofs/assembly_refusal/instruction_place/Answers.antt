@@ -1,4 +1,4 @@
-use Rattle.std.proofs.Common.{inl, inr, refl}
+use Rattle.std.proofs.Common.{inl, inr}
 use Rattle.asl_assembler.specs.Words.{lines_of}
 use Rattle.asl_diagnose.proofs.Instructed.{instruction_found, instruction_missing, row_there}
 use Rattle.asl_diagnose.proofs.assembly_refusal.instruction_place.Goals as goal
@@ -15,4 +15,4 @@ returns-in-Some c =
 
 pub returns-in-None : goal.returns-in-None
 returns-in-None c =
-    inr (instruction_missing (lines_of c.args.text.now) c.args.pc c.in-None.ensures, refl, c.line.ensures)
+    inr (instruction_missing (lines_of c.args.text.now) c.args.pc c.in-None.ensures, c.end_place.ensures)

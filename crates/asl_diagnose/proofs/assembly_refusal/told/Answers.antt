@@ -9,4 +9,7 @@ returns c = record {
   real = c.requires.real;
   place = c.fault_place-at.ensures;
   column = c.column-column.ensures;
+  first = refl;
+  kinds = (c.new.ensures.items, refl);
+  bringers = refl;
 }

@@ -7,4 +7,4 @@ returns-in-Ok c = record { tree = tree_of c.args.ast.now; parsed = c.requires.pa
 
 pub returns-in_ok-told_infer-in-Err : goal.returns-in_ok-told_infer-in-Err
 returns-in_ok-told_infer-in-Err c =
-    infer_told c.args.source.now c.args.k _ c.in-Err.fault (tree_of c.args.ast.now) c.requires.parses c.in-Err.ensures.refused c.in_ok-told_infer-in-Err.ensures.real c.in_ok-told_infer-in-Err.ensures.refusal c.in_ok-told_infer-in-Err.ensures.place c.in_ok-told_infer-in-Err.ensures.position
+    infer_told c.args.source.now c.args.k _ c.in-Err.fault (tree_of c.args.ast.now) c.requires.parses c.in-Err.ensures.refused c.in_ok-told_infer-in-Err.ensures.real c.in_ok-told_infer-in-Err.ensures.refusal c.in_ok-told_infer-in-Err.ensures.place c.in_ok-told_infer-in-Err.ensures.position c.in_ok-told_infer-in-Err.ensures.first c.in_ok-told_infer-in-Err.ensures.kinds c.in_ok-told_infer-in-Err.ensures.bringers

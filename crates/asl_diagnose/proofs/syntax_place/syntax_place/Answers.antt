@@ -1,7 +1,7 @@
 use Rattle.std.proofs.Common.{subst}
 use Rattle.asl_syntax.specs.Fault.{IsFault}
 use Rattle.asl_syntax.specs.declared.fault.SyntaxFault.{SyntaxFault}
-use Rattle.asl_diagnose.proofs.Refused.{twice_there, unknown_there}
+use Rattle.asl_diagnose.proofs.Refused.{twice_there}
 use Rattle.asl_diagnose.proofs.syntax_place.syntax_place.Goals as goal
 
 pub twice_place-requires : goal.twice_place-requires
@@ -12,4 +12,4 @@ twice_place-requires c =
 pub use_place-requires : goal.use_place-requires
 use_place-requires c =
     let P : SyntaxFault → Type 0 = λ f. IsFault c.args.source.now f in
-    unknown_there c.args.source.now _ (subst P c.in-Unknown.is c.requires)
+    subst P c.in-Unknown.is c.requires

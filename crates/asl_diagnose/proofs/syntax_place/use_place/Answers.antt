@@ -1,9 +1,15 @@
-use Rattle.std.proofs.Common.{ℕ, List, ◌∙◌, sym, ap}
-use Rattle.std.proofs.lemmas.Bool.{false≢true}
+use Rattle.std.proofs.Common.{◌≡◌, ℕ, List, Some, None, ◌∙◌, sym, ap, subst}
 use Rattle.asl_grammar.specs.Lex.{tokens_of}
-use Rattle.asl_diagnose.specs.SeenView.{has_name}
+use Rattle.asl_diagnose.specs.Places.{IsNameAt}
+use Rattle.asl_diagnose.proofs.Firsts.{first_use_in}
+use Rattle.asl_diagnose.proofs.Refused.{unknown_there, unknown_placed}
 use Rattle.asl_diagnose.proofs.syntax_place.use_place.Goals as goal
+
+pub returns : goal.returns
+returns c =
+    let P : List ℕ → Type 0 = λ x. IsNameAt (tokens_of c.args.source.now) x c.in-Some.at in
+    unknown_placed c.args.source.now c.args.name.now c.in-Some.at c.requires (c.in-Some.ensures.place ∙ ap (λ (x : List ℕ). first_use_in x (tokens_of c.args.source.now)) c.as_slice.ensures.bytes) (subst P c.as_slice.ensures.bytes c.in-Some.ensures.name)
 
 pub unreachable-requires : goal.unreachable-requires
 unreachable-requires c =
-    false≢true (sym c.in-None.ensures.none ∙ ap (λ (x : List ℕ). has_name x (tokens_of c.args.source.now)) c.as_slice-2.ensures.bytes ∙ c.requires)
+    unknown_there c.args.source.now c.args.name.now c.requires (sym (c.in-None.ensures.place ∙ ap (λ (x : List ℕ). first_use_in x (tokens_of c.args.source.now)) c.as_slice.ensures.bytes))

@@ -6,7 +6,7 @@ use Rattle.asl_emitter.proofs.Reducing.{one_at}
 use Rattle.asl_explain.specs.Chains.{Needs}
 use Rattle.asl_explain.specs.Explained.{AreChains, AreNeeds}
 use Rattle.asl_explain.specs.Analysed.{read}
-use Rattle.asl_explain.proofs.Needing.{needs_more, ones_more}
+use Rattle.asl_explain.proofs.Needing.{needs_more, ones_more, same_more}
 use Rattle.asl_explain.proofs.making.needs_of.Goals as goal
 
 pub loop-lock-preserved : goal.loop-lock-preserved
@@ -21,6 +21,8 @@ loop-lock-preserved c =
       });
       locks = ones_more c.loop-lock.needs.items c.push.new.self.items d c.in_ok-push.ensures.items c.args.locks.now c.loop-lock.lock-index c.lock-item.result c.loop-lock-test.true
           (c.in_ok-find_need.ensures.lock ∙ c.lock-item.is) c.loop-lock.invariant.locks;
+      same = same_more c.loop-lock.needs.items c.push.new.self.items d c.in_ok-push.ensures.items c.args.locks.now c.loop-lock.lock-index c.lock-item.result c.loop-lock-test.true
+          (c.in_ok-find_need.ensures.lock ∙ c.lock-item.is) c.loop-lock.invariant.same;
     }
 
 pub returns-clause-needs : goal.returns-clause-needs
