@@ -1,3 +1,4 @@
+pub mod Led
 pub mod Stop
 pub mod Accepted
 pub mod Goes

@@ -8,7 +8,7 @@ use Rattle.asl_grammar.proofs.Stacks.{Stack, State, state_of, next, run, run_wit
 use Rattle.asl_grammar.proofs.Complete.{run_program}
 use Rattle.asl_grammar.proofs.Viable.{run-append}
 use Rattle.asl_grammar.proofs.Judged.{place_of, place_of_option, next_as, spelled, viable}
-use Rattle.asl_grammar.proofs.Deepening.{Leads, IsBehind}
+use Rattle.asl_diagnose.proofs.Led.{Leads, IsBehind}
 use Rattle.asl_diagnose.specs.WalkView.{is_accepted, MayEndAt, IsStuck, Stands, IsStopped}
 
 -- one more token is read

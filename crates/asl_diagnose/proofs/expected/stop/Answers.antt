@@ -3,7 +3,7 @@ use Rattle.asl_grammar.specs.Lex.{tokens_of}
 use Rattle.asl_grammar.specs.Reader.{spots_left}
 use Rattle.asl_grammar.specs.View.{spot_of}
 use Rattle.asl_grammar.specs.Seen.{Place, next_place}
-use Rattle.asl_grammar.proofs.Deepening.{behind_start, behind_next}
+use Rattle.asl_diagnose.proofs.Led.{behind_start, behind_next}
 use Rattle.asl_grammar.proofs.Reading.{none_left}
 use Rattle.asl_diagnose.specs.WalkView.{walk_place, IsStopped}
 use Rattle.asl_diagnose.proofs.Stop.{stopped_end, stopped_at}

@@ -1,7 +1,7 @@
 -- what is left stands after the tokens that were read, which lead to the place
 use Rattle.asl_grammar.specs.Lex.{tokens_of}
 use Rattle.asl_grammar.specs.Reader.{bytes_left, spots_left}
-use Rattle.asl_grammar.proofs.Deepening.{IsBehind}
+use Rattle.asl_diagnose.proofs.Led.{IsBehind}
 use Rattle.asl_diagnose.specs.WalkView.{walk_place}
 use Rattle.asl_diagnose.proofs.expected.stop.Given as goal
 
