@@ -4,11 +4,11 @@ ghost use Rattle.asl_machine.specs.Run.{IsThreadCount};
 ghost use Rattle.asl_session.specs.Opening.{BeginsAsImage, IsOpened, IsProgram, WhyNot, WhyNotProgram, WhyNotStarted};
 
 use crate::session::Session;
-use crate::status::{BAD_COUNT, NO_MEMORY, NO_PROGRAM};
-use asl_assembler::{AsmFault, assemble};
+use crate::status::{BAD_COUNT, NO_MEMORY, asm_status, load_status};
+use asl_assembler::assemble;
 use asl_code::Program;
 use asl_debugger::DebugFault;
-use asl_loader::{LoadFault, load};
+use asl_loader::load;
 use std::alloc::Global;
 
 /// The session of so many threads of the program of the bytes, on the heap; or the status that says why there is none.
@@ -50,14 +50,12 @@ fn program_of(alloc: Global, bytes: &[u8]) -> Result<Program, u32>
     if begins_as_image(bytes) {
         match load(alloc, bytes) {
             Ok(program) => Ok(program),
-            Err(LoadFault::OutOfMemory) => Err(NO_MEMORY),
-            Err(_) => Err(NO_PROGRAM),
+            Err(fault) => Err(load_status(fault)),
         }
     } else {
         match assemble(alloc, bytes) {
             Ok(program) => Ok(program),
-            Err(AsmFault::OutOfMemory) => Err(NO_MEMORY),
-            Err(_) => Err(NO_PROGRAM),
+            Err(fault) => Err(asm_status(fault)),
         }
     }
 }
