@@ -108,8 +108,8 @@ typedef struct asl_session {
 } asl_session;
 
 /* Of the others than 0 and 2 the first that applies, in the order in which they are listed at a function, is returned, and 2 only where none
- * does; asl_session_open alone may run out of memory before it knows of 12 and 11. Unless it is ASL_OK, nothing has changed and nothing
- * was written. */
+ * does; asl_session_open alone may run out of memory before it knows of 11, and of a 12 that the verifier finds. A wrong byte of an image
+ * and a wrong line of a text it always finds. Unless it is ASL_OK, nothing has changed and nothing was written. */
 enum {
   ASL_NO_PROGRAM = 12,   /* the bytes are no program: `asl dis` says why of an image, `asl asm` of a text */
   ASL_NO_SUCH_STEP = 13, /* the journal has no such position */

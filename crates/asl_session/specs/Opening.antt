@@ -4,9 +4,11 @@ use Rattle.asl_code.specs.declared.image.Image.{Image}
 use Rattle.asl_code.specs.Versions.{most_threads}
 use Rattle.asl_assembler.specs.Faults.{IsProgramText}
 use Rattle.asl_assembler.specs.declared.assembly.AsmFault.{AsmFault}
+use Rattle.asl_assembler.specs.declared.assembly.AsmFault.TheVariants as asm
 use Rattle.asl_assembler.specs.Faults as text
 use Rattle.asl_loader.specs.Faults.{IsProgramImage}
 use Rattle.asl_loader.specs.declared.fault.LoadFault.{LoadFault}
+use Rattle.asl_loader.specs.declared.fault.LoadFault.TheVariants as load
 use Rattle.asl_loader.specs.Faults as image
 use Rattle.asl_machine.specs.Run.{IsThreadCount}
 use Rattle.asl_debugger.specs.Session.{Session}
@@ -32,11 +34,20 @@ abbrev pub IsNoProgram : List ℕ → Type 0
 IsNoProgram bytes =
     (BeginsAsImage bytes × ((fault : LoadFault) × image.IsOutcome bytes (Err fault))) ⊎ ((BeginsAsImage bytes → ⊥) × ((fault : AsmFault) × text.IsOutcome bytes (Err fault)))
 
--- 12: the bytes are no program; else 2: there was no memory
-abbrev pub WhyNotProgram : List ℕ → ℕ → Type 0
-WhyNotProgram bytes status = (status ≡ 2) ⊎ ((status ≡ 12) × IsNoProgram bytes)
+-- lack of memory hides no other fault of the bytes than one that the verifier finds: they spell an image, of a program or not
+abbrev pub IsUnread : List ℕ → Type 0
+IsUnread bytes =
+    (BeginsAsImage bytes × image.IsFault bytes load.OutOfMemory) ⊎ ((BeginsAsImage bytes → ⊥) × text.IsFault bytes asm.OutOfMemory)
 
--- 12: the bytes are no program; else 11: there are no threads, or more than the program may start; else 2: there was no memory
+-- 12: the bytes are no program; else 2: there was no memory to know whether they are one
+abbrev pub WhyNotProgram : List ℕ → ℕ → Type 0
+WhyNotProgram bytes status = ((status ≡ 12) × IsNoProgram bytes) ⊎ ((status ≡ 2) × IsUnread bytes)
+
+-- 11: there are no threads, or more than the program may start; else 2: there was no memory
+abbrev pub WhyNotStarted : Image → ℕ → ℕ → Type 0
+WhyNotStarted program threads status =
+    ((status ≡ 11) × ((threads ≡ 0) ⊎ (most_threads program.version < threads))) ⊎ ((status ≡ 2) × IsThreadCount program threads)
+
+-- the bytes are not read as a program; or they are, and so many threads of it are not started
 abbrev pub WhyNot : List ℕ → ℕ → ℕ → Type 0
-WhyNot bytes threads status =
-    WhyNotProgram bytes status ⊎ ((status ≡ 11) × ((program : Image) × IsProgram bytes program × ((threads ≡ 0) ⊎ (most_threads program.version < threads))))
+WhyNot bytes threads status = WhyNotProgram bytes status ⊎ ((program : Image) × IsProgram bytes program × WhyNotStarted program threads status)

@@ -1,21 +1,36 @@
 //! From the bytes of a program to a session on the heap.
-ghost use Rattle.std.specs.Prelude.{◌↔◌, IsTrue, IfOk, IfErr};
-ghost use Rattle.asl_session.specs.Opening.{BeginsAsImage, IsOpened, IsProgram, WhyNot, WhyNotProgram};
+ghost use Rattle.std.specs.Prelude.{◌≡◌, ◌↔◌, [], IsTrue, IfOk, IfErr, OnOk};
+ghost use Rattle.asl_machine.specs.Run.{IsThreadCount};
+ghost use Rattle.asl_session.specs.Opening.{BeginsAsImage, IsOpened, IsProgram, WhyNot, WhyNotProgram, WhyNotStarted};
 
 use crate::session::Session;
-use crate::status::{BAD_COUNT, NO_MEMORY, NO_PROGRAM};
-use asl_assembler::{AsmFault, assemble};
+use crate::status::{BAD_COUNT, NO_MEMORY, asm_status, load_status};
+use asl_assembler::assemble;
 use asl_code::Program;
 use asl_debugger::DebugFault;
-use asl_loader::{LoadFault, load};
+use asl_loader::load;
 use std::alloc::Global;
 
-/// The session of so many threads of the program, on the heap; or the status that says why there is none.
+/// The session of so many threads of the program of the bytes, on the heap; or the status that says why there is none.
 pub fn open(alloc: Global, bytes: &[u8], threads: u32) -> Result<Box<Session>, u32>
     ensures opened { IfOk result (λ b. IsOpened bytes.now threads b.value) }
     ensures refused { IfErr result (WhyNot bytes.now threads) }
 {
     let program = program_of(alloc, bytes)?;
+    start(alloc, program, threads)
+}
+
+/// The session of so many threads of the program, on the heap; or the status that says why there is none.
+fn start(alloc: Global, program: Program, threads: u32) -> Result<Box<Session>, u32>
+    ensures start { IfOk result (λ b. b.value ≡ record {
+      image = program;
+      log = record { threads = threads; events = [] };
+      position = 0;
+      breakpoints = [];
+    }) }
+    ensures counted { OnOk result (IsThreadCount program threads) }
+    ensures refused { IfErr result (WhyNotStarted program threads) }
+{
     let session = match Session::open(alloc, program, threads) {
         Ok(session) => session,
         Err(DebugFault::BadCount) => return Err(BAD_COUNT),
@@ -35,14 +50,12 @@ fn program_of(alloc: Global, bytes: &[u8]) -> Result<Program, u32>
     if begins_as_image(bytes) {
         match load(alloc, bytes) {
             Ok(program) => Ok(program),
-            Err(LoadFault::OutOfMemory) => Err(NO_MEMORY),
-            Err(_) => Err(NO_PROGRAM),
+            Err(fault) => Err(load_status(fault)),
         }
     } else {
         match assemble(alloc, bytes) {
             Ok(program) => Ok(program),
-            Err(AsmFault::OutOfMemory) => Err(NO_MEMORY),
-            Err(_) => Err(NO_PROGRAM),
+            Err(fault) => Err(asm_status(fault)),
         }
     }
 }

@@ -1,8 +1,10 @@
 //! The numbers that C gets for answers.
-ghost use Rattle.std.specs.Prelude.{◌≡◌};
+ghost use Rattle.std.specs.Prelude.{◌≡◌, ◌≢◌, ◌⊎◌};
 ghost use Rattle.asl_session.specs.Status.{move_status, step_status};
 
+use asl_assembler::AsmFault;
 use asl_debugger::{DebugFault, StepFault};
+use asl_loader::LoadFault;
 use asl_machine::Reply;
 
 /// Done.
@@ -23,6 +25,26 @@ pub const NO_SUCH_STEP: u32 = 13;
 pub const NOT_AT_END: u32 = 14;
 /// The journal has 16,777,216 events.
 pub const JOURNAL_FULL: u32 = 15;
+
+/// That of the refusal of an image.
+pub fn load_status(fault: LoadFault) -> u32
+    ensures { ((result ≡ 2) × (fault ≡ LoadFault.OutOfMemory)) ⊎ ((result ≡ 12) × (fault ≢ LoadFault.OutOfMemory)) }
+{
+    match fault {
+        LoadFault::OutOfMemory => NO_MEMORY,
+        _ => NO_PROGRAM,
+    }
+}
+
+/// That of the refusal of an assembly text.
+pub fn asm_status(fault: AsmFault) -> u32
+    ensures { ((result ≡ 2) × (fault ≡ AsmFault.OutOfMemory)) ⊎ ((result ≡ 12) × (fault ≢ AsmFault.OutOfMemory)) }
+{
+    match fault {
+        AsmFault::OutOfMemory => NO_MEMORY,
+        _ => NO_PROGRAM,
+    }
+}
 
 /// That of a step.
 pub fn step_status(answer: Result<Reply, StepFault>) -> u32
