@@ -214,13 +214,13 @@ leads() {
   for other in "${builds[@]}"; do [ "${height[$other]}" -le "${height[$1]}" ] || return 1; done
 }
 
-# begin NAME PROCESSORS: proves the crate in a group of processes of its own, as many as there are processors, so that none is idle
-# while a crate is left. All but the crate that leads, for which most others wait, give way
+# begin NAME PROCESSORS: proves the crate in a group of processes of its own. The crate that leads, for which most others wait, may
+# use all processors; the others have two processes each, which give way to it
 begin() {
-  local niceness=0
-  leads "$1" || niceness=10
+  local jobs=$2 niceness=0
+  leads "$1" || { jobs=$(($2 < 2 ? $2 : 2)) niceness=5; }
   set -m
-  if [ "$1" = asl ]; then link & else prove "$1" "${sums[$1]}" "$2" "$niceness" "${built[@]}" & fi
+  if [ "$1" = asl ]; then link & else prove "$1" "${sums[$1]}" "$jobs" "$niceness" "${built[@]}" & fi
   set +m
   builds[$!]=$1
   began[$1]=$SECONDS
