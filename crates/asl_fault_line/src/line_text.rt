@@ -1,0 +1,52 @@
+//! A line that is made without allocation.
+ghost use Rattle.std.specs.Prelude.{◌≡◌, ◌++◌, OnOk};
+ghost use Rattle.std.specs.Fmt.{decimal};
+ghost use Rattle.asl_fault_line.specs.FaultText.{numbered, around};
+
+use arrayvec::{ArrayVec, CapacityError};
+use itoa::Buffer;
+
+/// A line's capacity. No line of a fault is longer.
+pub type Line = ArrayVec<u8, 256>;
+
+/// Adds bytes.
+pub fn push_bytes(line: &mut Line, bytes: &[u8]) -> Result<(), CapacityError>
+    ensures { OnOk result (line.new.items ≡ line.old.items ++ bytes.now) }
+{
+    line.try_extend_from_slice(bytes)
+}
+
+/// Adds a text.
+pub fn push(line: &mut Line, text: &str) -> Result<(), CapacityError>
+    ensures { OnOk result (line.new.items ≡ line.old.items ++ text.now) }
+{
+    push_bytes(line, text.as_bytes())
+}
+
+/// Adds a number.
+pub fn push_number(line: &mut Line, number: usize) -> Result<(), CapacityError>
+    ensures { OnOk result (line.new.items ≡ line.old.items ++ decimal number) }
+{
+    let mut digits = Buffer::new();
+    push(line, digits.format(number))
+}
+
+/// Adds a name with a number.
+pub fn push_numbered(line: &mut Line, name: &str, number: usize) -> Result<(), CapacityError>
+    ensures { OnOk result (line.new.items ≡ line.old.items ++ numbered name.now number) }
+{
+    push(line, name)?;
+    push(line, "(")?;
+    push_number(line, number)?;
+    push(line, ")")
+}
+
+/// Adds a name with a text.
+pub fn push_around(line: &mut Line, name: &str, text: &[u8]) -> Result<(), CapacityError>
+    ensures { OnOk result (line.new.items ≡ line.old.items ++ around name.now text.now) }
+{
+    push(line, name)?;
+    push(line, "(")?;
+    push_bytes(line, text)?;
+    push(line, ")")
+}
