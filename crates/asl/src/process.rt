@@ -1,11 +1,14 @@
 //! What a process does: its words in, its streams used, its exit status out.
 ghost use Rattle.std.specs.Prelude.{◌≡◌};
 ghost use Rattle.std.specs.Process.{exit_status};
-ghost use Rattle.asl.specs.Process.{EndsProcess};
+ghost use Rattle.asl_tool.specs.FaultLine.{fault_line};
+ghost use Rattle.asl_tool.specs.Streams.{AppendsPart};
+ghost use Rattle.asl_tool.specs.declared.tool_fault.ToolFault.TheVariants.{OutOfMemory};
+ghost use Rattle.asl.specs.Process.{EndsProcess, no_text};
 
 use crate::command_line::CommandLine;
 use crate::process_words::{WordsFault, process_words};
-use asl_tool::tool;
+use asl_tool::{tool, write_whole};
 use std::alloc::Global;
 use std::io::{Read, Write};
 use std::process::ExitCode;
@@ -22,7 +25,7 @@ pub fn run_process<H: Threads + Wait + Sync, L: CommandLine, R: Read, W: Write, 
     errors: &mut E,
 ) -> ExitCode
     ensures ends { EndsProcess (L.known line.now) (input.new ≡ input.old) (output.new ≡ output.old)
-        (R.remaining input.old) (W.contents output.old) (W.contents output.new) (exit_status result) }
+        (AppendsPart (E.contents errors.old) (E.contents errors.new)) (R.remaining input.old) (W.contents output.old) (W.contents output.new) (exit_status result) }
     ensures quiet { exit_status result ≡ 0 → errors.new ≡ errors.old }
 {
     let status = words_status(rt, line, alloc, input, output, errors);
@@ -39,7 +42,7 @@ fn words_status<H: Threads + Wait + Sync, L: CommandLine, R: Read, W: Write, E: 
     errors: &mut E,
 ) -> u8
     ensures ends { EndsProcess (L.known line.now) (input.new ≡ input.old) (output.new ≡ output.old)
-        (R.remaining input.old) (W.contents output.old) (W.contents output.new) result }
+        (AppendsPart (E.contents errors.old) (E.contents errors.new)) (R.remaining input.old) (W.contents output.old) (W.contents output.new) result }
     ensures quiet { result ≡ 0 → errors.new ≡ errors.old }
 {
     match process_words(line, alloc) {
@@ -51,18 +54,20 @@ fn words_status<H: Threads + Wait + Sync, L: CommandLine, R: Read, W: Write, E: 
 
 /// Says that a word is not a text, which is wrong usage, and answers the status.
 fn say_not_text<E: Write>(errors: &mut E) -> u8
-    ensures { result ≡ 2 }
+    ensures status { result ≡ 2 }
+    ensures told { AppendsPart (E.contents errors.old) (E.contents errors.new) no_text }
 {
-    let _ = errors.write_all(
-        b"error: a word of the command line is no text\n\nFor more information, try '--help'.\n",
-    );
+    let text =
+        "error: a word of the command line is no text\n\nFor more information, try '--help'.\n";
+    let _ = write_whole(errors, text.as_bytes());
     2
 }
 
 /// Says that memory ran out for the words, and answers the status.
 fn say_no_memory<E: Write>(errors: &mut E) -> u8
-    ensures { result ≡ 1 }
+    ensures status { result ≡ 1 }
+    ensures told { AppendsPart (E.contents errors.old) (E.contents errors.new) (fault_line OutOfMemory) }
 {
-    let _ = errors.write_all(b"asl: OutOfMemory\n");
+    let _ = write_whole(errors, "asl: OutOfMemory\n".as_bytes());
     1
 }

@@ -2,9 +2,11 @@
 use Rattle.std.proofs.Common.{◌≡◌, ℕ, List, [], Option, Some, None, inl, inr, MatchOption, IfSome, is_some, unwrap_or, sym, subst, ap, true≢false}
 use Rattle.asl_words.specs.declared.command.Invocation.{Invocation}
 use Rattle.asl_words.specs.declared.command.Invocation.TheVariants.{Alone, Run, Help, Version, WrongUsage}
-use Rattle.asl_tool.specs.declared.exit_status.ToolFault.{ToolFault}
-use Rattle.asl_tool.specs.declared.exit_status.ToolFault.TheVariants as fault
-use Rattle.asl_tool.specs.Tool.{Promise, Refuses, IsCommandStatus, IsStatus, EndsAlone}
+use Rattle.asl_tool.specs.declared.tool_fault.ToolFault.{ToolFault}
+use Rattle.asl_tool.specs.declared.tool_fault.ToolFault.TheVariants as fault
+use Rattle.asl_tool.specs.declared.streams.WriteFault.{WriteFault}
+use Rattle.asl_tool.specs.Streams.{AppendsPart}
+use Rattle.asl_tool.specs.Tool.{Promise, Refuses, IsCommandStatus, IsTextStatus, IsStatus, EndsAlone}
 
 refuses_weaker : (P Q : Type 0) (known old new : Option (List ℕ)) (promise : Promise) → (P → Q) → (f : ToolFault) → Refuses P known old new promise f → Refuses Q known old new promise f
 refuses_weaker P Q known old new promise h (fault.Read cause) r = (r.0, h r.1)
@@ -12,34 +14,50 @@ refuses_weaker P Q known old new promise h (fault.Command cause) r = record { in
 refuses_weaker P Q known old new promise h (fault.Write cause) r = r
 refuses_weaker P Q known old new promise h fault.OutOfMemory r = r
 
-command_weaker : (P Q : Type 0) (known old new : Option (List ℕ)) (promise : Promise) (status : ℕ) → (P → Q) → IsCommandStatus P known old new promise status → IsCommandStatus Q known old new promise status
-command_weaker P Q known old new promise status h (inl x) = inl x
-command_weaker P Q known old new promise status h (inr (e, (f, r))) = inr (e, (f, refuses_weaker P Q known old new promise h f r))
+command_weaker : (P Q : Type 0) (S T : List ℕ → Type 0) (known old new : Option (List ℕ)) (promise : Promise) (status : ℕ) → (P → Q) → ((line : List ℕ) → S line → T line)
+    → IsCommandStatus P S known old new promise status → IsCommandStatus Q T known old new promise status
+command_weaker P Q S T known old new promise status h t (inl x) = inl x
+command_weaker P Q S T known old new promise status h t (inr (e, (f, r, s))) = inr (e, (f, refuses_weaker P Q known old new promise h f r, t _ s))
 
-status_weaker : (P Q U V : Type 0) (known old new : Option (List ℕ)) (status : ℕ) → (U → V) → (P → Q) → (asked : Option Invocation) → IsStatus U P known old new status asked → IsStatus V Q known old new status asked
-status_weaker P Q U V known old new status g h (Some (Alone command)) x = command_weaker P Q known old new _ status h x
-status_weaker P Q U V known old new status g h (Some (Run team)) x = command_weaker P Q known old new _ status h x
-status_weaker P Q U V known old new status g h (Some (Help text)) x = (g x.0, x.1)
-status_weaker P Q U V known old new status g h (Some Version) x = (g x.0, x.1)
-status_weaker P Q U V known old new status g h (Some (WrongUsage text)) x = (g x.0, (h x.1.0, x.1.1))
-status_weaker P Q U V known old new status g h None x = (g x.0, (h x.1.0, x.1.1))
+text_weaker : (S T : List ℕ → Type 0) (old new : Option (List ℕ)) (text : List ℕ) (status : ℕ) → ((line : List ℕ) → S line → T line) → IsTextStatus S old new text status → IsTextStatus T old new text status
+text_weaker S T old new text status t (inl x) = inl x
+text_weaker S T old new text status t (inr (e, (f, part, s))) = inr (e, (f, part, t _ s))
 
-ends_weaker : (P Q U V : Type 0) (words : List (List ℕ)) (known old new : Option (List ℕ)) (status : ℕ) → (U → V) → (P → Q) → EndsAlone words U P known old new status → EndsAlone words V Q known old new status
-ends_weaker P Q U V words known old new status g h e =
-    record { invocation = e.invocation; waits_not = e.waits_not; is_asked = e.is_asked; is_status = status_weaker P Q U V known old new status g h e.invocation e.is_status }
+status_weaker : (P Q U V : Type 0) (S T : List ℕ → Type 0) (known old new : Option (List ℕ)) (status : ℕ) → (U → V) → (P → Q) → ((line : List ℕ) → S line → T line) → (asked : Option Invocation)
+    → IsStatus U P S known old new status asked → IsStatus V Q T known old new status asked
+status_weaker P Q U V S T known old new status g h t (Some (Alone command)) x = command_weaker P Q S T known old new _ status h t x
+status_weaker P Q U V S T known old new status g h t (Some (Run team)) x = command_weaker P Q S T known old new _ status h t x
+status_weaker P Q U V S T known old new status g h t (Some (Help text)) x = (g x.0, text_weaker S T old new _ status t x.1)
+status_weaker P Q U V S T known old new status g h t (Some Version) x = (g x.0, text_weaker S T old new _ status t x.1)
+status_weaker P Q U V S T known old new status g h t (Some (WrongUsage text)) x = (g x.0, (h x.1.0, (x.1.1.0, t _ x.1.1.1)))
+status_weaker P Q U V S T known old new status g h t None x = (g x.0, (h x.1.0, (x.1.1.0, t _ x.1.1.1)))
 
-any_weaker : (A P Q U V : Type 0) (words : List (List ℕ)) (known old new : Option (List ℕ)) (status : Option ℕ) → (U → V) → (P → Q)
-    → MatchOption status A (EndsAlone words U P known old new) → MatchOption status A (EndsAlone words V Q known old new)
-any_weaker A P Q U V words known old new None g h e = e
-any_weaker A P Q U V words known old new (Some status) g h e = ends_weaker P Q U V words known old new status g h e
+ends_weaker : (P Q U V : Type 0) (S T : List ℕ → Type 0) (words : List (List ℕ)) (known old new : Option (List ℕ)) (status : ℕ) → (U → V) → (P → Q) → ((line : List ℕ) → S line → T line)
+    → EndsAlone words U P S known old new status → EndsAlone words V Q T known old new status
+ends_weaker P Q U V S T words known old new status g h t e =
+    record { invocation = e.invocation; waits_not = e.waits_not; is_asked = e.is_asked; is_status = status_weaker P Q U V S T known old new status g h t e.invocation e.is_status }
+
+any_weaker : (A P Q U V : Type 0) (S T : List ℕ → Type 0) (words : List (List ℕ)) (known old new : Option (List ℕ)) (status : Option ℕ) → (U → V) → (P → Q) → ((line : List ℕ) → S line → T line)
+    → MatchOption status A (EndsAlone words U P S known old new) → MatchOption status A (EndsAlone words V Q T known old new)
+any_weaker A P Q U V S T words known old new None g h t e = e
+any_weaker A P Q U V S T words known old new (Some status) g h t e = ends_weaker P Q U V S T words known old new status g h t e
 
 -- from a writer that had nothing: where it is as it was, nothing is written
-pub ended_fresh : (A unread unwritten : Type 0) (words : List (List ℕ)) (input first written : List ℕ) (status : Option ℕ) → first ≡ [] → (unwritten → written ≡ first)
-    → MatchOption status A (EndsAlone words unread unwritten (Some input) (Some first) (Some written))
-    → MatchOption status A (EndsAlone words (Unit {0}) (written ≡ []) (Some input) (Some []) (Some written))
-ended_fresh A unread unwritten words input first written status none same ended =
-    subst (λ xs. MatchOption status A (EndsAlone words (Unit {0}) (written ≡ xs) (Some input) (Some xs) (Some written))) none
-    (any_weaker A unwritten (written ≡ first) unread (Unit {0}) words (Some input) (Some first) (Some written) status (λ _. tt) same ended)
+fresh_weaker : (A unread unwritten : Type 0) (S T : List ℕ → Type 0) (words : List (List ℕ)) (input first written : List ℕ) (status : Option ℕ) → first ≡ [] → (unwritten → written ≡ first)
+    → ((line : List ℕ) → S line → T line)
+    → MatchOption status A (EndsAlone words unread unwritten S (Some input) (Some first) (Some written))
+    → MatchOption status A (EndsAlone words (Unit {0}) (written ≡ []) T (Some input) (Some []) (Some written))
+fresh_weaker A unread unwritten S T words input first written status none same tells ended =
+    subst (λ xs. MatchOption status A (EndsAlone words (Unit {0}) (written ≡ xs) T (Some input) (Some xs) (Some written))) none
+    (any_weaker A unwritten (written ≡ first) unread (Unit {0}) S T words (Some input) (Some first) (Some written) status (λ _. tt) same tells ended)
+
+-- the same, with what standard error got, which had nothing either
+pub ended_fresh : (A unread unwritten : Type 0) (words : List (List ℕ)) (input first written silent said : List ℕ) (status : Option ℕ) → first ≡ [] → silent ≡ [] → (unwritten → written ≡ first)
+    → MatchOption status A (EndsAlone words unread unwritten (AppendsPart (Some silent) (Some said)) (Some input) (Some first) (Some written))
+    → MatchOption status A (EndsAlone words (Unit {0}) (written ≡ []) (AppendsPart (Some []) (Some said)) (Some input) (Some []) (Some written))
+ended_fresh A unread unwritten words input first written silent said status none still same ended =
+    fresh_weaker A unread unwritten (AppendsPart (Some silent) (Some said)) (AppendsPart (Some []) (Some said)) words input first written status none same
+    (λ line part. subst (λ xs. AppendsPart (Some xs) (Some said) line) still part) ended
 
 pub quiet_at : (P : Type 0) (status : Option ℕ) → IfSome status (λ s. s ≡ 0 → P) → status ≡ Some 0 → P
 quiet_at P None e is = absurd (true≢false (sym (ap is_some is)))

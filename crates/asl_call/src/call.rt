@@ -1,5 +1,6 @@
 //! What C calls: a command of the program over memory.
 ghost use Rattle.std.specs.Prelude.{◌≡◌, ◌<◌, [], Some, map, length, IfOk, IfErr, MatchOption, string_bytes};
+ghost use Rattle.asl_tool.specs.Streams.{AppendsPart};
 ghost use Rattle.asl_tool.specs.Tool.{AsksForWork, EndsAlone};
 ghost use Rattle.asl_call.specs.Words.{words_of};
 ghost use Rattle.asl_call.specs.Called.{SaysWhyNot, IsAnswered};
@@ -36,7 +37,8 @@ struct Ended {
 /// Does what the words ask for, over memory.
 fn perform(alloc: Global, words: &[String], input: &[u8]) -> Ended
     ensures status { MatchOption result.status (AsksForWork (map string_bytes words.now))
-        (EndsAlone (map string_bytes words.now) (Unit {0}) (result.output.items ≡ []) (Some input.now) (Some []) (Some result.output.items)) }
+        (EndsAlone (map string_bytes words.now) (Unit {0}) (result.output.items ≡ [])
+        (AppendsPart (Some []) (Some result.errors.items)) (Some input.now) (Some []) (Some result.output.items)) }
     ensures quiet { result.status ≡ Some 0 → result.errors.items ≡ [] }
 {
     let mut reader = input;
@@ -60,7 +62,8 @@ struct Done {
 
 /// What the words ask for, done; or the status that says why nothing was done.
 fn called(alloc: Global, words: &[u8], input: &[u8]) -> Result<Done, u32>
-    ensures ended { IfOk result (λ r. EndsAlone (words_of words.now) (Unit {0}) (r.output.items ≡ []) (Some input.now) (Some []) (Some r.output.items) r.status) }
+    ensures ended { IfOk result (λ r. EndsAlone (words_of words.now) (Unit {0}) (r.output.items ≡ [])
+        (AppendsPart (Some []) (Some r.errors.items)) (Some input.now) (Some []) (Some r.output.items) r.status) }
     ensures quiet { IfOk result (λ r. r.status ≡ 0 → r.errors.items ≡ []) }
     ensures err { IfErr result (SaysWhyNot words.now) }
 {

@@ -8,4 +8,9 @@ mod Differences
 mod Records
 mod Sessions
 mod Talks
+mod SomeTalks
+mod OneProgram
+mod OneRun
+mod OneAnswer
 mod Outcomes
+mod Telling

@@ -58,3 +58,6 @@ pub wrote_part : (old new : Option (List ℕ)) (bytes rest : List ℕ) → Wrote
 wrote_part old new bytes rest w =
     let family : List ℕ → Type 0 = λ l. Appends old new l in
     (length w.done, subst family (sym (take-append_seam w.done rest) ∙ ap (take (length w.done)) w.whole) w.held)
+
+pub part_nothing : (old : Option (List ℕ)) (bytes : List ℕ) → AppendsPart old old bytes
+part_nothing old bytes = (0, appends_nothing old)

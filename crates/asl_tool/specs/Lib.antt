@@ -11,4 +11,5 @@ pub mod Check
 pub mod Command
 pub mod Outcome
 pub mod Work
+pub mod FaultLine
 pub mod Tool

@@ -1,7 +1,8 @@
--- What a run of the program leaves in the writer, by what the words ask for and what the reader had (docs/CLI.md,
--- "Refusals"). `unread` and `unwritten` stand for what the contracts put there: that the reader, or the
--- writer, is the very value that it was at first. That is more than that its bytes are the same: of a writer that may be any
--- one no call is known to keep the value, not even a flush.
+-- What a run of the program leaves in the writer, and on standard error, by what the words ask for and what the reader had
+-- (docs/CLI.md, "Refusals"). `unread`, `unwritten` and `tells` stand for what the contracts put there. The first two: that the
+-- reader, or the writer, is the very value that it was at first. That is more than that its bytes are the same: of a writer that
+-- may be any one no call is known to keep the value, not even a flush. The third: that standard error got this text, or, where its
+-- writer failed, a first part of it.
 use Rattle.std.specs.Prelude.{◌≡◌, ◌≤◌, ◌⊎◌, ℕ, List, Option, None, Some, IfSome, codes, length}
 use Rattle.std.specs.Io.KnownBytes.{Appends}
 use Rattle.asl_words.specs.declared.command.Command.{Command}
@@ -11,8 +12,10 @@ use Rattle.asl_words.specs.declared.command.Invocation.TheVariants.{Alone, Run, 
 use Rattle.asl_words.specs.Words.{AsksFor}
 use Rattle.asl_tool.specs.declared.command_fault.CommandFault.{CommandFault}
 use Rattle.asl_tool.specs.declared.streams.TheConstants.{MAX_INPUT}
-use Rattle.asl_tool.specs.declared.exit_status.ToolFault.{ToolFault}
-use Rattle.asl_tool.specs.declared.exit_status.ToolFault.TheVariants as fault
+use Rattle.asl_tool.specs.declared.streams.WriteFault.{WriteFault}
+use Rattle.asl_tool.specs.declared.tool_fault.ToolFault.{ToolFault}
+use Rattle.asl_tool.specs.declared.tool_fault.ToolFault.TheVariants as fault
+use Rattle.asl_tool.specs.FaultLine.{fault_line}
 use Rattle.asl_tool.specs.Streams.{AppendsPart, IsReadFault}
 use Rattle.asl_tool.specs.Command.{IsOutput, IsRunFile, IsRefusedCommand}
 use Rattle.asl_tool.specs.Work.{IsWorkOutput, IsRefusedWork}
@@ -65,15 +68,17 @@ Refuses unwritten known old new promise (fault.Command cause) = RefusesInput unw
 Refuses unwritten known old new promise (fault.Write cause) = WritesPart known old new promise
 Refuses unwritten known old new promise fault.OutOfMemory = ⊥
 
--- the status of a command, with what the writer got: 0 with the output, 1 with a refusal
-abbrev pub IsCommandStatus : Type 0 → Option (List ℕ) → Option (List ℕ) → Option (List ℕ) → Promise → ℕ → Type 0
-IsCommandStatus unwritten known old new promise status =
+-- the status of a command, with what the writer got: 0 with the output, 1 with a refusal, whose line standard error gets
+abbrev pub IsCommandStatus : Type 0 → (List ℕ → Type 0) → Option (List ℕ) → Option (List ℕ) → Option (List ℕ) → Promise → ℕ → Type 0
+IsCommandStatus unwritten tells known old new promise status =
     ((status ≡ 0) × WritesOutput known old new promise)
-    ⊎ ((status ≡ 1) × ((f : ToolFault) × Refuses unwritten known old new promise f))
+    ⊎ ((status ≡ 1) × ((f : ToolFault) × Refuses unwritten known old new promise f × tells (fault_line f)))
 
--- the status of a text that is shown: 0 with the text, 1 with a first part of it
-abbrev pub IsTextStatus : Option (List ℕ) → Option (List ℕ) → List ℕ → ℕ → Type 0
-IsTextStatus old new text status = ((status ≡ 0) × Appends old new text) ⊎ ((status ≡ 1) × AppendsPart old new text)
+-- the status of a text that is shown: 0 with the text, 1 with a first part of it, and the line that the output failed
+abbrev pub IsTextStatus : (List ℕ → Type 0) → Option (List ℕ) → Option (List ℕ) → List ℕ → ℕ → Type 0
+IsTextStatus tells old new text status =
+    ((status ≡ 0) × Appends old new text)
+    ⊎ ((status ≡ 1) × ((f : WriteFault) × AppendsPart old new text × tells (fault_line (fault.Write f))))
 
 -- which version of the program this is, and in which logic it is proved
 abbrev pub version_text : List ℕ
@@ -84,21 +89,22 @@ abbrev pub IsAsked : List (List ℕ) → Option Invocation → Type 0
 IsAsked words (Some invocation) = AsksFor words invocation
 IsAsked words None = Unit {0}
 
--- the status of what was asked, with what the writer got: 2 is for wrong usage alone. Unless a command was asked for, the
--- reader is as it was (`unread`); where there is nothing to write, the writer is as it was (`unwritten`)
-abbrev pub IsStatus : Type 0 → Type 0 → Option (List ℕ) → Option (List ℕ) → Option (List ℕ) → ℕ → Option Invocation → Type 0
-IsStatus unread unwritten known old new status (Some (Alone command)) = IsCommandStatus unwritten known old new (of_command command) status
-IsStatus unread unwritten known old new status (Some (Run team)) = IsCommandStatus unwritten known old new (of_team team) status
-IsStatus unread unwritten known old new status (Some (Help text)) = unread × IsTextStatus old new text.bytes.items status
-IsStatus unread unwritten known old new status (Some Version) = unread × IsTextStatus old new version_text status
-IsStatus unread unwritten known old new status (Some (WrongUsage text)) = unread × (unwritten × (status ≡ 2))
-IsStatus unread unwritten known old new status None = unread × (unwritten × (status ≡ 1))
+-- the status of what was asked, with what the writer got, and what standard error got: 2 is for wrong usage alone, with its text.
+-- Unless a command was asked for, the reader is as it was (`unread`); where there is nothing to write, the writer is as it was
+-- (`unwritten`)
+abbrev pub IsStatus : Type 0 → Type 0 → (List ℕ → Type 0) → Option (List ℕ) → Option (List ℕ) → Option (List ℕ) → ℕ → Option Invocation → Type 0
+IsStatus unread unwritten tells known old new status (Some (Alone command)) = IsCommandStatus unwritten tells known old new (of_command command) status
+IsStatus unread unwritten tells known old new status (Some (Run team)) = IsCommandStatus unwritten tells known old new (of_team team) status
+IsStatus unread unwritten tells known old new status (Some (Help text)) = unread × IsTextStatus tells old new text.bytes.items status
+IsStatus unread unwritten tells known old new status (Some Version) = unread × IsTextStatus tells old new version_text status
+IsStatus unread unwritten tells known old new status (Some (WrongUsage text)) = unread × (unwritten × ((status ≡ 2) × tells text.bytes.items))
+IsStatus unread unwritten tells known old new status None = unread × (unwritten × ((status ≡ 1) × tells (fault_line fault.OutOfMemory)))
 
--- the status is that of what the words ask for
-pub record EndsWith (words : List (List ℕ)) (unread unwritten : Type 0) (known old new : Option (List ℕ)) (status : ℕ) : Type 0 where
+-- the status is that of what the words ask for, and so is what standard error gets
+pub record EndsWith (words : List (List ℕ)) (unread unwritten : Type 0) (tells : List ℕ → Type 0) (known old new : Option (List ℕ)) (status : ℕ) : Type 0 where
   pub invocation : Option Invocation
   pub is_asked : IsAsked words invocation
-  pub is_status : IsStatus unread unwritten known old new status invocation
+  pub is_status : IsStatus unread unwritten tells known old new status invocation
 
 -- not the command `run`
 abbrev pub IsNoWork : Option Invocation → Type 0
@@ -106,11 +112,11 @@ IsNoWork (Some (Run team)) = ⊥
 IsNoWork asked = Unit {0}
 
 -- the same where the words do not ask for `run`
-pub record EndsAlone (words : List (List ℕ)) (unread unwritten : Type 0) (known old new : Option (List ℕ)) (status : ℕ) : Type 0 where
+pub record EndsAlone (words : List (List ℕ)) (unread unwritten : Type 0) (tells : List ℕ → Type 0) (known old new : Option (List ℕ)) (status : ℕ) : Type 0 where
   pub invocation : Option Invocation
   pub waits_not : IsNoWork invocation
   pub is_asked : IsAsked words invocation
-  pub is_status : IsStatus unread unwritten known old new status invocation
+  pub is_status : IsStatus unread unwritten tells known old new status invocation
 
 -- the words ask for `run`
 abbrev pub AsksForWork : List (List ℕ) → Type 0

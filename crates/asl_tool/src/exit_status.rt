@@ -1,18 +1,19 @@
 //! A run of the program: words, a reader and two writers in, the exit status out.
 ghost use Rattle.std.specs.Prelude.{◌≡◌, ◌≤◌, length, map, Some, OnOk, IfErr, IfNone, IfSome, MatchOption, MatchResult, string_bytes};
 ghost use Rattle.asl_tool.specs.declared.streams.TheConstants.{MAX_INPUT};
+ghost use Rattle.asl_tool.specs.FaultLine.{fault_line};
+ghost use Rattle.asl_tool.specs.Streams.{AppendsPart};
 ghost use Rattle.asl_tool.specs.Tool.{AsksForWork, EndsAlone, EndsWith, IsCommandStatus, IsTextStatus, Refuses, WritesOutput, of_command, of_team};
 
-use crate::command_fault::CommandFault;
 use crate::run::run_output;
-use crate::streams::{ReadFault, WriteFault, read_whole, write_whole};
+use crate::streams::{read_whole, write_whole};
 use crate::tool_command::output_of;
+use crate::tool_fault::{ToolFault, tell};
 use asl_words::{Command, Invocation, RunArguments, read_words};
 use std::alloc::Global;
 use std::io::{Read, Write};
 use std::sync::Wait;
 use std::thread::Threads;
-use thiserror::Error;
 
 /// The status of what was done.
 const DONE: u8 = 0;
@@ -23,23 +24,6 @@ const WRONG_USAGE: u8 = 2;
 
 /// Which version of the program this is, and in which logic it is proved.
 const VERSION: &str = "asl 2, logic dac8208d650f15bf\n";
-
-/// Why the program did not do what its words ask for. The name is what standard error gets.
-#[derive(Debug, Drop, Error)]
-pub enum ToolFault {
-    /// The input was not read to its end.
-    #[error(transparent)]
-    Read(ReadFault),
-    /// The input is not what the command takes, or its program is not run.
-    #[error(transparent)]
-    Command(CommandFault),
-    /// The output was not written to its end.
-    #[error(transparent)]
-    Write(WriteFault),
-    /// There was no memory to judge the words.
-    #[error("OutOfMemory")]
-    OutOfMemory,
-}
 
 /// Does what the words ask for: reads from `reader`, writes to `writer`, says on `errors` what went wrong, and answers
 /// the exit status: 0 done, 1 refused, 2 wrong usage. Faults of `errors` count for nothing. Only the command `run` waits.
@@ -53,7 +37,7 @@ pub fn tool<H: Threads + Wait + Sync, R: Read, W: Write, E: Write>(
     errors: &mut E,
 ) -> u8
     ensures status { EndsWith (map string_bytes words.now) (reader.new ≡ reader.old) (writer.new ≡ writer.old)
-        (R.remaining reader.old) (W.contents writer.old) (W.contents writer.new) result }
+        (AppendsPart (E.contents errors.old) (E.contents errors.new)) (R.remaining reader.old) (W.contents writer.old) (W.contents writer.new) result }
     ensures quiet { result ≡ 0 → errors.new ≡ errors.old }
 {
     match read_words(alloc, words) {
@@ -76,7 +60,7 @@ pub fn tool_alone<R: Read, W: Write, E: Write>(
 ) -> Option<u8>
     ensures status { MatchOption result (AsksForWork (map string_bytes words.now))
         (EndsAlone (map string_bytes words.now) (reader.new ≡ reader.old) (writer.new ≡ writer.old)
-        (R.remaining reader.old) (W.contents writer.old) (W.contents writer.new)) }
+        (AppendsPart (E.contents errors.old) (E.contents errors.new)) (R.remaining reader.old) (W.contents writer.old) (W.contents writer.new)) }
     ensures untouched { IfNone result ((reader.new ≡ reader.old) × (writer.new ≡ writer.old) × (errors.new ≡ errors.old)) }
     ensures quiet { IfSome result (λ status. status ≡ 0 → errors.new ≡ errors.old) }
 {
@@ -100,7 +84,8 @@ fn alone_status<R: Read, W: Write, E: Write>(
     writer: &mut W,
     errors: &mut E,
 ) -> u8
-    ensures status { IsCommandStatus (writer.new ≡ writer.old) (R.remaining reader.old)
+    ensures status { IsCommandStatus (writer.new ≡ writer.old)
+        (AppendsPart (E.contents errors.old) (E.contents errors.new)) (R.remaining reader.old)
         (W.contents writer.old) (W.contents writer.new) (of_command command.now) result }
     ensures quiet { result ≡ 0 → errors.new ≡ errors.old }
 {
@@ -117,7 +102,8 @@ fn run_status<H: Threads + Wait + Sync, R: Read, W: Write, E: Write>(
     writer: &mut W,
     errors: &mut E,
 ) -> u8
-    ensures status { IsCommandStatus (writer.new ≡ writer.old) (R.remaining reader.old)
+    ensures status { IsCommandStatus (writer.new ≡ writer.old)
+        (AppendsPart (E.contents errors.old) (E.contents errors.new)) (R.remaining reader.old)
         (W.contents writer.old) (W.contents writer.new) (of_team team) result }
     ensures quiet { result ≡ 0 → errors.new ≡ errors.old }
 {
@@ -127,7 +113,7 @@ fn run_status<H: Threads + Wait + Sync, R: Read, W: Write, E: Write>(
 
 /// Shows a text, and answers the status.
 fn shown<W: Write, E: Write>(text: &str, writer: &mut W, errors: &mut E) -> u8
-    ensures status { IsTextStatus (W.contents writer.old) (W.contents writer.new) text.now result }
+    ensures status { IsTextStatus (AppendsPart (E.contents errors.old) (E.contents errors.new)) (W.contents writer.old) (W.contents writer.new) text.now result }
     ensures quiet { result ≡ 0 → errors.new ≡ errors.old }
 {
     match write_whole(writer, text.as_bytes()) {
@@ -138,7 +124,8 @@ fn shown<W: Write, E: Write>(text: &str, writer: &mut W, errors: &mut E) -> u8
 
 /// Says why the words are no legal use, and answers the status.
 fn wrong_usage<E: Write>(text: &str, errors: &mut E) -> u8
-    ensures { result ≡ 2 }
+    ensures status { result ≡ 2 }
+    ensures told { AppendsPart (E.contents errors.old) (E.contents errors.new) text.now }
 {
     let _ = write_whole(errors, text.as_bytes());
     WRONG_USAGE
@@ -233,12 +220,13 @@ fn answer_run<H: Threads + Wait + Sync, W: Write>(
 /// The exit status; a fault's line goes to `errors`.
 fn status_of<E: Write>(done: Result<(), ToolFault>, errors: &mut E) -> u8
     ensures status { MatchResult done (λ _. result ≡ 0) (λ _. result ≡ 1) }
+    ensures told { IfErr done (λ fault. AppendsPart (E.contents errors.old) (E.contents errors.new) (fault_line fault)) }
     ensures quiet { result ≡ 0 → errors.new ≡ errors.old }
 {
     match done {
         Ok(()) => DONE,
         Err(fault) => {
-            let _ = writeln!(errors, "asl: {fault}");
+            let _ = tell(errors, &fault);
             REFUSED
         }
     }

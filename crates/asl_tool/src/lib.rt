@@ -16,6 +16,7 @@ mod spacing;
 mod step_command;
 mod streams;
 mod tool_command;
+mod tool_fault;
 
 pub use asl_journal::{FileFault, get_run, put_run};
 pub use command_fault::CommandFault;

@@ -76,6 +76,7 @@ fn with_bytes(kept: Option<Vec<u8>>, bytes: &[u8]) -> Option<Vec<u8>>
 pub fn write_whole<W: Write>(writer: &mut W, bytes: &[u8]) -> Result<(), WriteFault>
     ensures ok { OnOk result (Appends (W.contents writer.old) (W.contents writer.new) bytes.now) }
     ensures err { OnErr result (AppendsPart (W.contents writer.old) (W.contents writer.new) bytes.now) }
+    ensures part { AppendsPart (W.contents writer.old) (W.contents writer.new) bytes.now }
 {
     let mut rest = bytes;
     for _ in 0..u64::MAX {

@@ -11,9 +11,9 @@ returns-in-Ok-clause-ends g c =
 
 pub returns-in-Err-NotText-clause-ends : goal.returns-in-Err-NotText-clause-ends
 returns-in-Err-NotText-clause-ends g c =
-    inr (subst (IsWordsFault (g.L.CommandLine.known c.args.line.now)) c.in-Err-NotText.field-0-is c.in-Err-NotText.ensures.err, refl, refl, c.say_not_text.ensures)
+    inr (subst (IsWordsFault (g.L.CommandLine.known c.args.line.now)) c.in-Err-NotText.field-0-is c.in-Err-NotText.ensures.err, refl, refl, c.say_not_text.ensures.status, c.say_not_text.ensures.told)
 
 pub returns-in-Err-OutOfMemory-clause-ends : goal.returns-in-Err-OutOfMemory-clause-ends
 returns-in-Err-OutOfMemory-clause-ends g c =
     let given = some_given (g.L.CommandLine.known c.args.line.now) in
-    inl (given.0, given.1, record { invocation = None; is_asked = tt; is_status = (refl, (refl, c.say_no_memory.ensures)) })
+    inl (given.0, given.1, record { invocation = None; is_asked = tt; is_status = (refl, (refl, (c.say_no_memory.ensures.status, c.say_no_memory.ensures.told))) })

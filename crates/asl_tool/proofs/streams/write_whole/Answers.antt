@@ -16,6 +16,15 @@ returns-in_err-count-clause-err g c =
     let part = wrote_part _ _ _ _ (wrote_kept _ _ _ _ _ c.loop.invariant c.in_err-count.ensures.err) in
     search (rules, part)
 
+pub returns-then-is_empty-clause-part : goal.returns-then-is_empty-clause-part
+returns-then-is_empty-clause-part g c = wrote_part _ _ _ _ c.loop.invariant
+
+pub returns-clause-part : goal.returns-clause-part
+returns-clause-part g c = wrote_part _ _ _ _ c.loop.invariant
+
+pub returns-in_err-count-clause-part : goal.returns-in_err-count-clause-part
+returns-in_err-count-clause-part g c = wrote_part _ _ _ _ (wrote_kept _ _ _ _ _ c.loop.invariant c.in_err-count.ensures.err)
+
 pub loop-preserved : goal.loop-preserved
 loop-preserved g c =
     rw c.split_at.ensures.back (wrote_more _ _ _ _ _ _ c.loop.invariant (c.in_ok-count.ensures.ok))
