@@ -68,11 +68,14 @@ impl Leaves {
         self.index.reserve(more)
     }
 
-    /// The key of the leaf's row.
+    /// The key of the leaf's row. Where no leaf is held, none is looked for.
     #[inline(always)]
     fn key(&self, leaf: (u16, u8, u16)) -> Option<usize>
         ensures { result ≡ key_of_leaf self.now leaf }
     {
+        if self.index.is_empty() {
+            return None;
+        }
         self.index.get(&leaf).copied()
     }
 
