@@ -1,8 +1,10 @@
 //! Reading a journal from front to back. Where memory is refused the reading continues and keeps nothing, so that running out of memory
 //! hides nothing that is wrong with the bytes.
 ghost use Rattle.std.specs.Option.{option_map};
-ghost use Rattle.asl_loader.specs.SharedFields.{Gives};
+ghost use Rattle.std.specs.Prelude.{List, [], ◌∷◌, ◌++◌};
+ghost use Rattle.asl_loader.specs.SharedFields.{Gives, IsKept};
 ghost use Rattle.asl_loader.specs.ImageFields.{Keeps, items_at};
+ghost use Rattle.asl_journal.specs.declared.event.Event.{Event};
 ghost use Rattle.asl_journal.specs.JournalFields.{threads_at, count_at, value_at, unprotected_at, fault_at, reply_at, event_at, log_at};
 
 use crate::event::Event;
@@ -10,7 +12,7 @@ use crate::journal_limits::{MAX_EVENTS, MAX_THREADS};
 use asl_code::{Cell, Items, Value, ValueFault, get_value, version_for};
 use asl_loader::Stop;
 use asl_loader::shared_fields::{
-    bad, below_at, byte_at, effect_at, four_at, letters_at, two_at, version_at, with_item,
+    bad, below_at, byte_at, effect_at, four_at, letters_at, two_at, version_at,
 };
 use asl_machine::{Fault, Reply};
 use std::alloc::Global;
@@ -19,7 +21,7 @@ use std::alloc::Global;
 const LETTERS: u32 = 0x4153_4c4a;
 
 /// The number of the reply that the step ran.
-const RAN: u8 = 0;
+pub(crate) const RAN: u8 = 0;
 
 /// How many threads: as many as journals of files of this version have.
 #[tactic(auto, unfolding(crate::specs::JournalFields::threads_at))]
@@ -146,10 +148,24 @@ fn events_of(
     let mut rest = bytes;
     for _ in 0..count {
         let (event, after) = event_at(threads, rest)?;
-        events = with_item(events, event);
+        keep(&mut events, event);
         rest = after;
     }
     Ok((events, rest))
+}
+
+/// Adds the event, as long as there is memory for all. The events stay where they are: most of a journal is read by this.
+#[inline(always)]
+fn keep(events: &mut Option<Items<Event>>, event: Event)
+    ensures { (front : List Event) → IsKept events.old front → IsKept events.new (front ++ event ∷ []) }
+{
+    let is_refused = match events {
+        Some(kept) => kept.push(event).is_err(),
+        None => false,
+    };
+    if is_refused {
+        *events = None;
+    }
 }
 
 /// The threads and the events at the front of the bytes, as long as there is memory for these, and the bytes after them.

@@ -65,6 +65,14 @@ pub count_written : {T : Type 0} (rows : Slab T) (key : ℕ) (old new : T) → s
 count_written rows key old new there =
     sym (length-filter is_some (slice_set rows.slots key (Some new))) ∙ kept_number rows.slots key old new there ∙ length-filter is_some rows.slots
 
+none_found : (p : Leaf → Bool) (entries : List (Leaf × ℕ)) → length entries ≡ 0 → lookup p entries ≡ None
+none_found p [] none = refl
+none_found p (entry ∷ entries) none = absurd (omega (arith, none))
+
+-- where the index has no entry, no leaf has a key
+pub no_key : (leaves : Leaves) (leaf : Leaf) → index.index_map_len leaves.index ≡ 0 → key_of_leaf leaves leaf ≡ None
+no_key leaves leaf none = none_found (leaf_eq leaf) leaves.index.entries none
+
 -- a leaf with a key has a row there
 pub key_there : (leaves : Leaves) → IsKept leaves → (leaf : Leaf) (key : ℕ) → key_of_leaf leaves leaf ≡ Some key → slab.ContainsKey leaves.rows key
 key_there leaves kept leaf key is = let row = kept.there leaf key is in ap is_some row.1.0

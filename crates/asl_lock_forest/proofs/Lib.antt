@@ -8,4 +8,5 @@ pub mod Grantable
 mod LeafLaws
 mod ListLaws
 mod RowsLaws
+mod RowFronts
 mod SoundLaws

@@ -110,7 +110,7 @@ impl Forest {
         ensures others { (other : ℕ) → other ≢ thread → HoldsNothing self.old.holding other → HoldsNothing self.new.holding other }
         ensures lawful { IsForest self.new }
     {
-        if !self.rows.can_grant(thread, request) {
+        if !self.rows.can_grant(thread, request, self.threads) {
             return Ok(false);
         }
         self.grant(thread, request)?;
@@ -123,7 +123,7 @@ impl Forest {
         ensures free { IsTrue result → GoesWithOthers self.now.holding thread node want }
         ensures refused { result ≡ false → IsKeptFrom self.now.holding thread node want }
     {
-        self.rows.is_free(thread, node, want)
+        self.rows.is_free(thread, node, want, self.threads)
     }
 
     /// Grants all that is asked, where no other thread is in the way.

@@ -68,11 +68,14 @@ impl Leaves {
         self.index.reserve(more)
     }
 
-    /// The key of the leaf's row.
+    /// The key of the leaf's row. Where no leaf is held, none is looked for.
     #[inline(always)]
     fn key(&self, leaf: (u16, u8, u16)) -> Option<usize>
         ensures { result ≡ key_of_leaf self.now leaf }
     {
+        if self.index.is_empty() {
+            return None;
+        }
         self.index.get(&leaf).copied()
     }
 
@@ -121,7 +124,7 @@ impl Leaves {
         match self.key(leaf) {
             Some(key) => {
                 self.rows[key][thread] = 0;
-                if is_idle(self.rows[key]) {
+                if is_idle(&self.rows[key]) {
                     self.rows.remove(key);
                     self.index.swap_remove(&leaf);
                 }
@@ -132,8 +135,8 @@ impl Leaves {
 }
 
 /// Whether no thread holds anything by this row.
-fn is_idle(row: Row) -> bool
-    ensures { IsTrue result ↔ (row ≡ zeros) }
+fn is_idle(row: &Row) -> bool
+    ensures { IsTrue result ↔ (row.now ≡ zeros) }
 {
-    row == NOBODY
+    *row == NOBODY
 }

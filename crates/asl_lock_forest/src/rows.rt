@@ -1,5 +1,6 @@
 //! The rows of codes: what each thread holds at the root, at each class and at each leaf.
-ghost use Rattle.std.specs.Prelude.{◌≡◌, ◌≢◌, ℕ, ◌<◌, ◌+◌, true, false, length, All, IsTrue, IfOk};
+ghost use Rattle.std.specs.Prelude.{◌≡◌, ◌≢◌, ℕ, ◌<◌, ◌≤◌, ◌+◌, true, false, length, All, IsTrue, IfOk};
+ghost use Rattle.asl_mode_lanes.specs.declared.mode.Mode.TheVariants.{NL};
 ghost use Rattle.asl_mode_lanes.specs.Row.{IsCode, mode_at};
 ghost use Rattle.asl_lock_forest.specs.declared.node.Node.{Node};
 ghost use Rattle.asl_lock_forest.specs.Node.{IsThere};
@@ -12,6 +13,9 @@ use crate::Node;
 use crate::leaves::{Leaves, NOBODY, Row};
 use asl_mode_lanes::{Mode, conflicts};
 use std::alloc::{AllocError, Global};
+
+/// How many codes are read at a time.
+const LANES: usize = 16;
 
 /// A row of codes for each node, one code a thread.
 #[derive(Drop)]
@@ -84,27 +88,31 @@ impl Rows {
         Mode::of_code(row[thread as usize]).unwrap_or(Mode::NL)
     }
 
-    /// Whether no other thread keeps this one from the mode at the node.
-    pub fn is_free(&self, thread: u32, node: Node, want: Mode) -> bool
+    /// Whether no other thread keeps this one from the mode at the node, where only the first threads, so many, hold something.
+    pub fn is_free(&self, thread: u32, node: Node, want: Mode, threads: u32) -> bool
         requires kept { AreKept self.now }
         requires there { IsThere (length self.now.classes.items) node }
+        requires few { threads ≤ width }
+        requires nobody { (other : ℕ) → threads ≤ other → mode_at (row_of self.now node) other ≡ NL }
         ensures free { result ≡ true → IsFree self.now thread node want }
         ensures blocked { result ≡ false → Blocks self.now thread node want }
     {
         let row = self.row(node);
-        conflicts(row, thread as usize, want) == 0
+        conflicts(&row[..codes_read(threads)], thread as usize, want) == 0
     }
 
-    /// Whether no other thread keeps this one from anything that it asks.
-    pub fn can_grant(&self, thread: u32, request: &[(Node, Mode)]) -> bool
+    /// Whether no other thread keeps this one from anything that it asks, where only the first threads, so many, hold something.
+    pub fn can_grant(&self, thread: u32, request: &[(Node, Mode)], threads: u32) -> bool
         requires kept { AreKept self.now }
         requires there { IsOfClasses (length self.now.classes.items) request.now }
         requires distinct { IsTrue (names_once request.now) }
+        requires few { threads ≤ width }
+        requires nobody { (other : ℕ) (node : Node) → threads ≤ other → mode_at (row_of self.now node) other ≡ NL }
         ensures free { result ≡ true → All (λ ask. IsFree self.now thread ask.0 ask.1) request.now }
         ensures blocked { result ≡ false → (node : Node) × Blocks self.now thread node (asked request.now node) }
     {
         for ask in request {
-            if !self.is_free(thread, ask.0, ask.1) {
+            if !self.is_free(thread, ask.0, ask.1, threads) {
                 return false;
             }
         }
@@ -175,4 +183,13 @@ impl Rows {
             self.clear(thread, ask.0);
         }
     }
+}
+
+/// How many codes are read of a row where only the first threads, so many, hold something.
+fn codes_read(threads: u32) -> usize
+    requires { threads ≤ width }
+    ensures all { threads ≤ result }
+    ensures there { result ≤ width }
+{
+    (threads as usize).div_ceil(LANES) * LANES
 }

@@ -103,7 +103,9 @@ impl<'p> Machine<'p> {
         self.step_fully(alloc, t)
     }
 
-    /// Steps thread t by the whole table of instructions, the local ones among them. Memory may be wanted.
+    /// Steps thread t by the whole table of instructions, the local ones among them. Memory may be wanted. It stays a call of its
+    /// own, so that a local step keeps no more registers aside than it has use for.
+    #[inline(never)]
     fn step_fully(&mut self, alloc: Global, t: u32) -> Result<Reply, MachineFault>
         requires there { t < length self.old.state.threads }
         ensures step { IfOk result (λ reply. Step self.old.image self.old.state t reply self.new.state) }

@@ -16,7 +16,7 @@ returns-in_err-event c =
     rw (p.1, p.2) (kept_ends Event (event_at c.args.threads) c.in_err-event.field-0.0 (IsKept c.loop.events) c.args.count c.loop.counter c.loop.rest.now (items_at (event_at c.args.threads) c.args.count c.args.bytes.now) c.loop.invariant c.loop-test.true c.in_err-event.ensures)
 
 pub loop-preserved : goal.loop-preserved
-loop-preserved c = kept_more Event (event_at c.args.threads) (IsKept c.loop.events) (IsKept c.with_item-events.result) c.args.count c.loop.counter c.loop.rest.now c.in_ok-event.event c.in_ok-event.after.now (items_at (event_at c.args.threads) c.args.count c.args.bytes.now) c.loop.invariant c.loop-test.true c.in_ok-event.ensures c.with_item-events.ensures
+loop-preserved c = kept_more Event (event_at c.args.threads) (IsKept c.loop.events) (IsKept c.keep.new.events) c.args.count c.loop.counter c.loop.rest.now c.in_ok-event.event c.in_ok-event.after.now (items_at (event_at c.args.threads) c.args.count c.args.bytes.now) c.loop.invariant c.loop-test.true c.in_ok-event.ensures c.keep.ensures
 
 pub returns : goal.returns
 returns c = kept_all Event (event_at c.args.threads) (IsKept c.loop.events) c.args.count c.loop.counter c.loop.rest.now (items_at (event_at c.args.threads) c.args.count c.args.bytes.now) c.loop.invariant c.loop-test.false
