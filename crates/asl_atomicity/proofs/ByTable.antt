@@ -1,21 +1,22 @@
 -- Runs by the instruction table are the computed ones, so what the proofs say of these holds of those.
 use Rattle.std.proofs.Common.{◌≡◌, ◌≢◌, ℕ, ◌<◌, ◌==◌, ◌++◌, List, [], ◌∷◌, Option, Some, None, length, refl, ap, ap₂, sym, ◌∙◌, subst, inl, inr}
-use Rattle.std.specs.Prelude.{if◌then◌else◌, slice_get, All}
+use Rattle.std.specs.Prelude.{if◌then◌else◌, All}
 use Rattle.std.proofs.lemmas.Bool.{cases_lt}
-use Rattle.std.proofs.lemmas.Option.{slice_get_past, slice_get_within}
+use Rattle.std.proofs.lemmas.Option.{slice_get_past}
 use Rattle.std.proofs.lemmas.List.Elements.{All-nil, All-cons, All-head, All-tail}
 use Rattle.asl_code.specs.declared.image.Image.{Image}
 use Rattle.asl_code.specs.Fits.{FitsImage}
-use Rattle.asl_machine.specs.declared.reply.Reply.{Reply}
 use Rattle.asl_machine.specs.State.{State}
-use Rattle.asl_machine.specs.Run.{IsReached, start_of, state_after}
-use Rattle.asl_machine.specs.Step.{StepOf, Step}
+use Rattle.asl_machine.specs.Run.{IsReached, start_of}
+use Rattle.asl_machine.specs.ComputedRun.{state_after}
 use Rattle.asl_machine.specs.WellFormed.{SatisfiesInvariant}
 use Rattle.asl_machine.specs.StepFunction.{step_of, step_at}
 use Rattle.asl_machine.proofs.Reached.{step_count}
 use Rattle.asl_machine.proofs.Invariant.{start_sound, step_sound, length-first_threads}
 use Rattle.asl_machine.proofs.Table.{step_is}
 use Rattle.asl_machine.proofs.Unique.{step_only}
+use Rattle.asl_machine.proofs.Lines.{line_there}
+use Rattle.asl_machine.proofs.TableRuns.{reached_state, state_reached}
 use Rattle.asl_atomicity.specs.Serial as run
 use Rattle.asl_atomicity.specs.Serial.{TakenStep, IsRun, heard, Counts, IsOutside, MakesNoneInside}
 use Rattle.asl_atomicity.specs.Renamed as numbered
@@ -35,14 +36,6 @@ taken image s (t ∷ ts) = record { before = s; thread = t; reply = (step_of ima
 abbrev pub threads_of : List TakenStep → List ℕ
 threads_of [] = []
 threads_of (step ∷ steps) = step.thread ∷ threads_of steps
-
--- a step of the table is of a thread that is there
-step_there : (image : Image) (s : State) (t : ℕ) (r : Reply) (new : State) → Step image s t r new → t < length s.threads
-step_there image s t r new h =
-    elim (slice_get s.threads t) as (λ o. slice_get s.threads t ≡ o → StepOf image s t o r new → t < length s.threads) [
-      | None ↦ λ e k. absurd k
-      | Some thread ↦ λ e k. slice_get_within s.threads t thread e
-    ] refl h
 
 -- a step that counts is of a thread that is there
 counted_there : (image : Image) (s : State) (t : ℕ) → heard (step_of image s t).reply ≢ [] → t < length s.threads
@@ -78,15 +71,15 @@ record IsTaken (image : Image) (count : ℕ) (s : State) (steps : List TakenStep
   leads : end ≡ state_after image s (threads_of steps)
   there : All (λ t. t < count) (threads_of steps)
 
-run_taken : (image : Image) (count : ℕ) (steps : List TakenStep) (s : State) (end : State) → SatisfiesInvariant image s → length s.threads ≡ count → IsRun image s steps end → IsTaken image count s steps end
-run_taken image count [] s end sound n e = record { is = refl; leads = e; there = All-nil (λ t. t < count) }
-run_taken image count (step ∷ steps) s end sound n e =
-    let only = step_only image s step.thread sound step.reply e.1 e.2 in
-    let rest = run_taken image count steps (step_of image s step.thread).state end (step_sound image s step.thread sound) (step_count image s step.thread ∙ n) (subst (λ u. IsRun image u steps end) only.1 e.3) in
+run_taken : (image : Image) (count : ℕ) (steps : List TakenStep) (s : State) (end : State) → length s.threads ≡ count → IsRun image s steps end → IsTaken image count s steps end
+run_taken image count [] s end n e = record { is = refl; leads = e; there = All-nil (λ t. t < count) }
+run_taken image count (step ∷ steps) s end n e =
+    let only = step_only image s step.thread step.reply e.1 e.2 in
+    let rest = run_taken image count steps (step_of image s step.thread).state end (step_count image s step.thread ∙ n) (subst (λ u. IsRun image u steps end) only.1 e.3) in
     record {
       is = ap₂ {C = List TakenStep} (λ x xs. x ∷ xs) (ap₂ (λ b r. record { before = b; thread = step.thread; reply = r }) e.0 only.0) rest.is;
       leads = rest.leads;
-      there = All-cons (λ t. t < count) step.thread (threads_of steps) (subst (λ c. step.thread < c) n (step_there image s step.thread step.reply e.1 e.2)) rest.there;
+      there = All-cons (λ t. t < count) step.thread (threads_of steps) (subst (λ c. step.thread < c) n (line_there image s step.thread step.reply e.1 e.2)) rest.there;
     }
 
 -- ---- what is said of them
@@ -125,13 +118,13 @@ room_taken image (t ∷ ts) s m =
 
 pub end_reached : (image : Image) (count : ℕ) (steps : List TakenStep) (s : State) → FitsImage image → IsRun image (start_of image count) steps s → IsReached image count s
 end_reached image count steps s fits e =
-    let r = run_taken image count steps (start_of image count) s (start_sound image count fits) (length-first_threads image count) e in
-    record { schedule = threads_of steps; threads_there = r.there; leads = r.leads }
+    let r = run_taken image count steps (start_of image count) s (length-first_threads image count) e in
+    subst (IsReached image count) (sym r.leads) (state_reached image count (threads_of steps) fits r.there)
 
 guards_reached : (image : Image) (count : ℕ) → FitsImage image → run.IsGuarded image count → IsGuarded image count
 guards_reached image count fits g s t list a reached at granted =
     g (taken image (start_of image count) reached.schedule) s t list a
-    (subst (IsRun image (start_of image count) (taken image (start_of image count) reached.schedule)) (sym reached.leads) (taken_run image count reached.schedule (start_of image count) (start_sound image count fits) (length-first_threads image count) reached.threads_there))
+    (subst (IsRun image (start_of image count) (taken image (start_of image count) reached.schedule)) (sym (reached_state image count s reached)) (taken_run image count reached.schedule (start_of image count) (start_sound image count fits) (length-first_threads image count) reached.threads_there))
     at granted
 
 -- ---- the theorems
@@ -140,7 +133,7 @@ pub runs_serial : (image : Image) (count : ℕ) → FitsImage image → run.IsGu
 runs_serial image count fits guarded steps end e outside =
     let start = start_of image count in
     let sound = start_sound image count fits in
-    let r = run_taken image count steps start end sound (length-first_threads image count) e in
+    let r = run_taken image count steps start end (length-first_threads image count) e in
     let c = serial_runs image count fits (guards_reached image count fits guarded) (threads_of steps) r.there (outside_taken image (threads_of steps) start (subst (All (MakesNoneInside image)) r.is outside)) in
     record {
       serial = taken image start c.serial;
@@ -155,7 +148,7 @@ pub runs_serial_up_to : (image : Image) (count : ℕ) → FitsImage image → ru
 runs_serial_up_to image count fits guarded steps end e room =
     let start = start_of image count in
     let sound = start_sound image count fits in
-    let r = run_taken image count steps start end sound (length-first_threads image count) e in
+    let r = run_taken image count steps start end (length-first_threads image count) e in
     let c = serial_runs_up_to image count fits (guards_reached image count fits guarded) (threads_of steps) r.there (room_taken image (threads_of steps) start (subst (All numbered.FindsRoomInside) r.is room)) in
     record {
       serial = taken image start c.serial;

@@ -7,7 +7,8 @@ use Rattle.asl_machine.specs.declared.fault.Fault.TheVariants as fault
 use Rattle.asl_machine.specs.declared.reply.Reply.{Reply}
 use Rattle.asl_machine.specs.declared.reply.Reply.TheVariants as reply
 use Rattle.asl_machine.specs.State.{Activity, State, depth_at}
-use Rattle.asl_machine.specs.Run.{IsReached, start_of, state_after}
+use Rattle.asl_machine.specs.Run.{IsReached, start_of}
+use Rattle.asl_machine.specs.ComputedRun.{state_after}
 use Rattle.asl_machine.specs.Request.{request_of, locks_of}
 use Rattle.asl_machine.specs.StepFunction.{step_of}
 use Rattle.asl_atomicity.specs.Serial.{heard, is_outside, IsInside, ListCovered, IsAtEntry}

@@ -104,7 +104,7 @@ entries_unseen image count guarded s u t stands apart counts inside =
           let can = can_grant-tells h u r is in
           let lawful = lawful_grant h u r sound.lawful (outside_here image s u b (here_of image s u b sound runs) depth) (request_asks_modes o b.top.regs (locks_of image list)) (request_is_rooted o b.top.regs (locks_of image list)) can in
           ap (λ (w : Stepped). request_of w.state.objects b.top.regs (locks_of image list)) first
-          ∙ request_kept image s fr t u a b apart inside.runs runs (locks_of image list) (known b list runs at) p.on_objects lawful (guarded s u list b (is_reached image count s stands.1.0 stands.1.1) (record { runs = runs; at = at; depth = depth }) is) wp (grown b list runs at);
+          ∙ request_kept image s fr t u a b apart inside.runs runs (locks_of image list) (known b list runs at) p.on_objects lawful (guarded s u list b (is_reached image count s stands.1.0 sound.fits stands.1.1) (record { runs = runs; at = at; depth = depth }) is) wp (grown b list runs at);
       free = λ b list runs at depth.
           let r = request_of o b.top.regs (locks_of image list) in
           let is = granted image s u b list runs at depth counts in

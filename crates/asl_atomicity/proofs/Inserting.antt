@@ -11,7 +11,7 @@ use Rattle.asl_machine.specs.declared.fault.Fault.TheVariants as fault
 use Rattle.asl_machine.specs.declared.reply.Reply.{Reply}
 use Rattle.asl_machine.specs.declared.reply.Reply.TheVariants as reply
 use Rattle.asl_machine.specs.State.{Thread, Running, Done, Failed, Activity, State, depth_at}
-use Rattle.asl_machine.specs.Run.{state_after}
+use Rattle.asl_machine.specs.ComputedRun.{state_after}
 use Rattle.asl_machine.specs.StepFunction.{step_of, step_at}
 use Rattle.asl_machine.specs.WellFormed.{SatisfiesInvariant}
 use Rattle.asl_machine.proofs.Invariant.{here_of, instr_here, step_sound}

@@ -6,7 +6,8 @@ use Rattle.std.proofs.lemmas.Bool.Decides.{eqb_tells}
 use Rattle.asl_code.specs.declared.image.Image.{Image}
 use Rattle.asl_machine.specs.declared.reply.Reply.{Reply}
 use Rattle.asl_machine.specs.State.{Thread, Activity, State, activity_of, depth_at}
-use Rattle.asl_machine.specs.Run.{start_of, state_after}
+use Rattle.asl_machine.specs.Run.{start_of}
+use Rattle.asl_machine.specs.ComputedRun.{state_after}
 use Rattle.asl_machine.specs.StepFunction.{step_of, step_at}
 use Rattle.asl_machine.proofs.Lists.{get_other}
 use Rattle.asl_machine.proofs.Invariant.{step_sound}

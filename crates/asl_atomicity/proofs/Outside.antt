@@ -7,7 +7,7 @@ use Rattle.asl_code.specs.declared.image.Image.{Image}
 use Rattle.asl_machine.specs.declared.reply.Reply.{Reply}
 use Rattle.asl_machine.specs.declared.reply.Reply.TheVariants as reply
 use Rattle.asl_machine.specs.State.{Running, Activity, State, depth_at}
-use Rattle.asl_machine.specs.Run.{state_after}
+use Rattle.asl_machine.specs.ComputedRun.{state_after}
 use Rattle.asl_machine.specs.StepFunction.{step_of}
 use Rattle.asl_atomicity.specs.Serial.{heard, is_outside, IsInside}
 use Rattle.asl_atomicity.specs.Renamed.{reply_by}

@@ -1,14 +1,17 @@
 -- Steps of threads that are not there change nothing: what any schedule leads to, one of threads that are there does.
-use Rattle.std.proofs.Common.{◌≡◌, ℕ, ◌<◌, ◌≤◌, List, [], ◌∷◌, length, refl, ap, ◌∙◌, inl, inr, All, arith}
+use Rattle.std.proofs.Common.{◌≡◌, ℕ, ◌<◌, ◌≤◌, List, [], ◌∷◌, length, refl, ap, sym, ◌∙◌, subst, inl, inr, All, arith}
 use Rattle.std.proofs.lemmas.Bool.{cases_lt}
 use Rattle.std.proofs.lemmas.Option.{slice_get_past}
 use Rattle.std.proofs.lemmas.List.Elements.{All-nil, All-cons}
 use Rattle.asl_code.specs.declared.image.Image.{Image}
+use Rattle.asl_code.specs.Fits.{FitsImage}
 use Rattle.asl_machine.specs.State.{State}
-use Rattle.asl_machine.specs.Run.{IsReached, start_of, state_after}
+use Rattle.asl_machine.specs.Run.{IsReached, start_of}
+use Rattle.asl_machine.specs.ComputedRun.{state_after}
 use Rattle.asl_machine.specs.StepFunction.{step_of, step_at}
 use Rattle.asl_machine.specs.Fresh.{AreApart}
 use Rattle.asl_machine.proofs.Reached.{step_count}
+use Rattle.asl_machine.proofs.TableRuns.{state_reached}
 use Rattle.asl_machine.proofs.ReachedApart.{reached_apart}
 use Rattle.asl_machine.proofs.Invariant.{length-first_threads}
 use Rattle.asl_atomicity.proofs.Swapping.{Stands}
@@ -31,11 +34,11 @@ leads_on image count s (t ∷ ts) n =
       | inr past ↦ record { schedule = rest.schedule; there = rest.there; leads = rest.leads ∙ ap (λ z. state_after image z rest.schedule) (no_step image s t (omega (arith, past, n))) }
     ]
 
-pub is_reached : (image : Image) (count : ℕ) (s : State) (schedule : List ℕ) → s ≡ state_after image (start_of image count) schedule → IsReached image count s
-is_reached image count s schedule e =
+pub is_reached : (image : Image) (count : ℕ) (s : State) (schedule : List ℕ) → FitsImage image → s ≡ state_after image (start_of image count) schedule → IsReached image count s
+is_reached image count s schedule fits e =
     let l = leads_on image count (start_of image count) schedule (length-first_threads image count) in
-    record { schedule = l.schedule; threads_there = l.there; leads = e ∙ l.leads }
+    subst (IsReached image count) (sym (e ∙ l.leads)) (state_reached image count l.schedule fits l.there)
 
 -- fresh objects are apart in the states of runs
 pub run_apart : (image : Image) (count : ℕ) (s : State) → Stands image count s → AreApart image s
-run_apart image count s stands = reached_apart image count s stands.0.fits (is_reached image count s stands.1.0 stands.1.1)
+run_apart image count s stands = reached_apart image count s stands.0.fits (is_reached image count s stands.1.0 stands.0.fits stands.1.1)

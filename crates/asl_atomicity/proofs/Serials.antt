@@ -12,7 +12,8 @@ use Rattle.asl_code.specs.Fits.{FitsImage}
 use Rattle.asl_machine.specs.declared.reply.Reply.{Reply}
 use Rattle.asl_machine.specs.declared.reply.Reply.TheVariants as reply
 use Rattle.asl_machine.specs.State.{Thread, Running, Done, Failed, Activity, State, activity_of, depth_at}
-use Rattle.asl_machine.specs.Run.{first_thread, first_threads, start_of, state_after}
+use Rattle.asl_machine.specs.Run.{first_thread, first_threads, start_of}
+use Rattle.asl_machine.specs.ComputedRun.{state_after}
 use Rattle.asl_machine.specs.Step.{At, Line, StepOf}
 use Rattle.asl_machine.specs.StepFunction.{step_of}
 use Rattle.asl_machine.specs.WellFormed.{SatisfiesInvariant}

@@ -22,7 +22,8 @@ use Rattle.asl_machine.specs.State.{Object, Frame, Activity, Thread, Running, Do
 use Rattle.asl_machine.specs.Calls.{frame_count}
 use Rattle.asl_machine.specs.Cover.{Cover, cover}
 use Rattle.asl_machine.specs.Access.{Points}
-use Rattle.asl_machine.specs.Run.{first_thread, first_threads, start_of, state_after}
+use Rattle.asl_machine.specs.Run.{first_thread, first_threads, start_of}
+use Rattle.asl_machine.specs.ComputedRun.{state_after}
 use Rattle.asl_machine.specs.StepFunction.{Stepped, register_of, fate_of, computed, added, subtracted, compared, address_or_bounds, address_moved, allowed_cell, accessed, loaded, fate_returned, acquire_fate, left_by, left_at, reply_of, thread_after, turn_by, step_at, step_of}
 use Rattle.asl_machine.specs.WellFormed.{SatisfiesInvariant, IsPlaced}
 use Rattle.asl_machine.proofs.Lists.{get_either, one_more}

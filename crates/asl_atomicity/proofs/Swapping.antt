@@ -7,7 +7,8 @@ use Rattle.asl_machine.specs.State.{Activity, Running, State}
 use Rattle.asl_machine.specs.Request.{request_of, locks_of}
 use Rattle.asl_machine.specs.WellFormed.{SatisfiesInvariant}
 use Rattle.asl_machine.specs.StepFunction.{step_of}
-use Rattle.asl_machine.specs.Run.{start_of, state_after}
+use Rattle.asl_machine.specs.Run.{start_of}
+use Rattle.asl_machine.specs.ComputedRun.{state_after}
 use Rattle.asl_atomicity.specs.Serial.{heard, IsInside}
 
 -- every thread of a list is another one

@@ -10,7 +10,8 @@ use Rattle.asl_code.specs.Fits.{FitsImage}
 use Rattle.asl_machine.specs.declared.fault.Fault.TheVariants as fault
 use Rattle.asl_machine.specs.declared.reply.Reply.TheVariants as reply
 use Rattle.asl_machine.specs.State.{Thread, Running, Done, Failed, State, depth_at}
-use Rattle.asl_machine.specs.Run.{start_of, state_after}
+use Rattle.asl_machine.specs.Run.{start_of}
+use Rattle.asl_machine.specs.ComputedRun.{state_after}
 use Rattle.asl_machine.specs.StepFunction.{step_of}
 use Rattle.asl_machine.proofs.Invariant.{start_sound, length-first_threads}
 use Rattle.asl_atomicity.specs.Serial.{heard}

@@ -20,7 +20,7 @@ module _ (image : Image) (log : Log) (j : IsJournal image log.threads log.events
   leads_before k = leads_at image log.threads (take k log.events) (prefix_is_journal image log.threads k log.events j)
 
   pub is_before : (k : ℕ) (s : State) → IsStateAt image log k s → s ≡ state_before image log k
-  is_before k s leads = end_is image log.threads (take k log.events) s j.verified leads
+  is_before k s leads = end_is image log.threads (take k log.events) s leads
 
   pub wants_of : (k : ℕ) → MayWantMemoryBefore image log k → MayWantMemoryAt image log k
   wants_of k h =

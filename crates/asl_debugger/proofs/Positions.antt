@@ -1,18 +1,23 @@
 -- Positions of a journal, and runs between them.
 use Rattle.std.proofs.Common.{◌≡◌, ℕ, zero, suc, ◌+◌, ◌-◌, ◌<◌, ◌≤◌, List, [], ◌∷◌, ◌++◌, length, take, drop, get_or, Some, refl, ap, sym, subst, ◌∙◌, arith}
 use Rattle.std.proofs.lemmas.List.{take_more, take-append-drop, drop-take, length-take, length-drop, get_or-drop, get_or-take}
-use Rattle.std.proofs.lemmas.List.Elements.{All-take, All-map, All-get_or}
+use Rattle.std.proofs.lemmas.List.Elements.{All-get_or}
 use Rattle.std.proofs.lemmas.Option.{slice_get-get_or, slice_get_within, get_or_from_slice_get}
 use Rattle.asl_code.specs.declared.image.Image.{Image}
 use Rattle.asl_machine.specs.WellFormed.{MayWantMemory}
 use Rattle.asl_machine.specs.State.{State}
 use Rattle.asl_machine.specs.View.{Configuration}
 use Rattle.asl_machine.specs.Paused.{Rest}
-use Rattle.asl_machine.specs.Run.{start_of, state_after}
+use Rattle.asl_machine.specs.Run.{start_of}
+use Rattle.asl_machine.specs.ComputedRun.{state_after}
+use Rattle.asl_machine.specs.declared.reply.Reply.{Reply}
+use Rattle.asl_machine.specs.Step.{Step}
 use Rattle.asl_machine.specs.StepFunction.{step_of}
-use Rattle.asl_machine.proofs.Reached.{reached_count}
+use Rattle.asl_machine.proofs.Invariant.{length-first_threads}
+use Rattle.asl_machine.proofs.Runs.{count_after}
+use Rattle.asl_machine.proofs.Unique.{step_only}
 use Rattle.asl_journal.specs.declared.event.Event.{Event}
-use Rattle.asl_journal.specs.Journal.{Log, IsLog, AreThere, IsJournal, schedule_of}
+use Rattle.asl_journal.specs.Journal.{Log, IsLog, IsJournal, schedule_of}
 use Rattle.asl_journal.specs.Computed.{GoesBy}
 use Rattle.asl_journal.proofs.ByTable.{goes_of}
 use Rattle.asl_journal.proofs.Replays.{DiffersBy}
@@ -23,13 +28,8 @@ use Rattle.asl_debugger.specs.declared.trail.Mark.{Mark}
 use Rattle.asl_debugger.specs.Checkpoints.{IsDebuggerState, AreMarks}
 
 -- a state of a run has the threads of its start
-pub count_at : (image : Image) (log : Log) (k : ℕ) → AreThere log.threads log.events → length (state_before image log k).threads ≡ log.threads
-count_at image log k there =
-    reached_count image log.threads (state_before image log k) (record {
-      schedule = schedule_of (take k log.events);
-      threads_there = All-map (λ (t : ℕ). t < log.threads) (λ (e : Event). e.thread) (take k log.events) (All-take (λ (e : Event). e.thread < log.threads) k log.events there);
-      leads = refl;
-    })
+pub count_at : (image : Image) (log : Log) (k : ℕ) → length (state_before image log k).threads ≡ log.threads
+count_at image log k = count_after image (schedule_of (take k log.events)) (start_of image log.threads) ∙ length-first_threads image log.threads
 
 pub take_of_take : (i n : ℕ) (es : List Event) → i ≤ n → take i (take n es) ≡ take i es
 take_of_take zero n es le = refl
@@ -93,31 +93,31 @@ pub is_at : (machine : Configuration) (image : Image) (s : State) → machine.im
 is_at machine image s p q = rw (← p, ← q) refl
 
 -- the machine after the event at a position is the one at the next
-pub made : (log : Log) (machine new : Configuration) (position : ℕ) (d : Event) (t : ℕ) → position < length log.events → machine.state ≡ state_before machine.image log position → t ≡ (get_or log.events position d).thread
-    → new.image ≡ machine.image → new.state ≡ (step_of machine.image machine.state t).state → new ≡ machine_before machine.image log (position + 1)
-made log machine new position d t lt at thread image state =
+pub made : (log : Log) (machine new : Configuration) (position : ℕ) (d : Event) (t : ℕ) (reply : Reply) → position < length log.events → machine.state ≡ state_before machine.image log position → t ≡ (get_or log.events position d).thread
+    → new.image ≡ machine.image → Step machine.image machine.state t reply new.state → new ≡ machine_before machine.image log (position + 1)
+made log machine new position d t reply lt at thread image step =
     let more : take (position + 1) log.events ≡ take position log.events ++ get_or log.events position d ∷ [] = take_more log.events position d lt in
     let s0 = start_of machine.image log.threads in
     let here : (step_of machine.image machine.state t).state ≡ (step_of machine.image (state_before machine.image log position) (get_or log.events position d).thread).state =
     ap (λ (s : State). (step_of machine.image s t).state) at ∙ ap (λ (u : ℕ). (step_of machine.image (state_before machine.image log position) u).state) thread in
     let next : state_before machine.image log (position + 1) ≡ (step_of machine.image (state_before machine.image log position) (get_or log.events position d).thread).state =
     ap (λ (es : List Event). state_after machine.image s0 (schedule_of es)) more ∙ state_snoc machine.image s0 (take position log.events) (get_or log.events position d) in
-    is_at new machine.image (state_before machine.image log (position + 1)) image (state ∙ here ∙ sym next)
+    is_at new machine.image (state_before machine.image log (position + 1)) image ((step_only machine.image machine.state t reply new.state step).1 ∙ here ∙ sym next)
 
 -- the threads of events are those of the machine at a position
 pub thread_there : (image : Image) (log : Log) (k : ℕ) (machine : Configuration) → machine ≡ machine_before image log k → IsLog log → (i : ℕ) (d : Event) → i < length log.events → (get_or log.events i d).thread < length machine.state.threads
 thread_there image log k machine at is i d lt =
-    let count : length machine.state.threads ≡ log.threads = ap (λ (m : Configuration). length m.state.threads) at ∙ count_at image log k is.there in
+    let count : length machine.state.threads ≡ log.threads = ap (λ (m : Configuration). length m.state.threads) at ∙ count_at image log k in
     rw count (All-get_or (λ (e : Event). e.thread < log.threads) log.events i d lt is.there)
 
-pub threads_of : (image : Image) (log : Log) (k : ℕ) (s : State) → s ≡ state_before image log k → IsLog log → length s.threads ≡ log.threads
-threads_of image log k s at is = ap (λ (u : State). length u.threads) at ∙ count_at image log k is.there
+pub threads_of : (image : Image) (log : Log) (k : ℕ) (s : State) → s ≡ state_before image log k → length s.threads ≡ log.threads
+threads_of image log k s at = ap (λ (u : State). length u.threads) at ∙ count_at image log k
 
 -- the thread of the event at a position is there in the state there, and where its step may need memory, so may the
 -- event's
 module _ (machine : Configuration) (log : Log) (k : ℕ) (d : Event) (t : ℕ) (lt : k < length log.events) (at : machine.state ≡ state_before machine.image log k) where
   pub there_at : IsLog log → t ≡ (get_or log.events k d).thread → t < length machine.state.threads
-  there_at is thread = rw (thread, threads_of machine.image log k machine.state at is) (All-get_or (λ (e : Event). e.thread < log.threads) log.events k d lt is.there)
+  there_at is thread = rw (thread, threads_of machine.image log k machine.state at) (All-get_or (λ (e : Event). e.thread < log.threads) log.events k d lt is.there)
 
   pub wants_at : t ≡ (get_or log.events k d).thread → MayWantMemory machine.image machine.state t → MayWantMemoryBefore machine.image log k
   wants_at thread wants = rw (slice_get-get_or log.events k d lt, ← thread, ← at) wants

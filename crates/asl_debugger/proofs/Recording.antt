@@ -6,21 +6,18 @@ use Rattle.std.proofs.lemmas.List.{take_all, take-take, take-append-le, length-t
 use Rattle.std.proofs.lemmas.List.Elements.{All-push, All-take, All-weaker, All-contains, All-contains_itself}
 use Rattle.std.proofs.lemmas.Option.{slice_get_within}
 use Rattle.asl_code.specs.declared.image.Image.{Image}
-use Rattle.asl_code.proofs.FitsLaws.{image_fits}
 use Rattle.asl_machine.specs.declared.reply.Reply.{Reply}
 use Rattle.asl_machine.specs.State.{State}
 use Rattle.asl_machine.specs.View.{Configuration}
 use Rattle.asl_machine.specs.Paused.{Rest, IsRestOf}
-use Rattle.asl_machine.specs.Run.{start_of, state_after}
+use Rattle.asl_machine.specs.Run.{start_of}
+use Rattle.asl_machine.specs.ComputedRun.{state_after}
 use Rattle.asl_machine.specs.Step.{Step}
 use Rattle.asl_machine.specs.StepFunction.{step_of}
-use Rattle.asl_machine.specs.WellFormed.{SatisfiesInvariant}
-use Rattle.asl_machine.proofs.Invariant.{start_sound}
 use Rattle.asl_machine.proofs.Unique.{step_only}
 use Rattle.asl_journal.specs.declared.event.Event.{Event}
 use Rattle.asl_journal.specs.Journal.{Log, IsLog, IsJournal, most_events, schedule_of, with_event}
 use Rattle.asl_journal.proofs.ByTable.{goes_of, journal_of}
-use Rattle.asl_journal.proofs.Replays.{run_sound}
 use Rattle.asl_journal.proofs.Runs.{state_snoc, goes_snoc, prefix_is_journal}
 use Rattle.asl_debugger.specs.Computed.{state_before, machine_before}
 use Rattle.asl_debugger.specs.Session.{IsStateAt, IsStepBetween}
@@ -59,18 +56,12 @@ module _ (image : Image) (log : Log) (spacing position : ℕ) (checkpoints : Lis
   of_image : machine.image ≡ image
   of_image = ap (λ (m : Configuration). m.image) kept.shown
 
-  -- the step is the computed one, since the state is a journal's
-  sound : SatisfiesInvariant machine.image machine.state
-  sound =
-      let at_start = start_sound image log.threads (image_fits image kept.journal.verified) in
-      subst (λ (i : Image). SatisfiesInvariant i machine.state) (sym of_image)
-      (subst (SatisfiesInvariant image) (sym at_end) (run_sound image (schedule_of log.events) (start_of image log.threads) at_start))
-
+  -- the step is the computed one
   said : reply ≡ (step_of machine.image machine.state t).reply
-  said = (step_only machine.image machine.state t sound reply new.state step).0
+  said = (step_only machine.image machine.state t reply new.state step).0
 
   steps : new.state ≡ (step_of machine.image machine.state t).state
-  steps = (step_only machine.image machine.state t sound reply new.state step).1
+  steps = (step_only machine.image machine.state t reply new.state step).1
 
   is_log : IsLog more
   is_log = record { count = kept.is_log.count; short = omega (arith, one_more); there = All-push (λ (e : Event). e.thread < log.threads) log.events event kept.is_log.there there }
@@ -150,10 +141,11 @@ module _ (image : Image) (log : Log) (spacing position : ℕ) (checkpoints : Lis
       let other : position + 1 < length checkpoints * spacing = elim (cases_lt (position + 1) (length checkpoints * spacing)) [ inl lt ↦ lt | inr le ↦ absurd (none_due (omega (arith, enough, end, le))) ] in
       moved_to checkpoints (kept_by checkpoints each (omega (arith, one_more, end, other)) (omega (arith, one_more, none_past)))
 
-  -- a checkpoint is due after it, and this is left of the machine there
-  pub kept_with : (rest : Rest) → position + 1 ≡ length checkpoints * spacing → IsRestOf machine.image rest → rest.state ≡ (step_of machine.image machine.state t).state
+  -- a checkpoint is due after it, and this is left of a machine that made the step ahead
+  pub kept_with : (rest : Rest) → position + 1 ≡ length checkpoints * spacing → IsRestOf machine.image rest → (answer : Reply) × Step machine.image machine.state t answer rest.state
       → IsDebuggerState new.image more spacing (checkpoints ++ rest ∷ []) marks new (position + 1)
-  kept_with rest due fits state =
+  kept_with rest due fits ahead =
+      let state = (step_only machine.image machine.state t ahead.0 rest.state ahead.1).1 in
       let mark : IsMark image more (position + 1) rest = record { fits = subst (λ (i : Image). IsRestOf i rest) of_image fits; state = state ∙ sym state_behind } in
       let size = longer spacing checkpoints rest in
       let some = kept.spaced in

@@ -50,8 +50,6 @@ pub fn machine_between<'p>(
         → IfErr result (λ fault. fault ≡ DebugFault.OutOfMemory) }
 {
     let events = journal.events();
-    // Its program is verified, and its state is reached.
-    from.threads();
     match run_on(alloc, from, &events[start..end]) {
         Ok(machine) => Ok(machine),
         Err(JournalFault::Differs(index)) => Err(DebugFault::Differs(start as u32 + index)),

@@ -6,12 +6,13 @@ use Rattle.asl_code.specs.Verified.{IsVerified}
 use Rattle.asl_code.proofs.FitsLaws.{image_fits}
 use Rattle.asl_machine.specs.declared.reply.Reply.{Reply}
 use Rattle.asl_machine.specs.State.{State}
-use Rattle.asl_machine.specs.Run.{IsThreadCount, IsReached, start_of, state_after, RunsBy}
+use Rattle.asl_machine.specs.Run.{IsThreadCount, IsReached, start_of, RunsBy}
+use Rattle.asl_machine.specs.ComputedRun.{state_after}
 use Rattle.asl_machine.specs.Step.{Step}
 use Rattle.asl_machine.specs.WellFormed.{SatisfiesInvariant}
 use Rattle.asl_machine.proofs.Invariant.{start_sound, length-first_threads}
 use Rattle.asl_machine.proofs.Reached.{reached_sound, reached_count}
-use Rattle.asl_machine.proofs.TableRuns.{run_is, run_only}
+use Rattle.asl_machine.proofs.TableRuns.{run_is, run_only, one_run, state_reached}
 use Rattle.asl_journal.specs.declared.event.Event.{Event}
 use Rattle.asl_journal.specs.Journal.{AreThere, LeadsFrom, LeadsTo, IsJournal, schedule_of, replies_in}
 use Rattle.asl_journal.specs.Computed.{GoesBy, state_at}
@@ -37,39 +38,35 @@ runs_append image s u end (e ∷ es) others here there = (here.0, here.1, runs_a
 
 -- ---- by the computed step
 
--- events that lead from a sound state to another have the computed replies, and lead to the computed state
-pub run_computed : (image : Image) (s end : State) (events : List Event) → SatisfiesInvariant image s → LeadsFrom image s events end → GoesBy image s events × (end ≡ state_after image s (schedule_of events))
-run_computed image s end events sound leads = run_only image (schedule_of events) s sound (replies_in events) end leads
+-- events that lead from a state to another have the computed replies, and lead to the computed state
+pub run_computed : (image : Image) (s end : State) (events : List Event) → LeadsFrom image s events end → GoesBy image s events × (end ≡ state_after image s (schedule_of events))
+run_computed image s end events leads = run_only image (schedule_of events) s (replies_in events) end leads
 
--- and events of threads that are there with the computed replies lead there
+-- so they lead to one state at the most
+pub one_end : (image : Image) (s end other : State) (events : List Event) → LeadsFrom image s events end → LeadsFrom image s events other → end ≡ other
+one_end image s end other events one two = (one_run image s end other (schedule_of events) (replies_in events) (replies_in events) one two).1
+
+-- and from a sound state events of threads that are there with the computed replies lead there
 pub run_leads : (image : Image) (count : ℕ) (s : State) (events : List Event) → SatisfiesInvariant image s → length s.threads ≡ count → AreThere count events → GoesBy image s events → LeadsFrom image s events (state_after image s (schedule_of events))
 run_leads image count s events sound threads there goes =
     let steps = All-map (λ (t : ℕ). t < count) (λ (event : Event). event.thread) events there in
     subst (λ (replies : List Reply). RunsBy image s (schedule_of events) replies (state_after image s (schedule_of events))) (sym goes) (run_is image count (schedule_of events) s sound threads steps)
 
 -- each reached state is sound, so this holds of it
-pub reached_computed : (image : Image) (count : ℕ) (s end : State) (events : List Event) → IsVerified image → IsReached image count s → LeadsFrom image s events end → GoesBy image s events × (end ≡ state_after image s (schedule_of events))
-reached_computed image count s end events v reached leads = run_computed image s end events (reached_sound image count s (image_fits image v) reached) leads
-
 pub reached_leads : (image : Image) (count : ℕ) (s : State) (events : List Event) → IsVerified image → IsReached image count s → AreThere count events → GoesBy image s events → LeadsFrom image s events (state_after image s (schedule_of events))
 reached_leads image count s events v reached there goes =
     run_leads image count s events (reached_sound image count s (image_fits image v) reached) (reached_count image count s reached) there goes
 
--- the replies of events that lead to a state are the computed ones
-pub lead_goes : (image : Image) (count : ℕ) (events : List Event) (state : State) → IsVerified image → LeadsTo image count events state → GoesBy image (start_of image count) events
-lead_goes image count events state v leads =
-    (run_computed image (start_of image count) state events (start_sound image count (image_fits image v)) leads.runs).0
-
+-- the replies of a journal are the computed ones
 pub goes_of : (image : Image) (count : ℕ) (events : List Event) → IsJournal image count events → GoesBy image (start_of image count) events
-goes_of image count events j = lead_goes image count events j.end j.verified j.leads
+goes_of image count events j = (run_computed image (start_of image count) j.end events j.leads.runs).0
 
 -- and where they lead is the computed state
-pub end_is : (image : Image) (count : ℕ) (events : List Event) (state : State) → IsVerified image → LeadsTo image count events state → state ≡ state_at image count events
-end_is image count events state v leads =
-    (run_computed image (start_of image count) state events (start_sound image count (image_fits image v)) leads.runs).1
+pub end_is : (image : Image) (count : ℕ) (events : List Event) (state : State) → LeadsTo image count events state → state ≡ state_at image count events
+end_is image count events state leads = (run_computed image (start_of image count) state events leads.runs).1
 
 pub leads_at : (image : Image) (count : ℕ) (events : List Event) → IsJournal image count events → LeadsTo image count events (state_at image count events)
-leads_at image count events j = subst (LeadsTo image count events) (end_is image count events j.end j.verified j.leads) j.leads
+leads_at image count events j = subst (LeadsTo image count events) (end_is image count events j.end j.leads) j.leads
 
 -- the computed run of a schedule of threads that are there goes by the table
 pub leads_of : (image : Image) (count : ℕ) (events : List Event) → IsVerified image → IsThreadCount image count → AreThere count events → GoesBy image (start_of image count) events →
@@ -83,12 +80,14 @@ pub journal_of : (image : Image) (count : ℕ) (events : List Event) → IsVerif
 journal_of image count events v counted there goes = record { verified = v; there = there; end = state_at image count events; leads = leads_of image count events v counted there goes }
 
 -- the computed state after a schedule of threads that are there is reached
-pub schedule_reached : (image : Image) (count : ℕ) (events : List Event) → AreThere count events → IsReached image count (state_at image count events)
-schedule_reached image count events there = record {
-  schedule = schedule_of events;
-  threads_there = All-map (λ (t : ℕ). t < count) (λ (event : Event). event.thread) events there;
-  leads = refl;
-}
+pub schedule_reached : (image : Image) (count : ℕ) (events : List Event) → IsVerified image → AreThere count events → IsReached image count (state_at image count events)
+schedule_reached image count events v there = state_reached image count (schedule_of events) (image_fits image v) (All-map (λ (t : ℕ). t < count) (λ (event : Event). event.thread) events there)
 
+-- and so is where a journal leads
 pub lead_reached : (image : Image) (count : ℕ) (events : List Event) (state : State) → IsJournal image count events → LeadsTo image count events state → IsReached image count state
-lead_reached image count events state j leads = subst (IsReached image count) (sym (end_is image count events state j.verified leads)) (schedule_reached image count events j.there)
+lead_reached image count events state j leads = record {
+  schedule = schedule_of events;
+  replies = replies_in events;
+  threads_there = All-map (λ (t : ℕ). t < count) (λ (event : Event). event.thread) events j.there;
+  leads = leads.runs;
+}

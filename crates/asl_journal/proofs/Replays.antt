@@ -12,11 +12,11 @@ use Rattle.asl_code.proofs.FitsLaws.{image_fits}
 use Rattle.asl_machine.specs.declared.reply.Reply.{Reply}
 use Rattle.asl_machine.specs.State.{State}
 use Rattle.asl_machine.specs.View.{Configuration}
-use Rattle.asl_machine.specs.Run.{IsThreadCount, start_of, state_after}
+use Rattle.asl_machine.specs.Run.{IsThreadCount, start_of}
+use Rattle.asl_machine.specs.ComputedRun.{state_after}
 use Rattle.asl_machine.specs.StepFunction.{step_of}
-use Rattle.asl_machine.specs.WellFormed.{MayWantMemory, SatisfiesInvariant}
+use Rattle.asl_machine.specs.WellFormed.{MayWantMemory}
 use Rattle.asl_machine.specs.Step.{Step}
-use Rattle.asl_machine.proofs.Invariant.{start_sound, step_sound}
 use Rattle.asl_machine.proofs.Reached.{reached_sound, reached_count}
 use Rattle.asl_machine.proofs.Table.{step_is}
 use Rattle.asl_machine.proofs.Unique.{step_only}
@@ -92,17 +92,12 @@ pub record DiffersBy (image : Image) (s : State) (events : List Event) (index : 
   pub before : GoesBy image s (take index events)
   pub differs : event.reply ≢ (step_of image (state_after image s (schedule_of (take index events))) event.thread).reply
 
-pub run_sound : (image : Image) (schedule : List ℕ) (s : State) → SatisfiesInvariant image s → SatisfiesInvariant image (state_after image s schedule)
-run_sound image [] s sound = sound
-run_sound image (t ∷ ts) s sound = run_sound image ts (step_of image s t).state (step_sound image s t sound)
-
--- from a sound state on, the first event that differs by the table is the first that differs from the computed run
-pub differs_computed : (image : Image) (s : State) (events : List Event) (index : ℕ) → SatisfiesInvariant image s → DiffersFrom image s events index → DiffersBy image s events index
-differs_computed image s events index sound d =
-    let first = run_computed image s d.state (take index events) sound d.before in
-    let there = run_sound image (schedule_of (take index events)) s sound in
+-- the first event that differs by the table is the first that differs from the computed run
+pub differs_computed : (image : Image) (s : State) (events : List Event) (index : ℕ) → DiffersFrom image s events index → DiffersBy image s events index
+differs_computed image s events index d =
+    let first = run_computed image s d.state (take index events) d.before in
     let step = subst (λ (u : State). Step image u d.event.thread d.reply d.new) first.1 d.step in
-    let only = step_only image (state_after image s (schedule_of (take index events))) d.event.thread there d.reply d.new step in
+    let only = step_only image (state_after image s (schedule_of (take index events))) d.event.thread d.reply d.new step in
     record {
       event = d.event;
       at = d.at;
@@ -120,25 +115,25 @@ none_from image s events index goes d =
     d.differs (goes_head image (state_after image s (schedule_of (take index events))) d.event (drop (suc index) events) (subst (GoesBy image (state_after image s (schedule_of (take index events)))) front rest))
 
 -- what stops a replay of events that lead somewhere is lack of memory
-pub only_memory : {T : Type 0} (image : Image) (s end : State) (events : List Event) (r : Result T JournalFault) → SatisfiesInvariant image s → LeadsFrom image s events end → IfErr r (IsFollowFault image s events)
+pub only_memory : {T : Type 0} (image : Image) (s end : State) (events : List Event) (r : Result T JournalFault) → LeadsFrom image s events end → IfErr r (IsFollowFault image s events)
     → IfErr r (λ fault. fault ≡ faults.OutOfMemory)
-only_memory image s end events (Ok t) sound leads is = tt
-only_memory image s end events (Err faults.JournalFull) sound leads is = absurd is
-only_memory image s end events (Err faults.BadCount) sound leads is = absurd is
-only_memory image s end events (Err faults.BadThread) sound leads is = absurd is
-only_memory image s end events (Err (faults.Differs index)) sound leads is =
-    absurd (none_from image s events index (run_computed image s end events sound leads).0 (differs_computed image s events index sound is))
-only_memory image s end events (Err faults.Magic) sound leads is = absurd is
-only_memory image s end events (Err faults.Version) sound leads is = absurd is
-only_memory image s end events (Err (faults.Truncated at)) sound leads is = absurd is
-only_memory image s end events (Err (faults.BadField at)) sound leads is = absurd is
-only_memory image s end events (Err (faults.Trailing at)) sound leads is = absurd is
-only_memory image s end events (Err faults.OutOfMemory) sound leads is = refl
+only_memory image s end events (Ok t) leads is = tt
+only_memory image s end events (Err faults.JournalFull) leads is = absurd is
+only_memory image s end events (Err faults.BadCount) leads is = absurd is
+only_memory image s end events (Err faults.BadThread) leads is = absurd is
+only_memory image s end events (Err (faults.Differs index)) leads is =
+    absurd (none_from image s events index (run_computed image s end events leads).0 (differs_computed image s events index is))
+only_memory image s end events (Err faults.Magic) leads is = absurd is
+only_memory image s end events (Err faults.Version) leads is = absurd is
+only_memory image s end events (Err (faults.Truncated at)) leads is = absurd is
+only_memory image s end events (Err (faults.BadField at)) leads is = absurd is
+only_memory image s end events (Err (faults.Trailing at)) leads is = absurd is
+only_memory image s end events (Err faults.OutOfMemory) leads is = refl
 
 -- the same, where the machine is said to be at this state of this program
 pub only_memory_at : {T : Type 0} (machine : Configuration) (events : List Event) (image : Image) (s end : State) (others : List Event) (r : Result T JournalFault) → machine.image ≡ image → machine.state ≡ s → events ≡ others
-    → SatisfiesInvariant image s → LeadsFrom image s others end → IfErr r (IsFollowFault machine.image machine.state events) → IfErr r (λ fault. fault ≡ faults.OutOfMemory)
-only_memory_at machine events image s end others r p q e sound leads is = only_memory machine.image machine.state end events r (rw (p, q) sound) (rw (p, q, e) leads) is
+    → LeadsFrom image s others end → IfErr r (IsFollowFault machine.image machine.state events) → IfErr r (λ fault. fault ≡ faults.OutOfMemory)
+only_memory_at machine events image s end others r p q e leads is = only_memory machine.image machine.state end events r (rw (p, q, e) leads) is
 
 -- no earlier event differs than the first that does
 earlier : (image : Image) (s : State) (events : List Event) (index later : ℕ) → index < later → DiffersBy image s events index → DiffersBy image s events later → ⊥
@@ -182,7 +177,7 @@ pub differs_of : (image : Image) (count : ℕ) (events : List Event) (index : �
 differs_of image count events index v counted there d =
     let first = All-take (λ (e : Event). e.thread < count) index events there in
     let state = state_at image count (take index events) in
-    let reached = schedule_reached image count (take index events) first in
+    let reached = schedule_reached image count (take index events) v first in
     let sound = reached_sound image count state (image_fits image v) reached in
     let here : d.event.thread < length state.threads = subst (λ (n : ℕ). d.event.thread < n) (sym (reached_count image count state reached)) (event_there count events index d.event there d.at) in
     record {
@@ -200,7 +195,7 @@ differs_of image count events index v counted there d =
 -- and the other way round
 differs_from : (image : Image) (count : ℕ) (events : List Event) (index : ℕ) → DiffersAt image count events index → DiffersBy image (start_of image count) events index
 differs_from image count events index d =
-    differs_computed image (start_of image count) events index (start_sound image count (image_fits image d.verified))
+    differs_computed image (start_of image count) events index
     (record { event = d.event; at = d.at; state = d.state; before = d.before.runs; reply = d.reply; new = d.new; step = d.step; differs = d.differs })
 
 -- no event of a journal differs

@@ -5,7 +5,8 @@ use Rattle.std.proofs.lemmas.List.Elements.{All-take}
 use Rattle.asl_code.specs.declared.image.Image.{Image}
 use Rattle.asl_machine.specs.declared.reply.Reply.{Reply}
 use Rattle.asl_machine.specs.State.{State}
-use Rattle.asl_machine.specs.Run.{start_of, state_after}
+use Rattle.asl_machine.specs.Run.{start_of}
+use Rattle.asl_machine.specs.ComputedRun.{state_after}
 use Rattle.asl_machine.specs.StepFunction.{step_of}
 use Rattle.asl_machine.proofs.Runs.{state_after-append}
 use Rattle.asl_journal.specs.declared.event.Event.{Event}

@@ -56,8 +56,6 @@ pub fn follow<'p>(
     ensures only { (end : State) → LeadsFrom from.now.image from.now.state events.now end
         → IfErr result (λ fault. fault ≡ JournalFault.OutOfMemory) }
 {
-    // Its program is verified, and its state is reached.
-    from.threads();
     let machine = from.try_copy(alloc)?;
     run_on(alloc, machine, events)
 }

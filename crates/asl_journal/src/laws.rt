@@ -3,7 +3,8 @@ ghost use Rattle.std.specs.Prelude.{◌≡◌, ◌++◌, ℕ, List, take};
 ghost use Rattle.asl_code.specs.declared.image.Image.{Image};
 ghost use Rattle.asl_code.specs.Verified.{IsVerified};
 ghost use Rattle.asl_machine.specs.State.{State};
-ghost use Rattle.asl_machine.specs.Run.{IsThreadCount, IsReached, start_of, state_after};
+ghost use Rattle.asl_machine.specs.Run.{IsThreadCount, IsReached, start_of};
+ghost use Rattle.asl_machine.specs.ComputedRun.{state_after};
 ghost use Rattle.asl_journal.specs.declared.event.Event.{Event};
 ghost use Rattle.asl_journal.specs.Bytes.{LogOfSpellingIsOne, SpellingOfLogIsOne};
 ghost use Rattle.asl_journal.specs.Faults.{BytesHaveAnOutcome, OutcomeIsOne};
@@ -36,20 +37,26 @@ pub fn run_files_have_one_outcome()
     ensures one { FileOutcomeIsOne }
 {}
 
-/// The replies of a journal, which goes by the instruction table, are the computed ones of its schedule, and it leads to the
-/// computed state, and to no other. Events of threads that are there whose replies are the computed ones are a journal. The state
-/// where a journal leads is reached. The same holds of events from any reached state on.
+/// Events lead from a state to one state at the most. The state where a journal leads is reached.
+pub fn events_lead_to_one_state()
+    ensures one { (image : Image) (s end other : State) (events : List Event) → LeadsFrom image s events end
+        → LeadsFrom image s events other → end ≡ other }
+    ensures reached { (image : Image) (count : ℕ) (events : List Event) (state : State) → IsJournal image count events
+        → LeadsTo image count events state → IsReached image count state }
+{}
+
+/// Journals, which go by the instruction table, and the computed step: the replies of a journal are the computed ones of its schedule,
+/// and it leads to the computed state, and to no other. Events of threads that are there whose replies are the computed ones are a
+/// journal. The same holds of events from any reached state on, and what holds of events that lead somewhere holds in any state.
 pub fn journals_are_computed()
     ensures computed { (image : Image) (count : ℕ) (events : List Event) → IsJournal image count events
         → GoesBy image (start_of image count) events × LeadsTo image count events (state_at image count events) }
-    ensures one { (image : Image) (count : ℕ) (events : List Event) (state : State) → IsJournal image count events
-        → LeadsTo image count events state → state ≡ state_at image count events }
+    ensures one { (image : Image) (count : ℕ) (events : List Event) (state : State) → LeadsTo image count events state
+        → state ≡ state_at image count events }
     ensures only { (image : Image) (count : ℕ) (events : List Event) → IsVerified image → IsThreadCount image count
         → AreThere count events → GoesBy image (start_of image count) events → IsJournal image count events }
-    ensures reached { (image : Image) (count : ℕ) (events : List Event) (state : State) → IsJournal image count events
-        → LeadsTo image count events state → IsReached image count state }
-    ensures from { (image : Image) (count : ℕ) (s end : State) (events : List Event) → IsVerified image → IsReached image count s
-        → LeadsFrom image s events end → GoesBy image s events × (end ≡ state_after image s (schedule_of events)) }
+    ensures from { (image : Image) (s end : State) (events : List Event) → LeadsFrom image s events end
+        → GoesBy image s events × (end ≡ state_after image s (schedule_of events)) }
     ensures onwards { (image : Image) (count : ℕ) (s : State) (events : List Event) → IsVerified image → IsReached image count s
         → AreThere count events → GoesBy image s events → LeadsFrom image s events (state_after image s (schedule_of events)) }
 {}

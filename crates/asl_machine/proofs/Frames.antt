@@ -1,5 +1,5 @@
 -- The frames of a thread, which the code keeps with the nearest one last.
-use Rattle.std.proofs.Common.{◌≡◌, ℕ, zero, suc, ◌+◌, ◌-◌, ◌<◌, ◌≤◌, ◌++◌, List, [], ◌∷◌, Option, None, Some, length, take, set, get_or, slice_get, reverse, replicate, ap, sym, subst, ◌∙◌, arith}
+use Rattle.std.proofs.Common.{◌≡◌, ℕ, zero, suc, ◌+◌, ◌-◌, ◌<◌, ◌≤◌, ◌++◌, List, [], ◌∷◌, None, Some, length, take, set, get_or, slice_get, reverse, replicate, ap, sym, subst, ◌∙◌, arith}
 use Rattle.std.proofs.lemmas.Option.{slice_get-get_or, slice_get_past}
 use Rattle.std.proofs.lemmas.List.{get_or-reverse, get_or-take, length-reverse, length-take-le, reverse-append, append_assoc, replicate_more, length-set, take-set, take_more_set, take-append-le}
 use Rattle.asl_code.specs.declared.value.Value.{Value}

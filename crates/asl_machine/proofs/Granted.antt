@@ -13,7 +13,6 @@ use Rattle.asl_lock_forest.specs.declared.node.Node.{Node}
 use Rattle.asl_lock_forest.specs.Holding.{Holding, Request, CanGrant, asked, can_grant}
 use Rattle.asl_lock_forest.specs.Request.{IsRefusedRequest}
 use Rattle.asl_lock_forest.proofs.Grantable.{can_grant-tells, CanGrant-tested, can_grant-refused, refused_cannot}
-use Rattle.asl_machine.specs.declared.fate.Fate.{Fate}
 use Rattle.asl_machine.specs.declared.fate.Fate.TheVariants as fate
 use Rattle.asl_machine.specs.declared.fault.Fault.TheVariants as fault
 use Rattle.asl_machine.specs.declared.reply.Reply.{Reply}
@@ -23,9 +22,11 @@ use Rattle.asl_machine.specs.Access.{AllPoint}
 use Rattle.asl_machine.specs.Nodes.{IsNode}
 use Rattle.asl_machine.specs.WellFormed.{SatisfiesInvariant}
 use Rattle.asl_machine.proofs.Nodes.{request_there}
+use Rattle.asl_machine.proofs.Unique.{step_only}
+use Rattle.asl_machine.specs.Step.{Step}
 use Rattle.asl_machine.specs.Request.{request_of, locks_of}
 use Rattle.asl_machine.specs.Asked.{asked_by, asked_of, request_at}
-use Rattle.asl_machine.specs.StepFunction.{Place, left_at, turn_by, reply_of, acquire_fate, step_at, step_of}
+use Rattle.asl_machine.specs.StepFunction.{left_at, turn_by, reply_of, step_at, step_of}
 
 -- the reply to who asks: granted or blocked
 abbrev pub answer : Bool → Reply
@@ -71,18 +72,18 @@ not_granted : (b : Bool) → (b ≡ true → ⊥) → b ≡ false
 not_granted true never = absurd (never refl)
 not_granted false never = refl
 
-pub granted_runs : (image : Image) (s : State) (t : ℕ) (request : Request) → request_at image s t ≡ Some request
-    → ((step_of image s t).reply ≡ reply.Ran) ↔ CanGrant s.holding t request
-granted_runs image s t request e =
-    let told = asked_reply image s t request e in (
+pub granted_runs : (image : Image) (s new : State) (t : ℕ) (request : Request) (r : Reply) → request_at image s t ≡ Some request → Step image s t r new
+    → (r ≡ reply.Ran) ↔ CanGrant s.holding t request
+granted_runs image s new t request r e h =
+    let told = (step_only image s t r new h).0 ∙ asked_reply image s t request e in (
       λ ran. can_grant-tells s.holding t request (ran_free (can_grant s.holding t request) (sym told ∙ ran)),
       λ can. told ∙ ap answer (CanGrant-tested s.holding t request can),
     )
 
-pub refused_waits : (image : Image) (s : State) (t : ℕ) (request : Request) → request_at image s t ≡ Some request
-    → ((step_of image s t).reply ≡ reply.Blocked) ↔ IsRefusedRequest s.holding t request
-refused_waits image s t request e =
-    let told = asked_reply image s t request e in (
+pub refused_waits : (image : Image) (s new : State) (t : ℕ) (request : Request) (r : Reply) → request_at image s t ≡ Some request → Step image s t r new
+    → (r ≡ reply.Blocked) ↔ IsRefusedRequest s.holding t request
+refused_waits image s new t request r e h =
+    let told = (step_only image s t r new h).0 ∙ asked_reply image s t request e in (
       λ blocked. can_grant-refused s.holding t request (blocked_taken (can_grant s.holding t request) (sym told ∙ blocked)),
       λ refused. told ∙ ap answer (not_granted (can_grant s.holding t request)
           (λ free. refused_cannot s.holding t request refused (can_grant-tells s.holding t request free))),

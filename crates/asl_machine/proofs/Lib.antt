@@ -11,6 +11,7 @@ pub mod Invariant
 pub mod PackedValues
 pub mod Table
 pub mod Unique
+pub mod Lines
 pub mod Reached
 pub mod Runs
 pub mod TableRuns

@@ -17,7 +17,7 @@ use Rattle.asl_machine.specs.World.{SomeoneGoesOn}
 use Rattle.asl_machine.specs.View.{Configuration}
 use Rattle.asl_machine.proofs.Table.{step_is}
 use Rattle.asl_machine.proofs.Reached.{someone_goes_on}
-use Rattle.asl_machine.proofs.Runs.{start_reached, step_reached}
+use Rattle.asl_machine.proofs.Runs.{start_reached, line_reached}
 use Rattle.asl_machine.specs.StepFunction.{turn_of, step_of, step_at}
 use Rattle.asl_machine.specs.WellFormed.{SatisfiesInvariant}
 use Rattle.asl_machine.specs.Ready.{IsMachine}
@@ -77,7 +77,8 @@ module _ (image : Image) (objects new_objects : List Object) (forest new_forest 
       record {
         verified = m.verified;
         reached = subst (λ k. IsReached image k (state_of new_objects new_forest.holding (set threads t new_thread))) (sym l)
-            (subst (IsReached image (length threads)) (sym step_state) (step_reached image (length threads) old t m.reached (slice_get_within threads t thread at)));
+            (subst (IsReached image (length threads)) (sym step_state)
+            (line_reached image (length threads) old (step_of image old t).state t (step_of image old t).reply m.reached (step_is image old t m.sound (slice_get_within threads t thread at))));
         sound = subst (SatisfiesInvariant image) (sym turn_state) (turn_follows image (state_of objects forest.holding threads) t thread m.sound at);
         apart = subst (AreApart image) (sym step_state) (step_of_apart image (state_of objects forest.holding threads) t m.sound m.apart);
         classes = classes ∙ m.classes;

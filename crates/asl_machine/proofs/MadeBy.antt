@@ -249,7 +249,7 @@ fresh_inside image s t o apart f =
     ] refl f
 
 sound_after : (image : Image) (s : State) (u : ℕ) (r : Reply) (new : State) → SatisfiesInvariant image s → Step image s u r new → SatisfiesInvariant image new
-sound_after image s u r new sound step = subst (SatisfiesInvariant image) (sym (step_only image s u sound r new step).1) (step_sound image s u sound)
+sound_after image s u r new sound step = subst (SatisfiesInvariant image) (sym (step_only image s u r new step).1) (step_sound image s u sound)
 
 -- what is fresh at the end of a run the thread has made in its section, or it was fresh at its start, and the thread has been in
 -- a section since

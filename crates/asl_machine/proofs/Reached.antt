@@ -1,5 +1,5 @@
 -- What holds of every state that a schedule reaches.
-use Rattle.std.proofs.Common.{◌≡◌, ◌≢◌, ◌<◌, ℕ, false, List, [], ◌∷◌, Option, Some, None, length, slice_get, refl, ap, sym, ◌∙◌, subst, length-set}
+use Rattle.std.proofs.Common.{◌≡◌, ◌≢◌, ◌<◌, ℕ, false, Option, Some, None, length, slice_get, refl, ap, ◌∙◌, subst, length-set}
 use Rattle.std.specs.Prelude.{IsSome, option_and_then}
 use Rattle.std.proofs.lemmas.Bool.{false_from_ne_true}
 use Rattle.std.proofs.lemmas.Option.{slice_get_within}
@@ -11,15 +11,17 @@ use Rattle.asl_code.specs.Fits.{FitsImage}
 use Rattle.asl_lock_forest.specs.Holding.{Request, CanGrant, can_grant}
 use Rattle.asl_machine.specs.declared.reply.Reply.TheVariants as reply
 use Rattle.asl_machine.specs.State.{Activity, Thread, Running, Done, Failed, State, activity_of, activity_at, depth_at}
-use Rattle.asl_machine.specs.Run.{start_of, state_after, IsReached}
-use Rattle.asl_machine.specs.Step.{At, Line, StepOf}
+use Rattle.asl_machine.specs.declared.reply.Reply.{Reply}
+use Rattle.asl_machine.specs.Run.{IsReached}
+use Rattle.asl_machine.specs.Step.{At, Line, StepOf, Step}
 use Rattle.asl_machine.specs.StepFunction.{step_at, step_of}
 use Rattle.asl_machine.specs.WellFormed.{SatisfiesInvariant}
 use Rattle.asl_machine.specs.World.{SomeoneGoesOn}
 use Rattle.asl_lock_forest.proofs.Grantable.{can_grant-tells, can_grant-refused}
 use Rattle.asl_lock_forest.proofs.Lawful.{way_holds}
-use Rattle.asl_machine.proofs.Invariant.{start_sound, step_sound, length-first_threads}
+use Rattle.asl_machine.proofs.Invariant.{start_sound, length-first_threads}
 use Rattle.asl_machine.proofs.Table.{step_is, at_of}
+use Rattle.asl_machine.proofs.Lines.{of_line, line_sound, reached_keeps}
 use Rattle.asl_lock_forest.proofs.Laws.{held_nothing}
 
 -- a step makes no thread and drops none
@@ -30,22 +32,18 @@ step_count image s t =
       | Some thread ↦ length-set s.threads t _
     ]
 
-run_sound : (image : Image) (schedule : List ℕ) (s : State) → SatisfiesInvariant image s → SatisfiesInvariant image (state_after image s schedule)
-run_sound image [] s sound = sound
-run_sound image (t ∷ ts) s sound = run_sound image ts (step_of image s t).state (step_sound image s t sound)
-
-run_count : (image : Image) (schedule : List ℕ) (s : State) → length (state_after image s schedule).threads ≡ length s.threads
-run_count image [] s = refl
-run_count image (t ∷ ts) s = run_count image ts (step_of image s t).state ∙ step_count image s t
+-- so it is with each line of the table
+pub line_count : (image : Image) (s : State) (t : ℕ) (r : Reply) (new : State) → Step image s t r new → length new.threads ≡ length s.threads
+line_count image s t r new h = of_line image s t (λ q u. length u.threads ≡ length s.threads) (step_count image s t) r new h
 
 -- every reached state is sound
 pub reached_sound : (image : Image) (count : ℕ) (s : State) → FitsImage image → IsReached image count s → SatisfiesInvariant image s
-reached_sound image count s fits r = subst (SatisfiesInvariant image) (sym r.leads) (run_sound image r.schedule (start_of image count) (start_sound image count fits))
+reached_sound image count s fits r = reached_keeps image count (SatisfiesInvariant image) (start_sound image count fits) (line_sound image) s r
 
 -- a reached state has as many threads as the start
 pub reached_count : (image : Image) (count : ℕ) (s : State) → IsReached image count s → length s.threads ≡ count
 reached_count image count s r =
-    ap (λ (u : State). length u.threads) r.leads ∙ run_count image r.schedule (start_of image count) ∙ length-first_threads image count
+    reached_keeps image count (λ u. length u.threads ≡ count) (length-first_threads image count) (λ u t q new n h. line_count image u t q new h ∙ n) s r
 
 -- ---- no world is blocked
 

@@ -1,5 +1,5 @@
 -- Fresh objects are apart in every state that a run reaches.
-use Rattle.std.proofs.Common.{◌≡◌, ◌≢◌, ℕ, zero, suc, ◌++◌, List, [], ◌∷◌, Some, None, slice_get, refl, ap, sym, ◌∙◌, subst, inl, inr}
+use Rattle.std.proofs.Common.{◌≡◌, ◌≢◌, ℕ, zero, suc, ◌++◌, [], ◌∷◌, Some, None, slice_get, refl, ap, sym, ◌∙◌, subst, inl, inr}
 use Rattle.std.specs.Prelude.{option_and_then, IsTrue}
 use Rattle.std.specs.Option.{option_map_or}
 use Rattle.std.proofs.lemmas.Option.{slice_get_within}
@@ -11,12 +11,13 @@ use Rattle.asl_code.specs.Fits.{FitsImage}
 use Rattle.asl_machine.specs.Cover.{is_fresh, cover, Allows}
 use Rattle.asl_machine.specs.State.{Activity, State, activity_of, activity_at}
 use Rattle.asl_machine.specs.WellFormed.{SatisfiesInvariant}
-use Rattle.asl_machine.specs.Run.{first_thread, first_threads, start_of, state_after, IsReached}
+use Rattle.asl_machine.specs.Run.{first_thread, first_threads, start_of, IsReached}
 use Rattle.asl_machine.specs.Fresh.{IsFreshFor, AreApart}
 use Rattle.asl_machine.specs.StepFunction.{step_of, step_at}
 use Rattle.asl_machine.proofs.Lists.{one_more}
-use Rattle.asl_machine.proofs.Invariant.{start_sound, step_sound}
+use Rattle.asl_machine.proofs.Invariant.{start_sound}
 use Rattle.asl_machine.proofs.Table.{step_is}
+use Rattle.asl_machine.proofs.Lines.{line_sound, reached_keeps}
 use Rattle.asl_machine.proofs.Freshness.{no_fresh, allowed_pairs}
 use Rattle.asl_machine.proofs.Apart.{step_apart}
 
@@ -57,14 +58,11 @@ step_of_apart image s t sound fr =
       | Some thread ↦ λ is. step_apart image s t (step_of image s t).reply (step_of image s t).state sound fr (step_is image s t sound (slice_get_within s.threads t thread is))
     ] refl
 
-run_apart : (image : Image) (schedule : List ℕ) (s : State) → SatisfiesInvariant image s → AreApart image s → AreApart image (state_after image s schedule)
-run_apart image [] s sound fr = fr
-run_apart image (t ∷ ts) s sound fr = run_apart image ts (step_of image s t).state (step_sound image s t sound) (step_of_apart image s t sound fr)
-
 -- in every reached state they are apart
 pub reached_apart : (image : Image) (count : ℕ) (s : State) → FitsImage image → IsReached image count s → AreApart image s
 reached_apart image count s fits r =
-    subst (AreApart image) (sym r.leads) (run_apart image r.schedule (start_of image count) (start_sound image count fits) (start_apart image count))
+    (reached_keeps image count (λ u. SatisfiesInvariant image u × AreApart image u) (start_sound image count fits, start_apart image count)
+    (λ u t reply new p h. (line_sound image u t reply new p.0 h, step_apart image u t reply new p.0 p.1 h)) s r).1
 
 -- ---- two threads
 

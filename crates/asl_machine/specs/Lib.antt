@@ -4,7 +4,6 @@ pub mod Request
 pub mod Cover
 pub mod Access
 pub mod Step
-pub mod StepFunction
 pub mod Run
 pub mod Nodes
 pub mod Fresh
@@ -16,6 +15,8 @@ pub mod Frames
 pub mod Asked
 pub mod Paused
 -- Machinery of the proofs, not of the promise:
+pub mod StepFunction
+pub mod ComputedRun
 pub mod Ready
 pub mod Asking
 pub mod PackedValue

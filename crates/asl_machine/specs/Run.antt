@@ -1,7 +1,7 @@
--- Runs of a program: the state in which its threads start, and the replies and states of a schedule, by the computed
--- step (docs/INSTRUCTIONS.md, "State" and "A step"). In each state of a run that step is the one that the instruction
--- table allows: the law steps_have_one_line. So the replies and the state after a schedule are those of the table alone:
--- the law runs_are_the_tables.
+-- Runs of a program by the instruction table: the state in which its threads start, where a schedule leads, and which
+-- states are reached (docs/INSTRUCTIONS.md, "State" and "A step"). In a state the table has at most one line for a thread,
+-- and one in each reached state of a verified program: the law steps_have_one_line. So it is with runs: the law
+-- runs_are_the_tables.
 use Rattle.std.specs.Prelude.{◌≡◌, ◌<◌, ◌≤◌, ℕ, zero, suc, List, [], ◌∷◌, ◌++◌, map, All, None, pos}
 use Rattle.asl_code.specs.Versions.{most_threads}
 use Rattle.asl_code.specs.declared.image.Image.{Image}
@@ -11,7 +11,6 @@ use Rattle.asl_machine.specs.declared.reply.Reply.{Reply}
 use Rattle.asl_machine.specs.State.{Object, Activity, Thread, Running, State}
 use Rattle.asl_machine.specs.Calls.{first_frame}
 use Rattle.asl_machine.specs.Step.{Step}
-use Rattle.asl_machine.specs.StepFunction.{step_of}
 
 -- the object of a global: one cell, which holds Int 0
 abbrev pub global_object : ℕ → Object
@@ -38,25 +37,16 @@ IsThreadCount image count = (0 < count) × (count ≤ most_threads image.version
 abbrev pub start_of : Image → ℕ → State
 start_of image count = record { objects = map global_object image.globals; holding = no_holding; threads = first_threads image count }
 
--- the replies of a schedule from a state on
-abbrev pub replies_of : Image → State → List ℕ → List Reply
-replies_of image s [] = []
-replies_of image s (t ∷ ts) = (step_of image s t).reply ∷ replies_of image (step_of image s t).state ts
-
--- the state after a schedule from a state on
-abbrev pub state_after : Image → State → List ℕ → State
-state_after image s [] = s
-state_after image s (t ∷ ts) = state_after image (step_of image s t).state ts
-
--- the schedule leads from a state to an end, each step by a line of the instruction table, with these replies: by the
--- table alone, and by no computed step
+-- the schedule leads from a state to an end, each step by a line of the instruction table, with these replies
 abbrev pub RunsBy : Image → State → List ℕ → List Reply → State → Type 0
 RunsBy image s [] [] end = end ≡ s
 RunsBy image s (t ∷ ts) (r ∷ rs) end = (new : State) × Step image s t r new × RunsBy image new ts rs end
 RunsBy image s ts rs end = ⊥
 
--- some schedule of threads below the count leads so many threads of the program from their start to the state
+-- some schedule of threads below the count leads so many threads of the program from their start to the state, by the
+-- table
 pub record IsReached (image : Image) (count : ℕ) (s : State) : Type 0 where
   pub schedule : List ℕ
+  pub replies : List Reply
   pub threads_there : All (λ t. t < count) schedule
-  pub leads : s ≡ state_after image (start_of image count) schedule
+  pub leads : RunsBy image (start_of image count) schedule replies s

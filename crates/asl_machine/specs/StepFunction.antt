@@ -1,5 +1,5 @@
--- The step, computed: for a verified program the reply and the state of the one line of the table that applies
--- (specs/Step.antt; docs/INSTRUCTIONS.md, "A step"). It answers something also where no line applies; nobody asks there.
+-- Machinery: the step, computed, namely the reply and the state of the one line of the table that applies (specs/Step.antt;
+-- docs/INSTRUCTIONS.md, "A step"). It answers something also where no line applies; nobody asks there.
 use Rattle.std.specs.Prelude.{ℕ, ◌+◌, ◌-◌, ℤ, pos, int_lt, Bool, true, false, ◌&&◌, ◌==◌, List, [], ◌∷◌, ◌++◌, Option, None, Some, Result, Ok, Err, slice_get, unwrap_or, length, if◌then◌else◌}
 use Rattle.std.specs.Int.{w32, int_wrapping_add, int_wrapping_sub}
 use Rattle.std.specs.Ordering.{int_eq}

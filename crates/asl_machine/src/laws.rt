@@ -28,13 +28,14 @@ pub fn requests_are_least()
     ensures parents { (objects : List Object) (regs : List Value) (locks : List Lock) → IsTrue (asks_parents (request_of objects regs locks)) }
 {}
 
-/// In each state that a schedule of a verified program reaches, each thread's step has exactly one line of the table:
-/// the computed step is one, and every other is that one.
+/// In each state that a schedule of a verified program reaches, each thread's step has a line of the table. In no state has it two
+/// with another reply or another state after it. A line has the computed reply and leaves the computed state.
 pub fn steps_have_one_line()
     ensures some { (image : Image) (count : ℕ) (s : State) (t : ℕ) → IsVerified image → IsReached image count s
-        → t < count → Step image s t (step_of image s t).reply (step_of image s t).state }
-    ensures one { (image : Image) (count : ℕ) (s : State) (t : ℕ) (reply : Reply) (new : State)
-        → IsVerified image → IsReached image count s → Step image s t reply new
+        → t < count → (reply : Reply) × (new : State) × Step image s t reply new }
+    ensures one { (image : Image) (s new other : State) (t : ℕ) (reply answer : Reply) → Step image s t reply new
+        → Step image s t answer other → (reply ≡ answer) × (new ≡ other) }
+    ensures computed { (image : Image) (s new : State) (t : ℕ) (reply : Reply) → Step image s t reply new
         → (reply ≡ (step_of image s t).reply) × (new ≡ (step_of image s t).state) }
 {}
 

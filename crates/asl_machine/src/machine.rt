@@ -54,7 +54,6 @@ impl<'p> Model for Machine<'p> {
 
 impl<'p> Machine<'p> {
     ghost use Rattle.asl_machine.specs.Step.{Step};
-    ghost use Rattle.asl_machine.specs.StepFunction.{step_of};
     ghost use Rattle.asl_machine.specs.World.{SomeoneGoesOn};
     ghost use Rattle.asl_machine.specs.WellFormed.{MayWantMemory};
 
@@ -84,8 +83,6 @@ impl<'p> Machine<'p> {
     /// `BadThread` where there is no such thread; `OutOfMemory` where an allocation failed. Then the machine is as it was.
     pub fn step(&mut self, alloc: Global, t: u32) -> Result<Reply, MachineFault>
         ensures step { IfOk result (λ reply. Step self.old.image self.old.state t reply self.new.state) }
-        ensures reply { IfOk result (λ reply. reply ≡ (step_of self.old.image self.old.state t).reply) }
-        ensures state { IfOk result (λ _. self.new.state ≡ (step_of self.old.image self.old.state t).state) }
         ensures image { self.new.image ≡ self.old.image }
         ensures thread { IsErrOf result MachineFault.BadThread ↔ (length self.old.state.threads ≤ t) }
         ensures blocked { IfOk result (λ reply. reply ≡ Reply.Blocked → SomeoneGoesOn self.old.image self.old.state) }
@@ -109,8 +106,6 @@ impl<'p> Machine<'p> {
     fn step_fully(&mut self, alloc: Global, t: u32) -> Result<Reply, MachineFault>
         requires there { t < length self.old.state.threads }
         ensures step { IfOk result (λ reply. Step self.old.image self.old.state t reply self.new.state) }
-        ensures reply { IfOk result (λ reply. reply ≡ (step_of self.old.image self.old.state t).reply) }
-        ensures state { IfOk result (λ _. self.new.state ≡ (step_of self.old.image self.old.state t).state) }
         ensures image { self.new.image ≡ self.old.image }
         ensures blocked { IfOk result (λ reply. reply ≡ Reply.Blocked → SomeoneGoesOn self.old.image self.old.state) }
         ensures memory { IsErrOf result MachineFault.OutOfMemory → MayWantMemory self.old.image self.old.state t }

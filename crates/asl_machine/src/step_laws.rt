@@ -10,21 +10,22 @@ ghost use Rattle.asl_mode_lanes.specs.declared.mode.Mode.{Mode};
 ghost use Rattle.asl_mode_lanes.specs.Mode.{AtMost};
 ghost use Rattle.asl_lock_forest.specs.declared.node.Node.{Node};
 ghost use Rattle.asl_lock_forest.specs.Holding.{Holding, HoldsNothing, held, grant, Covers};
+ghost use Rattle.asl_machine.specs.declared.reply.Reply.{Reply};
 ghost use Rattle.asl_machine.specs.State.{Object, State, cell_at, class_of, size_of, written};
 ghost use Rattle.asl_machine.specs.Request.{asks_of, request_of, IsAsk, IsOn};
-ghost use Rattle.asl_machine.specs.StepFunction.{step_of};
+ghost use Rattle.asl_machine.specs.Step.{Step};
 
 /// A step of a thread leaves every other thread as it was, and what it holds. An object that is there keeps its class and
 /// its size.
 pub fn steps_leave_others_alone()
-    ensures threads { (image : Image) (s : State) (t other : ℕ) → other ≢ t
-        → slice_get (step_of image s t).state.threads other ≡ slice_get s.threads other }
-    ensures holdings { (image : Image) (s : State) (t other : ℕ) (node : Node) → other ≢ t
-        → held (step_of image s t).state.holding other node ≡ held s.holding other node }
-    ensures classes { (image : Image) (s : State) (t object class : ℕ) → class_of s.objects object ≡ Some class
-        → class_of (step_of image s t).state.objects object ≡ Some class }
-    ensures sizes { (image : Image) (s : State) (t object size : ℕ) → size_of s.objects object ≡ Some size
-        → size_of (step_of image s t).state.objects object ≡ Some size }
+    ensures threads { (image : Image) (s new : State) (t other : ℕ) (reply : Reply) → Step image s t reply new → other ≢ t
+        → slice_get new.threads other ≡ slice_get s.threads other }
+    ensures holdings { (image : Image) (s new : State) (t other : ℕ) (reply : Reply) (node : Node) → Step image s t reply new → other ≢ t
+        → held new.holding other node ≡ held s.holding other node }
+    ensures classes { (image : Image) (s new : State) (t object class : ℕ) (reply : Reply) → Step image s t reply new
+        → class_of s.objects object ≡ Some class → class_of new.objects object ≡ Some class }
+    ensures sizes { (image : Image) (s new : State) (t object size : ℕ) (reply : Reply) → Step image s t reply new
+        → size_of s.objects object ≡ Some size → size_of new.objects object ≡ Some size }
 {}
 
 /// After a store the cell has the value; every other cell has what it had, and objects keep their classes and sizes.

@@ -12,7 +12,6 @@ ghost use Rattle.asl_show.specs.Nodes.{clash_lines, node_lines};
 
 use asl_machine::{
     held_nodes_are_there, reached_holdings_are_lawful, requests_are_granted, runs_reach,
-    steps_have_one_line,
 };
 
 /// In each state that a verified program reaches, a thread that asks for something has no line of a clash exactly where its
@@ -26,5 +25,4 @@ pub fn clashes_are_blocks()
     held_nodes_are_there();
     reached_holdings_are_lawful();
     runs_reach();
-    steps_have_one_line();
 }

@@ -8,7 +8,8 @@ use Rattle.asl_lower.proofs.Layouts.{kept_layout}
 use Rattle.asl_points_to.specs.Classes.{Classed}
 use Rattle.asl_backward_flow.specs.Closed.{Family}
 use Rattle.asl_machine.specs.State.{Activity, State, activity_at}
-use Rattle.asl_machine.specs.Run.{start_of, replies_of, first_activity, IsReached}
+use Rattle.asl_machine.specs.Run.{start_of, first_activity, IsReached}
+use Rattle.asl_machine.specs.ComputedRun.{replies_of}
 use Rattle.asl_machine.specs.Cover.{cover}
 use Rattle.asl_machine.specs.StepFunction.{step_of}
 use Rattle.asl_machine.specs.Fresh.{AreApart}
@@ -77,6 +78,5 @@ module _ (l : Lowered) (c : Classed) (stores : ℕ → ℕ → Bool) (k_limit : 
   -- no reply of any schedule is a fault for a missing lock, for a section that was not entered, or for one left open
   pub sound_program : NeverFaultsForLocks image
   sound_program count schedule replies end run =
-      let good = start_good count in
-      let computed = run_only image schedule (start_of image count) good.structured.sound replies end run in
-      subst (All IsSafe) (sym computed.0) (replies_safe schedule (start_of image count) good)
+      let computed = run_only image schedule (start_of image count) replies end run in
+      subst (All IsSafe) (sym computed.0) (replies_safe schedule (start_of image count) (start_good count))

@@ -1,5 +1,5 @@
 -- What a running thread's step is: a line of the table, at an instruction of the lowering.
-use Rattle.std.proofs.Common.{◌≡◌, ◌≢◌, ℕ, zero, suc, ◌<◌, List, [], ◌∷◌, Some, None, length, slice_get, refl, ap, sym, ◌∙◌, subst, inl, inr, arith}
+use Rattle.std.proofs.Common.{◌≡◌, ◌≢◌, ℕ, zero, suc, ◌<◌, List, Some, None, length, slice_get, refl, ap, sym, ◌∙◌, subst, inl, inr, arith}
 use Rattle.std.specs.Prelude.{option_and_then}
 use Rattle.std.proofs.lemmas.Option.{slice_get_within, same_Some}
 use Rattle.std.proofs.lemmas.Bool.Decides.{eqb_tells}
@@ -14,10 +14,11 @@ use Rattle.asl_points_to.specs.Classes.{Classed, IsLegalAt}
 use Rattle.asl_machine.specs.declared.reply.Reply.{Reply}
 use Rattle.asl_machine.specs.declared.reply.Reply.TheVariants as reply
 use Rattle.asl_machine.specs.State.{Activity, Thread, Running, Done, Failed, State, activity_of, activity_at}
-use Rattle.asl_machine.specs.Run.{start_of, state_after, first_thread, first_threads, first_activity, IsReached}
+use Rattle.asl_machine.specs.Run.{start_of, first_thread, first_threads, first_activity, IsReached}
 use Rattle.asl_machine.specs.WellFormed.{SatisfiesInvariant}
 use Rattle.asl_machine.specs.Step.{Line, StepOf}
 use Rattle.asl_machine.specs.StepFunction.{step_of, step_at}
+use Rattle.asl_machine.proofs.Lines.{of_line, reached_keeps as lines_keep}
 use Rattle.asl_machine.proofs.Lists.{one_more}
 use Rattle.asl_machine.proofs.Others.{step_leaves}
 use Rattle.asl_machine.proofs.Invariant.{Here, here_of}
@@ -112,13 +113,9 @@ each_thread image s t P own others u b e =
 pub still : (image : Image) (s : State) (t u : ℕ) (b : Activity) → u ≢ t → activity_at s.threads u ≡ Some b → activity_at (step_of image s t).state.threads u ≡ Some b
 still image s t u b apart is = ap (option_and_then activity_of) (step_leaves image s t u apart) ∙ is
 
--- what each step keeps, runs keep
-run_keeps : (image : Image) (P : State → Type 0) → ((s : State) (t : ℕ) → P s → P (step_of image s t).state) → (schedule : List ℕ) (s : State) → P s → P (state_after image s schedule)
-run_keeps image P keeps [] s p = p
-run_keeps image P keeps (t ∷ ts) s p = run_keeps image P keeps ts (step_of image s t).state (keeps s t p)
-
+-- what each computed step keeps holds of what is reached
 pub reached_keeps : (image : Image) (count : ℕ) (P : State → Type 0) → P (start_of image count) → ((s : State) (t : ℕ) → P s → P (step_of image s t).state) → (s : State) → IsReached image count s → P s
-reached_keeps image count P start keeps s r = subst P (sym r.leads) (run_keeps image P keeps r.schedule (start_of image count) start)
+reached_keeps image count P start keeps s r = lines_keep image count P start (λ u t reply new p h. of_line image u t (λ q v. P v) (keeps u t p) reply new h) s r
 
 -- ---- the start
 

@@ -9,10 +9,11 @@ ghost use Rattle.asl_lower.specs.LegalLowering.{IsLegalLowering};
 ghost use Rattle.asl_points_to.specs.Classes.{Classed};
 ghost use Rattle.asl_lock_expr.specs.Links.{view, IsOne, link, dereferenced};
 ghost use Rattle.asl_backward_flow.specs.Needed.{Needed};
+ghost use Rattle.asl_machine.specs.declared.reply.Reply.{Reply};
 ghost use Rattle.asl_machine.specs.State.{Frame, Activity, State, activity_at};
 ghost use Rattle.asl_machine.specs.Run.{IsReached};
 ghost use Rattle.asl_machine.specs.Cover.{cover};
-ghost use Rattle.asl_machine.specs.StepFunction.{step_of};
+ghost use Rattle.asl_machine.specs.Step.{Step};
 ghost use Rattle.asl_soundness.specs.Coded.{IsImageOf};
 ghost use Rattle.asl_soundness.specs.Protected.{Protected, LockThere};
 ghost use Rattle.asl_soundness.specs.Safe.{ListsCover, TellsAllStores, NeverFaultsForLocks};
@@ -23,20 +24,22 @@ ghost use Rattle.asl_soundness.specs.Wanted.{AreProtected, TopHas, WaitingHave};
 /// protected before it, the lock is protected after it. Of another thread's step: a lock that is protected for a frame with
 /// its dereferenced prefixes stays protected. Neither asks more of the lists than that the verifier takes them.
 pub fn links_keep_locks_protected()
-    ensures own { (l : Lowered) (c : Classed) (stores : ℕ → ℕ → Bool) (k_limit : ℕ) (image : Image) (count : ℕ) (s : State) (t : ℕ) (a b : Activity) (i : Instr) (n : Lock)
-        → IsLegalLowering l → IsImageOf l c image → IsReached image count s
+    ensures own { (l : Lowered) (c : Classed) (stores : ℕ → ℕ → Bool) (k_limit : ℕ) (image : Image) (count : ℕ) (s new : State)
+        (t : ℕ) (reply : Reply) (a b : Activity) (i : Instr) (n : Lock)
+        → IsLegalLowering l → IsImageOf l c image → IsReached image count s → Step image s t reply new
         → activity_at s.threads t ≡ Some a → slice_get l.code a.top.pc ≡ Some i
-        → activity_at (step_of image s t).state.threads t ≡ Some b → 0 < a.depth → 0 < b.depth → b.below ≡ a.below
+        → activity_at new.threads t ≡ Some b → 0 < a.depth → 0 < b.depth → b.below ≡ a.below
         → LockThere c n
         → AreProtected (cover s.holding a.fresh) t s.objects a.top.regs (IsOne (link (view c stores k_limit a.top.function) i n))
-        → Protected (cover (step_of image s t).state.holding b.fresh) t (step_of image s t).state.objects b.top.regs n }
-    ensures others { (l : Lowered) (c : Classed) (image : Image) (count : ℕ) (s : State) (t u : ℕ) (a : Activity) (place : ℕ) (f : Frame) (n : Lock)
-        → IsLegalLowering l → IsImageOf l c image → IsReached image count s
+        → Protected (cover new.holding b.fresh) t new.objects b.top.regs n }
+    ensures others { (l : Lowered) (c : Classed) (image : Image) (count : ℕ) (s new : State) (t u : ℕ) (reply : Reply)
+        (a : Activity) (place : ℕ) (f : Frame) (n : Lock)
+        → IsLegalLowering l → IsImageOf l c image → IsReached image count s → Step image s u reply new
         → activity_at s.threads t ≡ Some a → slice_get (a.top ∷ a.below) place ≡ Some f → t ≢ u
         → LockThere c n
         → AreProtected (cover s.holding a.fresh) t s.objects f.regs (IsOne (dereferenced n))
         → Protected (cover s.holding a.fresh) t s.objects f.regs n
-        → Protected (cover (step_of image s u).state.holding a.fresh) t (step_of image s u).state.objects f.regs n }
+        → Protected (cover new.holding a.fresh) t new.objects f.regs n }
 {}
 
 /// In each reached state all locks that the region of a thread's top frame needs where the frame stands are protected: over

@@ -8,10 +8,11 @@ ghost use Rattle.asl_lower.specs.Region.{is_access};
 ghost use Rattle.asl_lower.specs.LegalLowering.{IsLegalLowering};
 ghost use Rattle.asl_points_to.specs.Classes.{Classed};
 ghost use Rattle.asl_machine.specs.declared.fault.Fault.TheVariants.{NoSection, Open};
+ghost use Rattle.asl_machine.specs.declared.reply.Reply.{Reply};
 ghost use Rattle.asl_machine.specs.declared.reply.Reply.TheVariants as reply;
 ghost use Rattle.asl_machine.specs.State.{Activity, State, activity_at};
 ghost use Rattle.asl_machine.specs.Run.{IsReached};
-ghost use Rattle.asl_machine.specs.StepFunction.{step_of};
+ghost use Rattle.asl_machine.specs.Step.{Step};
 ghost use Rattle.asl_soundness.specs.Coded.{IsImageOf};
 ghost use Rattle.asl_soundness.specs.Agrees.{Agrees};
 ghost use Rattle.asl_soundness.specs.Nested.{AreNested};
@@ -32,8 +33,9 @@ pub fn depths_count_open_sections()
 
 /// No step leaves a section that was not entered, and no thread returns from its last frame in one.
 pub fn sections_are_entered_and_left()
-    ensures { (l : Lowered) (c : Classed) (image : Image) (count : ℕ) (s : State) (t : ℕ) → IsLegalLowering l → IsImageOf l c image
-        → IsReached image count s → ((step_of image s t).reply ≢ reply.Fault NoSection) × ((step_of image s t).reply ≢ reply.Fault Open) }
+    ensures { (l : Lowered) (c : Classed) (image : Image) (count : ℕ) (s new : State) (t : ℕ) (answer : Reply) → IsLegalLowering l
+        → IsImageOf l c image → IsReached image count s → Step image s t answer new
+        → (answer ≢ reply.Fault NoSection) × (answer ≢ reply.Fault Open) }
 {}
 
 /// Who stands at an access is in a section.

@@ -1,21 +1,18 @@
 -- A journal is a run by the table, and every schedule has one.
-use Rattle.std.proofs.Common.{◌≡◌, ℕ, ◌<◌, List, [], ◌∷◌, Some, None, length, slice_get, refl, ap, ap₂, sym, ◌∙◌, subst, arith}
+use Rattle.std.proofs.Common.{◌≡◌, ℕ, ◌<◌, List, [], ◌∷◌, length, refl, ap, ap₂, sym, ◌∙◌, subst, arith}
 use Rattle.std.specs.Prelude.{All}
-use Rattle.std.proofs.lemmas.Option.{slice_get_within}
 use Rattle.std.proofs.lemmas.List.Elements.{All-nil, All-cons, All-head, All-tail}
 use Rattle.asl_code.specs.declared.image.Image.{Image}
 use Rattle.asl_code.specs.Verified.{IsVerified}
 use Rattle.asl_code.specs.Versions.{most_threads, limits_of}
-use Rattle.asl_code.proofs.FitsLaws.{image_fits}
-use Rattle.asl_code.specs.Fits.{FitsImage}
 use Rattle.asl_machine.specs.declared.reply.Reply.{Reply}
 use Rattle.asl_machine.specs.State.{State}
-use Rattle.asl_machine.specs.Run.{IsThreadCount, IsReached, start_of, state_after, RunsBy}
-use Rattle.asl_machine.specs.Step.{StepOf, Step}
+use Rattle.asl_machine.specs.Run.{IsThreadCount, start_of, RunsBy}
+use Rattle.asl_machine.specs.Step.{Step}
 use Rattle.asl_machine.specs.StepFunction.{step_of}
-use Rattle.asl_machine.proofs.Reached.{reached_sound, reached_count}
-use Rattle.asl_machine.proofs.Runs.{start_reached, step_reached}
-use Rattle.asl_machine.proofs.Unique.{step_only}
+use Rattle.asl_machine.proofs.Invariant.{length-first_threads}
+use Rattle.asl_machine.proofs.Lines.{line_there}
+use Rattle.asl_machine.proofs.Reached.{line_count}
 use Rattle.asl_journal.specs.declared.event.Event.{Event}
 use Rattle.asl_journal.specs.Journal.{AreThere, LeadsTo, IsJournal, schedule_of, replies_in}
 use Rattle.asl_journal.specs.Computed.{GoesBy}
@@ -36,39 +33,17 @@ steps_of image (event ∷ events) s end runs =
 
 -- ---- a run is a journal's
 
--- a step of the table is of a thread that is there
-step_there : (image : Image) (s : State) (t : ℕ) (r : Reply) (new : State) → Step image s t r new → t < length s.threads
-step_there image s t r new h =
-    elim (slice_get s.threads t) as (λ o. slice_get s.threads t ≡ o → StepOf image s t o r new → t < length s.threads) [
-      | None ↦ λ e k. absurd k
-      | Some thread ↦ λ e k. slice_get_within s.threads t thread e
-    ] refl h
-
--- events that go by the table are of threads that are there, and go by the computed step
-pub record GoBy (image : Image) (count : ℕ) (s : State) (events : List Event) (end : State) : Type 0 where
-  pub there : AreThere count events
-  pub goes : GoesBy image s events
-  pub leads : end ≡ state_after image s (schedule_of events)
-
-pub table_go : (image : Image) (count : ℕ) (events : List Event) (s : State) (end : State) → FitsImage image → IsReached image count s → RunsBy image s (schedule_of events) (replies_in events) end →
-    GoBy image count s events end
-table_go image count [] s end fits reached e = record { there = All-nil (λ (x : Event). x.thread < count); goes = refl; leads = e }
-table_go image count (event ∷ events) s end fits reached e =
-    let only = step_only image s event.thread (reached_sound image count s fits reached) event.reply e.0 e.1 in
-    let here = subst (λ (n : ℕ). event.thread < n) (reached_count image count s reached) (step_there image s event.thread event.reply e.0 e.1) in
-    let next = (step_of image s event.thread).state in
-    let rest = table_go image count events next end fits (step_reached image count s event.thread reached here) (subst (λ (u : State). RunsBy image u (schedule_of events) (replies_in events) end) only.1 e.2) in
-    record {
-      there = All-cons (λ (x : Event). x.thread < count) event events here rest.there;
-      goes = goes_cons image s event events only.0 rest.goes;
-      leads = rest.leads;
-    }
+-- events that go by the table are of threads that are there
+events_there : (image : Image) (count : ℕ) (events : List Event) (s : State) (end : State) → length s.threads ≡ count → RunsBy image s (schedule_of events) (replies_in events) end → AreThere count events
+events_there image count [] s end n e = All-nil (λ (x : Event). x.thread < count)
+events_there image count (event ∷ events) s end n e =
+    All-cons (λ (x : Event). x.thread < count) event events (subst (λ (k : ℕ). event.thread < k) n (line_there image s event.thread event.reply e.0 e.1))
+    (events_there image count events e.0 end (line_count image s event.thread event.reply e.0 e.1 ∙ n) e.2)
 
 -- events that lead to a state are a journal of a program
 pub lead_journal : (image : Image) (count : ℕ) (events : List Event) (end : State) → IsVerified image → LeadsTo image count events end → IsJournal image count events
 lead_journal image count events end v leads =
-    let g = table_go image count events (start_of image count) end (image_fits image v) (start_reached image count) leads.runs in
-    record { verified = v; there = g.there; end = end; leads = leads }
+    record { verified = v; there = events_there image count events (start_of image count) end (length-first_threads image count) leads.runs; end = end; leads = leads }
 
 -- the events of steps that go by the table go by it
 pub steps_table : (image : Image) (steps : List TakenStep) (s : State) (end : State) → IsRun image s steps end → RunsBy image s (schedule_of (events_of steps)) (replies_in (events_of steps)) end

@@ -1,12 +1,11 @@
 -- What a machine replies can be written: in each state that a run leads to, integers fit 32 bits and objects have at most 255 cells.
-use Rattle.std.proofs.Common.{◌≡◌, ◌⊎◌, ◌<◌, ◌≤◌, ◌+◌, ◌-◌, ◌^◌, ℕ, zero, suc, List, [], ◌∷◌, ◌++◌, Option, None, Some, length, take, drop, replicate, map, slice_get, slice_set, option_and_then, refl, ap, sym, ◌∙◌, subst, inl, inr, arith}
-use Rattle.std.specs.Prelude.{ℤ, pos, FitsSigned, All, IsSome}
+use Rattle.std.proofs.Common.{◌≡◌, ◌⊎◌, ◌<◌, ◌≤◌, ◌+◌, ◌-◌, ◌^◌, ℕ, zero, suc, List, [], ◌∷◌, ◌++◌, Option, None, Some, length, take, drop, replicate, map, slice_get, slice_set, option_and_then, refl, ap, sym, subst, inl, inr, arith}
+use Rattle.std.specs.Prelude.{ℤ, pos, FitsSigned, IsSome}
 use Rattle.std.specs.Option.{option_map_or}
 use Rattle.std.specs.Int.{w32, int_wrapping_add, int_wrapping_sub}
 use Rattle.std.specs.List.{AllByRecursion}
 use Rattle.std.proofs.lemmas.Int.{SFits-int_wrap, wrapping_add_is, wrapping_sub_is, fits_signed_from_abs}
 use Rattle.std.proofs.lemmas.Option.{slice_get_within}
-use Rattle.asl_code.specs.declared.image.Function.{Function}
 use Rattle.asl_code.specs.declared.image.Image.{Image}
 use Rattle.asl_code.specs.declared.instr.Instr.{Instr}
 use Rattle.asl_code.specs.declared.instr.Instr.TheVariants as instr
@@ -20,27 +19,22 @@ use Rattle.asl_machine.specs.declared.fault.Fault.{Fault}
 use Rattle.asl_machine.specs.declared.fault.Fault.TheVariants as fault
 use Rattle.asl_machine.specs.declared.reply.Reply.{Reply}
 use Rattle.asl_machine.specs.declared.reply.Reply.TheVariants as reply
-use Rattle.asl_machine.specs.State.{Object, Frame, Activity, Thread, Running, Done, Failed, State, new_object, cell_at, size_of, with_cell, written}
-use Rattle.asl_machine.specs.Calls.{function_of, first_registers, first_frame, values_from, with_register}
+use Rattle.asl_machine.specs.State.{Object, Frame, Activity, Thread, Running, Done, Failed, State, new_object, cell_at, with_cell, written}
+use Rattle.asl_machine.specs.Calls.{function_of, first_registers, values_from, with_register}
 use Rattle.asl_machine.specs.Access.{Points, AllPoint}
-use Rattle.asl_machine.specs.Step.{At, Reads, ReadsAddress, after, Sets, ContinuesAt, GoesTo, Fails, FailsNull, FailsType, FailsUnprotected, Line, StepOf, Step, going_on, advanced, advanced_with, placed_at, called, returned, having_made, left_last}
+use Rattle.asl_machine.specs.Step.{At, Reads, after, Sets, ContinuesAt, GoesTo, Fails, FailsNull, FailsType, FailsUnprotected, Line, StepOf, Step, called, returned, left_last}
 use Rattle.asl_machine.specs.Run.{global_object, first_activity, first_threads, start_of}
-use Rattle.asl_machine.specs.StepFunction.{step_of}
 use Rattle.asl_machine.specs.State.{activity_of}
 use Rattle.asl_machine.specs.Run.{IsReached}
 use Rattle.asl_machine.specs.WellFormed.{SatisfiesInvariant}
-use Rattle.asl_machine.proofs.Reached.{reached_sound, reached_count}
-use Rattle.asl_machine.proofs.Runs.{start_reached, step_reached}
-use Rattle.asl_machine.proofs.Table.{step_is}
+use Rattle.asl_machine.proofs.Reached.{reached_sound}
+use Rattle.asl_machine.proofs.Runs.{start_reached, line_reached}
 use Rattle.asl_code.specs.Fits.{FitsImage}
 use Rattle.asl_code.proofs.FitsLaws.{image_fits}
 use Rattle.asl_code.proofs.Versions.{few_threads}
 use Rattle.asl_journal.specs.declared.event.Event.{Event}
 use Rattle.asl_journal.specs.Bytes.{IsReply, IsEvent, HasBytes}
-use Rattle.asl_journal.specs.Journal.{Log, AreThere, IsJournal, most_events}
-use Rattle.asl_journal.specs.Computed.{GoesBy}
-use Rattle.asl_journal.proofs.ByTable.{goes_of}
-use Rattle.asl_journal.proofs.Runs.{goes_head, goes_tail}
+use Rattle.asl_journal.specs.Journal.{Log, AreThere, LeadsFrom, IsJournal, most_events}
 use Rattle.std.proofs.lemmas.List.Elements.{All-head, All-tail}
 use Rattle.asl_theorems.proofs.Surely.{get_last}
 
@@ -331,15 +325,12 @@ module _ (image : Image) (code : AllByRecursion IsInstr image.code) (fits : Fits
       by_thread (Some (Done value)) e k = (subst IsReply (sym k.0) tt, subst StateFits (sym k.1) v)
       by_thread (Some (Failed f)) e k = (subst IsReply (sym k.0) tt, subst StateFits (sym k.1) v)
 
-  pub events_fit : (events : List Event) (s : State) → IsReached image count s → StateFits s → AreThere count events → GoesBy image s events → AllByRecursion (IsEvent count) events
-  events_fit [] s reached v there goes = tt
-  events_fit (e ∷ es) s reached v there goes =
-      let here = All-head (λ (x : Event). x.thread < count) e es there in
-      let next = (step_of image s e.thread).state in
-      let line = step_is image s e.thread (reached_sound image count s fits reached) (subst (λ (n : ℕ). e.thread < n) (sym (reached_count image count s reached)) here) in
-      let fine = step_fits s e.thread (step_of image s e.thread).reply next reached v line in (
-        record { there = here; fits = subst IsReply (sym (goes_head image s e es goes)) fine.0 },
-        events_fit es next (step_reached image count s e.thread reached here) fine.1 (All-tail (λ (x : Event). x.thread < count) e es there) (goes_tail image s e es goes),
+  pub events_fit : (events : List Event) (s end : State) → IsReached image count s → StateFits s → AreThere count events → LeadsFrom image s events end → AllByRecursion (IsEvent count) events
+  events_fit [] s end reached v there leads = tt
+  events_fit (e ∷ es) s end reached v there leads =
+      let fine = step_fits s e.thread e.reply leads.0 reached v leads.1 in (
+        record { there = All-head (λ (x : Event). x.thread < count) e es there; fits = fine.0 },
+        events_fit es leads.0 end (line_reached image count s leads.0 e.thread e.reply reached leads.1) fine.1 (All-tail (λ (x : Event). x.thread < count) e es there) leads.2,
       )
 
   globals_fit : (globals : List ℕ) → ObjectsFit (map global_object globals)
@@ -382,5 +373,5 @@ journal_bytes image log code j short =
     let counted = j.leads.counted in
     record {
       is_log = record { count = (counted.0, omega (arith, few, counted)); short = short; there = j.there };
-      each = events_fit image code fits log.threads log.events (start_of image log.threads) (start_reached image log.threads) (start_fits image code fits log.threads (omega (arith, few, counted))) j.there (goes_of image log.threads log.events j);
+      each = events_fit image code fits log.threads log.events (start_of image log.threads) j.end (start_reached image log.threads) (start_fits image code fits log.threads (omega (arith, few, counted))) j.there j.leads.runs;
     }

@@ -1,8 +1,8 @@
 //! Debuggers whose journal continues: a step after its end, and a cut at the position.
 ghost use Rattle.std.specs.Prelude.{◌≡◌, ◌≢◌, ◌<◌, ◌≤◌, ◌+◌, ◌↔◌, ◌⊎◌, length, take, IfOk, IfErr, IsErrOf, OnErr};
 ghost use Rattle.asl_machine.specs.Paused.{IsRestOf};
+ghost use Rattle.asl_machine.specs.declared.reply.Reply.{Reply};
 ghost use Rattle.asl_machine.specs.Step.{Step};
-ghost use Rattle.asl_machine.specs.StepFunction.{step_of};
 ghost use Rattle.asl_journal.specs.Journal.{most_events, with_event};
 
 use crate::debugger::Debugger;
@@ -84,7 +84,7 @@ impl<'p> Debugger<'p> {
 fn mark_ahead(alloc: Global, machine: &Machine<'_>, t: u32) -> Result<Paused, StepFault>
     requires { t < length machine.now.state.threads }
     ensures fits { IfOk result (IsRestOf machine.now.image) }
-    ensures state { IfOk result (λ rest. rest.state ≡ (step_of machine.now.image machine.now.state t).state) }
+    ensures step { IfOk result (λ rest. (reply : Reply) × Step machine.now.image machine.now.state t reply rest.state) }
     ensures memory { IfErr result (λ fault. fault ≡ StepFault.OutOfMemory) }
 {
     match machine.try_copy(alloc) {

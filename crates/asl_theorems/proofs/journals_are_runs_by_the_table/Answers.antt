@@ -8,7 +8,7 @@ pub returns-clause-table : goal.returns-clause-table
 returns-clause-table c = lead_journal
 
 pub returns-clause-one : goal.returns-clause-one
-returns-clause-one c image count events end other v leads others = end_is image count events end v leads ∙ sym (end_is image count events other v others)
+returns-clause-one c image count events end other v leads others = end_is image count events end leads ∙ sym (end_is image count events other others)
 
 pub returns-clause-some : goal.returns-clause-some
 returns-clause-some c image count events end leads = steps_of image events (start_of image count) end leads.runs

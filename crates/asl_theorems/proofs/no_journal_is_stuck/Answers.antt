@@ -1,4 +1,4 @@
-use Rattle.std.proofs.Common.{take, ◌∙◌, sym, ap, subst}
+use Rattle.std.proofs.Common.{take, ◌∙◌, sym, ap}
 use Rattle.asl_code.proofs.FitsLaws.{image_fits}
 use Rattle.asl_machine.specs.Run.{start_of}
 use Rattle.asl_machine.specs.State.{State}
@@ -13,7 +13,7 @@ use Rattle.asl_theorems.proofs.no_journal_is_stuck.Goals as goal
 pub returns-clause-blocked : goal.returns-clause-blocked
 returns-clause-blocked c image log k event state j leads at blocked =
     let reached = lead_reached image log.threads (take k log.events) state (prefix_is_journal image log.threads k log.events j) leads in
-    let here = ap (λ (s : State). (step_of image s event.thread).reply) (end_is image log.threads (take k log.events) state j.verified leads) in
+    let here = ap (λ (s : State). (step_of image s event.thread).reply) (end_is image log.threads (take k log.events) state leads) in
     someone_goes_on image state event.thread (reached_sound image log.threads state (image_fits image j.verified) reached)
     (here ∙ sym (reply_at image log.events (start_of image log.threads) k event (goes_of image log.threads log.events j) at) ∙ blocked)
 

@@ -8,5 +8,5 @@ returns c = record {
   some = λ image log k j. let front = prefix_is_journal image log.threads k log.events j in (front.end, front.leads);
   one = λ image log k state other j here there.
       let events = take k log.events in
-      end_is image log.threads events state j.verified here ∙ sym (end_is image log.threads events other j.verified there);
+      end_is image log.threads events state here ∙ sym (end_is image log.threads events other there);
 }

@@ -1,12 +1,10 @@
 use Rattle.std.proofs.Common.{◌<◌, ◌+◌, ◌-◌, List, take, drop, ap, ◌∙◌}
 use Rattle.std.proofs.lemmas.List.Elements.{All-take, All-drop}
-use Rattle.asl_code.proofs.FitsLaws.{image_fits}
-use Rattle.asl_machine.specs.Run.{state_after}
+use Rattle.asl_machine.specs.ComputedRun.{state_after}
 use Rattle.asl_machine.specs.State.{State}
-use Rattle.asl_machine.proofs.Reached.{reached_sound}
 use Rattle.asl_journal.specs.declared.event.Event.{Event}
 use Rattle.asl_journal.specs.Journal.{schedule_of}
-use Rattle.asl_journal.proofs.ByTable.{reached_computed}
+use Rattle.asl_journal.proofs.ByTable.{run_computed}
 use Rattle.asl_journal.proofs.Replays.{none_from, differs_of, differs_computed}
 use Rattle.asl_debugger.specs.Computed.{state_before}
 use Rattle.asl_debugger.proofs.Positions.{threads_of, state_between, goes_between, goes_from, differs_between, is_at}
@@ -15,7 +13,7 @@ use Rattle.asl_debugger.proofs.checkpoints.machine_between.Goals as goal
 pub run_on-requires-clause-there : goal.run_on-requires-clause-there
 run_on-requires-clause-there c =
     let log = c.args.journal.now in
-    let count = threads_of c.args.from.image log c.args.start c.args.from.state c.requires.from c.events-events.ensures.log in
+    let count = threads_of c.args.from.image log c.args.start c.args.from.state c.requires.from in
     rw (c.events-events.ensures.events, count)
     (All-take (λ (e : Event). e.thread < log.threads) (c.args.end - c.args.start) (drop c.args.start log.events) (All-drop (λ (e : Event). e.thread < log.threads) c.args.start log.events c.events-events.ensures.log.there))
 
@@ -24,7 +22,7 @@ returns-in-Ok-clause-machine c =
     let from = c.args.from in
     let log = c.args.journal.now in
     let slice = λ (es : List Event). take (c.args.end - c.args.start) (drop c.args.start es) in
-    let told = reached_computed from.image c.threads.result from.state c.in-Ok.machine.state (slice c.events-events.result.now) c.threads.ensures.verified c.threads.ensures.reached c.in-Ok.ensures.leads in
+    let told = run_computed from.image from.state c.in-Ok.machine.state (slice c.events-events.result.now) c.in-Ok.ensures.leads in
     is_at c.in-Ok.machine from.image (state_before from.image log c.args.end) c.in-Ok.ensures.image
     (told.1
     ∙ ap (λ (es : List Event). state_after from.image from.state (schedule_of (slice es))) c.events-events.ensures.events
@@ -35,15 +33,14 @@ pub returns-in-Ok-clause-goes : goal.returns-in-Ok-clause-goes
 returns-in-Ok-clause-goes c front =
     let from = c.args.from in
     let slice = take (c.args.end - c.args.start) (drop c.args.start c.events-events.result.now) in
-    let told = reached_computed from.image c.threads.result from.state c.in-Ok.machine.state slice c.threads.ensures.verified c.threads.ensures.reached c.in-Ok.ensures.leads in
+    let told = run_computed from.image from.state c.in-Ok.machine.state slice c.in-Ok.ensures.leads in
     goes_between from.image c.args.journal.now c.args.start c.args.end c.requires.order front (rw (c.events-events.ensures.events, c.requires.from) at told.0)
 
 pub returns-in-Err-Differs-clause-refused : goal.returns-in-Err-Differs-clause-refused
 returns-in-Err-Differs-clause-refused c verified few front =
     let from = c.args.from in
     let slice = take (c.args.end - c.args.start) (drop c.args.start c.events-events.result.now) in
-    let sound = reached_sound from.image c.threads.result from.state (image_fits from.image c.threads.ensures.verified) c.threads.ensures.reached in
-    let told = differs_computed from.image from.state slice c.in-Err-Differs.index sound (rw c.in-Err-Differs.field-0-is at c.in-Err-Differs.ensures.refused) in
+    let told = differs_computed from.image from.state slice c.in-Err-Differs.index (rw c.in-Err-Differs.field-0-is at c.in-Err-Differs.ensures.refused) in
     let d = rw (c.events-events.ensures.events, c.requires.from) at told in
     let log = c.args.journal.now in
     let index = c.args.start + c.in-Err-Differs.index in (
@@ -56,8 +53,7 @@ pub returns-in-Err-Differs-clause-only : goal.returns-in-Err-Differs-clause-only
 returns-in-Err-Differs-clause-only c j =
     let from = c.args.from in
     let slice = take (c.args.end - c.args.start) (drop c.args.start c.events-events.result.now) in
-    let sound = reached_sound from.image c.threads.result from.state (image_fits from.image c.threads.ensures.verified) c.threads.ensures.reached in
-    let told = differs_computed from.image from.state slice c.in-Err-Differs.index sound (rw c.in-Err-Differs.field-0-is at c.in-Err-Differs.ensures.refused) in
+    let told = differs_computed from.image from.state slice c.in-Err-Differs.index (rw c.in-Err-Differs.field-0-is at c.in-Err-Differs.ensures.refused) in
     let d = rw (c.events-events.ensures.events, c.requires.from) at told in
     absurd (none_from c.args.from.image (state_before c.args.from.image c.args.journal.now c.args.start) (take (c.args.end - c.args.start) (drop c.args.start c.args.journal.now.events)) c.in-Err-Differs.index
     (goes_from c.args.from.image c.args.journal.now c.args.start c.args.end c.requires.order j) d)

@@ -1,14 +1,11 @@
 use Rattle.std.proofs.Common.{ap, refl}
-use Rattle.asl_code.proofs.FitsLaws.{image_fits}
 use Rattle.asl_machine.specs.View.{Configuration}
-use Rattle.asl_machine.proofs.Reached.{reached_sound}
 use Rattle.asl_journal.proofs.Replays.{only_memory_at}
 use Rattle.asl_journal.proofs.journal_replay.follow.Goals as goal
 
 pub returns-clause-only : goal.returns-clause-only
 returns-clause-only c end leads =
     let from = c.args.from.now in
-    let machine = c.threads.ensures in
     let copied = c.in_ok-machine.ensures.equal in
     only_memory_at c.in_ok-machine.machine c.args.events.now from.image from.state end c.args.events.now c.run_on.result (ap (λ (m : Configuration). m.image) copied) (ap (λ (m : Configuration). m.state) copied) refl
-    (reached_sound from.image c.threads.result from.state (image_fits from.image machine.verified) machine.reached) leads c.run_on.ensures.refused
+    leads c.run_on.ensures.refused

@@ -1,8 +1,6 @@
 use Rattle.std.proofs.Common.{ℕ, List, length, ap, subst, sym, ◌∙◌}
 use Rattle.asl_code.specs.Verified.{IsVerified}
-use Rattle.asl_code.proofs.FitsLaws.{image_fits}
 use Rattle.asl_machine.specs.Run.{start_of}
-use Rattle.asl_machine.proofs.Invariant.{start_sound}
 use Rattle.asl_journal.specs.declared.event.Event.{Event}
 use Rattle.asl_journal.specs.Journal.{AreThere}
 use Rattle.asl_journal.proofs.Recordings.{machine_count, in_count}
@@ -35,7 +33,7 @@ pub returns-clause-only : goal.returns-clause-only
 returns-clause-only c j =
     only_memory_at c.in_ok-machine.machine c.events.result.now c.args.program.now (start_of c.args.program.now c.args.journal.now.threads) j.end c.args.journal.now.events c.run_on.result
     c.in_ok-machine.ensures.image (c.in_ok-machine.ensures.start ∙ ap (start_of c.args.program.now) c.threads.ensures.threads) c.events.ensures.events
-    (start_sound c.args.program.now c.args.journal.now.threads (image_fits c.args.program.now j.verified)) j.leads.runs c.run_on.ensures.refused
+    j.leads.runs c.run_on.ensures.refused
 
 pub returns-clause-refused : goal.returns-clause-refused
 returns-clause-refused c =

@@ -1,11 +1,10 @@
-use Rattle.std.proofs.Common.{ap, subst, length, get_or, inl, inr, Err, ◌∙◌, ◌<◌, ℕ, arith}
+use Rattle.std.proofs.Common.{ap, subst, length, get_or, inl, inr, Err, ◌<◌, ℕ, arith}
 use Rattle.std.proofs.lemmas.List.Elements.{All-get_or}
 use Rattle.asl_machine.specs.declared.fault.MachineFault.{MachineFault}
 use Rattle.asl_machine.specs.declared.reply.Reply.TheVariants.{Ran}
-use Rattle.asl_machine.specs.State.{State}
 use Rattle.asl_machine.specs.Step.{Step}
 use Rattle.asl_machine.specs.WellFormed.{MayWantMemory}
-use Rattle.asl_machine.proofs.Reached.{step_count}
+use Rattle.asl_machine.proofs.Reached.{line_count}
 use Rattle.asl_journal.specs.declared.event.Event.{Event}
 use Rattle.asl_journal.proofs.Replays.{may_stop, one_differs, one_followed}
 use Rattle.asl_journal.proofs.journal_replay.run_on.Goals as goal
@@ -16,7 +15,7 @@ loop-index-preserved c =
     let old = c.loop-index.machine in
     let new = c.step.new.self in
     one_followed c.args.machine old new c.args.events.now c.loop-index.index (record { thread = 0; reply = Ran }) c.in_ok-reply.reply c.loop-index-test.true c.loop-index.invariant told.image
-    (subst (λ (t : ℕ). Step old.image old.state t c.in_ok-reply.reply new.state) c.from.ensures told.step) (ap (λ (s : State). length s.threads) told.state ∙ step_count old.image old.state c.from.result) c.if-not-are_same.ensures
+    (subst (λ (t : ℕ). Step old.image old.state t c.in_ok-reply.reply new.state) c.from.ensures told.step) (line_count old.image old.state c.from.result c.in_ok-reply.reply new.state told.step) c.if-not-are_same.ensures
 
 pub returns-then-not-are_same-clause-refused : goal.returns-then-not-are_same-clause-refused
 returns-then-not-are_same-clause-refused c =

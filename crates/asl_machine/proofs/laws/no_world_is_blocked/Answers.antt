@@ -8,4 +8,4 @@ use Rattle.asl_machine.proofs.laws.no_world_is_blocked.Goals as goal
 pub returns : goal.returns
 returns c = λ image count s new t v r h.
     let sound = reached_sound image count s (image_fits image v) r in
-    someone_goes_on image s t sound (sym (step_only image s t sound reply.Blocked new h).0)
+    someone_goes_on image s t sound (sym (step_only image s t reply.Blocked new h).0)

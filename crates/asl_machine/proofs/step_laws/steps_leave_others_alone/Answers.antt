@@ -1,17 +1,18 @@
-use Rattle.std.proofs.Common.{length}
-use Rattle.asl_machine.specs.State.{Object}
+use Rattle.std.proofs.Common.{◌≡◌, Some, length, slice_get}
+use Rattle.asl_lock_forest.specs.Holding.{held}
+use Rattle.asl_machine.specs.State.{Object, class_of, size_of}
 use Rattle.asl_machine.proofs.Heaps.{class_of-written, size_of-written}
+use Rattle.asl_machine.proofs.Lines.{of_line}
 use Rattle.asl_machine.proofs.Others.{step_leaves, step_leaves_held, step_keeps}
 use Rattle.asl_machine.proofs.step_laws.steps_leave_others_alone.Goals as goal
 
-pub returns-clause-threads : goal.returns-clause-threads
-returns-clause-threads c = step_leaves
-
-pub returns-clause-holdings : goal.returns-clause-holdings
-returns-clause-holdings c = step_leaves_held
-
-pub returns-clause-classes : goal.returns-clause-classes
-returns-clause-classes c = step_keeps (λ (o : Object). o.class) class_of-written
-
-pub returns-clause-sizes : goal.returns-clause-sizes
-returns-clause-sizes c = step_keeps (λ (o : Object). length o.cells) size_of-written
+pub returns : goal.returns
+returns c = record {
+  threads = λ image s new t other reply h apart. of_line image s t (λ r u. slice_get u.threads other ≡ slice_get s.threads other) (step_leaves image s t other apart) reply new h;
+  holdings = λ image s new t other reply node h apart.
+      of_line image s t (λ r u. held u.holding other node ≡ held s.holding other node) (step_leaves_held image s t other node apart) reply new h;
+  classes = λ image s new t object class reply h is.
+      of_line image s t (λ r u. class_of u.objects object ≡ Some class) (step_keeps (λ (o : Object). o.class) class_of-written image s t object class is) reply new h;
+  sizes = λ image s new t object size reply h is.
+      of_line image s t (λ r u. size_of u.objects object ≡ Some size) (step_keeps (λ (o : Object). length o.cells) size_of-written image s t object size is) reply new h;
+}

@@ -10,12 +10,12 @@ pub mark_ahead-requires : goal.mark_ahead-requires
 mark_ahead-requires c =
     let d = c.self.inside in
     let there = rw (← c.self.view_is) at c.requires.thread in
-    rw (threads_of d.machine.image d.journal d.position d.machine.state (ap (λ (m : Configuration). m.state) c.self.invariant.shown) c.self.invariant.is_log) there
+    rw (threads_of d.machine.image d.journal d.position d.machine.state (ap (λ (m : Configuration). m.state) c.self.invariant.shown)) there
 
 pub write_step-requires-clause-threads : goal.write_step-requires-clause-threads
 write_step-requires-clause-threads c =
     let d = c.self.inside in
-    threads_of d.machine.image d.journal d.position d.machine.state (ap (λ (m : Configuration). m.state) c.self.invariant.shown) c.self.invariant.is_log
+    threads_of d.machine.image d.journal d.position d.machine.state (ap (λ (m : Configuration). m.state) c.self.invariant.shown)
 
 pub invariant_of-self-then-next-len : goal.invariant_of-self-then-next-len
 invariant_of-self-then-next-len c =
@@ -28,13 +28,13 @@ invariant_of-self-then-next-len c =
     let items : c.push_reserved.new.self.items ≡ d.checkpoints.items ++ ahead ∷ [] = c.push_reserved.ensures.items ∙ ap (λ (rs : List Rest). rs ++ ahead ∷ []) c.in_ok-reserve.ensures.items in
     let due : d.position + 1 ≡ length d.checkpoints.items * d.spacing = c.if-next-len.true ∙ ap (λ (n : ℕ). n * d.spacing) (c.len.ensures ∙ d.checkpoints.ok.0) in
     rw (told.event, items) (kept_with d.machine.image d.journal d.spacing d.position d.checkpoints.items d.marks.items d.machine c.write_step.new.machine c.args.t c.in_ok-reply.reply c.self.invariant end room there
-    told.image told.step ahead due c.in_ok-ahead.ensures.fits c.in_ok-ahead.ensures.state)
+    told.image told.step ahead due c.in_ok-ahead.ensures.fits c.in_ok-ahead.ensures.step)
 
 pub write_step-requires-else-next-len-clause-threads :
     goal.write_step-requires-else-next-len-clause-threads
 write_step-requires-else-next-len-clause-threads c =
     let d = c.self.inside in
-    threads_of d.machine.image d.journal d.position d.machine.state (ap (λ (m : Configuration). m.state) c.self.invariant.shown) c.self.invariant.is_log
+    threads_of d.machine.image d.journal d.position d.machine.state (ap (λ (m : Configuration). m.state) c.self.invariant.shown)
 
 pub invariant_of-self-else-next-len : goal.invariant_of-self-else-next-len
 invariant_of-self-else-next-len c =

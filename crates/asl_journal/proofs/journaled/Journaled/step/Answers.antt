@@ -1,6 +1,6 @@
 use Rattle.std.proofs.Common.{◌≡◌, ◌++◌, ◌∷◌, [], List, length, arith, ap, ◌∙◌, subst, sym}
-use Rattle.asl_machine.specs.State.{State, Activity, activity_at}
-use Rattle.asl_machine.proofs.Reached.{step_count}
+use Rattle.asl_machine.specs.State.{Activity, activity_at}
+use Rattle.asl_machine.proofs.Reached.{line_count}
 use Rattle.asl_journal.specs.declared.event.Event.{Event}
 use Rattle.asl_journal.specs.Journal.{IsJournal, LeadsTo}
 use Rattle.asl_journal.specs.Recorded.{Fits}
@@ -11,7 +11,7 @@ pub invariant_of-self-2 : goal.invariant_of-self-2
 invariant_of-self-2 c =
     let event : Event = record { thread = c.args.t; reply = c.in_ok-reply.reply } in
     let told = c.in_ok-reply.ensures in
-    let count = ap (λ (u : State). length u.threads) told.state ∙ step_count c.self.inside.machine.image c.self.inside.machine.state c.args.t in
+    let count = line_count c.self.inside.machine.image c.self.inside.machine.state c.args.t c.in_ok-reply.reply c.step.new.self.state told.step in
     let fits = fits_step c.self.inside.machine c.step.new.self c.self.inside.events.items event c.self.invariant (omega arith) (omega arith) told.image told.step count in
     let items : c.push_reserved.new.self.items ≡ c.self.inside.events.items ++ event ∷ [] = c.push_reserved.ensures.items ∙ ap (λ (es : List Event). es ++ event ∷ []) c.in_ok-reserve.ensures.items in
     subst (λ (es : List Event). Fits c.step.new.self (length c.step.new.self.state.threads) es) (sym items) fits
@@ -27,7 +27,7 @@ pub returns-clause-journal : goal.returns-clause-journal
 returns-clause-journal c =
     let event : Event = record { thread = c.args.t; reply = c.in_ok-reply.reply } in
     let told = c.in_ok-reply.ensures in
-    let count = ap (λ (u : State). length u.threads) told.state ∙ step_count c.self.inside.machine.image c.self.inside.machine.state c.args.t in
+    let count = line_count c.self.inside.machine.image c.self.inside.machine.state c.args.t c.in_ok-reply.reply c.step.new.self.state told.step in
     let fits = fits_step c.self.inside.machine c.step.new.self c.self.inside.events.items event c.self.invariant (omega arith) (omega arith) told.image told.step count in
     let items : c.push_reserved.new.self.items ≡ c.self.inside.events.items ++ event ∷ [] = c.push_reserved.ensures.items ∙ ap (λ (es : List Event). es ++ event ∷ []) c.in_ok-reserve.ensures.items in
     subst (IsJournal c.step.new.self.image (length c.step.new.self.state.threads)) (sym items) fits.journal
@@ -36,7 +36,7 @@ pub returns-clause-leads : goal.returns-clause-leads
 returns-clause-leads c =
     let event : Event = record { thread = c.args.t; reply = c.in_ok-reply.reply } in
     let told = c.in_ok-reply.ensures in
-    let count = ap (λ (u : State). length u.threads) told.state ∙ step_count c.self.inside.machine.image c.self.inside.machine.state c.args.t in
+    let count = line_count c.self.inside.machine.image c.self.inside.machine.state c.args.t c.in_ok-reply.reply c.step.new.self.state told.step in
     let fits = fits_step c.self.inside.machine c.step.new.self c.self.inside.events.items event c.self.invariant (omega arith) (omega arith) told.image told.step count in
     let items : c.push_reserved.new.self.items ≡ c.self.inside.events.items ++ event ∷ [] = c.push_reserved.ensures.items ∙ ap (λ (es : List Event). es ++ event ∷ []) c.in_ok-reserve.ensures.items in
     subst (λ (es : List Event). LeadsTo c.step.new.self.image (length c.step.new.self.state.threads) es c.step.new.self.state) (sym items) fits.leads

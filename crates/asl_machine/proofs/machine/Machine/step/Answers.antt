@@ -20,24 +20,6 @@ invariant_of-self c =
     step_machine c.self.inside.code c.self.inside.heap c.self.inside.heap c.self.inside.forest c.self.inside.forest c.self.inside.threads.items c.args.t
     c.index_mut-thread.result.now c.try_local_step.new.self c.self.invariant at (told.thread is) (told.objects is) (told.holding is) refl refl
 
-pub returns-then-try_local_step-clause-reply : goal.returns-then-try_local_step-clause-reply
-returns-then-try_local_step-clause-reply c =
-    let lt : c.args.t < length c.self.inside.threads.items = omega arith in
-    let at = slice_get_read c.self.inside.threads.items _ c.args.t c.index_mut-thread.result.now refl lt c.index_mut-thread.ensures.value in
-    let told = c.try_local_step.ensures in
-    let is = c.if-try_local_step.true in
-    rw (← c.self.view_is) (sym (told.reply is)
-    ∙ step_reply c.self.inside.code c.self.inside.heap c.self.inside.forest c.self.inside.threads.items c.args.t c.index_mut-thread.result.now c.self.invariant at)
-
-pub returns-then-try_local_step-clause-state : goal.returns-then-try_local_step-clause-state
-returns-then-try_local_step-clause-state c =
-    let lt : c.args.t < length c.self.inside.threads.items = omega arith in
-    let at = slice_get_read c.self.inside.threads.items _ c.args.t c.index_mut-thread.result.now refl lt c.index_mut-thread.ensures.value in
-    let told = c.try_local_step.ensures in
-    let is = c.if-try_local_step.true in
-    rw (← c.self.view_is) (step_state c.self.inside.code c.self.inside.heap c.self.inside.heap c.self.inside.forest c.self.inside.forest c.self.inside.threads.items c.args.t
-    c.index_mut-thread.result.now c.try_local_step.new.self c.self.invariant at (told.thread is) (told.objects is) (told.holding is))
-
 pub returns-then-try_local_step-clause-step : goal.returns-then-try_local_step-clause-step
 returns-then-try_local_step-clause-step c =
     let lt : c.args.t < length c.self.inside.threads.items = omega arith in

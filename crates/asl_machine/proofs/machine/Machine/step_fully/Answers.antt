@@ -27,21 +27,6 @@ invariant_of-self-2 c =
     step_machine c.self.inside.code c.self.inside.heap c.step.new.heap c.self.inside.forest c.step.new.forest c.self.inside.threads.items c.args.t
     c.index_mut-thread.result.now c.step.new.self c.self.invariant at told.thread told.objects told.holding told.classes told.threads
 
-pub returns-clause-reply : goal.returns-clause-reply
-returns-clause-reply c =
-    let lt = subst (λ (m : Configuration). c.args.t < length m.state.threads) (sym c.self.view_is) c.requires.there in
-    let at = slice_get_read c.self.inside.threads.items _ c.args.t c.index_mut-thread.result.now refl lt c.index_mut-thread.ensures.value in
-    rw (← c.self.view_is) (c.in_ok-step.ensures.reply
-    ∙ step_reply c.self.inside.code c.self.inside.heap c.self.inside.forest c.self.inside.threads.items c.args.t c.index_mut-thread.result.now c.self.invariant at)
-
-pub returns-clause-state : goal.returns-clause-state
-returns-clause-state c =
-    let lt = subst (λ (m : Configuration). c.args.t < length m.state.threads) (sym c.self.view_is) c.requires.there in
-    let at = slice_get_read c.self.inside.threads.items _ c.args.t c.index_mut-thread.result.now refl lt c.index_mut-thread.ensures.value in
-    let told = c.in_ok-step.ensures in
-    rw (← c.self.view_is) (step_state c.self.inside.code c.self.inside.heap c.step.new.heap c.self.inside.forest c.step.new.forest c.self.inside.threads.items c.args.t
-    c.index_mut-thread.result.now c.step.new.self c.self.invariant at told.thread told.objects told.holding)
-
 pub returns-clause-step : goal.returns-clause-step
 returns-clause-step c =
     let lt = subst (λ (m : Configuration). c.args.t < length m.state.threads) (sym c.self.view_is) c.requires.there in
