@@ -21,7 +21,7 @@ use std::alloc::Global;
 const LETTERS: u32 = 0x4153_4c4a;
 
 /// The number of the reply that the step ran.
-const RAN: u8 = 0;
+pub(crate) const RAN: u8 = 0;
 
 /// How many threads: as many as journals of files of this version have.
 #[tactic(auto, unfolding(crate::specs::JournalFields::threads_at))]

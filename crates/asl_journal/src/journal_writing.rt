@@ -11,6 +11,7 @@ ghost use Rattle.asl_journal.specs.Bytes.{four, value_fields, fault_fields, repl
 
 use crate::event::Event;
 use crate::journal::Journal;
+use crate::journal_fields::RAN;
 use asl_code::{Value, put_value, version_for};
 use asl_loader::shared_fields::{put_byte, put_effect, put_two};
 use asl_machine::{Fault, Reply};
@@ -48,9 +49,13 @@ fn put_events(out: &mut Vec<u8>, events: &[Event]) -> Result<(), AllocError>
     Ok(())
 }
 
+/// Most steps reply that they ran, so such an event is written at once.
 fn put_event(out: &mut Vec<u8>, event: Event) -> Result<(), AllocError>
     ensures { OnOk result (Writes Event (λ event. IsReply event.reply) event_fields out.old.items out.new.items event) }
 {
+    if let Reply::Ran = event.reply {
+        return out.extend_from_slice(&[event.thread, RAN]);
+    }
     put_byte(out, event.thread)?;
     put_reply(out, event.reply)
 }
