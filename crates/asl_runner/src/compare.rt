@@ -7,12 +7,14 @@ ghost use Rattle.asl_runner.specs.Comparing.{HaveCome, IsNext, TellsTruth};
 use crate::limits::MAX_WORKERS;
 use crate::report::Report;
 use asl_journal::{Event, Receipt};
-use asl_machine::Machine;
+use asl_machine::{Machine, Reply};
 
 /// For how many workers there is a place.
 const PLACES: usize = MAX_WORKERS as usize;
 
-/// A worker with wrong receipts: the first of which the journal shows it, or else one that has receipts left over.
+/// A worker with wrong receipts: the first of which the journal shows it, or else one that has receipts left over. It stays a call
+/// of its own, so that the walk has all registers.
+#[inline(never)]
 pub fn wrong_worker(report: &Report, workers: u8) -> Option<u8>
     requires some { 0 < workers }
     requires few { workers ≤ 8 }
@@ -77,7 +79,17 @@ fn is_of(receipt: &Receipt, index: usize, event: &Event) -> bool
 {
     receipt.index as usize == index
         && receipt.thread == event.thread
-        && receipt.reply == event.reply
+        && are_same(receipt.reply, event.reply)
+}
+
+/// Whether the replies are the same. Most steps reply that they ran, so this is looked at first.
+fn are_same(reply: Reply, other: Reply) -> bool
+    ensures { MatchBool result (reply ≡ other) (¬ (reply ≡ other)) }
+{
+    match (reply, other) {
+        (Reply::Ran, Reply::Ran) => true,
+        _ => reply == other,
+    }
 }
 
 /// Whether the thread has ended, where the receipt says so.
