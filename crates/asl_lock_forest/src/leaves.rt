@@ -124,7 +124,7 @@ impl Leaves {
         match self.key(leaf) {
             Some(key) => {
                 self.rows[key][thread] = 0;
-                if is_idle(self.rows[key]) {
+                if is_idle(&self.rows[key]) {
                     self.rows.remove(key);
                     self.index.swap_remove(&leaf);
                 }
@@ -135,8 +135,8 @@ impl Leaves {
 }
 
 /// Whether no thread holds anything by this row.
-fn is_idle(row: Row) -> bool
-    ensures { IsTrue result ↔ (row ≡ zeros) }
+fn is_idle(row: &Row) -> bool
+    ensures { IsTrue result ↔ (row.now ≡ zeros) }
 {
-    row == NOBODY
+    *row == NOBODY
 }
