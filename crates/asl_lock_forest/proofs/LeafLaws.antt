@@ -5,7 +5,8 @@ use Rattle.std.proofs.lemmas.List.{get_or-set_same, length-set, set-get_or, set_
 use Rattle.std.proofs.lemmas.List.Elements.{All-set, same_from_all_zip}
 use Rattle.std.proofs.lemmas.Map.Entries.{entries_from_clone}
 use Rattle.std.specs.List.{AllZip, each_same}
-use Rattle.std.specs.Map.{lookup}
+use Rattle.std.specs.Map.{lookup, lookup_key}
+use Rattle.std.proofs.lemmas.Map.Made.{lookup_key_passes}
 use Rattle.std.specs.Array.{AllZipBelow}
 use Rattle.std.proofs.lemmas.List.Sums.{length-filter}
 use Rattle.slab.specs.Slab.{Slab, Updates}
@@ -40,6 +41,13 @@ tell_leaves a b = elim (leaf_eq a b) as (λ t. leaf_eq a b ≡ t → ((t ≡ tru
         cc,
   )
 ] refl
+
+-- the leaf that is stored is the one that was looked for
+pub found_leaf : (leaf stored : Leaf) (entries : List (Leaf × ℕ)) → Some stored ≡ lookup_key (leaf_eq leaf) entries → stored ≡ leaf
+found_leaf leaf stored entries is = elim (tell_leaves leaf stored) [
+  | inl same ↦ sym same.1
+  | inr other ↦ let no : true ≡ false = sym (lookup_key_passes (leaf_eq leaf) entries stored (sym is)) ∙ other.0 in cc
+]
 
 -- what two options of numbers hold
 some_same : {a b : ℕ} → Some a ≡ Some b → a ≡ b

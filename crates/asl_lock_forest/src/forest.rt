@@ -173,6 +173,7 @@ impl Forest {
     }
 
     /// The mode in which the thread holds the node.
+    #[inline(always)]
     pub fn mode(&self, thread: u32, node: Node) -> Mode
         requires thread_there { thread < self.now.threads }
         requires class_there { IsThere self.now.classes node }
@@ -201,6 +202,7 @@ impl Forest {
     }
 
     /// Whether what the thread holds at the node covers what is below it for the effect.
+    #[inline(always)]
     fn reaches(&self, thread: u32, node: Node, effect: Effect) -> bool
         requires thread_there { thread < self.now.threads }
         requires class_there { IsThere self.now.classes node }

@@ -1,5 +1,5 @@
 //! The rows of the leaves that some thread holds, found by cell and class.
-ghost use Rattle.std.specs.Prelude.{◌≡◌, ◌≢◌, ℕ, ◌<◌, ◌+◌, slice_set, IsTrue, ◌↔◌, IfOk, OnOk};
+ghost use Rattle.std.specs.Prelude.{◌≡◌, ◌≢◌, ℕ, ◌<◌, ◌+◌, None, Some, slice_get, slice_set, IsTrue, ◌↔◌, IfOk, OnOk, MatchOption};
 ghost use Rattle.asl_mode_lanes.specs.Row.{IsCode};
 ghost use Rattle.asl_lock_forest.specs.Leaves.{Leaf, key_of_leaf, leaf_row, IsKept, HasRoom, SameLeaves, IsBare, zeros, width};
 
@@ -79,6 +79,18 @@ impl Leaves {
         self.index.get(&leaf).copied()
     }
 
+    /// Where in the index the leaf is, and the key of its row.
+    #[inline(always)]
+    fn place(&self, leaf: (u16, u8, u16)) -> Option<(usize, usize)>
+        ensures { MatchOption result (key_of_leaf self.now leaf ≡ None)
+            (λ place. (slice_get self.now.index.entries place.0 ≡ Some (leaf, place.1)) × (key_of_leaf self.now leaf ≡ Some place.1)) }
+    {
+        match self.index.get_full(&leaf) {
+            Some((index, _stored, key)) => Some((index, *key)),
+            None => None,
+        }
+    }
+
     /// The leaf's row.
     pub fn row(&self, leaf: (u16, u8, u16)) -> &Row
         requires { IsKept self.now }
@@ -121,12 +133,12 @@ impl Leaves {
         ensures changed { leaf_row self.new leaf ≡ slice_set (leaf_row self.old leaf) thread 0 }
         ensures others { (other : Leaf) → other ≢ leaf → leaf_row self.new other ≡ leaf_row self.old other }
     {
-        match self.key(leaf) {
-            Some(key) => {
+        match self.place(leaf) {
+            Some((index, key)) => {
                 self.rows[key][thread] = 0;
                 if is_idle(&self.rows[key]) {
                     self.rows.remove(key);
-                    self.index.swap_remove(&leaf);
+                    self.index.swap_remove_index(index);
                 }
             }
             None => {}

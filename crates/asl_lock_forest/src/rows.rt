@@ -65,6 +65,7 @@ impl Rows {
     }
 
     /// The node's row.
+    #[inline(always)]
     pub fn row(&self, node: Node) -> &Row
         requires kept { AreKept self.now }
         requires there { IsThere (length self.now.classes.items) node }
