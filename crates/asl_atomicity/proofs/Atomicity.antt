@@ -2,7 +2,7 @@
 use Rattle.std.proofs.Common.{ℕ}
 use Rattle.asl_code.specs.declared.image.Image.{Image}
 use Rattle.asl_code.specs.Fits.{FitsImage}
-use Rattle.asl_machine.proofs.Invariant.{length-first_threads}
+use Rattle.asl_machine.proofs.Starts.{length-first_threads}
 use Rattle.asl_atomicity.proofs.Computed.{HasSerialRuns, IsGuarded}
 use Rattle.asl_atomicity.proofs.Guards.{entries_unseen}
 use Rattle.asl_atomicity.proofs.Swaps.{can_swap}

@@ -29,7 +29,8 @@ use Rattle.asl_expression.specs.Expression.{cell_of, pointed, base_cell, walked,
 use Rattle.asl_machine.specs.Request.{heap_of, cell_asks, leaf_asks, asks_of, all_asks, joined_all, request_of}
 use Rattle.asl_machine.specs.StepFunction.{holding_after, release_fate, holding_released}
 use Rattle.asl_machine.specs.Fresh.{PointElsewhere}
-use Rattle.asl_machine.proofs.Heaps.{class_there, pointed_value, class_of-written, size_of-written}
+use Rattle.asl_machine.proofs.Heaps.{class_there, class_of-written, size_of-written}
+use Rattle.asl_machine.proofs.WellFormedHeaps.{pointed_value}
 use Rattle.asl_expression.proofs.Paths.{star_reads, moved_stays}
 use Rattle.asl_atomicity.specs.Serial.{ReadsCovered, ListCovered}
 use Rattle.asl_atomicity.proofs.Uniform.{HoldingEdit, After, Acquired, Released, edit, edit_other}

@@ -20,7 +20,7 @@ use Rattle.asl_machine.specs.WellFormed.{AreWellFormed}
 use Rattle.asl_machine.specs.Request.{heap_of, leaf_asks, cell_asks, asks_of, all_asks, joined_all, request_of}
 use Rattle.asl_machine.specs.StepFunction.{address_or_bounds, made_objects}
 use Rattle.asl_machine.proofs.Lists.{get_before}
-use Rattle.asl_machine.proofs.Heaps.{global_points, moved_points}
+use Rattle.asl_machine.proofs.WellFormedHeaps.{global_points, moved_points}
 use Rattle.asl_atomicity.proofs.Stores.{object_of}
 use Rattle.asl_atomicity.proofs.Renaming.{HasGlobals}
 

@@ -19,8 +19,10 @@ use Rattle.asl_code.specs.declared.image.Function.{Function}
 use Rattle.asl_code.specs.Fits.{FitsImage, LiesIn}
 use Rattle.asl_machine.specs.StepFunction.{made_objects, Stepped, acquire_fate, reply_of, turn_by, left_at, step_at, step_of}
 use Rattle.asl_lock_forest.proofs.Grantable.{CanGrant-tested, can_grant-tells}
-use Rattle.asl_machine.proofs.RequestLaws.{request_asks_modes, request_is_rooted}
-use Rattle.asl_machine.proofs.Invariant.{here_of, outside_here, instr_here}
+use Rattle.asl_machine.proofs.RootedRequests.{request_is_rooted}
+use Rattle.asl_machine.proofs.RequestEntries.{request_asks_modes}
+use Rattle.asl_machine.proofs.Following.{outside_here}
+use Rattle.asl_machine.proofs.Invariant.{here_of, instr_here}
 use Rattle.asl_atomicity.specs.Serial.{heard, ListCovered}
 use Rattle.asl_atomicity.proofs.Computed.{IsGuarded}
 use Rattle.asl_atomicity.proofs.Swapping.{EntriesUnseen}

@@ -29,7 +29,7 @@ use Rattle.asl_machine.specs.Step.{after, made_fresh, having_made}
 use Rattle.asl_machine.specs.WellFormed.{SatisfiesInvariant, AreSuspended}
 use Rattle.asl_machine.specs.StepFunction.{Stepped, turn_by, left_at, step_at, step_of}
 use Rattle.asl_machine.proofs.Lists.{get_other, get_before, get_last, is_there}
-use Rattle.asl_machine.proofs.Heaps.{many_globals}
+use Rattle.asl_machine.proofs.WellFormedHeaps.{many_globals}
 use Rattle.asl_machine.proofs.Freshness.{fresh_got}
 use Rattle.asl_atomicity.specs.Renamed.{Renaming, value_by, node_by, reply_by, object_by, frame_by, thread_by, IsRenamed, Keeps}
 use Rattle.asl_atomicity.proofs.Commuting.{crossed, crossed_first, crossed_second, crossed_other, crossed_past, crossing, below_stays, above_apart}

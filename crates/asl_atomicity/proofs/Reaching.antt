@@ -13,7 +13,7 @@ use Rattle.asl_machine.specs.Fresh.{AreApart}
 use Rattle.asl_machine.proofs.Reached.{step_count}
 use Rattle.asl_machine.proofs.TableRuns.{state_reached}
 use Rattle.asl_machine.proofs.ReachedApart.{reached_apart}
-use Rattle.asl_machine.proofs.Invariant.{length-first_threads}
+use Rattle.asl_machine.proofs.Starts.{length-first_threads}
 use Rattle.asl_atomicity.proofs.Swapping.{Stands}
 
 -- a schedule of threads below the count that leads from one state to the other

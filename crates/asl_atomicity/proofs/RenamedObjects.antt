@@ -22,7 +22,7 @@ use Rattle.asl_machine.specs.Access.{is_protected}
 use Rattle.asl_machine.specs.Step.{with_fresh, having_made}
 use Rattle.asl_machine.specs.StepFunction.{Left, register_of, fate_of, activity_set, set_left, computed, truth, same_value, address_or_bounds, address_moved, made_objects, make_left, allowed_cell, accessed, loaded, store_left}
 use Rattle.asl_machine.proofs.Lists.{get_same, get_other, get_before, get_last, is_there}
-use Rattle.asl_machine.proofs.Heaps.{length-written}
+use Rattle.asl_machine.proofs.WellFormedHeaps.{length-written}
 use Rattle.asl_atomicity.specs.Renamed.{Renaming, value_by, cell_by, fault_by, object_by, activity_by, Keeps}
 use Rattle.asl_atomicity.proofs.Uniform.{place_at}
 use Rattle.asl_atomicity.proofs.Stores.{written_is}

@@ -18,7 +18,7 @@ use Rattle.asl_machine.specs.Step.{At, Line, StepOf}
 use Rattle.asl_machine.specs.StepFunction.{step_of}
 use Rattle.asl_machine.specs.WellFormed.{SatisfiesInvariant}
 use Rattle.asl_machine.proofs.Lists.{one_more}
-use Rattle.asl_machine.proofs.Invariant.{start_sound}
+use Rattle.asl_machine.proofs.Starts.{start_sound}
 use Rattle.asl_machine.proofs.Reached.{step_count}
 use Rattle.asl_machine.proofs.Table.{step_is}
 use Rattle.asl_atomicity.specs.Serial.{heard, IsInside}

@@ -27,8 +27,9 @@ use Rattle.asl_machine.specs.ComputedRun.{state_after}
 use Rattle.asl_machine.specs.StepFunction.{Stepped, register_of, fate_of, computed, added, subtracted, compared, address_or_bounds, address_moved, allowed_cell, accessed, loaded, fate_returned, acquire_fate, left_by, left_at, reply_of, thread_after, turn_by, step_at, step_of}
 use Rattle.asl_machine.specs.WellFormed.{SatisfiesInvariant, IsPlaced}
 use Rattle.asl_machine.proofs.Lists.{get_either, one_more}
-use Rattle.asl_machine.proofs.Heaps.{length-written, points_within}
-use Rattle.asl_machine.proofs.Invariant.{after_same, here_of, instr_here, start_sound, step_sound}
+use Rattle.asl_machine.proofs.WellFormedHeaps.{length-written, points_within}
+use Rattle.asl_machine.proofs.Invariant.{after_same, here_of, instr_here, step_sound}
+use Rattle.asl_machine.proofs.Starts.{start_sound}
 use Rattle.asl_atomicity.specs.Serial.{heard}
 use Rattle.asl_atomicity.specs.Renamed.{reply_by}
 use Rattle.asl_atomicity.proofs.Computed.{told}

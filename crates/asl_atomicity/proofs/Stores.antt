@@ -10,7 +10,7 @@ use Rattle.asl_code.specs.declared.value.Cell.{Cell}
 use Rattle.asl_machine.specs.State.{Object, cell_at, with_cell, written, new_object}
 use Rattle.asl_machine.specs.StepFunction.{made_objects}
 use Rattle.asl_machine.proofs.Lists.{get_same, get_other, get_before}
-use Rattle.asl_machine.proofs.Heaps.{length-written}
+use Rattle.asl_machine.proofs.WellFormedHeaps.{length-written}
 use Rattle.asl_atomicity.proofs.Uniform.{ObjectsEdit, Same, Stored, Made, put}
 
 pub set_set : {X : Type 0} (xs : List X) (i j : ℕ) (v w : X) → i ≢ j → set (set xs i v) j w ≡ set (set xs j w) i v

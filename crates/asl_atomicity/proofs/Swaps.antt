@@ -21,7 +21,7 @@ use Rattle.asl_machine.specs.Step.{after}
 use Rattle.asl_machine.specs.StepFunction.{Turn, Stepped, register_of, turn_by, left_at, step_at, step_of}
 use Rattle.asl_machine.specs.WellFormed.{SatisfiesInvariant}
 use Rattle.asl_machine.proofs.Lists.{get_other}
-use Rattle.asl_machine.proofs.Heaps.{length-written}
+use Rattle.asl_machine.proofs.WellFormedHeaps.{length-written}
 use Rattle.asl_machine.proofs.Invariant.{here_of, instr_here}
 use Rattle.asl_atomicity.specs.Serial.{heard}
 use Rattle.asl_atomicity.proofs.Swapping.{CanSwap, InSection, EntryUnseen, EntriesUnseen}

@@ -13,7 +13,7 @@ use Rattle.asl_machine.specs.State.{Thread, Running, Done, Failed, State, depth_
 use Rattle.asl_machine.specs.Run.{start_of}
 use Rattle.asl_machine.specs.ComputedRun.{state_after}
 use Rattle.asl_machine.specs.StepFunction.{step_of}
-use Rattle.asl_machine.proofs.Invariant.{start_sound, length-first_threads}
+use Rattle.asl_machine.proofs.Starts.{start_sound, length-first_threads}
 use Rattle.asl_atomicity.specs.Serial.{heard}
 use Rattle.asl_atomicity.proofs.Computed.{told, outside, AllCount, IsSerial, IsGuarded, FindsRoomInside, HasSerialRunsUpTo}
 use Rattle.asl_atomicity.proofs.Swapping.{Stands, InSection}

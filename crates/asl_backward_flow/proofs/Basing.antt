@@ -24,7 +24,7 @@ use Rattle.asl_lower.specs.Regions.{Region, Body, Inside, IsIn, Between}
 use Rattle.asl_lower.specs.LegalLowering.{IsLegalLowering}
 use Rattle.asl_lower.proofs.Layouts.{kept_layout}
 use Rattle.asl_points_to.specs.Classes.{Classed, to, AreClasses}
-use Rattle.asl_points_to.proofs.Uniques.{member_below, register_below, cell_below}
+use Rattle.asl_points_to.proofs.CountedClasses.{member_below, register_below, cell_below}
 use Rattle.asl_lock_expr.specs.ClassOf.{base_class, step_class, path_class, class_of}
 use Rattle.asl_lock_expr.specs.Links.{LinkContext, view, IsOne, on, class_lock, settled, settle, is_register, is_star, is_class, begins_with_star, hits, replaced, before, link, accesses, renamed, renamed_on, dereferenced, IsSettled}
 use Rattle.asl_lock_expr.proofs.Ones.{one_either}

@@ -26,7 +26,8 @@ use Rattle.asl_backward_flow.specs.Needed.{Needed}
 use Rattle.asl_machine.specs.State.{Activity, State}
 use Rattle.asl_machine.specs.Request.{request_of}
 use Rattle.asl_machine.specs.Cover.{cover}
-use Rattle.asl_machine.proofs.Invariant.{here_of, outside_here}
+use Rattle.asl_machine.proofs.Following.{outside_here}
+use Rattle.asl_machine.proofs.Invariant.{here_of}
 use Rattle.asl_soundness.proofs.Analysed.{IsAnalysed}
 use Rattle.asl_soundness.specs.Covering.{CoversLock}
 use Rattle.asl_soundness.specs.Protected.{Protected, BaseThere, LockThere}

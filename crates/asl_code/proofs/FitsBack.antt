@@ -21,7 +21,8 @@ use Rattle.asl_code.specs.declared.lock.Base.TheVariants.{Reg, Global}
 use Rattle.asl_code.specs.declared.lock.Lock.{Lock}
 use Rattle.asl_code.specs.declared.lock.Lock.TheVariants as lock
 use Rattle.asl_code.proofs.Versions.{limits_there, locks_set}
-use Rattle.asl_code.proofs.FitsLaws.{begin, begin-suc, lies_within, element_at}
+use Rattle.asl_code.proofs.BodyPlaces.{begin, begin-suc, lies_within}
+use Rattle.asl_code.proofs.TestsTold.{element_at}
 
 -- a list passes a test that each of its elements passes
 pub all_pass : {X : Type 0} (test : X → Bool) (xs : List X) → ((n : ℕ) (x : X) → slice_get xs n ≡ Some x → test x ≡ true) → list_all test xs ≡ true

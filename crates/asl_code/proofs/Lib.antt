@@ -1,5 +1,10 @@
 pub mod FitsBack
+pub mod BodyPlaces
+pub mod TestsTold
 pub mod FitsLaws
+pub mod GoodRows
+pub mod RowReadings
+pub mod RowRefusals
 pub mod Instrs
 pub mod OneAnswer
 pub mod Scanning

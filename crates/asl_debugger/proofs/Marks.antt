@@ -11,7 +11,7 @@ use Rattle.asl_machine.specs.Run.{IsThreadCount, start_of}
 use Rattle.asl_journal.specs.Journal.{Log, IsLog, IsJournal}
 use Rattle.asl_journal.specs.Computed.{GoesBy}
 use Rattle.asl_journal.proofs.ByTable.{journal_of}
-use Rattle.asl_journal.proofs.Replays.{no_difference}
+use Rattle.asl_journal.proofs.Differences.{no_difference}
 use Rattle.asl_debugger.specs.declared.fault.DebugFault.{DebugFault}
 use Rattle.asl_debugger.specs.declared.fault.DebugFault.TheVariants.{AtEnd, AtStart, NoSuchStep, Differs, OutOfMemory, BadCount}
 use Rattle.asl_debugger.specs.Opening.{IsOpenFault}

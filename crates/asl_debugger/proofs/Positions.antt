@@ -13,14 +13,14 @@ use Rattle.asl_machine.specs.ComputedRun.{state_after}
 use Rattle.asl_machine.specs.declared.reply.Reply.{Reply}
 use Rattle.asl_machine.specs.Step.{Step}
 use Rattle.asl_machine.specs.StepFunction.{step_of}
-use Rattle.asl_machine.proofs.Invariant.{length-first_threads}
+use Rattle.asl_machine.proofs.Starts.{length-first_threads}
 use Rattle.asl_machine.proofs.Runs.{count_after}
 use Rattle.asl_machine.proofs.Unique.{step_only}
 use Rattle.asl_journal.specs.declared.event.Event.{Event}
 use Rattle.asl_journal.specs.Journal.{Log, IsLog, IsJournal, schedule_of}
 use Rattle.asl_journal.specs.Computed.{GoesBy}
 use Rattle.asl_journal.proofs.ByTable.{goes_of}
-use Rattle.asl_journal.proofs.Replays.{DiffersBy}
+use Rattle.asl_journal.proofs.Differences.{DiffersBy}
 use Rattle.asl_journal.proofs.Runs.{state_events, state_snoc, goes_append, goes_back, prefix_is_journal}
 use Rattle.asl_debugger.specs.Halts.{MayWantMemoryBefore}
 use Rattle.asl_debugger.specs.Computed.{state_before, machine_before}

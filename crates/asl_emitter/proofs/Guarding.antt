@@ -28,7 +28,8 @@ use Rattle.asl_backward_flow.specs.Needed.{Needed, Before}
 use Rattle.asl_machine.specs.State.{Object, Activity, State}
 use Rattle.asl_machine.specs.Request.{heap_of, request_of}
 use Rattle.asl_machine.specs.Cover.{cover}
-use Rattle.asl_machine.proofs.Invariant.{here_of, outside_here}
+use Rattle.asl_machine.proofs.Following.{outside_here}
+use Rattle.asl_machine.proofs.Invariant.{here_of}
 use Rattle.asl_soundness.proofs.Analysed.{IsAnalysed}
 use Rattle.asl_soundness.specs.Coded.{classed}
 use Rattle.asl_soundness.specs.Covering.{CoversLock}

@@ -27,7 +27,7 @@ use Rattle.asl_lower.specs.Limits.{FitsTable}
 use Rattle.asl_lower.specs.Operands.{HasOperands}
 use Rattle.asl_lower.proofs.Layouts.{kept_layout}
 use Rattle.asl_points_to.specs.Classes.{Classed, AreClasses, to}
-use Rattle.asl_points_to.proofs.Uniques.{member_below, register_below, cell_below}
+use Rattle.asl_points_to.proofs.CountedClasses.{member_below, register_below, cell_below}
 use Rattle.asl_lock_expr.specs.ClassOf.{class_of, base_class, path_class, step_class}
 use Rattle.asl_lock_expr.specs.Links.{IsOne, class_lock}
 use Rattle.asl_backward_flow.specs.Needed.{Needed}

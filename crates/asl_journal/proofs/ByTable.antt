@@ -10,7 +10,7 @@ use Rattle.asl_machine.specs.Run.{IsThreadCount, IsReached, start_of, RunsBy}
 use Rattle.asl_machine.specs.ComputedRun.{state_after}
 use Rattle.asl_machine.specs.Step.{Step}
 use Rattle.asl_machine.specs.WellFormed.{SatisfiesInvariant}
-use Rattle.asl_machine.proofs.Invariant.{start_sound, length-first_threads}
+use Rattle.asl_machine.proofs.Starts.{start_sound, length-first_threads}
 use Rattle.asl_machine.proofs.Reached.{reached_sound, reached_count}
 use Rattle.asl_machine.proofs.TableRuns.{run_is, run_only, one_run, state_reached}
 use Rattle.asl_journal.specs.declared.event.Event.{Event}

@@ -7,7 +7,8 @@ use Rattle.asl_code.proofs.Versions.{version_of_few, version_of_many}
 use Rattle.asl_loader.specs.Bytes.{one}
 use Rattle.asl_loader.specs.SharedFields.{byte_at, number_at}
 use Rattle.asl_loader.proofs.Reader.{Reads}
-use Rattle.asl_loader.proofs.Fields.{reads_as, reads_number, reads_tested, byte_number, four_number}
+use Rattle.asl_loader.proofs.FieldNumbers.{reads_as, byte_number, four_number}
+use Rattle.asl_loader.proofs.Fields.{reads_number, reads_tested}
 use Rattle.asl_journal.specs.Journal.{IsCount, most_events}
 use Rattle.asl_journal.specs.Bytes.{four}
 use Rattle.asl_journal.specs.JournalFields.{is_count, threads_at, count_at}

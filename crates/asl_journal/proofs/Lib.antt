@@ -5,10 +5,13 @@ pub mod Logs
 pub mod Kept
 mod Lengths
 pub mod Outcomes
-pub mod SharedFields
+pub mod ValueFields
+pub mod FaultFields
+pub mod ReplyFields
 pub mod Recordings
 pub mod Ran
 pub mod Replays
+pub mod Differences
 pub mod RunFiles
 pub mod Runs
 pub mod Values

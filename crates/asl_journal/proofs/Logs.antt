@@ -10,7 +10,8 @@ use Rattle.asl_loader.specs.Bytes.{one, two}
 use Rattle.asl_loader.specs.declared.fault.Stop.{Stop}
 use Rattle.asl_loader.specs.SharedFields.{◌>>=◌, letters_at, version_at}
 use Rattle.asl_loader.specs.ImageFields.{items_at}
-use Rattle.asl_loader.proofs.Reader.{Reads, reads_key, reads_nothing, done, ok_is}
+use Rattle.asl_loader.proofs.Reader.{Reads, reads_nothing, done, ok_is}
+use Rattle.asl_loader.proofs.WrongInTwo.{reads_key}
 use Rattle.asl_loader.proofs.Fields.{letters_reads, version_reads}
 use Rattle.asl_loader.proofs.Items.{AreSoMany, items_reads}
 use Rattle.asl_journal.specs.declared.event.Event.{Event}
@@ -18,7 +19,7 @@ use Rattle.asl_journal.specs.Journal.{Log, IsCount, AreThere, most_events}
 use Rattle.asl_journal.specs.Bytes.{four, event_fields, log_fields, IsEvent, HasBytes, LogOfSpellingIsOne}
 use Rattle.asl_journal.specs.JournalFields.{threads_at, count_at, event_at, log_at}
 use Rattle.asl_journal.proofs.Front.{IsCountIn, some_count, threads_reads, count_reads}
-use Rattle.asl_journal.proofs.SharedFields.{event_reads}
+use Rattle.asl_journal.proofs.ReplyFields.{event_reads}
 
 -- events whose fields hold them are of threads that are there
 pub there_of : (threads : ℕ) (events : List Event) → AllByRecursion (IsEvent threads) events → AreThere threads events

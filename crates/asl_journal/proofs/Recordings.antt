@@ -12,7 +12,7 @@ use Rattle.asl_machine.specs.State.{State}
 use Rattle.asl_machine.specs.View.{Configuration}
 use Rattle.asl_machine.specs.Run.{IsThreadCount, start_of}
 use Rattle.asl_machine.specs.Step.{Step}
-use Rattle.asl_machine.proofs.Invariant.{length-first_threads}
+use Rattle.asl_machine.proofs.Starts.{length-first_threads}
 use Rattle.asl_journal.specs.declared.event.Event.{Event}
 use Rattle.asl_journal.specs.Journal.{AreThere, IsCount, LeadsTo, most_events}
 use Rattle.asl_journal.specs.Recorded.{Fits}

@@ -11,7 +11,7 @@ use Rattle.asl_loader.specs.declared.fault.LoadFault.{LoadFault}
 use Rattle.asl_loader.specs.declared.fault.Stop.{Stop}
 use Rattle.asl_loader.specs.Faults as image_faults
 use Rattle.asl_loader.specs.SharedFields.{number_at}
-use Rattle.asl_loader.proofs.Fields.{four_number}
+use Rattle.asl_loader.proofs.FieldNumbers.{four_number}
 use Rattle.asl_loader.proofs.Images.{image_is_one}
 use Rattle.asl_loader.proofs.Lists.{verified_short}
 use Rattle.asl_loader.proofs.Outcomes as images

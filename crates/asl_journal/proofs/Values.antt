@@ -16,7 +16,7 @@ use Rattle.asl_loader.specs.declared.fault.Stop.TheVariants.{Short, Bad}
 use Rattle.asl_loader.specs.SharedFields.{byte_at, below_at}
 use Rattle.asl_journal.specs.Bytes.{value_fields}
 use Rattle.asl_journal.specs.JournalFields.{value_of, value_at}
-use Rattle.asl_journal.proofs.SharedFields.{value_reads}
+use Rattle.asl_journal.proofs.ValueFields.{value_reads}
 
 -- the fields of a value are its bytes
 pub value_text : (v : Value) → text_of (value_fields v) ≡ value_bytes v

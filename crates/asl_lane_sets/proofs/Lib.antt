@@ -1,4 +1,5 @@
 pub mod ComparedLanes
 pub mod Blocks
 pub mod Numbers
+pub mod CombinedNumbers
 pub mod Members

@@ -7,8 +7,10 @@ use Rattle.asl_loader.specs.Bytes.{Field, two, counted, AreItems}
 use Rattle.asl_loader.specs.declared.fault.Stop.{Stop}
 use Rattle.asl_loader.specs.SharedFields.{◌>>=◌, number_at}
 use Rattle.asl_loader.specs.ImageFields.{items_at, counted_at}
-use Rattle.asl_loader.proofs.Fields.{reads_as, two_reads}
-use Rattle.asl_loader.proofs.Reader.{Reads, reads_both, reads_nothing}
+use Rattle.asl_loader.proofs.FieldNumbers.{reads_as}
+use Rattle.asl_loader.proofs.Fields.{two_reads}
+use Rattle.asl_loader.proofs.Reader.{Reads, reads_nothing}
+use Rattle.asl_loader.proofs.WrongInTwo.{reads_both}
 
 -- so many items, each of which is so
 pub record AreSoMany (X : Type 0) (Is : X → Type 0) (n : ℕ) (xs : List X) : Type 0 where

@@ -9,7 +9,8 @@ use Rattle.asl_code.specs.declared.lock.Lock.{Lock}
 use Rattle.asl_code.specs.Spelling.{IsInstr}
 use Rattle.asl_code.specs.Verified.{IsVerified}
 use Rattle.asl_code.specs.Versions.{IsVersion}
-use Rattle.asl_code.proofs.FitsLaws.{image_fits, body_within}
+use Rattle.asl_code.proofs.BodyPlaces.{body_within}
+use Rattle.asl_code.proofs.FitsLaws.{image_fits}
 use Rattle.asl_code.proofs.Versions.{few_locks}
 use Rattle.asl_loader.specs.Bytes.{Field, text_of, two, magic, counted, class_fields, function_fields, instr_fields, list_fields, IsFunction, IsList, AreItems, SpellsImage}
 use Rattle.asl_loader.specs.SharedFields.{Writes}

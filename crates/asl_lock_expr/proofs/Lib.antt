@@ -3,6 +3,8 @@ pub mod Steps
 pub mod Staying
 pub mod Orders
 pub mod Derived
+pub mod RowNumbers
+pub mod Searches
 pub mod Storings
 pub mod Leaves
 pub mod Walks

@@ -10,7 +10,9 @@ use Rattle.asl_lane_sets.specs.NumberSet.{members_from, members_of}
 use Rattle.asl_lane_sets.specs.NumberSet.{IsIn as IsOf}
 use Rattle.asl_lock_expr.specs.Stores.{stores}
 use Rattle.asl_lock_expr.specs.Storing.{IsIn, IsMarked, AreOver, row}
-use Rattle.asl_lock_expr.proofs.Storings.{in_from_test, in_to_test, row_added_at, none_marked, AreBelow}
+use Rattle.asl_lock_expr.proofs.RowNumbers.{in_from_test, in_to_test, row_added_at}
+use Rattle.asl_lock_expr.proofs.Searches.{none_marked}
+use Rattle.asl_lock_expr.proofs.Storings.{AreBelow}
 
 -- ---- the numbers of a set
 

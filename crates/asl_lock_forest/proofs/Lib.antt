@@ -6,7 +6,10 @@ pub mod KeyLaws
 pub mod Swaps
 pub mod Grantable
 mod LeafLaws
+mod LeafWrites
+mod LeafCopies
 mod ListLaws
 mod RowsLaws
+mod RequestRows
 mod RowFronts
 mod SoundLaws

@@ -9,7 +9,7 @@ use Rattle.asl_mode_lanes.specs.declared.mode.Mode.{Mode}
 use Rattle.asl_mode_lanes.specs.declared.mode.Mode.TheVariants.{NL}
 use Rattle.asl_mode_lanes.specs.Mode.{is_compatible, AreCompatible}
 use Rattle.asl_mode_lanes.specs.Row.{mode_at, mode_of, IsConflict}
-use Rattle.asl_lock_forest.proofs.RowsLaws.{some_bit}
+use Rattle.asl_lock_forest.proofs.RequestRows.{some_bit}
 
 no_bit : (mask t : ℕ) → (mask == 0) ≡ true → IsBitSet mask t → ⊥
 no_bit mask t none set =

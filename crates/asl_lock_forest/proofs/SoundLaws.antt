@@ -37,7 +37,7 @@ use Rattle.asl_lock_forest.proofs.Laws.{tell_nodes, asked_unnamed}
 use Rattle.asl_lock_forest.proofs.Requests.{IsRooted-asked}
 use Rattle.asl_lock_forest.proofs.Lawful.{lawful_empty, within_empty, lawful_grant, lawful_release, within_grant, within_release}
 use Rattle.asl_lock_forest.proofs.ListLaws.{found, get_lists, held_lists, lists_released, lists_granted, unnamed_list}
-use Rattle.asl_lock_forest.proofs.RowsLaws.{named_at}
+use Rattle.asl_lock_forest.proofs.RequestRows.{named_at}
 
 -- one element of a list is replaced
 pub map_set : {X Y : Type 0} (f : X → Y) (xs : List X) (i : ℕ) (y : X) → each f (slice_set xs i y) ≡ slice_set (each f xs) i (f y)

@@ -24,7 +24,7 @@ use Rattle.asl_machine.specs.State.{Object, class_of}
 use Rattle.asl_machine.specs.Access.{AreOfClasses}
 use Rattle.asl_machine.specs.Request.{LockOfClass, IsAsk, asks_of, all_asks, cell_asks, leaf_asks, joined_with, joined_all, request_of, heap_of}
 use Rattle.asl_machine.specs.Asking.{leaf_of, node_of, asks_at, AreFree, IsHeldUp}
-use Rattle.asl_machine.proofs.RequestLaws.{asked-joined_with, request_is_least}
+use Rattle.asl_machine.proofs.LeastRequests.{asked-joined_with, request_is_least}
 use Rattle.asl_machine.proofs.Asks.{asks_among}
 use Rattle.asl_machine.proofs.Joins.{joined_all-append}
 use Rattle.std.proofs.Math.Seq.{drop-cons}

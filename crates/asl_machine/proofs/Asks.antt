@@ -18,7 +18,8 @@ use Rattle.asl_lock_forest.proofs.Laws.{held_grant_own}
 use Rattle.asl_lock_forest.proofs.NinePairs.{covers_at, at_leaf, at_class, at_root}
 use Rattle.asl_machine.specs.State.{Object}
 use Rattle.asl_machine.specs.Request.{leaf_asks, cell_asks, asks_of, all_asks, joined_with, joined_all, request_of, IsAsk, IsOn}
-use Rattle.asl_machine.proofs.RequestLaws.{ask_left, ask_right, request_is_least}
+use Rattle.asl_machine.proofs.LeastRequests.{request_is_least}
+use Rattle.asl_machine.proofs.RootedRequests.{ask_left, ask_right}
 
 -- what a lock asks is among the asks of its list
 pub asks_among : (objects : List Object) (regs : List Value) (locks : List Lock) (place : ℕ) (l : Lock) → slice_get locks place ≡ Some l →

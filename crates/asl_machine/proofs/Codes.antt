@@ -2,7 +2,7 @@
 use Rattle.std.proofs.Common.{◌≡◌, ℕ, zero, suc, ◌+◌, ◌<◌, List, [], ◌∷◌, length, get_or, refl, sym, ◌∙◌, arith}
 use Rattle.asl_code.specs.declared.image.Function.{Function}
 use Rattle.asl_code.specs.Bodies.{first_of}
-use Rattle.asl_code.proofs.FitsLaws.{begin-suc}
+use Rattle.asl_code.proofs.BodyPlaces.{begin-suc}
 use Rattle.asl_machine.specs.Ready.{firsts_from}
 
 -- there is one place a function

@@ -23,7 +23,8 @@ use Rattle.asl_machine.specs.WellFormed.{SatisfiesInvariant}
 use Rattle.asl_machine.specs.Ready.{IsMachine}
 use Rattle.asl_machine.specs.Cover.{is_fresh}
 use Rattle.asl_machine.specs.Fresh.{fresh_of, fresh_at, AreApart}
-use Rattle.asl_machine.proofs.Invariant.{start_sound, turn_follows, length-first_threads}
+use Rattle.asl_machine.proofs.Invariant.{turn_follows}
+use Rattle.asl_machine.proofs.Starts.{start_sound, length-first_threads}
 use Rattle.asl_machine.proofs.ReachedApart.{start_apart, step_of_apart}
 
 -- the state that these parts make up

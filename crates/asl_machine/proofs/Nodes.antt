@@ -30,8 +30,9 @@ use Rattle.asl_machine.specs.Request.{heap_of, leaf_asks, cell_asks, asks_of, al
 use Rattle.asl_machine.specs.StepFunction.{address_or_bounds}
 use Rattle.asl_machine.specs.WellFormed.{AreWellFormed}
 use Rattle.asl_machine.specs.Nodes.{IsLeaf, IsNode}
-use Rattle.asl_machine.proofs.Heaps.{global_points, moved_points}
-use Rattle.asl_machine.proofs.RequestLaws.{ask_either, below_all}
+use Rattle.asl_machine.proofs.WellFormedHeaps.{global_points, moved_points}
+use Rattle.asl_machine.proofs.LeastRequests.{below_all}
+use Rattle.asl_machine.proofs.RootedRequests.{ask_either}
 
 -- ---- the cell that an expression denotes is there
 

@@ -17,7 +17,7 @@ use Rattle.asl_machine.specs.State.{Object, Thread, Running, Done, Failed, State
 use Rattle.asl_machine.specs.Request.{request_of, locks_of}
 use Rattle.asl_machine.specs.StepFunction.{Place, accessed_by, register_of, objects_stored, left_by, left_at, holding_after, turn_of, step_at, step_of}
 use Rattle.asl_machine.proofs.Lists.{get_other}
-use Rattle.asl_machine.proofs.Heaps.{read_before}
+use Rattle.asl_machine.proofs.WellFormedHeaps.{read_before}
 
 -- ---- threads
 

@@ -19,8 +19,9 @@ use Rattle.asl_machine.specs.WellFormed.{SatisfiesInvariant}
 use Rattle.asl_machine.specs.World.{SomeoneGoesOn}
 use Rattle.asl_lock_forest.proofs.Grantable.{can_grant-tells, can_grant-refused}
 use Rattle.asl_lock_forest.proofs.Lawful.{way_holds}
-use Rattle.asl_machine.proofs.Invariant.{start_sound, length-first_threads}
-use Rattle.asl_machine.proofs.Table.{step_is, at_of}
+use Rattle.asl_machine.proofs.Starts.{start_sound, length-first_threads}
+use Rattle.asl_machine.proofs.ValueLines.{at_of}
+use Rattle.asl_machine.proofs.Table.{step_is}
 use Rattle.asl_machine.proofs.Lines.{of_line, line_sound, reached_keeps}
 use Rattle.asl_lock_forest.proofs.Laws.{held_nothing}
 

@@ -15,7 +15,7 @@ use Rattle.asl_machine.specs.Run.{first_thread, first_threads, start_of, IsReach
 use Rattle.asl_machine.specs.Fresh.{IsFreshFor, AreApart}
 use Rattle.asl_machine.specs.StepFunction.{step_of, step_at}
 use Rattle.asl_machine.proofs.Lists.{one_more}
-use Rattle.asl_machine.proofs.Invariant.{start_sound}
+use Rattle.asl_machine.proofs.Starts.{start_sound}
 use Rattle.asl_machine.proofs.Table.{step_is}
 use Rattle.asl_machine.proofs.Lines.{line_sound, reached_keeps}
 use Rattle.asl_machine.proofs.Freshness.{no_fresh, allowed_pairs}

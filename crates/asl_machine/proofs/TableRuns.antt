@@ -9,7 +9,8 @@ use Rattle.asl_machine.specs.Run.{start_of, RunsBy, IsReached}
 use Rattle.asl_machine.specs.ComputedRun.{replies_of, state_after}
 use Rattle.asl_machine.specs.StepFunction.{step_of}
 use Rattle.asl_machine.specs.WellFormed.{SatisfiesInvariant}
-use Rattle.asl_machine.proofs.Invariant.{start_sound, step_sound, length-first_threads}
+use Rattle.asl_machine.proofs.Invariant.{step_sound}
+use Rattle.asl_machine.proofs.Starts.{start_sound, length-first_threads}
 use Rattle.asl_machine.proofs.Table.{step_is}
 use Rattle.asl_machine.proofs.Unique.{step_only}
 use Rattle.asl_machine.proofs.Reached.{step_count}

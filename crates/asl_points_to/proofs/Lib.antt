@@ -9,6 +9,8 @@ pub mod Merges
 pub mod Narrow
 pub mod Numbering
 pub mod Owed
+pub mod BodyFacts
 pub mod Rounds
+pub mod CountedClasses
 pub mod Uniques
 pub mod Wide

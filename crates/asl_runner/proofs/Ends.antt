@@ -3,7 +3,7 @@ use Rattle.std.proofs.Common.{◌≡◌, ◌⊎◌, inl, inr, ℕ, zero, suc, �
 use Rattle.std.proofs.Math.Nat.{mod-lt}
 use Rattle.std.proofs.lemmas.Bool.{cases_lt}
 use Rattle.std.proofs.lemmas.List.{length-map}
-use Rattle.asl_code.proofs.FitsLaws.{element_at}
+use Rattle.asl_code.proofs.TestsTold.{element_at}
 use Rattle.asl_machine.specs.State.{State}
 use Rattle.asl_turns.specs.Turn.{Turn}
 use Rattle.asl_journal.specs.declared.event.Receipt.{Receipt}

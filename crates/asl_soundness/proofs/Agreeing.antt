@@ -12,7 +12,8 @@ use Rattle.asl_lock_expr.specs.Agrees.{PointsTo}
 use Rattle.asl_machine.specs.State.{Object, Frame, Activity, Thread, State, cell_at, class_of, written, new_object, activity_of}
 use Rattle.asl_machine.specs.Step.{after}
 use Rattle.asl_machine.proofs.Lists.{get_same, get_other, get_either, get_last, one_more, replicated}
-use Rattle.asl_machine.proofs.Heaps.{class_of-written, stored_or_old, read_before}
+use Rattle.asl_machine.proofs.Heaps.{class_of-written, stored_or_old}
+use Rattle.asl_machine.proofs.WellFormedHeaps.{read_before}
 use Rattle.asl_soundness.specs.Agrees.{FrameAgrees, FramesAgree, ThreadAgrees, CellsAgree, Agrees}
 
 -- ---- values and frames

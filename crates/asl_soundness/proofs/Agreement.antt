@@ -20,8 +20,9 @@ use Rattle.asl_machine.specs.Calls.{first_registers, values_from, with_register}
 use Rattle.asl_machine.specs.WellFormed.{AreSuspended}
 use Rattle.asl_machine.specs.Step.{Line, Sets, ContinuesAt, after, returned}
 use Rattle.asl_machine.proofs.Heaps.{class_of-written}
-use Rattle.asl_machine.proofs.Invariant.{Here, function_is}
-use Rattle.asl_machine.proofs.Table.{at_of}
+use Rattle.asl_machine.proofs.Following.{Here}
+use Rattle.asl_machine.proofs.Placing.{function_is}
+use Rattle.asl_machine.proofs.ValueLines.{at_of}
 use Rattle.asl_soundness.specs.Coded.{classed, IsImageOf}
 use Rattle.asl_soundness.specs.Agrees.{FrameAgrees, FramesAgree, ThreadAgrees, Agrees}
 use Rattle.asl_soundness.proofs.Protecting.{get_within}

@@ -22,8 +22,9 @@ use Rattle.asl_machine.specs.Cover.{Cover, cover, is_fresh, Allows}
 use Rattle.asl_machine.specs.Request.{heap_of}
 use Rattle.asl_machine.specs.WellFormed.{SatisfiesInvariant}
 use Rattle.asl_machine.specs.Fresh.{IsFreshFor, PointElsewhere, AreApart}
-use Rattle.asl_machine.proofs.Heaps.{class_there, pointed_value}
-use Rattle.asl_machine.proofs.Apart.{read_elsewhere}
+use Rattle.asl_machine.proofs.Heaps.{class_there}
+use Rattle.asl_machine.proofs.WellFormedHeaps.{pointed_value}
+use Rattle.asl_machine.proofs.Elsewhere.{read_elsewhere}
 use Rattle.asl_machine.proofs.ReachedApart.{write_pairs}
 use Rattle.asl_soundness.specs.Protected.{CellProtected, Protected, BaseThere}
 use Rattle.asl_soundness.proofs.Protecting.{protected_at}

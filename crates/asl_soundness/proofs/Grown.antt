@@ -22,7 +22,8 @@ use Rattle.asl_machine.specs.Access.{Points, AllPoint}
 use Rattle.asl_machine.specs.Request.{heap_of}
 use Rattle.asl_machine.specs.Cover.{is_fresh, Cover}
 use Rattle.asl_machine.proofs.Lists.{get_before, get_last, replicated}
-use Rattle.asl_machine.proofs.Heaps.{class_there, read_before}
+use Rattle.asl_machine.proofs.Heaps.{class_there}
+use Rattle.asl_machine.proofs.WellFormedHeaps.{read_before}
 use Rattle.asl_soundness.specs.Protected.{Protected, BaseThere}
 use Rattle.asl_soundness.proofs.Protecting.{AllProtected, get_within, protect, protected_at}
 use Rattle.asl_soundness.proofs.Rows.{base_set}

@@ -27,8 +27,8 @@ use Rattle.asl_machine.specs.Cover.{Cover, cover}
 use Rattle.asl_machine.specs.Step.{Line, after, placed_at, advanced, advanced_with, going_on, having_made}
 use Rattle.asl_machine.specs.StepFunction.{step_of}
 use Rattle.asl_machine.proofs.Freshness.{made_keeps, made_new}
-use Rattle.asl_machine.proofs.Invariant.{Here}
-use Rattle.asl_machine.proofs.Table.{at_of}
+use Rattle.asl_machine.proofs.Following.{Here}
+use Rattle.asl_machine.proofs.ValueLines.{at_of}
 use Rattle.asl_soundness.specs.Coded.{classed, IsImageOf}
 use Rattle.asl_soundness.specs.Agrees.{Agrees}
 use Rattle.asl_soundness.specs.Protected.{Protected, BaseThere, LockThere}

@@ -14,8 +14,8 @@ use Rattle.asl_machine.specs.declared.reply.Reply.{Reply}
 use Rattle.asl_machine.specs.declared.reply.Reply.TheVariants as reply
 use Rattle.asl_machine.specs.State.{Object, Frame, Activity, Thread, Running, Done, Failed, State, activity_of, activity_at}
 use Rattle.asl_machine.specs.Step.{Line, after, advanced, advanced_with, going_on, with_fresh}
-use Rattle.asl_machine.proofs.Invariant.{Here}
-use Rattle.asl_machine.proofs.Table.{at_of}
+use Rattle.asl_machine.proofs.Following.{Here}
+use Rattle.asl_machine.proofs.ValueLines.{at_of}
 use Rattle.asl_soundness.specs.Coded.{classed, IsImageOf}
 use Rattle.asl_soundness.specs.Nested.{IsNestedAt}
 use Rattle.asl_soundness.proofs.Standing.{body_of}

@@ -24,8 +24,8 @@ use Rattle.asl_machine.specs.Fresh.{IsFreshFor, AreApart}
 use Rattle.asl_machine.proofs.Freshness.{allowed_covers}
 use Rattle.asl_machine.specs.Step.{Line}
 use Rattle.asl_machine.specs.StepFunction.{step_of}
-use Rattle.asl_machine.proofs.Invariant.{Here}
-use Rattle.asl_machine.proofs.Table.{at_of}
+use Rattle.asl_machine.proofs.Following.{Here}
+use Rattle.asl_machine.proofs.ValueLines.{at_of}
 use Rattle.asl_machine.proofs.Others.{step_leaves_held}
 use Rattle.asl_soundness.specs.Coded.{classed}
 use Rattle.asl_soundness.specs.Agrees.{Agrees}

@@ -31,8 +31,9 @@ use Rattle.asl_machine.specs.Cover.{cover}
 use Rattle.asl_machine.specs.Step.{Line, Sets, GoesTo, after, placed_at, advanced_with, going_on, called, returned, having_made, left_last, ReturnsTo}
 use Rattle.asl_machine.proofs.Lists.{get_same}
 use Rattle.asl_machine.proofs.Freshness.{made_keeps as made_keeps_fresh, made_new}
-use Rattle.asl_machine.proofs.Invariant.{function_is, awaited_below}
-use Rattle.asl_machine.proofs.Table.{at_of}
+use Rattle.asl_machine.proofs.Placing.{function_is}
+use Rattle.asl_machine.proofs.Readiness.{awaited_below}
+use Rattle.asl_machine.proofs.ValueLines.{at_of}
 use Rattle.asl_soundness.specs.Coded.{classed}
 use Rattle.asl_soundness.specs.Agrees.{Agrees}
 use Rattle.asl_soundness.specs.Nested.{IsNestedAt}

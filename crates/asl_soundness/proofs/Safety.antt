@@ -23,7 +23,7 @@ use Rattle.asl_machine.specs.declared.reply.Reply.TheVariants as reply
 use Rattle.asl_machine.specs.State.{Activity, State}
 use Rattle.asl_machine.specs.Cover.{cover, allows, Allows}
 use Rattle.asl_machine.specs.Step.{Line, placed_at, is_allowed}
-use Rattle.asl_machine.proofs.Table.{at_of}
+use Rattle.asl_machine.proofs.ValueLines.{at_of}
 use Rattle.asl_soundness.specs.Coded.{classed}
 use Rattle.asl_soundness.specs.Safe.{IsSafe}
 use Rattle.asl_soundness.specs.Nested.{is_some_open, is_inside}

@@ -26,7 +26,7 @@ use Rattle.asl_machine.specs.State.{Object, Frame, Activity, State}
 use Rattle.asl_machine.specs.Step.{placed_at, going_on}
 use Rattle.asl_machine.specs.Request.{request_of}
 use Rattle.asl_machine.specs.Cover.{Cover, cover}
-use Rattle.asl_machine.proofs.Invariant.{Here, outside_here}
+use Rattle.asl_machine.proofs.Following.{Here, outside_here}
 use Rattle.asl_soundness.proofs.Analysed.{IsAnalysed}
 use Rattle.asl_soundness.specs.Nested.{is_inside, opened, IsNestedAt, region_of}
 use Rattle.asl_soundness.specs.Covering.{CoversLock}

@@ -13,7 +13,7 @@ use Rattle.asl_machine.specs.ComputedRun.{replies_of}
 use Rattle.asl_machine.specs.Cover.{cover}
 use Rattle.asl_machine.specs.StepFunction.{step_of}
 use Rattle.asl_machine.specs.Fresh.{AreApart}
-use Rattle.asl_machine.proofs.Invariant.{Here}
+use Rattle.asl_machine.proofs.Following.{Here}
 use Rattle.asl_machine.proofs.ReachedApart.{start_apart, step_of_apart}
 use Rattle.asl_machine.proofs.TableRuns.{run_only}
 use Rattle.asl_soundness.specs.Safe.{IsSafe, NeverFaultsForLocks}

@@ -14,7 +14,7 @@ use Rattle.asl_points_to.specs.Classes.{Classed}
 use Rattle.asl_machine.specs.State.{State, class_of}
 use Rattle.asl_machine.specs.Access.{Points}
 use Rattle.asl_machine.specs.WellFormed.{IsSuspended, SatisfiesInvariant}
-use Rattle.asl_machine.proofs.Heaps.{global_points}
+use Rattle.asl_machine.proofs.WellFormedHeaps.{global_points}
 use Rattle.asl_machine.specs.State.{Frame, Object}
 use Rattle.asl_soundness.specs.Coded.{classed, IsImageOf}
 

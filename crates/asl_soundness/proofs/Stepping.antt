@@ -21,8 +21,10 @@ use Rattle.asl_machine.specs.StepFunction.{step_of, step_at}
 use Rattle.asl_machine.proofs.Lines.{of_line, reached_keeps as lines_keep}
 use Rattle.asl_machine.proofs.Lists.{one_more}
 use Rattle.asl_machine.proofs.Others.{step_leaves}
-use Rattle.asl_machine.proofs.Invariant.{Here, here_of}
-use Rattle.asl_machine.proofs.Table.{at_of, step_is}
+use Rattle.asl_machine.proofs.Following.{Here}
+use Rattle.asl_machine.proofs.Invariant.{here_of}
+use Rattle.asl_machine.proofs.ValueLines.{at_of}
+use Rattle.asl_machine.proofs.Table.{step_is}
 use Rattle.asl_soundness.specs.Coded.{classed, IsImageOf}
 use Rattle.asl_soundness.proofs.Standing.{body_of, lowered_at}
 use Rattle.asl_soundness.proofs.Owning.{IsOwn}

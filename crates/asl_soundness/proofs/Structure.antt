@@ -21,8 +21,9 @@ use Rattle.asl_machine.specs.Run.{start_of, global_object, first_activity, IsRea
 use Rattle.asl_machine.specs.WellFormed.{SatisfiesInvariant}
 use Rattle.asl_machine.specs.Step.{At, Line}
 use Rattle.asl_machine.specs.StepFunction.{step_of}
-use Rattle.asl_machine.proofs.Invariant.{start_sound, step_sound}
-use Rattle.asl_machine.proofs.Table.{at_of}
+use Rattle.asl_machine.proofs.Invariant.{step_sound}
+use Rattle.asl_machine.proofs.Starts.{start_sound}
+use Rattle.asl_machine.proofs.ValueLines.{at_of}
 use Rattle.asl_soundness.specs.Coded.{classed, IsImageOf}
 use Rattle.asl_soundness.specs.Agrees.{FrameAgrees, FramesAgree, Agrees}
 use Rattle.asl_soundness.specs.Nested.{IsNestedAt, AreNested}

@@ -10,7 +10,7 @@ use Rattle.asl_machine.specs.State.{State}
 use Rattle.asl_machine.specs.Run.{IsThreadCount, start_of, RunsBy}
 use Rattle.asl_machine.specs.Step.{Step}
 use Rattle.asl_machine.specs.StepFunction.{step_of}
-use Rattle.asl_machine.proofs.Invariant.{length-first_threads}
+use Rattle.asl_machine.proofs.Starts.{length-first_threads}
 use Rattle.asl_machine.proofs.Lines.{line_there}
 use Rattle.asl_machine.proofs.Reached.{line_count}
 use Rattle.asl_journal.specs.declared.event.Event.{Event}

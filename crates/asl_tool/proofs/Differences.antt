@@ -16,7 +16,7 @@ use Rattle.asl_machine.specs.StepFunction.{step_of}
 use Rattle.asl_machine.proofs.PackedValues.{same_is, same_self}
 use Rattle.asl_journal.specs.declared.event.Event.{Event}
 use Rattle.asl_journal.specs.Computed.{GoesBy}
-use Rattle.asl_journal.proofs.Replays.{DiffersBy}
+use Rattle.asl_journal.proofs.Differences.{DiffersBy}
 use Rattle.asl_journal.proofs.Runs.{goes_cons}
 
 -- they are the same, or they are not

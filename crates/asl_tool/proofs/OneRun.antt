@@ -7,7 +7,7 @@ use Rattle.asl_journal.specs.declared.fault.JournalFault.{JournalFault}
 use Rattle.asl_journal.specs.declared.fault.JournalFault.TheVariants as journal
 use Rattle.asl_journal.specs.Journal.{Log, IsJournal}
 use Rattle.asl_journal.specs.Replay.{IsReplayFault}
-use Rattle.asl_journal.proofs.Replays.{one_difference, no_difference}
+use Rattle.asl_journal.proofs.Differences.{one_difference, no_difference}
 use Rattle.asl_journal.specs.declared.run_file.FileFault.{FileFault}
 use Rattle.asl_journal.specs.declared.run_file.FileFault.TheVariants as file
 use Rattle.asl_journal.specs.RunFile.{IsFileOutcome}

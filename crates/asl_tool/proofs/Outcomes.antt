@@ -15,7 +15,7 @@ use Rattle.asl_journal.specs.declared.fault.JournalFault.{JournalFault}
 use Rattle.asl_journal.specs.declared.fault.JournalFault.TheVariants as journal
 use Rattle.asl_journal.specs.Journal.{Log, IsJournal}
 use Rattle.asl_journal.proofs.ByTable.{journal_of}
-use Rattle.asl_journal.proofs.Replays.{differs_of}
+use Rattle.asl_journal.proofs.Differences.{differs_of}
 use Rattle.asl_journal.specs.declared.run_file.FileFault.{FileFault}
 use Rattle.asl_journal.specs.declared.run_file.FileFault.TheVariants as file
 use Rattle.asl_journal.specs.RunFile.{IsFileOutcome}

@@ -9,7 +9,8 @@ use Rattle.asl_machine.specs.State.{State}
 use Rattle.asl_machine.specs.Run.{start_of}
 use Rattle.asl_machine.specs.StepFunction.{step_of}
 use Rattle.asl_machine.specs.View.{Configuration}
-use Rattle.asl_machine.proofs.Invariant.{start_sound, step_sound, length-first_threads}
+use Rattle.asl_machine.proofs.Invariant.{step_sound}
+use Rattle.asl_machine.proofs.Starts.{start_sound, length-first_threads}
 use Rattle.asl_machine.specs.declared.reply.Reply.{Reply}
 use Rattle.asl_machine.specs.Step.{Step}
 use Rattle.asl_machine.specs.WellFormed.{SatisfiesInvariant}

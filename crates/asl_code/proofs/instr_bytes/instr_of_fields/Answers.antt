@@ -1,4 +1,4 @@
-use Rattle.asl_code.proofs.Instrs.{made_is}
+use Rattle.asl_code.proofs.GoodRows.{made_is}
 use Rattle.asl_code.specs.Reading.{row_of}
 use Rattle.asl_code.proofs.instr_bytes.instr_of_fields.Goals as goal
 

@@ -1,4 +1,4 @@
-use Rattle.asl_code.proofs.FitsLaws.{body_of_place, lies_once, lies_somewhere, lies_within}
+use Rattle.asl_code.proofs.BodyPlaces.{body_of_place, lies_once, lies_somewhere, lies_within}
 use Rattle.asl_code.proofs.laws.bodies_part_the_code.Goals as goal
 
 pub returns-clause-body : goal.returns-clause-body

@@ -5,7 +5,7 @@ use Rattle.asl_machine.specs.State.{State}
 use Rattle.asl_journal.specs.declared.event.Event.{Event}
 use Rattle.asl_journal.specs.Journal.{schedule_of}
 use Rattle.asl_journal.proofs.ByTable.{run_computed}
-use Rattle.asl_journal.proofs.Replays.{none_from, differs_of, differs_computed}
+use Rattle.asl_journal.proofs.Differences.{none_from, differs_of, differs_computed}
 use Rattle.asl_debugger.specs.Computed.{state_before}
 use Rattle.asl_debugger.proofs.Positions.{threads_of, state_between, goes_between, goes_from, differs_between, is_at}
 use Rattle.asl_debugger.proofs.checkpoints.machine_between.Goals as goal

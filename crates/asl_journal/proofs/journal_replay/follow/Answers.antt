@@ -1,6 +1,6 @@
 use Rattle.std.proofs.Common.{ap, refl}
 use Rattle.asl_machine.specs.View.{Configuration}
-use Rattle.asl_journal.proofs.Replays.{only_memory_at}
+use Rattle.asl_journal.proofs.Differences.{only_memory_at}
 use Rattle.asl_journal.proofs.journal_replay.follow.Goals as goal
 
 pub returns-clause-only : goal.returns-clause-only

@@ -4,7 +4,8 @@ use Rattle.asl_machine.specs.Run.{start_of}
 use Rattle.asl_journal.specs.declared.event.Event.{Event}
 use Rattle.asl_journal.specs.Journal.{AreThere}
 use Rattle.asl_journal.proofs.Recordings.{machine_count, in_count}
-use Rattle.asl_journal.proofs.Replays.{only_memory_at, replayed_journal, replayed_leads, replayed_refused}
+use Rattle.asl_journal.proofs.Replays.{replayed_journal, replayed_leads, replayed_refused}
+use Rattle.asl_journal.proofs.Differences.{only_memory_at}
 use Rattle.asl_journal.proofs.journal_replay.replay.Goals as goal
 
 pub run_on-requires-clause-there : goal.run_on-requires-clause-there

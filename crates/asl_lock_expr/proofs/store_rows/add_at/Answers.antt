@@ -1,6 +1,6 @@
 use Rattle.std.proofs.Common.{◌≡◌, ◌<◌, ◌⊎◌, ◌↔◌, ◌++◌, ◌∷◌, [], ℕ, List, length, refl, ap, sym, ◌∙◌, subst, arith}
 use Rattle.asl_lock_expr.specs.Storing.{IsIn, row}
-use Rattle.asl_lock_expr.proofs.Storings.{row_added_at, row_read, pushed_in, had_it}
+use Rattle.asl_lock_expr.proofs.RowNumbers.{row_added_at, row_read, pushed_in, had_it}
 use Rattle.asl_lock_expr.proofs.store_rows.add_at.Goals as goal
 
 pub returns-in_ok-push-clause-rows : goal.returns-in_ok-push-clause-rows

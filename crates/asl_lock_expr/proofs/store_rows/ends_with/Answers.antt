@@ -1,5 +1,5 @@
 use Rattle.std.proofs.Common.{Some, ap, sym, ◌∙◌, eqb-true}
-use Rattle.asl_lock_expr.proofs.Storings.{last_in}
+use Rattle.asl_lock_expr.proofs.RowNumbers.{last_in}
 use Rattle.asl_lock_expr.proofs.store_rows.ends_with.Goals as goal
 
 pub returns-in-Some : goal.returns-in-Some

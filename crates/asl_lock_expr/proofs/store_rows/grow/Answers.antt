@@ -1,6 +1,6 @@
 use Rattle.std.proofs.Common.{◌≡◌, ◌+◌, length, ◌∷◌, [], ap, ◌∙◌, arith, length-append}
 use Rattle.asl_lock_expr.specs.Storing.{row}
-use Rattle.asl_lock_expr.proofs.Storings.{row_push}
+use Rattle.asl_lock_expr.proofs.RowNumbers.{row_push}
 use Rattle.asl_lock_expr.proofs.store_rows.grow.Goals as goal
 
 pub loop-preserved : goal.loop-preserved

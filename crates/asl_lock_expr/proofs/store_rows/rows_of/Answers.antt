@@ -1,6 +1,6 @@
 use Rattle.std.proofs.Common.{ℕ, length, refl, ap, ◌∙◌, subst, arith}
 use Rattle.asl_lower.proofs.Owner.{owner_is}
-use Rattle.asl_points_to.proofs.Owed.{body_at, start_of_all}
+use Rattle.asl_points_to.proofs.BodyFacts.{body_at, start_of_all}
 use Rattle.asl_lock_expr.specs.Storing.{stored_class, called, AreListed}
 use Rattle.asl_lock_expr.proofs.Storings.{rows_none}
 use Rattle.asl_lock_expr.proofs.store_rows.rows_of.Goals as goal

@@ -1,7 +1,8 @@
 use Rattle.std.proofs.Common.{◌≡◌, ℕ, List, [], length, ap, ◌∙◌, subst, arith}
 use Rattle.std.proofs.lemmas.List.{length-replicate}
 use Rattle.asl_lock_expr.specs.Storing.{MarksAll}
-use Rattle.asl_lock_expr.proofs.Storings.{IsSearch, search_begins, search_more, reached_marked, no_items}
+use Rattle.asl_lock_expr.proofs.RowNumbers.{no_items}
+use Rattle.asl_lock_expr.proofs.Searches.{IsSearch, search_begins, search_more, reached_marked}
 use Rattle.asl_lock_expr.proofs.stores.storing.Goals as goal
 
 pub loop-function-init : goal.loop-function-init

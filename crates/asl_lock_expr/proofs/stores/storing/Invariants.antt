@@ -1,6 +1,6 @@
 use Rattle.std.proofs.Common.{◌+◌, length}
 use Rattle.asl_lock_expr.specs.Storing.{unmarked}
-use Rattle.asl_lock_expr.proofs.Storings.{IsSearch}
+use Rattle.asl_lock_expr.proofs.Searches.{IsSearch}
 use Rattle.asl_lock_expr.proofs.stores.storing.Given as goal
 
 abbrev pub invariant-loop-function : goal.invariant-loop-function

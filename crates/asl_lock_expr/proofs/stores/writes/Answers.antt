@@ -5,7 +5,8 @@ use Rattle.asl_lane_sets.specs.NumberSet.{members_of}
 use Rattle.asl_lock_expr.specs.ClassOf.{TellsStores}
 use Rattle.asl_lock_expr.specs.Stores.{stores}
 use Rattle.asl_lock_expr.specs.Storing.{IsMarked, AreOver, Reaches, row}
-use Rattle.asl_lock_expr.proofs.Storings.{AreRows, AreBelow, below_one, row_read, tells}
+use Rattle.asl_lock_expr.proofs.RowNumbers.{row_read}
+use Rattle.asl_lock_expr.proofs.Storings.{AreRows, AreBelow, below_one, tells}
 use Rattle.asl_lock_expr.proofs.Sets.{lengths_first, over_first, below_first}
 use Rattle.asl_lock_expr.proofs.stores.writes.Goals as goal
 

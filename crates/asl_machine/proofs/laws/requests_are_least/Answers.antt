@@ -1,4 +1,5 @@
-use Rattle.asl_machine.proofs.RequestLaws.{request_is_least, request_names_once, request_asks_modes, request_asks_parents}
+use Rattle.asl_machine.proofs.LeastRequests.{request_is_least}
+use Rattle.asl_machine.proofs.RequestEntries.{request_names_once, request_asks_modes, request_asks_parents}
 use Rattle.asl_machine.proofs.laws.requests_are_least.Goals as goal
 
 pub returns : goal.returns

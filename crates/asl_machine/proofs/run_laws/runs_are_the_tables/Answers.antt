@@ -1,7 +1,7 @@
 use Rattle.asl_code.proofs.FitsLaws.{image_fits}
 use Rattle.asl_machine.specs.Run.{start_of}
 use Rattle.asl_machine.specs.ComputedRun.{replies_of, state_after}
-use Rattle.asl_machine.proofs.Invariant.{start_sound, length-first_threads}
+use Rattle.asl_machine.proofs.Starts.{start_sound, length-first_threads}
 use Rattle.asl_machine.proofs.TableRuns.{run_is, run_only, one_run}
 use Rattle.asl_machine.proofs.run_laws.runs_are_the_tables.Goals as goal
 

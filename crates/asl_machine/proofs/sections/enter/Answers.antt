@@ -3,7 +3,7 @@ use Rattle.asl_lock_forest.specs.Holding.{CanGrant}
 use Rattle.asl_lock_forest.specs.Request.{names_once, asks_modes, asks_parents, IsOfClasses}
 use Rattle.asl_lock_forest.proofs.Grantable.{can_grant-tells}
 use Rattle.asl_machine.specs.Request.{request_of}
-use Rattle.asl_machine.proofs.RequestLaws.{request_names_once, request_asks_modes, request_asks_parents, request_is_of_classes}
+use Rattle.asl_machine.proofs.RequestEntries.{request_names_once, request_asks_modes, request_asks_parents, request_is_of_classes}
 use Rattle.asl_machine.proofs.sections.enter.Goals as goal
 
 pub grant-requires-clause-distinct : goal.grant-requires-clause-distinct

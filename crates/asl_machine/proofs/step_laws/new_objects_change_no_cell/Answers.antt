@@ -1,6 +1,6 @@
 use Rattle.std.proofs.Common.{length}
 use Rattle.asl_machine.specs.State.{Object}
-use Rattle.asl_machine.proofs.Heaps.{value_before, read_before}
+use Rattle.asl_machine.proofs.WellFormedHeaps.{value_before, read_before}
 use Rattle.asl_machine.proofs.step_laws.new_objects_change_no_cell.Goals as goal
 
 pub returns-clause-cells : goal.returns-clause-cells

@@ -1,4 +1,5 @@
-use Rattle.asl_machine.proofs.Heaps.{written_same, written_other, class_of-written, size_of-written, length-written}
+use Rattle.asl_machine.proofs.Heaps.{written_same, written_other, class_of-written, size_of-written}
+use Rattle.asl_machine.proofs.WellFormedHeaps.{length-written}
 use Rattle.asl_machine.proofs.step_laws.stores_change_one_cell.Goals as goal
 
 pub returns-clause-stored : goal.returns-clause-stored

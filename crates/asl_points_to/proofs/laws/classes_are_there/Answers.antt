@@ -1,4 +1,4 @@
-use Rattle.asl_points_to.proofs.Uniques.{number_used, member_below, register_below, cell_below}
+use Rattle.asl_points_to.proofs.CountedClasses.{number_used, member_below, register_below, cell_below}
 use Rattle.asl_points_to.proofs.laws.classes_are_there.Goals as goal
 
 pub returns : goal.returns

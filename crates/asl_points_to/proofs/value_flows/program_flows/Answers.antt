@@ -1,6 +1,7 @@
 use Rattle.std.proofs.Common.{ℕ, length, ap, ◌∙◌, subst, arith}
 use Rattle.asl_points_to.specs.Flows.{AreFlows}
-use Rattle.asl_points_to.proofs.Owed.{body_at, stands_in, flows_more, start_of_all}
+use Rattle.asl_points_to.proofs.Owed.{flows_more}
+use Rattle.asl_points_to.proofs.BodyFacts.{body_at, stands_in, start_of_all}
 use Rattle.asl_lower.proofs.Layouts.{kept_layout}
 use Rattle.asl_points_to.proofs.value_flows.program_flows.Goals as goal
 

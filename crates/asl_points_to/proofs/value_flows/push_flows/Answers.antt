@@ -4,7 +4,8 @@ use Rattle.asl_points_to.specs.declared.value_flow.Flow.{Flow}
 use Rattle.std.proofs.lemmas.Option.{slice_get_within, get_or_from_slice_get}
 use Rattle.asl_lower.specs.Region.{returned}
 use Rattle.asl_points_to.specs.Flows.{AddsFlows, plain_flow, call_flows}
-use Rattle.asl_points_to.proofs.Owed.{facts, called, is_plain, adds_one, adds_none, adds_call}
+use Rattle.asl_points_to.proofs.Owed.{adds_one, adds_none, adds_call}
+use Rattle.asl_points_to.proofs.BodyFacts.{facts, called, is_plain}
 use Rattle.asl_points_to.proofs.value_flows.push_flows.Goals as goal
 
 pub bounds-functions-from : goal.bounds-functions-from

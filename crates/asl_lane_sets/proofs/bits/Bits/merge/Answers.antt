@@ -1,7 +1,8 @@
 use Rattle.std.proofs.Common.{◌≡◌, ◌≤◌, ◌↔◌, ◌⊎◌, length, ap, sym, subst, ◌∙◌, arith}
 use Rattle.asl_lane_sets.specs.NumberSet.{IsIn}
 use Rattle.asl_lane_sets.specs.Packed.{IsPacked, told}
-use Rattle.asl_lane_sets.proofs.Numbers.{length_told, written_back, merged_packed, merged_in, merged_grew}
+use Rattle.asl_lane_sets.proofs.Numbers.{length_told, written_back}
+use Rattle.asl_lane_sets.proofs.CombinedNumbers.{merged_packed, merged_in, merged_grew}
 use Rattle.asl_lane_sets.proofs.bits.Bits.merge.Goals as goal
 
 pub merge_lanes-requires-clause-no_longer : goal.merge_lanes-requires-clause-no_longer

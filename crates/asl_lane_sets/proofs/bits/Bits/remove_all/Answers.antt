@@ -1,7 +1,8 @@
 use Rattle.std.proofs.Common.{length, ap, sym, subst, ◌∙◌, ◌↔◌}
 use Rattle.asl_lane_sets.specs.NumberSet.{IsIn}
 use Rattle.asl_lane_sets.specs.Packed.{IsPacked, told}
-use Rattle.asl_lane_sets.proofs.Numbers.{length_told, written_back, removed_packed, removed_in}
+use Rattle.asl_lane_sets.proofs.Numbers.{length_told, written_back}
+use Rattle.asl_lane_sets.proofs.CombinedNumbers.{removed_packed, removed_in}
 use Rattle.asl_lane_sets.proofs.bits.Bits.remove_all.Goals as goal
 
 pub invariant_of-self : goal.invariant_of-self

@@ -1,7 +1,7 @@
 use Rattle.std.proofs.Common.{◌≡◌, Bool, List, Some, false, slice_get, refl, ap, sym, ◌∙◌, subst, ◌<◌, ◌++◌, ◌∷◌, [], length, get_or, ℕ}
 use Rattle.asl_lock_expr.specs.declared.stores.StoreSearch.{StoreSearch}
 use Rattle.asl_lock_expr.specs.Storing.{IsMarked}
-use Rattle.asl_lock_expr.proofs.Storings.{marks_step, marks_stay}
+use Rattle.asl_lock_expr.proofs.Searches.{marks_step, marks_stay}
 use Rattle.asl_lock_expr.proofs.stores.StoreSearch.mark_all.Goals as goal
 use Rattle.asl_lock_expr.proofs.stores.StoreSearch.mark_all.Goals.{then-is_free+in_ok-push, else-is_free}
 

@@ -1,7 +1,8 @@
 use Rattle.std.proofs.Common.{◌≡◌, ℕ, Option, None, Some, is_some, true, if◌then◌else◌, IfSome, ap, sym, subst, ◌∙◌}
 use Rattle.indexmap.specs.IndexMap.{Updates}
 use Rattle.asl_lock_forest.specs.Leaves.{Leaf, leaf_eq}
-use Rattle.asl_lock_forest.proofs.LeafLaws.{key_there, no_row, cleared_kept, cleared_others, emptied_kept, emptied_row, emptied_others, looked_at}
+use Rattle.asl_lock_forest.proofs.LeafLaws.{key_there, no_row}
+use Rattle.asl_lock_forest.proofs.LeafWrites.{cleared_kept, cleared_others, emptied_kept, emptied_row, emptied_others, looked_at}
 use Rattle.asl_lock_forest.proofs.leaves.Leaves.clear.Goals as goal
 
 pub index_mut-requires : goal.index_mut-requires

@@ -7,7 +7,8 @@ use Rattle.slab.proofs.SlabLemmas.{Updates-with_value}
 use Rattle.asl_mode_lanes.specs.Row.{IsRow}
 use Rattle.asl_lock_forest.specs.declared.leaves.Leaves.{Leaves}
 use Rattle.asl_lock_forest.specs.Leaves.{key_of_leaf, leaf_row, leaf_eq, zeros}
-use Rattle.asl_lock_forest.proofs.LeafLaws.{key_there, row_there, row_codes, held_set, count_written, written_others, written_there, written_kept, made_others, made_kept, added_number, on_ok, zeros_codes}
+use Rattle.asl_lock_forest.proofs.LeafLaws.{key_there, row_there, row_codes, held_set, count_written, added_number, on_ok, zeros_codes}
+use Rattle.asl_lock_forest.proofs.LeafWrites.{written_others, written_there, written_kept, made_others, made_kept}
 use Rattle.asl_lock_forest.proofs.leaves.Leaves.set.Goals as goal
 
 pub index_mut-requires : goal.index_mut-requires

@@ -1,5 +1,5 @@
 use Rattle.std.proofs.Common.{◌≡◌}
-use Rattle.asl_lock_forest.proofs.LeafLaws.{copied_slots, copied_entries, copied_kept, copied_same}
+use Rattle.asl_lock_forest.proofs.LeafCopies.{copied_slots, copied_entries, copied_kept, copied_same}
 use Rattle.asl_lock_forest.proofs.leaves.Leaves.try_copy.Goals as goal
 
 module _ (c : goal.In_ok-clone-2) where

@@ -3,7 +3,8 @@ use Rattle.std.proofs.lemmas.Bool.Decides.{eqb_tells}
 use Rattle.asl_mode_lanes.specs.declared.mode.Mode.TheVariants.{NL}
 use Rattle.asl_lock_forest.specs.declared.node.Node.TheVariants.{Root}
 use Rattle.asl_lock_forest.specs.Rows.{IsFree, Blocks}
-use Rattle.asl_lock_forest.proofs.RowsLaws.{any_default, asked_at}
+use Rattle.asl_lock_forest.proofs.RowsLaws.{any_default}
+use Rattle.asl_lock_forest.proofs.RequestRows.{asked_at}
 use Rattle.asl_lock_forest.proofs.rows.Rows.can_grant.Goals as goal
 
 pub loop-ask-preserved : goal.loop-ask-preserved

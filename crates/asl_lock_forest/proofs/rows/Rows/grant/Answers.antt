@@ -5,7 +5,8 @@ use Rattle.asl_mode_lanes.specs.Row.{IsCode}
 use Rattle.asl_lock_forest.specs.declared.node.Node.TheVariants.{Root}
 use Rattle.asl_lock_forest.specs.Leaves.{HasRoom}
 use Rattle.asl_lock_forest.specs.Rows.{Sets}
-use Rattle.asl_lock_forest.proofs.RowsLaws.{Granting, granting_first, granting_step, asked_at, IsCode-mode, some_room, code_asked}
+use Rattle.asl_lock_forest.proofs.RowsLaws.{IsCode-mode}
+use Rattle.asl_lock_forest.proofs.RequestRows.{Granting, granting_first, granting_step, asked_at, some_room, code_asked}
 use Rattle.asl_lock_forest.proofs.rows.Rows.grant.Goals as goal
 
 pub loop-ask-init : goal.loop-ask-init

@@ -2,7 +2,7 @@ use Rattle.std.proofs.Common.{◌+◌, drop, subst}
 use Rattle.std.proofs.lemmas.List.{drop_more}
 use Rattle.asl_mode_lanes.specs.declared.mode.Mode.TheVariants.{NL}
 use Rattle.asl_lock_forest.specs.declared.node.Node.TheVariants.{Root}
-use Rattle.asl_lock_forest.proofs.RowsLaws.{Clearing, clearing_first, clearing_step}
+use Rattle.asl_lock_forest.proofs.RequestRows.{Clearing, clearing_first, clearing_step}
 use Rattle.asl_lock_forest.proofs.rows.Rows.release.Goals as goal
 
 pub loop-ask-init : goal.loop-ask-init

@@ -1,7 +1,7 @@
 use Rattle.std.proofs.Common.{◌<◌, ◌∙◌, sym, refl, length, arith}
 use Rattle.std.proofs.lemmas.Option.{slice_get_read}
 use Rattle.asl_machine.specs.declared.reply.Reply.TheVariants as reply
-use Rattle.asl_machine.proofs.Invariant.{thread_ready}
+use Rattle.asl_machine.proofs.Readiness.{thread_ready}
 use Rattle.asl_machine.proofs.Machines.{step_machine, step_state, step_reply, step_table}
 use Rattle.asl_machine.proofs.machine.Machine.step.Goals as goal
 

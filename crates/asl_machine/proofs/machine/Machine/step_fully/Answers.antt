@@ -3,7 +3,7 @@ use Rattle.std.specs.Prelude.{IsSomeAnd}
 use Rattle.std.proofs.lemmas.Option.{slice_get_read}
 use Rattle.asl_machine.specs.WellFormed.{ThreadWantsMemory}
 use Rattle.asl_machine.specs.View.{Configuration}
-use Rattle.asl_machine.proofs.Invariant.{thread_ready}
+use Rattle.asl_machine.proofs.Readiness.{thread_ready}
 use Rattle.asl_machine.proofs.Machines.{step_machine, step_state, step_reply, step_table, step_blocked}
 use Rattle.asl_machine.proofs.machine.Machine.step_fully.Goals as goal
 
