@@ -25,7 +25,8 @@ use Rattle.asl_map.specs.Placed.{head_of, IsPlacedBlock, IsPlacedFunction, ArePl
 use Rattle.asl_map.specs.Walked.{block_pieces, return_rest, function_rest, function_pieces, named_of, items_pieces, items_named}
 use Rattle.asl_map.specs.BuiltMap.{IsMade}
 use Rattle.asl_map.specs.Mapped.{IsMapped}
-use Rattle.asl_map.proofs.Standing.{Ends, Left, ends, names_on_append, names_none, block_count, block_left, drop_one, left_end, left_more}
+use Rattle.asl_map.proofs.StatementTokens.{Ends, ends, names_on_append, names_none, block_count}
+use Rattle.asl_map.proofs.Standing.{Left, block_left, drop_one, left_end, left_more}
 use Rattle.asl_map.proofs.Placing.{block_many, piece_is, block_placed}
 
 -- ---- functions
