@@ -32,7 +32,8 @@ use Rattle.asl_machine.specs.Fresh.{PointElsewhere}
 use Rattle.asl_machine.proofs.Heaps.{class_there, pointed_value, class_of-written, size_of-written}
 use Rattle.asl_expression.proofs.Paths.{star_reads, moved_stays}
 use Rattle.asl_atomicity.specs.Serial.{ReadsCovered, ListCovered}
-use Rattle.asl_atomicity.proofs.Uniform.{HoldingEdit, After, Acquired, Released, edit, edit_other}
+use Rattle.asl_atomicity.proofs.Uniform.{HoldingEdit, After, Acquired, Released, edit}
+use Rattle.asl_atomicity.proofs.HoldingEdits.{edit_other}
 use Rattle.asl_atomicity.proofs.Unseen.{other_cell}
 use Rattle.asl_atomicity.proofs.Renaming.{HasGlobals}
 
