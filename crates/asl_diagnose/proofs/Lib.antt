@@ -12,9 +12,14 @@ pub mod There
 pub mod Stars
 pub mod Behind
 pub mod Roles
-pub mod Firsts
+pub mod NameSearch
+pub mod ToldDeclarations
+pub mod FunctionSearch
+pub mod FirstUse
 pub mod TokenOn
-pub mod Marked
+pub mod DeclaringNames
+pub mod RememberedNames
+pub mod RepeatedNames
 pub mod Instructed
 pub mod Sizes
 pub mod Refused

@@ -9,7 +9,7 @@ use Rattle.asl_diagnose.specs.declared.name_role.Sign.TheVariants.{Other}
 use Rattle.asl_diagnose.specs.declared.name_role.Before.{Before}
 use Rattle.asl_diagnose.specs.Places.{declares_behind}
 use Rattle.asl_diagnose.specs.UsesView.{sign_behind, is_function_name, declares_as, sets_local, lacks, passes, has_declared, has_local, local_behind, first_use}
-use Rattle.asl_diagnose.proofs.Firsts.{first_use_in}
+use Rattle.asl_diagnose.proofs.FirstUse.{first_use_in}
 
 -- after a token
 abbrev pub behind : Before → Token → Before
