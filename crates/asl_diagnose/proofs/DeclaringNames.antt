@@ -12,7 +12,7 @@ use Rattle.asl_syntax.specs.Mentions.{Mention, DeclaresGlobal, DeclaresFunction,
 use Rattle.asl_syntax.specs.Spelled.{line_meaning, stmt_meaning, block_meaning, else_meaning, function_meaning, item_meaning, Spells}
 use Rattle.asl_diagnose.specs.declared.declared.Declares.{Declares}
 use Rattle.asl_diagnose.specs.declared.declared.Declares.TheVariants.{Global, Function, Parameter, Nothing}
-use Rattle.asl_diagnose.specs.Places.{declares_behind}
+use Rattle.asl_diagnose.specs.Places.{declares_after}
 
 -- a name with what it declares
 pub record Told : Type 0 where
@@ -22,8 +22,8 @@ pub record Told : Type 0 where
 -- those of tokens, and that of a mention
 abbrev pub told : Declares → List Token → List Told
 told d [] = []
-told d (Name x ∷ ts) = record { what = d; name = x } ∷ told (declares_behind d (Name x)) ts
-told d (t ∷ ts) = told (declares_behind d t) ts
+told d (Name x ∷ ts) = record { what = d; name = x } ∷ told (declares_after d (Name x)) ts
+told d (t ∷ ts) = told (declares_after d t) ts
 
 abbrev pub said : Mention → Told
 said (DeclaresGlobal x) = record { what = Global; name = x }

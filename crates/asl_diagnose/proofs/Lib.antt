@@ -10,7 +10,7 @@ pub mod Sought
 pub mod Mains
 pub mod There
 pub mod Stars
-pub mod Behind
+pub mod AccessCounts
 pub mod Roles
 pub mod NameSearch
 pub mod ToldDeclarations

@@ -11,7 +11,7 @@ use Rattle.asl_diagnose.specs.declared.declared.Seen.{Seen}
 use Rattle.asl_diagnose.specs.declared.declared.Declares.{Declares}
 use Rattle.asl_diagnose.specs.declared.declared.Declares.TheVariants.{Global, Function, Parameter, Nothing}
 use Rattle.asl_diagnose.specs.declared.word_place.Word.TheVariants as word
-use Rattle.asl_diagnose.specs.Places.{is_word, declares_behind}
+use Rattle.asl_diagnose.specs.Places.{is_word, declares_after}
 use Rattle.asl_diagnose.specs.SeenView.{cell, noted_as, noted_if, entered_if, passed, again}
 
 -- what is remembered of the name is what was declared; of parameters, where one is next
@@ -65,7 +65,7 @@ set_parameter true s at e n = ap (λ (d : Declares). is_some (noted_as s at d).p
 set_parameter false s at e n = absurd cc
 
 -- after another token than a name
-fixed_parameter : (d : Declares) (m : Mark) → declares_behind d (Fixed m) ≡ Parameter → (d ≡ Parameter) × (is_word word.Fn (Fixed m) ≡ false)
+fixed_parameter : (d : Declares) (m : Mark) → declares_after d (Fixed m) ≡ Parameter → (d ≡ Parameter) × (is_word word.Fn (Fixed m) ≡ false)
 fixed_parameter d mark.Global h = absurd cc
 fixed_parameter d mark.Fn h = absurd cc
 fixed_parameter d mark.CloseParen h = absurd cc
@@ -90,22 +90,22 @@ keeps_fixed x gs fs ps s m at k = record {
   parameters = λ e h. (let f = fixed_parameter s.next m e in fixed_entered (is_word word.Fn (Fixed m)) s f.1 (k.parameters f.0 h));
 }
 
-pub keeps_number : (x : List ℕ) (gs fs ps : Names) (s : Seen) (n at : ℕ) → Keeps x gs fs ps s → declares_behind s.next (Number n) ≡ s.next → Keeps x gs fs ps (passed x s (record { token = Number n; at = at }))
+pub keeps_number : (x : List ℕ) (gs fs ps : Names) (s : Seen) (n at : ℕ) → Keeps x gs fs ps s → declares_after s.next (Number n) ≡ s.next → Keeps x gs fs ps (passed x s (record { token = Number n; at = at }))
 keeps_number x gs fs ps s n at k same = record {
   globals = λ h. k.globals h;
   functions = λ h. k.functions h;
   parameters = λ e h. k.parameters (sym same ∙ e) h;
 }
 
-pub same_behind : (d : Declares) (n : ℕ) → declares_behind d (Number n) ≡ d
-same_behind Global n = refl
-same_behind Function n = refl
-same_behind Parameter n = refl
-same_behind Nothing n = refl
+pub same_after : (d : Declares) (n : ℕ) → declares_after d (Number n) ≡ d
+same_after Global n = refl
+same_after Function n = refl
+same_after Parameter n = refl
+same_after Nothing n = refl
 
 -- after a name that is no declaration
-not_parameter : (d e : Declares) (y : List ℕ) → d ≡ e → (declares_behind e (Name y) ≡ Parameter → ⊥) → declares_behind d (Name y) ≡ Parameter → ⊥
-not_parameter d e y same none h = none (ap (λ (u : Declares). declares_behind u (Name y)) (sym same) ∙ h)
+not_parameter : (d e : Declares) (y : List ℕ) → d ≡ e → (declares_after e (Name y) ≡ Parameter → ⊥) → declares_after d (Name y) ≡ Parameter → ⊥
+not_parameter d e y same none h = none (ap (λ (u : Declares). declares_after u (Name y)) (sym same) ∙ h)
 
 pub named_so : (y z x : List ℕ) → y ≡ z → z ≡ x → bytes_eq y x ≡ true
 named_so y z x e f = (bytes_eq-Decides y x).1 (e ∙ f)

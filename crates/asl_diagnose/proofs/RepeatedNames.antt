@@ -10,10 +10,10 @@ use Rattle.asl_syntax.specs.Rules.{Names, no_name, with_name, first_twice, twice
 use Rattle.asl_syntax.specs.Spelled.{Spells}
 use Rattle.asl_diagnose.specs.declared.declared.Seen.{Seen}
 use Rattle.asl_diagnose.specs.declared.declared.Declares.TheVariants.{Global, Function, Parameter}
-use Rattle.asl_diagnose.specs.Places.{declares_behind}
+use Rattle.asl_diagnose.specs.Places.{declares_after}
 use Rattle.asl_diagnose.specs.SeenView.{seen_nothing, passed, again, is_twice}
 use Rattle.asl_diagnose.proofs.DeclaringNames.{Told, told, said, all_said, tree_told}
-use Rattle.asl_diagnose.proofs.RememberedNames.{Keeps, keeps_fixed, keeps_number, same_behind, named_so, here, keeps_global, keeps_function, keeps_parameter, keeps_use}
+use Rattle.asl_diagnose.proofs.RememberedNames.{Keeps, keeps_fixed, keeps_number, same_after, named_so, here, keeps_global, keeps_function, keeps_parameter, keeps_use}
 
 -- what is owed of the rest of a text: a name that its mentions repeat is declared twice
 abbrev Later : List ℕ → List Spot → Type 0
@@ -38,7 +38,7 @@ tested : (b : Bool) (z x : List ℕ) (rest : Option (List ℕ)) → (if b then S
 tested true z x rest e = inl (refl, cc)
 tested false z x rest e = inr e
 
-repeats_name : (x y : List ℕ) (at : ℕ) (ss : List Spot) (m : Mention) (ms : List Mention) (gs fs ps : Names) (s : Seen) → Later x ss → said m ≡ record { what = s.next; name = y } → told (declares_behind s.next (Name y)) (bare ss) ≡ all_said ms → first_twice gs fs ps (m ∷ ms) ≡ Some x → Keeps x gs fs ps s → Repeats x y at ss s
+repeats_name : (x y : List ℕ) (at : ℕ) (ss : List Spot) (m : Mention) (ms : List Mention) (gs fs ps : Names) (s : Seen) → Later x ss → said m ≡ record { what = s.next; name = y } → told (declares_after s.next (Name y)) (bare ss) ≡ all_said ms → first_twice gs fs ps (m ∷ ms) ≡ Some x → Keeps x gs fs ps s → Repeats x y at ss s
 repeats_name x y at ss (DeclaresGlobal z) ms gs fs ps s later e t f k =
     let n : s.next ≡ Global = sym (ap (λ (u : Told). u.what) e) in
     let same : y ≡ z = sym (ap (λ (u : Told). u.name) e) in
@@ -73,11 +73,11 @@ repeats_at : (x : List ℕ) (t : Token) (at : ℕ) (ss : List Spot) (ms : List M
 repeats_at x (Fixed m) at ss ms gs fs ps s later e f k =
     later ms gs fs ps (passed x s (record { token = Fixed m; at = at })) e f (keeps_fixed x gs fs ps s m at k)
 repeats_at x (Number n) at ss ms gs fs ps s later e f k =
-    later ms gs fs ps (passed x s (record { token = Number n; at = at })) e f (keeps_number x gs fs ps s n at k (same_behind s.next n))
+    later ms gs fs ps (passed x s (record { token = Number n; at = at })) e f (keeps_number x gs fs ps s n at k (same_after s.next n))
 repeats_at x (Name y) at ss [] gs fs ps s later e f k = absurd cc
 repeats_at x (Name y) at ss (m ∷ ms) gs fs ps s later e f k =
     let first : said m ≡ record { what = s.next; name = y } = cc in
-    let rest : told (declares_behind s.next (Name y)) (bare ss) ≡ all_said ms = cc in
+    let rest : told (declares_after s.next (Name y)) (bare ss) ≡ all_said ms = cc in
     repeats_name x y at ss m ms gs fs ps s later first rest f k
 
 repeats : (x : List ℕ) (ss : List Spot) → Later x ss

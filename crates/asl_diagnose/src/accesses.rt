@@ -5,7 +5,7 @@ ghost use Rattle.asl_syntax.specs.View.{value_of, statement_of, block_of, functi
 ghost use Rattle.asl_syntax.specs.AstView.{tree_of};
 ghost use Rattle.asl_lower.specs.Lowered.{Lowered, IsLowering};
 ghost use Rattle.asl_diagnose.specs.Places.{accesses_before};
-ghost use Rattle.asl_diagnose.specs.AccessView.{behind, behind_access, behind_value, behind_stmt, behind_block, behind_else, behind_function, room};
+ghost use Rattle.asl_diagnose.specs.AccessView.{after, after_access, after_value, after_stmt, after_block, after_else, after_function, room};
 
 use crate::overfull::value_size;
 use asl_syntax::Ast;
@@ -38,7 +38,7 @@ pub fn accesses_before(ast: &Ast, pc: u16) -> usize
 /// After the code of a function.
 fn past_function(passed: Passed, function: &Function) -> Passed
     requires { room passed < 2 ^ 64 }
-    ensures is { result ≡ behind_function passed (function_of function.now) }
+    ensures is { result ≡ after_function passed (function_of function.now) }
     ensures room { room result ≤ room passed }
 {
     past(past_block(passed, &function.body), 1)
@@ -48,21 +48,21 @@ fn past_function(passed: Passed, function: &Function) -> Passed
 #[cycle(past)]
 fn past_block(passed: Passed, block: &[Statement]) -> Passed
     requires { room passed < 2 ^ 64 }
-    ensures is { result ≡ behind_block passed (block_of block.now) }
+    ensures is { result ≡ after_block passed (block_of block.now) }
     ensures room { room result ≤ room passed }
 {
-    let mut behind = passed;
+    let mut after = passed;
     for statement in block {
-        behind = past_statement(behind, statement);
+        after = past_statement(after, statement);
     }
-    behind
+    after
 }
 
 /// After that of a statement.
 #[cycle(past)]
 fn past_statement(passed: Passed, statement: &Statement) -> Passed
     requires { room passed < 2 ^ 64 }
-    ensures is { result ≡ behind_stmt passed (statement_of statement.now) }
+    ensures is { result ≡ after_stmt passed (statement_of statement.now) }
     ensures room { room result ≤ room passed }
 {
     match statement {
@@ -70,8 +70,8 @@ fn past_statement(passed: Passed, statement: &Statement) -> Passed
         Statement::Store(_, _) => past_access(passed),
         Statement::Out(_) => past(passed, 1),
         Statement::If(_, first, second) => {
-            let behind = past_block(past(passed, 1), first);
-            past_block(past_jump(behind, second), second)
+            let after = past_block(past(passed, 1), first);
+            past_block(past_jump(after, second), second)
         }
         Statement::While(_, body) => past(past_block(past(passed, 1), body), 1),
         Statement::Atomic(body) => past(past_block(past(passed, 1), body), 1),
@@ -80,7 +80,7 @@ fn past_statement(passed: Passed, statement: &Statement) -> Passed
 
 /// After the jump over the second block of an `if`, if it has one.
 fn past_jump(passed: Passed, second: &[Statement]) -> Passed
-    ensures is { behind_block result (block_of second.now) ≡ behind_else passed (block_of second.now) }
+    ensures is { after_block result (block_of second.now) ≡ after_else passed (block_of second.now) }
     ensures room { room result ≤ room passed }
 {
     if second.is_empty() {
@@ -93,7 +93,7 @@ fn past_jump(passed: Passed, second: &[Statement]) -> Passed
 /// After the code of a value.
 fn past_value(passed: Passed, value: &Value) -> Passed
     requires { room passed < 2 ^ 64 }
-    ensures is { result ≡ behind_value passed (value_of value.now) }
+    ensures is { result ≡ after_value passed (value_of value.now) }
     ensures room { room result ≤ room passed }
 {
     match value {
@@ -105,7 +105,7 @@ fn past_value(passed: Passed, value: &Value) -> Passed
 /// After a load or a store.
 fn past_access(passed: Passed) -> Passed
     requires { room passed < 2 ^ 64 }
-    ensures is { result ≡ behind_access passed }
+    ensures is { result ≡ after_access passed }
     ensures room { room result ≤ room passed }
 {
     Passed {
@@ -116,7 +116,7 @@ fn past_access(passed: Passed) -> Passed
 
 /// After so many other instructions.
 fn past(passed: Passed, count: usize) -> Passed
-    ensures is { result ≡ behind passed count }
+    ensures is { result ≡ after passed count }
     ensures room { room result ≤ room passed }
 {
     Passed {

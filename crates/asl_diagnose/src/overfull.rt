@@ -24,7 +24,7 @@ pub fn overfull_function(ast: &Ast) -> usize
     for item in items {
         match item {
             Item::Global(_) => {}
-            Item::Function(function) => match left_behind_function(left, function) {
+            Item::Function(function) => match left_after_function(left, function) {
                 Some(rest) => {
                     left = rest;
                     number += 1;
@@ -37,29 +37,29 @@ pub fn overfull_function(ast: &Ast) -> usize
 }
 
 /// How many of so many instructions are left after the code of a function, if there are enough.
-fn left_behind_function(most: usize, function: &Function) -> Option<usize>
+fn left_after_function(most: usize, function: &Function) -> Option<usize>
     ensures enough { IfSome result (λ left. suc (block_size (function_of function.now).body) + left ≡ most) }
     ensures short { IfNone result (most < suc (block_size (function_of function.now).body)) }
 {
-    left_behind_block(most, &function.body)?.checked_sub(1)
+    left_after_block(most, &function.body)?.checked_sub(1)
 }
 
 /// The same of statements.
 #[cycle(size)]
-fn left_behind_block(most: usize, block: &[Statement]) -> Option<usize>
+fn left_after_block(most: usize, block: &[Statement]) -> Option<usize>
     ensures enough { IfSome result (λ left. block_size (block_of block.now) + left ≡ most) }
     ensures short { IfNone result (most < block_size (block_of block.now)) }
 {
     let mut left = most;
     for statement in block {
-        left = left_behind_statement(left, statement)?;
+        left = left_after_statement(left, statement)?;
     }
     Some(left)
 }
 
 /// The same of a statement.
 #[cycle(size)]
-fn left_behind_statement(most: usize, statement: &Statement) -> Option<usize>
+fn left_after_statement(most: usize, statement: &Statement) -> Option<usize>
     ensures enough { IfSome result (λ left. stmt_size (statement_of statement.now) + left ≡ most) }
     ensures short { IfNone result (most < stmt_size (statement_of statement.now)) }
 {
@@ -68,11 +68,11 @@ fn left_behind_statement(most: usize, statement: &Statement) -> Option<usize>
         Statement::Store(_, _) => most.checked_sub(1),
         Statement::Out(_) => most.checked_sub(1),
         Statement::If(_, first, second) => {
-            let left = left_behind_block(most.checked_sub(jumps_of_if(second))?, first)?;
-            left_behind_block(left, second)
+            let left = left_after_block(most.checked_sub(jumps_of_if(second))?, first)?;
+            left_after_block(left, second)
         }
-        Statement::While(_, body) => left_behind_block(most.checked_sub(2)?, body),
-        Statement::Atomic(body) => left_behind_block(most.checked_sub(2)?, body),
+        Statement::While(_, body) => left_after_block(most.checked_sub(2)?, body),
+        Statement::Atomic(body) => left_after_block(most.checked_sub(2)?, body),
     }
 }
 
