@@ -1,4 +1,4 @@
--- What src/accesses.rt has passed is what the code of a program has.
+-- What src/code_walk.rt has passed is what the code of a program has.
 use Rattle.std.proofs.Common.{◌≡◌, ℕ, zero, suc, ◌+◌, ◌-◌, ◌≤◌, ◌<◌, min, Bool, true, false, List, [], ◌∷◌, ◌++◌, length, map, refl, ap, sym, ◌∙◌, arith, length-append}
 use Rattle.asl_code.specs.declared.instr.Instr.{Instr}
 use Rattle.asl_code.specs.declared.instr.Instr.TheVariants as instr
@@ -12,7 +12,7 @@ use Rattle.asl_lower.specs.Place.{Place, next, entered, origin, past_stmt, past_
 use Rattle.asl_lower.specs.Region.{is_access}
 use Rattle.asl_lower.specs.Layout.{moves, value_code, stmt_code, block_code, else_code, function_code, functions_code}
 use Rattle.asl_lower.proofs.Laid.{code_is}
-use Rattle.asl_diagnose.specs.declared.accesses.Passed.{Passed}
+use Rattle.asl_diagnose.specs.declared.code_walk.Passed.{Passed}
 use Rattle.asl_diagnose.specs.Places.{accesses_before}
 use Rattle.asl_diagnose.specs.AccessView.{after, after_access, after_value, after_stmt, after_block, after_else, after_function, after_functions}
 use Rattle.asl_diagnose.proofs.Stars.{weight, accesses, both, no_moves, counted_to, counted_is}

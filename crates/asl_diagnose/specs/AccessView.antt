@@ -1,9 +1,9 @@
--- Machinery of the proofs, not of the promise: how many loads and stores src/accesses.rt has passed. What contracts cite is
+-- Machinery of the proofs, not of the promise: how many loads and stores src/code_walk.rt has passed. What contracts cite is
 -- `accesses_before` of specs/Places.
 use Rattle.std.specs.Prelude.{ℕ, ◌+◌, ◌-◌, min, List, [], ◌∷◌}
 use Rattle.asl_syntax.specs.Tree.{Value, LoadValue, Statement, AssignStatement, StoreStatement, OutStatement, IfStatement, WhileStatement, AtomicStatement, Block, NoMore, Then, Function}
 use Rattle.asl_lower.specs.Size.{value_size}
-use Rattle.asl_diagnose.specs.declared.accesses.Passed.{Passed}
+use Rattle.asl_diagnose.specs.declared.code_walk.Passed.{Passed}
 
 -- more than this many loads and stores are never passed
 abbrev pub room : Passed → ℕ

@@ -1,10 +1,10 @@
 use Rattle.std.proofs.Common.{◌≡◌, ◌<◌, length, arith, sym, ap, ◌∙◌}
 use Rattle.std.proofs.lemmas.Bool.{eqb-false}
 use Rattle.asl_syntax.specs.View.{block_of}
-use Rattle.asl_diagnose.specs.declared.accesses.Passed.{Passed}
+use Rattle.asl_diagnose.specs.declared.code_walk.Passed.{Passed}
 use Rattle.asl_diagnose.specs.AccessView.{after_block}
 use Rattle.asl_diagnose.proofs.AccessCounts.{jumped}
-use Rattle.asl_diagnose.proofs.accesses.past_jump.Goals as goal
+use Rattle.asl_diagnose.proofs.code_walk.past_jump.Goals as goal
 
 pub returns-else-is_empty-clause-is : goal.returns-else-is_empty-clause-is
 returns-else-is_empty-clause-is c =

@@ -2,7 +2,7 @@
 use Rattle.std.proofs.Common.{◌≡◌, ◌≤◌, drop}
 use Rattle.asl_syntax.specs.View.{block_of}
 use Rattle.asl_diagnose.specs.AccessView.{after_block, room}
-use Rattle.asl_diagnose.proofs.accesses.+past.Given as goal
+use Rattle.asl_diagnose.proofs.code_walk.+past.Given as goal
 
 abbrev pub invariant-past_block-loop-statement : goal.invariant-past_block-loop-statement
 invariant-past_block-loop-statement l =
