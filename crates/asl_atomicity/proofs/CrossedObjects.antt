@@ -21,7 +21,6 @@ use Rattle.asl_lock_forest.specs.Keys.{key}
 use Rattle.asl_lock_forest.specs.Holding.{held}
 use Rattle.asl_machine.specs.declared.fate.Fate.TheVariants as fate
 use Rattle.asl_machine.specs.declared.fault.Fault.TheVariants as fault
-use Rattle.asl_machine.specs.declared.reply.Reply.TheVariants as reply
 use Rattle.asl_machine.specs.State.{Object, Frame, Activity, Thread, Running, Done, Failed, State, activity_of, new_object}
 use Rattle.asl_machine.specs.Access.{Points}
 use Rattle.asl_machine.specs.Cover.{is_fresh}

@@ -16,7 +16,6 @@ use Rattle.asl_code.specs.declared.path.Op.{Op}
 use Rattle.asl_code.specs.declared.path.Op.TheVariants.{Deref, Off}
 use Rattle.asl_mode_lanes.specs.declared.mode.Mode.{Mode}
 use Rattle.asl_lock_forest.specs.declared.node.Node.{Node}
-use Rattle.asl_lock_forest.specs.declared.node.Node.TheVariants.{Root, Class}
 use Rattle.asl_lock_forest.specs.Holding.{Holding}
 use Rattle.asl_expression.specs.Expression.{cell_of, pointed, base_cell, moved, walked, path_cell, cell_denoted}
 use Rattle.asl_machine.specs.State.{Object, cell_at, size_of, class_of}

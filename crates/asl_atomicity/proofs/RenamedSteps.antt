@@ -1,5 +1,5 @@
 -- A state with other numbers for objects steps alike.
-use Rattle.std.proofs.Common.{◌≡◌, ℕ, ◌-◌, set, List, Option, Some, None, length, slice_get, refl, ap, ap₂, sym, ◌∙◌, subst}
+use Rattle.std.proofs.Common.{◌≡◌, ℕ, set, List, Option, Some, None, length, slice_get, refl, ap, ap₂, sym, ◌∙◌, subst}
 use Rattle.std.specs.Prelude.{option_map}
 use Rattle.std.proofs.lemmas.Option.{slice_get-map}
 use Rattle.std.proofs.lemmas.List.{map-set}

@@ -6,7 +6,6 @@ use Rattle.std.proofs.lemmas.List.{append_assoc, append-nil}
 use Rattle.std.proofs.lemmas.List.Elements.{All-head, All-tail}
 use Rattle.asl_code.specs.declared.image.Image.{Image}
 use Rattle.asl_code.specs.Fits.{FitsImage}
-use Rattle.asl_machine.specs.declared.reply.Reply.TheVariants as reply
 use Rattle.asl_machine.specs.State.{Thread, Running, Activity, State, activity_of, depth_at}
 use Rattle.asl_machine.specs.Run.{first_thread, first_threads, start_of, state_after}
 use Rattle.asl_machine.specs.StepFunction.{step_of}
@@ -52,8 +51,8 @@ module _ (image : Image) (count : ℕ) (swap : CanSwap image count) (s : State) 
   )
 
   -- alike after one front
-  behind : (front a b : List ℕ) → AreAlike image (state_after image s front) a b → AreAlike image s (front ++ a) (front ++ b)
-  behind front a b k = (
+  after_front : (front a b : List ℕ) → AreAlike image (state_after image s front) a b → AreAlike image s (front ++ a) (front ++ b)
+  after_front front a b k = (
     state_parts image front a s ∙ k.0 ∙ sym (state_parts image front b s),
     λ x. told_parts image front a s x ∙ ap (λ z. told image s x front ++ z) (k.1 x) ∙ sym (told_parts image front b s x),
   )
@@ -113,7 +112,7 @@ module _ (image : Image) (count : ℕ) (swap : CanSwap image count) (s : State) 
         alike =
             let one = both_end done f.serial t f.alike in
             let two : f.serial ++ t ∷ [] ≡ front ++ (at.back ++ t ∷ []) = ap (λ z. z ++ t ∷ []) at.is ∙ append_assoc front at.back (t ∷ []) in
-            let three = behind front (at.back ++ t ∷ []) (t ∷ at.back) (moves image count swap t at.back p p_sound i at.others counts.1) in
+            let three = after_front front (at.back ++ t ∷ []) (t ∷ at.back) (moves image count swap t at.back p p_sound i at.others counts.1) in
             (one.0 ∙ ap (state_after image s) two ∙ three.0, λ x. one.1 x ∙ ap (told image s x) two ∙ three.1 x);
         order =
             outside_parts image front (t ∷ at.back) s

@@ -4,7 +4,6 @@ use Rattle.std.specs.Prelude.{if◌then◌else◌, map as each}
 use Rattle.std.proofs.lemmas.List.{length-append, map-append}
 use Rattle.asl_code.specs.declared.image.Image.{Image}
 use Rattle.asl_code.specs.Fits.{FitsImage}
-use Rattle.asl_machine.specs.declared.fate.Fate.TheVariants as fate
 use Rattle.asl_machine.specs.declared.reply.Reply.{Reply}
 use Rattle.asl_machine.specs.declared.reply.Reply.TheVariants as reply
 use Rattle.asl_machine.specs.State.{Object, Activity, Thread, Running, Done, Failed, State, new_object}
