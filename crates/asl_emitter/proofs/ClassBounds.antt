@@ -22,9 +22,9 @@ get_front [] ys n x e = cc
 get_front (y ∷ xs) ys zero x e = e
 get_front (y ∷ xs) ys (suc n) x e = get_front xs ys n x e
 
-pub get_behind : {X : Type 0} (xs ys : List X) (n : ℕ) (x : X) → slice_get ys n ≡ Some x → slice_get (xs ++ ys) (length xs + n) ≡ Some x
-get_behind [] ys n x e = let same : 0 + n ≡ n = omega arith in ap (slice_get ys) same ∙ e
-get_behind (y ∷ xs) ys n x e = let same : suc (length xs) + n ≡ suc (length xs + n) = omega arith in ap (slice_get (y ∷ (xs ++ ys))) same ∙ get_behind xs ys n x e
+pub get_after : {X : Type 0} (xs ys : List X) (n : ℕ) (x : X) → slice_get ys n ≡ Some x → slice_get (xs ++ ys) (length xs + n) ≡ Some x
+get_after [] ys n x e = let same : 0 + n ≡ n = omega arith in ap (slice_get ys) same ∙ e
+get_after (y ∷ xs) ys n x e = let same : suc (length xs) + n ≡ suc (length xs + n) = omega arith in ap (slice_get (y ∷ (xs ++ ys))) same ∙ get_after xs ys n x e
 
 pub get_mapped : {X Y : Type 0} (f : X → Y) (xs : List X) (n : ℕ) (y : Y) → slice_get (map f xs) n ≡ Some y → (x : X) × (slice_get xs n ≡ Some x) × (f x ≡ y)
 get_mapped f [] n y e = cc

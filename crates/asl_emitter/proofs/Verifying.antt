@@ -35,7 +35,7 @@ use Rattle.asl_emitter.proofs.There.{IsLockIn, IsBaseIn}
 use Rattle.asl_emitter.proofs.Needing.{needed_in}
 use Rattle.asl_emitter.proofs.Reducing.{one_at}
 use Rattle.asl_emitter.proofs.Fits.{fitted_short, fitted_all}
-use Rattle.asl_emitter.proofs.ClassBounds.{get_front, get_behind, get_mapped, length_mapped, get_below, all_at, as_class_in}
+use Rattle.asl_emitter.proofs.ClassBounds.{get_front, get_after, get_mapped, length_mapped, get_below, all_at, as_class_in}
 
 module _ (l : Lowered) (c : Classed) (stores : ℕ → ℕ → Bool) (k_limit : ℕ) (image : Image) (kept : IsLegalLowering l) (are : AreClasses l c) (few : c.count ≤ 1024) (m : IsInferred l c stores k_limit image) where
   lay : HasLayout l
@@ -114,7 +114,7 @@ module _ (l : Lowered) (c : Classed) (stores : ℕ → ℕ → Bool) (k_limit : 
   new_class site lt =
       let sites = are.least.legal.sites in
       let x = get_below c.sites site (omega (arith, lt, sites)) in
-      let below = member_below l c are (length c.globals + site) x.0 (get_behind c.globals c.sites site x.0 x.1) in
+      let below = member_below l c are (length c.globals + site) x.0 (get_after c.globals c.sites site x.0 x.1) in
       let same = m.classes in
       let is : unwrap_or (slice_get c.sites site) 0 ≡ x.0 = ap (λ o. unwrap_or o 0) x.1 in
       omega (arith, below, same, is)
