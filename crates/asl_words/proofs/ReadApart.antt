@@ -150,13 +150,13 @@ module _ {S : Type 0} (f : S → Text) (ws : List S) where
   pub plain_before : (from : ℕ) (w : S) (text : Text) → 1 < from → from ≤ length ws → w ≡ slice_index_or ws (from - 1) w → text ≡ f w → IsPlain text
       → ((i : ℕ) (word : Text) → from ≤ i → slice_get (map f ws) i ≡ Some word → IsPlain word)
       → (i : ℕ) (word : Text) → from - 1 ≤ i → slice_get (map f ws) i ≡ Some word → IsPlain word
-  plain_before from w text some within is text_is plain behind i word le at =
+  plain_before from w text some within is text_is plain later i word le at =
       elim (cases_eq i (from - 1)) [
         | inl same ↦
             (let here : Some word ≡ Some (f w) = sym at ∙ ap (slice_get (map f ws)) same ∙ text_at (from - 1) w (omega (arith, some, within)) is in
             let one : text ≡ word = text_is ∙ sym (ap (λ o. unwrap_or o word) here) in
             subst IsPlain one plain)
-        | inr other ↦ behind i word (omega (arith, le, other, some)) at
+        | inr other ↦ later i word (omega (arith, le, other, some)) at
       ]
 
   -- the first word is `step`
