@@ -1,6 +1,6 @@
 -- States whose integers fit 32 bits and whose objects have at most 255 cells, as the bytes of a journal need it; and that what
 -- an instruction sets, writes or makes leaves them so.
-use Rattle.std.proofs.Common.{◌≡◌, ◌⊎◌, ◌<◌, ◌+◌, ◌-◌, ℕ, zero, suc, List, [], ◌∷◌, ◌++◌, Option, None, Some, length, take, drop, replicate, slice_get, slice_set, option_and_then, refl, sym, subst, inl, inr, arith}
+use Rattle.std.proofs.Common.{◌≡◌, ◌⊎◌, ◌<◌, ◌-◌, ℕ, zero, suc, List, [], ◌∷◌, ◌++◌, Option, None, Some, length, take, drop, replicate, slice_get, slice_set, option_and_then, refl, sym, subst, inl, inr, arith}
 use Rattle.std.specs.Prelude.{ℤ, pos, FitsSigned}
 use Rattle.std.specs.Option.{option_map_or}
 use Rattle.std.specs.Int.{w32, int_wrapping_add, int_wrapping_sub}

@@ -1,6 +1,6 @@
 -- In each state that a run leads to, integers fit 32 bits and objects have at most 255 cells. So what the machine replies can be
 -- written, and a journal has bytes.
-use Rattle.std.proofs.Common.{◌≡◌, ◌<◌, ◌≤◌, ◌-◌, ℕ, zero, suc, List, [], ◌∷◌, Option, None, Some, length, map, slice_get, option_and_then, refl, ap, sym, subst, inl, inr, arith}
+use Rattle.std.proofs.Common.{◌≡◌, ◌<◌, ◌≤◌, ℕ, zero, suc, List, [], ◌∷◌, Option, None, Some, length, map, slice_get, option_and_then, refl, ap, sym, subst, inl, inr, arith}
 use Rattle.std.specs.Prelude.{pos}
 use Rattle.std.specs.List.{AllByRecursion}
 use Rattle.asl_code.specs.declared.image.Image.{Image}
@@ -8,7 +8,6 @@ use Rattle.asl_code.specs.declared.value.Value.{Value}
 use Rattle.asl_code.specs.declared.value.Value.TheVariants.{Int}
 use Rattle.asl_code.specs.Spelling.{IsInstr}
 use Rattle.asl_machine.specs.declared.reply.Reply.{Reply}
-use Rattle.asl_machine.specs.declared.reply.Reply.TheVariants as reply
 use Rattle.asl_machine.specs.State.{Thread, Running, Done, Failed, State}
 use Rattle.asl_machine.specs.Calls.{function_of}
 use Rattle.asl_machine.specs.Step.{StepOf, Step}

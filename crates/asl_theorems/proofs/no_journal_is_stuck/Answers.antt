@@ -1,4 +1,4 @@
-use Rattle.std.proofs.Common.{take, ◌∙◌, sym, ap, subst}
+use Rattle.std.proofs.Common.{take, ◌∙◌, sym, ap}
 use Rattle.asl_code.proofs.FitsLaws.{image_fits}
 use Rattle.asl_machine.specs.Run.{start_of}
 use Rattle.asl_machine.specs.State.{State}
