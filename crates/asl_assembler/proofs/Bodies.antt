@@ -42,9 +42,9 @@ functions_more old mid new fs i d code rest body lt left cut w v =
     let whole : body ≡ take f.len (drop (total_len (take i fs)) code) = cut ∙ take_min f.len rest ∙ ap (λ (r : List Instr). take f.len r) left in
     rw (bodies_more fs i d code lt) (one_written Body FitsBodyLines body_text old mid new (bodies (take i fs) code) (body_at f (drop (total_len (take i fs)) code)) w (rw whole at v))
 
-pub rest_left : (fs : List Function) (i : ℕ) (d : Function) (code rest behind : List Instr) → i < length fs
-    → rest ≡ drop (total_len (take i fs)) code → behind ≡ drop (min (get_or fs i d).len (length rest)) rest
-    → behind ≡ drop (total_len (take (i + 1) fs)) code
-rest_left fs i d code rest behind lt left cut =
+pub rest_left : (fs : List Function) (i : ℕ) (d : Function) (code rest after : List Instr) → i < length fs
+    → rest ≡ drop (total_len (take i fs)) code → after ≡ drop (min (get_or fs i d).len (length rest)) rest
+    → after ≡ drop (total_len (take (i + 1) fs)) code
+rest_left fs i d code rest after lt left cut =
     let f = get_or fs i d in
     cut ∙ drop_min f.len rest ∙ ap (λ (r : List Instr). drop f.len r) left ∙ sym (rest_more fs i d code lt)

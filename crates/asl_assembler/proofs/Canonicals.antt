@@ -55,9 +55,9 @@ bodies_of (b ∷ bs) few =
     let rest : List Instr = flat_map (λ (c : Body). c.code) bs in
     let len : shortened (length b.code) ≡ length b.code = omega (arith, few, length-append b.code rest) in
     let front : take (shortened (length b.code)) (b.code ++ rest) ≡ b.code = ap (λ n. take n (b.code ++ rest)) len ∙ take-append_seam b.code rest in
-    let behind : drop (shortened (length b.code)) (b.code ++ rest) ≡ rest = ap (λ n. drop n (b.code ++ rest)) len ∙ drop-append_seam b.code rest in
+    let after : drop (shortened (length b.code)) (b.code ++ rest) ≡ rest = ap (λ n. drop n (b.code ++ rest)) len ∙ drop-append_seam b.code rest in
     ap (λ (code : List Instr). record { params = b.params; regs = b.regs; code = code } ∷ bodies (map function_of bs) (drop (shortened (length b.code)) (b.code ++ rest))) front
-    ∙ ap (λ (left : List Instr). b ∷ bodies (map function_of bs) left) behind
+    ∙ ap (λ (left : List Instr). b ∷ bodies (map function_of bs) left) after
     ∙ ap (λ (cs : List Body). b ∷ cs) (bodies_of bs (omega (arith, few, length-append b.code rest)))
 
 listing_back : (l : Listing) → length (image_of l).code ≤ 65535 → listing_of (image_of l) ≡ l

@@ -9,7 +9,7 @@ use Rattle.asl_assembler.specs.Words.{AreWords, name_of}
 use Rattle.asl_assembler.specs.Text.{instr_name, instr_tokens}
 use Rattle.asl_assembler.specs.Reading.{no_word, one, two, three, instr_of, with_numbers_of}
 use Rattle.asl_assembler.proofs.Options.{mapped}
-use Rattle.asl_assembler.proofs.Readers.{byte, short, integer, register, global, Behind, reads_0, reads_1, reads_2, reads_3, is_read_0, is_read_1, is_read_2, is_read_3}
+use Rattle.asl_assembler.proofs.Readers.{byte, short, integer, register, global, AfterKeyword, reads_0, reads_1, reads_2, reads_3, is_read_0, is_read_1, is_read_2, is_read_3}
 
 pub is_instr : (k : Keyword) (words : List (List ℕ)) (i : Instr) → instr_of k words ≡ Some i → AreWords (instr_tokens i) (name_of k ∷ words)
 unfolding instr_of with_numbers_of
@@ -34,7 +34,7 @@ is_instr keyword.Acq words i e = let m = mapped instr.Acquire (one short.read wo
 is_instr keyword.Rel words i e = let m = mapped (λ _. instr.Release) (no_word words) i e in rw (← m.2) (is_read_0 keyword.Rel words m.0 m.1)
 is_instr _ words i e = absurd (cc)
 
-pub instr_reads : (i : Instr) (words : List (List ℕ)) → AreWords (instr_tokens i) words → Behind (instr_name i) words (instr_of (instr_name i)) i
+pub instr_reads : (i : Instr) (words : List (List ℕ)) → AreWords (instr_tokens i) words → AfterKeyword (instr_name i) words (instr_of (instr_name i)) i
 unfolding instr_of with_numbers_of
 instr_reads (instr.SetInt a b) words h = let b = reads_2 register integer keyword.Int a b words h in record { rest = b.rest; split = b.split; found = ap (option_map (λ x. instr.SetInt x.0 x.1)) b.found }
 instr_reads (instr.SetNull a) words h = let b = reads_1 register keyword.Null a words h in record { rest = b.rest; split = b.split; found = ap (option_map instr.SetNull) b.found }

@@ -16,6 +16,7 @@ pub mod Prints
 pub mod Bodies
 pub mod Decimals
 pub mod Digits
+pub mod LineWords
 pub mod Lines
 pub mod Canonicals
 pub mod Spelled

@@ -181,13 +181,13 @@ module _ (version : ℕ) where
       ∙ functions_taken bodies b.params b.regs (0 + length b.code) lists c gs (fs ++ counted p r n ∷ []) s (code ++ b.code)
       ∙ simp (append_assoc, zero-add)
 
-  behind_header : (bodies : List Body) (lists : List (List Lock)) (c : ℕ) (gs : List ℕ) (s : ℕ)
+  after_header : (bodies : List Body) (lists : List (List Lock)) (c : ℕ) (gs : List ℕ) (s : ℕ)
       → complete (flat_map function_lines bodies ++ flat_map list_lines lists) (place.Functions, made c gs [] s [] []) ≡ Some (made c gs (map function_of bodies) s (codes_of bodies) lists)
   unfolding next finished
-  behind_header [] [] c gs s = refl
-  behind_header [] (locks ∷ lists) c gs s =
+  after_header [] [] c gs s = refl
+  after_header [] (locks ∷ lists) c gs s =
       locks_taken locks [] (flat_map list_lines lists) c gs [] s [] [] ∙ lists_taken lists locks c gs [] s [] []
-  behind_header (b ∷ bodies) lists c gs s =
+  after_header (b ∷ bodies) lists c gs s =
       let open_lines : complete (map line.Instruction b.code ++ flat_map function_lines bodies ++ flat_map list_lines lists) (place.Body (counted b.params b.regs 0), made c gs [] s [] [])
       ≡ complete (map line.Instruction b.code ++ (flat_map function_lines bodies ++ flat_map list_lines lists)) (place.Body (counted b.params b.regs 0), made c gs [] s [] [])
       = ap (λ l. complete l (place.Body (counted b.params b.regs 0), made c gs [] s [] [])) (append_assoc (map line.Instruction b.code) (flat_map function_lines bodies) (flat_map list_lines lists)) in
@@ -229,4 +229,4 @@ pub listing_taken : (l : Listing) → complete (lines_in l) (place.Version, blan
 unfolding next
 listing_taken l =
     globals_taken l.version l.globals [] (line.Entry l.start ∷ (flat_map function_lines l.functions ++ flat_map list_lines l.lists)) l.classes
-    ∙ behind_header l.version l.functions l.lists l.classes l.globals l.start
+    ∙ after_header l.version l.functions l.lists l.classes l.globals l.start

@@ -27,7 +27,7 @@ use Rattle.asl_assembler.specs.Reading.{◌>>=◌, by_op, no_word, one, two, ins
 use Rattle.asl_assembler.proofs.Options.{bound, guarded, mapped, chosen}
 use Rattle.asl_assembler.proofs.Numbers.{marked_read, read_marked, not_marked}
 use Rattle.asl_assembler.proofs.Keywords.{name_read, read_name, effect_read, read_effect}
-use Rattle.asl_assembler.proofs.Readers.{byte, short, effect, Behind, reads_0, reads_1, reads_2, is_read_0, is_read_1, is_read_2}
+use Rattle.asl_assembler.proofs.Readers.{byte, short, effect, AfterKeyword, reads_0, reads_1, reads_2, is_read_0, is_read_1, is_read_2}
 use Rattle.asl_assembler.proofs.Instrs.{is_instr, instr_reads}
 
 -- Operations of a path.
@@ -155,7 +155,7 @@ line_name (line.Lock (lock.Root e)) = keyword.Root
 line_name (line.Lock (lock.Class n e)) = keyword.Class
 line_name (line.Lock (lock.Expr x e)) = keyword.Expr
 
-line_reads : (l : Line) (words : List (List ℕ)) → IsLine l words → Behind (line_name l) words (line_of (line_name l)) l
+line_reads : (l : Line) (words : List (List ℕ)) → IsLine l words → AfterKeyword (line_name l) words (line_of (line_name l)) l
 unfolding line_of expr_of
 line_reads (line.Version n) words h =
     let b = reads_1 short keyword.Version n words h.spelled in

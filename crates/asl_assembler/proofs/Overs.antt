@@ -173,8 +173,8 @@ stays_over n p i [] j h e = ends_over p i j (n + 1) h e
 stays_over n p i (l ∷ ls) j h e = by_step (step_line p i l) refl (bytes_over p i l h) (λ q k on rest. stays_over (n + 1) q k ls j on rest)
   where
     by_step : (o : Option State) → step_line p i l ≡ o → OnState o → ((q : Place) (k : Image) → Over q k → image_from (n + 1) q k ls ≡ Ok j → IsOver j) → IsOver j
-    by_step None s on behind = let none : Err (n + 1) ≡ Ok j = rw s at e in absurd cc
-    by_step (Some x) s on behind = behind x.0 x.1 on (rw s at e)
+    by_step None s on after = let none : Err (n + 1) ≡ Ok j = rw s at e in absurd cc
+    by_step (Some x) s on after = after x.0 x.1 on (rw s at e)
 
 too_many : (p : Place) (i : Image) → is_over p i ≡ true → Over p i
 too_many p i is = elim (or_cases _ _ is) [
@@ -196,15 +196,15 @@ pub over_limit : (n : ℕ) (p : Place) (i : Image) (ls : List (List ℕ)) (j : I
 over_limit n p i ls j is e = stays_over n p i ls j (too_many p i is) e
 
 -- a line after which the state is over a limit
-pub over_step : (n : ℕ) (p q : Place) (i k : Image) (l rest behind text : List ℕ) (o : Option Place) (j : Image)
-    → image_from n p i (lines_of rest) ≡ image_from 0 place.Version blank_image (lines_of text) → lines_of rest ≡ l ∷ lines_of behind
+pub over_step : (n : ℕ) (p q : Place) (i k : Image) (l rest after text : List ℕ) (o : Option Place) (j : Image)
+    → image_from n p i (lines_of rest) ≡ image_from 0 place.Version blank_image (lines_of text) → lines_of rest ≡ l ∷ lines_of after
     → paired o k ≡ step_line p i l → o ≡ Some q → is_over q k ≡ true → image_from 0 place.Version blank_image (lines_of text) ≡ Ok j → IsOver j
-over_step n p q i k l rest behind text o j same split taken next over e =
-    let first : image_from n p i (lines_of rest) ≡ image_from n p i (l ∷ lines_of behind) = ap (image_from n p i) split in
+over_step n p q i k l rest after text o j same split taken next over e =
+    let first : image_from n p i (lines_of rest) ≡ image_from n p i (l ∷ lines_of after) = ap (image_from n p i) split in
     let state : paired o k ≡ Some (q, k) = rw next refl in
     let step : step_line p i l ≡ Some (q, k) = sym taken ∙ state in
-    let here : image_from n p i (l ∷ lines_of behind) ≡ image_from (n + 1) q k (lines_of behind) = rw step refl in
-    over_limit (n + 1) q k (lines_of behind) j over (sym here ∙ sym first ∙ same ∙ e)
+    let here : image_from n p i (l ∷ lines_of after) ≡ image_from (n + 1) q k (lines_of after) = rw step refl in
+    over_limit (n + 1) q k (lines_of after) j over (sym here ∙ sym first ∙ same ∙ e)
 
 -- the image that a text spells is over a limit, where any that is read is
 pub spelled_over : (text : List ℕ) (i : Image) → ((j : Image) → image_from 0 place.Version blank_image (lines_of text) ≡ Ok j → IsOver j) → Spells text i → IsOver i

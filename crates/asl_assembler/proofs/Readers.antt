@@ -34,24 +34,24 @@ abbrev pub effect : Reader Effect
 effect = record { token = effect_token; read = effect_of; reads = (λ word e h. effect_read e word h); is_read = read_effect }
 
 -- The words after a name, and what they are read as.
-pub record Behind {A : Type 0} (k : Keyword) (words : List (List ℕ)) (read : List (List ℕ) → Option A) (x : A) : Type 0 where
+pub record AfterKeyword {A : Type 0} (k : Keyword) (words : List (List ℕ)) (read : List (List ℕ) → Option A) (x : A) : Type 0 where
   pub rest : List (List ℕ)
   pub split : words ≡ name_of k ∷ rest
   pub found : read rest ≡ Some x
 
-pub reads_0 : (k : Keyword) (words : List (List ℕ)) → AreWords (Name k ∷ []) words → Behind k words no_word tt
+pub reads_0 : (k : Keyword) (words : List (List ℕ)) → AreWords (Name k ∷ []) words → AfterKeyword k words no_word tt
 reads_0 k [] h = absurd h
 reads_0 k (a ∷ []) h = record { rest = []; split = ap (λ w. w ∷ []) h.0; found = refl }
 reads_0 k (a ∷ b ∷ words) h = absurd h.1
 
-pub reads_1 : {A : Type 0} (p : Reader A) (k : Keyword) (x : A) (words : List (List ℕ)) → AreWords (Name k ∷ p.token x ∷ []) words → Behind k words (one p.read) x
+pub reads_1 : {A : Type 0} (p : Reader A) (k : Keyword) (x : A) (words : List (List ℕ)) → AreWords (Name k ∷ p.token x ∷ []) words → AfterKeyword k words (one p.read) x
 reads_1 p k x [] h = absurd h
 reads_1 p k x (a ∷ []) h = absurd h.1
 reads_1 p k x (a ∷ b ∷ []) h = record { rest = b ∷ []; split = ap (λ w. w ∷ b ∷ []) h.0; found = p.reads b x h.1.0 }
 reads_1 p k x (a ∷ b ∷ c ∷ words) h = absurd h.1.1
 
 pub reads_2 : {A B : Type 0} (p : Reader A) (q : Reader B) (k : Keyword) (x : A) (y : B) (words : List (List ℕ))
-    → AreWords (Name k ∷ p.token x ∷ q.token y ∷ []) words → Behind k words (two p.read q.read) (x, y)
+    → AreWords (Name k ∷ p.token x ∷ q.token y ∷ []) words → AfterKeyword k words (two p.read q.read) (x, y)
 reads_2 p q k x y [] h = absurd h
 reads_2 p q k x y (a ∷ []) h = absurd h.1
 reads_2 p q k x y (a ∷ b ∷ []) h = absurd h.1.1
@@ -59,7 +59,7 @@ reads_2 p q k x y (a ∷ b ∷ c ∷ []) h = record { rest = b ∷ c ∷ []; spl
 reads_2 p q k x y (a ∷ b ∷ c ∷ d ∷ words) h = absurd h.1.1.1
 
 pub reads_3 : {A B C : Type 0} (p : Reader A) (q : Reader B) (r : Reader C) (k : Keyword) (x : A) (y : B) (z : C) (words : List (List ℕ))
-    → AreWords (Name k ∷ p.token x ∷ q.token y ∷ r.token z ∷ []) words → Behind k words (three p.read q.read r.read) (x, y, z)
+    → AreWords (Name k ∷ p.token x ∷ q.token y ∷ r.token z ∷ []) words → AfterKeyword k words (three p.read q.read r.read) (x, y, z)
 reads_3 p q r k x y z [] h = absurd h
 reads_3 p q r k x y z (a ∷ []) h = absurd h.1
 reads_3 p q r k x y z (a ∷ b ∷ []) h = absurd h.1.1

@@ -59,10 +59,10 @@ instr_taken n f i text rest x b =
     ap (image_from n (place.Body f) i) b.split ∙ step
 
 -- the first line, whatever it says, is taken in
-pub line_read : (n : ℕ) (p q : Place) (i k : Image) (l rest behind : List ℕ) (o : Option Place) → lines_of rest ≡ l ∷ lines_of behind
-    → paired o k ≡ step_line p i l → o ≡ Some q → image_from n p i (lines_of rest) ≡ image_from (n + 1) q k (lines_of behind)
-line_read n p q i k l rest behind o split taken next =
+pub line_read : (n : ℕ) (p q : Place) (i k : Image) (l rest after : List ℕ) (o : Option Place) → lines_of rest ≡ l ∷ lines_of after
+    → paired o k ≡ step_line p i l → o ≡ Some q → image_from n p i (lines_of rest) ≡ image_from (n + 1) q k (lines_of after)
+line_read n p q i k l rest after o split taken next =
     let state : paired o k ≡ Some (q, k) = rw next refl in
     let step : step_line p i l ≡ Some (q, k) = sym taken ∙ state in
-    let here : image_from n p i (l ∷ lines_of behind) ≡ image_from (n + 1) q k (lines_of behind) = rw step refl in
+    let here : image_from n p i (l ∷ lines_of after) ≡ image_from (n + 1) q k (lines_of after) = rw step refl in
     ap (image_from n p i) split ∙ here

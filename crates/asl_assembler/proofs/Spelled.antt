@@ -127,13 +127,13 @@ global_fits class h = h.fields.1.0
 fields_of : (l : Listing) → AllByRecursion FitsLine (lines_in l) → FitsFields (image_of l)
 fields_of l h =
     let globals = map line.Global l.globals in
-    let behind = line.Entry l.start ∷ (flat_map function_lines l.functions ++ flat_map list_lines l.lists) in
-    let rest = back FitsLine globals behind h.1.1 in
+    let after = line.Entry l.start ∷ (flat_map function_lines l.functions ++ flat_map list_lines l.lists) in
+    let rest = back FitsLine globals after h.1.1 in
     let functions = front FitsLine (flat_map function_lines l.functions) (flat_map list_lines l.lists) rest.1 in
     record {
       version = h.0.kept;
       classes = h.1.0.fields.1.0;
-      globals = from_map FitsLine (λ class. class < 2 ^ 16) line.Global global_fits l.globals (front FitsLine globals behind h.1.1);
+      globals = from_map FitsLine (λ class. class < 2 ^ 16) line.Global global_fits l.globals (front FitsLine globals after h.1.1);
       functions = functions_fit l.functions functions;
       start = rest.0.fields.1.0;
       code = code_fits l.functions functions;

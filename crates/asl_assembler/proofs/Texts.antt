@@ -37,16 +37,16 @@ leaves_end [] s = refl
 leaves_end (l ∷ ls) s = joined (step_line s.0 s.1 l) (λ t. leaves ls t) (λ t. walk ls t) (λ t. finished t.0 t.1) (λ t. leaves_end ls t)
 
 -- Lines of bytes that are these lines leave what these leave.
-same_behind : {A B : Type 0} (o : Option A) (f g : A → Option B) → ((x : A) → f x ≡ g x) → (o >>= f) ≡ (o >>= g)
-same_behind None f g h = refl
-same_behind (Some x) f g h = h x
+same_after : {A B : Type 0} (o : Option A) (f g : A → Option B) → ((x : A) → f x ≡ g x) → (o >>= f) ≡ (o >>= g)
+same_after None f g h = refl
+same_after (Some x) f g h = h x
 
 line_leaves : (words : List (List ℕ)) (ls : List (List ℕ)) → ((ms : List Line) (s : State) → AreLines ms (worded ls) → leaves ls s ≡ complete ms s)
     → (ms : List Line) (s : State) → AreLines ms (unless_blank words (worded ls)) → (step_words s.0 s.1 words >>= λ t. leaves ls t) ≡ complete ms s
 line_leaves [] ls rest ms s h = rest ms s h
 line_leaves (word ∷ words) ls rest [] s h = absurd h
 line_leaves (word ∷ words) ls rest (m ∷ ms) s h =
-    rw (meaning_reads m (word ∷ words) h.0) (same_behind (next s.0 m s.1) (λ t. leaves ls t) (λ t. complete ms t) (λ t. rest ms t h.1))
+    rw (meaning_reads m (word ∷ words) h.0) (same_after (next s.0 m s.1) (λ t. leaves ls t) (λ t. complete ms t) (λ t. rest ms t h.1))
 
 lines_leave : (ls : List (List ℕ)) (ms : List Line) (s : State) → AreLines ms (worded ls) → leaves ls s ≡ complete ms s
 unfolding step_line

@@ -8,7 +8,7 @@ use Rattle.asl_assembler.specs.declared.image_draft.Place.TheVariants as place
 use Rattle.asl_assembler.specs.declared.line_order.Turn.{Turn}
 use Rattle.asl_assembler.specs.declared.line_order.Turn.TheVariants as turn
 use Rattle.asl_assembler.specs.Words.{lines_of, words_of}
-use Rattle.asl_assembler.specs.Reading.{◌>>=◌, State, next, finished, meaning_of, step_words, step_line, or_line, image_from, blank_image, turn_behind, turn_words, turn_line, may_end}
+use Rattle.asl_assembler.specs.Reading.{◌>>=◌, State, next, finished, meaning_of, step_words, step_line, or_line, image_from, blank_image, turn_after, turn_words, turn_line, may_end}
 
 -- which line comes next at a place, without what is open there
 abbrev pub turn_of : Place → Turn
@@ -24,8 +24,8 @@ abbrev turns : Option State → Option Turn
 turns None = None
 turns (Some s) = Some (turn_of s.0)
 
-line_turn : (p : Place) (m : Line) (i : Image) → turns (next p m i) ≡ turn_behind (turn_of p) m
-unfolding next turn_behind
+line_turn : (p : Place) (m : Line) (i : Image) → turns (next p m i) ≡ turn_after (turn_of p) m
+unfolding next turn_after
 line_turn place.Version (line.Version n) i = refl
 line_turn place.Version (line.Classes n) i = refl
 line_turn place.Version (line.Global c) i = refl
@@ -75,7 +75,7 @@ line_turn (place.Locks locks) (line.Instruction x) i = refl
 line_turn (place.Locks locks) line.List i = refl
 line_turn (place.Locks locks) (line.Lock l) i = refl
 
-meant_turn : (p : Place) (i : Image) (m : Option Line) → turns (m >>= λ l. next p l i) ≡ (m >>= turn_behind (turn_of p))
+meant_turn : (p : Place) (i : Image) (m : Option Line) → turns (m >>= λ l. next p l i) ≡ (m >>= turn_after (turn_of p))
 meant_turn p i None = refl
 meant_turn p i (Some m) = line_turn p m i
 
@@ -95,10 +95,10 @@ pub record AtTurn (t : Turn) (n : ℕ) (rest text : List ℕ) : Type 0 where
   pub same : image_from n at so_far (lines_of rest) ≡ image_from 0 place.Version blank_image (lines_of text)
 
 -- the line of a text continues to another
-pub goes_on : (t u : Turn) (n : ℕ) (l rest behind text : List ℕ) → AtTurn t n rest text → lines_of rest ≡ l ∷ lines_of behind → turn_line t l ≡ Some u → AtTurn u (n + 1) behind text
-goes_on t u n l rest behind text a split e = by_step (step_line a.at a.so_far l) refl
+pub goes_on : (t u : Turn) (n : ℕ) (l rest after text : List ℕ) → AtTurn t n rest text → lines_of rest ≡ l ∷ lines_of after → turn_line t l ≡ Some u → AtTurn u (n + 1) after text
+goes_on t u n l rest after text a split e = by_step (step_line a.at a.so_far l) refl
   where
-    by_step : (o : Option State) → step_line a.at a.so_far l ≡ o → AtTurn u (n + 1) behind text
+    by_step : (o : Option State) → step_line a.at a.so_far l ≡ o → AtTurn u (n + 1) after text
     by_step None s =
         let none : turns (step_line a.at a.so_far l) ≡ Some u = bytes_turn a.at a.so_far l ∙ rw a.turn e in
         let both : turns None ≡ Some u = rw s at none in
@@ -106,19 +106,19 @@ goes_on t u n l rest behind text a split e = by_step (step_line a.at a.so_far l)
     by_step (Some x) s =
         let some : turns (step_line a.at a.so_far l) ≡ Some u = bytes_turn a.at a.so_far l ∙ rw a.turn e in
         let both : turns (Some x) ≡ Some u = rw s at some in
-        let step : image_from n a.at a.so_far (l ∷ lines_of behind) ≡ image_from (n + 1) x.0 x.1 (lines_of behind) = rw s refl in
-        let first : image_from n a.at a.so_far (lines_of rest) ≡ image_from n a.at a.so_far (l ∷ lines_of behind) = ap (image_from n a.at a.so_far) split in
+        let step : image_from n a.at a.so_far (l ∷ lines_of after) ≡ image_from (n + 1) x.0 x.1 (lines_of after) = rw s refl in
+        let first : image_from n a.at a.so_far (lines_of rest) ≡ image_from n a.at a.so_far (l ∷ lines_of after) = ap (image_from n a.at a.so_far) split in
         record { at = x.0; so_far = x.1; turn = cc; same = sym step ∙ sym first ∙ a.same }
 
 -- or is wrong
-pub stops : (t : Turn) (n : ℕ) (l rest behind text : List ℕ) → AtTurn t n rest text → lines_of rest ≡ l ∷ lines_of behind → turn_line t l ≡ None
+pub stops : (t : Turn) (n : ℕ) (l rest after text : List ℕ) → AtTurn t n rest text → lines_of rest ≡ l ∷ lines_of after → turn_line t l ≡ None
     → image_from 0 place.Version blank_image (lines_of text) ≡ Err (n + 1)
-stops t n l rest behind text a split e = by_step (step_line a.at a.so_far l) refl
+stops t n l rest after text a split e = by_step (step_line a.at a.so_far l) refl
   where
     by_step : (o : Option State) → step_line a.at a.so_far l ≡ o → image_from 0 place.Version blank_image (lines_of text) ≡ Err (n + 1)
     by_step None s =
-        let step : image_from n a.at a.so_far (l ∷ lines_of behind) ≡ Err (n + 1) = rw s refl in
-        let first : image_from n a.at a.so_far (lines_of rest) ≡ image_from n a.at a.so_far (l ∷ lines_of behind) = ap (image_from n a.at a.so_far) split in
+        let step : image_from n a.at a.so_far (l ∷ lines_of after) ≡ Err (n + 1) = rw s refl in
+        let first : image_from n a.at a.so_far (lines_of rest) ≡ image_from n a.at a.so_far (l ∷ lines_of after) = ap (image_from n a.at a.so_far) split in
         sym a.same ∙ first ∙ step
     by_step (Some x) s =
         let none : turns (step_line a.at a.so_far l) ≡ None = bytes_turn a.at a.so_far l ∙ rw a.turn e in

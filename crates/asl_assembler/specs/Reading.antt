@@ -369,22 +369,22 @@ turn_opened line.List = Some turn.Locks
 turn_opened _ = None
 
 -- which line comes after this one, if it may stand here
-unfoldable pub turn_behind : Turn → Line → Option Turn
-turn_behind turn.Version (line.Version n) = Some turn.Classes
-turn_behind turn.Classes (line.Classes n) = Some turn.Globals
-turn_behind turn.Globals (line.Global c) = Some turn.Globals
-turn_behind turn.Globals (line.Entry f) = Some turn.Functions
-turn_behind turn.Functions l = turn_opened l
-turn_behind turn.Body (line.Instruction x) = Some turn.Body
-turn_behind turn.Body l = turn_opened l
-turn_behind turn.Locks (line.Lock l) = Some turn.Locks
-turn_behind turn.Locks line.List = Some turn.Locks
-turn_behind _ _ = None
+unfoldable pub turn_after : Turn → Line → Option Turn
+turn_after turn.Version (line.Version n) = Some turn.Classes
+turn_after turn.Classes (line.Classes n) = Some turn.Globals
+turn_after turn.Globals (line.Global c) = Some turn.Globals
+turn_after turn.Globals (line.Entry f) = Some turn.Functions
+turn_after turn.Functions l = turn_opened l
+turn_after turn.Body (line.Instruction x) = Some turn.Body
+turn_after turn.Body l = turn_opened l
+turn_after turn.Locks (line.Lock l) = Some turn.Locks
+turn_after turn.Locks line.List = Some turn.Locks
+turn_after _ _ = None
 
 -- the same of words: none change nothing
 abbrev pub turn_words : Turn → List (List ℕ) → Option Turn
 turn_words t [] = Some t
-turn_words t (word ∷ words) = meaning_of (word ∷ words) >>= turn_behind t
+turn_words t (word ∷ words) = meaning_of (word ∷ words) >>= turn_after t
 
 -- the same of a line of bytes
 unfoldable pub turn_line : Turn → List ℕ → Option Turn

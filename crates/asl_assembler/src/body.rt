@@ -19,10 +19,10 @@ fn first_instruction(text: &[u8]) -> Option<(Instr, &[u8])>
     ensures line { IfSome result (λ x. BeginsWith text.now (line.Instruction x.0) x.1.now) }
     ensures shorter { IfSome result (λ x. length x.1.now < length text.now) }
 {
-    let (line, behind) = split_line(text);
+    let (line, after) = split_line(text);
     let (word, rest) = next_word(line)?;
     let instr = instruction(find_keyword(word)?, rest)?;
-    Some((instr, behind))
+    Some((instr, after))
 }
 
 /// Takes lines into the body of the function, and counts them, up to one that is no instruction, or until there are as many
@@ -42,13 +42,13 @@ fn take_instructions<'t>(
 {
     let mut rest = text;
     while !rest.is_empty() && image.code.len() < image_limits::CODE {
-        let Some((instr, behind)) = first_instruction(rest) else {
+        let Some((instr, after)) = first_instruction(rest) else {
             return Ok(rest);
         };
         image.code.push(instr)?;
         *function = one_longer(*function);
         *number += 1;
-        rest = behind;
+        rest = after;
     }
     Ok(rest)
 }

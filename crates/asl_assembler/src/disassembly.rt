@@ -111,9 +111,9 @@ fn put_functions(
     let mut rest = code;
     for function in functions {
         let len = (function.len as usize).min(rest.len());
-        let (body, behind) = rest.split_at(len);
+        let (body, after) = rest.split_at(len);
         put_function(text, function, body)?;
-        rest = behind;
+        rest = after;
     }
     Ok(())
 }

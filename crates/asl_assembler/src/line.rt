@@ -114,7 +114,7 @@ fn with_path(base: Base, line: &[u8]) -> Option<Lock>
 {
     let mut path = Path::new();
     let mut rest = line;
-    while let Some((word, behind)) = next_word(rest) {
+    while let Some((word, after)) = next_word(rest) {
         match operation(word) {
             Some(op) => {
                 if path.len() == Path::MAX_LEN {
@@ -123,12 +123,12 @@ fn with_path(base: Base, line: &[u8]) -> Option<Lock>
                 path.push(op);
             }
             None => {
-                no_word_in(behind)?;
+                no_word_in(after)?;
                 let effect = effect(word)?;
                 return Some(Lock::Expr(Expr { base, path }, effect));
             }
         }
-        rest = behind;
+        rest = after;
     }
     None
 }

@@ -4,7 +4,7 @@ ghost use Rattle.std.specs.Prelude.{◌≡◌, MatchOption};
 ghost use Rattle.asl_code.specs.declared.image.Image.{Image};
 ghost use Rattle.asl_assembler.specs.Words.{lines_of};
 ghost use Rattle.asl_assembler.specs.Text.{Spells, IsBadLine};
-ghost use Rattle.asl_assembler.specs.Reading.{turn_opened, turn_behind, turn_line, may_end};
+ghost use Rattle.asl_assembler.specs.Reading.{turn_opened, turn_after, turn_line, may_end};
 
 use crate::line::{Line, meaning};
 use crate::line_words::{next_word, split_line};
@@ -38,9 +38,9 @@ fn opened(line: &Line) -> Option<Turn>
 }
 
 /// Which line comes after this one, if it may stand here.
-#[tactic(auto, unfolding(crate::specs::Reading::turn_behind))]
-fn behind(turn: Turn, line: &Line) -> Option<Turn>
-    ensures { result ≡ turn_behind turn line.now }
+#[tactic(auto, unfolding(crate::specs::Reading::turn_after))]
+fn turn_after(turn: Turn, line: &Line) -> Option<Turn>
+    ensures { result ≡ turn_after turn line.now }
 {
     match turn {
         Turn::Version => match line {
@@ -70,14 +70,14 @@ fn behind(turn: Turn, line: &Line) -> Option<Turn>
 
 /// The same of a line of bytes. A blank one changes nothing.
 #[tactic(auto, unfolding(crate::specs::Reading::turn_line))]
-fn behind_bytes(turn: Turn, line: &[u8]) -> Option<Turn>
+fn turn_after_bytes(turn: Turn, line: &[u8]) -> Option<Turn>
     ensures { result ≡ turn_line turn line.now }
 {
     if next_word(line).is_none() {
         return Some(turn);
     }
     match meaning(line) {
-        Some(line) => behind(turn, &line),
+        Some(line) => turn_after(turn, &line),
         None => None,
     }
 }
@@ -97,10 +97,10 @@ pub(crate) fn wrong_line(text: &[u8]) -> Option<usize>
     let mut number: usize = 0;
     let mut rest = text;
     while !rest.is_empty() {
-        let (line, behind) = split_line(rest);
+        let (line, after) = split_line(rest);
         number += 1;
-        rest = behind;
-        turn = match behind_bytes(turn, line) {
+        rest = after;
+        turn = match turn_after_bytes(turn, line) {
             Some(next) => next,
             None => return Some(number),
         };

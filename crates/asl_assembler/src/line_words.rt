@@ -43,7 +43,7 @@ pub(crate) fn split_line(text: &[u8]) -> (&[u8], &[u8])
     let (line, rest) = text.split_at(line_len(text));
     match rest {
         [] => (line, rest),
-        [_, behind @ ..] => (line, behind),
+        [_, after @ ..] => (line, after),
     }
 }
 

@@ -56,7 +56,7 @@ pub(crate) fn read(alloc: Global, text: &[u8]) -> Result<Image, ReadFault>
     let mut number: usize = 0;
     let mut rest = text;
     while !rest.is_empty() {
-        let (line, behind) = split_line(rest);
+        let (line, after) = split_line(rest);
         number += 1;
         place = match take_bytes(alloc, place, line, &mut image)? {
             Some(next) => next,
@@ -65,7 +65,7 @@ pub(crate) fn read(alloc: Global, text: &[u8]) -> Result<Image, ReadFault>
         if is_over(&place, &image) {
             return Err(ReadFault::Over);
         }
-        rest = take_body(behind, &mut number, &mut place, &mut image)?;
+        rest = take_body(after, &mut number, &mut place, &mut image)?;
     }
     if close(place, &mut image)? {
         Ok(image)

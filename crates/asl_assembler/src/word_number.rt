@@ -45,7 +45,7 @@ pub(crate) fn short(word: &[u8]) -> Option<u16>
 }
 
 /// What stands after the mark at the front of the word.
-fn behind(mark: u8, word: &[u8]) -> Option<&[u8]>
+fn after_mark(mark: u8, word: &[u8]) -> Option<&[u8]>
     ensures { option_copied result ≡ after_mark mark word.now }
 {
     match word {
@@ -59,7 +59,7 @@ fn behind(mark: u8, word: &[u8]) -> Option<&[u8]>
 pub(crate) fn integer(word: &[u8]) -> Option<i32>
     ensures { result ≡ integer_of word.now }
 {
-    match behind(b'-', word) {
+    match after_mark(b'-', word) {
         Some(digits) => {
             let value = decimal(digits)?;
             if value <= 2_147_483_648 {
@@ -84,7 +84,7 @@ pub(crate) fn integer(word: &[u8]) -> Option<i32>
 pub(crate) fn marked_byte(mark: u8, word: &[u8]) -> Option<u8>
     ensures { result ≡ marked_of mark 256 word.now }
 {
-    byte(behind(mark, word)?)
+    byte(after_mark(mark, word)?)
 }
 
 /// A mark and a number of 16 bits after it.
@@ -92,5 +92,5 @@ pub(crate) fn marked_byte(mark: u8, word: &[u8]) -> Option<u8>
 pub(crate) fn marked_short(mark: u8, word: &[u8]) -> Option<u16>
     ensures { result ≡ marked_of mark 65536 word.now }
 {
-    short(behind(mark, word)?)
+    short(after_mark(mark, word)?)
 }

@@ -33,7 +33,8 @@ use Rattle.asl_machine.proofs.Heaps.{class_there, class_of-written, size_of-writ
 use Rattle.asl_machine.proofs.WellFormedHeaps.{pointed_value}
 use Rattle.asl_expression.proofs.Paths.{star_reads, moved_stays}
 use Rattle.asl_atomicity.specs.Serial.{ReadsCovered, ListCovered}
-use Rattle.asl_atomicity.proofs.Uniform.{HoldingEdit, After, Acquired, Released, edit, edit_other}
+use Rattle.asl_atomicity.proofs.Uniform.{HoldingEdit, After, Acquired, Released, edit}
+use Rattle.asl_atomicity.proofs.HoldingEdits.{edit_other}
 use Rattle.asl_atomicity.proofs.Unseen.{other_cell}
 use Rattle.asl_atomicity.proofs.Renaming.{HasGlobals}
 

@@ -27,8 +27,10 @@ use Rattle.asl_atomicity.proofs.Outside.{outside_by}
 use Rattle.asl_atomicity.proofs.Serials.{slot_depth}
 use Rattle.asl_atomicity.proofs.Renamings.{then_by, none_by, reply_twice, renamed_twice, keeps_twice, each_twice, reply_stays, same_renamed, same_keeps, same_reply_by, same_replies, heard_by, heard_back, not_full_by}
 use Rattle.asl_atomicity.proofs.RenamedSteps.{step_both}
-use Rattle.asl_atomicity.proofs.Staying.{AllEnded, steps, reached_ended, run_grows, more_reply, le_self, le_le}
-use Rattle.asl_atomicity.proofs.Making.{Crossed, both_make}
+use Rattle.asl_atomicity.proofs.SpokenObjects.{more_reply}
+use Rattle.asl_atomicity.proofs.Staying.{AllEnded, steps, reached_ended, run_grows, le_self, le_le}
+use Rattle.asl_atomicity.proofs.CrossedObjects.{Crossed}
+use Rattle.asl_atomicity.proofs.Making.{both_make}
 use Rattle.asl_atomicity.proofs.Reaching.{run_apart}
 
 -- ---- what holds of more objects too

@@ -25,7 +25,8 @@ use Rattle.asl_machine.proofs.WellFormedHeaps.{length-written}
 use Rattle.asl_machine.proofs.Invariant.{here_of, instr_here}
 use Rattle.asl_atomicity.specs.Serial.{heard}
 use Rattle.asl_atomicity.proofs.Swapping.{CanSwap, InSection, EntryUnseen, EntriesUnseen}
-use Rattle.asl_atomicity.proofs.Uniform.{ObjectsEdit, Same, Stored, Made, put, edit, edits_commute, IsNew, Unseen, Uniform, uniform, place_at}
+use Rattle.asl_atomicity.proofs.Uniform.{ObjectsEdit, Same, Stored, Made, put, edit, IsNew, Unseen, Uniform, uniform, place_at}
+use Rattle.asl_atomicity.proofs.HoldingEdits.{edits_commute}
 use Rattle.asl_atomicity.proofs.Stores.{IsThere, GoApart, puts_commute, set_set}
 use Rattle.asl_atomicity.proofs.Unseen.{WroteBy, IsFar, ok_writes, register_points, moved_kept, target_kept, value_kept}
 use Rattle.asl_atomicity.proofs.Reaching.{run_apart}

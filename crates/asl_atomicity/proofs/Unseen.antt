@@ -25,7 +25,8 @@ use Rattle.asl_expression.specs.Expression.{cell_of}
 use Rattle.asl_machine.specs.StepFunction.{register_of, address_moved, address_or_bounds, made_objects, allowed_cell, accessed, loaded}
 use Rattle.asl_machine.proofs.Lists.{get_same, get_other, get_before}
 use Rattle.asl_machine.proofs.Heaps.{class_of-written, size_of-written}
-use Rattle.asl_atomicity.proofs.Uniform.{ObjectsEdit, Same, Stored, Made, put, HoldingEdit, edit, edit_other}
+use Rattle.asl_atomicity.proofs.Uniform.{ObjectsEdit, Same, Stored, Made, put, HoldingEdit, edit}
+use Rattle.asl_atomicity.proofs.HoldingEdits.{edit_other}
 use Rattle.asl_atomicity.proofs.Stores.{object_of, written_is}
 
 -- the cell is there, and the thread, which is at a, has its address in a register and may write it

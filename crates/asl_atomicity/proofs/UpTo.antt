@@ -19,7 +19,8 @@ use Rattle.asl_atomicity.proofs.Computed.{told, outside, AllCount, IsSerial, IsG
 use Rattle.asl_atomicity.proofs.Swapping.{Stands, InSection}
 use Rattle.asl_atomicity.specs.Renamed.{Renaming, reply_by, activity_by, thread_by, IsRenamed, Keeps}
 use Rattle.asl_atomicity.proofs.Moves.{state_parts}
-use Rattle.asl_atomicity.proofs.Serials.{told_parts, counts_split, counts_join, last_of, last_end, serial_split, serial_join, run_stands, run_length, stays, LastAt, find_last, unheard, tell_heard, quiet, slot_depth, start_outside}
+use Rattle.asl_atomicity.proofs.RunParts.{told_parts, counts_split, counts_join, last_of, last_end, serial_split, serial_join, run_stands, run_length, stays, LastAt, find_last, unheard, tell_heard, quiet}
+use Rattle.asl_atomicity.proofs.Serials.{slot_depth, start_outside}
 use Rattle.asl_atomicity.proofs.Renamings.{then_by, none_by, reply_twice, renamed_twice, keeps_twice, each_twice, same_renamed, same_keeps, heard_back, not_full_by}
 use Rattle.asl_atomicity.proofs.Outside.{outside_parts, quiet_outside, inside_outside, outside_more, none_more, outside_by}
 use Rattle.asl_atomicity.proofs.Inserting.{keeps_more, each_told, depth_by, insert}

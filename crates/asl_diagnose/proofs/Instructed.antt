@@ -58,9 +58,9 @@ abbrev chosen : Bool → Bool → ℕ → ℕ → List (List ℕ) → Option ℕ
 chosen b z pc first ls =
     if b then (if z then Some first else row_of (pc - 1) (suc first) ls) else row_of pc (suc first) ls
 
-counted_behind : (b : Bool) (n : ℕ) → b ≡ true → (if b then suc n else n) ≡ suc n
-counted_behind true n e = refl
-counted_behind false n e = absurd cc
+counted_one_more : (b : Bool) (n : ℕ) → b ≡ true → (if b then suc n else n) ≡ suc n
+counted_one_more true n e = refl
+counted_one_more false n e = absurd cc
 
 counted_past : (b : Bool) (n : ℕ) → b ≡ false → (if b then suc n else n) ≡ n
 counted_past true n e = absurd cc
@@ -95,7 +95,7 @@ row_found pc first number (l ∷ ls) e =
                   split = ap (λ (ms : List (List ℕ)). l ∷ ms) k.split;
                   number_is = omega (arith, k.number_is);
                   instruction = k.instruction;
-                  counted = omega (arith, counted_behind (is_instruction l) (instructions_in k.before) h, k.counted, eqb-false pc 0 z);
+                  counted = omega (arith, counted_one_more (is_instruction l) (instructions_in k.before) h, k.counted, eqb-false pc 0 z);
                 }
           ]
       | inr h ↦
@@ -122,7 +122,7 @@ row_missing pc first (l ∷ ls) e =
             | inl z ↦ let g : Some first ≡ None = sym (ap (λ (b : Bool). chosen true b pc first ls) z) ∙ f in absurd cc
             | inr z ↦
                 let g : row_of (pc - 1) (suc first) ls ≡ None = sym (ap (λ (b : Bool). chosen true b pc first ls) z) ∙ f in
-                omega (arith, counted_behind (is_instruction l) (instructions_in ls) h, row_missing (pc - 1) (suc first) ls g, eqb-false pc 0 z)
+                omega (arith, counted_one_more (is_instruction l) (instructions_in ls) h, row_missing (pc - 1) (suc first) ls g, eqb-false pc 0 z)
           ]
       | inr h ↦
           let g : row_of pc (suc first) ls ≡ None = sym (ap (λ (b : Bool). chosen b (pc == 0) pc first ls) h) ∙ e in

@@ -13,18 +13,18 @@ pub record Leads (before : List Spot) (p : Place) : Type 0 where
   pub place : place_of state ≡ p
 
 -- the tokens before a place
-pub record IsBehind (all : List Spot) (p : Place) (left : List Spot) : Type 0 where
+pub record IsAfter (all : List Spot) (p : Place) (left : List Spot) : Type 0 where
   pub before : List Spot
   pub split : all ≡ before ++ left
   pub leads : Leads before p
 
-at_start : (all : List Spot) → IsBehind all start_place all
+at_start : (all : List Spot) → IsAfter all start_place all
 at_start all = record { before = []; split = refl; leads = record { state = state_of []; runs = refl; place = refl } }
 
-pub behind_start : (all left : List Spot) (p : Place) → left ≡ all → p ≡ start_place → IsBehind all p left
-behind_start all left p e f =
-    let P : List Spot → Type 0 = λ ss. IsBehind all p ss in
-    let Q : Place → Type 0 = λ q. IsBehind all q all in
+pub after_start : (all left : List Spot) (p : Place) → left ≡ all → p ≡ start_place → IsAfter all p left
+after_start all left p e f =
+    let P : List Spot → Type 0 = λ ss. IsAfter all p ss in
+    let Q : Place → Type 0 = λ q. IsAfter all q all in
     subst P (sym e) (subst Q (sym f) (at_start all))
 
 split_more : (all before rest left : List Spot) (x : Spot) → all ≡ before ++ rest → rest ≡ x ∷ left → all ≡ (before ++ x ∷ []) ++ left
@@ -41,8 +41,8 @@ leads_on p q x before h n =
     led_to h.state x before (next h.state x.token) q h.runs refl
     (next_as h.state x.token ∙ ap (λ (w : Place). next_place w x.token) h.place ∙ sym n)
 
-pub behind_next : (all : List Spot) (p q : Place) (x : Spot) (rest left : List Spot) → IsBehind all p rest → rest ≡ x ∷ left → Some q ≡ next_place p x.token → IsBehind all q left
-behind_next all p q x rest left h e n =
+pub after_next : (all : List Spot) (p q : Place) (x : Spot) (rest left : List Spot) → IsAfter all p rest → rest ≡ x ∷ left → Some q ≡ next_place p x.token → IsAfter all q left
+after_next all p q x rest left h e n =
     record {
       before = h.before ++ x ∷ [];
       split = split_more all h.before rest left x h.split e;

@@ -7,7 +7,7 @@ use Rattle.asl_grammar.specs.Lex.{tokens_of}
 use Rattle.asl_syntax.proofs.Few.{goes_on}
 use Rattle.asl_diagnose.specs.declared.declared.Declares.{Declares}
 use Rattle.asl_diagnose.specs.declared.declared.Declares.TheVariants.{Global, Function, Parameter, Nothing}
-use Rattle.asl_diagnose.specs.Places.{named, is_named, declares_behind, declares_from}
+use Rattle.asl_diagnose.specs.Places.{named, is_named, declares_after, declares_from}
 use Rattle.asl_diagnose.specs.SeenView.{is_function, first_function}
 use Rattle.asl_diagnose.specs.Diagnosed.{IsMainPlace}
 use Rattle.asl_diagnose.proofs.Scanned.{named_spot}
@@ -32,7 +32,7 @@ found x next (s ∷ ss) at e =
       | inl f ↦
           let k = function_next x next s.token f in
           let g : Some s.at ≡ Some at =
-          sym (ap (λ (b : Bool). if b then Some s.at else first_function x (declares_behind next s.token) ss) f) ∙ e in
+          sym (ap (λ (b : Bool). if b then Some s.at else first_function x (declares_after next s.token) ss) f) ∙ e in
           let same : s.at ≡ at = cc in
           let is : s ≡ named x s.at = named_spot x s.token s.at k.1 in
           record {
@@ -42,9 +42,9 @@ found x next (s ∷ ss) at e =
             is = k.0;
           }
       | inr f ↦
-          let g : first_function x (declares_behind next s.token) ss ≡ Some at =
-          sym (ap (λ (b : Bool). if b then Some s.at else first_function x (declares_behind next s.token) ss) f) ∙ e in
-          let h = found x (declares_behind next s.token) ss at g in
+          let g : first_function x (declares_after next s.token) ss ≡ Some at =
+          sym (ap (λ (b : Bool). if b then Some s.at else first_function x (declares_after next s.token) ss) f) ∙ e in
+          let h = found x (declares_after next s.token) ss at g in
           record {
             before = s ∷ h.before;
             behind = h.behind;
@@ -62,8 +62,8 @@ none_found x next [] behind at e f =
     sym (ap (λ (b : Bool). if b then Some at else first_function x Parameter behind) same) ∙ g in
     absurd cc
 none_found x next (s ∷ before) behind at e f =
-    let k = goes_on (is_function x next s.token) s.at (first_function x (declares_behind next s.token) (before ++ named x at ∷ behind)) e in
-    none_found x (declares_behind next s.token) before behind at k.1 f
+    let k = goes_on (is_function x next s.token) s.at (first_function x (declares_after next s.token) (before ++ named x at ∷ behind)) e in
+    none_found x (declares_after next s.token) before behind at k.1 f
 
 pub main_found : (text : List ℕ) (at : ℕ) → Some at ≡ first_function (codes "main") Nothing (tokens_of text) → IsMainPlace text at
 main_found text at e =

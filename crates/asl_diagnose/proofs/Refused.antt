@@ -25,8 +25,8 @@ use Rattle.asl_diagnose.specs.SeenView.{is_twice, seen_nothing}
 use Rattle.asl_diagnose.specs.Unknown.{IsUnknownPlace}
 use Rattle.asl_diagnose.proofs.There.{functions_there, sections_there, crowded_there}
 use Rattle.asl_diagnose.proofs.Stars.{star_there}
-use Rattle.asl_diagnose.proofs.Firsts.{first_use_in, unknown_found}
-use Rattle.asl_diagnose.proofs.Marked.{repeated_there}
+use Rattle.asl_diagnose.proofs.FirstUse.{first_use_in, unknown_found}
+use Rattle.asl_diagnose.proofs.RepeatedNames.{repeated_there}
 
 none_some : (at : ℕ) → None ≡ Some at → ⊥
 none_some at e = absurd cc

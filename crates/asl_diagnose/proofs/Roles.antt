@@ -15,8 +15,8 @@ use Rattle.asl_diagnose.specs.declared.name_role.Role.{Role}
 use Rattle.asl_diagnose.specs.declared.name_role.Role.TheVariants as role
 use Rattle.asl_diagnose.specs.declared.name_role.Sign.{Sign}
 use Rattle.asl_diagnose.specs.declared.name_role.Sign.TheVariants.{Other}
-use Rattle.asl_diagnose.specs.Places.{declares_behind}
-use Rattle.asl_diagnose.specs.UsesView.{sign_behind, first_mark, role_in_body, role_of, is_function_name}
+use Rattle.asl_diagnose.specs.Places.{declares_after}
+use Rattle.asl_diagnose.specs.UsesView.{sign_of, first_mark, role_in_body, role_of, is_function_name}
 
 -- a name, what it does, and whether it is the name of a function
 pub record Told : Type 0 where
@@ -28,8 +28,8 @@ pub record Told : Type 0 where
 abbrev pub told : Declares → Sign → List Token → List Told
 told d s [] = []
 told d s (Name x ∷ ts) =
-    record { starts = is_function_name (Name x) d; role = role_of d s (first_mark ts); name = x } ∷ told (declares_behind d (Name x)) Other ts
-told d s (t ∷ ts) = told (declares_behind d t) (sign_behind t) ts
+    record { starts = is_function_name (Name x) d; role = role_of d s (first_mark ts); name = x } ∷ told (declares_after d (Name x)) Other ts
+told d s (t ∷ ts) = told (declares_after d t) (sign_of t) ts
 
 abbrev pub used : Role → List ℕ → Told
 used r x = record { starts = false; role = r; name = x }

@@ -16,12 +16,12 @@ word_of line (b ∷ bs) e =
 pub word_is : (line ws word : List ℕ) → ws ≡ drop (prefix_len is_separator line) line → word ≡ take (prefix_len is_word_byte ws) ws → word ≡ first_of (words_of line)
 word_is line ws word e f = f ∙ word_of line ws (sym e)
 
-pub row_is : (text line rest behind : List ℕ) → 0 < length text → line ≡ take (prefix_len is_line_byte text) text → rest ≡ drop (prefix_len is_line_byte text) text → behind ≡ drop 1 rest → lines_of text ≡ line ∷ lines_of behind
-row_is text line rest behind some l r b =
+pub row_is : (text line rest after : List ℕ) → 0 < length text → line ≡ take (prefix_len is_line_byte text) text → rest ≡ drop (prefix_len is_line_byte text) text → after ≡ drop 1 rest → lines_of text ≡ line ∷ lines_of after
+row_is text line rest after some l r b =
     first_line text some
     ∙ ap (λ (x : List ℕ). x ∷ lines_of (drop 1 (drop (prefix_len is_line_byte text) text))) (sym l)
     ∙ ap (λ (x : List ℕ). line ∷ lines_of x) (ap (drop 1) (sym r) ∙ sym b)
 
-pub row_less : (text rest behind : List ℕ) (n : ℕ) → 0 < length text → rest ≡ drop n text → behind ≡ drop 1 rest → length behind < length text
-row_less text rest behind n some r b =
+pub row_less : (text rest after : List ℕ) (n : ℕ) → 0 < length text → rest ≡ drop n text → after ≡ drop 1 rest → length after < length text
+row_less text rest after n some r b =
     omega (arith, ap (λ (x : List ℕ). length x) r, ap (λ (x : List ℕ). length x) b, length-drop n text, length-drop 1 rest)

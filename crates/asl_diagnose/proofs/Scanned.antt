@@ -10,13 +10,13 @@ use Rattle.asl_diagnose.specs.declared.word_place.Word.TheVariants as word
 use Rattle.asl_diagnose.specs.declared.declared.Declares.{Declares}
 use Rattle.asl_diagnose.specs.declared.declared.Declares.TheVariants.{Global, Function, Parameter, Nothing}
 use Rattle.asl_diagnose.specs.declared.declared.Seen.{Seen}
-use Rattle.asl_diagnose.specs.Places.{named, is_named, is_word, declares_behind, declares_from, declares, SameFunction, IsNameAt, AreDeclaredAt}
+use Rattle.asl_diagnose.specs.Places.{named, is_named, is_word, declares_after, declares_from, declares, SameFunction, IsNameAt, AreDeclaredAt}
 use Rattle.asl_diagnose.specs.SeenView.{seen_nothing, cell, noted_as, noted_if, entered_if, passed, again, is_twice}
 use Rattle.asl_diagnose.proofs.Tokens.{IsPassed, split_on, is_there}
 
-declares_more : (next : Declares) (ss : List Spot) (s : Spot) → declares_from next (ss ++ s ∷ []) ≡ declares_behind (declares_from next ss) s.token
+declares_more : (next : Declares) (ss : List Spot) (s : Spot) → declares_from next (ss ++ s ∷ []) ≡ declares_after (declares_from next ss) s.token
 declares_more next [] s = refl
-declares_more next (t ∷ ss) s = declares_more (declares_behind next t.token) ss s
+declares_more next (t ∷ ss) s = declares_more (declares_after next t.token) ss s
 
 named_token : (x : List ℕ) (t : Token) → is_named x t ≡ true → t ≡ Name x
 named_token x (Fixed m) e = cc
@@ -130,7 +130,7 @@ one_scanned x all left more t s new h e f =
     subst P (sym f) (record {
       before = h.before ++ t ∷ [];
       split = split_on all h.before left more t h.split e;
-      next = ap (λ (d : Declares). declares_behind d t.token) h.next ∙ sym (declares_more Nothing h.before t);
+      next = ap (λ (d : Declares). declares_after d t.token) h.next ∙ sym (declares_more Nothing h.before t);
       cells = cells_passed x h.before s t.token t.at (sym h.next) h.cells;
     })
 

@@ -82,9 +82,9 @@ mutual
 function_stars : (tree : List Item) (number : ℕ) (f : w.Function) (rest : List Token) (p : Place) → accesses (function_code tree number (function_meaning f) p) + count word.Star rest ≤ count word.Star (function_on f rest)
 function_stars tree number f rest p =
     let sc : Scope = scope_of tree number (function_meaning f) in
-    let behind : List Token = Fixed mark.Return ∷ Name f.returned ∷ Fixed mark.Semicolon ∷ Fixed mark.CloseBrace ∷ rest in
-    let head : List Token = Fixed mark.CloseParen ∷ Fixed mark.OpenBrace ∷ block_on f.body behind in
-    omega (arith, both (block_code sc (block_meaning f.body) p) (instr.Return (register sc f.returned) ∷ []), names_count word.Star f.parameters head, block_stars sc f.body behind p)
+    let tail : List Token = Fixed mark.Return ∷ Name f.returned ∷ Fixed mark.Semicolon ∷ Fixed mark.CloseBrace ∷ rest in
+    let head : List Token = Fixed mark.CloseParen ∷ Fixed mark.OpenBrace ∷ block_on f.body tail in
+    omega (arith, both (block_code sc (block_meaning f.body) p) (instr.Return (register sc f.returned) ∷ []), names_count word.Star f.parameters head, block_stars sc f.body tail p)
 
 items_stars : (tree : List Item) (number : ℕ) (is : List w.Item) (p : Place) → accesses (functions_code tree number (functions_of (map item_meaning is)) p) ≤ count word.Star (program_on is [])
 items_stars tree number [] p = omega arith

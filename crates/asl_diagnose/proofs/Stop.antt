@@ -8,7 +8,7 @@ use Rattle.asl_grammar.proofs.Stacks.{Stack, State, state_of, next, run, run_wit
 use Rattle.asl_grammar.proofs.Complete.{run_program}
 use Rattle.asl_grammar.proofs.Viable.{run-append}
 use Rattle.asl_grammar.proofs.Judged.{place_of, place_of_option, next_as, spelled, viable}
-use Rattle.asl_diagnose.proofs.Led.{Leads, IsBehind}
+use Rattle.asl_diagnose.proofs.Led.{Leads, IsAfter}
 use Rattle.asl_diagnose.specs.WalkView.{is_accepted, MayEndAt, IsStuck, Stands, IsStopped}
 
 -- one more token is read
@@ -76,7 +76,7 @@ stands before p h =
     let P : Place → Type 0 = λ q. Stands (bare before) q in
     subst P h.place (stands_at (bare before) h.state h.runs)
 
-pub stopped : (all left : List Spot) (p : Place) → IsBehind all p left → IsStuck p left → IsStopped all p
+pub stopped : (all left : List Spot) (p : Place) → IsAfter all p left → IsStuck p left → IsStopped all p
 stopped all left p h s = record {
   before = h.before;
   rest = left;
@@ -86,12 +86,12 @@ stopped all left p h s = record {
 }
 
 -- where none is left, and where the next one is not read
-pub stopped_end : (all left : List Spot) (p : Place) → IsBehind all p left → left ≡ [] → IsStopped all p
+pub stopped_end : (all left : List Spot) (p : Place) → IsAfter all p left → left ≡ [] → IsStopped all p
 stopped_end all left p h e =
     let P : List Spot → Type 0 = λ ss. IsStuck p ss in
     stopped all left p h (subst P (sym e) tt)
 
-pub stopped_at : (all left more : List Spot) (s : Spot) (p : Place) → IsBehind all p left → left ≡ s ∷ more → next_place p s.token ≡ None → IsStopped all p
+pub stopped_at : (all left more : List Spot) (s : Spot) (p : Place) → IsAfter all p left → left ≡ s ∷ more → next_place p s.token ≡ None → IsStopped all p
 stopped_at all left more s p h e n =
     let P : List Spot → Type 0 = λ ss. IsStuck p ss in
     stopped all left p h (subst P (sym e) n)

@@ -79,9 +79,9 @@ mutual
 
 function_count : (v : Word) (f : w.Function) (rest : List Token) → one v (Fixed mark.Fn) + count v rest ≤ count v (function_on f rest)
 function_count v f rest =
-    let behind : List Token = Fixed mark.Return ∷ Name f.returned ∷ Fixed mark.Semicolon ∷ Fixed mark.CloseBrace ∷ rest in
-    let head : List Token = Fixed mark.CloseParen ∷ Fixed mark.OpenBrace ∷ block_on f.body behind in
-    omega (arith, names_count v f.parameters head, block_count v f.body behind)
+    let tail : List Token = Fixed mark.Return ∷ Name f.returned ∷ Fixed mark.Semicolon ∷ Fixed mark.CloseBrace ∷ rest in
+    let head : List Token = Fixed mark.CloseParen ∷ Fixed mark.OpenBrace ∷ block_on f.body tail in
+    omega (arith, names_count v f.parameters head, block_count v f.body tail)
 
 functions_count : (is : List w.Item) → length (functions_of (map item_meaning is)) ≤ count word.Fn (program_on is [])
 functions_count [] = omega arith
@@ -160,9 +160,9 @@ mutual
 
 function_section : (f : w.Function) (rest : List Token) (p : Place) → (past_function (function_meaning f) p).section + count word.Atomic rest ≤ p.section + count word.Atomic (function_on f rest)
 function_section f rest p =
-    let behind : List Token = Fixed mark.Return ∷ Name f.returned ∷ Fixed mark.Semicolon ∷ Fixed mark.CloseBrace ∷ rest in
-    let head : List Token = Fixed mark.CloseParen ∷ Fixed mark.OpenBrace ∷ block_on f.body behind in
-    omega (arith, names_count word.Atomic f.parameters head, block_section f.body behind p)
+    let tail : List Token = Fixed mark.Return ∷ Name f.returned ∷ Fixed mark.Semicolon ∷ Fixed mark.CloseBrace ∷ rest in
+    let head : List Token = Fixed mark.CloseParen ∷ Fixed mark.OpenBrace ∷ block_on f.body tail in
+    omega (arith, names_count word.Atomic f.parameters head, block_section f.body tail p)
 
 items_section : (is : List w.Item) (p : Place) → (past_functions (functions_of (map item_meaning is)) p).section ≤ p.section + count word.Atomic (program_on is [])
 items_section [] p = omega arith

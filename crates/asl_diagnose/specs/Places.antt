@@ -53,19 +53,19 @@ accesses_before code pc = count_by is_access (take pc code)
 
 -- what the next name declares: after `global` a global, after `fn` a function, and from a function's name to the parenthesis that
 -- closes a parameter
-abbrev pub declares_behind : Declares → Token → Declares
-declares_behind next (Fixed mark.Global) = Global
-declares_behind next (Fixed mark.Fn) = Function
-declares_behind next (Fixed mark.CloseParen) = Nothing
-declares_behind Function (Name x) = Parameter
-declares_behind Parameter (Name x) = Parameter
-declares_behind next (Name x) = Nothing
-declares_behind next t = next
+abbrev pub declares_after : Declares → Token → Declares
+declares_after next (Fixed mark.Global) = Global
+declares_after next (Fixed mark.Fn) = Function
+declares_after next (Fixed mark.CloseParen) = Nothing
+declares_after Function (Name x) = Parameter
+declares_after Parameter (Name x) = Parameter
+declares_after next (Name x) = Nothing
+declares_after next t = next
 
 -- the same after tokens
 abbrev pub declares_from : Declares → List Spot → Declares
 declares_from next [] = next
-declares_from next (s ∷ ss) = declares_from (declares_behind next s.token) ss
+declares_from next (s ∷ ss) = declares_from (declares_after next s.token) ss
 
 -- what a name after these tokens declares
 abbrev pub declares : List Spot → Declares

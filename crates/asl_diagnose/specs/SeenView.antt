@@ -5,7 +5,7 @@ use Rattle.asl_diagnose.specs.declared.declared.Seen.{Seen}
 use Rattle.asl_diagnose.specs.declared.word_place.Word.TheVariants as word
 use Rattle.asl_diagnose.specs.declared.declared.Declares.{Declares}
 use Rattle.asl_diagnose.specs.declared.declared.Declares.TheVariants.{Global, Function, Parameter, Nothing}
-use Rattle.asl_diagnose.specs.Places.{is_named, is_word, declares_behind}
+use Rattle.asl_diagnose.specs.Places.{is_named, is_word, declares_after}
 
 -- the name stands nowhere
 abbrev pub seen_nothing : Seen
@@ -40,7 +40,7 @@ entered_if b s = if b then record s { parameter = None } else s
 abbrev pub passed : List ℕ → Seen → Spot → Seen
 passed x s spot =
     let t = entered_if (is_word word.Fn spot.token) (noted_if (is_named x spot.token) s spot.at) in
-    record t { next = declares_behind s.next spot.token }
+    record t { next = declares_after s.next spot.token }
 
 -- the next name is a function's, and the token is the name
 abbrev pub is_function : List ℕ → Declares → Token → Bool
@@ -51,7 +51,7 @@ is_function x next t = false
 abbrev pub first_function : List ℕ → Declares → List Spot → Option ℕ
 first_function x next [] = None
 first_function x next (s ∷ ss) =
-    if is_function x next s.token then Some s.at else first_function x (declares_behind next s.token) ss
+    if is_function x next s.token then Some s.at else first_function x (declares_after next s.token) ss
 
 -- where the name was declared before, if the token declares it again
 abbrev pub again : List ℕ → Seen → Token → Option ℕ

@@ -11,13 +11,13 @@ use Rattle.asl_diagnose.specs.declared.name_role.Role.{Role}
 use Rattle.asl_diagnose.specs.declared.name_role.Role.TheVariants as role
 use Rattle.asl_diagnose.specs.declared.name_role.Sign.{Sign}
 use Rattle.asl_diagnose.specs.declared.name_role.Sign.TheVariants as sign
-use Rattle.asl_diagnose.specs.Places.{is_named, declares_behind}
+use Rattle.asl_diagnose.specs.Places.{is_named, declares_after}
 
 -- after a token
-abbrev pub sign_behind : Token → Sign
-sign_behind (Fixed mark.Ampersand) = sign.Ampersand
-sign_behind (Fixed mark.Star) = sign.Star
-sign_behind t = sign.Other
+abbrev pub sign_of : Token → Sign
+sign_of (Fixed mark.Ampersand) = sign.Ampersand
+sign_of (Fixed mark.Star) = sign.Star
+sign_of t = sign.Other
 
 -- the word or symbol that a token is, if it is one, and that of the first of some tokens
 abbrev pub mark_of : Token → Option Mark
@@ -72,22 +72,22 @@ passes test x d s t ts = is_named x t && test (role_of d s (first_mark ts))
 abbrev pub has_declared : Declares → List ℕ → Declares → Sign → List Token → Bool
 has_declared how x d s [] = false
 has_declared how x d s (t ∷ ts) =
-    passes (declares_as how) x d s t ts || has_declared how x (declares_behind d t) (sign_behind t) ts
+    passes (declares_as how) x d s t ts || has_declared how x (declares_after d t) (sign_of t) ts
 
 -- the name is a local of the function in whose tokens these stand, up to the name of the next function
 abbrev pub has_local : List ℕ → Declares → Sign → List Token → Bool
 has_local x d s [] = false
 has_local x d s (t ∷ ts) =
-    if is_function_name t d then false else (passes sets_local x d s t ts || has_local x (declares_behind d t) (sign_behind t) ts)
+    if is_function_name t d then false else (passes sets_local x d s t ts || has_local x (declares_after d t) (sign_of t) ts)
 
 -- the same after a token, from the name of a function on for its own tokens
-abbrev pub local_behind : List ℕ → Declares → Sign → Bool → Token → List Token → Bool
-local_behind x d s locals t ts =
-    if is_function_name t d then has_local x (declares_behind d t) (sign_behind t) ts else locals
+abbrev pub local_after : List ℕ → Declares → Sign → Bool → Token → List Token → Bool
+local_after x d s locals t ts =
+    if is_function_name t d then has_local x (declares_after d t) (sign_of t) ts else locals
 
 -- the place of the first use of the name where its name space has it not
 abbrev pub first_use : List ℕ → Bool → Bool → Bool → Declares → Sign → List Spot → Option ℕ
 first_use x globals functions locals d s [] = None
 first_use x globals functions locals d s (p ∷ ss) =
-    if passes (lacks globals functions (local_behind x d s locals p.token (bare ss))) x d s p.token (bare ss) then Some p.at
-    else first_use x globals functions (local_behind x d s locals p.token (bare ss)) (declares_behind d p.token) (sign_behind p.token) ss
+    if passes (lacks globals functions (local_after x d s locals p.token (bare ss))) x d s p.token (bare ss) then Some p.at
+    else first_use x globals functions (local_after x d s locals p.token (bare ss)) (declares_after d p.token) (sign_of p.token) ss

@@ -1,22 +1,13 @@
 //! How many loads and stores stand before an instruction.
 
-ghost use Rattle.std.specs.Prelude.{◌≡◌, ◌+◌, ◌<◌, ◌≤◌, ◌^◌};
-ghost use Rattle.asl_syntax.specs.View.{value_of, statement_of, block_of, function_of};
+ghost use Rattle.std.specs.Prelude.{◌≡◌};
 ghost use Rattle.asl_syntax.specs.AstView.{tree_of};
 ghost use Rattle.asl_lower.specs.Lowered.{Lowered, IsLowering};
 ghost use Rattle.asl_diagnose.specs.Places.{accesses_before};
-ghost use Rattle.asl_diagnose.specs.AccessView.{behind, behind_access, behind_value, behind_stmt, behind_block, behind_else, behind_function, room};
 
-use crate::overfull::value_size;
+use crate::code_walk::{Passed, past_function};
 use asl_syntax::Ast;
-use asl_syntax::tree::{Function, Item, Statement, Value};
-
-/// How many instructions stand before the one that is sought, and how many loads and stores were passed.
-#[derive(Clone, Copy)]
-struct Passed {
-    left: usize,
-    accesses: usize,
-}
+use asl_syntax::tree::Item;
 
 /// How many loads and stores the code of a program has before a pc.
 pub fn accesses_before(ast: &Ast, pc: u16) -> usize
@@ -33,94 +24,4 @@ pub fn accesses_before(ast: &Ast, pc: u16) -> usize
         }
     }
     passed.accesses
-}
-
-/// After the code of a function.
-fn past_function(passed: Passed, function: &Function) -> Passed
-    requires { room passed < 2 ^ 64 }
-    ensures is { result ≡ behind_function passed (function_of function.now) }
-    ensures room { room result ≤ room passed }
-{
-    past(past_block(passed, &function.body), 1)
-}
-
-/// After that of statements.
-#[cycle(past)]
-fn past_block(passed: Passed, block: &[Statement]) -> Passed
-    requires { room passed < 2 ^ 64 }
-    ensures is { result ≡ behind_block passed (block_of block.now) }
-    ensures room { room result ≤ room passed }
-{
-    let mut behind = passed;
-    for statement in block {
-        behind = past_statement(behind, statement);
-    }
-    behind
-}
-
-/// After that of a statement.
-#[cycle(past)]
-fn past_statement(passed: Passed, statement: &Statement) -> Passed
-    requires { room passed < 2 ^ 64 }
-    ensures is { result ≡ behind_stmt passed (statement_of statement.now) }
-    ensures room { room result ≤ room passed }
-{
-    match statement {
-        Statement::Assign(_, value) => past_value(passed, value),
-        Statement::Store(_, _) => past_access(passed),
-        Statement::Out(_) => past(passed, 1),
-        Statement::If(_, first, second) => {
-            let behind = past_block(past(passed, 1), first);
-            past_block(past_jump(behind, second), second)
-        }
-        Statement::While(_, body) => past(past_block(past(passed, 1), body), 1),
-        Statement::Atomic(body) => past(past_block(past(passed, 1), body), 1),
-    }
-}
-
-/// After the jump over the second block of an `if`, if it has one.
-fn past_jump(passed: Passed, second: &[Statement]) -> Passed
-    ensures is { behind_block result (block_of second.now) ≡ behind_else passed (block_of second.now) }
-    ensures room { room result ≤ room passed }
-{
-    if second.is_empty() {
-        passed
-    } else {
-        past(passed, 1)
-    }
-}
-
-/// After the code of a value.
-fn past_value(passed: Passed, value: &Value) -> Passed
-    requires { room passed < 2 ^ 64 }
-    ensures is { result ≡ behind_value passed (value_of value.now) }
-    ensures room { room result ≤ room passed }
-{
-    match value {
-        Value::Load(_) => past_access(passed),
-        _ => past(passed, value_size(value)),
-    }
-}
-
-/// After a load or a store.
-fn past_access(passed: Passed) -> Passed
-    requires { room passed < 2 ^ 64 }
-    ensures is { result ≡ behind_access passed }
-    ensures room { room result ≤ room passed }
-{
-    Passed {
-        left: passed.left.saturating_sub(1),
-        accesses: passed.accesses + passed.left.min(1),
-    }
-}
-
-/// After so many other instructions.
-fn past(passed: Passed, count: usize) -> Passed
-    ensures is { result ≡ behind passed count }
-    ensures room { room result ≤ room passed }
-{
-    Passed {
-        left: passed.left.saturating_sub(count),
-        accesses: passed.accesses,
-    }
 }

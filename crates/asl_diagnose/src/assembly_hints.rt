@@ -21,27 +21,27 @@ fn line_of(text: &[u8], number: usize) -> &[u8] {
 }
 
 /// Adds the sentence of a fault.
-pub fn push_sentence(out: &mut String, text: &[u8], fault: AsmFault) -> Result<(), AllocError> {
+pub fn push_sentence(message: &mut String, text: &[u8], fault: AsmFault) -> Result<(), AllocError> {
     match fault {
-        AsmFault::Line(number) => push_line_sentence(out, text, number),
-        AsmFault::Verify(cause) => out.push_str(verify_sentence(cause)),
-        AsmFault::OutOfMemory => out.push_str("memory ran out"),
+        AsmFault::Line(number) => push_line_sentence(message, text, number),
+        AsmFault::Verify(cause) => message.push_str(verify_sentence(cause)),
+        AsmFault::OutOfMemory => message.push_str("memory ran out"),
     }
 }
 
 /// Adds the sentence of a wrong line.
-fn push_line_sentence(out: &mut String, text: &[u8], number: usize) -> Result<(), AllocError> {
+fn push_line_sentence(message: &mut String, text: &[u8], number: usize) -> Result<(), AllocError> {
     let (word, _) = first_word(line_of(text, number));
     if word.is_empty() {
-        return out.push_str("the text ends too early");
+        return message.push_str("the text ends too early");
     }
-    push_quoted(out, word)?;
+    push_quoted(message, word)?;
     if form(word).is_empty() {
-        out.push_str(" begins no line")
+        message.push_str(" begins no line")
     } else if may_stand(turn_at(text, number), word) {
-        out.push_str(" is not written so")
+        message.push_str(" is not written so")
     } else {
-        out.push_str(" does not stand here")
+        message.push_str(" does not stand here")
     }
 }
 
@@ -68,13 +68,13 @@ fn verify_sentence(cause: VerifyFault) -> &'static str {
 /// Adds what helps, a line each.
 pub fn push_hints(
     alloc: Global,
-    out: &mut String,
+    message: &mut String,
     text: &[u8],
     fault: AsmFault,
 ) -> Result<(), AllocError> {
     match fault {
-        AsmFault::Line(number) => push_line_hints(alloc, out, text, number),
-        AsmFault::Verify(cause) => push_verify_hints(out, text, cause),
+        AsmFault::Line(number) => push_line_hints(alloc, message, text, number),
+        AsmFault::Verify(cause) => push_verify_hints(message, text, cause),
         AsmFault::OutOfMemory => Ok(()),
     }
 }
@@ -82,7 +82,7 @@ pub fn push_hints(
 /// Adds what a line may be.
 fn push_line_hints(
     alloc: Global,
-    out: &mut String,
+    message: &mut String,
     text: &[u8],
     number: usize,
 ) -> Result<(), AllocError> {
@@ -90,16 +90,16 @@ fn push_line_hints(
     let (word, _) = first_word(line_of(text, number));
     let known = form(word);
     if may_stand(turn, word) && !known.is_empty() {
-        write!(out, "a line of this kind is written `{known}`\n")?;
-        return out.push_str(range_text(word));
+        write!(message, "a line of this kind is written `{known}`\n")?;
+        return message.push_str(range_text(word));
     }
-    out.push_str(turn_text(turn))?;
-    out.push_str("\n")?;
+    message.push_str(turn_text(turn))?;
+    message.push_str("\n")?;
     if known.is_empty() {
-        push_near(alloc, out, word)?;
+        push_near(alloc, message, word)?;
     }
     match word {
-        [b';' | b'#' | b'/', ..] => out.push_str("there are no comments\n"),
+        [b';' | b'#' | b'/', ..] => message.push_str("there are no comments\n"),
         _ => Ok(()),
     }
 }
@@ -126,24 +126,28 @@ fn range_text(word: &[u8]) -> &'static str {
 }
 
 /// Adds the nearest word that a line begins with.
-fn push_near(alloc: Global, out: &mut String, word: &[u8]) -> Result<(), AllocError> {
+fn push_near(alloc: Global, message: &mut String, word: &[u8]) -> Result<(), AllocError> {
     let mut found = Nearest::new();
     for other in WORDS {
         found.try_name(alloc, word, other.as_bytes())?;
     }
     match found.name {
         Some(name) => {
-            push_quoted(out, name)?;
-            out.push_str(" is spelled nearly so\n")
+            push_quoted(message, name)?;
+            message.push_str(" is spelled nearly so\n")
         }
         None => Ok(()),
     }
 }
 
 /// Adds what must be below what, for a rule that is broken.
-fn push_verify_hints(out: &mut String, text: &[u8], cause: VerifyFault) -> Result<(), AllocError> {
+fn push_verify_hints(
+    message: &mut String,
+    text: &[u8],
+    cause: VerifyFault,
+) -> Result<(), AllocError> {
     match cause {
-        VerifyFault::Limit => out.push_str(
+        VerifyFault::Limit => message.push_str(
             "at most 1024 classes, 1024 globals, 256 functions of 4 parameters and 64 registers, 65535 instructions, 1024 lists of 256 locks (of 64 in version 1)\n",
         ),
         VerifyFault::Table => {
@@ -151,47 +155,47 @@ fn push_verify_hints(out: &mut String, text: &[u8], cause: VerifyFault) -> Resul
             let classes = all.classes;
             let globals = all.globals;
             write!(
-                out,
+                message,
                 "a class is below {classes}, a global below {globals}\n"
             )
         }
         VerifyFault::NoEntry => {
             let functions = whole(text).functions;
             write!(
-                out,
+                message,
                 "a function is below {functions}; the first one to run is `fn 1 R`\n"
             )
         }
-        VerifyFault::Target(pc) => push_target_hint(out, text, pc),
+        VerifyFault::Target(pc) => push_target_hint(message, text, pc),
         VerifyFault::Register(pc) | VerifyFault::ListBase(pc) => {
             let regs = listing_at(text, pc as usize).regs;
             write!(
-                out,
+                message,
                 "instruction {pc}: a register of this function is below {regs}\n"
             )
         }
-        VerifyFault::Operand(pc) => push_operand_hint(out, text, pc),
+        VerifyFault::Operand(pc) => push_operand_hint(message, text, pc),
         VerifyFault::FunctionRange | VerifyFault::FallsOut => Ok(()),
     }
 }
 
-fn push_target_hint(out: &mut String, text: &[u8], pc: u32) -> Result<(), AllocError> {
+fn push_target_hint(message: &mut String, text: &[u8], pc: u32) -> Result<(), AllocError> {
     let first = listing_at(text, pc as usize).first;
     let end = end_of_body(text, first);
     let functions = whole(text).functions;
     write!(
-        out,
+        message,
         "instruction {pc}: a target is from {first} and below {end}, a function below {functions}\n"
     )
 }
 
-fn push_operand_hint(out: &mut String, text: &[u8], pc: u32) -> Result<(), AllocError> {
+fn push_operand_hint(message: &mut String, text: &[u8], pc: u32) -> Result<(), AllocError> {
     let all = whole(text);
     let globals = all.globals;
     let classes = all.classes;
     let lists = all.lists;
     write!(
-        out,
+        message,
         "instruction {pc}: a global is below {globals}, a class below {classes}, a list below {lists}, and an object has 1 to 255 cells\n"
     )
 }

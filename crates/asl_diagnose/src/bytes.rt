@@ -12,19 +12,19 @@ fn shown(byte: u8) -> char {
 }
 
 /// Adds bytes.
-pub fn push_bytes(out: &mut String, bytes: &[u8]) -> Result<(), AllocError> {
+pub fn push_bytes(message: &mut String, bytes: &[u8]) -> Result<(), AllocError> {
     for byte in bytes {
-        out.push(shown(*byte))?;
+        message.push(shown(*byte))?;
     }
     Ok(())
 }
 
 /// Adds bytes between backticks, at most forty of them.
-pub fn push_quoted(out: &mut String, bytes: &[u8]) -> Result<(), AllocError> {
+pub fn push_quoted(message: &mut String, bytes: &[u8]) -> Result<(), AllocError> {
     let shown = &bytes[..bytes.len().min(40)];
-    out.push_str("`")?;
-    push_bytes(out, shown)?;
-    out.push_str(if shown.len() < bytes.len() {
+    message.push_str("`")?;
+    push_bytes(message, shown)?;
+    message.push_str(if shown.len() < bytes.len() {
         "..`"
     } else {
         "`"
@@ -32,9 +32,9 @@ pub fn push_quoted(out: &mut String, bytes: &[u8]) -> Result<(), AllocError> {
 }
 
 /// Adds a blank for each byte, and a tab for each tab, so that what follows stands below what follows the bytes.
-pub fn push_blanks(out: &mut String, bytes: &[u8]) -> Result<(), AllocError> {
+pub fn push_blanks(message: &mut String, bytes: &[u8]) -> Result<(), AllocError> {
     for byte in bytes {
-        out.push(if *byte == b'\t' { '\t' } else { ' ' })?;
+        message.push(if *byte == b'\t' { '\t' } else { ' ' })?;
     }
     Ok(())
 }

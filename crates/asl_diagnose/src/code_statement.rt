@@ -47,7 +47,7 @@ impl<'t> Coder<'t> {
     }
 
     /// Counts what a token completes, with these tokens after it.
-    fn count(&mut self, act: Act<'t>, behind: &Tokens<'t>) -> Result<(), AllocError> {
+    fn count(&mut self, act: Act<'t>, rest: &Tokens<'t>) -> Result<(), AllocError> {
         let more = match act {
             Act::Emit(_) => 1,
             Act::Finish(_) => 1,
@@ -60,7 +60,7 @@ impl<'t> Coder<'t> {
                 self.arguments = 0;
                 arguments.saturating_add(1)
             }
-            Act::Begin(opening) => self.open(opening, behind)?,
+            Act::Begin(opening) => self.open(opening, rest)?,
             Act::Close => self.close(),
             _ => 0,
         };
@@ -69,7 +69,7 @@ impl<'t> Coder<'t> {
     }
 
     /// Opens a block: how many instructions stand before its first.
-    fn open(&mut self, opening: Opening<'t>, behind: &Tokens<'t>) -> Result<usize, AllocError> {
+    fn open(&mut self, opening: Opening<'t>, rest: &Tokens<'t>) -> Result<usize, AllocError> {
         match opening {
             Opening::OfIf(_) => {
                 self.blocks.push(Block::Then)?;
@@ -77,7 +77,7 @@ impl<'t> Coder<'t> {
             }
             Opening::OfElse => {
                 self.blocks.push(Block::Else)?;
-                Ok(if closes(behind) { 0 } else { 1 })
+                Ok(if closes(rest) { 0 } else { 1 })
             }
             Opening::OfWhile(_) => {
                 self.blocks.push(Block::While)?;

@@ -2,7 +2,7 @@
 ghost use Rattle.std.specs.Prelude.{◌≡◌, false, IfSome, IfNone};
 ghost use Rattle.asl_grammar.specs.Lex.{tokens_of};
 ghost use Rattle.asl_grammar.specs.View.{token_of};
-ghost use Rattle.asl_diagnose.specs.Places.{declares_behind, AreDeclaredAt};
+ghost use Rattle.asl_diagnose.specs.Places.{declares_after, AreDeclaredAt};
 ghost use Rattle.asl_diagnose.specs.SeenView.{is_twice, seen_nothing};
 
 use crate::word_place::{Word, is_named, is_word};
@@ -19,8 +19,8 @@ pub enum Declares {
 }
 
 /// What the next name declares after a token.
-pub fn declares_behind(next: Declares, token: Token<'_>) -> Declares
-    ensures { result ≡ declares_behind next (token_of token.entry) }
+pub fn declares_after(next: Declares, token: Token<'_>) -> Declares
+    ensures { result ≡ declares_after next (token_of token.entry) }
 {
     match token {
         Token::Fixed(Mark::Global) => Declares::Global,
@@ -104,7 +104,7 @@ impl Seen {
         if is_word(Word::Fn, spot.token) {
             self.parameter = None;
         }
-        self.next = declares_behind(self.next, spot.token);
+        self.next = declares_after(self.next, spot.token);
     }
 }
 
@@ -132,7 +132,7 @@ pub fn declares_at(text: &[u8], at: usize) -> Declares {
         if spot.at >= at {
             return next;
         }
-        next = declares_behind(next, spot.token);
+        next = declares_after(next, spot.token);
     }
     Declares::Nothing
 }

@@ -79,7 +79,7 @@ fn may_end(walk: &Walk<'_>) -> bool
 /// # Errors
 ///
 /// An allocation failed.
-pub fn expected_behind(alloc: Global, text: &[u8]) -> Result<Expected, AllocError>
+pub fn expected_at_stop(alloc: Global, text: &[u8]) -> Result<Expected, AllocError>
     ensures { IfOk result (λ e. (at : ℕ) → IsGrammarFault (tokens_of text.now) (length text.now) at
         → IsStop (tokens_of text.now) (length text.now) at e.kinds.items e.may_end) }
 {

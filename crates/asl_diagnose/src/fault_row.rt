@@ -1,6 +1,6 @@
 //! The line of an assembly text at which a rule of the whole image is broken.
 
-use crate::forms::{Turn, turn_behind};
+use crate::forms::{Turn, turn_after};
 use crate::listing::{Listing, whole};
 use crate::text_lines::{TextLine, TextLines, first_word, number_in, word};
 use asl_code::VerifyFault;
@@ -126,7 +126,7 @@ fn falling_row(text: &[u8]) -> Option<usize> {
                 }
             }
         }
-        turn = turn_behind(turn, name);
+        turn = turn_after(turn, name);
     }
     last
 }

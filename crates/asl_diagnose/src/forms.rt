@@ -14,7 +14,7 @@ pub enum Turn {
 }
 
 /// Which line comes after one with this first word.
-pub fn turn_behind(turn: Turn, word: &[u8]) -> Turn {
+pub fn turn_after(turn: Turn, word: &[u8]) -> Turn {
     match word {
         b"version" => Turn::Classes,
         b"classes" => Turn::Globals,
@@ -34,7 +34,7 @@ pub fn turn_at(text: &[u8], number: usize) -> Turn {
             return turn;
         }
         let (word, _) = first_word(row.line);
-        turn = turn_behind(turn, word);
+        turn = turn_after(turn, word);
     }
     turn
 }

@@ -5,7 +5,7 @@ ghost use Rattle.asl_grammar.specs.View.{token_of};
 ghost use Rattle.asl_diagnose.specs.SeenView.{is_function, first_function};
 ghost use Rattle.asl_diagnose.specs.declared.declared.Declares.TheVariants.{Nothing};
 
-use crate::declared::{Declares, declares_behind};
+use crate::declared::{Declares, declares_after};
 use crate::word_place::is_named;
 use asl_grammar::lexer::{Found, Tokens};
 use asl_grammar::token::{Mark, Token};
@@ -30,7 +30,7 @@ pub fn function_place(text: &[u8], name: &[u8]) -> Option<usize>
         if is_function(next, spot.token, name) {
             return Some(spot.at);
         }
-        next = declares_behind(next, spot.token);
+        next = declares_after(next, spot.token);
     }
     None
 }
@@ -65,7 +65,7 @@ pub fn head_of(text: &[u8], name: &[u8]) -> Option<Head> {
                 _ => head,
             },
         };
-        next = declares_behind(next, spot.token);
+        next = declares_after(next, spot.token);
     }
     head
 }

@@ -1,7 +1,7 @@
 //! What to write in place of what no program has there.
 
 use crate::item_hints::{end_hint, head_hint, item_hint, return_hint};
-use crate::value_hints::{behind_name_hint, inner_hint, name_hint, value_hint};
+use crate::value_hints::{after_name_hint, inner_hint, name_hint, value_hint};
 use asl_grammar::control::{Control, Kind, Line, Opening, Right};
 use asl_grammar::token::{Mark, Token};
 
@@ -32,7 +32,7 @@ pub fn grammar_hint(stop: Stop<'_>) -> &'static str {
         Control::StatementStart | Control::AfterThen => start_hint(stop.kind, token),
         Control::Target(name) => target_hint(name, token),
         Control::AfterBecomes(_) => value_hint(token),
-        Control::AfterValue(_, _) => behind_name_hint(token),
+        Control::AfterValue(_, _) => after_name_hint(token),
         Control::LineEnd(line) => line_end_hint(line, token),
         Control::AfterIf | Control::AfterWhile | Control::AfterHeader(_) => {
             header_hint(stop.control, token)

@@ -13,7 +13,7 @@ use std::alloc::{AllocError, Global};
 /// Adds what helps where no lists are inferred for a program.
 pub fn push_infer_hints(
     alloc: Global,
-    out: &mut String,
+    message: &mut String,
     text: &[u8],
     fault: InferFault,
     told: &Diagnosis,
@@ -22,34 +22,37 @@ pub fn push_infer_hints(
         InferFault::Registers(function) => {
             let (locals, arguments) = registers(alloc, text, usize::from(function))?;
             write!(
-                out,
+                message,
                 "{locals} for its parameters and the names that it sets, {arguments} for the arguments of its longest call\n"
             )
         }
         InferFault::AccessOutsideSection(function, _) => {
-            push_access_hints(alloc, out, text, usize::from(function))
+            push_access_hints(alloc, message, text, usize::from(function))
         }
         InferFault::TooManyLocks(_) => {
-            push_bringers(out, text, told)?;
-            push_hint(out, "shorter paths are fewer: try a smaller K, as --k 0")
+            push_bringers(message, text, told)?;
+            push_hint(
+                message,
+                "shorter paths are fewer: try a smaller K, as --k 0",
+            )
         }
-        InferFault::CodeSize => push_size_hint(alloc, out, text),
+        InferFault::CodeSize => push_size_hint(alloc, message, text),
         InferFault::TooManyClasses | InferFault::OutOfMemory => Ok(()),
     }
 }
 
 /// Adds where the first instruction that is too many stands.
-fn push_size_hint(alloc: Global, out: &mut String, text: &[u8]) -> Result<(), AllocError> {
+fn push_size_hint(alloc: Global, message: &mut String, text: &[u8]) -> Result<(), AllocError> {
     let Some(at) = statement_of(alloc, text, 65_535)? else {
         return Ok(());
     };
-    out.push_str("the first instruction that is too many is of the statement at ")?;
-    push_place(out, text, at)?;
-    out.push_str("\n")
+    message.push_str("the first instruction that is too many is of the statement at ")?;
+    push_place(message, text, at)?;
+    message.push_str("\n")
 }
 
 /// Adds which statements bring most of the locks of a region, if some do.
-fn push_bringers(out: &mut String, text: &[u8], told: &Diagnosis) -> Result<(), AllocError> {
+fn push_bringers(message: &mut String, text: &[u8], told: &Diagnosis) -> Result<(), AllocError> {
     let Some(found) = &told.bringers else {
         return Ok(());
     };
@@ -57,47 +60,50 @@ fn push_bringers(out: &mut String, text: &[u8], told: &Diagnosis) -> Result<(), 
     let last = line(text, found.to);
     let left = found.left;
     if found.count == 1 {
-        write!(out, "line {first} ")?;
-        push_quoted(out, line_bytes(text, found.from, found.to))?;
-        out.push_str(" brings most of them: without it ")?;
+        write!(message, "line {first} ")?;
+        push_quoted(message, line_bytes(text, found.from, found.to))?;
+        message.push_str(" brings most of them: without it ")?;
     } else {
         write!(
-            out,
+            message,
             "lines {first} to {last} bring most of them: without them "
         )?;
     }
     let word = plural(left, "lock is", "locks are");
-    write!(out, "{left} {word} needed\n")
+    write!(message, "{left} {word} needed\n")
 }
 
 /// The bytes of a statement, without its semicolon.
-fn line_bytes(text: &[u8], from: usize, to: usize) -> &[u8] {
-    let (before, _) = text.split_at(to.saturating_sub(1).min(text.len()));
-    let (_, bytes) = before.split_at(from.min(before.len()));
+fn line_bytes(text: &[u8], start: usize, end: usize) -> &[u8] {
+    let (before, _) = text.split_at(end.saturating_sub(1).min(text.len()));
+    let (_, bytes) = before.split_at(start.min(before.len()));
     bytes
 }
 
 /// Adds why the function of an access runs outside sections.
 fn push_access_hints(
     alloc: Global,
-    out: &mut String,
+    message: &mut String,
     text: &[u8],
     function: usize,
 ) -> Result<(), AllocError> {
     let name = function_name(text, function);
     if name == b"main".as_slice() {
         return push_hint(
-            out,
+            message,
             "mark the statements that belong together by `atomic { .. }`",
         );
     }
     if let Some(at) = call_outside(alloc, text, name)? {
-        push_quoted(out, name)?;
-        out.push_str(" is called outside sections at ")?;
-        push_place(out, text, at)?;
-        out.push_str(" in ")?;
-        push_quoted(out, function_around(text, at))?;
-        out.push_str("\n")?;
+        push_quoted(message, name)?;
+        message.push_str(" is called outside sections at ")?;
+        push_place(message, text, at)?;
+        message.push_str(" in ")?;
+        push_quoted(message, function_around(text, at))?;
+        message.push_str("\n")?;
     }
-    push_hint(out, "put the access, or that call, into `atomic { .. }`")
+    push_hint(
+        message,
+        "put the access, or that call, into `atomic { .. }`",
+    )
 }

@@ -6,6 +6,7 @@ mod assembly_hints;
 mod assembly_refusal;
 mod bytes;
 mod code_statement;
+mod code_walk;
 mod declared;
 mod diagnosis;
 mod expected;

@@ -4,7 +4,7 @@ ghost use Rattle.asl_assembler.specs.Words.{lines_of};
 ghost use Rattle.asl_diagnose.specs.TextLines.{row_of};
 ghost use Rattle.asl_diagnose.specs.Instructions.{setters, others, is_one, is_instruction};
 
-use crate::forms::{Turn, turn_behind};
+use crate::forms::{Turn, turn_after};
 use crate::text_lines::{TextLines, first_word, number_in, word};
 
 /// What was read of the lines of a text so far.
@@ -66,7 +66,7 @@ impl Listing {
             }
             _ => self.pass_part(),
         }
-        self.turn = turn_behind(self.turn, name);
+        self.turn = turn_after(self.turn, name);
     }
 
     /// Reads an instruction of a function, or a lock of a list.

@@ -82,7 +82,7 @@ fn locks_of(flow: &Flow, region: Region) -> usize
 fn without(alloc: Global, text: &[u8], lines: &[Line]) -> Result<Vec<u8>, AllocError> {
     let mut rest = text.to_vec(alloc)?;
     for line in lines {
-        for at in line.value..line.to {
+        for at in line.value..line.end {
             if let Some(byte) = rest.get_mut(at) {
                 *byte = left_at(line, at);
             }
@@ -97,7 +97,7 @@ fn left_at(line: &Line, at: usize) -> u8 {
         b' '
     } else if at == line.value {
         b'0'
-    } else if at.saturating_add(1) == line.to {
+    } else if at.saturating_add(1) == line.end {
         b';'
     } else {
         b' '
@@ -105,21 +105,21 @@ fn left_at(line: &Line, at: usize) -> u8 {
 }
 
 /// Whether a byte stays, or filling stands for it at a place where it may.
-fn is_kept(from: usize, to: usize, at: usize, old: u8, new: u8) -> bool
-    ensures { result ≡ true → IsKept from to at old new }
+fn is_kept(start: usize, end: usize, at: usize, old: u8, new: u8) -> bool
+    ensures { result ≡ true → IsKept start end at old new }
 {
-    old == new || (from <= at && at < to && (new == b' ' || new == b'0' || new == b';'))
+    old == new || (start <= at && at < end && (new == b' ' || new == b'0' || new == b';'))
 }
 
 /// Whether a text is another one with filling for what stands between two places.
-fn is_filled_in(text: &[u8], from: usize, to: usize, rest: &[u8]) -> bool
-    ensures { result ≡ true → IsFilledIn text.now from to rest.now }
+fn is_filled_in(text: &[u8], start: usize, end: usize, rest: &[u8]) -> bool
+    ensures { result ≡ true → IsFilledIn text.now start end rest.now }
 {
     if rest.len() != text.len() {
         return false;
     }
     for (at, byte) in text.iter().enumerate() {
-        if !is_kept(from, to, at, *byte, rest[at]) {
+        if !is_kept(start, end, at, *byte, rest[at]) {
             return false;
         }
     }
@@ -147,13 +147,13 @@ fn brought(
         return Ok(None);
     };
     let rest = without(alloc, text, lines)?;
-    if !is_filled_in(text, first.from, last.to, rest.as_slice()) {
+    if !is_filled_in(text, first.start, last.end, rest.as_slice()) {
         return Ok(None);
     }
     match count_locks(alloc, rest.as_slice(), region, k)? {
         Some(left) if left <= FEW => Ok(Some(Bringers {
-            from: first.from,
-            to: last.to,
+            from: first.start,
+            to: last.end,
             count: lines.len(),
             left,
         })),

@@ -3,9 +3,9 @@ ghost use Rattle.std.specs.Prelude.{◌≡◌};
 ghost use Rattle.asl_grammar.specs.Grammar.{bare};
 ghost use Rattle.asl_grammar.specs.Reader.{spots_left};
 ghost use Rattle.asl_grammar.specs.View.{token_of};
-ghost use Rattle.asl_diagnose.specs.UsesView.{declares_as, first_mark, role_in_body, sets_local, sign_behind};
+ghost use Rattle.asl_diagnose.specs.UsesView.{declares_as, first_mark, role_in_body, sets_local, sign_of};
 
-use crate::declared::{Declares, declares_behind};
+use crate::declared::{Declares, declares_after};
 use asl_grammar::lexer::{Found, Tokens};
 use asl_grammar::token::{Mark, Token};
 
@@ -33,8 +33,8 @@ pub enum Sign {
 }
 
 /// The sign that a token is.
-fn sign_behind(token: Token<'_>) -> Sign
-    ensures { result ≡ sign_behind (token_of token.entry) }
+fn sign_of(token: Token<'_>) -> Sign
+    ensures { result ≡ sign_of (token_of token.entry) }
 {
     match token {
         Token::Fixed(Mark::Ampersand) => Sign::Ampersand,
@@ -44,10 +44,10 @@ fn sign_behind(token: Token<'_>) -> Sign
 }
 
 /// What a name in a body does after a sign, with this word or symbol after it.
-fn role_in_body(sign: Sign, behind: Option<Mark>) -> Role
-    ensures { result ≡ role_in_body sign behind }
+fn role_in_body(sign: Sign, next: Option<Mark>) -> Role
+    ensures { result ≡ role_in_body sign next }
 {
-    match (sign, behind) {
+    match (sign, next) {
         (Sign::Ampersand, Some(Mark::OpenBracket)) => Role::Local,
         (Sign::Ampersand, _) => Role::GlobalUse,
         (Sign::Star | Sign::Other, Some(Mark::OpenParen)) => Role::Call,
@@ -100,8 +100,8 @@ pub struct Before {
 }
 
 impl Before {
-    ghost use Rattle.asl_diagnose.specs.Places.{declares_behind};
-    ghost use Rattle.asl_diagnose.specs.UsesView.{first_mark, role_of, sign_behind};
+    ghost use Rattle.asl_diagnose.specs.Places.{declares_after};
+    ghost use Rattle.asl_diagnose.specs.UsesView.{first_mark, role_of, sign_of};
 
     /// Nothing.
     pub fn new() -> Before
@@ -115,18 +115,18 @@ impl Before {
 
     /// The token too.
     pub fn pass(&mut self, token: Token<'_>)
-        ensures { self.new ≡ record { next = declares_behind self.old.next (token_of token.entry); sign = sign_behind (token_of token.entry) } }
+        ensures { self.new ≡ record { next = declares_after self.old.next (token_of token.entry); sign = sign_of (token_of token.entry) } }
     {
-        self.next = declares_behind(self.next, token);
-        self.sign = sign_behind(token);
+        self.next = declares_after(self.next, token);
+        self.sign = sign_of(token);
     }
 
     /// What a name does here, with these tokens after it.
-    pub fn role(self, behind: Tokens<'_>) -> Role
-        ensures { result ≡ role_of self.next self.sign (first_mark (bare (spots_left behind.entry))) }
+    pub fn role(self, rest: Tokens<'_>) -> Role
+        ensures { result ≡ role_of self.next self.sign (first_mark (bare (spots_left rest.entry))) }
     {
         match self.next {
-            Declares::Nothing => role_in_body(self.sign, next_mark(behind)),
+            Declares::Nothing => role_in_body(self.sign, next_mark(rest)),
             Declares::Global => Role::Declares(Declares::Global),
             Declares::Function => Role::Declares(Declares::Function),
             Declares::Parameter => Role::Declares(Declares::Parameter),

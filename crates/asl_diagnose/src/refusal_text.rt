@@ -32,85 +32,83 @@ const SHOWN_BEFORE: usize = 80;
 pub fn spell(alloc: Global, text: &[u8], told: &Diagnosis) -> Result<String, AllocError>
     ensures { IfOk result (λ t. IsHeaded told.now (string_bytes t)) }
 {
-    let mut out = String::new(alloc);
-    push_head(&mut out, told)?;
+    let mut message = String::new(alloc);
+    push_head(&mut message, told)?;
     let rest = rest(alloc, text, told)?;
-    out.push_str(rest.as_str())?;
-    Ok(out)
+    message.push_str(rest.as_str())?;
+    Ok(message)
 }
 
 /// Adds the line, the column and the name.
-fn push_head(out: &mut String, told: &Diagnosis) -> Result<(), AllocError>
-    ensures { OnOk result (string_bytes out.new ≡ string_bytes out.old ++ head_text told.now) }
+fn push_head(message: &mut String, told: &Diagnosis) -> Result<(), AllocError>
+    ensures { OnOk result (string_bytes message.new ≡ string_bytes message.old ++ head_text told.now) }
 {
     let line = told.line;
     let column = told.column;
     let name = refusal_name(&told.refusal);
-    write!(out, "{line}:{column}: {name}: ")
+    write!(message, "{line}:{column}: {name}: ")
 }
 
 /// The sentence, the line of the text, the caret and what helps.
 fn rest(alloc: Global, text: &[u8], told: &Diagnosis) -> Result<String, AllocError> {
-    let mut out = String::new(alloc);
-    push_sentence(alloc, &mut out, text, told)?;
-    out.push_str("\n")?;
-    push_line(&mut out, text, told.at)?;
-    push_hints(alloc, &mut out, text, told)?;
-    Ok(out)
+    let mut message = String::new(alloc);
+    push_sentence(alloc, &mut message, text, told)?;
+    message.push_str("\n")?;
+    push_line(&mut message, text, told.at)?;
+    push_hints(alloc, &mut message, text, told)?;
+    Ok(message)
 }
 
 fn push_sentence(
     alloc: Global,
-    out: &mut String,
+    message: &mut String,
     text: &[u8],
     told: &Diagnosis,
 ) -> Result<(), AllocError> {
     match &told.refusal {
         Refusal::Syntax(SyntaxFault::Twice(name)) => {
-            push_twice_sentence(out, text, told.at, name.as_slice())
+            push_twice_sentence(message, text, told.at, name.as_slice())
         }
         Refusal::Syntax(SyntaxFault::Unknown(name)) => {
-            push_unknown_sentence(out, text, told.at, name.as_slice())
+            push_unknown_sentence(message, text, told.at, name.as_slice())
         }
-        Refusal::Syntax(fault) => push_syntax_sentence(out, text, fault),
-        Refusal::Infer(fault) => push_infer_sentence(alloc, out, text, *fault),
-        Refusal::Asm(fault) => assembly_hints::push_sentence(out, text, *fault),
+        Refusal::Syntax(fault) => push_syntax_sentence(message, text, fault),
+        Refusal::Infer(fault) => push_infer_sentence(alloc, message, text, *fault),
+        Refusal::Asm(fault) => assembly_hints::push_sentence(message, text, *fault),
     }
 }
 
 fn push_hints(
     alloc: Global,
-    out: &mut String,
+    message: &mut String,
     text: &[u8],
     told: &Diagnosis,
 ) -> Result<(), AllocError> {
     match &told.refusal {
-        Refusal::Syntax(fault) => push_syntax_hints(alloc, out, text, fault, told),
-        Refusal::Infer(fault) => push_infer_hints(alloc, out, text, *fault, told),
-        Refusal::Asm(fault) => assembly_hints::push_hints(alloc, out, text, *fault),
+        Refusal::Syntax(fault) => push_syntax_hints(alloc, message, text, fault, told),
+        Refusal::Infer(fault) => push_infer_hints(alloc, message, text, *fault, told),
+        Refusal::Asm(fault) => assembly_hints::push_hints(alloc, message, text, *fault),
     }
 }
 
 /// Adds the line of a place, as far as it is shown, and a caret below the place.
-fn push_line(out: &mut String, text: &[u8], at: usize) -> Result<(), AllocError> {
+fn push_line(message: &mut String, text: &[u8], at: usize) -> Result<(), AllocError> {
     let at = at.min(text.len());
     let start = line_start(text, at)
         .min(at)
         .max(at.saturating_sub(SHOWN_BEFORE));
-    let (before, behind) = text.split_at(at);
+    let (before, after) = text.split_at(at);
     let (_, before) = before.split_at(start.min(before.len()));
-    let len = behind
+    let len = after
         .iter()
         .take_while(|byte| **byte != b'\n' && **byte != b'\r')
         .count();
-    let shown = len
-        .min(SHOWN.saturating_sub(before.len()))
-        .min(behind.len());
-    push_bytes(out, before)?;
-    push_bytes(out, &behind[..shown])?;
-    out.push_str("\n")?;
-    push_blanks(out, before)?;
-    out.push_str("^\n")
+    let shown = len.min(SHOWN.saturating_sub(before.len())).min(after.len());
+    push_bytes(message, before)?;
+    push_bytes(message, &after[..shown])?;
+    message.push_str("\n")?;
+    push_blanks(message, before)?;
+    message.push_str("^\n")
 }
 
 /// What is reported of an input, as text: of an assembly text, or of a source for paths of at most `k` operations. The text is empty

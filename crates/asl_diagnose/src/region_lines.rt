@@ -10,9 +10,9 @@ use std::alloc::{AllocError, Global};
 #[derive(Clone, Copy)]
 pub struct Line {
     /// The place of its first byte.
-    pub from: usize,
+    pub start: usize,
     /// The place after its semicolon.
-    pub to: usize,
+    pub end: usize,
     /// The place after the `=` of an assignment, that of the `*` of a store.
     pub value: usize,
     pub is_store: bool,
@@ -68,8 +68,8 @@ impl Scan {
     /// Begins an assignment or a store.
     fn begin(&mut self, at: usize, is_store: bool) {
         self.line = Some(Line {
-            from: at,
-            to: at,
+            start: at,
+            end: at,
             value: at,
             is_store,
         });
@@ -88,7 +88,7 @@ impl Scan {
     fn complete(&mut self, at: usize) -> Option<Line> {
         self.is_start = true;
         let mut line = self.line.take()?;
-        line.to = at.saturating_add(1);
+        line.end = at.saturating_add(1);
         Some(line)
     }
 }

@@ -44,66 +44,66 @@ fn arguments_at(text: &[u8], at: usize) -> usize {
 }
 
 /// Adds a token between backticks.
-fn push_token(out: &mut String, token: Token<'_>) -> Result<(), AllocError> {
+fn push_token(message: &mut String, token: Token<'_>) -> Result<(), AllocError> {
     match token {
         Token::Fixed(mark) => {
             let word = mark_text(mark);
-            write!(out, "`{word}`")
+            write!(message, "`{word}`")
         }
-        Token::Name(bytes) | Token::Number(bytes) => push_quoted(out, bytes),
+        Token::Name(bytes) | Token::Number(bytes) => push_quoted(message, bytes),
     }
 }
 
 /// Adds the sentence of a text that is no program.
 pub fn push_syntax_sentence(
-    out: &mut String,
+    message: &mut String,
     text: &[u8],
     fault: &SyntaxFault,
 ) -> Result<(), AllocError> {
     match fault {
-        SyntaxFault::NotAscii(at) => push_byte_sentence(out, text, *at),
+        SyntaxFault::NotAscii(at) => push_byte_sentence(message, text, *at),
         SyntaxFault::Token(at) => {
-            out.push_str("no token begins with ")?;
+            message.push_str("no token begins with ")?;
             match text.get(*at) {
-                Some(byte) => push_quoted(out, &[*byte]),
+                Some(byte) => push_quoted(message, &[*byte]),
                 None => Ok(()),
             }
         }
         SyntaxFault::Grammar(at) => match next_token(text, *at) {
-            None => out.push_str("the text ends here, and no program does"),
+            None => message.push_str("the text ends here, and no program does"),
             Some(spot) => {
-                push_token(out, spot.token)?;
-                out.push_str(" does not continue a program here")
+                push_token(message, spot.token)?;
+                message.push_str(" does not continue a program here")
             }
         },
-        SyntaxFault::Limit(at) => out.push_str(limit_text(text, *at)),
-        SyntaxFault::Arity(at) => push_arity_sentence(out, text, *at),
-        SyntaxFault::NoMain => out.push_str("there is no function `main` with one parameter"),
+        SyntaxFault::Limit(at) => message.push_str(limit_text(text, *at)),
+        SyntaxFault::Arity(at) => push_arity_sentence(message, text, *at),
+        SyntaxFault::NoMain => message.push_str("there is no function `main` with one parameter"),
         SyntaxFault::Twice(_) | SyntaxFault::Unknown(_) => Ok(()),
-        SyntaxFault::OutOfMemory => out.push_str("memory ran out"),
+        SyntaxFault::OutOfMemory => message.push_str("memory ran out"),
     }
 }
 
-fn push_byte_sentence(out: &mut String, text: &[u8], at: usize) -> Result<(), AllocError> {
+fn push_byte_sentence(message: &mut String, text: &[u8], at: usize) -> Result<(), AllocError> {
     match text.get(at) {
         Some(byte) => {
             let byte = *byte;
-            write!(out, "a byte of value {byte} is not ASCII")
+            write!(message, "a byte of value {byte} is not ASCII")
         }
         None => Ok(()),
     }
 }
 
-fn push_arity_sentence(out: &mut String, text: &[u8], at: usize) -> Result<(), AllocError> {
+fn push_arity_sentence(message: &mut String, text: &[u8], at: usize) -> Result<(), AllocError> {
     let name = name_from(text, at);
     let arguments = arguments_at(text, at);
-    push_quoted(out, name)?;
-    write!(out, " is called with {arguments} ")?;
-    out.push_str(plural(arguments, "argument", "arguments"))?;
+    push_quoted(message, name)?;
+    write!(message, " is called with {arguments} ")?;
+    message.push_str(plural(arguments, "argument", "arguments"))?;
     if let Some(head) = head_of(text, name) {
         let parameters = head.parameters;
-        write!(out, ", and has {parameters} ")?;
-        out.push_str(plural(parameters, "parameter", "parameters"))?;
+        write!(message, ", and has {parameters} ")?;
+        message.push_str(plural(parameters, "parameter", "parameters"))?;
     }
     Ok(())
 }
@@ -115,40 +115,40 @@ pub fn plural(count: usize, one: &'static str, more: &'static str) -> &'static s
 
 /// Adds the sentence of a name that is declared a second time at a place.
 pub fn push_twice_sentence(
-    out: &mut String,
+    message: &mut String,
     text: &[u8],
     at: usize,
     name: &[u8],
 ) -> Result<(), AllocError> {
-    out.push_str(match declares_at(text, at) {
+    message.push_str(match declares_at(text, at) {
         Declares::Global => "the global ",
         Declares::Function => "the function ",
         _ => "the parameter ",
     })?;
-    push_quoted(out, name)?;
-    out.push_str(" is declared a second time")
+    push_quoted(message, name)?;
+    message.push_str(" is declared a second time")
 }
 
 /// Adds the sentence of a name that is used at a place and nowhere declared.
 pub fn push_unknown_sentence(
-    out: &mut String,
+    message: &mut String,
     text: &[u8],
     at: usize,
     name: &[u8],
 ) -> Result<(), AllocError> {
     match role_at(text, at) {
         Role::GlobalUse => {
-            out.push_str("there is no global ")?;
-            push_quoted(out, name)
+            message.push_str("there is no global ")?;
+            push_quoted(message, name)
         }
         Role::Call => {
-            out.push_str("there is no function ")?;
-            push_quoted(out, name)
+            message.push_str("there is no function ")?;
+            push_quoted(message, name)
         }
         _ => {
-            push_quoted(out, name)?;
-            out.push_str(" is not set anywhere in ")?;
-            push_quoted(out, function_around(text, at))
+            push_quoted(message, name)?;
+            message.push_str(" is not set anywhere in ")?;
+            push_quoted(message, function_around(text, at))
         }
     }
 }
@@ -164,7 +164,7 @@ pub fn function_name(text: &[u8], number: usize) -> &[u8] {
 /// Adds the sentence of a program for which no lists are inferred.
 pub fn push_infer_sentence(
     alloc: Global,
-    out: &mut String,
+    message: &mut String,
     text: &[u8],
     fault: InferFault,
 ) -> Result<(), AllocError> {
@@ -172,44 +172,48 @@ pub fn push_infer_sentence(
         InferFault::Registers(function) => {
             let (locals, arguments) = registers(alloc, text, usize::from(function))?;
             let count = locals.saturating_add(arguments);
-            push_quoted(out, function_name(text, usize::from(function)))?;
+            push_quoted(message, function_name(text, usize::from(function)))?;
             write!(
-                out,
+                message,
                 " needs {count} registers, and a function has at most 64"
             )
         }
         InferFault::CodeSize => {
             let count = code_len(alloc, text)?;
             write!(
-                out,
+                message,
                 "the program has {count} instructions, at most 65535 are allowed"
             )
         }
         InferFault::AccessOutsideSection(_, pc) => {
-            out.push_str(access_text(alloc, text, usize::from(pc))?)
+            message.push_str(access_text(alloc, text, usize::from(pc))?)
         }
         InferFault::TooManyClasses => {
-            out.push_str("the program has more than 1024 classes of objects")
+            message.push_str("the program has more than 1024 classes of objects")
         }
-        InferFault::TooManyLocks(region) => push_locks_sentence(out, text, region),
-        InferFault::OutOfMemory => out.push_str("memory ran out"),
+        InferFault::TooManyLocks(region) => push_locks_sentence(message, text, region),
+        InferFault::OutOfMemory => message.push_str("memory ran out"),
     }
 }
 
 /// Adds the sentence of a region that needs too many locks.
-fn push_locks_sentence(out: &mut String, text: &[u8], region: Region) -> Result<(), AllocError> {
+fn push_locks_sentence(
+    message: &mut String,
+    text: &[u8],
+    region: Region,
+) -> Result<(), AllocError> {
     match region {
         Region::Section(section) => {
             let at = numbered(text, Word::Atomic, usize::from(section)).unwrap_or(0);
-            out.push_str("this section in ")?;
-            push_quoted(out, function_around(text, at))?;
+            message.push_str("this section in ")?;
+            push_quoted(message, function_around(text, at))?;
         }
         Region::Body(function) => {
-            out.push_str("the function ")?;
-            push_quoted(out, function_name(text, usize::from(function)))?;
+            message.push_str("the function ")?;
+            push_quoted(message, function_name(text, usize::from(function)))?;
         }
     }
-    out.push_str(" needs more than 4096 different locks")
+    message.push_str(" needs more than 4096 different locks")
 }
 
 /// Whether the instruction at a pc reads or writes.

@@ -17,42 +17,45 @@ use asl_syntax::SyntaxFault;
 use std::alloc::{AllocError, Global};
 
 /// Adds a line, unless it is empty.
-pub(crate) fn push_hint(out: &mut String, hint: &str) -> Result<(), AllocError> {
+pub(crate) fn push_hint(message: &mut String, hint: &str) -> Result<(), AllocError> {
     if hint.is_empty() {
         return Ok(());
     }
-    out.push_str(hint)?;
-    out.push_str("\n")
+    message.push_str(hint)?;
+    message.push_str("\n")
 }
 
 /// Adds the line and the column of a place.
-pub(crate) fn push_place(out: &mut String, text: &[u8], at: usize) -> Result<(), AllocError> {
+pub(crate) fn push_place(message: &mut String, text: &[u8], at: usize) -> Result<(), AllocError> {
     let line = line(text, at);
     let column = column(text, at);
-    write!(out, "{line}:{column}")
+    write!(message, "{line}:{column}")
 }
 
 /// Adds what helps where a text is no program.
 pub fn push_syntax_hints(
     alloc: Global,
-    out: &mut String,
+    message: &mut String,
     text: &[u8],
     fault: &SyntaxFault,
     told: &Diagnosis,
 ) -> Result<(), AllocError> {
     match fault {
-        SyntaxFault::NotAscii(_) => push_hint(out, "names, numbers and symbols are ASCII alone"),
-        SyntaxFault::Token(at) => push_hint(out, token_hint(text, *at)),
+        SyntaxFault::NotAscii(_) => push_hint(
+            message,
+            "names, numbers and symbols are ASCII alone",
+        ),
+        SyntaxFault::Token(at) => push_hint(message, token_hint(text, *at)),
         SyntaxFault::Grammar(at) => {
-            push_expected(out, told)?;
-            push_grammar_hint(alloc, out, text, *at)
+            push_expected(message, told)?;
+            push_grammar_hint(alloc, message, text, *at)
         }
-        SyntaxFault::Twice(name) => push_twice_hints(out, text, told, name.as_slice()),
+        SyntaxFault::Twice(name) => push_twice_hints(message, text, told, name.as_slice()),
         SyntaxFault::Unknown(name) => {
-            push_unknown_hints(alloc, out, text, told.at, name.as_slice())
+            push_unknown_hints(alloc, message, text, told.at, name.as_slice())
         }
-        SyntaxFault::Arity(at) => push_head(out, text, name_from(text, *at)),
-        SyntaxFault::NoMain => push_main_hints(out, text),
+        SyntaxFault::Arity(at) => push_head(message, text, name_from(text, *at)),
+        SyntaxFault::NoMain => push_main_hints(message, text),
         SyntaxFault::Limit(_) | SyntaxFault::OutOfMemory => Ok(()),
     }
 }
@@ -84,32 +87,32 @@ fn token_hint(text: &[u8], at: usize) -> &'static str {
 }
 
 /// Adds the kinds of token with which a program continues.
-fn push_expected(out: &mut String, told: &Diagnosis) -> Result<(), AllocError> {
+fn push_expected(message: &mut String, told: &Diagnosis) -> Result<(), AllocError> {
     let kinds = told.expected.as_slice();
     if kinds.is_empty() {
         return Ok(());
     }
-    out.push_str(if kinds.len() > 1 {
+    message.push_str(if kinds.len() > 1 {
         "expected one of:"
     } else {
         "expected"
     })?;
     for kind in kinds {
-        push_kind(out, *kind)?;
+        push_kind(message, *kind)?;
     }
-    out.push_str(if told.may_end { ", or the end\n" } else { "\n" })
+    message.push_str(if told.may_end { ", or the end\n" } else { "\n" })
 }
 
 /// Adds a kind of token to a list.
-fn push_kind(out: &mut String, kind: TokenKind) -> Result<(), AllocError> {
+fn push_kind(message: &mut String, kind: TokenKind) -> Result<(), AllocError> {
     let word = kind_text(kind);
-    write!(out, " {word}")
+    write!(message, " {word}")
 }
 
 /// Adds what to write instead.
 fn push_grammar_hint(
     alloc: Global,
-    out: &mut String,
+    message: &mut String,
     text: &[u8],
     at: usize,
 ) -> Result<(), AllocError> {
@@ -126,12 +129,12 @@ fn push_grammar_hint(
             token: None,
         },
     };
-    push_hint(out, grammar_hint(stop))
+    push_hint(message, grammar_hint(stop))
 }
 
 /// Adds where a name is declared first.
 fn push_twice_hints(
-    out: &mut String,
+    message: &mut String,
     text: &[u8],
     told: &Diagnosis,
     name: &[u8],
@@ -139,26 +142,26 @@ fn push_twice_hints(
     let Some(first) = told.first else {
         return Ok(());
     };
-    push_quoted(out, name)?;
-    out.push_str(" is declared first at ")?;
-    push_place(out, text, first)?;
-    out.push_str("\n")
+    push_quoted(message, name)?;
+    message.push_str(" is declared first at ")?;
+    push_place(message, text, first)?;
+    message.push_str("\n")
 }
 
 /// Adds which name may be meant, and what the name is in another name space.
 fn push_unknown_hints(
     alloc: Global,
-    out: &mut String,
+    message: &mut String,
     text: &[u8],
     at: usize,
     name: &[u8],
 ) -> Result<(), AllocError> {
     let role = role_at(text, at);
     if let Some(near) = nearest_name(alloc, text, at, name, role)? {
-        push_quoted(out, near)?;
-        return out.push_str(" is spelled nearly so\n");
+        push_quoted(message, near)?;
+        return message.push_str(" is spelled nearly so\n");
     }
-    push_hint(out, other_hint(text, at, name, role))
+    push_hint(message, other_hint(text, at, name, role))
 }
 
 /// What helps where the name is not in the name space that is asked.
@@ -205,19 +208,19 @@ fn local_hint(text: &[u8], name: &[u8]) -> &'static str {
 }
 
 /// Adds the head of a function.
-fn push_head(out: &mut String, text: &[u8], name: &[u8]) -> Result<(), AllocError> {
+fn push_head(message: &mut String, text: &[u8], name: &[u8]) -> Result<(), AllocError> {
     let Some(head) = head_of(text, name) else {
         return Ok(());
     };
-    out.push_str("fn ")?;
+    message.push_str("fn ")?;
     for byte in head_bytes(text, head.at) {
         if *byte != b'\n' && *byte != b'\r' {
-            push_bytes(out, &[*byte])?;
+            push_bytes(message, &[*byte])?;
         }
     }
-    out.push_str(" stands at ")?;
-    push_place(out, text, head.at)?;
-    out.push_str("\n")
+    message.push_str(" stands at ")?;
+    push_place(message, text, head.at)?;
+    message.push_str("\n")
 }
 
 /// From a function's name to the parenthesis after its parameters.
@@ -228,15 +231,15 @@ fn head_bytes(text: &[u8], at: usize) -> &[u8] {
 }
 
 /// Adds how a program begins.
-fn push_main_hints(out: &mut String, text: &[u8]) -> Result<(), AllocError> {
+fn push_main_hints(message: &mut String, text: &[u8]) -> Result<(), AllocError> {
     if let Some(head) = head_of(text, b"main") {
         let parameters = head.parameters;
-        write!(out, "`main` has {parameters} ")?;
-        out.push_str(plural(parameters, "parameter", "parameters"))?;
-        out.push_str("\n")?;
+        write!(message, "`main` has {parameters} ")?;
+        message.push_str(plural(parameters, "parameter", "parameters"))?;
+        message.push_str("\n")?;
     }
     push_hint(
-        out,
+        message,
         "each thread runs `fn main(t) { .. return t; }`, where t is the number of the thread",
     )
 }

@@ -7,7 +7,7 @@ ghost use Rattle.asl_emitter.specs.Refused.{IsRefusedInference};
 ghost use Rattle.asl_diagnose.specs.Diagnosed.{IsSourceDiagnosed, IsSourceDiagnosis, IsExpectedFor, IsInferPlace, IsPosition, HasFirst, HasKinds, HasBringers};
 
 use crate::diagnosis::{Diagnosis, Refusal};
-use crate::expected::{Expected, expected_behind};
+use crate::expected::{Expected, expected_at_stop};
 use crate::infer_place::infer_place;
 use crate::most::{Bringers, find_bringers};
 use crate::place::{column, line};
@@ -93,7 +93,7 @@ fn expected_for(alloc: Global, source: &[u8], fault: &SyntaxFault) -> Result<Exp
     ensures others { IfOk result (λ e. HasKinds (Refusal.Syntax fault.now) e.kinds.items e.may_end) }
 {
     match fault {
-        SyntaxFault::Grammar(_) => expected_behind(alloc, source),
+        SyntaxFault::Grammar(_) => expected_at_stop(alloc, source),
         SyntaxFault::NotAscii(_)
         | SyntaxFault::Token(_)
         | SyntaxFault::Limit(_)

@@ -29,12 +29,12 @@ fn line_len(text: &[u8]) -> usize
 }
 
 /// What stands after the first byte.
-fn behind_first(bytes: &[u8]) -> &[u8]
+fn after_first(bytes: &[u8]) -> &[u8]
     ensures { result.now ≡ drop 1 bytes.now }
 {
     match bytes {
         [] => bytes,
-        [_, behind @ ..] => behind,
+        [_, rest @ ..] => rest,
     }
 }
 
@@ -66,7 +66,7 @@ impl<'t> TextLines<'t> {
             number: self.number,
             line,
         };
-        self.rest = behind_first(rest);
+        self.rest = after_first(rest);
         Some(row)
     }
 }
@@ -104,8 +104,8 @@ pub fn first_word(line: &[u8]) -> (&[u8], &[u8])
 pub fn word(line: &[u8], number: usize) -> &[u8] {
     let mut rest = line;
     for _ in 0..number {
-        let (_, behind) = first_word(rest);
-        rest = behind;
+        let (_, after) = first_word(rest);
+        rest = after;
     }
     let (found, _) = first_word(rest);
     found

@@ -5,7 +5,7 @@ ghost use Rattle.asl_grammar.specs.Lex.{tokens_of};
 ghost use Rattle.asl_grammar.specs.Reader.{spots_left};
 ghost use Rattle.asl_grammar.specs.View.{token_of};
 ghost use Rattle.asl_diagnose.specs.Places.{is_named, IsNameAt};
-ghost use Rattle.asl_diagnose.specs.UsesView.{declares_as, first_use, has_declared, has_local, is_function_name, lacks, local_behind, passes, sets_local};
+ghost use Rattle.asl_diagnose.specs.UsesView.{declares_as, first_use, has_declared, has_local, is_function_name, lacks, local_after, passes, sets_local};
 
 use crate::declared::Declares;
 use crate::name_role::{Before, Role, Sign, declares_as, sets_local};
@@ -19,18 +19,18 @@ fn is_declared(
     name: &[u8],
     before: Before,
     token: Token<'_>,
-    behind: Tokens<'_>,
+    rest: Tokens<'_>,
 ) -> bool
-    ensures { result ≡ passes (declares_as what) name.now before.next before.sign (token_of token.entry) (bare (spots_left behind.entry)) }
+    ensures { result ≡ passes (declares_as what) name.now before.next before.sign (token_of token.entry) (bare (spots_left rest.entry)) }
 {
-    is_named(token, name) && declares_as(what, before.role(behind))
+    is_named(token, name) && declares_as(what, before.role(rest))
 }
 
 /// Whether a token is the name, and is a local.
-fn is_set(name: &[u8], before: Before, token: Token<'_>, behind: Tokens<'_>) -> bool
-    ensures { result ≡ passes sets_local name.now before.next before.sign (token_of token.entry) (bare (spots_left behind.entry)) }
+fn is_set(name: &[u8], before: Before, token: Token<'_>, rest: Tokens<'_>) -> bool
+    ensures { result ≡ passes sets_local name.now before.next before.sign (token_of token.entry) (bare (spots_left rest.entry)) }
 {
-    is_named(token, name) && sets_local(before.role(behind))
+    is_named(token, name) && sets_local(before.role(rest))
 }
 
 /// Which name spaces have the name.
@@ -55,11 +55,11 @@ fn lacks(known: Known, role: Role) -> bool
 }
 
 /// Whether a token is the name, and is used where its name space has it not.
-fn is_use(name: &[u8], before: Before, token: Token<'_>, behind: Tokens<'_>, known: Known) -> bool
-    ensures value { result ≡ passes (lacks known.globals known.functions known.locals) name.now before.next before.sign (token_of token.entry) (bare (spots_left behind.entry)) }
+fn is_use(name: &[u8], before: Before, token: Token<'_>, rest: Tokens<'_>, known: Known) -> bool
+    ensures value { result ≡ passes (lacks known.globals known.functions known.locals) name.now before.next before.sign (token_of token.entry) (bare (spots_left rest.entry)) }
     ensures named { result ≡ true → is_named name.now (token_of token.entry) ≡ true }
 {
-    is_named(token, name) && lacks(known, before.role(behind))
+    is_named(token, name) && lacks(known, before.role(rest))
 }
 
 /// Whether the name of a function stands there.
@@ -107,21 +107,21 @@ fn has_local(name: &[u8], start: Before, from: Tokens<'_>) -> bool
 }
 
 /// The same after a token: anew after the name of a function.
-fn local_behind(
+fn local_after(
     name: &[u8],
     before: Before,
     locals: bool,
     token: Token<'_>,
-    behind: Tokens<'_>,
+    rest: Tokens<'_>,
 ) -> bool
-    ensures { result ≡ local_behind name.now before.next before.sign locals (token_of token.entry) (bare (spots_left behind.entry)) }
+    ensures { result ≡ local_after name.now before.next before.sign locals (token_of token.entry) (bare (spots_left rest.entry)) }
 {
     if !is_function_name(token, before.next) {
         return locals;
     }
     let mut here = before;
     here.pass(token);
-    has_local(name, here, behind)
+    has_local(name, here, rest)
 }
 
 /// The place of the first use of a name that its name space does not have.
@@ -138,7 +138,7 @@ pub fn unknown_place(text: &[u8], name: &[u8]) -> Option<usize>
     let mut before = Before::new();
     let mut locals = false;
     'reading: while let Found::Token(spot) = tokens.next() {
-        locals = local_behind(name, before, locals, spot.token, tokens);
+        locals = local_after(name, before, locals, spot.token, tokens);
         let known = Known {
             globals,
             functions,

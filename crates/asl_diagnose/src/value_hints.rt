@@ -17,7 +17,7 @@ pub(crate) fn value_hint(token: Token<'_>) -> &'static str {
 }
 
 /// After a name at the right of `=`.
-pub(crate) fn behind_name_hint(token: Token<'_>) -> &'static str {
+pub(crate) fn after_name_hint(token: Token<'_>) -> &'static str {
     match token {
         Token::Fixed(Mark::OpenBracket) => { "a cell is read by its address: `a = &y[1]; x = *a;`" }
         Token::Fixed(Mark::Becomes) => "`=` sets a local and `==` compares; a line has one `=`",

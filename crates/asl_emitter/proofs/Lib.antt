@@ -4,6 +4,7 @@ pub mod Reducing
 pub mod Absorbing
 pub mod Covering
 pub mod Fits
+pub mod ClassBounds
 pub mod Verifying
 pub mod Making
 pub mod Needing

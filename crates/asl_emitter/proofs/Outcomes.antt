@@ -5,7 +5,7 @@ use Rattle.asl_lower.specs.Lowered.{Lowered, IsLowering}
 use Rattle.asl_lower.specs.Regions.{Region}
 use Rattle.asl_lower.specs.Region.{InBody, IsFirstBareAccess}
 use Rattle.asl_lower.proofs.Laid.{one_lowering}
-use Rattle.asl_lower.proofs.Holds.{lowering_parted}
+use Rattle.asl_lower.proofs.BodyFacts.{lowering_parted}
 use Rattle.asl_points_to.specs.Classes.{Classed, AreClasses}
 use Rattle.asl_points_to.proofs.Uniques.{one_classed}
 use Rattle.asl_lock_expr.specs.ClassOf.{TellsStores}

@@ -13,7 +13,8 @@ use Rattle.asl_grammar.specs.Grammar.{IsProgram, IsViable, IsGrammarFault, bare,
 use Rattle.asl_grammar.specs.Seen.{Place, start_place, innermost, settled, settled_by, opening_kind, outer_kinds, kinds_after, placed, next_place, fault_at_end}
 use Rattle.asl_grammar.proofs.Stopping.{fault_with, fault_from}
 use Rattle.asl_grammar.proofs.Complete.{run_program}
-use Rattle.asl_grammar.proofs.Sound.{Fits, Kept, run_keeps}
+use Rattle.asl_grammar.proofs.ReadTokens.{Fits}
+use Rattle.asl_grammar.proofs.Sound.{Kept, run_keeps}
 use Rattle.asl_grammar.proofs.Viable.{CanEnd, can_end, run-append}
 
 -- the kinds of open blocks

@@ -1,6 +1,8 @@
 pub mod Stopping
 pub mod Stacks
 pub mod Complete
+pub mod ReadTokens
+pub mod StackTokens
 pub mod Sound
 pub mod Scan
 pub mod Viable

@@ -6,7 +6,8 @@ use Rattle.std.proofs.Common.{List}
 use Rattle.asl_lower.specs.Lowered.{Lowered, IsLowering}
 use Rattle.asl_lower.specs.Facts.{HasLayout}
 use Rattle.asl_lower.specs.LegalLowering.{IsLegalLowering}
-use Rattle.asl_lower.proofs.Holds.{lowering_parted, lowering_nested, lowering_sections, lowering_returns, lowering_stays, lowering_numbered}
+use Rattle.asl_lower.proofs.BodyFacts.{lowering_parted, lowering_nested, lowering_returns}
+use Rattle.asl_lower.proofs.SectionFacts.{lowering_sections, lowering_stays, lowering_numbered}
 use Rattle.asl_lower.proofs.Ruled.{lowering_operands}
 use Rattle.asl_lower.proofs.Limited.{lowering_limits, lowering_main}
 use Rattle.asl_lower.proofs.Props.{HasLayout-prop}

@@ -5,10 +5,13 @@ pub mod Stands
 pub mod Sections
 pub mod Bodies
 pub mod Points
+pub mod SectionSteps
 pub mod Opened
 pub mod Owner
-pub mod Holds
+pub mod BodyFacts
+pub mod SectionFacts
 pub mod Slices
+pub mod LaidLengths
 pub mod Laid
 pub mod Emits
 pub mod Numbered
@@ -19,6 +22,7 @@ pub mod Listed
 pub mod Emitted
 pub mod Named
 pub mod Mentioned
+pub mod RightCalls
 pub mod Ruled
 pub mod Passed
 pub mod Limited
@@ -29,6 +33,7 @@ pub mod Inside
 pub mod Reaching
 pub mod Lowest
 pub mod Told
+pub mod JudgedCode
 pub mod Judged
 pub mod Marking
 pub mod Trees

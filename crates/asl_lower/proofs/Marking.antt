@@ -7,7 +7,7 @@ use Rattle.asl_syntax.specs.View.{statement_of, block_of}
 use Rattle.asl_lower.specs.Reach.{IsMarked}
 use Rattle.asl_lower.specs.Outside.{MarksThese, stmt_callees, block_callees}
 use Rattle.asl_lower.proofs.Marks.{set_kept, set_here, set_cases}
-use Rattle.asl_lower.proofs.Judged.{among_left, among_right, among_parts, among_alone}
+use Rattle.asl_lower.proofs.JudgedCode.{among_left, among_right, among_parts, among_alone}
 
 pub marks_none : (marks : List Bool) → MarksThese [] marks marks
 marks_none marks = record { kept = λ f h. h; marked = λ n t low. absurd (false≢true t); only = λ n h. inl h; len = refl }

@@ -12,7 +12,7 @@ use Rattle.asl_lower.specs.Region.{start_of, owner_of, returned, InBody, FlowsTo
 use Rattle.asl_lower.specs.Facts.{HasLayout}
 use Rattle.std.proofs.lemmas.Option.{slice_get_within, slice_get-get_or}
 use Rattle.asl_lower.proofs.Reaching.{body_within}
-use Rattle.asl_lower.proofs.Opened.{here, there, member_cases, no_member}
+use Rattle.asl_lower.proofs.SectionSteps.{here, there, member_cases, no_member}
 
 -- a body begins within the code
 pub start_within : (l : Lowered) → HasLayout l → (number : ℕ) → start_of l.functions number ≤ length l.code

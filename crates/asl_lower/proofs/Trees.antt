@@ -15,7 +15,8 @@ use Rattle.asl_lower.specs.Outside.{block_access, else_access, block_callees, Ma
 use Rattle.asl_lower.proofs.Grows.{Precedes, by_function}
 use Rattle.asl_lower.proofs.Sized.{block_sized}
 use Rattle.asl_lower.proofs.Bodies.{Begins, begins, next_begins}
-use Rattle.asl_lower.proofs.Judged.{Judged, judged_block, judged_return}
+use Rattle.asl_lower.proofs.JudgedCode.{Judged}
+use Rattle.asl_lower.proofs.Judged.{judged_block, judged_return}
 use Rattle.asl_lower.proofs.Reaching.{AreCallees, callee_there, body_within}
 use Rattle.asl_lower.proofs.Lowest.{Spans}
 

@@ -52,8 +52,8 @@ mutual
       let B = past_block (block_meaning a) (next p) in
       elim (cases_eq p.pc pc) [
         | inl first ↦ comes t number f (w.IfStmt x a e) b ss p pc (piece kind.If 3 ss) h (at_pc t.pieces p.pc pc _ first at.0) (inl (sym first, refl))
-        | inr behind_it ↦ elim (cases_lt pc B.pc) [
-          | inl inside ↦ block_comes t number f a (drop 3 ss) (next p) pc (OfIf x a e b ss p h.stands) h.lowered.1 at.1 (omega (arith, low, behind_it)) inside
+        | inr after_it ↦ elim (cases_lt pc B.pc) [
+          | inl inside ↦ block_comes t number f a (drop 3 ss) (next p) pc (OfIf x a e b ss p h.stands) h.lowered.1 at.1 (omega (arith, low, after_it)) inside
           | inr past ↦ else_comes t number f x a e b ss p pc h at.2 h.lowered.2 past high
         ]
       ]
@@ -61,8 +61,8 @@ mutual
       let B = past_block (block_meaning a) (next p) in
       elim (cases_eq p.pc pc) [
         | inl first ↦ comes t number f (w.WhileStmt x a) b ss p pc (piece kind.While 3 ss) h (at_pc t.pieces p.pc pc _ first at.0) (inl (sym first, refl))
-        | inr behind_it ↦ elim (cases_lt pc B.pc) [
-          | inl inside ↦ block_comes t number f a (drop 3 ss) (next p) pc (OfWhile x a b ss p h.stands) h.lowered.1 at.1 (omega (arith, low, behind_it)) inside
+        | inr after_it ↦ elim (cases_lt pc B.pc) [
+          | inl inside ↦ block_comes t number f a (drop 3 ss) (next p) pc (OfWhile x a b ss p h.stands) h.lowered.1 at.1 (omega (arith, low, after_it)) inside
           | inr past ↦ (let last : B.pc ≡ pc = omega (arith, past, high) in
               comes t number f (w.WhileStmt x a) b ss p pc (piece kind.While 1 (behind (block_on a []) (drop 3 ss))) h (at_pc t.pieces B.pc pc _ last at.2) (inr (sym last, refl)))
         ]
@@ -71,8 +71,8 @@ mutual
       let B = past_block (block_meaning a) (entered p) in
       elim (cases_eq p.pc pc) [
         | inl first ↦ comes t number f (w.AtomicStmt a) b ss p pc (piece kind.Atomic 2 ss) h (at_pc t.pieces p.pc pc _ first at.0) (inl (sym first, refl))
-        | inr behind_it ↦ elim (cases_lt pc B.pc) [
-          | inl inside ↦ block_comes t number f a (drop 2 ss) (entered p) pc (OfAtomic a b ss p h.stands) h.lowered.1 at.1 (omega (arith, low, behind_it)) inside
+        | inr after_it ↦ elim (cases_lt pc B.pc) [
+          | inl inside ↦ block_comes t number f a (drop 2 ss) (entered p) pc (OfAtomic a b ss p h.stands) h.lowered.1 at.1 (omega (arith, low, after_it)) inside
           | inr past ↦ (let last : B.pc ≡ pc = omega (arith, past, high) in
               comes t number f (w.AtomicStmt a) b ss p pc (piece kind.Atomic 1 (behind (block_on a []) (drop 2 ss))) h (at_pc t.pieces B.pc pc _ last at.2) (inr (sym last, refl)))
         ]
@@ -99,8 +99,8 @@ mutual
       let st : Stands t.program t.text (w.More s c) (drop 3 brace) (next B) = OfElse x a s c b ss p h.stands in
       elim (cases_eq B.pc pc) [
         | inl first ↦ comes t number f (w.IfStmt x a (w.Otherwise (w.More s c))) b ss p pc (piece kind.If 1 brace) h (at_pc t.pieces B.pc pc _ first at.0) (inr (sym first, refl))
-        | inr behind_it ↦ elim (cases_lt pc (past_stmt (stmt_meaning s) (next B)).pc) [
-          | inl inside ↦ stmt_comes t number f s c (drop 3 brace) (next B) pc (record { stands = st; lowered = lo.1 }) at.1 (omega (arith, low, behind_it)) inside
+        | inr after_it ↦ elim (cases_lt pc (past_stmt (stmt_meaning s) (next B)).pc) [
+          | inl inside ↦ stmt_comes t number f s c (drop 3 brace) (next B) pc (record { stands = st; lowered = lo.1 }) at.1 (omega (arith, low, after_it)) inside
           | inr past ↦ block_comes t number f c (behind (stmt_on s []) (drop 3 brace)) (past_stmt (stmt_meaning s) (next B)) pc (Later s c (drop 3 brace) (next B) st) lo.2 at.2 past high
         ]
       ]
@@ -122,7 +122,7 @@ items_come t m (w.FunctionItem g ∷ is) number ss p pc same up at lo low high =
         | inl here ↦ (let r : Piece = piece kind.Return 3 (behind (block_on g.body []) (behind (head_of g) ss)) in
             let P : List Piece → Type 0 = λ ys. slice_get ys B.pc ≡ Some r in
             (r, at_pc t.pieces B.pc pc r here (subst P (sym same) at.0.returns), inr (record { number = number; function = g; tokens = ss; place = p; stands = stands; lowered = lo.0.returns; own = sym here; piece_is = refl })))
-        | inr behind_it ↦ items_come t m is (suc number) (behind (function_on g []) ss) (past_function (function_meaning g) p) pc same (λ f ts q later. up f ts q (inr later)) at.1 lo.1 (omega (arith, past, behind_it)) high
+        | inr after_it ↦ items_come t m is (suc number) (behind (function_on g []) ss) (past_function (function_meaning g) p) pc same (λ f ts q later. up f ts q (inr later)) at.1 lo.1 (omega (arith, past, after_it)) high
       ]
     ]
 

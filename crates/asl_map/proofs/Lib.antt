@@ -4,6 +4,7 @@ pub mod Left
 pub mod Calls
 pub mod Sites
 pub mod Walking
+pub mod StatementTokens
 pub mod Standing
 pub mod Placing
 pub mod Mapping

@@ -25,7 +25,8 @@ use Rattle.asl_map.specs.Placed.{head_of, IsPlacedBlock, IsPlacedFunction, ArePl
 use Rattle.asl_map.specs.Walked.{block_pieces, return_rest, function_rest, function_pieces, named_of, items_pieces, items_named}
 use Rattle.asl_map.specs.BuiltMap.{IsMade}
 use Rattle.asl_map.specs.Mapped.{IsMapped}
-use Rattle.asl_map.proofs.Standing.{Ends, Left, ends, names_on_append, names_none, block_count, block_left, drop_one, left_end, left_more}
+use Rattle.asl_map.proofs.StatementTokens.{Ends, ends, names_on_append, names_none, block_count}
+use Rattle.asl_map.proofs.Standing.{Left, block_left, drop_one, left_end, left_more}
 use Rattle.asl_map.proofs.Placing.{block_many, piece_is, block_placed}
 
 -- ---- functions
@@ -73,9 +74,9 @@ parts_of f rest ss e =
     let body = block_left f.body (tail f rest) (past_end ss) refl inside.tokens in
     let returns = ends (Fixed mark.Return ∷ Name f.returned ∷ []) (Fixed mark.Semicolon) (Fixed mark.CloseBrace ∷ rest) r (refl, (refl, tt)) refl body.tokens in
     let end = left_end (Fixed mark.Return ∷ Name f.returned ∷ []) (Fixed mark.CloseBrace ∷ rest) r returns in
-    let behind_body : Left (length (block_on f.body []) + 3) (Fixed mark.CloseBrace ∷ rest) (past_end ss) (past_end r) =
+    let after_body : Left (length (block_on f.body []) + 3) (Fixed mark.CloseBrace ∷ rest) (past_end ss) (past_end r) =
     left_more (length (block_on f.body [])) 3 (length (block_on f.body []) + 3) (tail f rest) (Fixed mark.CloseBrace ∷ rest) (past_end ss) r (past_end r) refl body end in
-    let last = left_more (suc (length (front f))) (length (block_on f.body []) + 3) (length (function_on f []) - 1) (block_on f.body (tail f rest)) (Fixed mark.CloseBrace ∷ rest) ss (past_end ss) (past_end r) (omega (arith, function_count f)) inside behind_body in
+    let last = left_more (suc (length (front f))) (length (block_on f.body []) + 3) (length (function_on f []) - 1) (block_on f.body (tail f rest)) (Fixed mark.CloseBrace ∷ rest) ss (past_end ss) (past_end r) (omega (arith, function_count f)) inside after_body in
     record {
       head = head;
       inside = inside;

@@ -20,7 +20,8 @@ use Rattle.asl_map.specs.Pieces.{first_place, piece, behind}
 use Rattle.asl_map.specs.Taken.{past_end, piece_of, brace_of}
 use Rattle.asl_map.specs.Walked.{stmt_rest, block_rest, stmt_pieces, block_pieces, else_pieces}
 use Rattle.asl_map.specs.Placed.{IsPlacedLine, IsPlacedStmt, IsPlacedBlock, IsPlacedElse}
-use Rattle.asl_map.proofs.Standing.{Ends, line_ends, if_ends, while_ends, atomic_ends, else_ends, starts_else, block_no_else, stmt_left, block_left, drop_one, left_end}
+use Rattle.asl_map.proofs.StatementTokens.{Ends, line_ends, starts_else, block_no_else}
+use Rattle.asl_map.proofs.Standing.{if_ends, while_ends, atomic_ends, else_ends, stmt_left, block_left, drop_one, left_end}
 
 -- ---- how many pieces
 

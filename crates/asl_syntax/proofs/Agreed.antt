@@ -7,7 +7,7 @@ use Rattle.asl_syntax.specs.Tree.{Function, Item, GlobalItem, FunctionItem}
 use Rattle.asl_syntax.specs.Mentions.{Mention, DeclaresFunction, DeclaresParameter, UsesLocal, block_mentions, mentions}
 use Rattle.asl_syntax.specs.Rules.{Names, no_name, declared_in, with_declared, names_in, or_name, first_unknown_use, first_unknown, parameter_counts, has_main}
 use Rattle.asl_syntax.specs.Heard.{own_part, is_unheard, first_unheard, parameters_first, heard_count, heard_main}
-use Rattle.asl_syntax.proofs.Used.{Inside, both_inside, block_inside}
+use Rattle.asl_syntax.proofs.Declarers.{Inside, both_inside, block_inside}
 
 -- ---- a function's mentions after its name
 

@@ -13,7 +13,9 @@ use Rattle.asl_syntax.specs.Spelled.{Spells}
 use Rattle.asl_syntax.specs.TokenNames.{mention_name}
 use Rattle.asl_syntax.specs.Known.{HasArity, HaveArity}
 use Rattle.asl_syntax.proofs.Among.{Among, among, contained, among_mapped}
-use Rattle.asl_syntax.proofs.Used.{names_of, same_bytes, called_name, each_among}
+use Rattle.asl_syntax.proofs.Declarers.{same_bytes}
+use Rattle.asl_syntax.proofs.DeclaredNames.{names_of}
+use Rattle.asl_syntax.proofs.Used.{called_name, each_among}
 use Rattle.asl_syntax.proofs.Few.{goes_on}
 use Rattle.asl_syntax.proofs.Declared.{declared_once}
 use Rattle.asl_syntax.proofs.Mentioned.{mentioned, places_names}

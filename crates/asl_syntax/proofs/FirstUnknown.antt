@@ -9,7 +9,8 @@ use Rattle.asl_syntax.specs.Rules.{Names, names_in, unknown_use, or_name, first_
 use Rattle.asl_syntax.specs.FirstFault.{IsFirstWithout, IsKnownIn, UsesKnownNames, IsFirstUnknown}
 use Rattle.asl_syntax.proofs.Among.{among, contained}
 use Rattle.asl_syntax.proofs.First.{first_here, first_later, first_same}
-use Rattle.asl_syntax.proofs.Used.{names_of, globals_from, globals_to, functions_from, functions_to, locals_from, locals_to, uses_from, uses_to, known_name, name_known, kept_locals, found_locals, each_among, each_from, NoUnknown}
+use Rattle.asl_syntax.proofs.DeclaredNames.{names_of, globals_from, globals_to, functions_from, functions_to, locals_from, locals_to}
+use Rattle.asl_syntax.proofs.Used.{uses_from, uses_to, known_name, name_known, kept_locals, found_locals, each_among, each_from, NoUnknown}
 
 -- ---- the first of names
 

@@ -26,11 +26,14 @@ pub mod AnyOutcome
 pub mod Answered
 pub mod Declared
 pub mod Among
+pub mod Declarers
+pub mod DeclaredNames
 pub mod Used
 pub mod Called
 pub mod First
 pub mod FirstUnknown
 pub mod FirstWrongCall
+pub mod DeclaredBefore
 pub mod FirstTwice
 pub mod Scanned
 pub mod Agreed

@@ -4,12 +4,11 @@ use Rattle.asl_code.specs.declared.image.Image.{Image}
 use Rattle.asl_code.specs.declared.lock.Lock.{Lock}
 use Rattle.asl_code.specs.Versions.{newest, newest_locks}
 use Rattle.asl_syntax.specs.Tree.{Item, functions_of}
-use Rattle.asl_syntax.specs.Parsed.{Parses, IsParsed}
+use Rattle.asl_syntax.specs.Parsed.{Parses}
 use Rattle.asl_lower.specs.declared.section.Section.{Section}
-use Rattle.asl_lower.specs.declared.fault.LowerFault.TheVariants as lower
 use Rattle.asl_lower.specs.Lowered.{Lowered, IsLowering, end_of}
 use Rattle.asl_lower.specs.Refused.{first_crowded, HasRoom, HasAccessesInside}
-use Rattle.asl_lower.specs.Region.{IsBareAccess, IsFirstBareAccess}
+use Rattle.asl_lower.specs.Region.{IsBareAccess}
 use Rattle.asl_lower.specs.Regions.{Region, Body, Inside}
 use Rattle.asl_lower.specs.Layout.{lowering_of}
 use Rattle.asl_lower.proofs.Laid.{lowering_of_is_lowering, one_lowering}
@@ -24,9 +23,9 @@ use Rattle.asl_soundness.specs.Coded.{classed}
 use Rattle.asl_emitter.specs.declared.fault.InferFault.{InferFault}
 use Rattle.asl_emitter.specs.declared.fault.InferFault.TheVariants.{Registers, CodeSize, AccessOutsideSection, TooManyClasses, TooManyLocks, OutOfMemory}
 use Rattle.asl_emitter.specs.Lists.{IsFitted}
-use Rattle.asl_emitter.specs.Inferred.{ClassedProgram, Analysis, IsInferredFor}
+use Rattle.asl_emitter.specs.Inferred.{IsInferredFor}
 use Rattle.asl_emitter.specs.Refused.{IsLowered, IsAccepted, IsRefusedInference}
-use Rattle.asl_theorems.proofs.Surely.{Surely, surely, then, mapped, either, each_below, least_below, Table, table}
+use Rattle.asl_theorems.proofs.Surely.{Surely, then, mapped, either, each_below, least_below, table}
 use Rattle.asl_theorems.proofs.Finest.{surely_classes}
 use Rattle.asl_theorems.proofs.Storing.{surely_stores}
 use Rattle.asl_theorems.proofs.Listing.{Different, surely_listed, surely_fitted}

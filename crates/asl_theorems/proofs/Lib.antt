@@ -2,8 +2,12 @@ mod Programs
 mod Runs
 mod Positions
 mod Surely
+mod FittingStates
+mod FittingReplies
 mod Writing
 mod Numbering
+mod Elements
+mod SharedClasses
 mod Finest
 mod Storing
 mod Listing

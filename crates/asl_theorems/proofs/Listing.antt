@@ -1,5 +1,5 @@
 -- A set of locks of which there are not too many different ones has a list, and so a fitted one.
-use Rattle.std.proofs.Common.{◌≡◌, ◌≢◌, ◌⊎◌, ◌↔◌, ◌<◌, ◌≤◌, ℕ, zero, suc, List, [], ◌∷◌, Some, length, slice_get, refl, sym, subst, inl, inr, arith}
+use Rattle.std.proofs.Common.{◌≡◌, ◌≢◌, ◌⊎◌, ◌↔◌, ◌<◌, ◌≤◌, ℕ, zero, suc, List, [], ◌∷◌, length, refl, sym, subst, inl, inr, arith}
 use Rattle.std.specs.Prelude.{All}
 use Rattle.std.specs.List.{AllPairs, flat_map}
 use Rattle.std.proofs.lemmas.List.Elements.{All-nil, All-cons}
@@ -11,7 +11,7 @@ use Rattle.asl_lock_expr.specs.Links.{IsOne}
 use Rattle.asl_lock_expr.specs.Order.{AreInOrder}
 use Rattle.asl_lock_expr.specs.Placing.{placed}
 use Rattle.asl_lock_expr.proofs.Orders.{placed_ones, placed_from, placed_in_order}
-use Rattle.asl_emitter.specs.Lists.{Locks, IsFree, IsReduced, as_class, AsClasses, strongest, IsRootFor, IsCoarse, IsFitted}
+use Rattle.asl_emitter.specs.Lists.{Locks, IsFree, IsReduced, as_class, strongest, IsCoarse, IsFitted}
 use Rattle.asl_emitter.proofs.Absorbing.{tell_lock}
 use Rattle.asl_emitter.proofs.Reducing.{reduced_of}
 use Rattle.asl_emitter.proofs.Fits.{reduced_same, kept_coarse, root_coarse}

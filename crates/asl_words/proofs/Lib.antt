@@ -4,6 +4,8 @@ mod Talks
 mod Asked
 mod Plain
 mod StepRules
+mod WalkInvariant
 mod StepWalk
 mod StepRows
+mod StepFaults
 mod ReadApart

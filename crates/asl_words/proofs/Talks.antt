@@ -99,8 +99,8 @@ two_first : (name : Text) (rest : List Text)
     → (known text : Text) (other : List Text) (w : DebugWord) → name ∷ rest ≡ known ∷ text ∷ other → IsDebugWord (known ∷ text ∷ []) w → ⊥
 two_first name rest numbered known text other w e is =
     let same : name ≡ known = ap (λ (xs : List Text). get_or xs 0 []) e in
-    let behind : rest ≡ text ∷ other = ap (λ (xs : List Text). drop 1 xs) e in
-    numbered w text other behind (subst (λ (first : Text). IsDebugWord (first ∷ text ∷ []) w) (sym same) is)
+    let after : rest ≡ text ∷ other = ap (λ (xs : List Text). drop 1 xs) e in
+    numbered w text other after (subst (λ (first : Text). IsDebugWord (first ∷ text ∷ []) w) (sym same) is)
 
 -- the words at the front of a list are none, by the first of them
 no_first : (name : Text) (rest : List Text) → IsNoBareWord name
@@ -131,18 +131,18 @@ two_are_not_one : (two : List Text) (known : Text) → two ≡ known ∷ [] → 
 two_are_not_one two known e size = let one : length two ≡ 1 = ap length e in omega (arith, one, size)
 
 -- a word with another after it asks for something only where that is a number
-number_behind : (name text : Text) (asked : DebugWord) → IsDebugWord (name ∷ text ∷ []) asked → (k : ℕ) × IsNumber text k
-number_behind name text (word.Move (move.Goto k)) is = (k, subst (λ (t : Text). IsNumber t k) (sym (ap (λ (xs : List Text). get_or xs 1 []) is.1)) is.2)
-number_behind name text (word.Move move.Forward) is = absurd (two_are_not_one (name ∷ text ∷ []) (codes "forward") is refl)
-number_behind name text (word.Move move.Back) is = absurd (two_are_not_one (name ∷ text ∷ []) (codes "back") is refl)
-number_behind name text (word.Move move.Next) is = absurd (two_are_not_one (name ∷ text ∷ []) (codes "next") is refl)
-number_behind name text (word.Move move.Previous) is = absurd (two_are_not_one (name ∷ text ∷ []) (codes "prev") is refl)
-number_behind name text (word.Break k) is = (k, subst (λ (t : Text). IsNumber t k) (sym (ap (λ (xs : List Text). get_or xs 1 []) is.1)) is.2)
-number_behind name text (word.Clear k) is = (k, subst (λ (t : Text). IsNumber t k) (sym (ap (λ (xs : List Text). get_or xs 1 []) is.1)) is.2)
-number_behind name text word.View is = absurd (two_are_not_one (name ∷ text ∷ []) (codes "view") is refl)
-number_behind name text word.Asks is = absurd (two_are_not_one (name ∷ text ∷ []) (codes "asks") is refl)
-number_behind name text word.Stack is = absurd (two_are_not_one (name ∷ text ∷ []) (codes "stack") is refl)
-number_behind name text word.Objects is = absurd (two_are_not_one (name ∷ text ∷ []) (codes "objects") is refl)
+number_after : (name text : Text) (asked : DebugWord) → IsDebugWord (name ∷ text ∷ []) asked → (k : ℕ) × IsNumber text k
+number_after name text (word.Move (move.Goto k)) is = (k, subst (λ (t : Text). IsNumber t k) (sym (ap (λ (xs : List Text). get_or xs 1 []) is.1)) is.2)
+number_after name text (word.Move move.Forward) is = absurd (two_are_not_one (name ∷ text ∷ []) (codes "forward") is refl)
+number_after name text (word.Move move.Back) is = absurd (two_are_not_one (name ∷ text ∷ []) (codes "back") is refl)
+number_after name text (word.Move move.Next) is = absurd (two_are_not_one (name ∷ text ∷ []) (codes "next") is refl)
+number_after name text (word.Move move.Previous) is = absurd (two_are_not_one (name ∷ text ∷ []) (codes "prev") is refl)
+number_after name text (word.Break k) is = (k, subst (λ (t : Text). IsNumber t k) (sym (ap (λ (xs : List Text). get_or xs 1 []) is.1)) is.2)
+number_after name text (word.Clear k) is = (k, subst (λ (t : Text). IsNumber t k) (sym (ap (λ (xs : List Text). get_or xs 1 []) is.1)) is.2)
+number_after name text word.View is = absurd (two_are_not_one (name ∷ text ∷ []) (codes "view") is refl)
+number_after name text word.Asks is = absurd (two_are_not_one (name ∷ text ∷ []) (codes "asks") is refl)
+number_after name text word.Stack is = absurd (two_are_not_one (name ∷ text ∷ []) (codes "stack") is refl)
+number_after name text word.Objects is = absurd (two_are_not_one (name ∷ text ∷ []) (codes "objects") is refl)
 
 -- a first word that is none alone and none with another after it
 pub no_word_first : (all : List (Bor Text)) (d : Bor Text) → 0 < length all → IsNoBareWord (slice_index_or all 0 d).now
@@ -159,13 +159,13 @@ no_word_last (x ∷ []) d some last bare words are =
 no_word_last (x ∷ y ∷ ys) d some last bare words are = let more : suc (suc (length ys)) < 2 = last in absurd (omega (arith, more))
 
 -- a first word that is none alone, and what is no number after it
-pub no_number_behind : (all : List (Bor Text)) (d e : Bor Text) → 1 < length all → IsNoBareWord (slice_index_or all 0 d).now
+pub no_number_after : (all : List (Bor Text)) (d e : Bor Text) → 1 < length all → IsNoBareWord (slice_index_or all 0 d).now
     → ((n : ℕ) → IsNumber (slice_index_or all 1 e).now n → ⊥) → (words : List DebugWord) → AreDebugWords (texts all) words → ⊥
-no_number_behind [] d e some bare number words are = absurd (omega (arith, some))
-no_number_behind (x ∷ []) d e some bare number words are = let few : 1 < 1 = some in absurd (omega (arith, few))
-no_number_behind (x ∷ y ∷ ys) d e some bare number words are =
+no_number_after [] d e some bare number words are = absurd (omega (arith, some))
+no_number_after (x ∷ []) d e some bare number words are = let few : 1 < 1 = some in absurd (omega (arith, few))
+no_number_after (x ∷ y ∷ ys) d e some bare number words are =
     no_front x.now (y.now ∷ texts ys) bare (λ asked text more same is.
-    let found = number_behind x.now text asked is in
+    let found = number_after x.now text asked is in
     number found.0 (subst (λ (t : Text). IsNumber t found.0) (sym (ap (λ (xs : List Text). get_or xs 0 []) same)) found.1)) words are
 
 -- ---- one step of the words

@@ -13,11 +13,11 @@ loop-rest-init c = record { at = record { at = Version; so_far = blank_image; tu
 pub returns-in-None : goal.returns-in-None
 returns-in-None c =
     bad_line (lines_of c.args.text.now) (c.loop-rest.number + 1)
-    (stops c.loop-rest.turn c.loop-rest.number c.split_line.result.0.now c.loop-rest.rest.now c.split_line.result.1.now c.args.text.now c.loop-rest.invariant.at c.split_line.ensures.lines (sym c.behind_bytes.ensures ∙ c.in-None.is))
+    (stops c.loop-rest.turn c.loop-rest.number c.split_line.result.0.now c.loop-rest.rest.now c.split_line.result.1.now c.args.text.now c.loop-rest.invariant.at c.split_line.ensures.lines (sym c.turn_after_bytes.ensures ∙ c.in-None.is))
 
 pub loop-rest-preserved : goal.loop-rest-preserved
 loop-rest-preserved c = record {
-  at = goes_on c.loop-rest.turn c.in-Some.next c.loop-rest.number c.split_line.result.0.now c.loop-rest.rest.now c.split_line.result.1.now c.args.text.now c.loop-rest.invariant.at c.split_line.ensures.lines (sym c.behind_bytes.ensures ∙ c.in-Some.is);
+  at = goes_on c.loop-rest.turn c.in-Some.next c.loop-rest.number c.split_line.result.0.now c.loop-rest.rest.now c.split_line.result.1.now c.args.text.now c.loop-rest.invariant.at c.split_line.ensures.lines (sym c.turn_after_bytes.ensures ∙ c.in-Some.is);
   counted = omega (arith, c.split_line.ensures.shorter, c.loop-rest.invariant.counted);
 }
 

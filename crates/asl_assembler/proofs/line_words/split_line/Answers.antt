@@ -13,7 +13,7 @@ returns-in-empty-clause-lines c =
     let rest = c.split_at.result.1.now in
     let first = first_line c.args.text.now c.requires in
     let none : rest ≡ [] = nil_from_length rest (omega arith) in
-    let behind : drop 1 rest ≡ [] = rw none refl in
+    let after : drop 1 rest ≡ [] = rw none refl in
     cc
 
 pub returns-in-len1-up-clause-lines : goal.returns-in-len1-up-clause-lines

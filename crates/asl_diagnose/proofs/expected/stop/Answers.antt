@@ -3,7 +3,7 @@ use Rattle.asl_grammar.specs.Lex.{tokens_of}
 use Rattle.asl_grammar.specs.Reader.{spots_left}
 use Rattle.asl_grammar.specs.View.{spot_of}
 use Rattle.asl_grammar.specs.Seen.{Place, next_place}
-use Rattle.asl_diagnose.proofs.Led.{behind_start, behind_next}
+use Rattle.asl_diagnose.proofs.Led.{after_start, after_next}
 use Rattle.asl_grammar.proofs.Reading.{none_left}
 use Rattle.asl_diagnose.specs.WalkView.{walk_place, IsStopped}
 use Rattle.asl_diagnose.proofs.Stop.{stopped_end, stopped_at}
@@ -11,13 +11,13 @@ use Rattle.asl_diagnose.proofs.expected.stop.Goals as goal
 
 pub reading-init : goal.reading-init
 reading-init c =
-    behind_start (tokens_of c.args.text.now) (spots_left c.new-tokens.result) (walk_place c.new-walk.result) c.new-tokens.ensures.tokens c.new-walk.ensures
+    after_start (tokens_of c.args.text.now) (spots_left c.new-tokens.result) (walk_place c.new-walk.result) c.new-tokens.ensures.tokens c.new-walk.ensures
 
 pub reading-preserved : goal.reading-preserved
 reading-preserved c =
     let x = spot_of c.in-Token.spot in
     let n : Some (walk_place c.take.new.self) ≡ next_place (walk_place c.reading.walk) x.token = c.in_ok-take.ensures.goes (c.is_none.ensures ∙ ap not c.if-is_none.false) in
-    behind_next (tokens_of c.args.text.now) (walk_place c.reading.walk) (walk_place c.take.new.self) x (spots_left c.reading.tokens) (spots_left c.next.new.self) c.reading.invariant c.in-Token.ensures.found.0 n
+    after_next (tokens_of c.args.text.now) (walk_place c.reading.walk) (walk_place c.take.new.self) x (spots_left c.reading.tokens) (spots_left c.next.new.self) c.reading.invariant c.in-Token.ensures.found.0 n
 
 pub returns-then-is_none : goal.returns-then-is_none
 returns-then-is_none c =

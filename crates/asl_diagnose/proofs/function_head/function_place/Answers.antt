@@ -13,7 +13,7 @@ reading-init c = ap (first_function c.args.name.now Nothing) c.new-tokens.ensure
 
 pub reading-preserved : goal.reading-preserved
 reading-preserved c =
-    function_later c.args.name.now c.reading.next _ (tokens_of c.args.text.now) (spots_left c.reading.tokens) (spots_left c.next.new.self) (spot_of c.in-Token.spot) c.reading.invariant c.in-Token.ensures.found.0 (sym c.is_function.ensures ∙ c.if-is_function.false) c.declares_behind-next.ensures
+    function_later c.args.name.now c.reading.next _ (tokens_of c.args.text.now) (spots_left c.reading.tokens) (spots_left c.next.new.self) (spot_of c.in-Token.spot) c.reading.invariant c.in-Token.ensures.found.0 (sym c.is_function.ensures ∙ c.if-is_function.false) c.declares_after-next.ensures
 
 pub returns-then-is_function : goal.returns-then-is_function
 returns-then-is_function c =

@@ -6,4 +6,4 @@ use Rattle.asl_diagnose.proofs.overfull.overfull_function.Given as goal
 
 abbrev pub invariant-loop-item : goal.invariant-loop-item
 invariant-loop-item l =
-    IsPast (functions_of (map item_of l.items)) (functions_of (map item_of (drop l.item-index l.items))) l.number l.left
+    IsPast (functions_of (map item_of l.items)) (functions_of (map item_of (drop l.item-index l.items))) l.number l.passed

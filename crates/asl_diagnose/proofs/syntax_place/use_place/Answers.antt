@@ -1,7 +1,7 @@
 use Rattle.std.proofs.Common.{◌≡◌, ℕ, List, Some, None, ◌∙◌, sym, ap, subst}
 use Rattle.asl_grammar.specs.Lex.{tokens_of}
 use Rattle.asl_diagnose.specs.Places.{IsNameAt}
-use Rattle.asl_diagnose.proofs.Firsts.{first_use_in}
+use Rattle.asl_diagnose.proofs.FirstUse.{first_use_in}
 use Rattle.asl_diagnose.proofs.Refused.{unknown_there, unknown_placed}
 use Rattle.asl_diagnose.proofs.syntax_place.use_place.Goals as goal
 

@@ -17,12 +17,12 @@ reading-init c = record {
 pub reading-preserved : goal.reading-preserved
 reading-preserved c = record {
   passed = one_passed (tokens_of c.args.text.now) (spots_left c.reading.tokens) (spots_left c.next.new.self) (spot_of c.in-Token.spot) c.reading.invariant.passed c.in-Token.ensures.found.0;
-  place = use_later c.args.name.now c.has_declared-globals.result c.has_declared-functions.result c.reading.locals c.local_behind-locals.result c.reading.before _ (spots_left c.reading.tokens) (spots_left c.next.new.self) (spot_of c.in-Token.spot) _ c.reading.invariant.place c.in-Token.ensures.found.0 c.local_behind-locals.ensures (sym c.is_use.ensures.value ∙ c.if-is_use.false) c.pass.ensures;
+  place = use_later c.args.name.now c.has_declared-globals.result c.has_declared-functions.result c.reading.locals c.local_after-locals.result c.reading.before _ (spots_left c.reading.tokens) (spots_left c.next.new.self) (spot_of c.in-Token.spot) _ c.reading.invariant.place c.in-Token.ensures.found.0 c.local_after-locals.ensures (sym c.is_use.ensures.value ∙ c.if-is_use.false) c.pass.ensures;
 }
 
 pub returns-then-is_use-clause-place : goal.returns-then-is_use-clause-place
 returns-then-is_use-clause-place c =
-    use_here c.args.name.now c.has_declared-globals.result c.has_declared-functions.result c.reading.locals c.local_behind-locals.result c.reading.before (spots_left c.reading.tokens) (spots_left c.next.new.self) (spot_of c.in-Token.spot) _ c.reading.invariant.place c.in-Token.ensures.found.0 c.local_behind-locals.ensures (sym c.is_use.ensures.value ∙ c.if-is_use.true)
+    use_here c.args.name.now c.has_declared-globals.result c.has_declared-functions.result c.reading.locals c.local_after-locals.result c.reading.before (spots_left c.reading.tokens) (spots_left c.next.new.self) (spot_of c.in-Token.spot) _ c.reading.invariant.place c.in-Token.ensures.found.0 c.local_after-locals.ensures (sym c.is_use.ensures.value ∙ c.if-is_use.true)
 
 pub returns-then-is_use-clause-name : goal.returns-then-is_use-clause-name
 returns-then-is_use-clause-name c =

@@ -3,7 +3,7 @@ use Rattle.asl_grammar.specs.Lex.{tokens_of}
 use Rattle.asl_grammar.specs.Reader.{bytes_left, spots_left}
 use Rattle.asl_diagnose.specs.UsesView.{first_use}
 use Rattle.asl_diagnose.proofs.Tokens.{IsPassed}
-use Rattle.asl_diagnose.proofs.Firsts.{first_use_in}
+use Rattle.asl_diagnose.proofs.FirstUse.{first_use_in}
 use Rattle.asl_diagnose.proofs.unknown.unknown_place.Given as goal
 
 abbrev pub invariant-reading : goal.invariant-reading

@@ -1,4 +1,4 @@
-use Rattle.asl_lower.proofs.Holds.{lowering_parted}
+use Rattle.asl_lower.proofs.BodyFacts.{lowering_parted}
 use Rattle.asl_lower.proofs.Layouts.{kept_layout}
 use Rattle.asl_lower.proofs.laws.bodies_part_the_code.Goals as goal
 

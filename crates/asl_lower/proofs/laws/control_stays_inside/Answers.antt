@@ -1,4 +1,4 @@
-use Rattle.asl_lower.proofs.Holds.{lowering_stays}
+use Rattle.asl_lower.proofs.SectionFacts.{lowering_stays}
 use Rattle.asl_lower.proofs.Layouts.{kept_layout}
 use Rattle.asl_lower.proofs.laws.control_stays_inside.Goals as goal
 

@@ -1,4 +1,4 @@
-use Rattle.asl_lower.proofs.Holds.{lowering_numbered}
+use Rattle.asl_lower.proofs.SectionFacts.{lowering_numbered}
 use Rattle.asl_lower.proofs.Layouts.{kept_layout}
 use Rattle.asl_lower.proofs.laws.numbers_follow_the_code.Goals as goal
 

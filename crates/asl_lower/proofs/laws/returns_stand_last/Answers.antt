@@ -1,4 +1,4 @@
-use Rattle.asl_lower.proofs.Holds.{lowering_returns}
+use Rattle.asl_lower.proofs.BodyFacts.{lowering_returns}
 use Rattle.asl_lower.proofs.Layouts.{kept_layout}
 use Rattle.asl_lower.proofs.laws.returns_stand_last.Goals as goal
 

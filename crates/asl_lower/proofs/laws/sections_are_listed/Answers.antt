@@ -1,4 +1,4 @@
-use Rattle.asl_lower.proofs.Holds.{lowering_sections}
+use Rattle.asl_lower.proofs.SectionFacts.{lowering_sections}
 use Rattle.asl_lower.proofs.Layouts.{kept_layout}
 use Rattle.asl_lower.proofs.laws.sections_are_listed.Goals as goal
 

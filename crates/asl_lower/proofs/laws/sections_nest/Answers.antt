@@ -1,4 +1,4 @@
-use Rattle.asl_lower.proofs.Holds.{lowering_nested}
+use Rattle.asl_lower.proofs.BodyFacts.{lowering_nested}
 use Rattle.asl_lower.proofs.Layouts.{kept_layout}
 use Rattle.asl_lower.proofs.laws.sections_nest.Goals as goal
 

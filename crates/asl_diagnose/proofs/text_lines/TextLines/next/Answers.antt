@@ -14,4 +14,4 @@ returns c =
     let some : 0 < length text = omega (arith, eqb-false (length text) 0 (sym c.is_empty.ensures ∙ c.if-is_empty.false)) in
     let front = c.split_at.ensures.front ∙ ap (λ (n : ℕ). take n text) c.line_len.ensures in
     let back = c.split_at.ensures.back ∙ ap (λ (n : ℕ). drop n text) c.line_len.ensures in
-    (row_is text c.split_at.result.0.now c.split_at.result.1.now _ some front back c.behind_first-self.ensures, row_less text c.split_at.result.1.now _ _ some back c.behind_first-self.ensures)
+    (row_is text c.split_at.result.0.now c.split_at.result.1.now _ some front back c.after_first-self.ensures, row_less text c.split_at.result.1.now _ _ some back c.after_first-self.ensures)

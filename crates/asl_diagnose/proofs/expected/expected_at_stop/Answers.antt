@@ -1,7 +1,7 @@
 use Rattle.std.proofs.Common.{length}
 use Rattle.asl_diagnose.specs.WalkView.{walk_place}
 use Rattle.asl_diagnose.proofs.Goes.{is_stop}
-use Rattle.asl_diagnose.proofs.expected.expected_behind.Goals as goal
+use Rattle.asl_diagnose.proofs.expected.expected_at_stop.Goals as goal
 
 pub returns : goal.returns
 returns c =
