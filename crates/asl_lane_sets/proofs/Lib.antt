@@ -1,4 +1,5 @@
 pub mod ComparedLanes
 pub mod Blocks
 pub mod Numbers
+pub mod Parts
 pub mod Members

@@ -1,15 +1,13 @@
 -- The numbers of a set, by the bits of its lanes.
-use Rattle.std.proofs.Common.{IsTrue, subst, ◌++◌, take, drop, bit_and, ◌≡◌, ◌⊎◌, ⊎_elim, ◌↔◌, ℕ, zero, suc, ◌+◌, ◌*◌, ◌/◌, ◌%◌, ◌^◌, ◌<◌, ◌≤◌, Bool, true, false, List, [], ◌∷◌, Some, map, length, get_or, replicate, slice_set, bit_or, refl, sym, ap, ◌∙◌, inl, inr, arith, w64, eqb, eqb-true, eq-eqb, length-set}
+use Rattle.std.proofs.Common.{IsTrue, subst, ◌++◌, bit_and, ◌≡◌, ◌⊎◌, ⊎_elim, ◌↔◌, ℕ, zero, suc, ◌+◌, ◌-◌, ◌*◌, ◌/◌, ◌%◌, ◌^◌, ◌<◌, ◌≤◌, Bool, true, false, List, [], ◌∷◌, Some, map, length, get_or, replicate, slice_set, bit_or, refl, sym, ap, ◌∙◌, inl, inr, arith, w64, eqb, eqb-true, eq-eqb, length-set, length-append}
 use Rattle.std.specs.Int.{bit_at}
 use Rattle.std.specs.List.{range_with_len}
 use Rattle.std.proofs.lemmas.Bool.{cases_lt, false_from_ne_true}
 use Rattle.std.proofs.lemmas.Bool.Decides.{eqb_tells}
-use Rattle.std.proofs.lemmas.List.{get_or_past, get_or-set_same, get_or-set_other, get_or-replicate}
+use Rattle.std.proofs.lemmas.List.{get_or_past, get_or-set_same, get_or-set_other, get_or-replicate, length-replicate}
 use Rattle.std.proofs.lemmas.List.FromFn.{length-map-range_with_len, get_or-map-range_with_len}
 use Rattle.std.proofs.lemmas.Option.{slice_get-get_or, slice_get_within, same_Some}
-use Rattle.std.proofs.lemmas.Grind.{get_or_default_zero}
 use Rattle.std.proofs.lemmas.Nat.Bits.{shr_and_one, bit_at-zero, bit_at_or, bit_at-lt, bit_at_above, bit_at_set_same, bit_at_set_other, same_from_bits}
-use Rattle.std.proofs.Math.Seq.{take-append_seam}
 use Rattle.asl_lane_sets.specs.NumberSet.{IsIn}
 use Rattle.asl_lane_sets.specs.Packed.{AreLanes, has_bit, is_set, told, IsPacked, AreJoined, AreCleared, Differ}
 
@@ -207,58 +205,36 @@ module _ (len other : ℕ) (le : other ≤ len) (a b : List ℕ) (fits_a : (i : 
 pub has_told : (lanes : List ℕ) (number lane : ℕ) → lane ≡ get_or lanes (number / 64) 0 → eqb (bit_and (lane / 2 ^ (number % 64)) 1) 1 ≡ is_set lanes number
 has_told lanes number lane is = ap (λ b. eqb b 1) (shr_and_one lane (number % 64)) ∙ ap (λ w. has_bit w (number % 64)) is
 
-pub word_read : (lanes : List ℕ) (place lane : ℕ) → place < length lanes → lane ≡ get_or lanes place lane → lane ≡ get_or lanes place 0
-word_read lanes place lane there is = is ∙ get_or_default_zero lanes place lane there
-
 -- the lane of a number that is below the length
 pub word_there : (len : ℕ) (lanes : List ℕ) (number : ℕ) → IsPacked len lanes → number < len → number / 64 < length lanes
 word_there len lanes number packed below = let count = packed.count in omega (arith, count, below)
 
--- lanes that are written back
-pub written_back : (new old : List ℕ) (n : ℕ) → length new ≡ n → take n (new ++ drop (length new) old) ≡ new
-written_back new old n long = ap (λ k. take k (new ++ drop (length new) old)) (sym long) ∙ take-append_seam new (drop (length new) old)
-
--- the same of two sets by their fields, where a and b are the lanes that calls were given, and xs and ys the values
-module _ (len other : ℕ) (same : len ≡ other) (va vb a b : List ℕ) where
-  pub within_told_by : (xs ys : List Bool) → IsPacked len va → IsPacked other vb → a ≡ va → b ≡ vb → told len va ≡ xs → told other vb ≡ ys → AreLanes a → AreLanes b
+-- the same of two sets by their fields, where xs and ys are the values
+module _ (len other : ℕ) (same : len ≡ other) (a b : List ℕ) where
+  pub within_told_by : (xs ys : List Bool) → IsPacked len a → IsPacked other b → told len a ≡ xs → told other b ≡ ys → AreLanes a → AreLanes b
       → (result : Bool) → (IsTrue result ↔ AreJoined b a b) → IsTrue result ↔ ((k : ℕ) → IsIn xs k → IsIn ys k)
-  within_told_by xs ys pa pb is_a is_b xs_is ys_is fits_a fits_b result tells =
-      let qa : IsPacked len a = subst (IsPacked len) (sym is_a) pa in
-      let qb : IsPacked len b = subst (IsPacked len) (sym is_b) (subst (λ n. IsPacked n vb) (sym same) pb) in
-      let of_a : told len a ≡ xs = ap (told len) is_a ∙ xs_is in
-      let of_b : told len b ≡ ys = ap (λ n. told n b) same ∙ ap (told other) is_b ∙ ys_is in
-      let all = within_told len len (omega arith) b a fits_b fits_a qb qa in (
-        λ e k is. subst (λ s. IsIn s k) of_b (all.0 (tells.0 e) k (subst (λ s. IsIn s k) (sym of_a) is)),
-        λ h. tells.1 (all.1 (λ k is. subst (λ s. IsIn s k) (sym of_b) (h k (subst (λ s. IsIn s k) of_a is)))),
+  within_told_by xs ys pa pb xs_is ys_is fits_a fits_b result tells =
+      let qb : IsPacked len b = subst (λ n. IsPacked n b) (sym same) pb in
+      let of_b : told len b ≡ ys = ap (λ n. told n b) same ∙ ys_is in
+      let all = within_told len len (omega arith) b a fits_b fits_a qb pa in (
+        λ e k is. subst (λ s. IsIn s k) of_b (all.0 (tells.0 e) k (subst (λ s. IsIn s k) (sym xs_is) is)),
+        λ h. tells.1 (all.1 (λ k is. subst (λ s. IsIn s k) (sym of_b) (h k (subst (λ s. IsIn s k) xs_is is)))),
       )
 
 -- the second set is no longer than the first
-module _ (len other : ℕ) (le : other ≤ len) (va vb a b c : List ℕ) where
-  pub merged_packed : IsPacked len va → IsPacked other vb → a ≡ va → b ≡ vb → AreJoined a b c → IsPacked len c
-  merged_packed pa pb is_a is_b joins =
-      packed_joined a b c joins len other le (subst (IsPacked len) (sym is_a) pa) (subst (IsPacked other) (sym is_b) pb)
+module _ (len other : ℕ) (le : other ≤ len) (a b c : List ℕ) where
+  pub merged_packed : IsPacked len a → IsPacked other b → AreJoined a b c → IsPacked len c
+  merged_packed pa pb joins = packed_joined a b c joins len other le pa pb
 
-  module _ (xs ys : List Bool) (pa : IsPacked len va) (pb : IsPacked other vb) (is_a : a ≡ va) (is_b : b ≡ vb) (joins : AreJoined a b c) (xs_is : told len va ≡ xs) (ys_is : told other vb ≡ ys) where
-    qa : IsPacked len a
-    qa = subst (IsPacked len) (sym is_a) pa
-
-    qb : IsPacked other b
-    qb = subst (IsPacked other) (sym is_b) pb
-
-    of_a : told len a ≡ xs
-    of_a = ap (told len) is_a ∙ xs_is
-
-    of_b : told other b ≡ ys
-    of_b = ap (told other) is_b ∙ ys_is
-
+  module _ (xs ys : List Bool) (pa : IsPacked len a) (pb : IsPacked other b) (joins : AreJoined a b c) (xs_is : told len a ≡ xs) (ys_is : told other b ≡ ys) where
     pub merged_in : (k : ℕ) → IsIn (told len c) k ↔ (IsIn xs k ⊎ IsIn ys k)
-    merged_in k = subst (λ s. IsIn (told len c) k ↔ (IsIn s k ⊎ IsIn ys k)) of_a (subst (λ s. IsIn (told len c) k ↔ (IsIn (told len a) k ⊎ IsIn s k)) of_b (in_joined a b c joins len other le qa qb k))
+    merged_in k = subst (λ s. IsIn (told len c) k ↔ (IsIn s k ⊎ IsIn ys k)) xs_is (subst (λ s. IsIn (told len c) k ↔ (IsIn (told len a) k ⊎ IsIn s k)) ys_is (in_joined a b c joins len other le pa pb k))
 
     pub merged_grew : AreLanes a → AreLanes b → (result : Bool) → (IsTrue result ↔ Differ a c) → IsTrue result ↔ ((k : ℕ) × IsIn ys k × ¬ IsIn xs k)
     merged_grew fits_a fits_b result tells =
-        let grown = grown_told len other le a b fits_a fits_b qa qb c joins in (
-          λ e. let some = grown.0 (tells.0 e) in (some.0, subst (λ s. IsIn s some.0) of_b some.1, λ is. some.2 (subst (λ s. IsIn s some.0) (sym of_a) is)),
-          λ some. tells.1 (grown.1 (some.0, subst (λ s. IsIn s some.0) (sym of_b) some.1, λ is. some.2 (subst (λ s. IsIn s some.0) of_a is))),
+        let grown = grown_told len other le a b fits_a fits_b pa pb c joins in (
+          λ e. let some = grown.0 (tells.0 e) in (some.0, subst (λ s. IsIn s some.0) ys_is some.1, λ is. some.2 (subst (λ s. IsIn s some.0) (sym xs_is) is)),
+          λ some. tells.1 (grown.1 (some.0, subst (λ s. IsIn s some.0) (sym ys_is) some.1, λ is. some.2 (subst (λ s. IsIn s some.0) xs_is is))),
         )
 
 -- the numbers of one set that are none of another
@@ -282,15 +258,12 @@ module _ (a b c : List ℕ) (cleared : AreCleared a b c) where
         λ both. now.1 ((set_cleared k).1 (of_a.0 both.0, false_from_ne_true _ (λ e. both.1 (of_b.1 e)))),
       )
 
-pub removed_packed : (len : ℕ) (va a b c : List ℕ) → IsPacked len va → a ≡ va → AreCleared a b c → IsPacked len c
-removed_packed len va a b c pa is_a cleared = packed_cleared a b c cleared len (subst (IsPacked len) (sym is_a) pa)
-
-pub removed_in : (len other : ℕ) (va vb a b c : List ℕ) (xs ys : List Bool) → IsPacked len va → IsPacked other vb → a ≡ va → b ≡ vb → AreCleared a b c → told len va ≡ xs → told other vb ≡ ys
+pub removed_in : (len other : ℕ) (a b c : List ℕ) (xs ys : List Bool) → IsPacked len a → IsPacked other b → AreCleared a b c → told len a ≡ xs → told other b ≡ ys
     → (k : ℕ) → IsIn (told len c) k ↔ (IsIn xs k × ¬ IsIn ys k)
-removed_in len other va vb a b c xs ys pa pb is_a is_b cleared xs_is ys_is k =
-    subst (λ s. IsIn (told len c) k ↔ (IsIn s k × ¬ IsIn ys k)) (ap (told len) is_a ∙ xs_is)
-    (subst (λ s. IsIn (told len c) k ↔ (IsIn (told len a) k × ¬ IsIn s k)) (ap (told other) is_b ∙ ys_is)
-    (in_cleared a b c cleared len other (subst (IsPacked len) (sym is_a) pa) (subst (IsPacked other) (sym is_b) pb) k))
+removed_in len other a b c xs ys pa pb cleared xs_is ys_is k =
+    subst (λ s. IsIn (told len c) k ↔ (IsIn s k × ¬ IsIn ys k)) xs_is
+    (subst (λ s. IsIn (told len c) k ↔ (IsIn (told len a) k × ¬ IsIn s k)) ys_is
+    (in_cleared a b c cleared len other pa pb k))
 
 -- lanes with none after them
 pub set_longer : (lanes : List ℕ) (more k : ℕ) → is_set (lanes ++ replicate more 0) k ≡ is_set lanes k
@@ -307,29 +280,21 @@ set_longer lanes more k = ap (λ w. has_bit w (k % 64)) (same lanes more (k / 64
     same (w ∷ ws) n (suc i) = same ws n i
 
 -- the lanes that a longer set has
-longer_lanes : (len more : ℕ) (lanes : List ℕ) (n : ℕ) → IsPacked len lanes → len ≤ more → n ≡ 4 * ((more + 255) / 256) → length lanes ≤ n
-longer_lanes len more lanes n packed le is = let count = packed.count in omega (arith, count, le, is)
-
-take_long : (lanes : List ℕ) (n : ℕ) → length lanes ≤ n → take n lanes ≡ lanes
-take_long [] zero le = refl
-take_long [] (suc n) le = refl
-take_long (w ∷ lanes) zero le = absurd (omega (arith, le))
-take_long (w ∷ lanes) (suc n) le = ap (λ ws. w ∷ ws) (take_long lanes n (omega (arith, le)))
-
-module _ (len more : ℕ) (lanes new : List ℕ) (n m : ℕ) (packed : IsPacked len lanes) (le : len ≤ more) (n_is : n ≡ 4 * ((more + 255) / 256)) (is : new ≡ take n lanes ++ replicate m 0) where
-  lanes_are : new ≡ lanes ++ replicate m 0
-  lanes_are = is ∙ ap (λ ws. ws ++ replicate m 0) (take_long lanes n (longer_lanes len more lanes n packed le n_is))
-
-  pub packed_longer : more < 2 ^ 64 → length new ≡ n → IsPacked more new
-  packed_longer fits count = record {
-    fits = fits;
-    count = count ∙ n_is;
-    clear = λ k past. ap (λ ws. is_set ws k) lanes_are ∙ set_longer lanes m k ∙ packed.clear k (omega (arith, le, past));
-  }
+module _ (len more : ℕ) (lanes new : List ℕ) (n : ℕ) (packed : IsPacked len lanes) (le : len ≤ more) (n_is : n ≡ 4 * ((more - 1) / 256 + 1)) (is : new ≡ lanes ++ replicate (n - length lanes) 0) where
+  pub packed_longer : more < 2 ^ 64 → IsPacked more new
+  packed_longer fits =
+      let count = packed.count in
+      let zeros : List ℕ = replicate (n - length lanes) 0 in
+      let few : length lanes ≤ n = omega (arith, count, le, n_is) in
+      record {
+        fits = fits;
+        count = omega (arith, ap length is, length-append lanes zeros, length-replicate {A = ℕ} (n - length lanes) 0, few, n_is);
+        clear = λ k past. ap (λ ws. is_set ws k) is ∙ set_longer lanes (n - length lanes) k ∙ packed.clear k (omega (arith, le, past));
+      }
 
   pub in_longer : IsPacked more new → (set : List Bool) → told len lanes ≡ set → (k : ℕ) → IsIn (told more new) k ↔ IsIn set k
   in_longer now set set_is k =
       let one = in_told more new now k in
       let two = in_told len lanes packed k in
-      let same : is_set new k ≡ is_set lanes k = ap (λ ws. is_set ws k) lanes_are ∙ set_longer lanes m k in
+      let same : is_set new k ≡ is_set lanes k = ap (λ ws. is_set ws k) is ∙ set_longer lanes (n - length lanes) k in
       (λ h. subst (λ s. IsIn s k) set_is (two.1 (sym same ∙ one.0 h)), λ h. one.1 (same ∙ two.0 (subst (λ s. IsIn s k) (sym set_is) h)))
