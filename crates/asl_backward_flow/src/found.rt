@@ -122,15 +122,15 @@ impl Found {
         Ok(())
     }
 
-    /// Adds that a region needs each of these locks at a pc.
-    pub fn add_all(&mut self, part: u16, pc: u16, mut locks: Vec<Lock>) -> Result<(), AddFault>
+    /// Adds that a region needs each lock of a list at a pc. They are taken from the list.
+    pub fn add_all(&mut self, part: u16, pc: u16, locks: &mut Vec<Lock>) -> Result<(), AddFault>
         requires there { part < vec_len self.old.parts }
         requires point { HasPoint (table self.old) part pc }
         requires whole { IsWhole (table self.old) }
         ensures whole { OnOk result (IsWhole (table self.new)) }
-        ensures has { OnOk result ((m : Lock) → IsOne locks.items m → HasFact (table self.new) part pc m) }
+        ensures has { OnOk result ((m : Lock) → IsOne locks.old.items m → HasFact (table self.new) part pc m) }
         ensures lists { OnOk result (Lists (table self.old) (table self.new)) }
-        ensures adds { Adds (table self.old) (table self.new) (λ p q m. (p ≡ part) × (q ≡ pc) × IsOne locks.items m) }
+        ensures adds { Adds (table self.old) (table self.new) (λ p q m. (p ≡ part) × (q ≡ pc) × IsOne locks.old.items m) }
         ensures over { IfErr result (IsOver (table self.new)) }
     {
         while let Some(lock) = locks.pop() {
