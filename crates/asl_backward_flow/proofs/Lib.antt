@@ -17,6 +17,7 @@ mod Entries
 pub mod Leasts
 mod Sound
 mod Closing
+mod Waits
 mod Completing
 mod Tellings
 mod Listing

@@ -1,7 +1,6 @@
 -- Machinery of the proofs, not of the promise: what has been found so far (src/region_needs.rt, src/found.rt).
 use Rattle.std.specs.Prelude.{◌≡◌, ◌≢◌, ◌⊎◌, ◌↔◌, ◌+◌, ◌-◌, ◌<◌, ◌≤◌, ℕ, zero, suc, Bool, true, false, if◌then◌else◌, List, [], Some, map, length, slice_get, unwrap_or, replicate, sum_by}
 use Rattle.asl_code.specs.declared.lock.Lock.{Lock}
-use Rattle.std.specs.BinaryHeap.{heap_items}
 use Rattle.asl_lane_sets.specs.NumberSet.{IsIn}
 use Rattle.asl_lock_expr.specs.Links.{IsOne}
 use Rattle.asl_backward_flow.specs.declared.region.Region.{Region}
@@ -30,7 +29,7 @@ table_of parts list = record {
 }
 
 abbrev pub table : Found → Table
-table f = table_of f.parts.items (heap_items f.list)
+table f = table_of f.parts.items f.list
 
 -- the value stands somewhere in the list
 abbrev pub IsAt : {A : Type 0} → List A → A → Type 0

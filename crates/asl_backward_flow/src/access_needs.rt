@@ -30,17 +30,19 @@ pub fn add_seeds(alloc: Global, analysis: &FlowAnalysis, found: &mut Found) -> R
     ensures ok { OnOk result (Added (read analysis.now) (table found.old) (table found.new) (IsSeed (read analysis.now))) }
     ensures err { IfErr result (Stopped (table found.old) (table found.new) (IsSeed (read analysis.now))) }
 {
+    let mut locks = Vec::new(alloc);
     for part in 0..analysis.spans.len() {
-        add_region_seeds(alloc, analysis, part as u16, found)?;
+        add_region_seeds(alloc, analysis, part as u16, &mut locks, found)?;
     }
     Ok(())
 }
 
-/// Adds what accesses need at each point of a region.
+/// Adds what accesses need at each point of a region. The list is a place for locks, whatever is there.
 fn add_region_seeds(
     alloc: Global,
     analysis: &FlowAnalysis,
     part: u16,
+    locks: &mut Vec<Lock>,
     found: &mut Found,
 ) -> Result<(), AddFault>
     requires analysis { IsRead (read analysis.now) }
@@ -51,17 +53,18 @@ fn add_region_seeds(
 {
     let span = analysis.spans[usize::from(part)];
     for pc in span.first..span.end {
-        add_seeds_at(alloc, analysis, part, pc, found)?;
+        add_seeds_at(alloc, analysis, part, pc, locks, found)?;
     }
     Ok(())
 }
 
-/// Adds what an access needs.
+/// Adds what an access needs. The list is a place for locks, whatever is there.
 fn add_seeds_at(
     alloc: Global,
     analysis: &FlowAnalysis,
     part: u16,
     pc: u16,
+    locks: &mut Vec<Lock>,
     found: &mut Found,
 ) -> Result<(), AddFault>
     requires analysis { IsRead (read analysis.now) }
@@ -73,34 +76,34 @@ fn add_seeds_at(
     ensures err { IfErr result (Stopped (table found.old) (table found.new) (At part pc (WithFronts (IsAccessed (read analysis.now) part pc)))) }
 {
     let span = analysis.spans[usize::from(part)];
-    let mut locks = Vec::new(alloc);
+    locks.clear();
     add_accesses(
         &view(analysis, span.function),
         &analysis.lowering.code()[usize::from(pc)],
-        &mut locks,
+        locks,
     )?;
     add_with_prefixes(alloc, analysis, part, pc, locks, found)
 }
 
-/// Adds locks and their dereferenced prefixes at a point.
+/// Adds the locks of a list and their dereferenced prefixes at a point. They are taken from the list.
 pub(crate) fn add_with_prefixes(
     alloc: Global,
     analysis: &FlowAnalysis,
     part: u16,
     pc: u16,
-    locks: Vec<Lock>,
+    locks: &mut Vec<Lock>,
     found: &mut Found,
 ) -> Result<(), AddFault>
     requires ready { IsReady (read analysis.now) (table found.old) }
     requires point { IsAtPoint (read analysis.now) part pc }
     requires there { part < length analysis.now.spans.now }
-    ensures ok { OnOk result (Added (read analysis.now) (table found.old) (table found.new) (At part pc (WithFronts (IsOne locks.items)))) }
-    ensures err { IfErr result (Stopped (table found.old) (table found.new) (At part pc (WithFronts (IsOne locks.items)))) }
+    ensures ok { OnOk result (Added (read analysis.now) (table found.old) (table found.new) (At part pc (WithFronts (IsOne locks.old.items)))) }
+    ensures err { IfErr result (Stopped (table found.old) (table found.new) (At part pc (WithFronts (IsOne locks.old.items)))) }
 {
     if locks.is_empty() {
         return Ok(());
     }
-    let fronts = prefixes(alloc, &locks)?;
+    let mut fronts = prefixes(alloc, locks)?;
     found.add_all(part, pc, locks)?;
-    found.add_all(part, pc, fronts)
+    found.add_all(part, pc, &mut fronts)
 }

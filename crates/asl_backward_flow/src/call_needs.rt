@@ -127,8 +127,8 @@ fn add_entered_in(
     ensures ok { OnOk result (Added (read analysis.now) (table found.old) (table found.new) (At part pc (WithFronts (IsEntered (read analysis.now) part pc lock.now)))) }
     ensures err { IfErr result (Stopped (table found.old) (table found.new) (At part pc (WithFronts (IsEntered (read analysis.now) part pc lock.now)))) }
 {
-    let locks = entered(alloc, analysis, part, pc, lock)?;
-    add_with_prefixes(alloc, analysis, part, pc, locks, found)
+    let mut locks = entered(alloc, analysis, part, pc, lock)?;
+    add_with_prefixes(alloc, analysis, part, pc, &mut locks, found)
 }
 
 /// What the lock at the entry of a callee becomes at its call; nothing where no call is.

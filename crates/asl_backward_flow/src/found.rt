@@ -1,27 +1,26 @@
 //! What is found to be needed so far, region by region, and what of it is still to be followed.
 ghost use Rattle.std.specs.Prelude.{◌≡◌, ◌<◌, ◌↔◌, ℕ, true, Some, slice_get, vec_len, IfOk, OnOk, OnErr, IfErr};
-ghost use Rattle.std.specs.BinaryHeap.{heap_items};
 ghost use Rattle.asl_code.specs.declared.lock.Lock.{Lock};
 ghost use Rattle.asl_lane_sets.specs.NumberSet.{IsIn};
 ghost use Rattle.asl_lock_expr.specs.Links.{IsOne};
-ghost use Rattle.asl_backward_flow.specs.Found.{table, locks_of, IsAt, IsBlank, Has, HasPoint, HasFact, IsNamed, IsPut, IsWhole, IsOver, Adds, Lists};
+ghost use Rattle.asl_backward_flow.specs.Found.{table, locks_of, IsBlank, Has, HasPoint, HasFact, IsNamed, IsWhole, IsOver, Adds, Lists};
 
 use crate::region_needs::{RegionNeeds, mark, merge, number};
 use crate::span::Span;
+use crate::waiting::Waiting;
 use asl_code::Lock;
 use asl_lane_sets::Bits;
 use std::alloc::{AllocError, Global};
-use std::collections::BinaryHeap;
 
 /// The most locks that a region may need.
 const MAX_LOCKS: usize = 4096;
 
-/// The regions with what they are found to need, and the points at which something is needed that is not followed yet: a
-/// point as the place of its region among the spans, and the pc. The last is followed first, since locks flow backwards.
+/// The regions with what they are found to need, and the points at which something is needed that is not followed yet. The last
+/// is followed first, since locks flow backwards.
 #[derive(Drop)]
 pub struct Found {
     pub parts: Vec<RegionNeeds>,
-    pub list: BinaryHeap<(u16, u16)>,
+    pub list: Waiting,
 }
 
 /// Why a fact was not added.
@@ -44,27 +43,6 @@ impl From<AllocError> for AddFault {
     }
 }
 
-/// Puts a point on a list, if something is new there.
-fn put(list: &mut BinaryHeap<(u16, u16)>, is_new: bool, point: (u16, u16)) -> Result<(), AllocError>
-    ensures ok { OnOk result (IsPut (heap_items list.old) (heap_items list.new) point is_new) }
-    ensures err { OnErr result (heap_items list.new ≡ heap_items list.old) }
-{
-    if is_new && !is_top(list, point) {
-        list.push(point)?;
-    }
-    Ok(())
-}
-
-/// Whether the point is the first of a list.
-fn is_top(list: &BinaryHeap<(u16, u16)>, point: (u16, u16)) -> bool
-    ensures { result ≡ true → IsAt (heap_items list.now) point }
-{
-    match list.peek() {
-        Some(top) => top.0 == point.0 && top.1 == point.1,
-        None => false,
-    }
-}
-
 impl Found {
     /// Nothing found of the regions.
     pub fn new(alloc: Global, spans: &[Span]) -> Result<Found, AllocError>
@@ -76,7 +54,7 @@ impl Found {
         }
         Ok(Found {
             parts,
-            list: BinaryHeap::new(alloc),
+            list: Waiting::new(alloc),
         })
     }
 
@@ -98,7 +76,7 @@ impl Found {
         }
         let place = usize::from(pc - region.first);
         let is_new = mark(&mut region.needs, place, number)?;
-        put(&mut self.list, is_new, (part, pc))?;
+        self.list.put(is_new, (part, pc))?;
         Ok(())
     }
 
@@ -118,19 +96,19 @@ impl Found {
         let needing = &mut self.parts[usize::from(part)];
         let place = usize::from(pc - needing.first);
         let is_new = merge(&mut needing.needs, place, numbers)?;
-        put(&mut self.list, is_new, (part, pc))?;
+        self.list.put(is_new, (part, pc))?;
         Ok(())
     }
 
-    /// Adds that a region needs each of these locks at a pc.
-    pub fn add_all(&mut self, part: u16, pc: u16, mut locks: Vec<Lock>) -> Result<(), AddFault>
+    /// Adds that a region needs each lock of a list at a pc. They are taken from the list.
+    pub fn add_all(&mut self, part: u16, pc: u16, locks: &mut Vec<Lock>) -> Result<(), AddFault>
         requires there { part < vec_len self.old.parts }
         requires point { HasPoint (table self.old) part pc }
         requires whole { IsWhole (table self.old) }
         ensures whole { OnOk result (IsWhole (table self.new)) }
-        ensures has { OnOk result ((m : Lock) → IsOne locks.items m → HasFact (table self.new) part pc m) }
+        ensures has { OnOk result ((m : Lock) → IsOne locks.old.items m → HasFact (table self.new) part pc m) }
         ensures lists { OnOk result (Lists (table self.old) (table self.new)) }
-        ensures adds { Adds (table self.old) (table self.new) (λ p q m. (p ≡ part) × (q ≡ pc) × IsOne locks.items m) }
+        ensures adds { Adds (table self.old) (table self.new) (λ p q m. (p ≡ part) × (q ≡ pc) × IsOne locks.old.items m) }
         ensures over { IfErr result (IsOver (table self.new)) }
     {
         while let Some(lock) = locks.pop() {

@@ -17,6 +17,7 @@ mod region_needs;
 mod scratch;
 mod solve;
 mod span;
+mod waiting;
 
 pub use fault::FlowFault;
 pub use flow::Flow;

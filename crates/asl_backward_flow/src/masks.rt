@@ -20,13 +20,16 @@ pub struct Mask {
     pub touched: Bits,
 }
 
+/// For how many masks a region begins with capacity: a small one touches no more.
+const LIKELY_MASKS: usize = 8;
+
 /// So many regions without masks.
 pub fn no_masks(alloc: Global, count: usize) -> Result<Vec<Vec<Mask>>, AllocError>
     ensures { IfOk result (λ all. map (λ v. v.items) all.items ≡ replicate count []) }
 {
     let mut all = Vec::with_capacity(alloc, count)?;
     for _ in 0..count {
-        all.push(Vec::new(alloc))?;
+        all.push(Vec::with_capacity(alloc, LIKELY_MASKS)?)?;
     }
     Ok(all)
 }

@@ -217,5 +217,5 @@ fn add_link(
         lock,
         &mut locks,
     )?;
-    add_with_prefixes(alloc, analysis, part, pc, locks, found)
+    add_with_prefixes(alloc, analysis, part, pc, &mut locks, found)
 }

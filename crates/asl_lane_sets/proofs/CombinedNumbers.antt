@@ -21,7 +21,6 @@ bit_of_either a b i =
     )
 
 module _ (a b c : List ℕ) (joins : AreJoined a b c) where
-  -- what is in either is in both joined
   pub set_joined : (k : ℕ) → (is_set c k ≡ true) ↔ ((is_set a k ≡ true) ⊎ (is_set b k ≡ true))
   set_joined k =
       let is : is_set c k ≡ has_bit (bit_or (get_or a (k / 64) 0) (get_or b (k / 64) 0)) (k % 64) = ap (λ w. has_bit w (k % 64)) (joins.1 (k / 64)) in
@@ -30,7 +29,6 @@ module _ (a b c : List ℕ) (joins : AreJoined a b c) where
 
   -- where the second set is no longer than the first
   module _ (len other : ℕ) (le : other ≤ len) (pa : IsPacked len a) (pb : IsPacked other b) where
-    -- it has as many lanes as the first, and none past its length
     pub packed_joined : IsPacked len c
     packed_joined = record {
       fits = pa.fits;
@@ -97,7 +95,6 @@ new_or_none (false ∷ old) (false ∷ from) = ⊎_elim
     (new_or_none old from)
 
 module _ (len other : ℕ) (le : other ≤ len) (a b : List ℕ) (fits_a : (i : ℕ) → get_or a i 0 < 2 ^ 64) (fits_b : (i : ℕ) → get_or b i 0 < 2 ^ 64) (pa : IsPacked len a) (pb : IsPacked other b) where
-  -- where each number is in the first, joining adds nothing to its lanes
   within_lanes : ((k : ℕ) → IsIn (told other b) k → IsIn (told len a) k) → (place : ℕ) → get_or a place 0 ≡ bit_or (get_or a place 0) (get_or b place 0)
   within_lanes all = nothing_added a b fits_a fits_b (λ k is. (in_told len a pa k).0 (all k ((in_told other b pb k).1 is)))
 
@@ -120,53 +117,36 @@ module _ (len other : ℕ) (le : other ≤ len) (a b : List ℕ) (fits_a : (i : 
     },
   )
 
--- the same of two sets by their fields, where a and b are the lanes that calls were given, and xs and ys the values
-module _ (len other : ℕ) (same : len ≡ other) (va vb a b : List ℕ) where
-  pub within_told_by : (xs ys : List Bool) → IsPacked len va → IsPacked other vb → a ≡ va → b ≡ vb → told len va ≡ xs → told other vb ≡ ys → AreLanes a → AreLanes b
+-- the same of two sets by their fields, where xs and ys are the values
+module _ (len other : ℕ) (same : len ≡ other) (a b : List ℕ) where
+  pub within_told_by : (xs ys : List Bool) → IsPacked len a → IsPacked other b → told len a ≡ xs → told other b ≡ ys → AreLanes a → AreLanes b
       → (result : Bool) → (IsTrue result ↔ AreJoined b a b) → IsTrue result ↔ ((k : ℕ) → IsIn xs k → IsIn ys k)
-  within_told_by xs ys pa pb is_a is_b xs_is ys_is fits_a fits_b result tells =
-      let qa : IsPacked len a = subst (IsPacked len) (sym is_a) pa in
-      let qb : IsPacked len b = subst (IsPacked len) (sym is_b) (subst (λ n. IsPacked n vb) (sym same) pb) in
-      let of_a : told len a ≡ xs = ap (told len) is_a ∙ xs_is in
-      let of_b : told len b ≡ ys = ap (λ n. told n b) same ∙ ap (told other) is_b ∙ ys_is in
-      let all = within_told len len (omega arith) b a fits_b fits_a qb qa in (
-        λ e k is. subst (λ s. IsIn s k) of_b (all.0 (tells.0 e) k (subst (λ s. IsIn s k) (sym of_a) is)),
-        λ h. tells.1 (all.1 (λ k is. subst (λ s. IsIn s k) (sym of_b) (h k (subst (λ s. IsIn s k) of_a is)))),
+  within_told_by xs ys pa pb xs_is ys_is fits_a fits_b result tells =
+      let qb : IsPacked len b = subst (λ n. IsPacked n b) (sym same) pb in
+      let of_b : told len b ≡ ys = ap (λ n. told n b) same ∙ ys_is in
+      let all = within_told len len (omega arith) b a fits_b fits_a qb pa in (
+        λ e k is. subst (λ s. IsIn s k) of_b (all.0 (tells.0 e) k (subst (λ s. IsIn s k) (sym xs_is) is)),
+        λ h. tells.1 (all.1 (λ k is. subst (λ s. IsIn s k) (sym of_b) (h k (subst (λ s. IsIn s k) xs_is is)))),
       )
 
 -- the second set is no longer than the first
-module _ (len other : ℕ) (le : other ≤ len) (va vb a b c : List ℕ) where
-  -- the same for the lanes that calls are given
-  pub merged_packed : IsPacked len va → IsPacked other vb → a ≡ va → b ≡ vb → AreJoined a b c → IsPacked len c
-  merged_packed pa pb is_a is_b joins =
-      packed_joined a b c joins len other le (subst (IsPacked len) (sym is_a) pa) (subst (IsPacked other) (sym is_b) pb)
+module _ (len other : ℕ) (le : other ≤ len) (a b c : List ℕ) where
+  pub merged_packed : IsPacked len a → IsPacked other b → AreJoined a b c → IsPacked len c
+  merged_packed pa pb joins = packed_joined a b c joins len other le pa pb
 
-  module _ (xs ys : List Bool) (pa : IsPacked len va) (pb : IsPacked other vb) (is_a : a ≡ va) (is_b : b ≡ vb) (joins : AreJoined a b c) (xs_is : told len va ≡ xs) (ys_is : told other vb ≡ ys) where
-    qa : IsPacked len a
-    qa = subst (IsPacked len) (sym is_a) pa
-
-    qb : IsPacked other b
-    qb = subst (IsPacked other) (sym is_b) pb
-
-    of_a : told len a ≡ xs
-    of_a = ap (told len) is_a ∙ xs_is
-
-    of_b : told other b ≡ ys
-    of_b = ap (told other) is_b ∙ ys_is
-
+  module _ (xs ys : List Bool) (pa : IsPacked len a) (pb : IsPacked other b) (joins : AreJoined a b c) (xs_is : told len a ≡ xs) (ys_is : told other b ≡ ys) where
     pub merged_in : (k : ℕ) → IsIn (told len c) k ↔ (IsIn xs k ⊎ IsIn ys k)
-    merged_in k = subst (λ s. IsIn (told len c) k ↔ (IsIn s k ⊎ IsIn ys k)) of_a (subst (λ s. IsIn (told len c) k ↔ (IsIn (told len a) k ⊎ IsIn s k)) of_b (in_joined a b c joins len other le qa qb k))
+    merged_in k = subst (λ s. IsIn (told len c) k ↔ (IsIn s k ⊎ IsIn ys k)) xs_is (subst (λ s. IsIn (told len c) k ↔ (IsIn (told len a) k ⊎ IsIn s k)) ys_is (in_joined a b c joins len other le pa pb k))
 
     pub merged_grew : AreLanes a → AreLanes b → (result : Bool) → (IsTrue result ↔ Differ a c) → IsTrue result ↔ ((k : ℕ) × IsIn ys k × ¬ IsIn xs k)
     merged_grew fits_a fits_b result tells =
-        let grown = grown_told len other le a b fits_a fits_b qa qb c joins in (
-          λ e. let some = grown.0 (tells.0 e) in (some.0, subst (λ s. IsIn s some.0) of_b some.1, λ is. some.2 (subst (λ s. IsIn s some.0) (sym of_a) is)),
-          λ some. tells.1 (grown.1 (some.0, subst (λ s. IsIn s some.0) (sym of_b) some.1, λ is. some.2 (subst (λ s. IsIn s some.0) of_a is))),
+        let grown = grown_told len other le a b fits_a fits_b pa pb c joins in (
+          λ e. let some = grown.0 (tells.0 e) in (some.0, subst (λ s. IsIn s some.0) ys_is some.1, λ is. some.2 (subst (λ s. IsIn s some.0) (sym xs_is) is)),
+          λ some. tells.1 (grown.1 (some.0, subst (λ s. IsIn s some.0) (sym ys_is) some.1, λ is. some.2 (subst (λ s. IsIn s some.0) xs_is is))),
         )
 
 -- the numbers of one set that are none of another
 module _ (a b c : List ℕ) (cleared : AreCleared a b c) where
-  -- what is in the first and not in the second
   pub set_cleared : (k : ℕ) → (is_set c k ≡ true) ↔ ((is_set a k ≡ true) × (is_set b k ≡ false))
   set_cleared k = cleared.1 (k / 64) (k % 64)
 
@@ -186,13 +166,9 @@ module _ (a b c : List ℕ) (cleared : AreCleared a b c) where
         λ both. now.1 ((set_cleared k).1 (of_a.0 both.0, false_from_ne_true _ (λ e. both.1 (of_b.1 e)))),
       )
 
--- the same for the lanes that calls are given
-pub removed_packed : (len : ℕ) (va a b c : List ℕ) → IsPacked len va → a ≡ va → AreCleared a b c → IsPacked len c
-removed_packed len va a b c pa is_a cleared = packed_cleared a b c cleared len (subst (IsPacked len) (sym is_a) pa)
-
-pub removed_in : (len other : ℕ) (va vb a b c : List ℕ) (xs ys : List Bool) → IsPacked len va → IsPacked other vb → a ≡ va → b ≡ vb → AreCleared a b c → told len va ≡ xs → told other vb ≡ ys
+pub removed_in : (len other : ℕ) (a b c : List ℕ) (xs ys : List Bool) → IsPacked len a → IsPacked other b → AreCleared a b c → told len a ≡ xs → told other b ≡ ys
     → (k : ℕ) → IsIn (told len c) k ↔ (IsIn xs k × ¬ IsIn ys k)
-removed_in len other va vb a b c xs ys pa pb is_a is_b cleared xs_is ys_is k =
-    subst (λ s. IsIn (told len c) k ↔ (IsIn s k × ¬ IsIn ys k)) (ap (told len) is_a ∙ xs_is)
-    (subst (λ s. IsIn (told len c) k ↔ (IsIn (told len a) k × ¬ IsIn s k)) (ap (told other) is_b ∙ ys_is)
-    (in_cleared a b c cleared len other (subst (IsPacked len) (sym is_a) pa) (subst (IsPacked other) (sym is_b) pb) k))
+removed_in len other a b c xs ys pa pb cleared xs_is ys_is k =
+    subst (λ s. IsIn (told len c) k ↔ (IsIn s k × ¬ IsIn ys k)) xs_is
+    (subst (λ s. IsIn (told len c) k ↔ (IsIn (told len a) k × ¬ IsIn s k)) ys_is
+    (in_cleared a b c cleared len other pa pb k))

@@ -1,23 +1,19 @@
 -- The numbers of a set, by the bits of its lanes: of an empty set, with one number more, and with lanes after them.
-use Rattle.std.proofs.Common.{subst, ◌++◌, take, drop, bit_and, ◌≡◌, ◌⊎◌, ⊎_elim, ◌↔◌, ℕ, zero, suc, ◌+◌, ◌*◌, ◌/◌, ◌%◌, ◌^◌, ◌<◌, ◌≤◌, Bool, true, false, List, [], ◌∷◌, Some, map, length, get_or, replicate, slice_set, bit_or, refl, sym, ap, ◌∙◌, inl, inr, arith, w64, eqb, eqb-true, eq-eqb, length-set}
+use Rattle.std.proofs.Common.{subst, ◌++◌, bit_and, ◌≡◌, ◌⊎◌, ⊎_elim, ◌↔◌, ℕ, zero, suc, ◌+◌, ◌-◌, ◌*◌, ◌/◌, ◌%◌, ◌^◌, ◌<◌, ◌≤◌, Bool, true, false, List, [], ◌∷◌, Some, map, length, get_or, replicate, slice_set, bit_or, refl, sym, ap, ◌∙◌, inl, inr, arith, w64, eqb, eqb-true, eq-eqb, length-set, length-append}
 use Rattle.std.specs.Int.{bit_at}
 use Rattle.std.specs.List.{range_with_len}
 use Rattle.std.proofs.lemmas.Bool.{cases_lt, false_from_ne_true}
 use Rattle.std.proofs.lemmas.Bool.Decides.{eqb_tells}
-use Rattle.std.proofs.lemmas.List.{get_or_past, get_or-set_same, get_or-set_other, get_or-replicate}
+use Rattle.std.proofs.lemmas.List.{get_or_past, get_or-set_same, get_or-set_other, get_or-replicate, length-replicate}
 use Rattle.std.proofs.lemmas.List.FromFn.{length-map-range_with_len, get_or-map-range_with_len}
 use Rattle.std.proofs.lemmas.Option.{slice_get-get_or, slice_get_within, same_Some}
-use Rattle.std.proofs.lemmas.Grind.{get_or_default_zero}
 use Rattle.std.proofs.lemmas.Nat.Bits.{shr_and_one, bit_at-zero, bit_at_set_same, bit_at_set_other}
-use Rattle.std.proofs.Math.Seq.{take-append_seam}
 use Rattle.asl_lane_sets.specs.NumberSet.{IsIn}
 use Rattle.asl_lane_sets.specs.Packed.{has_bit, is_set, told, IsPacked}
 
--- the test of a bit tells the bit
 pub has_tells : (lane bit : ℕ) → (has_bit lane bit ≡ true) ↔ (bit_at lane bit ≡ 1)
 has_tells lane bit = (λ e. eqb-true _ _ e, λ e. eq-eqb _ _ e)
 
--- as many tests as there are numbers
 pub length_told : (len : ℕ) (lanes : List ℕ) → length (told len lanes) ≡ len
 length_told len lanes = length-map-range_with_len (is_set lanes) 0 len
 
@@ -46,7 +42,6 @@ none_set count k =
     length_zeros zero = refl
     length_zeros (suc n) = ap suc (length_zeros n)
 
--- so such lanes tell the empty set
 pub told_none : (len count : ℕ) → told len (replicate count 0) ≡ replicate len false
 told_none len count = from 0 len
   where
@@ -59,7 +54,6 @@ module _ (lanes : List ℕ) (number : ℕ) (there : number / 64 < length lanes) 
   abbrev added : List ℕ
   added = slice_set lanes (number / 64) (bit_or (get_or lanes (number / 64) 0) (1 * 2 ^ (number % 64) % 2 ^ 64))
 
-  -- the number is in the set, and what was in it is
   pub set_added : (k : ℕ) → (is_set added k ≡ true) ↔ ((is_set lanes k ≡ true) ⊎ (k ≡ number))
   set_added k = elim (eqb_tells (k / 64) (number / 64)) [
     | inl same ↦
@@ -102,17 +96,9 @@ module _ (lanes : List ℕ) (number : ℕ) (there : number / 64 < length lanes) 
 pub has_told : (lanes : List ℕ) (number lane : ℕ) → lane ≡ get_or lanes (number / 64) 0 → eqb (bit_and (lane / 2 ^ (number % 64)) 1) 1 ≡ is_set lanes number
 has_told lanes number lane is = ap (λ b. eqb b 1) (shr_and_one lane (number % 64)) ∙ ap (λ w. has_bit w (number % 64)) is
 
--- a lane that is read by its place
-pub word_read : (lanes : List ℕ) (place lane : ℕ) → place < length lanes → lane ≡ get_or lanes place lane → lane ≡ get_or lanes place 0
-word_read lanes place lane there is = is ∙ get_or_default_zero lanes place lane there
-
 -- the lane of a number that is below the length
 pub word_there : (len : ℕ) (lanes : List ℕ) (number : ℕ) → IsPacked len lanes → number < len → number / 64 < length lanes
 word_there len lanes number packed below = let count = packed.count in omega (arith, count, below)
-
--- lanes that are written back
-pub written_back : (new old : List ℕ) (n : ℕ) → length new ≡ n → take n (new ++ drop (length new) old) ≡ new
-written_back new old n long = ap (λ k. take k (new ++ drop (length new) old)) (sym long) ∙ take-append_seam new (drop (length new) old)
 
 -- lanes with none after them
 pub set_longer : (lanes : List ℕ) (more k : ℕ) → is_set (lanes ++ replicate more 0) k ≡ is_set lanes k
@@ -129,31 +115,21 @@ set_longer lanes more k = ap (λ w. has_bit w (k % 64)) (same lanes more (k / 64
     same (w ∷ ws) n (suc i) = same ws n i
 
 -- the lanes that a longer set has
-longer_lanes : (len more : ℕ) (lanes : List ℕ) (n : ℕ) → IsPacked len lanes → len ≤ more → n ≡ 4 * ((more + 255) / 256) → length lanes ≤ n
-longer_lanes len more lanes n packed le is = let count = packed.count in omega (arith, count, le, is)
-
--- taking as many as there are takes all
-take_long : (lanes : List ℕ) (n : ℕ) → length lanes ≤ n → take n lanes ≡ lanes
-take_long [] zero le = refl
-take_long [] (suc n) le = refl
-take_long (w ∷ lanes) zero le = absurd (omega (arith, le))
-take_long (w ∷ lanes) (suc n) le = ap (λ ws. w ∷ ws) (take_long lanes n (omega (arith, le)))
-
-module _ (len more : ℕ) (lanes new : List ℕ) (n m : ℕ) (packed : IsPacked len lanes) (le : len ≤ more) (n_is : n ≡ 4 * ((more + 255) / 256)) (is : new ≡ take n lanes ++ replicate m 0) where
-  -- the lanes and zeros after them
-  lanes_are : new ≡ lanes ++ replicate m 0
-  lanes_are = is ∙ ap (λ ws. ws ++ replicate m 0) (take_long lanes n (longer_lanes len more lanes n packed le n_is))
-
-  pub packed_longer : more < 2 ^ 64 → length new ≡ n → IsPacked more new
-  packed_longer fits count = record {
-    fits = fits;
-    count = count ∙ n_is;
-    clear = λ k past. ap (λ ws. is_set ws k) lanes_are ∙ set_longer lanes m k ∙ packed.clear k (omega (arith, le, past));
-  }
+module _ (len more : ℕ) (lanes new : List ℕ) (n : ℕ) (packed : IsPacked len lanes) (le : len ≤ more) (n_is : n ≡ 4 * ((more - 1) / 256 + 1)) (is : new ≡ lanes ++ replicate (n - length lanes) 0) where
+  pub packed_longer : more < 2 ^ 64 → IsPacked more new
+  packed_longer fits =
+      let count = packed.count in
+      let zeros : List ℕ = replicate (n - length lanes) 0 in
+      let few : length lanes ≤ n = omega (arith, count, le, n_is) in
+      record {
+        fits = fits;
+        count = omega (arith, ap length is, length-append lanes zeros, length-replicate {A = ℕ} (n - length lanes) 0, few, n_is);
+        clear = λ k past. ap (λ ws. is_set ws k) is ∙ set_longer lanes (n - length lanes) k ∙ packed.clear k (omega (arith, le, past));
+      }
 
   pub in_longer : IsPacked more new → (set : List Bool) → told len lanes ≡ set → (k : ℕ) → IsIn (told more new) k ↔ IsIn set k
   in_longer now set set_is k =
       let one = in_told more new now k in
       let two = in_told len lanes packed k in
-      let same : is_set new k ≡ is_set lanes k = ap (λ ws. is_set ws k) lanes_are ∙ set_longer lanes m k in
+      let same : is_set new k ≡ is_set lanes k = ap (λ ws. is_set ws k) is ∙ set_longer lanes (n - length lanes) k in
       (λ h. subst (λ s. IsIn s k) set_is (two.1 (sym same ∙ one.0 h)), λ h. one.1 (same ∙ two.0 (subst (λ s. IsIn s k) (sym set_is) h)))

@@ -1,5 +1,5 @@
 -- Machinery of the proofs, not of the promise: sets as lanes of 64 bits (src/bits.rt, src/lanes.rt).
-use Rattle.std.specs.Prelude.{◌≡◌, ◌≢◌, ◌↔◌, ◌+◌, ◌*◌, ◌/◌, ◌%◌, ◌^◌, ◌<◌, ◌≤◌, ◌==◌, ℕ, Bool, true, false, List, length, map, slice_index, bit_or}
+use Rattle.std.specs.Prelude.{◌≡◌, ◌≢◌, ◌↔◌, ◌+◌, ◌-◌, ◌*◌, ◌/◌, ◌%◌, ◌^◌, ◌<◌, ◌≤◌, ◌==◌, ℕ, Bool, true, false, List, length, map, slice_index, bit_or}
 use Rattle.std.specs.Int.{bit_at}
 use Rattle.std.specs.List.{filter, range_with_len}
 
@@ -18,11 +18,16 @@ is_set lanes number = has_bit (slice_index lanes (number / 64)) (number % 64)
 abbrev pub told : ℕ → List ℕ → List Bool
 told len lanes = map (is_set lanes) (range_with_len 0 len)
 
--- whole blocks of four lanes, as few as have the length, and no bit from the length on is 1
+-- whole blocks of four lanes, one at least, as few as have the length, and no bit from the length on is 1
 pub record IsPacked (len : ℕ) (lanes : List ℕ) : Type 0 where
   pub fits : len < 2 ^ 64
-  pub count : length lanes ≡ 4 * ((len + 255) / 256)
+  pub count : length lanes ≡ 4 * ((len - 1) / 256 + 1)
   pub clear : (number : ℕ) → len ≤ number → is_set lanes number ≡ false
+
+-- four lanes, and whole blocks of four after them
+pub record AreWholeBlocks (first more : List ℕ) : Type 0 where
+  pub four : length first ≡ 4
+  pub blocks : length more % 4 ≡ 0
 
 -- the numbers from `first` on that the lowest bits of a lane stand for
 abbrev pub ones : ℕ → ℕ → ℕ → List ℕ

@@ -1,10 +1,11 @@
 //! A set of numbers below its length.
-ghost use Rattle.std.specs.Prelude.{[], ◌≡◌, ◌<◌, ◌≤◌, ◌⊎◌, ◌↔◌, ◌++◌, ◌+◌, ◌^◌, ℕ, IsTrue, length, true, false, replicate, IfOk, OnOk, OnErr};
+ghost use Rattle.std.specs.Prelude.{[], ◌≡◌, ◌<◌, ◌≤◌, ◌⊎◌, ◌↔◌, ◌++◌, ◌+◌, ◌-◌, ◌*◌, ◌/◌, ◌^◌, ℕ, IsTrue, length, true, false, replicate, IfOk, OnOk, OnErr};
 ghost use Rattle.std.specs.List.{Contains};
 ghost use Rattle.asl_lane_sets.specs.NumberSet.{IsIn, IsRising, members_of};
 ghost use Rattle.asl_lane_sets.specs.Packed.{has_bit, ones};
 
-use crate::lanes::{BLOCK, LANE, LANES_OF_BLOCK, are_within, clear_lanes, merge_lanes};
+use crate::lane_vec::LaneVec;
+use crate::lanes::{BLOCK, LANE, LANES_OF_BLOCK};
 use std::alloc::{AllocError, Global};
 use std::marker::Model;
 
@@ -14,7 +15,7 @@ use std::marker::Model;
 #[derive(Drop)]
 pub struct Bits {
     len: usize,
-    lanes: Vec<u64>,
+    lanes: LaneVec,
 }
 
 impl Model for Bits {
@@ -23,9 +24,9 @@ impl Model for Bits {
 
     ghost Value = { List Bool };
 
-    ghost view = { λ b. told b.len b.lanes.items };
+    ghost view = { λ b. told b.len b.lanes };
 
-    ghost invariant = { λ b. IsPacked b.len b.lanes.items };
+    ghost invariant = { λ b. IsPacked b.len b.lanes };
 }
 
 impl Bits {
@@ -37,7 +38,7 @@ impl Bits {
     pub fn with_len(alloc: Global, len: usize) -> Result<Bits, AllocError>
         ensures { IfOk result (λ set. set ≡ replicate len false) }
     {
-        let lanes = vec![in alloc; 0; len.div_ceil(BLOCK) * LANES_OF_BLOCK]?;
+        let lanes = LaneVec::zeros(alloc, lanes_after_first(len))?;
         Ok(Bits { len, lanes })
     }
 
@@ -54,7 +55,9 @@ impl Bits {
         ensures length { length self.new ≡ length self.old }
         ensures numbers { (k : ℕ) → IsIn self.new k ↔ (IsIn self.old k ⊎ (k ≡ number)) }
     {
-        self.lanes[number / LANE] |= 1 << (number % LANE);
+        let place = number / LANE;
+        let lane = self.lanes.lane(place);
+        self.lanes.put(place, lane | 1 << (number % LANE));
     }
 
     /// Whether a number is one of the set.
@@ -62,7 +65,7 @@ impl Bits {
         requires { number < length self.now }
         ensures { IsTrue result ↔ IsIn self.now number }
     {
-        self.lanes[number / LANE] >> (number % LANE) & 1 == 1
+        self.lanes.lane(number / LANE) >> (number % LANE) & 1 == 1
     }
 
     /// Makes the set one of numbers below a greater length.
@@ -76,7 +79,7 @@ impl Bits {
         ensures numbers { OnOk result ((k : ℕ) → IsIn self.new k ↔ IsIn self.old k) }
         ensures err { OnErr result (self.new ≡ self.old) }
     {
-        self.lanes.resize(len.div_ceil(BLOCK) * LANES_OF_BLOCK, 0)?;
+        self.lanes.grow(lanes_after_first(len))?;
         self.len = len;
         Ok(())
     }
@@ -88,7 +91,7 @@ impl Bits {
         ensures numbers { (k : ℕ) → IsIn self.new k ↔ (IsIn self.old k ⊎ IsIn other.now k) }
         ensures grew { IsTrue result ↔ ((k : ℕ) × IsIn other.now k × ¬ IsIn self.old k) }
     {
-        merge_lanes(&mut self.lanes, &other.lanes)
+        self.lanes.merge(&other.lanes)
     }
 
     /// Takes away the numbers of another set.
@@ -96,7 +99,7 @@ impl Bits {
         ensures length { length self.new ≡ length self.old }
         ensures numbers { (k : ℕ) → IsIn self.new k ↔ (IsIn self.old k × ¬ IsIn other.now k) }
     {
-        clear_lanes(&mut self.lanes, &other.lanes)
+        self.lanes.clear(&other.lanes)
     }
 
     /// The same set.
@@ -107,7 +110,7 @@ impl Bits {
     pub fn copy(&self) -> Result<Bits, AllocError>
         ensures { IfOk result (λ set. set ≡ self.now) }
     {
-        let lanes = self.lanes.clone()?;
+        let lanes = self.lanes.copy()?;
         Ok(Bits {
             len: self.len,
             lanes,
@@ -124,8 +127,7 @@ impl Bits {
         ensures err { OnErr result (self.new ≡ []) }
     {
         self.len = 0;
-        self.lanes.clear();
-        self.lanes.extend_from_slice(&other.lanes)?;
+        self.lanes.copy_from(&other.lanes)?;
         self.len = other.len;
         Ok(())
     }
@@ -151,7 +153,7 @@ impl Bits {
         ensures numbers { (k : ℕ) → IsIn self.new k ↔ (IsIn self.old k ⊎ IsIn other.now k) }
         ensures grew { IsTrue result ↔ ((k : ℕ) × IsIn other.now k × ¬ IsIn self.old k) }
     {
-        merge_lanes(&mut self.lanes, &other.lanes)
+        self.lanes.merge(&other.lanes)
     }
 
     /// Whether each number of the set is one of another.
@@ -159,7 +161,7 @@ impl Bits {
         requires { length self.now ≡ length other.now }
         ensures { IsTrue result ↔ ((k : ℕ) → IsIn self.now k → IsIn other.now k) }
     {
-        are_within(&self.lanes, &other.lanes)
+        self.lanes.is_within(&other.lanes)
     }
 
     /// The numbers of the set, rising.
@@ -173,13 +175,21 @@ impl Bits {
         ensures listed { IfOk result (λ members. members.items ≡ members_of self.now) }
     {
         let mut members = Vec::new(alloc);
-        for (place, lane) in self.lanes.iter().enumerate() {
-            if *lane != 0 {
-                add_members(*lane, place * LANE, &mut members)?;
+        for place in 0..self.lanes.len() {
+            let lane = self.lanes.lane(place);
+            if lane != 0 {
+                add_members(lane, place * LANE, &mut members)?;
             }
         }
         Ok(members)
     }
+}
+
+/// How many lanes the numbers below a length take after the first four.
+fn lanes_after_first(len: usize) -> usize
+    ensures { result ≡ 4 * ((len - 1) / 256) }
+{
+    len.saturating_sub(1) / BLOCK * LANES_OF_BLOCK
 }
 
 /// Adds the numbers that the bits of a lane stand for, where the lowest bit stands for `first`.

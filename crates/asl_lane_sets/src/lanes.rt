@@ -15,6 +15,7 @@ pub const BLOCK: usize = 256;
 
 /// Joins each lane of `from`, which has no more lanes than `into`, to the lane at its place there, and tells whether one
 /// changed.
+#[inline]
 pub fn merge_lanes(into: &mut [u64], from: &[u64]) -> bool
     requires no_longer { length from.now ≤ length into.old }
     requires blocks { length from.now % 4 ≡ 0 }
@@ -32,6 +33,7 @@ pub fn merge_lanes(into: &mut [u64], from: &[u64]) -> bool
 }
 
 /// Takes the bits of `from` away from the lane at the same place, wherever there is one.
+#[inline]
 pub fn clear_lanes(lanes: &mut [u64], from: &[u64])
     ensures { AreCleared lanes.old from.now lanes.new }
 {
@@ -41,6 +43,7 @@ pub fn clear_lanes(lanes: &mut [u64], from: &[u64])
 }
 
 /// Whether each bit of `low` is one of `high`.
+#[inline]
 pub fn are_within(low: &[u64], high: &[u64]) -> bool
     requires same_length { length low.now ≡ length high.now }
     requires blocks { length low.now % 4 ≡ 0 }
@@ -58,6 +61,7 @@ pub fn are_within(low: &[u64], high: &[u64]) -> bool
 }
 
 /// Joins the lanes of `from` from a place on to those of `into`, and tells whether one changed.
+#[inline]
 fn merge_block(into: &mut [u64], from: &[u64], at: usize) -> bool
     requires into_long { at + 4 ≤ length into.old }
     requires from_long { at + 4 ≤ length from.now }

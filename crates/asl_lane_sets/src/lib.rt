@@ -2,6 +2,7 @@
 #![tactic(auto)]
 
 mod bits;
+mod lane_vec;
 mod lanes;
 
 pub use bits::Bits;

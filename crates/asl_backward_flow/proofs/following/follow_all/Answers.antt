@@ -1,8 +1,7 @@
-use Rattle.std.proofs.Common.{refl}
-use Rattle.std.specs.BinaryHeap.{heap_items}
-use Rattle.asl_backward_flow.specs.Found.{table}
-use Rattle.asl_backward_flow.specs.Follows.{read}
-use Rattle.asl_backward_flow.proofs.Closing.{taken_there, taken_followed}
+use Rattle.std.proofs.Common.{◌≡◌, [], length, refl, sym, subst}
+use Rattle.asl_backward_flow.specs.Found.{table, table_of}
+use Rattle.asl_backward_flow.specs.Follows.{read, IsFollowed}
+use Rattle.asl_backward_flow.proofs.Closing.{taken_there, taken_followed, followed_end}
 use Rattle.asl_backward_flow.proofs.Masking.{masks_none}
 use Rattle.asl_backward_flow.proofs.following.follow_all.Goals as goal
 
@@ -11,8 +10,15 @@ loop-point-init c = record { followed = c.requires.followed; masks = masks_none 
 
 pub follow-requires-clause-there : goal.follow-requires-clause-there
 follow-requires-clause-there c =
-    taken_there (read c.args.analysis.now) c.loop-point.found.parts.items (heap_items c.loop-point.found.list) (heap_items c.pop.new.self) c.in-Some.point c.in-Some.ensures.permutation c.loop-point.invariant.followed
+    taken_there (read c.args.analysis.now) c.loop-point.found.parts.items c.loop-point.found.list c.pop.new.self c.in-Some.point c.in-Some.ensures.point c.loop-point.invariant.followed
 
 pub follow-requires-clause-followed : goal.follow-requires-clause-followed
 follow-requires-clause-followed c =
-    taken_followed (read c.args.analysis.now) c.loop-point.found.parts.items (heap_items c.loop-point.found.list) (heap_items c.pop.new.self) c.in-Some.point c.in-Some.ensures.permutation c.loop-point.invariant.followed
+    taken_followed (read c.args.analysis.now) c.loop-point.found.parts.items c.loop-point.found.list c.pop.new.self c.in-Some.point c.in-Some.ensures.point c.loop-point.invariant.followed
+
+pub returns-clause-ok : goal.returns-clause-ok
+returns-clause-ok c =
+    let none : length c.loop-point.found.list ≡ 0 = c.in_default.ensures.none in
+    let same : c.pop.new.self ≡ c.loop-point.found.list = c.in_default.ensures.unchanged in
+    subst (λ l. IsFollowed (read c.args.analysis.now) (table_of c.loop-point.found.parts.items l) []) (sym same)
+    (followed_end (read c.args.analysis.now) (table c.loop-point.found) none c.loop-point.invariant.followed)

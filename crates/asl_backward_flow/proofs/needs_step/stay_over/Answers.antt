@@ -1,5 +1,4 @@
 use Rattle.std.proofs.Common.{◌<◌, List, Vec, Global, Some, length, map, slice_set, refl, sym, subst, ap, ◌∙◌, arith}
-use Rattle.std.specs.BinaryHeap.{heap_items}
 use Rattle.std.proofs.lemmas.List.{length-map}
 use Rattle.asl_lock_expr.specs.LinksView.{seen as seen_by}
 use Rattle.asl_backward_flow.specs.declared.region_needs.RegionNeeds.{RegionNeeds}
@@ -23,7 +22,7 @@ staying-requires c =
     let there = stands_at c.args.analysis.now.spans.now c.args.analysis.now.spans.now c.from.result c.args.part no_span refl c.from.ensures c.requires.there in
     let parts = c.requires.ready.count in
     let within : c.args.part < length c.args.found.now.parts.items = omega (arith, parts, c.requires.there, length-map c.args.found.now.parts.items (λ (z : RegionNeeds). z.locks.keys)) in
-    let locks_are = locks_before c.args.found.now.parts.items c.args.part c.from-3.result c.index.result.now (heap_items c.args.found.now.list) c.from-3.ensures within c.index.ensures ∙ sym c.as_slice-locks.ensures.keys in
+    let locks_are = locks_before c.args.found.now.parts.items c.args.part c.from-3.result c.index.result.now c.args.found.now.list c.from-3.ensures within c.index.ensures ∙ sym c.as_slice-locks.ensures.keys in
     let count = c.requires.masks.count in
     let room : c.args.part < length c.args.scratch.now.masks.items = omega (arith, count, c.requires.there, length-map c.args.scratch.now.masks.items items_of) in
     let at = stands_at c.args.scratch.now.masks.items c.args.scratch.now.masks.items c.from-4.result c.args.part c.index_mut.result.now refl c.from-4.ensures room ∙ ap Some (sym c.index_mut.ensures.value) in
@@ -35,7 +34,7 @@ returns-clause-masks c =
     let there = stands_at c.args.analysis.now.spans.now c.args.analysis.now.spans.now c.from.result c.args.part no_span refl c.from.ensures c.requires.there in
     let parts = c.requires.ready.count in
     let within : c.args.part < length c.args.found.now.parts.items = omega (arith, parts, c.requires.there, length-map c.args.found.now.parts.items (λ (z : RegionNeeds). z.locks.keys)) in
-    let locks_are = locks_before c.args.found.now.parts.items c.args.part c.from-3.result c.index.result.now (heap_items c.args.found.now.list) c.from-3.ensures within c.index.ensures ∙ sym c.as_slice-locks.ensures.keys in
+    let locks_are = locks_before c.args.found.now.parts.items c.args.part c.from-3.result c.index.result.now c.args.found.now.list c.from-3.ensures within c.index.ensures ∙ sym c.as_slice-locks.ensures.keys in
     on_more c.staying.result _ _
     (λ is.
     subst (AreAllMasks (read c.args.analysis.now) (table c.args.found.now)) (sym (map_set items_of c.args.scratch.now.masks.items c.from-4.result c.staying.new.masks))
@@ -48,7 +47,7 @@ returns-clause-stays c =
     let there = stands_at c.args.analysis.now.spans.now c.args.analysis.now.spans.now c.from.result c.args.part no_span refl c.from.ensures c.requires.there in
     let parts = c.requires.ready.count in
     let within : c.args.part < length c.args.found.now.parts.items = omega (arith, parts, c.requires.there, length-map c.args.found.now.parts.items (λ (z : RegionNeeds). z.locks.keys)) in
-    let locks_are = locks_before c.args.found.now.parts.items c.args.part c.from-3.result c.index.result.now (heap_items c.args.found.now.list) c.from-3.ensures within c.index.ensures ∙ sym c.as_slice-locks.ensures.keys in
+    let locks_are = locks_before c.args.found.now.parts.items c.args.part c.from-3.result c.index.result.now c.args.found.now.list c.from-3.ensures within c.index.ensures ∙ sym c.as_slice-locks.ensures.keys in
     stays_ok (read c.args.analysis.now) (table c.args.found.now) c.args.part c.args.pc _ _ there
     (stands_at c.args.analysis.now.lowering.now.code c.code.result.now c.from-2.result c.args.pc _ c.code.ensures.code c.from-2.ensures c.requires.code)
     c.as_slice-locks.result.now locks_are (seen_by c.view-view.result) c.view-view.ensures c.staying.new.stay c.staying.result c.staying.ensures.stays

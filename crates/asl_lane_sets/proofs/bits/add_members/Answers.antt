@@ -1,4 +1,4 @@
-use Rattle.std.proofs.Common.{◌≡◌, ◌+◌, ◌∷◌, [], ◌++◌, ◌∙◌, refl, ap, sym, arith, append_assoc, cond, true}
+use Rattle.std.proofs.Common.{◌≡◌, ◌+◌, ◌∷◌, [], ◌++◌, ◌∙◌, ap, sym, arith, append_assoc, cond, true}
 use Rattle.std.proofs.lemmas.List.{append-nil}
 use Rattle.asl_lane_sets.specs.Packed.{has_bit, ones}
 use Rattle.asl_lane_sets.proofs.Members.{one_more, none_between}

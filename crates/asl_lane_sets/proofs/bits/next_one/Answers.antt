@@ -1,7 +1,5 @@
-use Rattle.std.proofs.Common.{◌≡◌, ◌+◌, ◌-◌, ◌/◌, ◌^◌, ◌<◌, w64, arith, ap, ◌∙◌, eqb}
-use Rattle.std.specs.Int.{bit_at, trailing_zeros}
+use Rattle.std.proofs.Common.{arith}
 use Rattle.asl_lane_sets.proofs.Members.{none_shifted, one_shifted, zero_shifted}
-use Rattle.std.proofs.lemmas.Nat.{trailing_le}
 use Rattle.asl_lane_sets.proofs.bits.next_one.Goals as goal
 
 pub returns-then-rest-eq0-clause-none : goal.returns-then-rest-eq0-clause-none

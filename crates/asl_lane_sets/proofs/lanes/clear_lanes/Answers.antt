@@ -1,4 +1,4 @@
-use Rattle.std.proofs.Common.{◌≡◌, ◌⊎◌, ◌≤◌, ◌<◌, ◌^◌, length, slice_index, arith, refl, sym, subst, inl, inr, ◌∙◌}
+use Rattle.std.proofs.Common.{◌<◌, ◌^◌, length, arith, refl, sym, subst, inl, inr}
 use Rattle.std.proofs.lemmas.Bool.{cases_lt}
 use Rattle.asl_lane_sets.proofs.Blocks.{begin_clear, more_clear, cleared_all, word_cleared}
 use Rattle.asl_lane_sets.proofs.lanes.clear_lanes.Goals as goal

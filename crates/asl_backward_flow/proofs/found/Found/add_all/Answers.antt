@@ -7,7 +7,7 @@ use Rattle.asl_backward_flow.proofs.found.Found.add_all.Goals as goal
 
 pub loop-lock-init : goal.loop-lock-init
 loop-lock-init c =
-    adds_some_begin (table c.args.self.now) c.args.part c.args.pc c.args.locks.items
+    adds_some_begin (table c.args.self.now) c.args.part c.args.pc c.args.locks.now.items
     (omega (arith, length-map c.args.self.now.parts.items (λ (z : RegionNeeds). z.locks.keys), c.requires.there)) c.requires.point c.requires.whole
 
 pub loop-lock-preserved : goal.loop-lock-preserved

@@ -16,4 +16,4 @@ pub returns : goal.returns
 returns c =
     let end = c.loop-span-test.false in
     let most = c.loop-span.auto.span-index-end in
-    made_blank c.args.spans.now c.loop-span.span-index c.loop-span.parts.items _ c.new-2.ensures.items (omega (arith, end, most)) c.loop-span.invariant
+    made_blank c.args.spans.now c.loop-span.span-index c.loop-span.parts.items _ c.new-2.ensures (omega (arith, end, most)) c.loop-span.invariant

@@ -3,4 +3,4 @@ use Rattle.asl_lane_sets.proofs.Numbers.{length_told}
 use Rattle.asl_lane_sets.proofs.bits.Bits.len.Goals as goal
 
 pub returns : goal.returns
-returns c = sym (length_told c.self.inside.len c.self.inside.lanes.items) ∙ ap length c.self.view_is
+returns c = sym (length_told c.self.inside.len c.self.inside.lanes) ∙ ap length c.self.view_is
