@@ -9,7 +9,8 @@ use Rattle.asl_code.specs.Versions.{most_threads}
 use Rattle.asl_code.specs.declared.image.Image.{Image}
 use Rattle.asl_machine.specs.declared.reply.Reply.{Reply}
 use Rattle.asl_machine.specs.State.{State}
-use Rattle.asl_machine.specs.Run.{IsThreadCount, start_of, replies_of}
+use Rattle.asl_machine.specs.Run.{IsThreadCount, start_of}
+use Rattle.asl_machine.specs.ComputedRun.{replies_of}
 use Rattle.asl_machine.specs.StepFunction.{step_of}
 use Rattle.asl_journal.specs.declared.event.Event.{Event}
 use Rattle.asl_journal.specs.declared.fault.JournalFault.{JournalFault}
