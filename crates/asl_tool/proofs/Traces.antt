@@ -48,10 +48,11 @@ none_traced image threads events m i s = record {
 }
 
 pub one_traced : (image : Image) (threads : ℕ) (events : List Event) (m new : Configuration) (number : ℕ) (d : Event) (old text : List ℕ) → number < length events
-    → HasTraced image threads events m number old → new.image ≡ m.image → new.state ≡ (step_of m.image m.state (get_or events number d).thread).state
+    → HasTraced image threads events m number old → new.image ≡ m.image → (answer : Reply) × Step m.image m.state (get_or events number d).thread answer new.state
     → text ≡ old ++ trace_line m.state number (get_or events number d).thread (get_or events number d).reply → HasTraced image threads events new (number + 1) text
-one_traced image threads events m new number d old text lt h i s grows =
+one_traced image threads events m new number d old text lt h i step grows =
     let event : Event = get_or events number d in
+    let s = (step_only m.image m.state event.thread step.0 new.state step.1).1 in
     let line = trace_line m.state number event.thread event.reply in
     let next : left_lines m events number ≡ line ++ left_lines new events (number + 1) =
     ap (λ es. trace_lines m.image m.state number es) (drop-cons events number d lt)
@@ -93,7 +94,7 @@ traced_from image count (e ∷ es) s number sound threads there goes =
 only_traced : (image : Image) (events : List Event) (s : State) (number : ℕ) (text : List ℕ) → SatisfiesInvariant image s → AreTraced image s number events text → text ≡ trace_lines image s number events
 only_traced image [] s number text sound h = h
 only_traced image (e ∷ es) s number text sound h =
-    let only = step_only image s e.thread sound e.reply h.0 h.2 in
+    let only = step_only image s e.thread e.reply h.0 h.2 in
     let rest = subst (λ (u : State). AreTraced image u (suc number) es h.1) only.1 h.3 in
     h.4 ∙ ap (λ (l : List ℕ). trace_line s number e.thread e.reply ++ l) (only_traced image es (step_of image s e.thread).state (suc number) h.1 (step_sound image s e.thread sound) rest)
 

@@ -1,7 +1,8 @@
 //! The command `log`: from a run file to the lines of its events.
 ghost use Rattle.std.specs.Prelude.{◌≡◌, ◌<◌, IfOk, IfErr, OnOk, length, string_bytes};
 ghost use Rattle.asl_machine.specs.Run.{start_of};
-ghost use Rattle.asl_machine.specs.StepFunction.{step_of};
+ghost use Rattle.asl_machine.specs.Step.{Step};
+ghost use Rattle.asl_machine.specs.declared.reply.Reply.{Reply};
 ghost use Rattle.asl_journal.specs.Journal.{IsJournal};
 ghost use Rattle.asl_journal.specs.Replay.{IsReplayFault};
 ghost use Rattle.asl_tool.specs.Log.{IsLogText};
@@ -87,7 +88,7 @@ fn first_machine<'p>(
 /// Steps the thread. Only memory can fail where the thread is there.
 fn make_step(alloc: Global, machine: &mut Machine<'_>, thread: u8) -> Result<(), AllocError>
     ensures image { machine.new.image ≡ machine.old.image }
-    ensures state { OnOk result (machine.new.state ≡ (step_of machine.old.image machine.old.state thread).state) }
+    ensures step { OnOk result ((reply : Reply) × Step machine.old.image machine.old.state thread reply machine.new.state) }
 {
     match machine.step(alloc, u32::from(thread)) {
         Ok(_) => Ok(()),

@@ -19,7 +19,7 @@ pub loop-number-preserved : goal.loop-number-preserved
 loop-number-preserved c =
     one_traced c.args.program.now c.args.threads c.args.events.now c.loop-number.machine c.make_step.new.machine c.loop-number.number (record { thread = 0; reply = Ran })
     (string_bytes c.loop-number.text) (string_bytes c.push_trace_line.new.text) c.loop-number-test.true c.loop-number.invariant
-    c.in_ok-make_step.ensures.image c.in_ok-make_step.ensures.state c.in_ok-push_trace_line.ensures
+    c.in_ok-make_step.ensures.image c.in_ok-make_step.ensures.step c.in_ok-push_trace_line.ensures
 
 pub returns : goal.returns
 returns c =
