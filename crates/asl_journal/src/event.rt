@@ -22,8 +22,8 @@ pub struct Receipt {
     pub index: u32,
     /// The number of the thread.
     pub thread: u8,
+    /// Whether the thread has ended after this step. It stands beside the other field of one byte, so that less pads a receipt.
+    pub ended: bool,
     /// The reply to its step.
     pub reply: Reply,
-    /// Whether the thread has ended after this step.
-    pub ended: bool,
 }
