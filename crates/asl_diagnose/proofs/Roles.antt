@@ -3,7 +3,7 @@ use Rattle.std.proofs.Common.{◌≡◌, ℕ, List, [], ◌∷◌, ◌++◌, Boo
 use Rattle.std.proofs.lemmas.List.{map-append}
 use Rattle.asl_grammar.specs.declared.token.Mark.TheVariants as mark
 use Rattle.asl_grammar.specs.declared.control.Operator.TheVariants.{Add, Subtract, IsLess, IsEqual}
-use Rattle.asl_grammar.specs.Token.{Token, Fixed, Name, Number, Spot}
+use Rattle.asl_grammar.specs.Token.{Token, Fixed, Name}
 use Rattle.asl_grammar.specs.Written as w
 use Rattle.asl_grammar.specs.Spelling.{later_names_on, names_on, line_on, stmt_on, block_on, else_on, function_on, program_on}
 use Rattle.asl_syntax.specs.Tree.{Item}

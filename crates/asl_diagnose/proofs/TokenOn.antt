@@ -1,10 +1,9 @@
 -- The readers of src/unknown.rt, one token on.
-use Rattle.std.proofs.Common.{◌≡◌, ℕ, List, [], ◌∷◌, Bool, true, false, ◌&&◌, ◌||◌, if◌then◌else◌, Option, Some, None, map, refl, sym, ap, ◌∙◌}
+use Rattle.std.proofs.Common.{◌≡◌, ℕ, List, [], ◌∷◌, Bool, true, false, ◌||◌, if◌then◌else◌, Option, Some, None, refl, sym, ap, ◌∙◌}
 use Rattle.asl_grammar.specs.Token.{Token, Spot}
 use Rattle.asl_grammar.specs.Grammar.{bare}
 use Rattle.asl_diagnose.specs.declared.declared.Declares.{Declares}
 use Rattle.asl_diagnose.specs.declared.declared.Declares.TheVariants as what
-use Rattle.asl_diagnose.specs.declared.name_role.Sign.{Sign}
 use Rattle.asl_diagnose.specs.declared.name_role.Sign.TheVariants.{Other}
 use Rattle.asl_diagnose.specs.declared.name_role.Before.{Before}
 use Rattle.asl_diagnose.specs.Places.{declares_after}

@@ -157,12 +157,12 @@ fn digits(text: &[u8]) -> Lexeme<'_>
     }
 }
 
-/// `=` or `==`, where `behind` are the bytes after the first.
+/// `=` or `==`, where `rest` are the bytes after the first.
 #[inline(always)]
-fn equals<'t>(behind: &[u8]) -> Lexeme<'t>
-    ensures { front_view result ≡ equals_token behind.now }
+fn equals<'t>(rest: &[u8]) -> Lexeme<'t>
+    ensures { front_view result ≡ equals_token rest.now }
 {
-    if !behind.is_empty() && behind[0] == b'=' {
+    if !rest.is_empty() && rest[0] == b'=' {
         Lexeme {
             token: Token::Fixed(Mark::Same),
             len: 2,

@@ -14,8 +14,8 @@ abbrev pub opened : Lowered → Place → List ℕ
 opened l p = open_at l.code p.pc
 
 -- what is open after an instruction that stands at the place
-pub behind : (l : Lowered) (p : Place) (i : Instr) → Has l p i → open_at l.code (suc p.pc) ≡ open_behind (Some i) (opened l p)
-behind l p i h = ap (λ (v : Option Instr). open_behind v (opened l p)) h
+pub opened_next : (l : Lowered) (p : Place) (i : Instr) → Has l p i → open_at l.code (suc p.pc) ≡ open_behind (Some i) (opened l p)
+opened_next l p i h = ap (λ (v : Option Instr). open_behind v (opened l p)) h
 
 -- an operator opens and closes nothing
 pub operator_keeps : (o : Operator) (x y z : ℕ) (os : List ℕ) → open_behind (Some (operator_instr o x y z)) os ≡ os
@@ -26,33 +26,33 @@ operator_keeps IsEqual x y z os = refl
 
 pub moves_balance : (sc : Scope) (l : Lowered) (args : List (List ℕ)) (p : Place) (to : ℕ) → AreMoved sc l args p to → opened l (past_moves args p) ≡ opened l p
 moves_balance sc l [] p to h = refl
-moves_balance sc l (a ∷ rest) p to h = moves_balance sc l rest (next p) (suc to) h.1 ∙ behind l p _ h.0
+moves_balance sc l (a ∷ rest) p to h = moves_balance sc l rest (next p) (suc to) h.1 ∙ opened_next l p _ h.0
 
 pub value_balance : (sc : Scope) (l : Lowered) (to : ℕ) (v : Value) (p : Place) → IsLoweredValue sc l to v p → opened l (past_value v p) ≡ opened l p
-value_balance sc l to (IntegerValue z) p h = behind l p _ h
-value_balance sc l to NullValue p h = behind l p _ h
-value_balance sc l to (LocalValue y) p h = behind l p _ h
-value_balance sc l to (BinaryValue y o z) p h = behind l p _ h ∙ operator_keeps o to (register sc y) (register sc z) (opened l p)
-value_balance sc l to (GlobalValue g) p h = behind l p _ h
-value_balance sc l to (FieldValue y n) p h = behind l p _ h
-value_balance sc l to (LoadValue y) p h = behind l p _ h
-value_balance sc l to (NewValue n) p h = behind l p _ h
+value_balance sc l to (IntegerValue z) p h = opened_next l p _ h
+value_balance sc l to NullValue p h = opened_next l p _ h
+value_balance sc l to (LocalValue y) p h = opened_next l p _ h
+value_balance sc l to (BinaryValue y o z) p h = opened_next l p _ h ∙ operator_keeps o to (register sc y) (register sc z) (opened l p)
+value_balance sc l to (GlobalValue g) p h = opened_next l p _ h
+value_balance sc l to (FieldValue y n) p h = opened_next l p _ h
+value_balance sc l to (LoadValue y) p h = opened_next l p _ h
+value_balance sc l to (NewValue n) p h = opened_next l p _ h
 value_balance sc l to (CallValue f args) p h =
-    behind l (past_moves args p) _ h.1 ∙ moves_balance sc l args p _ h.0
+    opened_next l (past_moves args p) _ h.1 ∙ moves_balance sc l args p _ h.0
 
 mutual
   pub stmt_balance : (sc : Scope) (l : Lowered) (s : Statement) (p : Place) → IsLoweredStmt sc l s p → opened l (past_stmt s p) ≡ opened l p
   stmt_balance sc l (AssignStatement x v) p h = value_balance sc l (register sc x) v p h
-  stmt_balance sc l (StoreStatement x y) p h = behind l p _ h
-  stmt_balance sc l (OutStatement x) p h = behind l p _ h
+  stmt_balance sc l (StoreStatement x y) p h = opened_next l p _ h
+  stmt_balance sc l (OutStatement x) p h = opened_next l p _ h
   stmt_balance sc l (IfStatement x a e) p h =
-      else_balance sc l e (past_block a (next p)) h.2 ∙ block_balance sc l a (next p) h.1 ∙ behind l p _ h.0
+      else_balance sc l e (past_block a (next p)) h.2 ∙ block_balance sc l a (next p) h.1 ∙ opened_next l p _ h.0
   stmt_balance sc l (WhileStatement x a) p h =
-      behind l (past_block a (next p)) _ h.2 ∙ block_balance sc l a (next p) h.1 ∙ behind l p _ h.0
+      opened_next l (past_block a (next p)) _ h.2 ∙ block_balance sc l a (next p) h.1 ∙ opened_next l p _ h.0
   stmt_balance sc l (AtomicStatement a) p h =
-      behind l (past_block a (entered p)) _ h.2
+      opened_next l (past_block a (entered p)) _ h.2
       ∙ ap without_innermost (block_balance sc l a (entered p) h.1)
-      ∙ ap without_innermost (behind l p _ h.0)
+      ∙ ap without_innermost (opened_next l p _ h.0)
 
   pub block_balance : (sc : Scope) (l : Lowered) (b : Block) (p : Place) → IsLoweredBlock sc l b p → opened l (past_block b p) ≡ opened l p
   block_balance sc l NoMore p h = refl
@@ -62,11 +62,11 @@ mutual
   pub else_balance : (sc : Scope) (l : Lowered) (e : Block) (p : Place) → IsLoweredElse sc l e p → opened l (past_else e p) ≡ opened l p
   else_balance sc l NoMore p h = refl
   else_balance sc l (Then s b) p h =
-      block_balance sc l b (past_stmt s (next p)) h.2 ∙ stmt_balance sc l s (next p) h.1 ∙ behind l p _ h.0
+      block_balance sc l b (past_stmt s (next p)) h.2 ∙ stmt_balance sc l s (next p) h.1 ∙ opened_next l p _ h.0
 
 -- where a function begins, as many are open as where it ends
 pub function_balance : (is : List Item) (l : Lowered) (n : ℕ) (f : Function) (p : Place) → IsLoweredFunction is l n f p → opened l (past_function f p) ≡ opened l p
-function_balance is l n f p h = behind l (past_block f.body p) _ h.returns ∙ block_balance _ l f.body p h.body
+function_balance is l n f p h = opened_next l (past_block f.body p) _ h.returns ∙ block_balance _ l f.body p h.body
 
 pub functions_balance : (is : List Item) (l : Lowered) (n : ℕ) (fs : List Function) (p : Place) → AreLoweredFunctions is l n fs p → opened l (past_functions fs p) ≡ opened l p
 functions_balance is l n [] p h = refl

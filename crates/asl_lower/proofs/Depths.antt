@@ -6,30 +6,30 @@ use Rattle.std.proofs.lemmas.Option.{slice_get-get_or}
 use Rattle.asl_code.specs.declared.instr.Instr.{Instr}
 use Rattle.asl_code.specs.declared.instr.Instr.TheVariants as instr
 use Rattle.asl_lower.specs.Region.{open_at, open_behind, is_access}
-use Rattle.asl_lower.specs.Reach.{depth_behind, IsOutsideAccess}
+use Rattle.asl_lower.specs.Reach.{depth_after, IsOutsideAccess}
 
 -- the depth counts the open sections
-length_behind : (i : Instr) (opened : List ℕ) → length (open_behind (Some i) opened) ≡ depth_behind i (length opened)
-length_behind (instr.Acquire s) opened = refl
-length_behind instr.Release [] = refl
-length_behind instr.Release (s ∷ opened) = omega arith
-length_behind (instr.SetInt a b) opened = refl
-length_behind (instr.SetNull a) opened = refl
-length_behind (instr.Move a b) opened = refl
-length_behind (instr.Add a b c) opened = refl
-length_behind (instr.Subtract a b c) opened = refl
-length_behind (instr.LessThan a b c) opened = refl
-length_behind (instr.Equals a b c) opened = refl
-length_behind (instr.GlobalAddress a b) opened = refl
-length_behind (instr.FieldAddress a b c) opened = refl
-length_behind (instr.Load a b) opened = refl
-length_behind (instr.Store a b) opened = refl
-length_behind (instr.New a b c) opened = refl
-length_behind (instr.Jump a) opened = refl
-length_behind (instr.JumpIfZero a b) opened = refl
-length_behind (instr.Call a b c) opened = refl
-length_behind (instr.Return a) opened = refl
-length_behind (instr.Output a) opened = refl
+length_after : (i : Instr) (opened : List ℕ) → length (open_behind (Some i) opened) ≡ depth_after i (length opened)
+length_after (instr.Acquire s) opened = refl
+length_after instr.Release [] = refl
+length_after instr.Release (s ∷ opened) = omega arith
+length_after (instr.SetInt a b) opened = refl
+length_after (instr.SetNull a) opened = refl
+length_after (instr.Move a b) opened = refl
+length_after (instr.Add a b c) opened = refl
+length_after (instr.Subtract a b c) opened = refl
+length_after (instr.LessThan a b c) opened = refl
+length_after (instr.Equals a b c) opened = refl
+length_after (instr.GlobalAddress a b) opened = refl
+length_after (instr.FieldAddress a b c) opened = refl
+length_after (instr.Load a b) opened = refl
+length_after (instr.Store a b) opened = refl
+length_after (instr.New a b c) opened = refl
+length_after (instr.Jump a) opened = refl
+length_after (instr.JumpIfZero a b) opened = refl
+length_after (instr.Call a b c) opened = refl
+length_after (instr.Return a) opened = refl
+length_after (instr.Output a) opened = refl
 
 -- what indexing gives past the end, where nothing is read
 abbrev pub no_instr : Instr
@@ -39,7 +39,7 @@ pub stands_at : (code : List Instr) (pc : ℕ) → pc < length code → slice_ge
 stands_at code pc low = slice_get-get_or code pc no_instr low
 
 -- a section more at most
-pub depth_grows : (i : Instr) (depth : ℕ) → depth_behind i depth ≤ depth + 1
+pub depth_grows : (i : Instr) (depth : ℕ) → depth_after i depth ≤ depth + 1
 depth_grows (instr.Acquire s) depth = omega arith
 depth_grows instr.Release depth = omega arith
 depth_grows (instr.SetInt a b) depth = omega arith
@@ -65,13 +65,13 @@ pub record IsDepth (code : List Instr) (pc depth : ℕ) : Type 0 where
   pub count : depth ≡ length (open_at code pc)
   pub bound : depth ≤ pc
 
-pub depth_more : (code : List Instr) (pc depth next : ℕ) (i : Instr) → slice_get code pc ≡ Some i → IsDepth code pc depth → next ≡ depth_behind i depth → IsDepth code (pc + 1) next
+pub depth_more : (code : List Instr) (pc depth next : ℕ) (i : Instr) → slice_get code pc ≡ Some i → IsDepth code pc depth → next ≡ depth_after i depth → IsDepth code (pc + 1) next
 depth_more code pc depth next i stands d e =
     let one : suc pc ≡ pc + 1 = omega arith in
     record {
       count = e
-          ∙ ap (depth_behind i) d.count
-          ∙ sym (length_behind i (open_at code pc))
+          ∙ ap (depth_after i) d.count
+          ∙ sym (length_after i (open_at code pc))
           ∙ ap (λ o. length (open_behind o (open_at code pc))) (sym stands)
           ∙ ap (λ (n : ℕ). length (open_at code n)) one;
       bound = omega (arith, depth_grows i depth, e, d.bound);

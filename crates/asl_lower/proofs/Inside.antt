@@ -45,14 +45,14 @@ distinct_rest : (xs : List ℕ) → AreDistinct xs → AreDistinct (without_inne
 distinct_rest [] h = tt
 distinct_rest (x ∷ xs) h = h.1
 
-distinct_behind : (l : Lowered) → HasLayout l → (pc : ℕ) (i : Option Instr) → slice_get l.code pc ≡ i → AreDistinct (open_at l.code pc) → AreDistinct (open_behind i (open_at l.code pc))
-distinct_behind l lay pc (Some (instr.Acquire n)) e h = (not_open l lay pc n e, h)
-distinct_behind l lay pc (Some instr.Release) e h = distinct_rest (open_at l.code pc) h
-distinct_behind l lay pc i e h = h
+distinct_after : (l : Lowered) → HasLayout l → (pc : ℕ) (i : Option Instr) → slice_get l.code pc ≡ i → AreDistinct (open_at l.code pc) → AreDistinct (open_behind i (open_at l.code pc))
+distinct_after l lay pc (Some (instr.Acquire n)) e h = (not_open l lay pc n e, h)
+distinct_after l lay pc (Some instr.Release) e h = distinct_rest (open_at l.code pc) h
+distinct_after l lay pc i e h = h
 
 pub open_distinct : (l : Lowered) → HasLayout l → (pc : ℕ) → AreDistinct (open_at l.code pc)
 open_distinct l lay zero = tt
-open_distinct l lay (suc pc) = distinct_behind l lay pc (slice_get l.code pc) refl (open_distinct l lay pc)
+open_distinct l lay (suc pc) = distinct_after l lay pc (slice_get l.code pc) refl (open_distinct l lay pc)
 
 -- the outermost of the open sections
 pub outermost_among : (xs : List ℕ) (n : ℕ) → outermost xs ≡ Some n → IsTrue (is_among xs n)
@@ -122,11 +122,11 @@ section_entered l lay n s e =
     open_inside l lay s.function (suc s.acquire) n (section_body l lay n (suc s.acquire) t) t
 
 -- the sections that are open after an `acq` and after a `rel`
-pub opened_behind_acquire : (l : Lowered) (pc n : ℕ) → slice_get l.code pc ≡ Some (instr.Acquire n) → open_at l.code (suc pc) ≡ n ∷ open_at l.code pc
-opened_behind_acquire l pc n e = ap (λ i. open_behind i (open_at l.code pc)) e
+pub opened_after_acquire : (l : Lowered) (pc n : ℕ) → slice_get l.code pc ≡ Some (instr.Acquire n) → open_at l.code (suc pc) ≡ n ∷ open_at l.code pc
+opened_after_acquire l pc n e = ap (λ i. open_behind i (open_at l.code pc)) e
 
-pub opened_behind_release : (l : Lowered) (pc : ℕ) → slice_get l.code pc ≡ Some instr.Release → open_at l.code (suc pc) ≡ without_innermost (open_at l.code pc)
-opened_behind_release l pc e = ap (λ i. open_behind i (open_at l.code pc)) e
+pub opened_after_release : (l : Lowered) (pc : ℕ) → slice_get l.code pc ≡ Some instr.Release → open_at l.code (suc pc) ≡ without_innermost (open_at l.code pc)
+opened_after_release l pc e = ap (λ i. open_behind i (open_at l.code pc)) e
 
 -- at the end of a section it is the innermost that is open
 pub end_innermost : (l : Lowered) → HasLayout l → (pc n : ℕ) → release_of l n ≡ Some pc → (s : Section) × (slice_get l.sections n ≡ Some s) × (open_at l.code pc ≡ n ∷ open_at l.code s.acquire)
@@ -153,7 +153,7 @@ outermost_end l lay pc n e out =
 -- after it nothing is open
 pub outermost_left : (l : Lowered) → HasLayout l → (pc n : ℕ) → release_of l n ≡ Some pc → outermost (open_at l.code pc) ≡ Some n → open_at l.code (suc pc) ≡ []
 outermost_left l lay pc n e out =
-    opened_behind_release l pc (end_stands l lay pc n e) ∙ ap without_innermost (outermost_end l lay pc n e out)
+    opened_after_release l pc (end_stands l lay pc n e) ∙ ap without_innermost (outermost_end l lay pc n e out)
 
 -- until then it stays the outermost, whatever the step
 outermost_entered : (m : ℕ) (xs : List ℕ) (n : ℕ) → outermost xs ≡ Some n → outermost (m ∷ xs) ≡ Some n
@@ -167,12 +167,12 @@ outermost_released l lay pc n (x ∷ []) e o out other =
     absurd (other (ap (release_of l) (sym same) ∙ lay.sections.left pc x [] e o))
 outermost_released l lay pc n (x ∷ y ∷ xs) e o out other = out
 
-outermost_behind : (l : Lowered) → HasLayout l → (pc n : ℕ) (i : Instr) → slice_get l.code pc ≡ Some i → outermost (open_at l.code pc) ≡ Some n → (release_of l n ≡ Some pc → ⊥) → outermost (open_behind (Some i) (open_at l.code pc)) ≡ Some n
-outermost_behind l lay pc n (instr.Acquire m) e out other = outermost_entered m (open_at l.code pc) n out
-outermost_behind l lay pc n instr.Release e out other =
+outermost_after : (l : Lowered) → HasLayout l → (pc n : ℕ) (i : Instr) → slice_get l.code pc ≡ Some i → outermost (open_at l.code pc) ≡ Some n → (release_of l n ≡ Some pc → ⊥) → outermost (open_behind (Some i) (open_at l.code pc)) ≡ Some n
+outermost_after l lay pc n (instr.Acquire m) e out other = outermost_entered m (open_at l.code pc) n out
+outermost_after l lay pc n instr.Release e out other =
     outermost_released l lay pc n (open_at l.code pc) e refl out other
-outermost_behind l lay pc n i e out other = out
+outermost_after l lay pc n i e out other = out
 
 pub outermost_stays : (l : Lowered) → HasLayout l → (pc to n : ℕ) (i : Instr) → slice_get l.code pc ≡ Some i → FlowsTo i pc to → outermost (open_at l.code pc) ≡ Some n → (release_of l n ≡ Some pc → ⊥) → outermost (open_at l.code to) ≡ Some n
 outermost_stays l lay pc to n i e goes out other =
-    ap outermost (lay.nested.steps pc to i e goes) ∙ outermost_behind l lay pc n i e out other
+    ap outermost (lay.nested.steps pc to i e goes) ∙ outermost_after l lay pc n i e out other

@@ -14,7 +14,7 @@ use Rattle.asl_lower.specs.Region.{open_at, is_among, InSection}
 use Rattle.asl_lower.specs.Facts.{HasLayout}
 use Rattle.asl_lower.specs.Size.{stmt_size, block_size}
 use Rattle.asl_lower.specs.Outside.{or_else, value_access, stmt_access, block_access, else_access, value_callees, stmt_callees, block_callees}
-use Rattle.asl_lower.proofs.Balance.{opened, behind, moves_balance, stmt_balance, block_balance}
+use Rattle.asl_lower.proofs.Balance.{opened, opened_next, moves_balance, stmt_balance, block_balance}
 use Rattle.asl_lower.proofs.Sized.{stmt_sized, block_sized}
 use Rattle.asl_lower.proofs.Grows.{Precedes, by_moves, by_stmt, by_block, by_else}
 use Rattle.asl_lower.proofs.JudgedCode.{Judged, judged_none, judged_join, is_other, judged_other, judged_access, judged_call}
@@ -89,7 +89,7 @@ mutual
   judged_stmt sc l lay (OutStatement x) p h none = judged_other l p.pc (instr.Output (register sc x)) h refl
   judged_stmt sc l lay (IfStatement x a e) p h none =
       let q : Place = past_block a (next p) in
-      let here : opened l (next p) ≡ [] = behind l p _ h.0 ∙ none in
+      let here : opened l (next p) ≡ [] = opened_next l p _ h.0 ∙ none in
       let there : opened l q ≡ [] = block_balance sc l a (next p) h.1 ∙ here in
       let g : Precedes (next p) q = by_block a (next p) in
       let k : Precedes q (past_else e q) = by_else e q in
@@ -102,7 +102,7 @@ mutual
       judged_join l p.pc (suc p.pc) (past_else e q).pc None (or_else (block_access a (suc p.pc)) (else_access e (suc p.pc + block_size a))) [] (block_callees sc.functions a ++ block_callees sc.functions e) (omega arith) (omega (arith, g.pc, k.pc)) test both
   judged_stmt sc l lay (WhileStatement x a) p h none =
       let q : Place = past_block a (next p) in
-      let here : opened l (next p) ≡ [] = behind l p _ h.0 ∙ none in
+      let here : opened l (next p) ≡ [] = opened_next l p _ h.0 ∙ none in
       let g : Precedes (next p) q = by_block a (next p) in
       let test = judged_other l p.pc _ h.0 refl in
       let body = judged_block sc l lay a (next p) h.1 here in
@@ -127,7 +127,7 @@ mutual
   judged_else sc l lay NoMore p h none = judged_none l p.pc
   judged_else sc l lay (Then s b) p h none =
       let q : Place = past_stmt s (next p) in
-      let here : opened l (next p) ≡ [] = behind l p _ h.0 ∙ none in
+      let here : opened l (next p) ≡ [] = opened_next l p _ h.0 ∙ none in
       let there : opened l q ≡ [] = stmt_balance sc l s (next p) h.1 ∙ here in
       let g : Precedes (next p) q = by_stmt s (next p) in
       let k : Precedes q (past_block b q) = by_block b q in

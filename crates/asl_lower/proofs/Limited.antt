@@ -98,9 +98,9 @@ mutual
 
 function_counts : (f : w.Function) (rest : List Token) (p : Place) → (past_function (function_meaning f) p).section + weigh is_atomic rest ≤ p.section + weigh is_atomic (function_on f rest)
 function_counts f rest p =
-    let behind : List Token = Fixed mark.Return ∷ Name f.returned ∷ Fixed mark.Semicolon ∷ Fixed mark.CloseBrace ∷ rest in
-    let head : List Token = Fixed mark.CloseParen ∷ Fixed mark.OpenBrace ∷ block_on f.body behind in
-    omega (arith, names_count f.parameters head, block_counts f.body behind p)
+    let tail : List Token = Fixed mark.Return ∷ Name f.returned ∷ Fixed mark.Semicolon ∷ Fixed mark.CloseBrace ∷ rest in
+    let head : List Token = Fixed mark.CloseParen ∷ Fixed mark.OpenBrace ∷ block_on f.body tail in
+    omega (arith, names_count f.parameters head, block_counts f.body tail p)
 
 items_count : (is : List w.Item) (p : Place) → (past_functions (functions_of (map item_meaning is)) p).section ≤ p.section + weigh is_atomic (program_on is [])
 items_count [] p = omega arith
@@ -164,19 +164,19 @@ twice_function gs fs ps (UsesGlobal y ∷ ms) x e f n = twice_function gs fs ps 
 twice_function gs fs ps (CallsFunction y k ∷ ms) x e f n = twice_function gs fs ps ms x e f n
 
 -- what is declared twice nowhere is not in the rest
-twice_behind : (gs fs ps : Names) (ms ns : List Mention) → first_twice gs fs ps (ms ++ ns) ≡ None → (gs' : Names) × (fs' : Names) × (ps' : Names) × (first_twice gs' fs' ps' ns ≡ None) × ((x : List ℕ) → fs x ≡ true → fs' x ≡ true)
-twice_behind gs fs ps [] ns e = (gs, fs, ps, e, λ x f. f)
-twice_behind gs fs ps (DeclaresGlobal y ∷ ms) ns e =
-    twice_behind (with_name y gs) fs ps ms ns (goes_on (gs y) y (first_twice (with_name y gs) fs ps (ms ++ ns)) e).1
-twice_behind gs fs ps (DeclaresFunction y ∷ ms) ns e =
-    let t = twice_behind gs (with_name y fs) (λ q. false) ms ns (goes_on (fs y) y (first_twice gs (with_name y fs) (λ q. false) (ms ++ ns)) e).1 in
+twice_after : (gs fs ps : Names) (ms ns : List Mention) → first_twice gs fs ps (ms ++ ns) ≡ None → (gs' : Names) × (fs' : Names) × (ps' : Names) × (first_twice gs' fs' ps' ns ≡ None) × ((x : List ℕ) → fs x ≡ true → fs' x ≡ true)
+twice_after gs fs ps [] ns e = (gs, fs, ps, e, λ x f. f)
+twice_after gs fs ps (DeclaresGlobal y ∷ ms) ns e =
+    twice_after (with_name y gs) fs ps ms ns (goes_on (gs y) y (first_twice (with_name y gs) fs ps (ms ++ ns)) e).1
+twice_after gs fs ps (DeclaresFunction y ∷ ms) ns e =
+    let t = twice_after gs (with_name y fs) (λ q. false) ms ns (goes_on (fs y) y (first_twice gs (with_name y fs) (λ q. false) (ms ++ ns)) e).1 in
     (t.0, t.1, t.2, t.3, λ x f. t.4 x (or_second (bytes_eq y x) (fs x) f))
-twice_behind gs fs ps (DeclaresParameter y ∷ ms) ns e =
-    twice_behind gs fs (with_name y ps) ms ns (goes_on (ps y) y (first_twice gs fs (with_name y ps) (ms ++ ns)) e).1
-twice_behind gs fs ps (AssignsLocal y ∷ ms) ns e = twice_behind gs fs ps ms ns e
-twice_behind gs fs ps (UsesLocal y ∷ ms) ns e = twice_behind gs fs ps ms ns e
-twice_behind gs fs ps (UsesGlobal y ∷ ms) ns e = twice_behind gs fs ps ms ns e
-twice_behind gs fs ps (CallsFunction y k ∷ ms) ns e = twice_behind gs fs ps ms ns e
+twice_after gs fs ps (DeclaresParameter y ∷ ms) ns e =
+    twice_after gs fs (with_name y ps) ms ns (goes_on (ps y) y (first_twice gs fs (with_name y ps) (ms ++ ns)) e).1
+twice_after gs fs ps (AssignsLocal y ∷ ms) ns e = twice_after gs fs ps ms ns e
+twice_after gs fs ps (UsesLocal y ∷ ms) ns e = twice_after gs fs ps ms ns e
+twice_after gs fs ps (UsesGlobal y ∷ ms) ns e = twice_after gs fs ps ms ns e
+twice_after gs fs ps (CallsFunction y k ∷ ms) ns e = twice_after gs fs ps ms ns e
 
 -- a program with a `main` of one parameter declares it
 more_declared : (o : Option (List ℕ)) (known : Names) (x : List ℕ) → known x ≡ true → with_declared o known x ≡ true
@@ -224,7 +224,7 @@ main_at all l n (GlobalItem y ∷ is) p gs fs ps h e m =
 main_at all l n (FunctionItem f ∷ is) p gs fs ps h e m =
     let own : List Mention = map DeclaresParameter f.parameters ++ (block_mentions f.body ++ UsesLocal f.returned ∷ []) in
     let k = goes_on (fs f.name) f.name (first_twice gs (with_name f.name fs) (λ q. false) (own ++ mentions is)) e in
-    let t = twice_behind gs (with_name f.name fs) (λ q. false) own (mentions is) k.1 in
+    let t = twice_after gs (with_name f.name fs) (λ q. false) own (mentions is) k.1 in
     main_step l n (number_of (function_names (functions_of is)) (codes "main")) (length f.parameters) (bytes_eq f.name (codes "main")) (length f.parameters == 1) (has_main is) (entry_of f p) h.0.in_table refl (eqb-true (length f.parameters) 1)
     (λ here again. twice_function t.0 t.1 t.2 (mentions is) (codes "main") t.3 (t.4 (codes "main") (or_first (bytes_eq f.name (codes "main")) (fs (codes "main")) here)) (main_named is again))
     (λ again. main_at all l (suc n) is (past_function f p) t.0 t.1 t.2 h.1 t.3 again) m

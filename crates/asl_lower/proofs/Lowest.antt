@@ -38,8 +38,8 @@ first_found l number start end pc s bare none f =
     }
 
 -- one body more
-pub none_behind : (l : Lowered) → HasLayout l → (number start end : ℕ) → Spans l number start end → ((pc : ℕ) → IsBare l number → start ≤ pc → pc < end → ¬ IsOutsideAccess l.code pc) → NoneBefore l start → NoneBefore l end
-none_behind l lay number start end s clear none function pc a =
+pub none_after : (l : Lowered) → HasLayout l → (number start end : ℕ) → Spans l number start end → ((pc : ℕ) → IsBare l number → start ≤ pc → pc < end → ¬ IsOutsideAccess l.code pc) → NoneBefore l start → NoneBefore l end
+none_after l lay number start end s clear none function pc a =
     elim (cases_lt pc end) [
       | inr past ↦ past
       | inl inside ↦ (let low = none function pc a in

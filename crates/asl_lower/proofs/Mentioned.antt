@@ -127,7 +127,7 @@ functions_declared (FunctionItem f ∷ is) x e =
       | inl here ↦ or_first (bytes_eq f.name x) others here
       | inr there ↦ elim (names_of_both Functions own (mentions is) x there) [
         | inl inside ↦ absurd (no_functions f x inside)
-        | inr behind ↦ or_second (bytes_eq f.name x) others (functions_declared is x behind)
+        | inr later ↦ or_second (bytes_eq f.name x) others (functions_declared is x later)
       ]
     ]
 

@@ -1,5 +1,5 @@
 -- What a map of numbers says of a name, and one name more.
-use Rattle.std.proofs.Common.{◌≡◌, ℕ, suc, ◌+◌, ◌<◌, ◌≤◌, Bool, true, false, Option, Some, None, if◌then◌else◌, List, [], ◌∷◌, length, drop, get_or, bytes_eq, refl, sym, ap, ◌∙◌, arith, drop-cons}
+use Rattle.std.proofs.Common.{◌≡◌, ℕ, suc, ◌<◌, Bool, true, false, Some, None, if◌then◌else◌, List, [], ◌∷◌, length, drop, get_or, bytes_eq, refl, sym, ap, ◌∙◌, arith, drop-cons}
 use Rattle.std.specs.Borrow.{Bor}
 use Rattle.asl_syntax.specs.Rules.{Counts, no_count, with_count}
 use Rattle.asl_lower.specs.Names.{number_of}

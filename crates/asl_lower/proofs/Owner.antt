@@ -6,8 +6,8 @@ use Rattle.asl_code.specs.declared.image.Function as entry
 use Rattle.asl_lower.specs.Region.{start_of, owner_of}
 
 -- a body begins where those before it end
-pub start_behind : (f : entry.Function) (fs : List entry.Function) (n : ℕ) → start_of (f ∷ fs) (suc n) ≡ f.len + start_of fs n
-start_behind f fs n = sum_by-cons (λ (x : entry.Function). x.len) f (take n fs)
+pub start_after : (f : entry.Function) (fs : List entry.Function) (n : ℕ) → start_of (f ∷ fs) (suc n) ≡ f.len + start_of fs n
+start_after f fs n = sum_by-cons (λ (x : entry.Function). x.len) f (take n fs)
 
 pub owner_is : (fs : List entry.Function) (n pc : ℕ) (f : entry.Function) → slice_get fs n ≡ Some f → start_of fs n ≤ pc → pc < start_of fs n + f.len → owner_of fs pc ≡ n
 owner_is [] n pc f e low high = cc
@@ -16,7 +16,7 @@ owner_is (g ∷ fs) zero pc f e low high =
     let inside : pc < g.len = omega (arith, ap (λ (x : entry.Function). x.len) same, high) in
     cond-true (nat_lt pc g.len) 0 (suc (owner_of fs (pc - g.len))) (lt-ltb pc g.len inside)
 owner_is (g ∷ fs) (suc n) pc f e low high =
-    let s = start_behind g fs n in
+    let s = start_after g fs n in
     cond-false (nat_lt pc g.len) 0 (suc (owner_of fs (pc - g.len))) (le-ltb pc g.len (omega (arith, s, low)))
     ∙ ap suc (owner_is fs n (pc - g.len) f e (omega (arith, s, low)) (omega (arith, s, low, high)))
 

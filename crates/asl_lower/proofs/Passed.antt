@@ -136,10 +136,10 @@ mutual
   stmt_cells : (s : w.Stmt) (rest before : List Token) → NoneOver before (stmt_on s rest) → StmtCells (stmt_meaning s)
   stmt_cells (w.Simple l) rest before h = line_cells l (Fixed mark.Semicolon ∷ rest) before h
   stmt_cells (w.IfStmt x a e) rest before h =
-      let behind : List Token = Fixed mark.CloseBrace ∷ else_on e rest in
+      let tail : List Token = Fixed mark.CloseBrace ∷ else_on e rest in
       let head : List Token = Fixed mark.OpenBrace ∷ Name x ∷ Fixed mark.If ∷ before in
-      let b = block_passed a behind head h.1.1.1 in
-      (block_cells a behind head h.1.1.1, else_cells e rest (Fixed mark.CloseBrace ∷ b.0) b.1.1)
+      let b = block_passed a tail head h.1.1.1 in
+      (block_cells a tail head h.1.1.1, else_cells e rest (Fixed mark.CloseBrace ∷ b.0) b.1.1)
   stmt_cells (w.WhileStmt x a) rest before h =
       block_cells a (Fixed mark.CloseBrace ∷ rest) (Fixed mark.OpenBrace ∷ Name x ∷ Fixed mark.While ∷ before) h.1.1.1
   stmt_cells (w.AtomicStmt a) rest before h =
@@ -171,13 +171,13 @@ items_within (w.GlobalItem x ∷ is) before h =
     items_within is (Fixed mark.Semicolon ∷ Name x ∷ Fixed mark.Global ∷ before) h.1.1.1
 items_within (w.FunctionItem f ∷ is) before h =
     let rest : List Token = program_on is [] in
-    let behind : List Token = Fixed mark.Return ∷ Name f.returned ∷ Fixed mark.Semicolon ∷ Fixed mark.CloseBrace ∷ rest in
-    let head : List Token = Fixed mark.CloseParen ∷ Fixed mark.OpenBrace ∷ block_on f.body behind in
+    let tail : List Token = Fixed mark.Return ∷ Name f.returned ∷ Fixed mark.Semicolon ∷ Fixed mark.CloseBrace ∷ rest in
+    let head : List Token = Fixed mark.CloseParen ∷ Fixed mark.OpenBrace ∷ block_on f.body tail in
     let opening : List Token = Fixed mark.OpenParen ∷ Name f.name ∷ Fixed mark.Fn ∷ before in
     let a = names_passed f.parameters head opening h.1.1.1 in
     let body : List Token = Fixed mark.OpenBrace ∷ Fixed mark.CloseParen ∷ a.0 in
-    let b = block_passed f.body behind body a.1.1.1 in (
-      record { few_parameters = parameters_few f.parameters head opening refl h.1.1.1; cells = block_cells f.body behind body a.1.1.1 },
+    let b = block_passed f.body tail body a.1.1.1 in (
+      record { few_parameters = parameters_few f.parameters head opening refl h.1.1.1; cells = block_cells f.body tail body a.1.1.1 },
       items_within is (Fixed mark.CloseBrace ∷ Fixed mark.Semicolon ∷ Name f.returned ∷ Fixed mark.Return ∷ b.0) b.1.1.1.1.1,
     )
 

@@ -6,7 +6,7 @@ use Rattle.asl_grammar.specs.Written as w
 use Rattle.asl_grammar.specs.Spelling.{later_names_on, names_on, right_on, line_on, stmt_on, block_on, else_on, function_on, program_on}
 use Rattle.asl_grammar.specs.Lex.{tokens_of}
 use Rattle.asl_grammar.specs.Grammar.{bare}
-use Rattle.asl_syntax.specs.Tree.{Function, Item, GlobalItem, FunctionItem}
+use Rattle.asl_syntax.specs.Tree.{Function, Item}
 use Rattle.asl_syntax.specs.Spelled.{right_meaning, line_meaning, stmt_meaning, block_meaning, else_meaning, function_meaning, item_meaning}
 use Rattle.asl_syntax.specs.Parsed.{IsParsed}
 use Rattle.asl_syntax.specs.Mentions.{Mention, DeclaresParameter, UsesLocal, value_mentions, statement_mentions, block_mentions, function_mentions, mentions}
@@ -72,9 +72,9 @@ function_named f rest =
     let g : Function = function_meaning f in
     let last : List Mention = UsesLocal f.returned ∷ [] in
     let own : List Mention = block_mentions g.body ++ last in
-    let behind : List Token = Fixed mark.Return ∷ Name f.returned ∷ Fixed mark.Semicolon ∷ Fixed mark.CloseBrace ∷ rest in
-    let head : List Token = Fixed mark.CloseParen ∷ Fixed mark.OpenBrace ∷ block_on f.body behind in
-    omega (arith, as_many DeclaresParameter f.parameters, length-append (map DeclaresParameter f.parameters) own, length-append (block_mentions g.body) last, names_named f.parameters head, block_named_on f.body behind)
+    let tail : List Token = Fixed mark.Return ∷ Name f.returned ∷ Fixed mark.Semicolon ∷ Fixed mark.CloseBrace ∷ rest in
+    let head : List Token = Fixed mark.CloseParen ∷ Fixed mark.OpenBrace ∷ block_on f.body tail in
+    omega (arith, as_many DeclaresParameter f.parameters, length-append (map DeclaresParameter f.parameters) own, length-append (block_mentions g.body) last, names_named f.parameters head, block_named_on f.body tail)
 
 items_named : (is : List w.Item) → length (mentions (map item_meaning is)) ≤ names_among (program_on is [])
 items_named [] = omega arith

@@ -7,7 +7,6 @@ use Rattle.std.proofs.lemmas.Slice.Eq.{bytes_eq-Decides}
 use Rattle.asl_code.specs.declared.image.Function as entry
 use Rattle.asl_code.specs.declared.instr.Instr.{Instr}
 use Rattle.asl_code.specs.declared.instr.Instr.TheVariants as instr
-use Rattle.asl_grammar.specs.Written as w
 use Rattle.asl_syntax.specs.declared.names.Space.TheVariants.{Globals, Functions, Locals}
 use Rattle.asl_syntax.specs.Tree.{Function, Item, GlobalItem, FunctionItem, globals_of, functions_of}
 use Rattle.asl_syntax.specs.Parsed.{IsParsed}

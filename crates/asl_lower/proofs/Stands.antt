@@ -14,7 +14,7 @@ use Rattle.asl_lower.specs.Lowered.{Lowered, operator_instr, else_target, sectio
 use Rattle.asl_lower.specs.Region.{open_at, sites_before, sections_before}
 use Rattle.asl_lower.proofs.Grows.{Precedes, itself, joined, by_next, by_entered, by_stmt, by_block, by_else}
 use Rattle.asl_lower.proofs.Counts.{Counted, counted_next, counted_entered, stmt_counted, block_counted}
-use Rattle.asl_lower.proofs.Balance.{opened, behind, stmt_balance, block_balance, else_balance}
+use Rattle.asl_lower.proofs.Balance.{opened, opened_next, stmt_balance, block_balance, else_balance}
 
 -- an instruction that only continues to the next, in the same sections, and makes and calls nothing
 abbrev pub is_plain : Instr → Bool
@@ -121,7 +121,7 @@ made_section sc l a p h k =
       enters = h.0;
       leaves = h.2;
       counted = sym k.sections;
-      around = block_balance sc l a (entered p) h.1 ∙ behind l p _ h.0;
+      around = block_balance sc l a (entered p) h.1 ∙ opened_next l p _ h.0;
     }
 
 -- the target of the `jz` of an `if` lies after its block, and nothing more is open there
@@ -135,7 +135,7 @@ target_high (Then s b) p = (joined (by_stmt s (next p)) (by_block b (past_stmt s
 
 target_opened : (sc : Scope) (l : Lowered) (e : Block) (p : Place) → IsLoweredElse sc l e p → open_at l.code (else_target e p) ≡ opened l p
 target_opened sc l NoMore p h = refl
-target_opened sc l (Then s b) p h = behind l p _ h.0
+target_opened sc l (Then s b) p h = opened_next l p _ h.0
 
 mutual
   pub stmt_stands : (sc : Scope) (l : Lowered) (s : Statement) (p : Place) → IsLoweredStmt sc l s p → Counted l p → (pc : ℕ) → p.pc ≤ pc → pc < (past_stmt s p).pc → Stands sc l p (past_stmt s p) pc
@@ -148,7 +148,7 @@ mutual
       elim (cases_lt p.pc pc) [
         | inr less ↦ moved sc l p _ p.pc pc (omega arith)
             (Tests _ _ h.0 (omega (arith, up.pc, target_low e mid)) (target_high e mid)
-            (target_opened sc l e mid h.2 ∙ block_balance sc l a (next p) h.1 ∙ behind l p _ h.0))
+            (target_opened sc l e mid h.2 ∙ block_balance sc l a (next p) h.1 ∙ opened_next l p _ h.0))
         | inl more ↦ elim (cases_lt pc mid.pc) [
           | inl inside ↦ widened sc l (next p) mid p _ pc (by_next p) (by_else e mid) (block_stands sc l a (next p) h.1 (counted_next l p _ h.0 refl refl k) pc more inside)
           | inr past ↦ widened sc l mid (past_else e mid) p _ pc up (itself _) (else_stands sc l e mid h.2 (block_counted sc l a (next p) h.1 (counted_next l p _ h.0 refl refl k)) pc past high)
@@ -163,7 +163,7 @@ mutual
         | inl more ↦ elim (cases_lt pc mid.pc) [
           | inl inside ↦ widened sc l (next p) mid p _ pc (by_next p) (by_next mid) (block_stands sc l a (next p) h.1 (counted_next l p _ h.0 refl refl k) pc more inside)
           | inr past ↦ moved sc l p _ mid.pc pc (omega arith)
-              (Jumps _ h.2 (omega arith) (omega (arith, up.pc)) (sym (block_balance sc l a (next p) h.1 ∙ behind l p _ h.0)))
+              (Jumps _ h.2 (omega arith) (omega (arith, up.pc)) (sym (block_balance sc l a (next p) h.1 ∙ opened_next l p _ h.0)))
         ]
       ]
   stmt_stands sc l (AtomicStatement a) p h k pc low high =

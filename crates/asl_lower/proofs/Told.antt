@@ -28,8 +28,8 @@ owner_found fs i number left pc d low inside e =
     let at = cond-true (nat_lt left f.len) 0 (suc (owner_of (drop (i + 1) fs) (left - f.len))) (lt-ltb left f.len inside) in
     omega (arith, step, at, e)
 
-pub owner_behind : (fs : List entry.Function) (i number left pc : ℕ) → length fs ≤ i → number + owner_of (drop i fs) left ≡ owner_of fs pc → number ≡ owner_of fs pc
-owner_behind fs i number left pc past e =
+pub owner_after : (fs : List entry.Function) (i number left pc : ℕ) → length fs ≤ i → number + owner_of (drop i fs) left ≡ owner_of fs pc → number ≡ owner_of fs pc
+owner_after fs i number left pc past e =
     let none : owner_of (drop i fs) left ≡ owner_of [] left = at_drop_all (λ gs. owner_of gs left) fs i past in
     omega (arith, none, e)
 

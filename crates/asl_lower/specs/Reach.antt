@@ -9,10 +9,10 @@ use Rattle.asl_lower.specs.Lowered.{Lowered}
 use Rattle.asl_lower.specs.Region.{open_at, is_access, InBody, CallsAt}
 
 -- how many sections are open after an instruction, where so many are open before it
-abbrev pub depth_behind : Instr → ℕ → ℕ
-depth_behind (instr.Acquire s) depth = suc depth
-depth_behind instr.Release depth = depth - 1
-depth_behind i depth = depth
+abbrev pub depth_after : Instr → ℕ → ℕ
+depth_after (instr.Acquire s) depth = suc depth
+depth_after instr.Release depth = depth - 1
+depth_after i depth = depth
 
 -- where calls stand: outside all sections, inside one, or anywhere
 pub data Where : Type 0 where

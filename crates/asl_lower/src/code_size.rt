@@ -13,18 +13,18 @@ use asl_syntax::tree::{Item, Statement, Value};
 pub fn has_few_instructions(items: &[Item]) -> bool
     ensures { IsTrue result ↔ ((end_of (map item_of items.now)).pc ≤ 65535) }
 {
-    left_behind_items(Output::MAX_LEN, items).is_some()
+    left_after_items(Output::MAX_LEN, items).is_some()
 }
 
 /// How many of so many instructions are left after the code of the functions, if there are enough.
-fn left_behind_items(most: usize, items: &[Item]) -> Option<usize>
+fn left_after_items(most: usize, items: &[Item]) -> Option<usize>
     ensures enough { IfSome result (λ left. functions_size (functions_of (map item_of items.now)) + left ≡ most) }
     ensures short { IfNone result (most < functions_size (functions_of (map item_of items.now))) }
 {
     let mut left = most;
     for item in items {
         if let Item::Function(function) = item {
-            left = left_behind_block(left, &function.body)?.checked_sub(1)?;
+            left = left_after_block(left, &function.body)?.checked_sub(1)?;
         }
     }
     Some(left)
@@ -32,20 +32,20 @@ fn left_behind_items(most: usize, items: &[Item]) -> Option<usize>
 
 /// How many of so many instructions are left after the code of statements, if there are enough.
 #[cycle(size)]
-fn left_behind_block(most: usize, block: &[Statement]) -> Option<usize>
+fn left_after_block(most: usize, block: &[Statement]) -> Option<usize>
     ensures enough { IfSome result (λ left. block_size (block_of block.now) + left ≡ most) }
     ensures short { IfNone result (most < block_size (block_of block.now)) }
 {
     let mut left = most;
     for statement in block {
-        left = left_behind_statement(left, statement)?;
+        left = left_after_statement(left, statement)?;
     }
     Some(left)
 }
 
 /// How many of so many instructions are left after the code of a statement, if there are enough.
 #[cycle(size)]
-fn left_behind_statement(most: usize, statement: &Statement) -> Option<usize>
+fn left_after_statement(most: usize, statement: &Statement) -> Option<usize>
     ensures enough { IfSome result (λ left. stmt_size (statement_of statement.now) + left ≡ most) }
     ensures short { IfNone result (most < stmt_size (statement_of statement.now)) }
 {
@@ -54,11 +54,11 @@ fn left_behind_statement(most: usize, statement: &Statement) -> Option<usize>
         Statement::Store(_, _) => most.checked_sub(1),
         Statement::Out(_) => most.checked_sub(1),
         Statement::If(_, first, second) => {
-            let left = left_behind_block(most.checked_sub(jumps_of_if(second))?, first)?;
-            left_behind_block(left, second)
+            let left = left_after_block(most.checked_sub(jumps_of_if(second))?, first)?;
+            left_after_block(left, second)
         }
-        Statement::While(_, body) => left_behind_block(most.checked_sub(2)?, body),
-        Statement::Atomic(body) => left_behind_block(most.checked_sub(2)?, body),
+        Statement::While(_, body) => left_after_block(most.checked_sub(2)?, body),
+        Statement::Atomic(body) => left_after_block(most.checked_sub(2)?, body),
     }
 }
 
@@ -74,7 +74,7 @@ pub fn block_size(block: &[Statement]) -> usize
     requires { block_size (block_of block.now) ≤ 65535 }
     ensures { result ≡ block_size (block_of block.now) }
 {
-    Output::MAX_LEN - left_behind_block(Output::MAX_LEN, block).unwrap_or(0)
+    Output::MAX_LEN - left_after_block(Output::MAX_LEN, block).unwrap_or(0)
 }
 
 /// How many instructions the code of a value has.

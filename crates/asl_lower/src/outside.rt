@@ -161,12 +161,12 @@ fn pass_statement(pc: usize, statement: &Statement) -> Result<usize, Access>
         Statement::Store(_, _) => Err(Access { pc: pc as u16 }),
         Statement::Out(_) => Ok(pc + 1),
         Statement::If(_, first, second) => {
-            let behind = pass_block(pc + 1, first)?;
-            pass_block(behind + jumps_over(second), second)
+            let after = pass_block(pc + 1, first)?;
+            pass_block(after + jumps_over(second), second)
         }
         Statement::While(_, body) => {
-            let behind = pass_block(pc + 1, body)?;
-            Ok(behind + 1)
+            let after = pass_block(pc + 1, body)?;
+            Ok(after + 1)
         }
         Statement::Atomic(body) => Ok(pc + block_size(body) + 2),
     }

@@ -4,7 +4,7 @@ ghost use Rattle.std.specs.Prelude.{◌≡◌, ℕ, ◌+◌, ◌<◌, ◌≤◌,
 ghost use Rattle.asl_lower.specs.Region.{open_at, IsInner};
 ghost use Rattle.asl_lower.specs.Facts.{HasLayout};
 ghost use Rattle.asl_lower.specs.LegalLowering.{lowered_of};
-ghost use Rattle.asl_lower.specs.Reach.{depth_behind, where_of, AreAtDepth, IsCalled, IsMarked, KeepsMarks, AreFollowed, Reached};
+ghost use Rattle.asl_lower.specs.Reach.{depth_after, where_of, AreAtDepth, IsCalled, IsMarked, KeepsMarks, AreFollowed, Reached};
 
 use crate::code_draft::CodeDraft;
 use asl_code::Instr;
@@ -26,9 +26,9 @@ enum Calls {
 }
 
 /// How many sections are open after an instruction.
-fn depth_behind(depth: usize, instr: &Instr) -> usize
+fn depth_after(depth: usize, instr: &Instr) -> usize
     requires { depth < 2 ^ 63 }
-    ensures { result ≡ depth_behind instr.now depth }
+    ensures { result ≡ depth_after instr.now depth }
 {
     match instr {
         Instr::Acquire { .. } => depth + 1,
@@ -75,7 +75,7 @@ fn mark_callees(draft: &CodeDraft, marks: &mut Marks, from: usize, end: usize, c
         if let Some(callee) = callee(calls, depth, instr) {
             marks[usize::from(callee)] = true;
         }
-        depth = depth_behind(depth, instr);
+        depth = depth_after(depth, instr);
     }
 }
 

@@ -89,10 +89,10 @@ same_unknown all own (GlobalItem x ∷ is) = same_unknown all own is
 same_unknown all own (FunctionItem f ∷ is) =
     let gs : Names = names_in Globals all in
     let fs : Names = names_in Functions all in
-    let behind : List Mention = body_of f ++ mentions is in
-    part_unheard all behind (body_of f) (mentions is) (body_no_function f)
-    ∙ ap (λ (ls : Names). or_name (first_unknown_use gs fs ls (body_of f)) (first_unheard all behind (mentions is))) (own_names f is)
-    ∙ ap (λ (o : Option (List ℕ)). or_name (first_unknown_use gs fs (names_in Locals (body_of f)) (body_of f)) o) (same_unknown all behind is)
+    let tail : List Mention = body_of f ++ mentions is in
+    part_unheard all tail (body_of f) (mentions is) (body_no_function f)
+    ∙ ap (λ (ls : Names). or_name (first_unknown_use gs fs ls (body_of f)) (first_unheard all tail (mentions is))) (own_names f is)
+    ∙ ap (λ (o : Option (List ℕ)). or_name (first_unknown_use gs fs (names_in Locals (body_of f)) (body_of f)) o) (same_unknown all tail is)
 
 -- ---- numbers of parameters
 
@@ -117,9 +117,9 @@ count_one : (m : Mention) (ms : List Mention) (q : List ℕ) → IsNoFunction m 
 count_one (DeclaresFunction x) ms q h = absurd h
 count_one _ ms q h = refl
 
-count_behind : (ms rest : List Mention) (q : List ℕ) → AllByRecursion IsNoFunction ms → heard_count (ms ++ rest) q ≡ heard_count rest q
-count_behind [] rest q h = refl
-count_behind (m ∷ ms) rest q h = count_one m (ms ++ rest) q h.0 ∙ count_behind ms rest q h.1
+count_after : (ms rest : List Mention) (q : List ℕ) → AllByRecursion IsNoFunction ms → heard_count (ms ++ rest) q ≡ heard_count rest q
+count_after [] rest q h = refl
+count_after (m ∷ ms) rest q h = count_one m (ms ++ rest) q h.0 ∙ count_after ms rest q h.1
 
 or_no : (b : Bool) → (b || false) ≡ b
 or_no true = refl
@@ -131,7 +131,7 @@ count_at (GlobalItem x ∷ is) q = count_at is q
 count_at (FunctionItem f ∷ is) q =
     ap (λ (b : Bool). if b then Some (parameters_first (body_of f ++ mentions is)) else heard_count (body_of f ++ mentions is) q) (or_no (bytes_eq f.name q))
     ∙ ap (λ (n : ℕ). if bytes_eq f.name q then Some n else heard_count (body_of f ++ mentions is) q) (own_count f (mentions is))
-    ∙ ap (λ (o : Option ℕ). if bytes_eq f.name q then Some (length f.parameters) else o) (count_behind (body_of f) (mentions is) q (body_no_function f) ∙ count_at is q)
+    ∙ ap (λ (o : Option ℕ). if bytes_eq f.name q then Some (length f.parameters) else o) (count_after (body_of f) (mentions is) q (body_no_function f) ∙ count_at is q)
 
 pub same_counts : (is : List Item) → heard_count (mentions is) ≡ parameter_counts is
 same_counts is = fun_ext (λ (q : List ℕ). count_at is q)
@@ -142,9 +142,9 @@ main_one : (m : Mention) (ms : List Mention) → IsNoFunction m → heard_main (
 main_one (DeclaresFunction x) ms h = absurd h
 main_one _ ms h = refl
 
-main_behind : (ms rest : List Mention) → AllByRecursion IsNoFunction ms → heard_main (ms ++ rest) ≡ heard_main rest
-main_behind [] rest h = refl
-main_behind (m ∷ ms) rest h = main_one m (ms ++ rest) h.0 ∙ main_behind ms rest h.1
+main_after : (ms rest : List Mention) → AllByRecursion IsNoFunction ms → heard_main (ms ++ rest) ≡ heard_main rest
+main_after [] rest h = refl
+main_after (m ∷ ms) rest h = main_one m (ms ++ rest) h.0 ∙ main_after ms rest h.1
 
 pub same_main : (is : List Item) → heard_main (mentions is) ≡ has_main is
 same_main [] = refl
@@ -152,4 +152,4 @@ same_main (GlobalItem x ∷ is) = same_main is
 same_main (FunctionItem f ∷ is) =
     ap (λ (b : Bool). (b && parameters_first (body_of f ++ mentions is) == 1) || heard_main (body_of f ++ mentions is)) (or_no (bytes_eq f.name (codes "main")))
     ∙ ap (λ (n : ℕ). (bytes_eq f.name (codes "main") && n == 1) || heard_main (body_of f ++ mentions is)) (own_count f (mentions is))
-    ∙ ap (λ (b : Bool). (bytes_eq f.name (codes "main") && length f.parameters == 1) || b) (main_behind (body_of f) (mentions is) (body_no_function f) ∙ same_main is)
+    ∙ ap (λ (b : Bool). (bytes_eq f.name (codes "main") && length f.parameters == 1) || b) (main_after (body_of f) (mentions is) (body_no_function f) ∙ same_main is)

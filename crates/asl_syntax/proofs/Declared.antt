@@ -147,8 +147,8 @@ once_from gs fs ps (FunctionItem f ∷ is) e =
     let k = goes_on (fs f.name) f.name (first_twice gs (with_name f.name fs) no_name ((own ++ body) ++ mentions is)) e in
     let split = sym (ap (λ l. first_twice gs (with_name f.name fs) no_name l) (append_assoc own body (mentions is))) ∙ k.1 in
     let mine = parameters_new gs (with_name f.name fs) no_name f.parameters (body ++ mentions is) split in
-    let behind = sym (body_passes gs (with_name f.name fs) mine.1.0 f (mentions is)) ∙ mine.1.1 in
-    let rest = once_from gs (with_name f.name fs) mine.1.0 is behind in
+    let later = sym (body_passes gs (with_name f.name fs) mine.1.0 f (mentions is)) ∙ mine.1.1 in
+    let rest = once_from gs (with_name f.name fs) mine.1.0 is later in
     (rest.0, one_more_new fs f.name (names_of is) k.0 rest.1, (mine.0.1, rest.2))
 
 once_to : (gs fs ps : Names) (is : List Item) → AreNew gs (globals_of is) → AreNew fs (names_of is) → HaveOwn is → first_twice gs fs ps (mentions is) ≡ None

@@ -65,9 +65,9 @@ mutual
 -- a function weighs its `fn` at least
 function_weighs : (g : Token → ℕ) (f : w.Function) (rest : List Token) → g (Fixed mark.Fn) + weigh g rest ≤ weigh g (function_on f rest)
 function_weighs g f rest =
-    let behind : List Token = Fixed mark.Return ∷ Name f.returned ∷ Fixed mark.Semicolon ∷ Fixed mark.CloseBrace ∷ rest in
-    let head : List Token = Fixed mark.CloseParen ∷ Fixed mark.OpenBrace ∷ block_on f.body behind in
-    omega (arith, names_weigh g f.parameters head, block_weighs g f.body behind)
+    let tail : List Token = Fixed mark.Return ∷ Name f.returned ∷ Fixed mark.Semicolon ∷ Fixed mark.CloseBrace ∷ rest in
+    let head : List Token = Fixed mark.CloseParen ∷ Fixed mark.OpenBrace ∷ block_on f.body tail in
+    omega (arith, names_weigh g f.parameters head, block_weighs g f.body tail)
 
 -- the words that limits count
 abbrev is_fn : Token → ℕ

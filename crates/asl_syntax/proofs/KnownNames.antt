@@ -18,13 +18,13 @@ is_some_with true n o = refl
 is_some_with false n o = refl
 
 -- a change after a row in which the name does not stand
-behind_step : (b : Bool) (x : List ℕ) (n : ℕ) (front : Counts) (old new : Option ℕ) (q : List ℕ) → bytes_eq x q ≡ b → front x ≡ None → new ≡ cond b (Some n) old → option_or (front q) new ≡ cond b (Some n) (option_or (front q) old)
-behind_step true x n front old new q same none e =
+after_step : (b : Bool) (x : List ℕ) (n : ℕ) (front : Counts) (old new : Option ℕ) (q : List ℕ) → bytes_eq x q ≡ b → front x ≡ None → new ≡ cond b (Some n) old → option_or (front q) new ≡ cond b (Some n) (option_or (front q) old)
+after_step true x n front old new q same none e =
     ap (λ o. option_or o new) (ap front (sym ((bytes_eq-Decides x q).0 same)) ∙ none) ∙ e
-behind_step false x n front old new q same none e = ap (option_or (front q)) e
+after_step false x n front old new q same none e = ap (option_or (front q)) e
 
-pub with_behind : (x : List ℕ) (n : ℕ) (front : Counts) (old new : Option ℕ) (q : List ℕ) → front x ≡ None → new ≡ cond (bytes_eq x q) (Some n) old → option_or (front q) new ≡ cond (bytes_eq x q) (Some n) (option_or (front q) old)
-with_behind x n front old new q none e = behind_step (bytes_eq x q) x n front old new q refl none e
+pub with_tree : (x : List ℕ) (n : ℕ) (front : Counts) (old new : Option ℕ) (q : List ℕ) → front x ≡ None → new ≡ cond (bytes_eq x q) (Some n) old → option_or (front q) new ≡ cond (bytes_eq x q) (Some n) (option_or (front q) old)
+with_tree x n front old new q none e = after_step (bytes_eq x q) x n front old new q refl none e
 
 -- the row in two parts
 append_step : (b : Bool) (v : ℕ) (whole front back : Option ℕ) → whole ≡ option_or front back → cond b (Some v) whole ≡ option_or (cond b (Some v) front) back
@@ -49,7 +49,7 @@ with_pushed es fs k n rest q e none =
     ap (λ l. option_or (number_among l q) rest) e
     ∙ ap (λ o. option_or o rest) (among_append es ((k, n) ∷ []) q)
     ∙ or_assoc (number_among es q) (number_among ((k, n) ∷ []) q) rest
-    ∙ with_behind k.now n (number_among es) rest _ q none (or_one (bytes_eq k.now q) n rest)
+    ∙ with_tree k.now n (number_among es) rest _ q none (or_one (bytes_eq k.now q) n rest)
 
 -- none of the names in front, and not the next one
 none_step : (b : Bool) (v : ℕ) → b ≡ false → cond b (Some v) None ≡ None

@@ -10,7 +10,7 @@ use Rattle.asl_syntax.specs.Tree.{Function, functions_of}
 use Rattle.asl_syntax.specs.Spelled.{line_meaning, stmt_meaning, block_meaning, else_meaning, item_meaning}
 use Rattle.asl_syntax.specs.WithinLimits.{statement_depth, block_depth}
 use Rattle.asl_syntax.proofs.EachLimit.{BracesPass}
-use Rattle.asl_syntax.proofs.LimitCounts.{behind_body}
+use Rattle.asl_syntax.proofs.LimitCounts.{after_body}
 
 -- ---- lines
 
@@ -61,7 +61,7 @@ inside n d ts rest p = (
   λ h. (let low : n < 64 = omega (arith, h.0) in (low, (p (omega (arith, low))).1 (omega (arith, h.0), h.1))),
 )
 
--- one part and another behind it
+-- one part and another after it
 both_open : (n a b : ℕ) (ts us rest : List Token) → Opens n a ts us → Opens n b us rest → Opens n (max a b) ts rest
 both_open n a b ts us rest p q = (
   λ h. (let k = p.0 h in let m = q.0 k.1 in (omega (arith, k.0, m.0), m.1)),
@@ -95,7 +95,7 @@ mutual
   block_opens (w.More s b) rest n low =
       both_open n (statement_depth (stmt_meaning s)) (block_depth (block_meaning b)) (stmt_on s (block_on b rest)) (block_on b rest) rest (stmt_opens s (block_on b rest) n low) (block_opens b rest n low)
 
-  -- behind a block, which has opened one already
+  -- after a block, which has opened one already
   else_opens : (e : w.Else) (rest : List Token) (n : ℕ) → n < 64 → Opens n (suc (block_depth (else_meaning e))) (else_on e rest) rest
   else_opens w.NoElse rest n low = (λ h. (omega (arith, low), h), λ h. h.1)
   else_opens (w.Otherwise b) rest n low = in_braces b rest n (block_opens b)
@@ -107,9 +107,9 @@ blocks_in_one_another [] = (λ h. h, λ h. h)
 blocks_in_one_another (w.GlobalItem x ∷ is) = blocks_in_one_another is
 blocks_in_one_another (w.FunctionItem f ∷ is) =
     let k = blocks_in_one_another is in
-    let behind = behind_body f.returned (program_on is []) in
-    let h = names_pass f.parameters (Fixed mark.CloseParen ∷ Fixed mark.OpenBrace ∷ block_on f.body behind) 0 in
-    let b = block_opens f.body behind 1 (omega arith) in (
+    let after = after_body f.returned (program_on is []) in
+    let h = names_pass f.parameters (Fixed mark.CloseParen ∷ Fixed mark.OpenBrace ∷ block_on f.body after) 0 in
+    let b = block_opens f.body after 1 (omega arith) in (
       λ e. (let p = b.0 (h.0 e).1 in (omega (arith, p.0), k.0 p.1)),
       λ e. h.1 (omega arith, b.1 (omega (arith, e.0), k.1 e.1)),
     )

@@ -129,9 +129,9 @@ parameters (x ∷ xs) rest =
 
 -- ---- items
 
--- what stands behind the statements of a function
-abbrev pub behind_body : List ℕ → List Token → List Token
-behind_body x rest = Fixed mark.Return ∷ Name x ∷ Fixed mark.Semicolon ∷ Fixed mark.CloseBrace ∷ rest
+-- what stands after the statements of a function
+abbrev pub after_body : List ℕ → List Token → List Token
+after_body x rest = Fixed mark.Return ∷ Name x ∷ Fixed mark.Semicolon ∷ Fixed mark.CloseBrace ∷ rest
 
 -- as many as the tree has
 pub record Counted (is : List w.Item) : Type 0 where
@@ -146,9 +146,9 @@ counted (w.GlobalItem x ∷ is) =
     record { functions = k.functions; globals = ap suc k.globals; sections = k.sections }
 counted (w.FunctionItem f ∷ is) =
     let k = counted is in
-    let behind = behind_body f.returned (program_on is []) in
-    let h = names_add f.parameters (Fixed mark.CloseParen ∷ Fixed mark.OpenBrace ∷ block_on f.body behind) in
-    let b = block_adds f.body behind in
+    let after = after_body f.returned (program_on is []) in
+    let h = names_add f.parameters (Fixed mark.CloseParen ∷ Fixed mark.OpenBrace ∷ block_on f.body after) in
+    let b = block_adds f.body after in
     record {
       functions = ap suc (h.functions ∙ b.functions ∙ k.functions);
       globals = h.globals ∙ b.globals ∙ k.globals;
@@ -161,7 +161,7 @@ few_parameters [] = both_same
 few_parameters (w.GlobalItem x ∷ is) = few_parameters is
 few_parameters (w.FunctionItem f ∷ is) =
     let k = few_parameters is in
-    let behind = behind_body f.returned (program_on is []) in
-    let h = parameters f.parameters (Fixed mark.OpenBrace ∷ block_on f.body behind) in
-    let b = block_adds f.body behind in
+    let after = after_body f.returned (program_on is []) in
+    let h = parameters f.parameters (Fixed mark.OpenBrace ∷ block_on f.body after) in
+    let b = block_adds f.body after in
     (λ e. (let p = h.0 e.1 in (p.0, k.0 (b.heads.0 p.1))), λ e. (omega arith, h.1 (e.0, b.heads.1 (k.1 e.1))))

@@ -10,7 +10,7 @@ use Rattle.asl_syntax.specs.Tree.{Function, functions_of}
 use Rattle.asl_syntax.specs.Spelled.{line_meaning, stmt_meaning, block_meaning, else_meaning, item_meaning}
 use Rattle.asl_syntax.specs.WithinLimits.{HasNumbersInRange, AreNumbersInRange}
 use Rattle.asl_syntax.proofs.EachLimit.{NumbersPass}
-use Rattle.asl_syntax.proofs.LimitCounts.{behind_body}
+use Rattle.asl_syntax.proofs.LimitCounts.{after_body}
 
 -- ---- lines
 
@@ -89,7 +89,7 @@ numbers_in_range [] = (λ h. h, λ h. h)
 numbers_in_range (w.GlobalItem x ∷ is) = numbers_in_range is
 numbers_in_range (w.FunctionItem f ∷ is) =
     let k = numbers_in_range is in
-    let behind = behind_body f.returned (program_on is []) in
-    let h = names_pass f.parameters (Fixed mark.CloseParen ∷ Fixed mark.OpenBrace ∷ block_on f.body behind) in
-    let b = block_says f.body behind in
+    let after = after_body f.returned (program_on is []) in
+    let h = names_pass f.parameters (Fixed mark.CloseParen ∷ Fixed mark.OpenBrace ∷ block_on f.body after) in
+    let b = block_says f.body after in
     (λ e. (let p = b.0 (h.0 e) in (p.0, k.0 p.1)), λ e. h.1 (b.1 (e.0, k.1 e.1)))

@@ -111,9 +111,9 @@ twice_here all own n k (UsesGlobal x) rest h = absurd cc
 twice_here all own n k (CallsFunction x i) rest h = absurd cc
 
 -- a count of own mentions grows by one at most
-pub own_few : (m : Mention) (behind own new : List Mention) (k j : ℕ) → IsOwnAfter m behind own k new j → j ≤ suc k
-own_few (DeclaresFunction x) behind own new k j both = omega (arith, both.1)
-own_few _ behind own new k j both = omega (arith, both.1)
+pub own_few : (m : Mention) (rest own new : List Mention) (k j : ℕ) → IsOwnAfter m rest own k new j → j ≤ suc k
+own_few (DeclaresFunction x) rest own new k j both = omega (arith, both.1)
+own_few _ rest own new k j both = omega (arith, both.1)
 
 -- ---- one word fewer
 
@@ -137,8 +137,8 @@ one_fewer s (suc n) ms m rest q r l e h k =
 plus_one : (n : ℕ) → n + 1 ≡ suc n
 plus_one n = omega arith
 
-pub behind_on : (all : List Mention) (n : ℕ) (m : Mention) (rest : List Mention) → drop n all ≡ m ∷ rest → drop (n + 1) all ≡ rest
-behind_on all n m rest e = ap (λ (i : ℕ). drop i all) (plus_one n) ∙ drop_one n all m rest e
+pub after_on : (all : List Mention) (n : ℕ) (m : Mention) (rest : List Mention) → drop n all ≡ m ∷ rest → drop (n + 1) all ≡ rest
+after_on all n m rest e = ap (λ (i : ℕ). drop i all) (plus_one n) ∙ drop_one n all m rest e
 
 pub left_on : (all own new : List Mention) (n k j : ℕ) (m : Mention) (rest : List Mention) (r : Option (List ℕ)) → twice_left all new (suc n) j rest ≡ twice_left all own n k (m ∷ rest) → twice_left all own n k (m ∷ rest) ≡ r → twice_left all new (n + 1) j rest ≡ r
 left_on all own new n k j m rest r e h =

@@ -80,8 +80,8 @@ is_repeated all own _ = false
 
 -- the mentions of a function with a place among them, after one more: a function's begin after its name
 abbrev pub IsOwnAfter : Mention → List Mention → List Mention → ℕ → List Mention → ℕ → Type 0
-IsOwnAfter (DeclaresFunction x) behind own k new j = (new ≡ behind) × (j ≡ 0)
-IsOwnAfter _ behind own k new j = (new ≡ own) × (j ≡ suc k)
+IsOwnAfter (DeclaresFunction x) rest own k new j = (new ≡ rest) × (j ≡ 0)
+IsOwnAfter _ rest own k new j = (new ≡ own) × (j ≡ suc k)
 
 -- up to the next function
 abbrev pub own_part : List Mention → List Mention
@@ -94,7 +94,7 @@ is_unheard all own m = unknown_use (names_in Globals all) (names_in Functions al
 
 -- those of the function after one more
 abbrev pub own_after : Mention → List Mention → List Mention → List Mention
-own_after m own behind = if is_function m then behind else own
+own_after m own rest = if is_function m then rest else own
 
 -- the first of them
 abbrev pub first_unheard : List Mention → List Mention → List Mention → Option (List ℕ)

@@ -15,12 +15,12 @@ abbrev pub number_among : List (Bor (List ℕ) × ℕ) → Counts
 number_among names q = lookup (λ (k : Bor (List ℕ)). bytes_eq k.now q) names
 
 -- the number beside a name in the map
-abbrev pub number_behind : code.NumberedNames → Counts
-number_behind m q = tree.get_by (λ (k : Bor (List ℕ)). slice_cmp nat_cmp q k.now) m.names
+abbrev pub number_in_tree : code.NumberedNames → Counts
+number_in_tree m q = tree.get_by (λ (k : Bor (List ℕ)). slice_cmp nat_cmp q k.now) m.names
 
 -- the number beside a name, in the row or else in the map
 abbrev pub counts_in : code.NumberedNames → Counts
-counts_in m q = option_or (number_among m.few.items q) (number_behind m q)
+counts_in m q = option_or (number_among m.few.items q) (number_in_tree m q)
 
 -- which names there are
 abbrev pub names_known : code.NumberedNames → Names

@@ -2,7 +2,7 @@
 
 ghost use Rattle.std.specs.Prelude.{◌≡◌, ℕ, List, None, IfOk, OnErr, true, false, is_some};
 ghost use Rattle.asl_syntax.specs.Rules.{no_count, with_count, no_name, with_name};
-ghost use Rattle.asl_syntax.specs.NumberedNamesView.{number_among, number_behind, counts_in, names_known};
+ghost use Rattle.asl_syntax.specs.NumberedNamesView.{number_among, number_in_tree, counts_in, names_known};
 
 use crate::name::Name;
 use arrayvec::ArrayVec;
@@ -75,7 +75,7 @@ impl<'a> NumberedNames<'a> {
             return Ok(());
         }
         if self.few.is_full() {
-            self.add_behind(name.as_slice(), number)?;
+            self.add_to_tree(name.as_slice(), number)?;
         } else {
             self.few.push((name.as_slice(), number));
         }
@@ -83,10 +83,10 @@ impl<'a> NumberedNames<'a> {
     }
 
     /// Adds a name with its number to the map. Where memory is refused, all is as it was.
-    fn add_behind(&mut self, name: &'a [u8], number: usize) -> Result<(), AllocError>
+    fn add_to_tree(&mut self, name: &'a [u8], number: usize) -> Result<(), AllocError>
         ensures row { self.new.few ≡ self.old.few }
-        ensures map { IfOk result (λ _. (q : List ℕ) → number_behind self.new q ≡ with_count name.now number (number_behind self.old) q) }
-        ensures memory { OnErr result (number_behind self.old name.now ≡ None) }
+        ensures map { IfOk result (λ _. (q : List ℕ) → number_in_tree self.new q ≡ with_count name.now number (number_in_tree self.old) q) }
+        ensures memory { OnErr result (number_in_tree self.old name.now ≡ None) }
         ensures err { OnErr result (self.new.names.entries ≡ self.old.names.entries) }
     {
         self.names.insert(name, number)?;

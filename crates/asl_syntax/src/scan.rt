@@ -21,13 +21,13 @@ struct Own<'t> {
 }
 
 /// The same after one more word.
-fn own_with<'t>(own: Own<'t>, word: Word<'_>, behind: Words<'t>) -> Own<'t>
+fn own_with<'t>(own: Own<'t>, word: Word<'_>, rest: Words<'t>) -> Own<'t>
     requires { own.count < 2 ^ 63 }
-    ensures { IsOwnAfter (word_of word.entry) (words_left behind.entry) (words_left own.entry.words) own.entry.count (words_left result.words) result.count }
+    ensures { IsOwnAfter (word_of word.entry) (words_left rest.entry) (words_left own.entry.words) own.entry.count (words_left result.words) result.count }
 {
     match word {
         Word::Function(_) => Own {
-            words: behind,
+            words: rest,
             count: 0,
         },
         _ => Own {
@@ -96,11 +96,11 @@ fn missing<'t>(all: Words<'_>, own: Words<'_>, word: Word<'t>) -> Option<&'t [u8
 }
 
 /// The words of the present function after one more.
-fn own_after<'t>(word: Word<'_>, own: Words<'t>, behind: Words<'t>) -> Words<'t>
-    ensures { words_left result ≡ own_after (word_of word.entry) (words_left own.entry) (words_left behind.entry) }
+fn own_after<'t>(word: Word<'_>, own: Words<'t>, rest: Words<'t>) -> Words<'t>
+    ensures { words_left result ≡ own_after (word_of word.entry) (words_left own.entry) (words_left rest.entry) }
 {
     match word {
-        Word::Function(_) => behind,
+        Word::Function(_) => rest,
         _ => own,
     }
 }

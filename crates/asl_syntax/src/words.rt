@@ -87,10 +87,10 @@ fn names_to_close(mut tokens: Tokens<'_>) -> usize
 }
 
 /// What a name after `&` does: its address is taken, or, before a bracket, the address in it is moved.
-fn address_word<'t>(name: &'t [u8], mut behind: Tokens<'t>) -> Word<'t>
-    ensures { word_of result ≡ address_mention name.now (bare (spots_left behind.entry)) }
+fn address_word<'t>(name: &'t [u8], mut rest: Tokens<'t>) -> Word<'t>
+    ensures { word_of result ≡ address_mention name.now (bare (spots_left rest.entry)) }
 {
-    match behind.next() {
+    match rest.next() {
         Found::Token(spot) => match spot.token {
             Token::Fixed(Mark::OpenBracket) => Word::Local(name),
             _ => Word::GlobalUse(name),
@@ -100,13 +100,13 @@ fn address_word<'t>(name: &'t [u8], mut behind: Tokens<'t>) -> Word<'t>
 }
 
 /// What a name does that the token after it tells.
-fn plain_word<'t>(name: &'t [u8], mut behind: Tokens<'t>) -> Word<'t>
-    ensures { word_of result ≡ plain_mention name.now (bare (spots_left behind.entry)) }
+fn plain_word<'t>(name: &'t [u8], mut rest: Tokens<'t>) -> Word<'t>
+    ensures { word_of result ≡ plain_mention name.now (bare (spots_left rest.entry)) }
 {
-    match behind.next() {
+    match rest.next() {
         Found::Token(spot) => match spot.token {
             Token::Fixed(Mark::Becomes) => Word::Assigned(name),
-            Token::Fixed(Mark::OpenParen) => Word::Call(name, names_to_close(behind)),
+            Token::Fixed(Mark::OpenParen) => Word::Call(name, names_to_close(rest)),
             _ => Word::Local(name),
         },
         _ => Word::Local(name),
@@ -114,16 +114,16 @@ fn plain_word<'t>(name: &'t [u8], mut behind: Tokens<'t>) -> Word<'t>
 }
 
 /// What a name does.
-fn word_at<'t>(before: Before, name: &'t [u8], behind: Tokens<'t>) -> Word<'t>
-    ensures { word_of result ≡ mention_at before name.now (bare (spots_left behind.entry)) }
+fn word_at<'t>(before: Before, name: &'t [u8], rest: Tokens<'t>) -> Word<'t>
+    ensures { word_of result ≡ mention_at before name.now (bare (spots_left rest.entry)) }
 {
     match before {
         Before::Global => Word::Global(name),
         Before::Fn => Word::Function(name),
         Before::Head => Word::Parameter(name),
         Before::Star => Word::Local(name),
-        Before::Ampersand => address_word(name, behind),
-        Before::Plain => plain_word(name, behind),
+        Before::Ampersand => address_word(name, rest),
+        Before::Plain => plain_word(name, rest),
     }
 }
 

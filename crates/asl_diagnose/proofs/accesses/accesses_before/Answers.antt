@@ -1,6 +1,5 @@
-use Rattle.std.proofs.Common.{◌≡◌, ℕ, List, [], map, drop, sym, ap, ◌∙◌}
+use Rattle.std.proofs.Common.{ℕ, List, sym, ap, ◌∙◌}
 use Rattle.asl_syntax.specs.AstView.{tree_of}
-use Rattle.asl_syntax.specs.View.{item_of}
 use Rattle.asl_syntax.specs.Tree.{Function, Item, functions_of}
 use Rattle.asl_diagnose.specs.declared.code_walk.Passed.{Passed}
 use Rattle.asl_diagnose.specs.AccessView.{after_functions}

@@ -1,4 +1,4 @@
-use Rattle.std.proofs.Common.{ℕ, ◌<◌, List, map, drop, ◌+◌, ◌∙◌, sym, subst, arith}
+use Rattle.std.proofs.Common.{ℕ, ◌<◌, List, map, drop, ◌+◌, sym, subst}
 use Rattle.asl_syntax.specs.View.{item_of, function_of}
 use Rattle.asl_syntax.specs.Tree.{Item, functions_of}
 use Rattle.asl_lower.specs.Lowered.{end_of}

@@ -1,4 +1,4 @@
-use Rattle.std.proofs.Common.{◌≡◌, ℕ, List, Some, None, ◌∙◌, sym, ap, subst}
+use Rattle.std.proofs.Common.{ℕ, List, ◌∙◌, sym, ap, subst}
 use Rattle.asl_grammar.specs.Lex.{tokens_of}
 use Rattle.asl_diagnose.specs.Places.{IsNameAt}
 use Rattle.asl_diagnose.proofs.FirstUse.{first_use_in}

@@ -1,10 +1,7 @@
-use Rattle.std.proofs.Common.{List, ◌∙◌, sym, ap}
-use Rattle.asl_grammar.specs.Token.{Spot}
-use Rattle.asl_grammar.specs.Grammar.{bare}
+use Rattle.std.proofs.Common.{◌∙◌, sym}
 use Rattle.asl_grammar.specs.Reader.{spots_left}
 use Rattle.asl_grammar.specs.View.{spot_of}
 use Rattle.asl_grammar.proofs.Reading.{none_left}
-use Rattle.asl_diagnose.specs.UsesView.{has_declared}
 use Rattle.asl_diagnose.proofs.TokenOn.{declared_here, declared_later, declared_nowhere}
 use Rattle.asl_diagnose.proofs.unknown.has_declared.Goals as goal
 

@@ -6,4 +6,4 @@ use Rattle.asl_lower.proofs.code_size.has_few_instructions.Goals as goal
 
 pub returns : goal.returns
 returns c =
-    enough (functions_of (map item_of c.args.items.now)) c.left_behind_items.result c.is_some.result c.is_some.ensures c.left_behind_items.ensures.enough c.left_behind_items.ensures.short
+    enough (functions_of (map item_of c.args.items.now)) c.left_after_items.result c.is_some.result c.is_some.ensures c.left_after_items.ensures.enough c.left_after_items.ensures.short

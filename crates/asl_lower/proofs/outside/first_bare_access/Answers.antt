@@ -17,7 +17,7 @@ use Rattle.asl_lower.proofs.Counts.{sum_more}
 use Rattle.asl_lower.proofs.Laid.{lowering_of_is_lowering}
 use Rattle.asl_lower.proofs.Listed.{at_function, at_global}
 use Rattle.asl_lower.proofs.Marks.{marked_if_read, read_if_marked}
-use Rattle.asl_lower.proofs.Lowest.{NoneBefore, first_found, none_behind, none_at_all}
+use Rattle.asl_lower.proofs.Lowest.{NoneBefore, first_found, none_after, none_at_all}
 use Rattle.asl_lower.proofs.Trees.{TreeBody, tree_body, body_spans, body_first, body_clear, body_fits}
 use Rattle.asl_lower.proofs.outside.first_bare_access.Goals as goal
 use Rattle.asl_lower.proofs.outside.first_bare_access.Goals.{in-Function, then-bare-number+in_default-pass_block, else-bare-number, in_default}
@@ -31,8 +31,8 @@ listed is number left rest f h e =
     let here : number ≡ number + 0 = omega arith in
     ap (slice_get (functions_of is)) here ∙ h 0 ∙ ap (λ (fs : List Function). slice_get fs 0) e
 
-left_behind : (is : List Item) (number next : ℕ) (left rest : List Function) (f : Function) → AreLeft is number left → left ≡ f ∷ rest → next ≡ number + 1 → AreLeft is next rest
-left_behind is number next left rest f h e n m =
+left_after : (is : List Item) (number next : ℕ) (left rest : List Function) (f : Function) → AreLeft is number left → left ≡ f ∷ rest → next ≡ number + 1 → AreLeft is next rest
+left_after is number next left rest f h e n m =
     let more : next + m ≡ number + suc m = omega (arith, n) in
     ap (slice_get (functions_of is)) more ∙ h (suc m) ∙ ap (λ (fs : List Function). slice_get fs (suc m)) e
 
@@ -110,7 +110,7 @@ onward is lay number next start end size f b s none clear z n e =
     let last : end ≡ start + b.entry_is.len = omega (arith, e, z, b.len) in
     let Q : ℕ → Type 0 = λ m. Onward l m end in
     let P : ℕ → Type 0 = λ m. NoneBefore l m in
-    let all = none_behind l lay number start (start + b.entry_is.len) (body_spans is l number f start b s) (λ pc bare low high. elim clear [ inl k ↦ body_clear is l number f start b s k pc low high | inr k ↦ absurd (k bare) ]) none in
+    let all = none_after l lay number start (start + b.entry_is.len) (body_spans is l number f start b s) (λ pc bare low high. elim clear [ inl k ↦ body_clear is l number f start b s k pc low high | inr k ↦ absurd (k bare) ]) none in
     subst Q (sym one) (record { start_is = omega (arith, last, s, step); none = subst P (sym last) all })
 
 -- what is known where a call did not fail
@@ -136,7 +136,7 @@ loop-item-preserved c =
           let o = onward is c.requires.layout n c.match-item.number c.loop-item.start c.match-item.start w.block_size.result f b c.loop-item.invariant.start c.loop-item.invariant.none clear size w.number-is w.start-is in
           record {
             start = o.start_is;
-            left = left_behind is n c.match-item.number _ _ f c.loop-item.invariant.left e w.number-is;
+            left = left_after is n c.match-item.number _ _ f c.loop-item.invariant.left e w.number-is;
             count = omega (arith, c.loop-item.invariant.count, ap (length {A = Function}) e, w.number-is);
             none = o.none;
           }

@@ -34,7 +34,7 @@ loop-pc-preserved c =
     let stands = read_at l.code pc i low c.index-instr.ensures in
     let d : IsDepth l.code pc c.loop-pc.depth = c.loop-pc.invariant.depth in
     record {
-      depth = depth_more l.code pc c.loop-pc.depth c.depth_behind-depth.result i stands d c.depth_behind-depth.ensures;
+      depth = depth_more l.code pc c.loop-pc.depth c.depth_after-depth.result i stands d c.depth_after-depth.ensures;
       callees = elim c.match-callee.branch [
         | in-Some w ↦
             let k = w.in-Some.ensures in

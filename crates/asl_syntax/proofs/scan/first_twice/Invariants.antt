@@ -8,8 +8,8 @@ use Rattle.asl_syntax.proofs.scan.first_twice.Given as goal
 
 abbrev pub invariant-reading : goal.invariant-reading
 invariant-reading l = record {
-  behind : drop l.count (words_left l.all) ≡ words_left l.here;
-  own_behind : drop l.own.count (words_left l.own.words) ≡ words_left l.here;
+  left : drop l.count (words_left l.all) ≡ words_left l.here;
+  own_left : drop l.own.count (words_left l.own.words) ≡ words_left l.here;
   same : twice_left (words_left l.all) (words_left l.own.words) l.count l.own.count (words_left l.here) ≡ first_twice no_name no_name no_name (words_left l.all);
   few : l.count + bytes_left l.here.tokens ≤ bytes_left l.all.tokens;
   own_few : l.own.count ≤ l.count;

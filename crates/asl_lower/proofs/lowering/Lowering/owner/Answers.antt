@@ -2,7 +2,7 @@ use Rattle.std.proofs.Common.{length, ap, arith}
 use Rattle.asl_code.specs.declared.image.Function as entry
 use Rattle.asl_lower.specs.LegalLowering.{lowered_of}
 use Rattle.asl_lower.proofs.Layouts.{kept_layout}
-use Rattle.asl_lower.proofs.Told.{owner_found, owner_behind, owner_body}
+use Rattle.asl_lower.proofs.Told.{owner_found, owner_after, owner_body}
 use Rattle.asl_lower.proofs.lowering.Lowering.owner.Goals as goal
 
 pub returns-then-left-function-clause-body : goal.returns-then-left-function-clause-body
@@ -24,4 +24,4 @@ returns-clause-body c =
     let fs = c.deref-function-items.result.now in
     let x = c.loop-function in
     owner_body l c.args.self.now fs c.args.pc x.number (kept_layout l c.self.invariant) c.self.view_is c.deref-function-items.ensures.value c.requires
-    (owner_behind fs x.function-index x.number x.left c.args.pc c.loop-function-test.false x.invariant.owner)
+    (owner_after fs x.function-index x.number x.left c.args.pc c.loop-function-test.false x.invariant.owner)
