@@ -1,4 +1,4 @@
-//! Which line of an assembly text a rule is broken by.
+//! Finds the line of an assembly text that breaks a rule, by counting what was read before it.
 ghost use Rattle.std.specs.Prelude.{◌≡◌};
 ghost use Rattle.asl_assembler.specs.Words.{lines_of};
 ghost use Rattle.asl_diagnose.specs.TextLines.{row_of};
@@ -53,6 +53,7 @@ impl Listing {
             b"version" => self.version = number_in(word(rest, 0), 0),
             b"classes" => self.classes = number_in(word(rest, 0), 0),
             b"global" => self.globals = self.globals.saturating_add(1),
+            // nothing is counted
             b"entry" => {}
             b"fn" => {
                 self.functions = self.functions.saturating_add(1);

@@ -73,7 +73,7 @@ fn is_function_name(token: Token<'_>, next: Declares) -> bool
     }
 }
 
-/// Whether a text declares the name so.
+/// Whether a text declares the name as a global, a function or a parameter.
 pub fn has_declared(text: &[u8], name: &[u8], what: Declares) -> bool
     ensures { result ≡ has_declared what name.now Declares.Nothing Sign.Other (bare (tokens_of text.now)) }
 {

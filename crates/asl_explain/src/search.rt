@@ -135,7 +135,7 @@ impl Searcher {
         self.ending_of(analysis, &search)
     }
 
-    /// Puts a lock among those that wait after each of these `new` that sets the register on which the lock begins.
+    /// Queues the lock after each `new` of the list that sets the register on which the lock begins.
     fn wait_after_all(
         &self,
         analysis: &ExplainAnalysis,

@@ -20,7 +20,7 @@ const MAX_NAMED: usize = 8;
 /// What stands in place of the line and the statement of an instruction.
 const NO_PLACE: &str = "                                       ";
 
-/// What is written of: the analysis of a source with its names and places, and how much is reported.
+/// What an explanation is written from: the analysis of a source with its names and places, and how much is reported.
 #[derive(Clone, Copy)]
 pub struct Teller<'a> {
     pub alloc: Global,

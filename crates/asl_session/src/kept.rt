@@ -1,4 +1,4 @@
-//! Calls on a session in its place, which it leaves while it works.
+//! Methods that take a session by value, called on one that is borrowed: it is moved out of its place and put back.
 ghost use Rattle.std.specs.Prelude.{◌≡◌, ◌≢◌, length, IfOk, string_bytes};
 ghost use Rattle.asl_session.specs.Pages.{IsPage};
 ghost use Rattle.asl_session.specs.Status.{IsCut, IsGone, IsStepped};

@@ -14,7 +14,7 @@ use asl_code::{Base, Instr, Lock};
 use asl_lock_expr::LinkContext;
 use std::alloc::AllocError;
 
-/// A way on from a point: where it comes to, and why the lock there makes that of the point needed, if it is another.
+/// A successor of a point. `why` is the rule by which the lock at `to` makes that of the point needed; `None` where the lock is the same.
 #[derive(Clone, Copy)]
 pub(crate) struct Way {
     pub(crate) to: Point,

@@ -1,4 +1,4 @@
-//! What tells of a session, which stays as it is.
+//! Exports that report on a session and do not change it.
 ghost use Rattle.std.specs.Prelude.{◌≡◌, ◌≢◌, ◌↔◌, true, false, length, if◌then◌else◌};
 ghost use Rattle.asl_session.specs.Pages.{log_text};
 ghost use Rattle.asl_session.specs.Status.{IsPageTold, IsRunFileTold, IsTold};
