@@ -1,5 +1,6 @@
 use Rattle.std.proofs.Common.{◌≤◌, length, ap, arith}
-use Rattle.asl_lane_sets.proofs.Numbers.{length_told, merged_packed, merged_in, merged_grew}
+use Rattle.asl_lane_sets.proofs.Numbers.{length_told}
+use Rattle.asl_lane_sets.proofs.CombinedNumbers.{merged_packed, merged_in, merged_grew}
 use Rattle.asl_lane_sets.proofs.bits.Bits.merge.Goals as goal
 
 pub merge-requires : goal.merge-requires

@@ -1,4 +1,4 @@
-use Rattle.asl_lane_sets.proofs.Numbers.{packed_cleared, removed_in}
+use Rattle.asl_lane_sets.proofs.CombinedNumbers.{packed_cleared, removed_in}
 use Rattle.asl_lane_sets.proofs.bits.Bits.remove_all.Goals as goal
 
 pub invariant_of-self : goal.invariant_of-self

@@ -1,5 +1,6 @@
 use Rattle.std.proofs.Common.{◌≡◌, length, ap, arith}
-use Rattle.asl_lane_sets.proofs.Numbers.{length_told, within_told_by}
+use Rattle.asl_lane_sets.proofs.Numbers.{length_told}
+use Rattle.asl_lane_sets.proofs.CombinedNumbers.{within_told_by}
 use Rattle.asl_lane_sets.proofs.bits.Bits.within.Goals as goal
 
 pub is_within-requires : goal.is_within-requires
