@@ -7,7 +7,7 @@ use Rattle.asl_lane_sets.specs.NumberSet.{IsIn}
 use Rattle.asl_backward_flow.specs.declared.span.Span.{Span}
 use Rattle.asl_backward_flow.specs.declared.region_needs.RegionNeeds.{RegionNeeds}
 use Rattle.asl_backward_flow.specs.Found.{table_of, list_at, first_of, sets_of, HasPoint, IsBlankNeeds, IsBlank}
-use Rattle.asl_backward_flow.proofs.Listing.{mapped_at}
+use Rattle.asl_backward_flow.proofs.SetNeeds.{mapped_at}
 use Rattle.asl_backward_flow.proofs.Sets.{some_same}
 
 -- the regions of the spans below a number

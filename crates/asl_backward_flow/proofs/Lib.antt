@@ -1,10 +1,14 @@
 mod Sets
+mod ReplacedLists
 mod Tables
+mod Additions
 mod Marks
 mod Blanks
 mod Steps
 mod SpanLaws
 mod Rows
+mod CallRows
+mod JumpRows
 mod Adding
 mod Numbering
 mod Points
@@ -20,6 +24,7 @@ mod Closing
 mod Waits
 mod Completing
 mod Tellings
+mod SetNeeds
 mod Listing
 mod LockNumbers
 pub mod Basing

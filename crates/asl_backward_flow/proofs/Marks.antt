@@ -4,7 +4,7 @@ use Rattle.std.proofs.lemmas.List.Sums.{sum_by-set}
 use Rattle.asl_lane_sets.specs.NumberSet.{IsIn}
 use Rattle.asl_backward_flow.specs.Found.{list_at, free, free_in, IsMarked}
 use Rattle.asl_backward_flow.proofs.SpanLaws.{below_or_at}
-use Rattle.asl_backward_flow.proofs.Tables.{list_here, list_else}
+use Rattle.asl_backward_flow.proofs.ReplacedLists.{list_here, list_else}
 
 pub empty_replicate : (len n : ℕ) → IsIn (replicate len false) n → ⊥
 empty_replicate zero n h = cc

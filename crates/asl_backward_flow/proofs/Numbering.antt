@@ -5,7 +5,8 @@ use Rattle.asl_code.specs.declared.lock.Lock.{Lock}
 use Rattle.asl_lane_sets.specs.NumberSet.{IsIn}
 use Rattle.asl_backward_flow.specs.declared.region_needs.RegionNeeds.{RegionNeeds}
 use Rattle.asl_backward_flow.specs.Found.{Table, table_of, AreApart, HasFact, IsNamed, IsWhole, IsMarked, IsPut, Numbers, Adds, Lists, locks_of}
-use Rattle.asl_backward_flow.proofs.Tables.{locks_before, part_adds, mark_adds, mark_has, mark_whole, mark_lists}
+use Rattle.asl_backward_flow.proofs.Tables.{locks_before}
+use Rattle.asl_backward_flow.proofs.Additions.{part_adds, mark_adds, mark_has, mark_whole, mark_lists}
 
 module _ (parts : List RegionNeeds) (p q : ℕ) (x : RegionNeeds) (list : List (ℕ × ℕ)) (same : q ≡ p) (there : p < length parts) (is : x ≡ get_or parts q x)
     (whole : IsWhole (table_of parts list)) (set : List Bool) (named : (n : ℕ) → IsIn set n → (m : Lock) × (slice_get (locks_of (table_of parts list) p) n ≡ Some m)) where

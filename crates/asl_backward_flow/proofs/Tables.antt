@@ -1,4 +1,4 @@
--- What one addition does to what is found.
+-- What one addition does to what is found: one region has other locks and other sets.
 use Rattle.std.proofs.Common.{◌≡◌, ◌≢◌, ◌⊎◌, ⊎_elim, ℕ, zero, suc, ◌+◌, ◌<◌, ◌≤◌, Bool, List, [], ◌∷◌, Some, length, map, slice_get, slice_set, unwrap_or, inl, inr, refl, ap, sym, subst, get_or, length-set, ◌∙◌, arith}
 use Rattle.std.specs.List.{sum_by}
 use Rattle.std.proofs.lemmas.Bool.Decides.{eqb_tells}
@@ -9,42 +9,7 @@ use Rattle.asl_lane_sets.specs.NumberSet.{IsIn}
 use Rattle.asl_backward_flow.specs.declared.region_needs.RegionNeeds.{RegionNeeds}
 use Rattle.asl_backward_flow.specs.Found.{Table, table_of, IsAt, AreApart, list_at, locks_of, first_of, sets_of, HasPoint, Has, HasFact, IsWhole, Adds, Lists, Numbers, IsMarked, IsPut, free_in}
 use Rattle.asl_backward_flow.proofs.Sets.{some_same}
-
-module _ {A : Type 0} where
-  pub list_here : (lists : List (List A)) (p : ℕ) (new : List A) → p < length lists → list_at (slice_set lists p new) p ≡ new
-  list_here [] p new h = absurd (omega arith)
-  list_here (l ∷ ls) zero new h = refl
-  list_here (l ∷ ls) (suc p) new h = list_here ls p new (omega arith)
-
-  pub list_else : (lists : List (List A)) (p q : ℕ) (new : List A) → q ≢ p → list_at (slice_set lists p new) q ≡ list_at lists q
-  list_else [] p q new h = refl
-  list_else (l ∷ ls) zero zero new h = absurd (h refl)
-  list_else (l ∷ ls) zero (suc q) new h = refl
-  list_else (l ∷ ls) (suc p) zero new h = refl
-  list_else (l ∷ ls) (suc p) (suc q) new h = list_else ls p q new (λ e. h (ap suc e))
-
-  -- a fact of each list from one of the list before
-  pub list_each : (lists : List (List A)) (p : ℕ) (new : List A) → p < length lists → (P : ℕ → List A → Type 0) → P p new → ((q : ℕ) → q ≢ p → P q (list_at lists q)) → (q : ℕ) → P q (list_at (slice_set lists p new) q)
-  list_each lists p new there P here rest q =
-      ⊎_elim
-      (λ t. subst (λ r. P r (list_at (slice_set lists p new) r)) (sym t.1) (subst (P p) (sym (list_here lists p new there)) here))
-      (λ t. subst (P q) (sym (list_else lists p q new t.1)) (rest q t.1))
-      (eqb_tells q p)
-
-  pub list_of : {X : Type 0} (keys : X → List A) (items : List X) (p : ℕ) (d : X) → p < length items → list_at (map keys items) p ≡ keys (get_or items p d)
-  list_of keys [] p d h = absurd (omega arith)
-  list_of keys (x ∷ xs) zero d h = refl
-  list_of keys (x ∷ xs) (suc p) d h = list_of keys xs p d (omega arith)
-
-pub map_set : {A B : Type 0} (f : A → B) (xs : List A) (n : ℕ) (y : A) → map f (slice_set xs n y) ≡ slice_set (map f xs) n (f y)
-map_set f [] n y = refl
-map_set f (x ∷ xs) zero y = refl
-map_set f (x ∷ xs) (suc n) y = ap (λ ys. f x ∷ ys) (map_set f xs n y)
-
-map_same : {A B : Type 0} (f : A → B) (xs : List A) (n : ℕ) (y : A) → f y ≡ f (get_or xs n y) → map f (slice_set xs n y) ≡ map f xs
-map_same f [] n y e = refl
-map_same f (x ∷ xs) zero y e = ap (λ z. z ∷ map f xs) e
-map_same f (x ∷ xs) (suc n) y e = ap (λ ys. f x ∷ ys) (map_same f xs n y e)
+use Rattle.asl_backward_flow.proofs.ReplacedLists.{list_here, list_each, list_of, map_set, map_same}
 
 -- one region has these locks and these sets now, and all else stays
 pub record Step (old new : Table) (p : ℕ) (keys : List Lock) (sets : List (List Bool)) : Type 0 where
@@ -180,14 +145,14 @@ module _ (old new : Table) (p : ℕ) (keys : List Lock) (sets : List (List Bool)
   abbrev More : ℕ → ℕ → Type 0
   More k n = (k ≡ place) × these n
 
-  kept : (k n : ℕ) → IsIn (list_at (sets_of old p) k) n → IsIn (list_at sets k) n
+  pub kept : (k n : ℕ) → IsIn (list_at (sets_of old p) k) n → IsIn (list_at sets k) n
   kept k n e =
       ⊎_elim
       (λ t. subst (λ j. IsIn (list_at sets j) n) (sym t.1) ((marked.here n).1 (inl (subst (λ j. IsIn (list_at (sets_of old p) j) n) t.1 e))))
       (λ t. subst (λ l. IsIn l n) (sym (marked.rest k t.1)) e)
       (eqb_tells k place)
 
-  only : (k n : ℕ) → IsIn (list_at sets k) n → IsIn (list_at (sets_of old p) k) n ⊎ More k n
+  pub only : (k n : ℕ) → IsIn (list_at sets k) n → IsIn (list_at (sets_of old p) k) n ⊎ More k n
   only k n e =
       ⊎_elim
       (λ t. ⊎_elim (λ was. inl (subst (λ j. IsIn (list_at (sets_of old p) j) n) (sym t.1) was)) (λ is. inr (t.1, is)) ((marked.here n).0 (subst (λ j. IsIn (list_at sets j) n) t.1 e)))
@@ -255,45 +220,3 @@ module _ (old new : Table) (p : ℕ) (keys : List Lock) (sets : List (List Bool)
         get_here [] n lt = absurd (omega arith)
         get_here (l ∷ ls) zero lt = refl
         get_here (l ∷ ls) (suc n) lt = get_here ls n (omega arith)
-
--- one region has one more lock, perhaps, and numbers in a set, perhaps
-module _ (parts : List RegionNeeds) (p q : ℕ) (x y : RegionNeeds) (list more : List (ℕ × ℕ)) (same : q ≡ p) (there : p < length parts) (is : x ≡ get_or parts q x) (region : y.region ≡ x.region) (first : y.first ≡ x.first)
-    (These : Lock → Type 0) (numbers : Numbers x.locks.keys y.locks.keys These) where
-  abbrev before : Table
-  before = table_of parts list
-
-  abbrev after : Table
-  after = table_of (slice_set parts q y) more
-
-  step : Step before after p y.locks.keys y.needs.items
-  step = step_of parts p q x y list more same there is region first
-
-  numbered : Numbers (locks_of before p) y.locks.keys These
-  numbered = subst (λ l. Numbers l y.locks.keys These) (sym (locks_before parts p q x list same there is)) numbers
-
-  pub part_adds : (pc : ℕ) → IsWhole before → y.needs.items ≡ x.needs.items → Adds before after (λ r s m. (r ≡ p) × (s ≡ pc) × These m)
-  part_adds pc whole kept = adds_name before after p y.locks.keys y.needs.items step These numbered (kept ∙ sym (sets_before parts p q x list same there is)) pc whole
-
-  pub part_over : 4096 < length y.locks.keys → (4096 < length (locks_of after p)) × AreApart (locks_of after p)
-  part_over over = is_over before after p y.locks.keys y.needs.items step These numbered over
-
-  module _ (place : ℕ) (these : ℕ → Type 0) (is_new : Bool) (marked : IsMarked x.needs.items y.needs.items place these is_new) (pc : ℕ) (at_place : pc ≡ x.first + place)
-      (stored : (n : ℕ) → these n → (m : Lock) × (slice_get y.locks.keys n ≡ Some m) × These m) (whole : IsWhole before) where
-    mark : IsMarked (sets_of before p) y.needs.items place these is_new
-    mark = subst (λ l. IsMarked l y.needs.items place these is_new) (sym (sets_before parts p q x list same there is)) marked
-
-    pc_is : pc ≡ first_of before p + place
-    pc_is = at_place ∙ ap (λ n. n + place) (sym (first_before parts p q x list same there is))
-
-    pub mark_adds : Adds before after (λ r s m. (r ≡ p) × (s ≡ pc) × These m)
-    mark_adds = adds_fact before after p y.locks.keys y.needs.items step These numbered place these is_new mark pc pc_is stored whole
-
-    pub mark_has : (n : ℕ) (m : Lock) → these n → slice_get y.locks.keys n ≡ Some m → HasFact after p pc m
-    mark_has = has_fact before after p y.locks.keys y.needs.items step These numbered place these is_new mark pc pc_is stored
-
-    module _ (listed : IsPut list more (p, pc) is_new) where
-      pub mark_whole : length y.locks.keys ≤ 4096 → IsWhole after
-      mark_whole few = whole_fact before after p y.locks.keys y.needs.items step These numbered place these is_new mark pc pc_is stored listed whole few
-
-      pub mark_lists : Lists before after
-      mark_lists = lists_fact before after p y.locks.keys y.needs.items step These numbered place these is_new mark pc pc_is stored listed

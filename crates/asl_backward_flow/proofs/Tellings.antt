@@ -23,7 +23,8 @@ use Rattle.asl_backward_flow.specs.Follows.{Read, IsRead, IsAll, Overflows}
 use Rattle.asl_backward_flow.specs.Parts.{part, AreAtTheirNumbers, TellsAll}
 use Rattle.asl_backward_flow.proofs.Leasts.{needed_inside}
 use Rattle.asl_backward_flow.proofs.Blanks.{unmapped, some_there}
-use Rattle.asl_backward_flow.proofs.Listing.{mapped_at, of_part, part_of, region_one}
+use Rattle.asl_backward_flow.proofs.SetNeeds.{mapped_at}
+use Rattle.asl_backward_flow.proofs.Listing.{of_part, part_of, region_one}
 use Rattle.asl_backward_flow.proofs.Sets.{some_same}
 
 module _ (r : Read) (read : IsRead r) (items : List code.RegionNeeds) (list : List (ℕ × ℕ)) (all : IsAll r (table_of items list)) where

@@ -21,6 +21,7 @@ bit_of_either a b i =
     )
 
 module _ (a b c : List ℕ) (joins : AreJoined a b c) where
+  -- what is in either is in both joined
   pub set_joined : (k : ℕ) → (is_set c k ≡ true) ↔ ((is_set a k ≡ true) ⊎ (is_set b k ≡ true))
   set_joined k =
       let is : is_set c k ≡ has_bit (bit_or (get_or a (k / 64) 0) (get_or b (k / 64) 0)) (k % 64) = ap (λ w. has_bit w (k % 64)) (joins.1 (k / 64)) in
@@ -29,6 +30,7 @@ module _ (a b c : List ℕ) (joins : AreJoined a b c) where
 
   -- where the second set is no longer than the first
   module _ (len other : ℕ) (le : other ≤ len) (pa : IsPacked len a) (pb : IsPacked other b) where
+    -- it has as many lanes as the first, and none past its length
     pub packed_joined : IsPacked len c
     packed_joined = record {
       fits = pa.fits;
@@ -95,6 +97,7 @@ new_or_none (false ∷ old) (false ∷ from) = ⊎_elim
     (new_or_none old from)
 
 module _ (len other : ℕ) (le : other ≤ len) (a b : List ℕ) (fits_a : (i : ℕ) → get_or a i 0 < 2 ^ 64) (fits_b : (i : ℕ) → get_or b i 0 < 2 ^ 64) (pa : IsPacked len a) (pb : IsPacked other b) where
+  -- where each number is in the first, joining adds nothing to its lanes
   within_lanes : ((k : ℕ) → IsIn (told other b) k → IsIn (told len a) k) → (place : ℕ) → get_or a place 0 ≡ bit_or (get_or a place 0) (get_or b place 0)
   within_lanes all = nothing_added a b fits_a fits_b (λ k is. (in_told len a pa k).0 (all k ((in_told other b pb k).1 is)))
 
@@ -147,6 +150,7 @@ module _ (len other : ℕ) (le : other ≤ len) (a b c : List ℕ) where
 
 -- the numbers of one set that are none of another
 module _ (a b c : List ℕ) (cleared : AreCleared a b c) where
+  -- what is in the first and not in the second
   pub set_cleared : (k : ℕ) → (is_set c k ≡ true) ↔ ((is_set a k ≡ true) × (is_set b k ≡ false))
   set_cleared k = cleared.1 (k / 64) (k % 64)
 

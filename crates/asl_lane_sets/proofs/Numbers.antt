@@ -11,9 +11,11 @@ use Rattle.std.proofs.lemmas.Nat.Bits.{shr_and_one, bit_at-zero, bit_at_set_same
 use Rattle.asl_lane_sets.specs.NumberSet.{IsIn}
 use Rattle.asl_lane_sets.specs.Packed.{has_bit, is_set, told, IsPacked}
 
+-- the test of a bit tells the bit
 pub has_tells : (lane bit : ℕ) → (has_bit lane bit ≡ true) ↔ (bit_at lane bit ≡ 1)
 has_tells lane bit = (λ e. eqb-true _ _ e, λ e. eq-eqb _ _ e)
 
+-- as many tests as there are numbers
 pub length_told : (len : ℕ) (lanes : List ℕ) → length (told len lanes) ≡ len
 length_told len lanes = length-map-range_with_len (is_set lanes) 0 len
 
@@ -42,6 +44,7 @@ none_set count k =
     length_zeros zero = refl
     length_zeros (suc n) = ap suc (length_zeros n)
 
+-- so such lanes tell the empty set
 pub told_none : (len count : ℕ) → told len (replicate count 0) ≡ replicate len false
 told_none len count = from 0 len
   where
@@ -54,6 +57,7 @@ module _ (lanes : List ℕ) (number : ℕ) (there : number / 64 < length lanes) 
   abbrev added : List ℕ
   added = slice_set lanes (number / 64) (bit_or (get_or lanes (number / 64) 0) (1 * 2 ^ (number % 64) % 2 ^ 64))
 
+  -- the number is in the set, and what was in it is
   pub set_added : (k : ℕ) → (is_set added k ≡ true) ↔ ((is_set lanes k ≡ true) ⊎ (k ≡ number))
   set_added k = elim (eqb_tells (k / 64) (number / 64)) [
     | inl same ↦

@@ -3,7 +3,8 @@ use Rattle.std.proofs.lemmas.Option.{slice_get-get_or, slice_get_within}
 use Rattle.asl_backward_flow.specs.Needed.{region_of}
 use Rattle.asl_backward_flow.specs.Parts.{part}
 use Rattle.asl_backward_flow.proofs.Blanks.{unmapped}
-use Rattle.asl_backward_flow.proofs.Listing.{mapped_at, region_one}
+use Rattle.asl_backward_flow.proofs.SetNeeds.{mapped_at}
+use Rattle.asl_backward_flow.proofs.Listing.{region_one}
 use Rattle.asl_backward_flow.proofs.flow.place_of.Goals as goal
 
 pub returns-then-eq : goal.returns-then-eq

@@ -3,7 +3,8 @@ use Rattle.std.proofs.lemmas.List.{length-map}
 use Rattle.std.proofs.lemmas.Option.{slice_get-get_or}
 use Rattle.asl_backward_flow.specs.Needed.{region_of}
 use Rattle.asl_backward_flow.specs.Parts.{part, IsToldAt}
-use Rattle.asl_backward_flow.proofs.Listing.{lists_more, lists_skip, part_here, part_elsewhere, parts_all, mapped_at, listed_same, region_one}
+use Rattle.asl_backward_flow.proofs.SetNeeds.{mapped_at}
+use Rattle.asl_backward_flow.proofs.Listing.{lists_more, lists_skip, part_here, part_elsewhere, parts_all, listed_same, region_one}
 use Rattle.asl_backward_flow.proofs.flow.told.Goals.{then-eq+in_ok-add_needed, else-eq}
 use Rattle.asl_backward_flow.proofs.flow.told.Goals as goal
 

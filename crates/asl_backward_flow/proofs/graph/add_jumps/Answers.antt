@@ -5,7 +5,7 @@ use Rattle.std.proofs.lemmas.Option.{slice_get-get_or}
 use Rattle.asl_lower.specs.Region.{FlowsTo}
 use Rattle.asl_backward_flow.specs.Graph.{IsEdge}
 use Rattle.asl_backward_flow.proofs.graph.add_jumps.Goals.{then-target-from+in_ok-add_to_row, else-target-from}
-use Rattle.asl_backward_flow.proofs.Rows.{HasTargets, targets_begin, targets_more, targets_skip, targets_end, edge_there, next_edge}
+use Rattle.asl_backward_flow.proofs.JumpRows.{HasTargets, targets_begin, targets_more, targets_skip, targets_end, edge_there, next_edge}
 use Rattle.asl_backward_flow.proofs.graph.add_jumps.Goals as goal
 
 abbrev vec_items : {A : Type 0} → Vec A Global → List A

@@ -1,5 +1,5 @@
 use Rattle.std.proofs.Common.{◌≡◌, map, vec_len}
-use Rattle.asl_backward_flow.proofs.Rows.{HasTargets}
+use Rattle.asl_backward_flow.proofs.JumpRows.{HasTargets}
 use Rattle.asl_backward_flow.proofs.graph.add_jumps.Given as goal
 
 abbrev pub invariant-loop-target : goal.invariant-loop-target

@@ -3,7 +3,7 @@ use Rattle.std.proofs.lemmas.List.{length-map}
 use Rattle.asl_code.specs.declared.instr.Instr.TheVariants as instr
 use Rattle.asl_backward_flow.proofs.Points.{stands_at}
 use Rattle.asl_backward_flow.proofs.Each.{no_span}
-use Rattle.asl_backward_flow.proofs.Rows.{HasRange, called_at, not_called_at, range_begin, range_more, range_skip, range_end}
+use Rattle.asl_backward_flow.proofs.CallRows.{HasRange, called_at, not_called_at, range_begin, range_more, range_skip, range_end}
 use Rattle.asl_backward_flow.proofs.graph.add_region.Goals.{in-Call+in_ok-add_to_row, in_default}
 use Rattle.asl_backward_flow.proofs.graph.add_region.Goals as goal
 

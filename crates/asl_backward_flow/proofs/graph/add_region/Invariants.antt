@@ -1,6 +1,6 @@
 use Rattle.std.proofs.Common.{◌≡◌, ◌≤◌, Some, map, slice_get, vec_len}
 use Rattle.asl_backward_flow.specs.declared.span.Span.{Span}
-use Rattle.asl_backward_flow.proofs.Rows.{HasRange}
+use Rattle.asl_backward_flow.proofs.CallRows.{HasRange}
 use Rattle.asl_backward_flow.proofs.graph.add_region.Given as goal
 
 abbrev pub invariant-loop-pc : goal.invariant-loop-pc

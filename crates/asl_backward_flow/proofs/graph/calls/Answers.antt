@@ -2,7 +2,8 @@ use Rattle.std.proofs.Common.{Vec, Global, List, ◌≡◌, ◌+◌, ◌∙◌, 
 use Rattle.std.proofs.lemmas.List.{length-map}
 use Rattle.asl_code.specs.declared.instr.Instr.TheVariants as instr
 use Rattle.asl_backward_flow.specs.Graph.{HasRows, IsCall}
-use Rattle.asl_backward_flow.proofs.Rows.{rows_begin, called_more, not_called, callee_there, as_many, as_many_empty}
+use Rattle.asl_backward_flow.proofs.Rows.{rows_begin, as_many, as_many_empty}
+use Rattle.asl_backward_flow.proofs.CallRows.{called_more, not_called, callee_there}
 use Rattle.asl_backward_flow.proofs.graph.calls.Goals.{in-Call+in_ok-add_to_row, in_default}
 use Rattle.asl_backward_flow.proofs.graph.calls.Goals as goal
 

@@ -8,10 +8,11 @@ use Rattle.asl_backward_flow.specs.Follows.{read}
 use Rattle.asl_backward_flow.specs.Masked.{AreAllMasks}
 use Rattle.asl_backward_flow.proofs.Each.{no_span}
 use Rattle.asl_backward_flow.proofs.Linking.{stays_ok}
-use Rattle.asl_backward_flow.proofs.Listing.{mapped_at}
+use Rattle.asl_backward_flow.proofs.SetNeeds.{mapped_at}
 use Rattle.asl_backward_flow.proofs.Masking.{masks_of, masks_back, on_more}
 use Rattle.asl_backward_flow.proofs.Points.{stands_at}
-use Rattle.asl_backward_flow.proofs.Tables.{locks_before, map_set}
+use Rattle.asl_backward_flow.proofs.ReplacedLists.{map_set}
+use Rattle.asl_backward_flow.proofs.Tables.{locks_before}
 use Rattle.asl_backward_flow.proofs.needs_step.stay_over.Goals as goal
 
 abbrev items_of : Vec Mask Global → List Mask

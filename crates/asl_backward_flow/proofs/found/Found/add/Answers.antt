@@ -1,5 +1,6 @@
 use Rattle.std.proofs.Common.{◌≡◌, ◌∙◌, rules, refl, arith, ap, length, slice_get}
-use Rattle.asl_backward_flow.proofs.Tables.{sets_before, first_before, part_adds, part_over, mark_adds, mark_has, mark_whole, mark_lists}
+use Rattle.asl_backward_flow.proofs.Tables.{sets_before, first_before}
+use Rattle.asl_backward_flow.proofs.Additions.{part_adds, part_over, mark_adds, mark_has, mark_whole, mark_lists}
 use Rattle.asl_backward_flow.proofs.found.Found.add.Goals as goal
 
 pub returns-in_err-number-clause-adds : goal.returns-in_err-number-clause-adds

@@ -1,0 +1,48 @@
+-- What one addition does to what is found, by the part of a region before and after it.
+use Rattle.std.proofs.Common.{◌≡◌, ℕ, ◌+◌, ◌<◌, ◌≤◌, Bool, List, Some, length, slice_get, slice_set, ap, sym, subst, get_or, ◌∙◌}
+use Rattle.asl_code.specs.declared.lock.Lock.{Lock}
+use Rattle.asl_backward_flow.specs.declared.region_needs.RegionNeeds.{RegionNeeds}
+use Rattle.asl_backward_flow.specs.Found.{Table, table_of, AreApart, locks_of, first_of, sets_of, HasFact, IsWhole, Adds, Lists, Numbers, IsMarked, IsPut}
+use Rattle.asl_backward_flow.proofs.Tables.{Step, step_of, locks_before, sets_before, first_before, is_over, adds_name, kept, adds_fact, has_fact, whole_fact, lists_fact}
+
+-- one region has one more lock, perhaps, and numbers in a set, perhaps
+module _ (parts : List RegionNeeds) (p q : ℕ) (x y : RegionNeeds) (list more : List (ℕ × ℕ)) (same : q ≡ p) (there : p < length parts) (is : x ≡ get_or parts q x) (region : y.region ≡ x.region) (first : y.first ≡ x.first)
+    (These : Lock → Type 0) (numbers : Numbers x.locks.keys y.locks.keys These) where
+  abbrev before : Table
+  before = table_of parts list
+
+  abbrev after : Table
+  after = table_of (slice_set parts q y) more
+
+  step : Step before after p y.locks.keys y.needs.items
+  step = step_of parts p q x y list more same there is region first
+
+  numbered : Numbers (locks_of before p) y.locks.keys These
+  numbered = subst (λ l. Numbers l y.locks.keys These) (sym (locks_before parts p q x list same there is)) numbers
+
+  pub part_adds : (pc : ℕ) → IsWhole before → y.needs.items ≡ x.needs.items → Adds before after (λ r s m. (r ≡ p) × (s ≡ pc) × These m)
+  part_adds pc whole kept = adds_name before after p y.locks.keys y.needs.items step These numbered (kept ∙ sym (sets_before parts p q x list same there is)) pc whole
+
+  pub part_over : 4096 < length y.locks.keys → (4096 < length (locks_of after p)) × AreApart (locks_of after p)
+  part_over over = is_over before after p y.locks.keys y.needs.items step These numbered over
+
+  module _ (place : ℕ) (these : ℕ → Type 0) (is_new : Bool) (marked : IsMarked x.needs.items y.needs.items place these is_new) (pc : ℕ) (at_place : pc ≡ x.first + place)
+      (stored : (n : ℕ) → these n → (m : Lock) × (slice_get y.locks.keys n ≡ Some m) × These m) (whole : IsWhole before) where
+    mark : IsMarked (sets_of before p) y.needs.items place these is_new
+    mark = subst (λ l. IsMarked l y.needs.items place these is_new) (sym (sets_before parts p q x list same there is)) marked
+
+    pc_is : pc ≡ first_of before p + place
+    pc_is = at_place ∙ ap (λ n. n + place) (sym (first_before parts p q x list same there is))
+
+    pub mark_adds : Adds before after (λ r s m. (r ≡ p) × (s ≡ pc) × These m)
+    mark_adds = adds_fact before after p y.locks.keys y.needs.items step These numbered place these is_new mark pc pc_is stored whole
+
+    pub mark_has : (n : ℕ) (m : Lock) → these n → slice_get y.locks.keys n ≡ Some m → HasFact after p pc m
+    mark_has = has_fact before after p y.locks.keys y.needs.items step These numbered place these is_new mark pc pc_is stored
+
+    module _ (listed : IsPut list more (p, pc) is_new) where
+      pub mark_whole : length y.locks.keys ≤ 4096 → IsWhole after
+      mark_whole few = whole_fact before after p y.locks.keys y.needs.items step These numbered place these is_new mark pc pc_is stored listed whole few
+
+      pub mark_lists : Lists before after
+      mark_lists = lists_fact before after p y.locks.keys y.needs.items step These numbered place these is_new mark pc pc_is stored listed
