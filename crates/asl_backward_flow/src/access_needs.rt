@@ -37,7 +37,7 @@ pub fn add_seeds(alloc: Global, analysis: &FlowAnalysis, found: &mut Found) -> R
     Ok(())
 }
 
-/// Adds what accesses need at each point of a region. The list is a place for locks, whatever is there.
+/// Adds what accesses need at each point of a region. `locks` is scratch space: what it holds at first does not count.
 fn add_region_seeds(
     alloc: Global,
     analysis: &FlowAnalysis,
@@ -58,7 +58,7 @@ fn add_region_seeds(
     Ok(())
 }
 
-/// Adds what an access needs. The list is a place for locks, whatever is there.
+/// Adds what an access needs. `locks` is scratch space: what it holds at first does not count.
 fn add_seeds_at(
     alloc: Global,
     analysis: &FlowAnalysis,
