@@ -45,9 +45,9 @@ pub fn events_lead_to_one_state()
         → LeadsTo image count events state → IsReached image count state }
 {}
 
-/// Journals, which go by the instruction table, and the computed step: the replies of a journal are the computed ones of its schedule,
-/// and it leads to the computed state, and to no other. Events of threads that are there whose replies are the computed ones are a
-/// journal. The same holds of events from any reached state on, and what holds of events that lead somewhere holds in any state.
+/// Journals and the computed step. The replies of a journal are the computed ones of its schedule, and it leads to the computed
+/// state. Events of threads that are there whose replies are the computed ones are a journal. Events that lead from any state to
+/// another go by the computed step, and those of threads that are there that go by it from a reached state lead to the computed one.
 pub fn journals_are_computed()
     ensures computed { (image : Image) (count : ℕ) (events : List Event) → IsJournal image count events
         → GoesBy image (start_of image count) events × LeadsTo image count events (state_at image count events) }
