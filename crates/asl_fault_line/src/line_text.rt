@@ -6,7 +6,7 @@ ghost use Rattle.asl_fault_line.specs.FaultText.{numbered, around};
 use arrayvec::{ArrayVec, CapacityError};
 use itoa::Buffer;
 
-/// A line's capacity. No line of a fault is longer.
+/// A line of at most 256 bytes. No line of a fault is longer.
 pub type Line = ArrayVec<u8, 256>;
 
 /// Adds bytes.
