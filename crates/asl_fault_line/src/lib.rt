@@ -1,4 +1,5 @@
-//! The names of faults, as a line of standard error has them, made without allocation.
+//! The names of faults, as a line of standard error has them, made without allocation. Each call adds to a line; where the line has no
+//! room left, it answers an error, and may have added a part.
 #![tactic(auto)]
 
 mod fault_text;
