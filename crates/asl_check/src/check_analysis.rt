@@ -23,7 +23,7 @@ pub struct CheckAnalysis {
 }
 
 /// What is known of a tree, with paths of at most `k` operations.
-pub fn analyse(alloc: Global, ast: &Ast, k: u32) -> Result<CheckAnalysis, InferFault>
+pub fn analyse(alloc: Global, ast: &Ast<'_>, k: u32) -> Result<CheckAnalysis, InferFault>
     requires { k ≤ 8 }
     ensures lowering { IfOk result (λ a. IsLowering (tree_of ast.now) a.lowering) }
     ensures kept { IfOk result (λ a. IsLegalLowering a.lowering) }

@@ -26,7 +26,7 @@ use std::alloc::Global;
 /// # Errors
 ///
 /// The first fault, in the order of `CheckFault`; `OutOfMemory` where an allocation failed.
-pub fn check(alloc: Global, ast: &Ast, program: &Program, k: u32) -> Result<(), CheckFault>
+pub fn check(alloc: Global, ast: &Ast<'_>, program: &Program, k: u32) -> Result<(), CheckFault>
     requires { k ≤ 8 }
     ensures checked { IfOk result (λ _. IsChecked (tree_of ast.now) k program.now) }
     ensures sound { IfOk result (λ _. NeverFaultsForLocks program.now) }

@@ -10,7 +10,7 @@ use asl_syntax::Ast;
 use asl_syntax::tree::Item;
 
 /// How many loads and stores the code of a program has before a pc.
-pub fn accesses_before(ast: &Ast, pc: u16) -> usize
+pub fn accesses_before(ast: &Ast<'_>, pc: u16) -> usize
     ensures { (l : Lowered) → IsLowering (tree_of ast.now) l → result ≡ accesses_before l.code pc }
 {
     let mut passed = Passed {

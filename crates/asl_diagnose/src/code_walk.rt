@@ -15,7 +15,7 @@ pub struct Passed {
 }
 
 /// After the code of a function.
-pub fn past_function(passed: Passed, function: &Function) -> Passed
+pub fn past_function(passed: Passed, function: &Function<'_>) -> Passed
     requires { room passed < 2 ^ 64 }
     ensures is { result ≡ after_function passed (function_of function.now) }
     ensures room { room result ≤ room passed }
@@ -25,7 +25,7 @@ pub fn past_function(passed: Passed, function: &Function) -> Passed
 
 /// After that of statements.
 #[cycle(past)]
-fn past_block(passed: Passed, block: &[Statement]) -> Passed
+fn past_block(passed: Passed, block: &[Statement<'_>]) -> Passed
     requires { room passed < 2 ^ 64 }
     ensures is { result ≡ after_block passed (block_of block.now) }
     ensures room { room result ≤ room passed }
@@ -39,7 +39,7 @@ fn past_block(passed: Passed, block: &[Statement]) -> Passed
 
 /// After that of a statement.
 #[cycle(past)]
-fn past_statement(passed: Passed, statement: &Statement) -> Passed
+fn past_statement(passed: Passed, statement: &Statement<'_>) -> Passed
     requires { room passed < 2 ^ 64 }
     ensures is { result ≡ after_stmt passed (statement_of statement.now) }
     ensures room { room result ≤ room passed }
@@ -58,7 +58,7 @@ fn past_statement(passed: Passed, statement: &Statement) -> Passed
 }
 
 /// After the jump over the second block of an `if`, if it has one.
-fn past_jump(passed: Passed, second: &[Statement]) -> Passed
+fn past_jump(passed: Passed, second: &[Statement<'_>]) -> Passed
     ensures is { after_block result (block_of second.now) ≡ after_else passed (block_of second.now) }
     ensures room { room result ≤ room passed }
 {
@@ -70,7 +70,7 @@ fn past_jump(passed: Passed, second: &[Statement]) -> Passed
 }
 
 /// After the code of a value.
-fn past_value(passed: Passed, value: &Value) -> Passed
+fn past_value(passed: Passed, value: &Value<'_>) -> Passed
     requires { room passed < 2 ^ 64 }
     ensures is { result ≡ after_value passed (value_of value.now) }
     ensures room { room result ≤ room passed }
@@ -105,7 +105,7 @@ fn past(passed: Passed, count: usize) -> Passed
 }
 
 /// How many instructions the code of a value has.
-fn value_size(value: &Value) -> usize
+fn value_size(value: &Value<'_>) -> usize
     ensures { result ≡ value_size (value_of value.now) }
 {
     match value {

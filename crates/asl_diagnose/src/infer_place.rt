@@ -15,7 +15,7 @@ use asl_emitter::InferFault;
 use asl_syntax::Ast;
 
 /// The place of a fault of a program.
-pub(crate) fn infer_place(source: &[u8], ast: &Ast, fault: InferFault) -> usize
+pub(crate) fn infer_place(source: &[u8], ast: &Ast<'_>, fault: InferFault) -> usize
     requires parses { Parses source.now (tree_of ast.now) }
     requires refused { (k : ℕ) × IsRefusedInference (tree_of ast.now) k fault }
     ensures { IsInferPlace source.now fault result }

@@ -37,7 +37,7 @@ pub struct Bringers {
 }
 
 /// What the regions of a program need.
-fn flow_of(alloc: Global, ast: &Ast, k: u32) -> Result<Flow, InferFault>
+fn flow_of(alloc: Global, ast: &Ast<'_>, k: u32) -> Result<Flow, InferFault>
     requires { k ≤ 8 }
     ensures { IfOk result (HasFlow (tree_of ast.now) k) }
 {

@@ -13,7 +13,7 @@ use asl_syntax::tree::Item;
 const MAX_CODE: usize = 65_535;
 
 /// The number of the function at which the code of a program passes the limit: of one instruction more none is left after it.
-pub fn overfull_function(ast: &Ast) -> usize
+pub fn overfull_function(ast: &Ast<'_>) -> usize
     requires { 65535 < (end_of (tree_of ast.now)).pc }
     ensures { IsOverfull (tree_of ast.now) result }
 {

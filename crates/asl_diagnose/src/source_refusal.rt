@@ -39,7 +39,7 @@ pub fn diagnose_source(
 fn diagnose_tree(
     alloc: Global,
     source: &[u8],
-    ast: &Ast,
+    ast: &Ast<'_>,
     k: u32,
 ) -> Result<Option<Diagnosis>, AllocError>
     requires small { k ≤ 8 }
@@ -112,7 +112,7 @@ fn expected_for(alloc: Global, source: &[u8], fault: &SyntaxFault) -> Result<Exp
 fn told_infer(
     alloc: Global,
     source: &[u8],
-    ast: &Ast,
+    ast: &Ast<'_>,
     fault: InferFault,
     k: u32,
 ) -> Result<Diagnosis, AllocError>

@@ -29,7 +29,7 @@ use std::alloc::{AllocError, Global};
 /// # Errors
 ///
 /// The first fault of lowering, of the classes and of the needed locks, in this order; `OutOfMemory` where an allocation failed.
-pub fn infer(alloc: Global, ast: &Ast, k: u32) -> Result<Program, InferFault>
+pub fn infer(alloc: Global, ast: &Ast<'_>, k: u32) -> Result<Program, InferFault>
     requires { k ≤ 8 }
     ensures inferred { IfOk result (IsInferredFor (tree_of ast.now) k) }
     ensures accepted { IfOk result (λ _. IsAccepted (tree_of ast.now) k) }

@@ -26,7 +26,7 @@ pub struct ExplainAnalysis {
 }
 
 /// What is known of a tree, with paths of at most `k` operations.
-pub fn analyse(alloc: Global, ast: &Ast, k: u32) -> Result<ExplainAnalysis, InferFault>
+pub fn analyse(alloc: Global, ast: &Ast<'_>, k: u32) -> Result<ExplainAnalysis, InferFault>
     requires { k ≤ 8 }
     ensures lowering { IfOk result (λ a. IsLowering (tree_of ast.now) a.lowering) }
     ensures classes { IfOk result (λ a. AreClasses a.lowering a.classes) }

@@ -6,16 +6,16 @@ use asl_refusals::answered;
 use asl_syntax::{Ast, Name, SyntaxFault, parse};
 use std::alloc::{AllocError, Global};
 
-fn parsed(alloc: Global, source: &[u8]) -> Result<Ast, SyntaxFault> {
+fn parsed(alloc: Global, source: &[u8]) -> Result<Ast<'_>, SyntaxFault> {
     parse(alloc, source)
 }
 
 /// The tree of a source.
-pub fn tree(alloc: Global, source: &[u8]) -> Option<Ast> {
+pub fn tree(alloc: Global, source: &[u8]) -> Option<Ast<'_>> {
     answered(alloc, SyntaxFault::OutOfMemory, parsed, source)
 }
 
-fn made_lower(alloc: Global, ast: &Ast) -> Result<Lowering, LowerFault> {
+fn made_lower(alloc: Global, ast: &Ast<'_>) -> Result<Lowering, LowerFault> {
     lower(alloc, ast)
 }
 

@@ -170,7 +170,7 @@ static INFERRED: [(u32, &[u8]); 2] = [
     ),
 ];
 
-fn inferred(alloc: Global, given: (&Ast, u32)) -> Result<Program, InferFault> {
+fn inferred(alloc: Global, given: (&Ast<'_>, u32)) -> Result<Program, InferFault> {
     infer(alloc, given.0, given.1.min(8))
 }
 

@@ -14,7 +14,7 @@ use crate::item_numbers::ItemNumbers;
 use crate::name_numbers::function_number;
 use crate::output::Output;
 use asl_code::Function;
-use asl_syntax::Name;
+use asl_syntax::Ident;
 use asl_syntax::tree::Item;
 use std::alloc::{AllocError, Global};
 
@@ -48,7 +48,7 @@ impl CodeDraft {
 }
 
 /// How many globals a program has.
-fn count_globals(items: &[Item]) -> usize
+fn count_globals(items: &[Item<'_>]) -> usize
     ensures { result ≡ length (globals_of (map item_of items.now)) }
 {
     let mut count = 0;
@@ -61,18 +61,18 @@ fn count_globals(items: &[Item]) -> usize
 }
 
 /// The number of the function `main`.
-pub fn main_number(items: &[Item]) -> usize
+pub fn main_number(items: &[Item<'_>]) -> usize
     ensures number { result ≡ number_of (function_names (functions_of (map item_of items.now))) (codes "main") }
     ensures bound { result ≤ length (functions_of (map item_of items.now)) }
 {
-    function_number(items, &Name::from_slice(b"main"))
+    function_number(items, &Ident::new(b"main".as_slice()))
 }
 
 /// The code of a program of few registers and few instructions.
-pub fn make_draft(
+pub fn make_draft<'t>(
     alloc: Global,
-    items: &[Item],
-    numbers: &ItemNumbers<'_>,
+    items: &[Item<'t>],
+    numbers: &ItemNumbers<'t>,
 ) -> Result<CodeDraft, AllocError>
     requires numbered { AreNumbered numbers.now (map item_of items.now) }
     requires few_globals { length (globals_of (map item_of items.now)) ≤ 1024 }

@@ -10,14 +10,14 @@ use crate::output::Output;
 use asl_syntax::tree::{Item, Statement, Value};
 
 /// Whether the code of a program has at most 65,535 instructions.
-pub fn has_few_instructions(items: &[Item]) -> bool
+pub fn has_few_instructions(items: &[Item<'_>]) -> bool
     ensures { IsTrue result ↔ ((end_of (map item_of items.now)).pc ≤ 65535) }
 {
     left_after_items(Output::MAX_LEN, items).is_some()
 }
 
 /// How many of so many instructions are left after the code of the functions, if there are enough.
-fn left_after_items(most: usize, items: &[Item]) -> Option<usize>
+fn left_after_items(most: usize, items: &[Item<'_>]) -> Option<usize>
     ensures enough { IfSome result (λ left. functions_size (functions_of (map item_of items.now)) + left ≡ most) }
     ensures short { IfNone result (most < functions_size (functions_of (map item_of items.now))) }
 {
@@ -32,7 +32,7 @@ fn left_after_items(most: usize, items: &[Item]) -> Option<usize>
 
 /// How many of so many instructions are left after the code of statements, if there are enough.
 #[cycle(size)]
-fn left_after_block(most: usize, block: &[Statement]) -> Option<usize>
+fn left_after_block(most: usize, block: &[Statement<'_>]) -> Option<usize>
     ensures enough { IfSome result (λ left. block_size (block_of block.now) + left ≡ most) }
     ensures short { IfNone result (most < block_size (block_of block.now)) }
 {
@@ -45,7 +45,7 @@ fn left_after_block(most: usize, block: &[Statement]) -> Option<usize>
 
 /// How many of so many instructions are left after the code of a statement, if there are enough.
 #[cycle(size)]
-fn left_after_statement(most: usize, statement: &Statement) -> Option<usize>
+fn left_after_statement(most: usize, statement: &Statement<'_>) -> Option<usize>
     ensures enough { IfSome result (λ left. stmt_size (statement_of statement.now) + left ≡ most) }
     ensures short { IfNone result (most < stmt_size (statement_of statement.now)) }
 {
@@ -63,14 +63,14 @@ fn left_after_statement(most: usize, statement: &Statement) -> Option<usize>
 }
 
 /// How many jumps an `if` has with this second block: one, and one over the block where it is not empty.
-fn jumps_of_if(second: &[Statement]) -> usize
+fn jumps_of_if(second: &[Statement<'_>]) -> usize
     ensures { result + block_size (block_of second.now) ≡ suc (else_size (block_of second.now)) }
 {
     if second.is_empty() { 1 } else { 2 }
 }
 
 /// How many instructions the code of statements has, where there are at most 65,535.
-pub fn block_size(block: &[Statement]) -> usize
+pub fn block_size(block: &[Statement<'_>]) -> usize
     requires { block_size (block_of block.now) ≤ 65535 }
     ensures { result ≡ block_size (block_of block.now) }
 {
@@ -78,7 +78,7 @@ pub fn block_size(block: &[Statement]) -> usize
 }
 
 /// How many instructions the code of a value has.
-pub fn value_size(value: &Value) -> usize
+pub fn value_size(value: &Value<'_>) -> usize
     ensures { result ≡ value_size (value_of value.now) }
 {
     match value {

@@ -13,7 +13,7 @@ ghost use Rattle.asl_lower.specs.ScopeView.{scope_view};
 use crate::output::Output;
 use crate::scope::Scope;
 use asl_code::Instr;
-use asl_syntax::Name;
+use asl_syntax::Ident;
 use asl_syntax::tree::{Operator, Value};
 use std::alloc::AllocError;
 
@@ -30,7 +30,7 @@ fn operator_instr(operator: Operator, to: u8, left: u8, right: u8) -> Instr
 }
 
 /// The first argument register of a call, 0 where there are no arguments.
-fn first_argument(scope: &Scope<'_, '_>, arguments: &[Name]) -> u8
+fn first_argument(scope: &Scope<'_, '_>, arguments: &[Ident<'_>]) -> u8
     ensures { result ≡ first_argument (scope_view scope.now) arguments.now }
 {
     if arguments.is_empty() {
@@ -44,7 +44,7 @@ fn first_argument(scope: &Scope<'_, '_>, arguments: &[Name]) -> u8
 fn emit_moves(
     out: &mut Output,
     scope: &Scope<'_, '_>,
-    arguments: &[Name],
+    arguments: &[Ident<'_>],
     first: u8,
 ) -> Result<(), AllocError>
     requires few { first + length arguments.now ≤ 64 }
@@ -65,8 +65,8 @@ fn emit_call(
     out: &mut Output,
     scope: &Scope<'_, '_>,
     to: u8,
-    name: &Name,
-    arguments: &[Name],
+    name: &Ident<'_>,
+    arguments: &[Ident<'_>],
 ) -> Result<(), AllocError>
     requires few { length scope.now.locals.now + length arguments.now ≤ 64 }
     requires room { (past_value (CallValue name.now arguments.now) (place_of out.old)).pc ≤ 65535 }
@@ -88,7 +88,7 @@ pub fn emit_value(
     out: &mut Output,
     scope: &Scope<'_, '_>,
     to: u8,
-    value: &Value,
+    value: &Value<'_>,
 ) -> Result<(), AllocError>
     requires few { length scope.now.locals.now + value_arguments (value_of value.now) ≤ 64 }
     requires room { (past_value (value_of value.now) (place_of out.old)).pc ≤ 65535 }

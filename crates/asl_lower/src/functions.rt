@@ -23,7 +23,7 @@ use asl_syntax::tree::{Function, Item};
 use std::alloc::{AllocError, Global};
 
 /// The locals of a function in the order of their registers, where it has at most 64 registers.
-fn locals_of(function: &Function) -> Result<Locals<'_>, TooMany>
+fn locals_of<'t>(function: &Function<'t>) -> Result<Locals<'t>, TooMany>
     ensures locals { IfOk result (λ v. names_of v.items ≡ locals_of (function_of function.now)) }
     ensures few { OnOk result (registers_of (function_of function.now) ≤ 64) }
     ensures many { OnErr result (64 < registers_of (function_of function.now)) }
@@ -43,14 +43,14 @@ fn locals_of(function: &Function) -> Result<Locals<'_>, TooMany>
 }
 
 /// Whether a function has more than 64 registers.
-fn is_crowded(function: &Function) -> bool
+fn is_crowded(function: &Function<'_>) -> bool
     ensures { result ≡ nat_lt 64 (registers_of (function_of function.now)) }
 {
     locals_of(function).is_err()
 }
 
 /// The number of the first function with more than 64 registers.
-pub fn first_crowded(items: &[Item]) -> Option<u16>
+pub fn first_crowded(items: &[Item<'_>]) -> Option<u16>
     requires { length (functions_of (map item_of items.now)) ≤ 256 }
     ensures { result ≡ first_crowded 0 (functions_of (map item_of items.now)) }
 {
@@ -67,12 +67,12 @@ pub fn first_crowded(items: &[Item]) -> Option<u16>
 }
 
 /// Emits a function, and tells its entry of the table.
-fn emit_function(
+fn emit_function<'t>(
     out: &mut Output,
-    items: &[Item],
-    numbers: &ItemNumbers<'_>,
+    items: &[Item<'t>],
+    numbers: &ItemNumbers<'t>,
     number: u16,
-    function: &Function,
+    function: &Function<'t>,
 ) -> Result<Entry, AllocError>
     requires numbered { AreNumbered numbers.now (map item_of items.now) }
     requires few_globals { length (globals_of (map item_of items.now)) ≤ 1024 }
@@ -102,11 +102,11 @@ fn emit_function(
 }
 
 /// Emits the functions of a program one after the other, and tells their table.
-pub fn emit_functions(
+pub fn emit_functions<'t>(
     alloc: Global,
     out: &mut Output,
-    items: &[Item],
-    numbers: &ItemNumbers<'_>,
+    items: &[Item<'t>],
+    numbers: &ItemNumbers<'t>,
 ) -> Result<Vec<Entry>, AllocError>
     requires numbered { AreNumbered numbers.now (map item_of items.now) }
     requires few_globals { length (globals_of (map item_of items.now)) ≤ 1024 }

@@ -10,18 +10,21 @@ ghost use Rattle.asl_lower.specs.Numbered.{numbers_from, IsNumbering, AreNumbere
 
 use crate::name_numbers::{function_number, global_number};
 use asl_syntax::tree::Item;
-use asl_syntax::{Name, NumberedNames};
+use asl_syntax::{Ident, NumberedNames};
 use std::alloc::{AllocError, Global};
 
 /// The globals and the functions of a program with their numbers, or none of them where there was no memory for them.
 #[derive(Drop)]
-pub struct ItemNumbers<'a> {
-    globals: NumberedNames<'a>,
-    functions: NumberedNames<'a>,
+pub struct ItemNumbers<'t> {
+    globals: NumberedNames<'t>,
+    functions: NumberedNames<'t>,
 }
 
 /// The names of the globals in the order of the text.
-fn list_globals(alloc: Global, items: &[Item]) -> Result<Vec<&Name>, AllocError>
+fn list_globals<'a, 't>(
+    alloc: Global,
+    items: &'a [Item<'t>],
+) -> Result<Vec<&'a Ident<'t>>, AllocError>
     ensures { IfOk result (λ v. names_of v.items ≡ globals_of (map item_of items.now)) }
 {
     let mut names = Vec::new(alloc);
@@ -34,7 +37,10 @@ fn list_globals(alloc: Global, items: &[Item]) -> Result<Vec<&Name>, AllocError>
 }
 
 /// The names of the functions in the order of the text.
-fn list_functions(alloc: Global, items: &[Item]) -> Result<Vec<&Name>, AllocError>
+fn list_functions<'a, 't>(
+    alloc: Global,
+    items: &'a [Item<'t>],
+) -> Result<Vec<&'a Ident<'t>>, AllocError>
     ensures { IfOk result (λ v. names_of v.items ≡ function_names (functions_of (map item_of items.now))) }
 {
     let mut names = Vec::new(alloc);
@@ -47,7 +53,10 @@ fn list_functions(alloc: Global, items: &[Item]) -> Result<Vec<&Name>, AllocErro
 }
 
 /// Names with their places as numbers; of equal names the first one counts.
-fn number_names<'a>(alloc: Global, names: &[&'a Name]) -> Result<NumberedNames<'a>, AllocError>
+fn number_names<'t>(
+    alloc: Global,
+    names: &[&Ident<'t>],
+) -> Result<NumberedNames<'t>, AllocError>
     ensures { IfOk result (λ n. counts_in n ≡ numbers_from 0 (names_of names.now)) }
 {
     let mut numbering = NumberedNames::new(alloc);
@@ -60,7 +69,10 @@ fn number_names<'a>(alloc: Global, names: &[&'a Name]) -> Result<NumberedNames<'
 }
 
 /// The globals with their numbers.
-fn number_globals(alloc: Global, items: &[Item]) -> Result<NumberedNames<'_>, AllocError>
+fn number_globals<'t>(
+    alloc: Global,
+    items: &[Item<'t>],
+) -> Result<NumberedNames<'t>, AllocError>
     ensures { IfOk result (λ n. counts_in n ≡ numbers_from 0 (globals_of (map item_of items.now))) }
 {
     let names = list_globals(alloc, items)?;
@@ -68,7 +80,10 @@ fn number_globals(alloc: Global, items: &[Item]) -> Result<NumberedNames<'_>, Al
 }
 
 /// The functions with their numbers.
-fn number_functions(alloc: Global, items: &[Item]) -> Result<NumberedNames<'_>, AllocError>
+fn number_functions<'t>(
+    alloc: Global,
+    items: &[Item<'t>],
+) -> Result<NumberedNames<'t>, AllocError>
     ensures { IfOk result (λ n. counts_in n ≡ numbers_from 0 (function_names (functions_of (map item_of items.now)))) }
 {
     let names = list_functions(alloc, items)?;
@@ -76,10 +91,10 @@ fn number_functions(alloc: Global, items: &[Item]) -> Result<NumberedNames<'_>, 
 }
 
 /// The numbering, or that of no name where there is none.
-fn or_empty<'a>(
+fn or_empty<'t>(
     alloc: Global,
-    numbering: Result<NumberedNames<'a>, AllocError>,
-) -> NumberedNames<'a>
+    numbering: Result<NumberedNames<'t>, AllocError>,
+) -> NumberedNames<'t>
     ensures { (names : List (List ℕ)) → IfOk numbering.entry (λ n. counts_in n ≡ numbers_from 0 names) → IsNumbering (counts_in result) names }
 {
     match numbering {
@@ -88,9 +103,9 @@ fn or_empty<'a>(
     }
 }
 
-impl<'a> ItemNumbers<'a> {
+impl<'t> ItemNumbers<'t> {
     /// The globals and functions of a program with their numbers.
-    pub fn of(alloc: Global, items: &'a [Item]) -> ItemNumbers<'a>
+    pub fn of(alloc: Global, items: &[Item<'t>]) -> ItemNumbers<'t>
         ensures { AreNumbered result (map item_of items.now) }
     {
         let globals = or_empty(alloc, number_globals(alloc, items));
@@ -99,7 +114,7 @@ impl<'a> ItemNumbers<'a> {
     }
 
     /// The number of a global of the program.
-    pub fn global(&self, items: &[Item], name: &Name) -> usize
+    pub fn global(&self, items: &[Item<'_>], name: &Ident<'_>) -> usize
         requires { AreNumbered self.now (map item_of items.now) }
         ensures number { result ≡ number_of (globals_of (map item_of items.now)) name.now }
         ensures bound { result ≤ length (globals_of (map item_of items.now)) }
@@ -111,7 +126,7 @@ impl<'a> ItemNumbers<'a> {
     }
 
     /// The number of a function of the program.
-    pub fn function(&self, items: &[Item], name: &Name) -> usize
+    pub fn function(&self, items: &[Item<'_>], name: &Ident<'_>) -> usize
         requires { AreNumbered self.now (map item_of items.now) }
         ensures number { result ≡ number_of (function_names (functions_of (map item_of items.now))) name.now }
         ensures bound { result ≤ length (functions_of (map item_of items.now)) }

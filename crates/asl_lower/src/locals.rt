@@ -8,7 +8,7 @@ ghost use Rattle.asl_lower.specs.NamesView.{names_of};
 use crate::name_numbers::number_of;
 use arrayvec::ArrayVec;
 use asl_code::image_limits::REGS;
-use asl_syntax::Name;
+use asl_syntax::Ident;
 use asl_syntax::tree::{Statement, Value};
 
 /// The function would have more than 64 registers.
@@ -19,10 +19,10 @@ pub struct TooMany;
 pub const MAX_REGISTERS: usize = REGS as usize;
 
 /// The bytes of names, in the order of their registers.
-pub type Locals<'a> = ArrayVec<&'a [u8], MAX_REGISTERS>;
+pub type Locals<'t> = ArrayVec<&'t [u8], MAX_REGISTERS>;
 
 /// Adds a local, unless it is there.
-fn add_local<'a>(locals: &mut Locals<'a>, name: &'a Name) -> Result<(), TooMany>
+fn add_local<'t>(locals: &mut Locals<'t>, name: &Ident<'t>) -> Result<(), TooMany>
     ensures ok { IfOk result (λ _. names_of locals.new.items ≡ with_name (names_of locals.old.items) name.now) }
     ensures many { OnErr result (64 < length (with_name (names_of locals.old.items) name.now)) }
 {
@@ -38,7 +38,7 @@ fn add_local<'a>(locals: &mut Locals<'a>, name: &'a Name) -> Result<(), TooMany>
 
 /// Adds the locals that statements assign.
 #[cycle(locals)]
-pub fn add_block<'a>(locals: &mut Locals<'a>, block: &'a [Statement]) -> Result<(), TooMany>
+pub fn add_block<'t>(locals: &mut Locals<'t>, block: &[Statement<'t>]) -> Result<(), TooMany>
     ensures ok { IfOk result (λ _. names_of locals.new.items ≡ block_locals (names_of locals.old.items) (block_of block.now)) }
     ensures many { OnErr result (64 < length (block_locals (names_of locals.old.items) (block_of block.now))) }
 {
@@ -50,7 +50,7 @@ pub fn add_block<'a>(locals: &mut Locals<'a>, block: &'a [Statement]) -> Result<
 
 /// Adds the locals that a statement assigns.
 #[cycle(locals)]
-fn add_statement<'a>(locals: &mut Locals<'a>, statement: &'a Statement) -> Result<(), TooMany>
+fn add_statement<'t>(locals: &mut Locals<'t>, statement: &Statement<'t>) -> Result<(), TooMany>
     ensures ok { IfOk result (λ _. names_of locals.new.items ≡ stmt_locals (names_of locals.old.items) (statement_of statement.now)) }
     ensures many { OnErr result (64 < length (stmt_locals (names_of locals.old.items) (statement_of statement.now))) }
 {
@@ -68,7 +68,7 @@ fn add_statement<'a>(locals: &mut Locals<'a>, statement: &'a Statement) -> Resul
 }
 
 /// How many arguments a value passes.
-fn value_arguments(value: &Value) -> usize
+fn value_arguments(value: &Value<'_>) -> usize
     ensures { result ≡ value_arguments (value_of value.now) }
 {
     match value {
@@ -86,7 +86,7 @@ fn value_arguments(value: &Value) -> usize
 
 /// How many arguments the longest call in statements passes.
 #[cycle(arguments)]
-pub fn block_arguments(block: &[Statement]) -> usize
+pub fn block_arguments(block: &[Statement<'_>]) -> usize
     ensures { result ≡ block_arguments (block_of block.now) }
 {
     let mut most = 0;
@@ -98,7 +98,7 @@ pub fn block_arguments(block: &[Statement]) -> usize
 
 /// How many arguments the longest call in a statement passes.
 #[cycle(arguments)]
-fn stmt_arguments(statement: &Statement) -> usize
+fn stmt_arguments(statement: &Statement<'_>) -> usize
     ensures { result ≡ stmt_arguments (statement_of statement.now) }
 {
     match statement {

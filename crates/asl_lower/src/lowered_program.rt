@@ -21,7 +21,7 @@ use asl_syntax::tree::Item;
 use std::alloc::Global;
 
 /// The lowering of the items of a program, or its first fault.
-fn lower_items(alloc: Global, items: &[Item]) -> Result<Lowering, LowerFault>
+fn lower_items(alloc: Global, items: &[Item<'_>]) -> Result<Lowering, LowerFault>
     requires parsed { ∥ IsParsed (map item_of items.now) ∥₁ }
     requires few_globals { length (globals_of (map item_of items.now)) ≤ 1024 }
     requires few_functions { length (functions_of (map item_of items.now)) ≤ 256 }
@@ -50,7 +50,7 @@ fn lower_items(alloc: Global, items: &[Item]) -> Result<Lowering, LowerFault>
 /// # Errors
 ///
 /// The first fault of the program; `OutOfMemory` where an allocation failed.
-pub fn lower(alloc: Global, ast: &Ast) -> Result<Lowering, LowerFault>
+pub fn lower(alloc: Global, ast: &Ast<'_>) -> Result<Lowering, LowerFault>
     ensures lowering { IfOk result (λ l. IsLowering (tree_of ast.now) l) }
     ensures room { IfOk result (λ _. HasRoom (tree_of ast.now)) }
     ensures inside { IfOk result (λ l. (function pc : ℕ) → ¬ IsBareAccess l function pc) }

@@ -6,18 +6,18 @@ ghost use Rattle.asl_lower.specs.Names.{number_of, function_names};
 ghost use Rattle.asl_lower.specs.NamesView.{names_of};
 ghost use Rattle.asl_syntax.specs.View.{item_of};
 
-use asl_syntax::Name;
+use asl_syntax::Ident;
 use asl_syntax::tree::Item;
 
 /// Whether bytes are those of a name.
-fn is_name(bytes: &[u8], name: &Name) -> bool
+fn is_name(bytes: &[u8], name: &Ident<'_>) -> bool
     ensures { result ≡ bytes_eq bytes.now name.now }
 {
     bytes == name.as_slice()
 }
 
 /// The place of a name among others, and their number where it is not among them.
-pub fn number_of(names: &[&[u8]], name: &Name) -> usize
+pub fn number_of(names: &[&[u8]], name: &Ident<'_>) -> usize
     ensures number { result ≡ number_of (names_of names.now) name.now }
     ensures bound { result ≤ length names.now }
 {
@@ -32,7 +32,7 @@ pub fn number_of(names: &[&[u8]], name: &Name) -> usize
 }
 
 /// The number of a global.
-pub fn global_number(items: &[Item], name: &Name) -> usize
+pub fn global_number(items: &[Item<'_>], name: &Ident<'_>) -> usize
     ensures number { result ≡ number_of (globals_of (map item_of items.now)) name.now }
     ensures bound { result ≤ length (globals_of (map item_of items.now)) }
 {
@@ -49,7 +49,7 @@ pub fn global_number(items: &[Item], name: &Name) -> usize
 }
 
 /// The number of a function.
-pub fn function_number(items: &[Item], name: &Name) -> usize
+pub fn function_number(items: &[Item<'_>], name: &Ident<'_>) -> usize
     ensures number { result ≡ number_of (function_names (functions_of (map item_of items.now))) name.now }
     ensures bound { result ≤ length (functions_of (map item_of items.now)) }
 {

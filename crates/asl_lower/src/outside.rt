@@ -16,11 +16,11 @@ use crate::code_draft::main_number;
 use crate::code_size::{block_size, value_size};
 use crate::item_numbers::ItemNumbers;
 use crate::section_reach::{MAX_FUNCTIONS, Marks, next_function};
-use asl_syntax::Name;
+use asl_syntax::Ident;
 use asl_syntax::tree::{Function, Item, Statement, Value};
 
 /// Marks a function that is called.
-fn mark_callee(items: &[Item], numbers: &ItemNumbers<'_>, marks: &mut Marks, name: &Name)
+fn mark_callee(items: &[Item<'_>], numbers: &ItemNumbers<'_>, marks: &mut Marks, name: &Ident<'_>)
     requires { AreNumbered numbers.now (map item_of items.now) }
     ensures { MarksThese (number_of (function_names (functions_of (map item_of items.now))) name.now ∷ []) marks.old marks.new }
 {
@@ -32,7 +32,7 @@ fn mark_callee(items: &[Item], numbers: &ItemNumbers<'_>, marks: &mut Marks, nam
 
 /// Marks the functions that statements call outside sections.
 #[cycle(callees)]
-fn mark_block(items: &[Item], numbers: &ItemNumbers<'_>, marks: &mut Marks, block: &[Statement])
+fn mark_block(items: &[Item<'_>], numbers: &ItemNumbers<'_>, marks: &mut Marks, block: &[Statement<'_>])
     requires { AreNumbered numbers.now (map item_of items.now) }
     ensures { MarksThese (block_callees (function_names (functions_of (map item_of items.now))) (block_of block.now)) marks.old marks.new }
 {
@@ -44,10 +44,10 @@ fn mark_block(items: &[Item], numbers: &ItemNumbers<'_>, marks: &mut Marks, bloc
 /// Marks the functions that a statement calls outside sections.
 #[cycle(callees)]
 fn mark_statement(
-    items: &[Item],
+    items: &[Item<'_>],
     numbers: &ItemNumbers<'_>,
     marks: &mut Marks,
-    statement: &Statement,
+    statement: &Statement<'_>,
 )
     requires { AreNumbered numbers.now (map item_of items.now) }
     ensures { MarksThese (stmt_callees (function_names (functions_of (map item_of items.now))) (statement_of statement.now)) marks.old marks.new }
@@ -67,7 +67,7 @@ fn mark_statement(
 }
 
 /// The function of a number.
-fn function_at(items: &[Item], number: usize) -> Option<&Function>
+fn function_at<'a, 't>(items: &'a [Item<'t>], number: usize) -> Option<&'a Function<'t>>
     ensures { MatchOption result
         (length (functions_of (map item_of items.now)) ≤ number)
         (λ f. slice_get (functions_of (map item_of items.now)) number ≡ Some (function_of f.now)) }
@@ -85,7 +85,7 @@ fn function_at(items: &[Item], number: usize) -> Option<&Function>
 }
 
 /// How many functions a program has.
-fn count_functions(items: &[Item]) -> usize
+fn count_functions(items: &[Item<'_>]) -> usize
     ensures { result ≡ length (functions_of (map item_of items.now)) }
 {
     let mut count = 0;
@@ -98,7 +98,7 @@ fn count_functions(items: &[Item]) -> usize
 }
 
 /// Marks all that calls outside sections lead to from the functions with a mark.
-fn follow_calls(items: &[Item], numbers: &ItemNumbers<'_>, marks: &mut Marks)
+fn follow_calls(items: &[Item<'_>], numbers: &ItemNumbers<'_>, marks: &mut Marks)
     requires numbered { AreNumbered numbers.now (map item_of items.now) }
     requires layout { HasLayout (lowering_of (map item_of items.now)) }
     ensures kept { KeepsMarks marks.old marks.new }
@@ -116,7 +116,7 @@ fn follow_calls(items: &[Item], numbers: &ItemNumbers<'_>, marks: &mut Marks)
 }
 
 /// Which functions are bare.
-fn bare_functions(items: &[Item], numbers: &ItemNumbers<'_>) -> Marks
+fn bare_functions(items: &[Item<'_>], numbers: &ItemNumbers<'_>) -> Marks
     requires numbered { AreNumbered numbers.now (map item_of items.now) }
     requires layout { HasLayout (lowering_of (map item_of items.now)) }
     ensures { (function : ℕ) → IsMarked result function ↔ IsBare (lowering_of (map item_of items.now)) function }
@@ -135,7 +135,7 @@ struct Access {
 
 /// The pc after statements that begin at a pc, or the first access outside sections in them.
 #[cycle(access)]
-fn pass_block(pc: usize, block: &[Statement]) -> Result<usize, Access>
+fn pass_block(pc: usize, block: &[Statement<'_>]) -> Result<usize, Access>
     requires { pc + block_size (block_of block.now) ≤ 65535 }
     ensures past { IfOk result (λ past. past ≡ pc + block_size (block_of block.now)) }
     ensures none { OnOk result (block_access (block_of block.now) pc ≡ None) }
@@ -150,7 +150,7 @@ fn pass_block(pc: usize, block: &[Statement]) -> Result<usize, Access>
 
 /// The pc after a statement that begins at a pc, or the first access outside sections in it.
 #[cycle(access)]
-fn pass_statement(pc: usize, statement: &Statement) -> Result<usize, Access>
+fn pass_statement(pc: usize, statement: &Statement<'_>) -> Result<usize, Access>
     requires { pc + stmt_size (statement_of statement.now) ≤ 65535 }
     ensures past { IfOk result (λ past. past ≡ pc + stmt_size (statement_of statement.now)) }
     ensures none { OnOk result (stmt_access (statement_of statement.now) pc ≡ None) }
@@ -173,7 +173,7 @@ fn pass_statement(pc: usize, statement: &Statement) -> Result<usize, Access>
 }
 
 /// How many jumps stand in front of the second block of an `if`: one, where the block is not empty.
-fn jumps_over(second: &[Statement]) -> usize
+fn jumps_over(second: &[Statement<'_>]) -> usize
     ensures size { result + block_size (block_of second.now) ≡ else_size (block_of second.now) }
     ensures access { (pc : ℕ) → else_access (block_of second.now) pc ≡ block_access (block_of second.now) (pc + result) }
 {
@@ -181,7 +181,7 @@ fn jumps_over(second: &[Statement]) -> usize
 }
 
 /// The pc after the code of a value that begins at a pc, or its access.
-fn pass_value(pc: usize, value: &Value) -> Result<usize, Access>
+fn pass_value(pc: usize, value: &Value<'_>) -> Result<usize, Access>
     requires { pc + value_size (value_of value.now) ≤ 65535 }
     ensures past { IfOk result (λ past. past ≡ pc + value_size (value_of value.now)) }
     ensures none { OnOk result (value_access (value_of value.now) pc ≡ None) }
@@ -201,7 +201,7 @@ fn pass_value(pc: usize, value: &Value) -> Result<usize, Access>
 }
 
 /// The lowest access of a bare function outside its sections, as the function and the pc.
-pub fn first_bare_access(items: &[Item], numbers: &ItemNumbers<'_>) -> Option<(u16, u16)>
+pub fn first_bare_access(items: &[Item<'_>], numbers: &ItemNumbers<'_>) -> Option<(u16, u16)>
     requires numbered { AreNumbered numbers.now (map item_of items.now) }
     requires layout { HasLayout (lowering_of (map item_of items.now)) }
     requires few { length (lowering_of (map item_of items.now)).code ≤ 65535 }

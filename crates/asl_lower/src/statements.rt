@@ -13,7 +13,7 @@ use crate::emit::emit_value;
 use crate::output::Output;
 use crate::scope::Scope;
 use asl_code::Instr;
-use asl_syntax::Name;
+use asl_syntax::Ident;
 use asl_syntax::tree::Statement;
 use std::alloc::AllocError;
 
@@ -22,7 +22,7 @@ use std::alloc::AllocError;
 pub fn emit_block(
     out: &mut Output,
     scope: &Scope<'_, '_>,
-    block: &[Statement],
+    block: &[Statement<'_>],
 ) -> Result<(), AllocError>
     requires few { length scope.now.locals.now + block_arguments (block_of block.now) ≤ 64 }
     requires room { (past_block (block_of block.now) (place_of out.old)).pc ≤ 65535 }
@@ -39,7 +39,7 @@ pub fn emit_block(
 fn emit_statement(
     out: &mut Output,
     scope: &Scope<'_, '_>,
-    statement: &Statement,
+    statement: &Statement<'_>,
 ) -> Result<(), AllocError>
     requires few { length scope.now.locals.now + stmt_arguments (statement_of statement.now) ≤ 64 }
     requires room { (past_stmt (statement_of statement.now) (place_of out.old)).pc ≤ 65535 }
@@ -92,8 +92,8 @@ fn emit_statement(
 fn emit_if(
     out: &mut Output,
     scope: &Scope<'_, '_>,
-    x: &Name,
-    body: &[Statement],
+    x: &Ident<'_>,
+    body: &[Statement<'_>],
 ) -> Result<(), AllocError>
     requires few { length scope.now.locals.now + stmt_arguments (IfStatement x.now (block_of body.now) NoMore) ≤ 64 }
     requires room { (past_stmt (IfStatement x.now (block_of body.now) NoMore) (place_of out.old)).pc ≤ 65535 }
@@ -113,8 +113,8 @@ fn emit_if(
 fn emit_while(
     out: &mut Output,
     scope: &Scope<'_, '_>,
-    x: &Name,
-    body: &[Statement],
+    x: &Ident<'_>,
+    body: &[Statement<'_>],
 ) -> Result<(), AllocError>
     requires few { length scope.now.locals.now + stmt_arguments (WhileStatement x.now (block_of body.now)) ≤ 64 }
     requires room { (past_stmt (WhileStatement x.now (block_of body.now)) (place_of out.old)).pc ≤ 65535 }

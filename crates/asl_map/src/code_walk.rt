@@ -13,7 +13,7 @@ use asl_syntax::tree::{Function, Item, Statement, Value};
 use std::alloc::{AllocError, Global};
 
 /// How many instructions the code of a value has.
-fn value_size(value: &Value) -> usize
+fn value_size(value: &Value<'_>) -> usize
     ensures { result ≡ value_size (value_of value.now) }
 {
     match value {
@@ -71,7 +71,7 @@ fn pass_no_else(tokens: &mut Tokens<'_>)
 
 /// Walks statements, one after the other.
 #[cycle(walk)]
-fn walk_block(walker: &mut Walker<'_>, block: &[Statement]) -> Result<(), AllocError>
+fn walk_block(walker: &mut Walker<'_>, block: &[Statement<'_>]) -> Result<(), AllocError>
     ensures { IfOk result (λ _. Walks (block_pieces (block_of block.now) (spots_left walker.old.tokens)) (block_rest (block_of block.now) (spots_left walker.old.tokens)) walker.old walker.new) }
 {
     for statement in block {
@@ -82,7 +82,7 @@ fn walk_block(walker: &mut Walker<'_>, block: &[Statement]) -> Result<(), AllocE
 
 /// Walks a statement.
 #[cycle(walk)]
-fn walk_statement(walker: &mut Walker<'_>, statement: &Statement) -> Result<(), AllocError>
+fn walk_statement(walker: &mut Walker<'_>, statement: &Statement<'_>) -> Result<(), AllocError>
     ensures { IfOk result (λ _. Walks (stmt_pieces (statement_of statement.now) (spots_left walker.old.tokens)) (stmt_rest (statement_of statement.now) (spots_left walker.old.tokens)) walker.old walker.new) }
 {
     match statement {
@@ -109,7 +109,7 @@ fn walk_statement(walker: &mut Walker<'_>, statement: &Statement) -> Result<(), 
 
 /// Walks what follows the first block of an `if`, its brace first.
 #[cycle(walk)]
-fn walk_second(walker: &mut Walker<'_>, second: &[Statement]) -> Result<(), AllocError>
+fn walk_second(walker: &mut Walker<'_>, second: &[Statement<'_>]) -> Result<(), AllocError>
     ensures { IfOk result (λ _. Walks (else_pieces (block_of second.now) (spots_left walker.old.tokens)) (else_rest (block_of second.now) (spots_left walker.old.tokens)) walker.old walker.new) }
 {
     if second.is_empty() {
@@ -124,7 +124,7 @@ fn walk_second(walker: &mut Walker<'_>, second: &[Statement]) -> Result<(), Allo
 }
 
 /// Walks a function, and tells where it stands.
-fn walk_function(walker: &mut Walker<'_>, function: &Function) -> Result<Named, AllocError>
+fn walk_function(walker: &mut Walker<'_>, function: &Function<'_>) -> Result<Named, AllocError>
     ensures walks { IfOk result (λ _. Walks (function_pieces (function_of function.now) (spots_left walker.old.tokens)) (function_rest (function_of function.now) (spots_left walker.old.tokens)) walker.old walker.new) }
     ensures named { IfOk result (λ named. named ≡ named_of (function_of function.now) (spots_left walker.old.tokens)) }
 {
@@ -134,7 +134,7 @@ fn walk_function(walker: &mut Walker<'_>, function: &Function) -> Result<Named, 
     walk_head(walker, Kind::Return)?;
     let last = pass(&mut walker.tokens);
     Ok(Named {
-        name: function.name.copy(),
+        name: function.name.to_name(),
         from,
         to: last + 1,
     })
@@ -144,7 +144,7 @@ fn walk_function(walker: &mut Walker<'_>, function: &Function) -> Result<Named, 
 pub fn walk_items(
     alloc: Global,
     walker: &mut Walker<'_>,
-    items: &[Item],
+    items: &[Item<'_>],
 ) -> Result<Vec<Named>, AllocError>
     ensures walks { IfOk result (λ _. Walks (items_pieces (map item_of items.now) (spots_left walker.old.tokens)) (items_rest (map item_of items.now) (spots_left walker.old.tokens)) walker.old walker.new) }
     ensures named { IfOk result (λ named. named.items ≡ items_named (map item_of items.now) (spots_left walker.old.tokens)) }

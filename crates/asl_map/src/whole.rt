@@ -27,7 +27,7 @@ use std::alloc::{AllocError, Global};
 fn made(
     alloc: Global,
     source: &[u8],
-    ast: &Ast,
+    ast: &Ast<'_>,
     lowering: &Lowering,
     classes: &Classes,
 ) -> Result<Map, AllocError>

@@ -77,7 +77,7 @@ fn answer_source(
 }
 
 /// The program that is inferred for a tree, with paths of at most eight operations.
-fn inferred(alloc: Global, ast: &Ast, k: u32) -> Result<Program, InferFault> {
+fn inferred(alloc: Global, ast: &Ast<'_>, k: u32) -> Result<Program, InferFault> {
     infer(alloc, ast, if k <= 8 { k } else { 8 })
 }
 

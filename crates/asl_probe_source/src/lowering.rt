@@ -21,14 +21,14 @@ pub fn answer(alloc: Global, calls: &str, out: &mut String) -> Result<(), AllocE
 }
 
 /// What `lower` answers, at the second call if the first gets no memory.
-fn lower_again(alloc: Global, ast: &Ast) -> Result<Lowering, LowerFault> {
+fn lower_again(alloc: Global, ast: &Ast<'_>) -> Result<Lowering, LowerFault> {
     match lower(alloc, ast) {
         Err(LowerFault::OutOfMemory) => lower(alloc, ast),
         answer => answer,
     }
 }
 
-fn answer_tree(alloc: Global, call: &str, ast: &Ast, out: &mut String) -> Result<(), AllocError> {
+fn answer_tree(alloc: Global, call: &str, ast: &Ast<'_>, out: &mut String) -> Result<(), AllocError> {
     let lowered = if call == "lower_once" {
         lower(alloc, ast)
     } else {

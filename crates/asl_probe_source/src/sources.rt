@@ -54,7 +54,7 @@ fn put_place(place: Option<usize>, out: &mut String) -> Result<(), AllocError> {
     }
 }
 
-fn put_outcome(outcome: Result<Ast, SyntaxFault>, out: &mut String) -> Result<(), AllocError> {
+fn put_outcome(outcome: Result<Ast<'_>, SyntaxFault>, out: &mut String) -> Result<(), AllocError> {
     match outcome {
         Ok(_ast) => put_line("ok", out),
         Err(fault) => write!(out, "{fault}\n"),
@@ -62,7 +62,7 @@ fn put_outcome(outcome: Result<Ast, SyntaxFault>, out: &mut String) -> Result<()
 }
 
 /// What `parse` answers, at the second call if the first gets no memory.
-pub fn parse_again(alloc: Global, text: &[u8]) -> Result<Ast, SyntaxFault> {
+pub fn parse_again(alloc: Global, text: &[u8]) -> Result<Ast<'_>, SyntaxFault> {
     match parse(alloc, text) {
         Err(SyntaxFault::OutOfMemory) => parse(alloc, text),
         answer => answer,
@@ -70,7 +70,7 @@ pub fn parse_again(alloc: Global, text: &[u8]) -> Result<Ast, SyntaxFault> {
 }
 
 /// What `print` answers, at the second call if the first gets no memory.
-fn print_again(alloc: Global, ast: &Ast) -> Result<Vec<u8>, AllocError> {
+fn print_again(alloc: Global, ast: &Ast<'_>) -> Result<Vec<u8>, AllocError> {
     match print(alloc, ast) {
         Err(_refused) => print(alloc, ast),
         text => text,
@@ -106,7 +106,7 @@ fn put_text(text: &[u8], out: &mut String) -> Result<(), AllocError> {
 }
 
 /// How many items a tree has, and the names of its globals and functions.
-fn put_items(alloc: Global, ast: &Ast, out: &mut String) -> Result<(), AllocError> {
+fn put_items(alloc: Global, ast: &Ast<'_>, out: &mut String) -> Result<(), AllocError> {
     write!(out, "items {} globals", ast.items().len())?;
     put_globals(alloc, ast, out)?;
     out.push_str(" functions")?;
@@ -114,7 +114,7 @@ fn put_items(alloc: Global, ast: &Ast, out: &mut String) -> Result<(), AllocErro
     out.push('\n')
 }
 
-fn put_globals(alloc: Global, ast: &Ast, out: &mut String) -> Result<(), AllocError> {
+fn put_globals(alloc: Global, ast: &Ast<'_>, out: &mut String) -> Result<(), AllocError> {
     let globals = match ast.globals(alloc) {
         Err(_refused) => ast.globals(alloc)?,
         Ok(globals) => globals,
@@ -125,7 +125,7 @@ fn put_globals(alloc: Global, ast: &Ast, out: &mut String) -> Result<(), AllocEr
     Ok(())
 }
 
-fn put_functions(alloc: Global, ast: &Ast, out: &mut String) -> Result<(), AllocError> {
+fn put_functions(alloc: Global, ast: &Ast<'_>, out: &mut String) -> Result<(), AllocError> {
     let functions = match ast.functions(alloc) {
         Err(_refused) => ast.functions(alloc)?,
         Ok(functions) => functions,

@@ -12,7 +12,7 @@ ghost use Rattle.asl_syntax.specs.Checked.{IsWritten};
 
 mod lines;
 
-use crate::name::Name;
+use crate::ident::Ident;
 use crate::open_block::{Frame, Header, Part, make_header, no_part, push, settle, shut};
 use crate::source_limits::{Counts, MAX_BYTES};
 use crate::tree::{Function, Item, Statement, Value};
@@ -28,27 +28,27 @@ const LIKELY_LEN: usize = 256;
 
 /// What has been built.
 #[derive(Drop)]
-struct Builder {
+struct Builder<'t> {
     alloc: Global,
-    items: Vec<Item>,
-    name: Name,
-    parameters: Vec<Name>,
-    arguments: Vec<Name>,
-    top: Part,
-    frames: Vec<Frame>,
+    items: Vec<Item<'t>>,
+    name: Ident<'t>,
+    parameters: Vec<Ident<'t>>,
+    arguments: Vec<Ident<'t>>,
+    top: Part<'t>,
+    frames: Vec<Frame<'t>>,
 }
 
-impl Builder {
+impl<'t> Builder<'t> {
     ghost use Rattle.asl_syntax.specs.BuilderView.{stack_of, state_in};
 
     /// Nothing yet.
-    fn new(alloc: Global) -> Builder
+    fn new(alloc: Global) -> Builder<'t>
         ensures { stack_of result ≡ no_stack }
     {
         Builder {
             alloc,
             items: Vec::new(alloc),
-            name: Name::from_slice(&[]),
+            name: Ident::new(&[]),
             parameters: Vec::new(alloc),
             arguments: Vec::new(alloc),
             top: no_part(alloc),
@@ -83,14 +83,14 @@ impl Builder {
 
     /// Adds a statement to the innermost block.
     #[inline(always)]
-    fn put(&mut self, statement: Statement) -> Result<(), AllocError>
-        ensures { IfOk result (λ _. stack_of self.new ≡ put (statement_of statement) (stack_of self.old)) }
+    fn put(&mut self, statement: Statement<'t>) -> Result<(), AllocError>
+        ensures { IfOk result (λ _. stack_of self.new ≡ put (statement_of statement.entry) (stack_of self.old)) }
     {
         push(&mut self.top.done, statement)
     }
 
     /// Opens a block.
-    fn open(&mut self, opening: Opening<'_>) -> Result<(), AllocError>
+    fn open(&mut self, opening: Opening<'t>) -> Result<(), AllocError>
         requires { OpeningFits (opening_of opening) }
         ensures { IfOk result (λ _. stack_of self.new ≡ apply (Begin (opening_of opening.entry)) (stack_of self.old)) }
     {
@@ -115,13 +115,13 @@ impl Builder {
     }
 
     /// Ends the present function. The next one is likely to be as long, so it begins with capacity for that, if there is memory.
-    fn finish(&mut self, returned: Name) -> Result<(), AllocError>
-        ensures { IfOk result (λ _. stack_of self.new ≡ apply (Finish returned) (stack_of self.old)) }
+    fn finish(&mut self, returned: Ident<'t>) -> Result<(), AllocError>
+        ensures { IfOk result (λ _. stack_of self.new ≡ apply (Finish returned.entry) (stack_of self.old)) }
     {
         let Part { done, pending: _ } = mem::replace(&mut self.top, no_part(self.alloc));
         let _ = self.top.done.reserve(done.len().min(LIKELY_LEN));
         self.items.push(Item::Function(Function {
-            name: mem::replace(&mut self.name, Name::from_slice(&[])),
+            name: mem::replace(&mut self.name, Ident::new(&[])),
             parameters: mem::replace(&mut self.parameters, Vec::new(self.alloc)),
             body: done,
             returned,
@@ -130,8 +130,8 @@ impl Builder {
     }
 
     /// Ends a call, with the arguments so far.
-    fn call(&mut self, target: Name, function: Name) -> Result<(), AllocError>
-        ensures { IfOk result (λ _. stack_of self.new ≡ apply (EmitCall target function) (stack_of self.old)) }
+    fn call(&mut self, target: Ident<'t>, function: Ident<'t>) -> Result<(), AllocError>
+        ensures { IfOk result (λ _. stack_of self.new ≡ apply (EmitCall target.entry function.entry) (stack_of self.old)) }
     {
         let arguments = mem::replace(&mut self.arguments, Vec::new(self.alloc));
         self.put(Statement::Assign(target, Value::Call(function, arguments)))
@@ -139,30 +139,30 @@ impl Builder {
 
     /// Builds what a token completes.
     #[inline(never)]
-    fn apply(&mut self, act: Act<'_>) -> Result<(), AllocError>
+    fn apply(&mut self, act: Act<'t>) -> Result<(), AllocError>
         requires { ActFits (act_of act) }
         ensures { IfOk result (λ _. stack_of self.new ≡ apply (act_of act.entry) (stack_of self.old)) }
     {
         match act {
             Act::Keep => {}
-            Act::Declare(x) => self.items.push(Item::Global(Name::from_slice(x)))?,
+            Act::Declare(x) => self.items.push(Item::Global(Ident::new(x)))?,
             Act::Start(x) => {
-                self.name = Name::from_slice(x);
+                self.name = Ident::new(x);
                 self.parameters.clear();
             }
-            Act::Parameter(x) => self.parameters.push(Name::from_slice(x))?,
-            Act::Argument(x) => self.arguments.push(Name::from_slice(x))?,
+            Act::Parameter(x) => self.parameters.push(Ident::new(x))?,
+            Act::Argument(x) => self.arguments.push(Ident::new(x))?,
             Act::Emit(line) => self.emit(line)?,
-            Act::EmitCall(x, f) => self.call(Name::from_slice(x), Name::from_slice(f))?,
+            Act::EmitCall(x, f) => self.call(Ident::new(x), Ident::new(f))?,
             Act::Begin(opening) => self.open(opening)?,
             Act::Close => self.close()?,
-            Act::Finish(x) => self.finish(Name::from_slice(x))?,
+            Act::Finish(x) => self.finish(Ident::new(x))?,
         }
         Ok(())
     }
 
     /// Reads one token: the control after it, or nothing where it may not stand.
-    fn advance<'t>(
+    fn advance(
         &mut self,
         control: Control<'t>,
         token: Token<'t>,
@@ -186,8 +186,8 @@ impl Builder {
     }
 
     /// The items, where a program may end.
-    fn into_items(self, control: Control<'_>) -> Option<Vec<Item>>
-        ensures { option_map items_of result ≡ whole_at (control_of control.entry) (stack_of self) }
+    fn into_items(self, control: Control<'_>) -> Option<Vec<Item<'t>>>
+        ensures { option_map items_of result ≡ whole_at (control_of control.entry) (stack_of self.entry) }
     {
         match control {
             Control::ItemStart => Some(self.items),
@@ -197,7 +197,7 @@ impl Builder {
 }
 
 /// The items of a text, or nothing where it is not a program within the limits. Its tokens are read once.
-pub fn build(alloc: Global, text: &[u8]) -> Result<Option<Vec<Item>>, AllocError>
+pub fn build(alloc: Global, text: &[u8]) -> Result<Option<Vec<Item<'_>>>, AllocError>
     ensures { IfOk result (λ items. MatchOption items (IsWritten text.now → ⊥) (λ v. IsSpelled text.now (items_of v))) }
 {
     if text.len() > MAX_BYTES {

@@ -15,7 +15,10 @@ use asl_grammar::lexer::Tokens;
 use std::alloc::{AllocError, Global};
 
 /// How many parameters each function has.
-pub fn parameter_counts(alloc: Global, items: &[Item]) -> Result<NumberedNames<'_>, AllocError>
+pub fn parameter_counts<'t>(
+    alloc: Global,
+    items: &[Item<'t>],
+) -> Result<NumberedNames<'t>, AllocError>
     ensures { IfOk result (λ known. counts_in known ≡ parameter_counts (map item_of items.now)) }
 {
     let mut known = NumberedNames::new(alloc);
@@ -30,7 +33,7 @@ pub fn parameter_counts(alloc: Global, items: &[Item]) -> Result<NumberedNames<'
 }
 
 /// Whether a mention is a call with too many or too few arguments.
-fn is_wrong_call(counts: &NumberedNames<'_>, mention: Mention<'_>) -> bool
+fn is_wrong_call(counts: &NumberedNames<'_>, mention: Mention<'_, '_>) -> bool
     ensures { result ≡ is_wrong_call (counts_in counts.now) (mention_of mention.entry) }
 {
     match mention {
@@ -43,7 +46,7 @@ fn is_wrong_call(counts: &NumberedNames<'_>, mention: Mention<'_>) -> bool
 }
 
 /// Whether a mention is a wrong call.
-fn has_wrong_call(counts: &NumberedNames<'_>, mentions: &[Mention<'_>]) -> bool
+fn has_wrong_call(counts: &NumberedNames<'_>, mentions: &[Mention<'_, '_>]) -> bool
     ensures { result ≡ list_any (is_wrong_call (counts_in counts.now)) (mentions_of mentions.now) }
 {
     for mention in mentions {
@@ -58,7 +61,7 @@ fn has_wrong_call(counts: &NumberedNames<'_>, mentions: &[Mention<'_>]) -> bool
 /// read only where there is one.
 pub fn wrong_call(
     counts: &NumberedNames<'_>,
-    mentions: &[Mention<'_>],
+    mentions: &[Mention<'_, '_>],
     text: &[u8],
 ) -> Option<usize>
     ensures { result ≡ wrong_call_from (counts_in counts.now) (mentions_of mentions.now) (name_places (tokens_of text.now)) }

@@ -92,7 +92,7 @@ pub fn a_printed_tree_is_read_back()
 
 /// So is each `Ast`: what answers as `parse` does for the text that `print` writes answers the same tree, or that the
 /// text is too long, or that memory ran out.
-pub fn a_printed_ast_is_read_back(ast: &Ast)
+pub fn a_printed_ast_is_read_back(ast: &Ast<'_>)
     ensures kept { length (printed (tree_of ast.now)) ≤ 1048576 → Parses (printed (tree_of ast.now)) (tree_of ast.now) }
     ensures long { 1048576 < length (printed (tree_of ast.now)) → IsFault (printed (tree_of ast.now)) (Limit 1048576) }
     ensures answer { (r : Result Ast SyntaxFault) → IfOk r (λ a. Parses (printed (tree_of ast.now)) (tree_of a)) → IfErr r (IsFault (printed (tree_of ast.now))) → IsReadBack (tree_of ast.now) (printed (tree_of ast.now)) r }

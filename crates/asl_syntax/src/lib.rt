@@ -6,6 +6,7 @@ mod build;
 mod call_arity;
 mod declared_words;
 mod fault;
+mod ident;
 pub mod laws;
 mod mentions;
 mod name;
@@ -24,6 +25,7 @@ mod words;
 
 pub use ast::Ast;
 pub use fault::SyntaxFault;
+pub use ident::Ident;
 pub use name::Name;
 pub use numbered_names::NumberedNames;
 pub use parser::parse;

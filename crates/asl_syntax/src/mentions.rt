@@ -5,25 +5,28 @@ ghost use Rattle.asl_syntax.specs.Mentions.{UsesLocal, DeclaresParameter, value_
 ghost use Rattle.asl_syntax.specs.View.{value_of, statement_of, block_of, function_of, item_of};
 ghost use Rattle.asl_syntax.specs.MentionView.{mention_of, mentions_of};
 
-use crate::name::Name;
+use crate::ident::Ident;
 use crate::tree::{Function, Item, Statement, Value};
 use std::alloc::{AllocError, Global};
 
 /// A name, and what it does where it stands.
 #[derive(Clone, Copy)]
-pub enum Mention<'a> {
-    Global(&'a Name),
-    Function(&'a Name),
-    Parameter(&'a Name),
-    Assigned(&'a Name),
-    Local(&'a Name),
-    GlobalUse(&'a Name),
+pub enum Mention<'a, 't> {
+    Global(&'a Ident<'t>),
+    Function(&'a Ident<'t>),
+    Parameter(&'a Ident<'t>),
+    Assigned(&'a Ident<'t>),
+    Local(&'a Ident<'t>),
+    GlobalUse(&'a Ident<'t>),
     /// A call, with how many arguments.
-    Call(&'a Name, usize),
+    Call(&'a Ident<'t>, usize),
 }
 
 /// Adds a name.
-fn push<'a>(out: &mut Vec<Mention<'a>>, mention: Mention<'a>) -> Result<(), AllocError>
+fn push<'a, 't>(
+    out: &mut Vec<Mention<'a, 't>>,
+    mention: Mention<'a, 't>,
+) -> Result<(), AllocError>
     ensures { IfOk result (λ _. mentions_of out.new.items ≡ mentions_of out.old.items ++ mention_of mention.entry ∷ []) }
 {
     out.push(mention)?;
@@ -31,7 +34,10 @@ fn push<'a>(out: &mut Vec<Mention<'a>>, mention: Mention<'a>) -> Result<(), Allo
 }
 
 /// The names of arguments.
-fn push_locals<'a>(out: &mut Vec<Mention<'a>>, names: &'a [Name]) -> Result<(), AllocError>
+fn push_locals<'a, 't>(
+    out: &mut Vec<Mention<'a, 't>>,
+    names: &'a [Ident<'t>],
+) -> Result<(), AllocError>
     ensures { IfOk result (λ _. mentions_of out.new.items ≡ mentions_of out.old.items ++ map UsesLocal names.now) }
 {
     for name in names {
@@ -41,7 +47,10 @@ fn push_locals<'a>(out: &mut Vec<Mention<'a>>, names: &'a [Name]) -> Result<(), 
 }
 
 /// The names of parameters.
-fn push_parameters<'a>(out: &mut Vec<Mention<'a>>, names: &'a [Name]) -> Result<(), AllocError>
+fn push_parameters<'a, 't>(
+    out: &mut Vec<Mention<'a, 't>>,
+    names: &'a [Ident<'t>],
+) -> Result<(), AllocError>
     ensures { IfOk result (λ _. mentions_of out.new.items ≡ mentions_of out.old.items ++ map DeclaresParameter names.now) }
 {
     for name in names {
@@ -51,7 +60,10 @@ fn push_parameters<'a>(out: &mut Vec<Mention<'a>>, names: &'a [Name]) -> Result<
 }
 
 /// The names of a value.
-fn push_value<'a>(out: &mut Vec<Mention<'a>>, value: &'a Value) -> Result<(), AllocError>
+fn push_value<'a, 't>(
+    out: &mut Vec<Mention<'a, 't>>,
+    value: &'a Value<'t>,
+) -> Result<(), AllocError>
     ensures { IfOk result (λ _. mentions_of out.new.items ≡ mentions_of out.old.items ++ value_mentions (value_of value.now)) }
 {
     match value {
@@ -76,7 +88,10 @@ fn push_value<'a>(out: &mut Vec<Mention<'a>>, value: &'a Value) -> Result<(), Al
 
 /// The names of statements.
 #[cycle(mentions)]
-fn push_block<'a>(out: &mut Vec<Mention<'a>>, block: &'a [Statement]) -> Result<(), AllocError>
+fn push_block<'a, 't>(
+    out: &mut Vec<Mention<'a, 't>>,
+    block: &'a [Statement<'t>],
+) -> Result<(), AllocError>
     ensures { IfOk result (λ _. mentions_of out.new.items ≡ mentions_of out.old.items ++ block_mentions (block_of block.now)) }
 {
     for statement in block {
@@ -87,9 +102,9 @@ fn push_block<'a>(out: &mut Vec<Mention<'a>>, block: &'a [Statement]) -> Result<
 
 /// The names of a statement.
 #[cycle(mentions)]
-fn push_statement<'a>(
-    out: &mut Vec<Mention<'a>>,
-    statement: &'a Statement,
+fn push_statement<'a, 't>(
+    out: &mut Vec<Mention<'a, 't>>,
+    statement: &'a Statement<'t>,
 ) -> Result<(), AllocError>
     ensures { IfOk result (λ _. mentions_of out.new.items ≡ mentions_of out.old.items ++ statement_mentions (statement_of statement.now)) }
 {
@@ -118,9 +133,9 @@ fn push_statement<'a>(
 }
 
 /// The names of a function.
-pub fn push_function<'a>(
-    out: &mut Vec<Mention<'a>>,
-    function: &'a Function,
+pub fn push_function<'a, 't>(
+    out: &mut Vec<Mention<'a, 't>>,
+    function: &'a Function<'t>,
 ) -> Result<(), AllocError>
     ensures { IfOk result (λ _. mentions_of out.new.items ≡ mentions_of out.old.items ++ function_mentions (function_of function.now)) }
 {
@@ -132,7 +147,10 @@ pub fn push_function<'a>(
 }
 
 /// The names of an item.
-fn push_item<'a>(out: &mut Vec<Mention<'a>>, item: &'a Item) -> Result<(), AllocError>
+fn push_item<'a, 't>(
+    out: &mut Vec<Mention<'a, 't>>,
+    item: &'a Item<'t>,
+) -> Result<(), AllocError>
     ensures { IfOk result (λ _. mentions_of out.new.items ≡ mentions_of out.old.items ++ item_mentions (item_of item.now)) }
 {
     match item {
@@ -143,7 +161,10 @@ fn push_item<'a>(out: &mut Vec<Mention<'a>>, item: &'a Item) -> Result<(), Alloc
 }
 
 /// The names of a program.
-pub fn mentions<'a>(alloc: Global, items: &'a [Item]) -> Result<Vec<Mention<'a>>, AllocError>
+pub fn mentions<'a, 't>(
+    alloc: Global,
+    items: &'a [Item<'t>],
+) -> Result<Vec<Mention<'a, 't>>, AllocError>
     ensures { IfOk result (λ v. mentions_of v.items ≡ mentions (map item_of items.now)) }
 {
     let mut out = Vec::new(alloc);

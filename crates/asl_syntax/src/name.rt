@@ -45,13 +45,6 @@ impl Name {
     {
         self.bytes.as_slice()
     }
-
-    /// The same name again.
-    pub fn copy(&self) -> Name
-        ensures { result ≡ self.now }
-    {
-        Name::from_slice(self.as_slice())
-    }
 }
 
 impl fmt::Display for Name {

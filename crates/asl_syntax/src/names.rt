@@ -9,6 +9,7 @@ ghost use Rattle.asl_syntax.specs.View.{function_of, item_of};
 ghost use Rattle.asl_syntax.specs.declared.names.Space.TheVariants.{Globals, Functions};
 ghost use Rattle.asl_syntax.specs.NumberedNamesView.{names_known};
 
+use crate::ident::Ident;
 use crate::mentions::{Mention, push_function};
 use crate::name::Name;
 use crate::numbered_names::NumberedNames;
@@ -28,7 +29,7 @@ pub enum Space {
 }
 
 /// The first name that is declared a second time: of globals, of functions, or of the parameters of one function.
-pub fn first_twice(alloc: Global, mentions: &[Mention<'_>]) -> Result<Option<Name>, AllocError>
+pub fn first_twice(alloc: Global, mentions: &[Mention<'_, '_>]) -> Result<Option<Name>, AllocError>
     ensures { IfOk result (λ o. o ≡ first_twice no_name no_name no_name (mentions_of mentions.now)) }
 {
     let mut globals = NumberedNames::new(alloc);
@@ -38,20 +39,20 @@ pub fn first_twice(alloc: Global, mentions: &[Mention<'_>]) -> Result<Option<Nam
         match mention {
             Mention::Global(x) => {
                 if globals.has(x) {
-                    return Ok(Some(x.copy()));
+                    return Ok(Some(x.to_name()));
                 }
                 globals.add(x, 0)?;
             }
             Mention::Function(x) => {
                 if functions.has(x) {
-                    return Ok(Some(x.copy()));
+                    return Ok(Some(x.to_name()));
                 }
                 functions.add(x, 0)?;
                 parameters = NumberedNames::new(alloc);
             }
             Mention::Parameter(x) => {
                 if parameters.has(x) {
-                    return Ok(Some(x.copy()));
+                    return Ok(Some(x.to_name()));
                 }
                 parameters.add(x, 0)?;
             }
@@ -62,7 +63,7 @@ pub fn first_twice(alloc: Global, mentions: &[Mention<'_>]) -> Result<Option<Nam
 }
 
 /// The name that a mention declares in a name space.
-fn declared_in(space: Space, mention: Mention<'_>) -> Option<&Name>
+fn declared_in<'a, 't>(space: Space, mention: Mention<'a, 't>) -> Option<&'a Ident<'t>>
     ensures { option_copied result ≡ declared_in space (mention_of mention.entry) }
 {
     match (space, mention) {
@@ -76,11 +77,11 @@ fn declared_in(space: Space, mention: Mention<'_>) -> Option<&Name>
 }
 
 /// The names that are declared in a name space.
-fn names_in<'a>(
+fn names_in<'t>(
     alloc: Global,
     space: Space,
-    mentions: &[Mention<'a>],
-) -> Result<NumberedNames<'a>, AllocError>
+    mentions: &[Mention<'_, 't>],
+) -> Result<NumberedNames<'t>, AllocError>
     ensures { IfOk result (λ known. names_known known ≡ names_in space (mentions_of mentions.now)) }
 {
     let mut known = NumberedNames::new(alloc);
@@ -95,19 +96,19 @@ fn names_in<'a>(
 }
 
 /// The name, if it is not known.
-fn missing<'a>(known: &NumberedNames<'_>, name: &'a Name) -> Option<&'a Name>
+fn missing<'a, 't>(known: &NumberedNames<'_>, name: &'a Ident<'t>) -> Option<&'a Ident<'t>>
     ensures { option_copied result ≡ (if names_known known.now name.now then None else Some name.now) }
 {
     if known.has(name) { None } else { Some(name) }
 }
 
 /// A used name that its name space does not have.
-fn unknown_use<'a>(
+fn unknown_use<'a, 't>(
     globals: &NumberedNames<'_>,
     functions: &NumberedNames<'_>,
     locals: &NumberedNames<'_>,
-    mention: Mention<'a>,
-) -> Option<&'a Name>
+    mention: Mention<'a, 't>,
+) -> Option<&'a Ident<'t>>
     ensures { option_copied result ≡ unknown_use (names_known globals.now) (names_known functions.now) (names_known locals.now) (mention_of mention.entry) }
 {
     match mention {
@@ -119,12 +120,12 @@ fn unknown_use<'a>(
 }
 
 /// The first name of a function that is used and not known. `own` is a place for its mentions, whatever is there.
-fn unknown_in_function<'a>(
+fn unknown_in_function<'a, 't>(
     alloc: Global,
     globals: &NumberedNames<'_>,
     functions: &NumberedNames<'_>,
-    function: &'a Function,
-    own: &mut Vec<Mention<'a>>,
+    function: &'a Function<'t>,
+    own: &mut Vec<Mention<'a, 't>>,
 ) -> Result<Option<Name>, AllocError>
     ensures { IfOk result (λ o. o ≡ unknown_in_function (names_known globals.now) (names_known functions.now) (function_mentions (function_of function.now))) }
 {
@@ -133,7 +134,7 @@ fn unknown_in_function<'a>(
     let locals = names_in(alloc, Space::Locals, own.as_slice())?;
     for mention in own.as_slice() {
         if let Some(name) = unknown_use(globals, functions, &locals, *mention) {
-            return Ok(Some(name.copy()));
+            return Ok(Some(name.to_name()));
         }
     }
     Ok(None)
@@ -142,8 +143,8 @@ fn unknown_in_function<'a>(
 /// The first name of a program that is used and nowhere declared.
 pub fn unknown(
     alloc: Global,
-    items: &[Item],
-    mentions: &[Mention<'_>],
+    items: &[Item<'_>],
+    mentions: &[Mention<'_, '_>],
 ) -> Result<Option<Name>, AllocError>
     ensures { IfOk result (λ o. o ≡ first_unknown (names_in Globals (mentions_of mentions.now)) (names_in Functions (mentions_of mentions.now)) (map item_of items.now)) }
 {
@@ -175,7 +176,7 @@ pub fn next_name(tokens: &mut Tokens<'_>) -> Option<usize>
 }
 
 /// Whether an item is a function `main` of one parameter.
-fn is_main(item: &Item) -> bool
+fn is_main(item: &Item<'_>) -> bool
     ensures { result ≡ is_main (item_of item.now) }
 {
     match item {
@@ -186,7 +187,7 @@ fn is_main(item: &Item) -> bool
 }
 
 /// Whether there is a function `main` of one parameter.
-pub fn has_main(items: &[Item]) -> bool
+pub fn has_main(items: &[Item<'_>]) -> bool
     ensures { result ≡ has_main (map item_of items.now) }
 {
     for item in items {

@@ -4,7 +4,7 @@ ghost use Rattle.std.specs.Prelude.{◌≡◌, ℕ, List, None, IfOk, OnErr, tru
 ghost use Rattle.asl_syntax.specs.Rules.{no_count, with_count, no_name, with_name};
 ghost use Rattle.asl_syntax.specs.NumberedNamesView.{number_among, number_in_tree, counts_in, names_known};
 
-use crate::name::Name;
+use crate::ident::Ident;
 use arrayvec::ArrayVec;
 use std::alloc::{AllocError, Global};
 use std::collections::BTreeMap;
@@ -43,14 +43,14 @@ fn renumber(names: &mut [(&[u8], usize)], name: &[u8], number: usize) -> bool
 /// Names, each with a number. The first few of them stand in a row: most functions have no more locals, and to compare a
 /// name with each takes less than to search a map.
 #[derive(Drop)]
-pub struct NumberedNames<'a> {
-    few: ArrayVec<(&'a [u8], usize), FEW>,
-    names: BTreeMap<&'a [u8], usize>,
+pub struct NumberedNames<'t> {
+    few: ArrayVec<(&'t [u8], usize), FEW>,
+    names: BTreeMap<&'t [u8], usize>,
 }
 
-impl<'a> NumberedNames<'a> {
+impl<'t> NumberedNames<'t> {
     /// No name.
-    pub fn new(alloc: Global) -> NumberedNames<'a>
+    pub fn new(alloc: Global) -> NumberedNames<'t>
         ensures counts { counts_in result ≡ no_count }
         ensures names { names_known result ≡ no_name }
     {
@@ -65,7 +65,7 @@ impl<'a> NumberedNames<'a> {
     /// # Errors
     ///
     /// An allocation failed, which only a name that is not there yet may want. Then all is as it was.
-    pub fn add(&mut self, name: &'a Name, number: usize) -> Result<(), AllocError>
+    pub fn add(&mut self, name: &Ident<'t>, number: usize) -> Result<(), AllocError>
         ensures counts { IfOk result (λ _. counts_in self.new ≡ with_count name.now number (counts_in self.old)) }
         ensures names { IfOk result (λ _. names_known self.new ≡ with_name name.now (names_known self.old)) }
         ensures memory { OnErr result (names_known self.old name.now ≡ false) }
@@ -83,7 +83,7 @@ impl<'a> NumberedNames<'a> {
     }
 
     /// Adds a name with its number to the map. Where memory is refused, all is as it was.
-    fn add_to_tree(&mut self, name: &'a [u8], number: usize) -> Result<(), AllocError>
+    fn add_to_tree(&mut self, name: &'t [u8], number: usize) -> Result<(), AllocError>
         ensures row { self.new.few ≡ self.old.few }
         ensures map { IfOk result (λ _. (q : List ℕ) → number_in_tree self.new q ≡ with_count name.now number (number_in_tree self.old) q) }
         ensures memory { OnErr result (number_in_tree self.old name.now ≡ None) }
@@ -94,7 +94,7 @@ impl<'a> NumberedNames<'a> {
     }
 
     /// The number beside a name.
-    pub fn find(&self, name: &Name) -> Option<usize>
+    pub fn find(&self, name: &Ident<'_>) -> Option<usize>
         ensures { result ≡ counts_in self.now name.now }
     {
         match number_among(self.few.as_slice(), name.as_slice()) {
@@ -104,7 +104,7 @@ impl<'a> NumberedNames<'a> {
     }
 
     /// Whether a name is there.
-    pub fn has(&self, name: &Name) -> bool
+    pub fn has(&self, name: &Ident<'_>) -> bool
         ensures { result ≡ names_known self.now name.now }
     {
         self.find(name).is_some()

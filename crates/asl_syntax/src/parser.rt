@@ -60,7 +60,7 @@ fn check_text(alloc: Global, text: &[u8]) -> Result<(), SyntaxFault>
 /// The first fault of a program's names, judged by maps.
 fn find_by_maps(
     alloc: Global,
-    items: &[Item],
+    items: &[Item<'_>],
     text: &[u8],
 ) -> Result<Option<SyntaxFault>, AllocError>
     requires { IsSpelled text.now (map item_of items.now) }
@@ -106,7 +106,7 @@ fn find_in_place(text: &[u8]) -> Option<SyntaxFault>
 
 /// The items of a program within the limits, which is read once. Any other text, and one for which memory ran out, is judged
 /// fault by fault; if there is no fault, memory was all that was wanting.
-fn make_items(alloc: Global, text: &[u8]) -> Result<Vec<Item>, SyntaxFault>
+fn make_items(alloc: Global, text: &[u8]) -> Result<Vec<Item<'_>>, SyntaxFault>
     ensures ok { IfOk result (λ v. IsSpelled text.now (items_of v)) }
     ensures err { IfErr result (IsFault text.now) }
 {
@@ -122,7 +122,7 @@ fn make_items(alloc: Global, text: &[u8]) -> Result<Vec<Item>, SyntaxFault>
 
 /// The first fault of a program's names. Where memory for maps is refused, they are judged without.
 #[tactic(auto, using(crate::proofs::Placed::written_by, crate::proofs::Placed::of_tree))]
-fn find_fault(alloc: Global, items: &[Item], text: &[u8]) -> Option<SyntaxFault>
+fn find_fault(alloc: Global, items: &[Item<'_>], text: &[u8]) -> Option<SyntaxFault>
     requires { IsSpelled text.now (map item_of items.now) }
     ensures { MatchOption result (Parses text.now (map item_of items.now)) (IsFault text.now) }
 {
@@ -138,7 +138,7 @@ fn find_fault(alloc: Global, items: &[Item], text: &[u8]) -> Option<SyntaxFault>
 /// # Errors
 ///
 /// The first fault; `OutOfMemory` where an allocation failed that the tree needs, and then only for a text that has no fault.
-pub fn parse(alloc: Global, text: &[u8]) -> Result<Ast, SyntaxFault>
+pub fn parse(alloc: Global, text: &[u8]) -> Result<Ast<'_>, SyntaxFault>
     ensures ok { IfOk result (λ a. Parses text.now (tree_of a)) }
     ensures err { IfErr result (IsFault text.now) }
 {

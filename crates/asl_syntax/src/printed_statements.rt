@@ -6,7 +6,7 @@ ghost use Rattle.asl_syntax.specs.Pieces.{mark_piece, value_bytes, statement_byt
 ghost use Rattle.asl_grammar.specs.Spelling.{symbol_of};
 ghost use Rattle.asl_syntax.specs.Tree.{CallValue};
 
-use crate::name::Name;
+use crate::ident::Ident;
 use crate::printed_words::{push_integer, push_mark, push_name, push_names, push_number};
 use crate::printer::print;
 use crate::tree::{Statement, Value};
@@ -27,7 +27,7 @@ fn symbol_of(operator: Operator) -> Mark
 }
 
 /// Writes a call without its end.
-fn push_call(out: &mut Vec<u8>, function: &Name, arguments: &[Name]) -> Result<(), AllocError>
+fn push_call(out: &mut Vec<u8>, function: &Ident<'_>, arguments: &[Ident<'_>]) -> Result<(), AllocError>
     ensures { IfOk result (λ _. out.new.items ≡ out.old.items ++ value_bytes (CallValue function.now arguments.now)) }
 {
     push_name(out, function)?;
@@ -37,7 +37,7 @@ fn push_call(out: &mut Vec<u8>, function: &Name, arguments: &[Name]) -> Result<(
 }
 
 /// Writes a value.
-fn push_value(out: &mut Vec<u8>, value: &Value) -> Result<(), AllocError>
+fn push_value(out: &mut Vec<u8>, value: &Value<'_>) -> Result<(), AllocError>
     ensures { IfOk result (λ _. out.new.items ≡ out.old.items ++ value_bytes (value_of value.now)) }
 {
     match value {
@@ -73,7 +73,7 @@ fn push_value(out: &mut Vec<u8>, value: &Value) -> Result<(), AllocError>
 }
 
 /// Writes an assignment.
-fn push_assign(out: &mut Vec<u8>, target: &Name, value: &Value) -> Result<(), AllocError>
+fn push_assign(out: &mut Vec<u8>, target: &Ident<'_>, value: &Value<'_>) -> Result<(), AllocError>
     ensures { IfOk result (λ _. out.new.items ≡ out.old.items ++ assign_bytes target.now (value_of value.now)) }
 {
     push_name(out, target)?;
@@ -83,7 +83,7 @@ fn push_assign(out: &mut Vec<u8>, target: &Name, value: &Value) -> Result<(), Al
 }
 
 /// Writes a store.
-fn push_store(out: &mut Vec<u8>, target: &Name, value: &Name) -> Result<(), AllocError>
+fn push_store(out: &mut Vec<u8>, target: &Ident<'_>, value: &Ident<'_>) -> Result<(), AllocError>
     ensures { IfOk result (λ _. out.new.items ≡ out.old.items ++ store_bytes target.now value.now) }
 {
     push_mark(out, Mark::Star)?;
@@ -94,7 +94,7 @@ fn push_store(out: &mut Vec<u8>, target: &Name, value: &Name) -> Result<(), Allo
 }
 
 /// Writes an output.
-fn push_out(out: &mut Vec<u8>, value: &Name) -> Result<(), AllocError>
+fn push_out(out: &mut Vec<u8>, value: &Ident<'_>) -> Result<(), AllocError>
     ensures { IfOk result (λ _. out.new.items ≡ out.old.items ++ out_bytes value.now) }
 {
     push_mark(out, Mark::Out)?;
@@ -103,7 +103,7 @@ fn push_out(out: &mut Vec<u8>, value: &Name) -> Result<(), AllocError>
 }
 
 /// Writes what stands before the block of an `if`.
-fn open_if(out: &mut Vec<u8>, test: &Name) -> Result<(), AllocError>
+fn open_if(out: &mut Vec<u8>, test: &Ident<'_>) -> Result<(), AllocError>
     ensures { IfOk result (λ _. out.new.items ≡ out.old.items ++ if_head test.now) }
 {
     push_mark(out, Mark::If)?;
@@ -112,7 +112,7 @@ fn open_if(out: &mut Vec<u8>, test: &Name) -> Result<(), AllocError>
 }
 
 /// Writes what stands before the block of a `while`.
-fn open_while(out: &mut Vec<u8>, test: &Name) -> Result<(), AllocError>
+fn open_while(out: &mut Vec<u8>, test: &Ident<'_>) -> Result<(), AllocError>
     ensures { IfOk result (λ _. out.new.items ≡ out.old.items ++ while_head test.now) }
 {
     push_mark(out, Mark::While)?;
@@ -129,7 +129,7 @@ fn open_atomic(out: &mut Vec<u8>) -> Result<(), AllocError>
 }
 
 /// Writes what stands between the two blocks of an `if`.
-fn open_else(out: &mut Vec<u8>, block: &[Statement]) -> Result<(), AllocError>
+fn open_else(out: &mut Vec<u8>, block: &[Statement<'_>]) -> Result<(), AllocError>
     ensures { IfOk result (λ _. out.new.items ≡ out.old.items ++ else_open (block_of block.now)) }
 {
     push_mark(out, Mark::CloseBrace)?;
@@ -143,7 +143,7 @@ fn open_else(out: &mut Vec<u8>, block: &[Statement]) -> Result<(), AllocError>
 }
 
 /// Writes what stands after the second block of an `if`.
-fn close_else(out: &mut Vec<u8>, block: &[Statement]) -> Result<(), AllocError>
+fn close_else(out: &mut Vec<u8>, block: &[Statement<'_>]) -> Result<(), AllocError>
     ensures { IfOk result (λ _. out.new.items ≡ out.old.items ++ else_close (block_of block.now)) }
 {
     match block {
@@ -154,7 +154,7 @@ fn close_else(out: &mut Vec<u8>, block: &[Statement]) -> Result<(), AllocError>
 
 /// Writes the statements of a block.
 #[cycle(print)]
-pub(crate) fn push_block(out: &mut Vec<u8>, block: &[Statement]) -> Result<(), AllocError>
+pub(crate) fn push_block(out: &mut Vec<u8>, block: &[Statement<'_>]) -> Result<(), AllocError>
     ensures { IfOk result (λ _. out.new.items ≡ out.old.items ++ block_bytes (block_of block.now)) }
 {
     for statement in block {
@@ -165,7 +165,7 @@ pub(crate) fn push_block(out: &mut Vec<u8>, block: &[Statement]) -> Result<(), A
 
 /// Writes a statement.
 #[cycle(print)]
-fn push_statement(out: &mut Vec<u8>, statement: &Statement) -> Result<(), AllocError>
+fn push_statement(out: &mut Vec<u8>, statement: &Statement<'_>) -> Result<(), AllocError>
     ensures { IfOk result (λ _. out.new.items ≡ out.old.items ++ statement_bytes (statement_of statement.now)) }
 {
     match statement {

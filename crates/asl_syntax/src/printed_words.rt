@@ -5,7 +5,7 @@ ghost use Rattle.asl_grammar.specs.Bytes.{mark_bytes};
 ghost use Rattle.asl_syntax.specs.Printed.{piece};
 ghost use Rattle.asl_syntax.specs.Pieces.{mark_piece, digit_bytes, number_piece, later_names_bytes, names_bytes, integer_bytes};
 
-use crate::name::Name;
+use crate::ident::Ident;
 use asl_grammar::token::Mark;
 use std::alloc::{AllocError, Global};
 
@@ -59,7 +59,7 @@ pub(crate) fn push_mark(out: &mut Vec<u8>, mark: Mark) -> Result<(), AllocError>
 }
 
 /// Writes a name.
-pub(crate) fn push_name(out: &mut Vec<u8>, name: &Name) -> Result<(), AllocError>
+pub(crate) fn push_name(out: &mut Vec<u8>, name: &Ident<'_>) -> Result<(), AllocError>
     ensures { IfOk result (λ _. out.new.items ≡ out.old.items ++ piece name.now) }
 {
     push_piece(out, name.as_slice())
@@ -98,7 +98,7 @@ pub(crate) fn push_integer(out: &mut Vec<u8>, number: i32) -> Result<(), AllocEr
 }
 
 /// Writes names after a first one.
-fn push_later_names(out: &mut Vec<u8>, names: &[Name]) -> Result<(), AllocError>
+fn push_later_names(out: &mut Vec<u8>, names: &[Ident<'_>]) -> Result<(), AllocError>
     ensures { IfOk result (λ _. out.new.items ≡ out.old.items ++ later_names_bytes names.now) }
 {
     for name in names {
@@ -109,7 +109,7 @@ fn push_later_names(out: &mut Vec<u8>, names: &[Name]) -> Result<(), AllocError>
 }
 
 /// Writes names with commas between.
-pub(crate) fn push_names(out: &mut Vec<u8>, names: &[Name]) -> Result<(), AllocError>
+pub(crate) fn push_names(out: &mut Vec<u8>, names: &[Ident<'_>]) -> Result<(), AllocError>
     ensures { IfOk result (λ _. out.new.items ≡ out.old.items ++ names_bytes names.now) }
 {
     match names {

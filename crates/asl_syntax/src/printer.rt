@@ -9,7 +9,7 @@ ghost use Rattle.asl_syntax.specs.Pieces.{head_bytes, last_line_bytes, item_byte
 ghost use Rattle.asl_grammar.specs.Spelling.{program_on};
 
 use crate::ast::Ast;
-use crate::name::Name;
+use crate::ident::Ident;
 use crate::printed_statements::push_block;
 use crate::printed_words::{push_mark, push_name, push_names};
 use crate::tree::{Function, Item};
@@ -17,7 +17,7 @@ use asl_grammar::token::Mark;
 use std::alloc::{AllocError, Global};
 
 /// Writes the head of a function.
-fn push_head(out: &mut Vec<u8>, function: &Function) -> Result<(), AllocError>
+fn push_head(out: &mut Vec<u8>, function: &Function<'_>) -> Result<(), AllocError>
     ensures { IfOk result (λ _. out.new.items ≡ out.old.items ++ head_bytes (function_of function.now)) }
 {
     push_mark(out, Mark::Fn)?;
@@ -29,7 +29,7 @@ fn push_head(out: &mut Vec<u8>, function: &Function) -> Result<(), AllocError>
 }
 
 /// Writes the last line of a function.
-fn push_last_line(out: &mut Vec<u8>, returned: &Name) -> Result<(), AllocError>
+fn push_last_line(out: &mut Vec<u8>, returned: &Ident<'_>) -> Result<(), AllocError>
     ensures { IfOk result (λ _. out.new.items ≡ out.old.items ++ last_line_bytes returned.now) }
 {
     push_mark(out, Mark::Return)?;
@@ -39,7 +39,7 @@ fn push_last_line(out: &mut Vec<u8>, returned: &Name) -> Result<(), AllocError>
 }
 
 /// Writes a global or a function.
-fn push_item(out: &mut Vec<u8>, item: &Item) -> Result<(), AllocError>
+fn push_item(out: &mut Vec<u8>, item: &Item<'_>) -> Result<(), AllocError>
     ensures { IfOk result (λ _. out.new.items ≡ out.old.items ++ item_bytes (item_of item.now)) }
 {
     match item {
@@ -57,7 +57,7 @@ fn push_item(out: &mut Vec<u8>, item: &Item) -> Result<(), AllocError>
 }
 
 /// Writes all items.
-fn push_items(out: &mut Vec<u8>, items: &[Item]) -> Result<(), AllocError>
+fn push_items(out: &mut Vec<u8>, items: &[Item<'_>]) -> Result<(), AllocError>
     ensures { IfOk result (λ _. out.new.items ≡ out.old.items ++ items_bytes (map item_of items.now)) }
 {
     for item in items {
@@ -67,7 +67,7 @@ fn push_items(out: &mut Vec<u8>, items: &[Item]) -> Result<(), AllocError>
 }
 
 /// The tokens of a program, each after a space.
-fn print_items(alloc: Global, items: &[Item]) -> Result<Vec<u8>, AllocError>
+fn print_items(alloc: Global, items: &[Item<'_>]) -> Result<Vec<u8>, AllocError>
     ensures { IfOk result (λ v. v.items ≡ spaced (program_on (writing (map item_of items.now)) [])) }
 {
     let mut out = Vec::new(alloc);
@@ -80,7 +80,7 @@ fn print_items(alloc: Global, items: &[Item]) -> Result<Vec<u8>, AllocError>
 /// # Errors
 ///
 /// An allocation failed.
-pub fn print(alloc: Global, ast: &Ast) -> Result<Vec<u8>, AllocError>
+pub fn print(alloc: Global, ast: &Ast<'_>) -> Result<Vec<u8>, AllocError>
     ensures { IfOk result (λ v. v.items ≡ printed (tree_of ast.now)) }
 {
     let spaced = print_items(alloc, ast.items())?;

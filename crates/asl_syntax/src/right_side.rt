@@ -7,7 +7,7 @@ ghost use Rattle.asl_syntax.specs.View.{value_of};
 ghost use Rattle.asl_syntax.specs.Spelled.{literal, right_meaning};
 ghost use Rattle.asl_syntax.specs.Fits.{RightFits};
 
-use crate::name::Name;
+use crate::ident::Ident;
 use crate::source_limits::capped_value;
 use crate::tree::Value;
 use asl_grammar::control::Right;
@@ -31,22 +31,22 @@ fn small_number(digits: &[u8]) -> u8
 }
 
 /// The value that a right side means.
-pub(crate) fn value(right: Right<'_>) -> Value
+pub(crate) fn value<'t>(right: Right<'t>) -> Value<'t>
     requires { RightFits (right_of right) }
     ensures { value_of result ≡ right_meaning (right_of right.entry) }
 {
     match right {
         Right::Literal(minus, digits) => Value::Number(number(minus, digits)),
         Right::NullValue => Value::Null,
-        Right::Copied(x) => Value::Local(Name::from_slice(x)),
+        Right::Copied(x) => Value::Local(Ident::new(x)),
         Right::Binary(x, operator, y) => Value::Binary(
-            Name::from_slice(x),
+            Ident::new(x),
             operator,
-            Name::from_slice(y),
+            Ident::new(y),
         ),
-        Right::GlobalAddress(x) => Value::Global(Name::from_slice(x)),
-        Right::FieldAddress(x, digits) => Value::Field(Name::from_slice(x), small_number(digits)),
-        Right::Loaded(x) => Value::Load(Name::from_slice(x)),
+        Right::GlobalAddress(x) => Value::Global(Ident::new(x)),
+        Right::FieldAddress(x, digits) => Value::Field(Ident::new(x), small_number(digits)),
+        Right::Loaded(x) => Value::Load(Ident::new(x)),
         Right::Created(digits) => Value::New(small_number(digits)),
     }
 }
