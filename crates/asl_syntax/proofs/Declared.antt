@@ -98,7 +98,7 @@ mutual
       ∙ statement_passes gs fs ps s (block_mentions b ++ ns) ∙ block_passes gs fs ps b ns
 
 -- the names of a body and its result declare nothing
-body_passes : (gs fs ps : Names) (f : Function) (ns : List Mention) → first_twice gs fs ps ((block_mentions f.body ++ UsesLocal f.returned ∷ []) ++ ns) ≡ first_twice gs fs ps ns
+pub body_passes : (gs fs ps : Names) (f : Function) (ns : List Mention) → first_twice gs fs ps ((block_mentions f.body ++ UsesLocal f.returned ∷ []) ++ ns) ≡ first_twice gs fs ps ns
 body_passes gs fs ps f ns =
     ap (λ l. first_twice gs fs ps l) (append_assoc (block_mentions f.body) (UsesLocal f.returned ∷ []) ns)
     ∙ block_passes gs fs ps f.body (UsesLocal f.returned ∷ ns)

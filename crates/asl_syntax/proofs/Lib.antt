@@ -25,6 +25,7 @@ pub mod Few
 pub mod AnyOutcome
 pub mod Answered
 pub mod Declared
+pub mod Bodies
 pub mod Among
 pub mod Declarers
 pub mod DeclaredNames

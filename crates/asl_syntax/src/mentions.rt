@@ -4,6 +4,7 @@ ghost use Rattle.std.specs.Prelude.{◌≡◌, [], ◌∷◌, ◌++◌, map, IfO
 ghost use Rattle.asl_syntax.specs.Mentions.{UsesLocal, DeclaresParameter, value_mentions, block_mentions, statement_mentions, function_mentions, item_mentions, mentions};
 ghost use Rattle.asl_syntax.specs.View.{value_of, statement_of, block_of, function_of, item_of};
 ghost use Rattle.asl_syntax.specs.MentionView.{mention_of, mentions_of};
+ghost use Rattle.asl_syntax.specs.Declarations.{declarations, item_declarations};
 
 use crate::ident::Ident;
 use crate::tree::{Function, Item, Statement, Value};
@@ -23,10 +24,7 @@ pub enum Mention<'a, 't> {
 }
 
 /// Adds a name.
-fn push<'a, 't>(
-    out: &mut Vec<Mention<'a, 't>>,
-    mention: Mention<'a, 't>,
-) -> Result<(), AllocError>
+fn push<'a, 't>(out: &mut Vec<Mention<'a, 't>>, mention: Mention<'a, 't>) -> Result<(), AllocError>
     ensures { IfOk result (λ _. mentions_of out.new.items ≡ mentions_of out.old.items ++ mention_of mention.entry ∷ []) }
 {
     out.push(mention)?;
@@ -147,10 +145,7 @@ pub fn push_function<'a, 't>(
 }
 
 /// The names of an item.
-fn push_item<'a, 't>(
-    out: &mut Vec<Mention<'a, 't>>,
-    item: &'a Item<'t>,
-) -> Result<(), AllocError>
+fn push_item<'a, 't>(out: &mut Vec<Mention<'a, 't>>, item: &'a Item<'t>) -> Result<(), AllocError>
     ensures { IfOk result (λ _. mentions_of out.new.items ≡ mentions_of out.old.items ++ item_mentions (item_of item.now)) }
 {
     match item {
@@ -170,6 +165,37 @@ pub fn mentions<'a, 't>(
     let mut out = Vec::new(alloc);
     for item in items {
         push_item(&mut out, item)?;
+    }
+    Ok(out)
+}
+
+/// The names that an item declares, without those of a function's body.
+fn push_declarations<'a, 't>(
+    out: &mut Vec<Mention<'a, 't>>,
+    item: &'a Item<'t>,
+) -> Result<(), AllocError>
+    ensures { IfOk result (λ _. mentions_of out.new.items ≡ mentions_of out.old.items ++ item_declarations (item_of item.now)) }
+{
+    match item {
+        Item::Global(x) => out.push(Mention::Global(x))?,
+        Item::Function(function) => {
+            out.push(Mention::Function(&function.name))?;
+            push_parameters(out, &function.parameters)?;
+        }
+    }
+    Ok(())
+}
+
+/// The names that the items of a program declare, without those of bodies.
+pub fn declarations<'a, 't>(
+    alloc: Global,
+    items: &'a [Item<'t>],
+) -> Result<Vec<Mention<'a, 't>>, AllocError>
+    ensures { IfOk result (λ v. mentions_of v.items ≡ declarations (map item_of items.now)) }
+{
+    let mut out = Vec::new(alloc);
+    for item in items {
+        push_declarations(&mut out, item)?;
     }
     Ok(out)
 }

@@ -11,9 +11,9 @@ ghost use Rattle.asl_syntax.specs.Checked.{IsWritten};
 
 use crate::ast::Ast;
 use crate::build::build;
-use crate::call_arity::{parameter_counts, wrong_call};
+use crate::call_arity::wrong_call;
 use crate::fault::SyntaxFault;
-use crate::mentions::mentions;
+use crate::mentions::declarations;
 use crate::name::Name;
 use crate::names::{first_twice, has_main, unknown};
 use crate::scan;
@@ -58,6 +58,7 @@ fn check_text(alloc: Global, text: &[u8]) -> Result<(), SyntaxFault>
 }
 
 /// The first fault of a program's names, judged by maps.
+#[tactic(auto, using(crate::proofs::Bodies::declared_twice, crate::proofs::Bodies::declared_globals, crate::proofs::Bodies::declared_functions))]
 fn find_by_maps(
     alloc: Global,
     items: &[Item<'_>],
@@ -66,15 +67,14 @@ fn find_by_maps(
     requires { IsSpelled text.now (map item_of items.now) }
     ensures { IfOk result (λ found. MatchOption found (Parses text.now (map item_of items.now)) (IsFault text.now)) }
 {
-    let mentions = mentions(alloc, items)?;
-    if let Some(name) = first_twice(alloc, &mentions)? {
+    let declared = declarations(alloc, items)?;
+    if let Some(name) = first_twice(alloc, &declared)? {
         return Ok(Some(SyntaxFault::Twice(name)));
     }
-    if let Some(name) = unknown(alloc, items, &mentions)? {
+    if let Some(name) = unknown(alloc, items, &declared)? {
         return Ok(Some(SyntaxFault::Unknown(name)));
     }
-    let counts = parameter_counts(alloc, items)?;
-    if let Some(at) = wrong_call(&counts, &mentions, text) {
+    if let Some(at) = wrong_call(alloc, items, text)? {
         return Ok(Some(SyntaxFault::Arity(at)));
     }
     if !has_main(items) {

@@ -27,7 +27,11 @@ fn symbol_of(operator: Operator) -> Mark
 }
 
 /// Writes a call without its end.
-fn push_call(out: &mut Vec<u8>, function: &Ident<'_>, arguments: &[Ident<'_>]) -> Result<(), AllocError>
+fn push_call(
+    out: &mut Vec<u8>,
+    function: &Ident<'_>,
+    arguments: &[Ident<'_>],
+) -> Result<(), AllocError>
     ensures { IfOk result (λ _. out.new.items ≡ out.old.items ++ value_bytes (CallValue function.now arguments.now)) }
 {
     push_name(out, function)?;

@@ -39,11 +39,7 @@ pub(crate) fn value<'t>(right: Right<'t>) -> Value<'t>
         Right::Literal(minus, digits) => Value::Number(number(minus, digits)),
         Right::NullValue => Value::Null,
         Right::Copied(x) => Value::Local(Ident::new(x)),
-        Right::Binary(x, operator, y) => Value::Binary(
-            Ident::new(x),
-            operator,
-            Ident::new(y),
-        ),
+        Right::Binary(x, operator, y) => Value::Binary(Ident::new(x), operator, Ident::new(y)),
         Right::GlobalAddress(x) => Value::Global(Ident::new(x)),
         Right::FieldAddress(x, digits) => Value::Field(Ident::new(x), small_number(digits)),
         Right::Loaded(x) => Value::Load(Ident::new(x)),

@@ -5,7 +5,7 @@ use Rattle.asl_grammar.specs.Reader.{spots_left}
 use Rattle.asl_syntax.specs.MentionView.{mentions_of}
 use Rattle.asl_syntax.specs.NumberedNamesView.{counts_in}
 use Rattle.asl_syntax.specs.Rules.{wrong_call_from, name_places}
-use Rattle.asl_syntax.proofs.call_arity.wrong_call.Given as goal
+use Rattle.asl_syntax.proofs.call_arity.first_place.Given as goal
 
 abbrev pub invariant-loop-mention : goal.invariant-loop-mention
 invariant-loop-mention l =
