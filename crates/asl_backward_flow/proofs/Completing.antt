@@ -116,6 +116,7 @@ module _ (r : Read) (read : IsRead r) (t : Table) (so : IsFollowed r t []) where
     ready = so.ready;
     sound = so.sound;
     full = λ p q m n. (needed_least r.lowered r.classes r.stores r.k_limit FoundToo found_closed (region_of n.0.region) q m n.2).1 p n.0 n.1 refl;
+    names = so.names;
   }
 
 no_name : (t : Table) (spans : List Span) → IsBlank t spans → (p : ℕ) (m : Lock) → IsName t p m → ⊥

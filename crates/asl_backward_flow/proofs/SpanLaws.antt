@@ -13,7 +13,7 @@ use Rattle.std.proofs.lemmas.Bool.{cases_lt}
 use Rattle.asl_backward_flow.specs.declared.region.Region.TheVariants as variant
 use Rattle.asl_backward_flow.specs.declared.span.Span.{Span}
 use Rattle.asl_backward_flow.specs.Needed.{region_of}
-use Rattle.asl_backward_flow.specs.Spans.{IsSpan, AreOfRegions, HasSection, HasBody, AreInPlace, AreSpans, AreSections, AreBodies}
+use Rattle.asl_backward_flow.specs.Spans.{IsSpan, AreOfRegions, HasSection, HasBody, AreInPlace, AreDistinct, AreSpans, AreSections, AreBodies}
 use Rattle.asl_backward_flow.proofs.Sets.{some_same, at_front, at_push, at_end, at_last}
 
 -- a section as its span, and its bounds
@@ -117,6 +117,34 @@ body_placed spans s g so region k n t at is =
     (λ h. let no : variant.Body g ≡ variant.Section n = sym region ∙ ap (λ (x : Span). x.region) (sym h.1) ∙ is in absurd cc)
     (at_end spans s k t at)
 
+pub distinct_more : (spans : List Span) (s : Span) → AreDistinct spans → ((k : ℕ) (t : Span) → slice_get spans k ≡ Some t → t.region ≡ s.region → ⊥) → AreDistinct (spans ++ s ∷ [])
+distinct_more spans s so new j k a b at_j at_k e =
+    ⊎_elim
+    (λ old_j. ⊎_elim
+      (λ old_k. so j k a b old_j old_k e)
+      (λ h. absurd (new j a old_j (e ∙ ap (λ (x : Span). x.region) h.1)))
+      (at_end spans s k b at_k))
+    (λ h. ⊎_elim
+      (λ old_k. absurd (new k b old_k (sym e ∙ ap (λ (x : Span). x.region) h.1)))
+      (λ i. h.0 ∙ sym i.0)
+      (at_end spans s k b at_k))
+    (at_end spans s j a at_j)
+
+-- the number of a body
+number_of_body : ℕ → variant.the_data → ℕ
+number_of_body d (variant.Body n) = n
+number_of_body d (variant.Section n) = d
+
+one_body : (a b : ℕ) → variant.Body a ≡ variant.Body b → a ≡ b
+unfolding number_of_body
+one_body a b e = ap (number_of_body 0) e
+
+-- sections at their numbers are distinct
+sections_distinct : (l : Lowered) (spans : List Span) (i : ℕ) → AreSections l spans i → AreDistinct spans
+sections_distinct l spans i so j k s t at_j at_k e =
+    let one = so.are j s at_j in
+    so.placed j one.0 s at_j one.1 ∙ sym (so.placed k one.0 t at_k (sym e ∙ one.1))
+
 pub below_or_at : (n i : ℕ) → n < i + 1 → (n < i) ⊎ (n ≡ i)
 below_or_at n i lt = ⊎_elim (λ h. inl h) (λ h. inr (omega arith)) (cases_lt n i)
 
@@ -129,10 +157,24 @@ sections_more l spans s i so is region = record {
       (below_or_at n i lt);
   count = length-append spans (s ∷ []) ∙ omega (arith, so.count);
   placed = section_placed spans s so.placed (region ∙ ap variant.Section (sym so.count));
+  are = λ k t at. ⊎_elim
+      (λ h. so.are k t h)
+      (λ h. (i, ap (λ (x : Span). x.region) h.1 ∙ region))
+      (at_end spans s k t at);
 }
 
 pub bodies_begin : (l : Lowered) (spans : List Span) → AreSections l spans (length l.sections) → AreBodies l spans 0
-bodies_begin l spans so = record { each = so.each; sections = so.all; all = λ g lt. absurd (omega arith); few = omega (arith, so.count); placed = so.placed }
+bodies_begin l spans so = record {
+  each = so.each;
+  sections = so.all;
+  all = λ g lt. absurd (omega arith);
+  few = omega (arith, so.count);
+  placed = so.placed;
+  distinct = sections_distinct l spans (length l.sections) so;
+  below = λ k g s at is.
+      let one = so.are k s at in
+      let no : variant.Body g ≡ variant.Section one.0 = sym is ∙ one.1 in absurd cc;
+}
 
 pub bodies_more : (l : Lowered) (spans : List Span) (s : Span) (i : ℕ) → AreBodies l spans i → IsSpan l s → s.region ≡ variant.Body i → AreBodies l (spans ++ s ∷ []) (i + 1)
 bodies_more l spans s i so is region = record {
@@ -144,6 +186,11 @@ bodies_more l spans s i so is region = record {
       (below_or_at g i lt);
   few = let few = so.few in omega (arith, length-append spans (s ∷ []));
   placed = body_placed spans s i so.placed region;
+  distinct = distinct_more spans s so.distinct (λ k t at e. let lt = so.below k i t at (e ∙ region) in omega (arith, lt));
+  below = λ k g t at is. ⊎_elim
+      (λ h. let lt = so.below k g t h is in omega (arith, lt))
+      (λ h. let same = one_body i g (sym region ∙ sym (ap (λ (x : Span). x.region) h.1) ∙ is) in omega (arith, same))
+      (at_end spans s k t at);
 }
 
 pub bodies_skip : (l : Lowered) (spans : List Span) (i : ℕ) → AreBodies l spans i → ¬ IsInner l i → AreBodies l spans (i + 1)
@@ -153,6 +200,8 @@ bodies_skip l spans i so not = record {
   all = λ g lt inner. ⊎_elim (λ h. so.all g h inner) (λ (h : g ≡ i). absurd (not (subst (IsInner l) h inner))) (below_or_at g i lt);
   few = let few = so.few in omega arith;
   placed = so.placed;
+  distinct = so.distinct;
+  below = λ k g s at is. let lt = so.below k g s at is in omega (arith, lt);
 }
 
 pub all_spans : (l : Lowered) → IsLegalLowering l → (spans : List Span) → AreBodies l spans (length l.functions) → AreSpans l spans
@@ -163,6 +212,7 @@ all_spans l kept spans so =
       all = λ r f pc. go r f pc;
       few = let few = so.few in let s = layout.limits.few_sections in let f = layout.limits.few_functions in omega arith;
       placed = so.placed;
+      distinct = so.distinct;
     }
   where
     between_is : (n f pc : ℕ) → Between l n f pc → Section

@@ -17,7 +17,7 @@ use Rattle.asl_backward_flow.specs.declared.region.Region.TheVariants as variant
 use Rattle.asl_lane_sets.specs.NumberSet.{IsIn}
 use Rattle.std.proofs.lemmas.List.{length-map}
 use Rattle.asl_backward_flow.specs.declared.found.AddFault.TheVariants.{Many}
-use Rattle.asl_backward_flow.specs.Needed.{Needed, RegionNeeds, IsInNeeds, IsTold, TellsNeeded, NeedsMany, region_of}
+use Rattle.asl_backward_flow.specs.Needed.{Needed, RegionNeeds, IsInNeeds, IsTold, TellsNeeded, AreParts, NeedsMany, region_of}
 use Rattle.asl_backward_flow.specs.Found.{Table, table_of, list_at, AreApart, IsName, HasFact, locks_of, sets_of, first_of}
 use Rattle.asl_backward_flow.specs.Follows.{Read, IsRead, IsAll, Overflows}
 use Rattle.asl_backward_flow.specs.Parts.{part, AreAtTheirNumbers, TellsAll}
@@ -26,6 +26,14 @@ use Rattle.asl_backward_flow.proofs.Blanks.{unmapped, some_there}
 use Rattle.asl_backward_flow.proofs.SetNeeds.{mapped_at}
 use Rattle.asl_backward_flow.proofs.Listing.{of_part, part_of, region_one}
 use Rattle.asl_backward_flow.proofs.Sets.{some_same}
+
+-- different places have different locks
+apart_pairs : (locks : List Lock) → AreApart locks → AllPairs (λ a b. a ≢ b) locks
+apart_pairs locks apart i j d lt below e =
+    let at_i : slice_get locks i ≡ Some (get_or locks i d) = slice_get-get_or locks i d (omega (arith, lt, below)) in
+    let at_j : slice_get locks j ≡ Some (get_or locks j d) = slice_get-get_or locks j d below in
+    let same : i ≡ j = apart i j (get_or locks i d) at_i (at_j ∙ ap Some (sym e)) in
+    omega (arith, same, lt)
 
 module _ (r : Read) (read : IsRead r) (items : List code.RegionNeeds) (list : List (ℕ × ℕ)) (all : IsAll r (table_of items list)) where
   abbrev t : Table
@@ -130,19 +138,52 @@ module _ (r : Read) (read : IsRead r) (items : List code.RegionNeeds) (list : Li
       let name : region_of s.0.region ≡ Inside n = ap region_of (sym (same_region k d.0 s.0 d.1 s.1)) ∙ ap (λ (x : RegionNeeds). x.region) d.2 ∙ is in
       read.spans.placed k n s.0 s.1 (region_one s.0.region (variant.Section n) name)
 
+  -- the span under the number of a part
+  span_at : (k : ℕ) (d : code.RegionNeeds) → slice_get items k ≡ Some d → (s : Span) × (slice_get r.spans k ≡ Some s)
+  span_at k d at =
+      let count = all.ready.count in
+      let within = slice_get_within items k d at in
+      some_there r.spans k (let same = length-map items (λ (z : code.RegionNeeds). z.locks.keys) in omega (arith, count, within, same))
+
+  parts_distinct : (m n : ℕ) (p q : RegionNeeds) → slice_get (map part items) m ≡ Some p → slice_get (map part items) n ≡ Some q → p.region ≡ q.region → m ≡ n
+  parts_distinct m n p q at_m at_n e =
+      let d = unmapped part items m p at_m in
+      let c = unmapped part items n q at_n in
+      let s = span_at m d.0 d.1 in
+      let t = span_at n c.0 c.1 in
+      let same : d.0.region ≡ c.0.region = region_one d.0.region c.0.region (ap (λ (x : RegionNeeds). x.region) d.2 ∙ e ∙ sym (ap (λ (x : RegionNeeds). x.region) c.2)) in
+      read.spans.distinct m n s.0 t.0 s.1 t.1 (sym (same_region m d.0 s.0 d.1 s.1) ∙ same ∙ same_region n c.0 t.0 c.1 t.1)
+
+  -- a lock with a number is needed somewhere, where it is found
+  used_at : (k i : ℕ) (d : code.RegionNeeds) (m : Lock) → slice_get items k ≡ Some d → slice_get d.locks.keys i ≡ Some m → (pc : ℕ) × IsInNeeds (part d) pc m
+  used_at k i d m at named =
+      let need = all.names k m (i, ap (λ l. slice_get l i) (locks_at k d at) ∙ named) in
+      let has = all.full k need.0 m need.1 in
+      let place = has.1 in
+      let in_set : IsIn (list_at d.needs.items place.0) has.0 = subst (λ l. IsIn (list_at l place.0) has.0) (sets_at k d at) place.2 in
+      let own : slice_get d.locks.keys has.0 ≡ Some m = ap (λ l. slice_get l has.0) (sym (locks_at k d at)) ∙ has.2 in
+      (d.first + place.0, part_of d place.0 m (has.0, in_set, own))
+
+  are_parts : AreParts (map part items)
+  are_parts = record {
+    distinct = parts_distinct;
+    different = λ n p at.
+        let d = unmapped part items n p at in
+        let own : AreApart d.0.locks.keys = subst AreApart (locks_at n d.0 d.1) (all.ready.whole.apart n) in
+        subst (λ (x : RegionNeeds). AllPairs (λ a b. a ≢ b) x.locks) d.2 (apart_pairs d.0.locks.keys own);
+    used = λ n i p lock at has.
+        let d = unmapped part items n p at in
+        let named = ap (λ (x : RegionNeeds). slice_get x.locks i) d.2 ∙ has in
+        let need = used_at n i d.0 lock d.1 named in
+        (need.0, subst (λ (x : RegionNeeds). IsInNeeds x need.0 lock) d.2 need.1);
+  }
+
   pub tells_all : TellsAll r (map part items)
   tells_all = record {
     tells = tells;
+    apart = are_parts;
     few = λ region many. not_many region many (root.Root write.Write);
   }
-
--- different places have different locks
-apart_pairs : (locks : List Lock) → AreApart locks → AllPairs (λ a b. a ≢ b) locks
-apart_pairs locks apart i j d lt below e =
-    let at_i : slice_get locks i ≡ Some (get_or locks i d) = slice_get-get_or locks i d (omega (arith, lt, below)) in
-    let at_j : slice_get locks j ≡ Some (get_or locks j d) = slice_get-get_or locks j d below in
-    let same : i ≡ j = apart i j (get_or locks i d) at_i (at_j ∙ ap Some (sym e)) in
-    omega (arith, same, lt)
 
 module _ (r : Read) (t : Table) (p : ℕ) (x : Overflows r t (Many p)) where
   over_name : (IsName t p) (get_or (locks_of t p) 0 (root.Root write.Write))
@@ -165,5 +206,5 @@ module _ (r : Read) (t : Table) (p : ℕ) (x : Overflows r t (Many p)) where
 -- the answer, with the written classes for what functions may store to
 module _ (r : Read) (written : TellsStores r.lowered r.classes r.stores) where
   pub flow_told : (result : Result (List RegionNeeds) FlowFault) → IfOk result (TellsAll r) → IfOk result (IsFlow r.lowered r.classes r.k_limit)
-  flow_told (Ok parts) x = record { stores = r.stores; written = written; tells = x.tells; few = x.few }
+  flow_told (Ok parts) x = record { stores = r.stores; written = written; tells = x.tells; apart = x.apart; few = x.few }
   flow_told (Err fault) x = tt

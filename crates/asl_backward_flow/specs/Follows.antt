@@ -212,3 +212,4 @@ pub record IsAll (r : Read) (t : Table) : Type 0 where
   pub ready : IsReady r t
   pub sound : (p q : ℕ) (m : Lock) → HasFact t p q m → NeededAt r p q m
   pub full : (p q : ℕ) (m : Lock) → NeededAt r p q m → HasFact t p q m
+  pub names : (p : ℕ) (m : Lock) → IsName t p m → (q : ℕ) × NeededAt r p q m

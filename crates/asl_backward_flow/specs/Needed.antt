@@ -46,6 +46,12 @@ IsInNeeds p pc lock = (n : ℕ) × (k : ℕ) × (slice_get p.needs k ≡ Some (p
 abbrev pub IsTold : List RegionNeeds → Region → ℕ → Lock → Type 0
 IsTold parts r pc lock = (k : ℕ) × (p : RegionNeeds) × (slice_get parts k ≡ Some p) × (p.region ≡ r) × IsInNeeds p pc lock
 
+-- each region has one part, whose locks are different, and each of them is needed somewhere
+pub record AreParts (parts : List RegionNeeds) : Type 0 where
+  pub distinct : (m n : ℕ) (p q : RegionNeeds) → slice_get parts m ≡ Some p → slice_get parts n ≡ Some q → p.region ≡ q.region → m ≡ n
+  pub different : (n : ℕ) (p : RegionNeeds) → slice_get parts n ≡ Some p → AllPairs (λ a b. a ≢ b) p.locks
+  pub used : (n i : ℕ) (p : RegionNeeds) (lock : Lock) → slice_get parts n ≡ Some p → slice_get p.locks i ≡ Some lock → (pc : ℕ) × IsInNeeds p pc lock
+
 -- no part is of the region
 abbrev pub HasNoPart : List RegionNeeds → Region → Type 0
 HasNoPart parts r = (k : ℕ) (p : RegionNeeds) → slice_get parts k ≡ Some p → ¬ (p.region ≡ r)

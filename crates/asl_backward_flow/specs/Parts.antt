@@ -7,7 +7,7 @@ use Rattle.asl_backward_flow.specs.declared.region_needs.RegionNeeds as code
 use Rattle.asl_lower.specs.Regions.{Region, Inside}
 use Rattle.asl_backward_flow.specs.declared.fault.FlowFault.{FlowFault}
 use Rattle.asl_backward_flow.specs.declared.fault.FlowFault.TheVariants.{TooManyLocks, OutOfMemory}
-use Rattle.asl_backward_flow.specs.Needed.{RegionNeeds, IsInNeeds, TellsNeeded, NeedsMany, region_of}
+use Rattle.asl_backward_flow.specs.Needed.{RegionNeeds, IsInNeeds, TellsNeeded, AreParts, NeedsMany, region_of}
 use Rattle.asl_backward_flow.specs.Follows.{Read}
 
 -- the needs that sets tell, where the first is that of the first pc
@@ -22,9 +22,10 @@ part p = record { region = region_of p.region; locks = p.locks.keys; needs = nee
 abbrev pub AreAtTheirNumbers : List RegionNeeds → Type 0
 AreAtTheirNumbers parts = (k n : ℕ) (p : RegionNeeds) → slice_get parts k ≡ Some p → p.region ≡ Inside n → k ≡ n
 
--- the parts say exactly what is needed, and no region needs too many locks
+-- the parts say exactly what is needed, each region in one, and no region needs too many locks
 pub record TellsAll (r : Read) (parts : List RegionNeeds) : Type 0 where
   pub tells : TellsNeeded r.lowered r.classes r.stores r.k_limit parts
+  pub apart : AreParts parts
   pub few : (region : Region) → ¬ NeedsMany r.lowered r.classes r.stores r.k_limit region
 
 -- the region that is named needs too many locks

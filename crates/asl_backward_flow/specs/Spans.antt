@@ -29,12 +29,17 @@ HasBody spans g = (k : ℕ) × (s : Span) × (slice_get spans k ≡ Some s) × (
 abbrev pub AreInPlace : List Span → Type 0
 AreInPlace spans = (k n : ℕ) (s : Span) → slice_get spans k ≡ Some s → s.region ≡ variant.Section n → k ≡ n
 
+-- no two of them are of one region
+abbrev pub AreDistinct : List Span → Type 0
+AreDistinct spans = (j k : ℕ) (s t : Span) → slice_get spans j ≡ Some s → slice_get spans k ≡ Some t → s.region ≡ t.region → j ≡ k
+
 -- the spans of all regions, and of no other
 pub record AreSpans (l : Lowered) (spans : List Span) : Type 0 where
   pub each : AreOfRegions l spans
   pub all : (r : Region) (f pc : ℕ) → IsIn l r f pc → (k : ℕ) × (s : Span) × (slice_get spans k ≡ Some s) × (region_of s.region ≡ r)
   pub few : length spans ≤ 1280
   pub placed : AreInPlace spans
+  pub distinct : AreDistinct spans
 
 -- the spans of the sections below a number
 pub record AreSections (l : Lowered) (spans : List Span) (number : ℕ) : Type 0 where
@@ -42,6 +47,7 @@ pub record AreSections (l : Lowered) (spans : List Span) (number : ℕ) : Type 0
   pub all : (n : ℕ) → n < number → HasSection spans n
   pub count : length spans ≡ number
   pub placed : AreInPlace spans
+  pub are : (k : ℕ) (s : Span) → slice_get spans k ≡ Some s → (n : ℕ) × (s.region ≡ variant.Section n)
 
 -- the spans of all sections, and of the bodies of the inner functions below a number
 pub record AreBodies (l : Lowered) (spans : List Span) (number : ℕ) : Type 0 where
@@ -50,3 +56,5 @@ pub record AreBodies (l : Lowered) (spans : List Span) (number : ℕ) : Type 0 w
   pub all : (g : ℕ) → g < number → IsInner l g → HasBody spans g
   pub few : length spans ≤ length l.sections + number
   pub placed : AreInPlace spans
+  pub distinct : AreDistinct spans
+  pub below : (k g : ℕ) (s : Span) → slice_get spans k ≡ Some s → s.region ≡ variant.Body g → g < number
