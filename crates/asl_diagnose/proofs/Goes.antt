@@ -1,5 +1,6 @@
 -- The kind of a token decides whether the automaton continues with it, and what is said where it stops.
-use Rattle.std.proofs.Common.{◌≡◌, ◌↔◌, ℕ, List, [], ◌∷◌, ◌++◌, Bool, true, IsTrue, Option, Some, None, is_some, refl, sym, ◌∙◌, subst}
+use Rattle.std.proofs.Common.{◌≡◌, ◌≢◌, ◌↔◌, ℕ, List, [], ◌∷◌, ◌++◌, Bool, true, IsTrue, Option, Some, None, is_some, refl, sym, ◌∙◌, subst}
+use Rattle.std.specs.List.{AllPairs}
 use Rattle.std.proofs.lemmas.List.{append-nil}
 use Rattle.asl_grammar.specs.declared.control.Kind.{Kind}
 use Rattle.asl_grammar.specs.Token.{Token, Fixed, Name, Number, Spot}
@@ -120,8 +121,8 @@ stops ss before [] end p e s k n =
     (refl, λ q. n (subst P (sym (e ∙ append-nil before)) q))
 stops ss before (x ∷ rest) end p e s k n = (refl, λ v. not_placed (step_at p x.token) p k ((s.goes x.token).1 v))
 
-pub is_stop : (text : List ℕ) (end at : ℕ) (p : Place) (kinds : List TokenKind) (b : Bool) → IsStopped (tokens_of text) p → ListsAccepted p kinds → (IsTrue b ↔ MayEnd p) → IsGrammarFault (tokens_of text) end at → IsStop (tokens_of text) end at kinds b
-is_stop text end at p kinds b h l m g =
+pub is_stop : (text : List ℕ) (end at : ℕ) (p : Place) (kinds : List TokenKind) (b : Bool) → IsStopped (tokens_of text) p → ListsAccepted p kinds → AllPairs (λ a b. a ≢ b) kinds → (IsTrue b ↔ MayEnd p) → IsGrammarFault (tokens_of text) end at → IsStop (tokens_of text) end at kinds b
+is_stop text end at p kinds b h l once m g =
     let here : IsGrammarFault (tokens_of text) end (stop_place h.rest end) = record {
       before = h.before;
       rest = h.rest;
@@ -141,5 +142,6 @@ is_stop text end at p kinds b h l m g =
         no_program = g.no_program;
       };
       listed = listed (bare h.before) p kinds h.stands l;
+      once = once;
       ends = (λ t. h.stands.ends.0 (m.0 t), λ q. m.1 (h.stands.ends.1 q));
     }

@@ -2,8 +2,10 @@ pub mod Led
 pub mod Stop
 pub mod Accepted
 pub mod Goes
+pub mod KindsOnce
 pub mod Tokens
 pub mod Words
+pub mod FirstTwo
 pub mod Scanned
 pub mod Telling
 pub mod Sought

@@ -10,8 +10,9 @@ use Rattle.asl_diagnose.specs.declared.word_place.Word.TheVariants as word
 use Rattle.asl_diagnose.specs.declared.declared.Declares.{Declares}
 use Rattle.asl_diagnose.specs.declared.declared.Declares.TheVariants.{Global, Function, Parameter, Nothing}
 use Rattle.asl_diagnose.specs.declared.declared.Seen.{Seen}
-use Rattle.asl_diagnose.specs.Places.{named, is_named, is_word, declares_after, declares_from, declares, SameFunction, IsNameAt, AreDeclaredAt}
+use Rattle.asl_diagnose.specs.Places.{named, is_named, is_word, declares_after, declares_from, declares, SameFunction, IsNameAt, AreFirstDeclaredAt}
 use Rattle.asl_diagnose.specs.SeenView.{seen_nothing, cell, noted_as, noted_if, entered_if, passed, again, is_twice}
+use Rattle.asl_diagnose.proofs.FirstTwo.{after, after_parts, none_more, none_declared}
 use Rattle.asl_diagnose.proofs.Tokens.{IsPassed, split_on, is_there}
 
 declares_more : (next : Declares) (ss : List Spot) (s : Spot) → declares_from next (ss ++ s ∷ []) ≡ declares_after (declares_from next ss) s.token
@@ -49,10 +50,8 @@ pub record IsScanned (x : List ℕ) (all left : List Spot) (s : Seen) : Type 0 w
   pub next : s.next ≡ declares before
   pub cells : Cells x before s
 
-none_scanned : (x : List ℕ) (all left : List Spot) (s : Seen) → left ≡ all → s ≡ seen_nothing → IsScanned x all left s
-none_scanned x all left s e f =
-    let P : Seen → Type 0 = λ u. IsScanned x all left u in
-    subst P (sym f) (record { before = []; split = sym e; next = refl; cells = record { global = tt; function = tt; parameter = tt } })
+abbrev none_scanned : (x : List ℕ) (all left : List Spot) → left ≡ all → IsScanned x all left seen_nothing
+none_scanned x all left e = record { before = []; split = sym e; next = refl; cells = record { global = tt; function = tt; parameter = tt } }
 
 -- one more token
 same_more : (what : Declares) (between : List Spot) (t : Spot) → is_word word.Fn t.token ≡ false → SameFunction what between → SameFunction what (between ++ t ∷ [])
@@ -124,28 +123,29 @@ cells_passed x before s (Number n) at e h =
     let k = cells_more x before s (record { token = Number n; at = at }) refl h in
     record { global = k.global; function = k.function; parameter = k.parameter }
 
-one_scanned : (x : List ℕ) (all left more : List Spot) (t : Spot) (s new : Seen) → IsScanned x all left s → left ≡ t ∷ more → new ≡ passed x s t → IsScanned x all more new
-one_scanned x all left more t s new h e f =
-    let P : Seen → Type 0 = λ u. IsScanned x all more u in
-    subst P (sym f) (record {
-      before = h.before ++ t ∷ [];
-      split = split_on all h.before left more t h.split e;
-      next = ap (λ (d : Declares). declares_after d t.token) h.next ∙ sym (declares_more Nothing h.before t);
-      cells = cells_passed x h.before s t.token t.at (sym h.next) h.cells;
-    })
+abbrev one_scanned : (x : List ℕ) (all left more : List Spot) (t : Spot) (s : Seen) → IsScanned x all left s → left ≡ t ∷ more → IsScanned x all more (passed x s t)
+one_scanned x all left more t s h e = record {
+  before = h.before ++ t ∷ [];
+  split = split_on all h.before left more t h.split e;
+  next = ap (λ (d : Declares). declares_after d t.token) h.next ∙ sym (declares_more Nothing h.before t);
+  cells = cells_passed x h.before s t.token t.at (sym h.next) h.cells;
+}
 
 -- a second declaration
-declared_with : (x : List ℕ) (all left more before : List Spot) (t : Spot) (what : Declares) (f : ℕ) → all ≡ before ++ left → left ≡ t ∷ more → t ≡ named x t.at → declares before ≡ what → what ≢ Nothing → IsSeenAt x before what f → AreDeclaredAt all x f t.at
-declared_with x all left more before t what f a e g d r h = record {
-  before = h.front;
-  between = h.between;
-  behind = more;
-  split = a ∙ ap (λ (ss : List Spot). ss ++ left) h.split
-      ∙ append_assoc h.front (named x f ∷ h.between) left
-      ∙ ap (λ (ss : List Spot). h.front ++ named x f ∷ (h.between ++ ss)) (e ∙ ap (λ (u : Spot). u ∷ more) g);
-  real = λ n. r (sym h.is ∙ n);
-  same = ap (λ (ss : List Spot). declares ss) (sym h.split) ∙ d ∙ sym h.is;
-  function = subst (λ (w : Declares). SameFunction w h.between) (sym h.is) h.function;
+declared_with : (x : List ℕ) (all left more before : List Spot) (t : Spot) (what : Declares) (f : ℕ) → all ≡ before ++ left → left ≡ t ∷ more → t ≡ named x t.at → declares before ≡ what → what ≢ Nothing → is_twice x seen_nothing before ≡ false → IsSeenAt x before what f → AreFirstDeclaredAt all x f t.at
+declared_with x all left more before t what f a e g d r none h = record {
+  pair = record {
+    before = h.front;
+    between = h.between;
+    behind = more;
+    split = a ∙ ap (λ (ss : List Spot). ss ++ left) h.split
+        ∙ append_assoc h.front (named x f ∷ h.between) left
+        ∙ ap (λ (ss : List Spot). h.front ++ named x f ∷ (h.between ++ ss)) (e ∙ ap (λ (u : Spot). u ∷ more) g);
+    real = λ n. r (sym h.is ∙ n);
+    same = ap (λ (ss : List Spot). declares ss) (sym h.split) ∙ d ∙ sym h.is;
+    function = subst (λ (w : Declares). SameFunction w h.between) (sym h.is) h.function;
+  };
+  earliest = none_declared x (h.front ++ named x f ∷ h.between) (ap (is_twice x seen_nothing) (sym h.split) ∙ none);
 }
 
 some_cell : (x : List ℕ) (before : List Spot) (what : Declares) (o : Option ℕ) (f : ℕ) → o ≡ Some f → Cell x before what o → IsSeenAt x before what f
@@ -155,14 +155,14 @@ some_cell x before what (Some g) f e h =
     let same : g ≡ f = cc in
     subst P same h
 
-twice_by : (x : List ℕ) (all left more : List Spot) (t : Spot) (s : Seen) (what : Declares) (f : ℕ) → (h : IsScanned x all left s) → left ≡ t ∷ more → t ≡ named x t.at → declares h.before ≡ what → cell s what ≡ Some f → AreDeclaredAt all x f t.at
-twice_by x all left more t s Global f h e g d c =
-    declared_with x all left more h.before t Global f h.split e g d (λ n. cc) (some_cell x h.before Global s.global f c h.cells.global)
-twice_by x all left more t s Function f h e g d c =
-    declared_with x all left more h.before t Function f h.split e g d (λ n. cc) (some_cell x h.before Function s.function f c h.cells.function)
-twice_by x all left more t s Parameter f h e g d c =
-    declared_with x all left more h.before t Parameter f h.split e g d (λ n. cc) (some_cell x h.before Parameter s.parameter f c h.cells.parameter)
-twice_by x all left more t s Nothing f h e g d c = cc
+twice_by : (x : List ℕ) (all left more : List Spot) (t : Spot) (s : Seen) (what : Declares) (f : ℕ) → (h : IsScanned x all left s) → left ≡ t ∷ more → t ≡ named x t.at → declares h.before ≡ what → is_twice x seen_nothing h.before ≡ false → cell s what ≡ Some f → AreFirstDeclaredAt all x f t.at
+twice_by x all left more t s Global f h e g d none c =
+    declared_with x all left more h.before t Global f h.split e g d (λ n. cc) none (some_cell x h.before Global s.global f c h.cells.global)
+twice_by x all left more t s Function f h e g d none c =
+    declared_with x all left more h.before t Function f h.split e g d (λ n. cc) none (some_cell x h.before Function s.function f c h.cells.function)
+twice_by x all left more t s Parameter f h e g d none c =
+    declared_with x all left more h.before t Parameter f h.split e g d (λ n. cc) none (some_cell x h.before Parameter s.parameter f c h.cells.parameter)
+twice_by x all left more t s Nothing f h e g d none c = cc
 
 -- the name stands among all tokens
 pub name_there : (x : List ℕ) (all left more : List Spot) (t : Spot) → IsPassed all left → left ≡ t ∷ more → is_named x t.token ≡ true → IsNameAt all x t.at
@@ -176,9 +176,9 @@ token_there u all left more t h e n =
     let P : Token → Type 0 = λ v. Contains all (record { token = v; at = t.at }) in
     subst P n (is_there all left more t h e)
 
-declared_twice : (x : List ℕ) (all left more : List Spot) (t : Spot) (s : Seen) (f : ℕ) → IsScanned x all left s → left ≡ t ∷ more → is_named x t.token ≡ true → cell s s.next ≡ Some f → AreDeclaredAt all x f t.at
-declared_twice x all left more t s f h e n c =
-    twice_by x all left more t s s.next f h e (named_spot x t.token t.at n) (sym h.next) c
+declared_twice : (x : List ℕ) (all left more : List Spot) (t : Spot) (s : Seen) (f : ℕ) → (h : IsScanned x all left s) → left ≡ t ∷ more → is_named x t.token ≡ true → is_twice x seen_nothing h.before ≡ false → cell s s.next ≡ Some f → AreFirstDeclaredAt all x f t.at
+declared_twice x all left more t s f h e n none c =
+    twice_by x all left more t s s.next f h e (named_spot x t.token t.at n) (sym h.next) none c
 
 -- where a token declares the name again, it is the name, and it was declared before
 again_some : (x : List ℕ) (s : Seen) (t : Token) (f : ℕ) → again x s t ≡ Some f → (is_named x t ≡ true) × (cell s s.next ≡ Some f)
@@ -192,25 +192,29 @@ again_some x s t f e =
 pub record IsRead (x : List ℕ) (all left : List Spot) (s : Seen) : Type 0 where
   pub scanned : IsScanned x all left s
   pub kept : is_twice x s left ≡ is_twice x seen_nothing all
+  pub state : s ≡ after x seen_nothing scanned.before
+  pub none : is_twice x seen_nothing scanned.before ≡ false
 
 pub none_read : (x : List ℕ) (all left : List Spot) (s : Seen) → left ≡ all → s ≡ seen_nothing → IsRead x all left s
-none_read x all left s e f = record {
-  scanned = none_scanned x all left s e f;
-  kept = ap (λ (u : Seen). is_twice x u left) f ∙ ap (is_twice x seen_nothing) e;
-}
+none_read x all left s e f =
+    let P : Seen → Type 0 = λ u. IsRead x all left u in
+    subst P (sym f) (record { scanned = none_scanned x all left e; kept = ap (is_twice x seen_nothing) e; state = refl; none = refl })
 
 pub one_read : (x : List ℕ) (all left more : List Spot) (t : Spot) (s new : Seen) → IsRead x all left s → left ≡ t ∷ more → new ≡ passed x s t → again x s t.token ≡ None → IsRead x all more new
-one_read x all left more t s new h e f n = record {
-  scanned = one_scanned x all left more t s new h.scanned e f;
-  kept = ap (λ (u : Seen). is_twice x u more) f
-      ∙ sym (ap (λ (o : Option ℕ). is_some o || is_twice x (passed x s t) more) n)
-      ∙ sym (ap (is_twice x s) e) ∙ h.kept;
-}
+one_read x all left more t s new h e f n =
+    let P : Seen → Type 0 = λ u. IsRead x all more u in
+    subst P (sym f) (record {
+      scanned = one_scanned x all left more t s h.scanned e;
+      kept = sym (ap (λ (o : Option ℕ). is_some o || is_twice x (passed x s t) more) n)
+          ∙ sym (ap (is_twice x s) e) ∙ h.kept;
+      state = ap (λ (u : Seen). passed x u t) h.state ∙ sym (after_parts x seen_nothing h.scanned.before (t ∷ []));
+      none = none_more x seen_nothing h.scanned.before t h.none (ap (λ (u : Seen). again x u t.token) (sym h.state) ∙ n);
+    })
 
-pub declared_again : (x : List ℕ) (all left more : List Spot) (t : Spot) (s : Seen) (f : ℕ) → IsRead x all left s → left ≡ t ∷ more → again x s t.token ≡ Some f → AreDeclaredAt all x f t.at
+pub declared_again : (x : List ℕ) (all left more : List Spot) (t : Spot) (s : Seen) (f : ℕ) → IsRead x all left s → left ≡ t ∷ more → again x s t.token ≡ Some f → AreFirstDeclaredAt all x f t.at
 declared_again x all left more t s f h e a =
     let k = again_some x s t.token f a in
-    declared_twice x all left more t s f h.scanned e k.0 k.1
+    declared_twice x all left more t s f h.scanned e k.0 h.none k.1
 
 pub all_read : (x : List ℕ) (all left : List Spot) (s : Seen) → IsRead x all left s → left ≡ [] → is_twice x seen_nothing all ≡ false
 all_read x all left s h e = sym h.kept ∙ ap (is_twice x s) e

@@ -28,7 +28,7 @@ use Rattle.asl_diagnose.specs.Instructions.{instructions_in, IsInstructionLine, 
 use Rattle.asl_diagnose.specs.Expected.{IsStop}
 use Rattle.asl_diagnose.specs.Brought.{AreBringers}
 use Rattle.asl_diagnose.specs.Unknown.{IsUnknownPlace}
-use Rattle.asl_diagnose.specs.Places.{accesses_before, IsWordAt, IsFunctionAt, AreDeclaredAt, IsOverfull}
+use Rattle.asl_diagnose.specs.Places.{accesses_before, IsWordAt, IsFunctionAt, AreFirstDeclaredAt, IsOverfull}
 
 -- the source is refused so
 abbrev pub IsSourceRefusal : List ℕ → ℕ → Refusal → Type 0
@@ -50,7 +50,7 @@ IsSyntaxPlace text (syntax.NotAscii place) first at = at ≡ place
 IsSyntaxPlace text (syntax.Token place) first at = at ≡ place
 IsSyntaxPlace text (syntax.Grammar place) first at = at ≡ place
 IsSyntaxPlace text (syntax.Limit place) first at = at ≡ place
-IsSyntaxPlace text (syntax.Twice x) first at = IsSomeAnd first (λ one. AreDeclaredAt (tokens_of text) x one at)
+IsSyntaxPlace text (syntax.Twice x) first at = IsSomeAnd first (λ one. AreFirstDeclaredAt (tokens_of text) x one at)
 IsSyntaxPlace text (syntax.Unknown x) first at = IsUnknownPlace text x at
 IsSyntaxPlace text (syntax.Arity place) first at = at ≡ place
 IsSyntaxPlace text syntax.NoMain first at = IsMainPlace text at

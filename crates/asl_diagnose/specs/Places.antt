@@ -94,6 +94,11 @@ pub record AreDeclaredAt (ss : List Spot) (x : List ℕ) (first second : ℕ) : 
   pub same : declares (before ++ named x first ∷ between) ≡ declares before
   pub function : SameFunction (declares before) between
 
+-- these are the name's first two declarations in one name space: before the second there are no such two
+pub record AreFirstDeclaredAt (ss : List Spot) (x : List ℕ) (first second : ℕ) : Type 0 where
+  pub pair : AreDeclaredAt ss x first second
+  pub earliest : (one other : ℕ) → ¬ AreDeclaredAt (pair.before ++ named x first ∷ pair.between) x one other
+
 -- the code of the functions before the one of this number has at most 65,535 instructions, and with that function it has more
 pub record IsOverfull (tree : List Item) (number : ℕ) : Type 0 where
   pub there : number < length (functions_of tree)

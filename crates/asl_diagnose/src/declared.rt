@@ -2,7 +2,7 @@
 ghost use Rattle.std.specs.Prelude.{◌≡◌, false, IfSome, IfNone};
 ghost use Rattle.asl_grammar.specs.Lex.{tokens_of};
 ghost use Rattle.asl_grammar.specs.View.{token_of};
-ghost use Rattle.asl_diagnose.specs.Places.{declares_after, AreDeclaredAt};
+ghost use Rattle.asl_diagnose.specs.Places.{declares_after, AreFirstDeclaredAt};
 ghost use Rattle.asl_diagnose.specs.SeenView.{is_twice, seen_nothing};
 
 use crate::word_place::{Word, is_named, is_word};
@@ -110,7 +110,7 @@ impl Seen {
 
 /// The places of the first two declarations of a name in one name space.
 pub fn twice_places(text: &[u8], name: &[u8]) -> Option<(usize, usize)>
-    ensures some { IfSome result (λ places. AreDeclaredAt (tokens_of text.now) name.now places.0 places.1) }
+    ensures some { IfSome result (λ places. AreFirstDeclaredAt (tokens_of text.now) name.now places.0 places.1) }
     ensures none { IfNone result (is_twice name.now seen_nothing (tokens_of text.now) ≡ false) }
 {
     let mut tokens = Tokens::new(text);

@@ -1,7 +1,7 @@
 //! The kinds of token with which a program continues where a text stops being the beginning of one.
 
-ghost use Rattle.std.specs.Prelude.{◌≡◌, ℕ, ◌↔◌, length, true, IfOk, IsTrue};
-ghost use Rattle.std.specs.List.{Contains};
+ghost use Rattle.std.specs.Prelude.{◌≡◌, ◌≢◌, ℕ, ◌↔◌, length, true, IfOk, IsTrue};
+ghost use Rattle.std.specs.List.{Contains, AllPairs};
 ghost use Rattle.asl_grammar.specs.Lex.{tokens_of};
 ghost use Rattle.asl_grammar.specs.Grammar.{IsGrammarFault};
 ghost use Rattle.asl_grammar.specs.View.{token_of};
@@ -56,7 +56,8 @@ fn sample(kind: TokenKind) -> Token<'static>
 
 /// The kinds of token with which a program continues.
 fn accepted(alloc: Global, walk: &Walk<'_>) -> Result<Vec<TokenKind>, AllocError>
-    ensures { IfOk result (λ kinds. ListsAccepted (walk_place walk.now) kinds.items) }
+    ensures listed { IfOk result (λ kinds. ListsAccepted (walk_place walk.now) kinds.items) }
+    ensures once { IfOk result (λ kinds. AllPairs (λ a b. a ≢ b) kinds.items) }
 {
     let mut kinds = Vec::new(alloc);
     for kind in ALL_KINDS {

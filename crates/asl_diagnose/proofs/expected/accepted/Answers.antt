@@ -4,6 +4,7 @@ use Rattle.asl_grammar.specs.Token.{Token}
 use Rattle.asl_diagnose.specs.WalkView.{walk_place, is_accepted}
 use Rattle.asl_diagnose.specs.declared.kind.TheConstants.{ALL_KINDS}
 use Rattle.asl_diagnose.proofs.Accepted.{goes_on, grown, lists_at_end}
+use Rattle.asl_diagnose.proofs.KindsOnce.{listed_once}
 use Rattle.asl_diagnose.proofs.expected.accepted.Goals as goal
 use Rattle.asl_diagnose.proofs.expected.accepted.Goals.{then-accepts+in_ok-push, else-accepts}
 
@@ -19,6 +20,10 @@ loop-kind-preserved c =
           (ap (λ v. v.items) w.kinds-is ∙ sym (append-nil c.loop-kind.kinds.items))
     ]
 
-pub returns : goal.returns
-returns c =
+pub returns-clause-listed : goal.returns-clause-listed
+returns-clause-listed c =
     lists_at_end (walk_place c.args.walk.now) c.loop-kind.kinds.items c.loop-kind.kind-index c.loop-kind-test.false c.loop-kind.invariant
+
+pub returns-clause-once : goal.returns-clause-once
+returns-clause-once c =
+    listed_once (walk_place c.args.walk.now) c.loop-kind.kinds.items c.loop-kind.kind-index c.loop-kind-test.false c.loop-kind.invariant
