@@ -67,8 +67,10 @@ fn token_hint(text: &[u8], at: usize) -> &'static str {
     } else {
         &text[..0]
     };
-    if text[..at.min(text.len())].ends_with(b"-") && rest.starts_with(b">") {
-        return "a function has no result type: what it returns is said by `return x;`";
+    if let Some((last, before)) = text[..at.min(text.len())].split_last() {
+        if *last == b'-' && rest.starts_with(b">") {
+            return arrow_hint(before);
+        }
     }
     match rest {
         [b'/', b'/' | b'*', ..] | [b'#', ..] => "there are no comments",
@@ -83,6 +85,15 @@ fn token_hint(text: &[u8], at: usize) -> &'static str {
         [b':', ..] => "there are no types and no labels",
         [b'?', ..] => "there is no `?`: use `if x { .. } else { .. }`",
         _ => "",
+    }
+}
+
+/// What to write in place of an arrow, by what stands before it.
+fn arrow_hint(before: &[u8]) -> &'static str {
+    if before.trim_ascii_end().ends_with(b")") {
+        "a function has no result type: what it returns is said by `return x;`"
+    } else {
+        "a field is reached by its address: `a = &p[1]; x = *a;`"
     }
 }
 
