@@ -9,8 +9,8 @@ pub const COMPILE: Page = Page {
         Output: the program's image, or with --text its assembly text\n\
         \n\
         Examples, from the top of the repository:\n\
-        \u{20} asl compile --text < examples/counter.asl\n\
-        \u{20} asl compile --k 0 < examples/bank.asl > bank.image\n\
+        \u{20} ./asl compile --text < examples/counter.asl\n\
+        \u{20} ./asl compile --k 0 < examples/bank.asl > bank.image\n\
         \n\
         Status: 0 done; 1 refused, with one line 'asl: NAME' on standard error; 2 wrong usage.\n\
         \n\
@@ -41,9 +41,9 @@ pub const CHECK: Page = Page {
         Output: 'checked S sections', where each list is enough for what its section needs and for what its own expressions read\n\
         \n\
         Examples, from the top of the repository:\n\
-        \u{20} asl compile --text < examples/counter.asl > counter.text\n\
-        \u{20} (cat examples/counter.asl; printf '\\0'; cat counter.text) | asl check\n\
-        \u{20} (cat examples/counter.asl; printf '\\0'; sed 's/^expr .*/root write/' counter.text) | asl check\n\
+        \u{20} ./asl compile --text < examples/counter.asl > counter.text\n\
+        \u{20} (cat examples/counter.asl; printf '\\0'; cat counter.text) | ./asl check\n\
+        \u{20} (cat examples/counter.asl; printf '\\0'; sed 's/^expr .*/root write/' counter.text) | ./asl check\n\
         \n\
         Status: 0 done; 1 refused, with one line 'asl: NAME' on standard error; 2 wrong usage.\n\
         \n\
@@ -69,11 +69,12 @@ pub const CHECK: Page = Page {
 pub const MAP: Page = Page {
     about: "Says what the numbers in a source's code stand for, and which piece of the text each instruction is of",
     more: "Input: a source (docs/SOURCE.md)\n\
-        Output: a line for each function, register, global, class, section, site and instruction (docs/CLI.md)\n\
+        Output: a line for each function, register, global, class, section, site and instruction, and one for each\n\
+        function that `main` never calls (docs/SOURCE.md)\n\
         \n\
         Examples, from the top of the repository:\n\
-        \u{20} asl map < examples/counter.asl\n\
-        \u{20} asl map < examples/bank.asl | grep '^register'\n\
+        \u{20} ./asl map < examples/counter.asl\n\
+        \u{20} ./asl map < examples/bank.asl | grep '^register'\n\
         \n\
         Status: 0 done; 1 refused, with one line 'asl: NAME' on standard error; 2 wrong usage.\n\
         \n\
@@ -95,8 +96,8 @@ pub const EXPLAIN: Page = Page {
         Output: for each section its list, and below each lock its statements and links, in the source's words (docs/ANALYSIS.md); then the lists of each k\n\
         \n\
         Examples, from the top of the repository:\n\
-        \u{20} asl explain < examples/counter.asl\n\
-        \u{20} asl explain --k 1 --all < examples/walk.asl\n\
+        \u{20} ./asl explain < examples/counter.asl\n\
+        \u{20} ./asl explain --k 1 --all < examples/walk.asl\n\
         \n\
         Status: 0 done; 1 refused, with one line 'asl: NAME' on standard error; 2 wrong usage.\n\
         \n\
@@ -117,9 +118,9 @@ pub const DIAGNOSE: Page = Page {
         Output: nothing where it is accepted; else line and column, both from 1, the refusal's name, a sentence, the line of the text with a mark below the place, and what helps\n\
         \n\
         Examples, from the top of the repository:\n\
-        \u{20} asl diagnose < examples/counter.asl\n\
-        \u{20} asl diagnose --asm < examples/counter.asm\n\
-        \u{20} echo 'fn main(t) { x = 1 + 1; return x; }' | asl diagnose\n\
+        \u{20} ./asl diagnose < examples/counter.asl\n\
+        \u{20} ./asl diagnose --asm < examples/counter.asm\n\
+        \u{20} echo 'fn main(t) { x = 1 + 1; return x; }' | ./asl diagnose\n\
         \n\
         Status: 0 done, whether or not the text is refused; 1 refused, with one line 'asl: NAME' on standard error; 2 wrong usage.\n\
         \n\
@@ -139,8 +140,8 @@ pub const ASM: Page = Page {
         Output: the image of its program (docs/BYTES.md)\n\
         \n\
         Examples, from the top of the repository:\n\
-        \u{20} asl asm < examples/counter.asm > counter.image\n\
-        \u{20} asl asm < examples/push.asm | asl dis\n\
+        \u{20} ./asl asm < examples/counter.asm > counter.image\n\
+        \u{20} ./asl asm < examples/push.asm | ./asl dis\n\
         \n\
         Status: 0 done; 1 refused, with one line 'asl: NAME' on standard error; 2 wrong usage.\n\
         \n\
@@ -162,8 +163,8 @@ pub const DIS: Page = Page {
         Output: the canonical assembly text of its program (docs/ASSEMBLY.md)\n\
         \n\
         Examples, from the top of the repository:\n\
-        \u{20} asl compile < examples/counter.asl | asl dis\n\
-        \u{20} asl asm < examples/sum.asm | asl dis\n\
+        \u{20} ./asl compile < examples/counter.asl | ./asl dis\n\
+        \u{20} ./asl asm < examples/sum.asm | ./asl dis\n\
         \n\
         Status: 0 done; 1 refused, with one line 'asl: NAME' on standard error; 2 wrong usage.\n\
         \n\

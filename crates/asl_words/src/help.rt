@@ -18,8 +18,8 @@ pub const PROGRAM: Page = Page {
     more: "Each command reads standard input to its end and writes standard output.\n\
         \n\
         Examples, from the top of the repository:\n\
-        \u{20} asl compile < examples/counter.asl | asl step --threads 2 0 0 1 1\n\
-        \u{20} asl run --threads 2 --workers 2 --limit 1000 --record < examples/counter.asm | asl replay\n\
+        \u{20} ./asl compile < examples/counter.asl | ./asl step --threads 2 0 0 1 1\n\
+        \u{20} ./asl run --threads 2 --workers 2 --limit 1000 --record < examples/counter.asm | ./asl replay\n\
         \n\
         Status: 0 done; 1 refused, with one line 'asl: NAME' on standard error; 2 wrong usage.\n\
         A command's --help lists the names of its refusals.\n\

@@ -9,8 +9,8 @@ pub const STEP: Page = Page {
         Output: a line for each step, 'NUMBER THREAD REPLY', or with --record the run file (docs/JOURNAL.md)\n\
         \n\
         Examples, from the top of the repository:\n\
-        \u{20} asl step --threads 2 0 0 1 1 < examples/counter.asm\n\
-        \u{20} asl step --threads 2 --record 0 0 1 1 < examples/counter.asm | asl replay\n\
+        \u{20} ./asl step --threads 2 0 0 1 1 < examples/counter.asm\n\
+        \u{20} ./asl step --threads 2 --record 0 0 1 1 < examples/counter.asm | ./asl replay\n\
         \n\
         Status: 0 done; 1 refused, with one line 'asl: NAME' on standard error; 2 wrong usage.\n\
         \n\
@@ -36,8 +36,8 @@ pub const RUN: Page = Page {
         Output: a line for each step, 'NUMBER THREAD REPLY', or with --record the run file (docs/JOURNAL.md)\n\
         \n\
         Examples, from the top of the repository:\n\
-        \u{20} asl run --threads 1 --workers 1 --limit 10000 < examples/counter.asm\n\
-        \u{20} asl run --threads 8 --workers 4 --limit 1000 --record < examples/counter.asm | asl replay\n\
+        \u{20} ./asl run --threads 1 --workers 1 --limit 10000 < examples/counter.asm\n\
+        \u{20} ./asl run --threads 8 --workers 4 --limit 1000 --record < examples/counter.asm | ./asl replay\n\
         \n\
         Status: 0 done; 1 refused, with one line 'asl: NAME' on standard error; 2 wrong usage.\n\
         \n\
@@ -63,8 +63,8 @@ pub const REPLAY: Page = Page {
         Output: 'same M', where all M events came again\n\
         \n\
         Examples, from the top of the repository:\n\
-        \u{20} asl replay < examples/counter.run\n\
-        \u{20} asl step --threads 1 --record 0 0 0 < examples/push.asm | asl replay\n\
+        \u{20} ./asl replay < examples/counter.run\n\
+        \u{20} ./asl step --threads 1 --record 0 0 0 < examples/push.asm | ./asl replay\n\
         \n\
         Status: 0 done; 1 refused, with one line 'asl: NAME' on standard error; 2 wrong usage.\n\
         \n\
@@ -89,8 +89,8 @@ pub const LOG: Page = Page {
         Output: a line for each event, 'NUMBER THREAD REPLY', as step prints it; with --trace 'NUMBER THREAD PC DEPTH REPLY'\n\
         \n\
         Examples, from the top of the repository:\n\
-        \u{20} asl log < examples/counter.run\n\
-        \u{20} asl run --threads 8 --workers 4 --limit 1000 --record < examples/counter.asm | asl log --trace\n\
+        \u{20} ./asl log < examples/counter.run\n\
+        \u{20} ./asl run --threads 8 --workers 4 --limit 1000 --record < examples/counter.asm | ./asl log --trace\n\
         \n\
         Status: 0 done; 1 refused, with one line 'asl: NAME' on standard error; 2 wrong usage.\n\
         \n\
@@ -117,9 +117,9 @@ pub const DEBUG: Page = Page {
         view (the machine), asks (what threads ask for, and who is in the way), stack (all frames), objects\n\
         \n\
         Examples, from the top of the repository:\n\
-        \u{20} asl debug goto 4 back back view < examples/counter.run\n\
-        \u{20} asl debug break 1 next next prev < examples/counter.run\n\
-        \u{20} asl debug goto 4 asks stack < examples/counter.run\n\
+        \u{20} ./asl debug goto 4 back back view < examples/counter.run\n\
+        \u{20} ./asl debug break 1 next next prev < examples/counter.run\n\
+        \u{20} ./asl debug goto 4 asks stack < examples/counter.run\n\
         \n\
         Status: 0 done; 1 refused, with one line 'asl: NAME' on standard error; 2 wrong usage.\n\
         \n\
