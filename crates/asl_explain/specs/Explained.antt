@@ -25,11 +25,12 @@ use Rattle.asl_explain.specs.declared.explained_value.Lists.TheVariants.{Inferre
 use Rattle.asl_explain.specs.declared.explained_value.Explanation.{Explanation}
 use Rattle.asl_explain.specs.Chains.{Read, Needs, IsChain, IsDropped}
 
--- each of the chains comes from an access to the lock at the section's start
+-- each of the chains comes from an access to the lock, at a step somewhere in the section; that the lock then stays to the
+-- section's start is not said
 abbrev pub AreChains : Read → ℕ → Lock → List Chain → Type 0
 AreChains x section lock chains = (n : ℕ) (c : Chain) → slice_get chains n ≡ Some c → IsChain x section lock c.steps
 
--- the lock is needed at the section's start, and its chains come to it
+-- the lock is needed at the section's start, and its chains come to the lock
 pub record IsNeed (x : Read) (section : ℕ) (is : Section) (d : Need) : Type 0 where
   pub needed : Needs x (Inside section) (suc is.acquire) d.lock
   pub chains : AreChains x section d.lock d.chains
@@ -57,7 +58,8 @@ pub record AreExplained (x : Read) (image : Image) (sections : List (List Listed
   pub each : (section : ℕ) (is : Section) (ls : List Listed) (n : ℕ) (d : Listed) → slice_get x.lowered.sections section ≡ Some is → slice_get sections section ≡ Some ls →
       slice_get ls n ≡ Some d → IsListed x section is d
 
--- a chain comes from an access to the lock after the `new`, at which it ends
+-- a chain comes from an access to the lock, and the `new` is one at which the lock ends; that the one leads to the other is not
+-- said
 pub record IsEnding (x : Read) (section : ℕ) (lock : Lock) (e : Ending) : Type 0 where
   pub chain : IsChain x section lock e.chain.steps
   pub dropped : IsDropped x section e.pc lock

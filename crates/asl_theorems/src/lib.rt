@@ -1,5 +1,5 @@
 //! The theorems: what holds of the programs that `asl compile` writes, and of the journals of their runs. Each is a law, the
-//! contract of a function that does nothing. Read them in order: first what the whole is for, then as the README tells it.
+//! contract of a function that does nothing. Read them in order: first what the whole is for, then its parts.
 #![tactic(auto)]
 
 ghost use Rattle.std.specs.Prelude.{◌≡◌, ◌≢◌, ◌<◌, ◌≤◌, ℕ, suc, Bool, List, [], All, Some, length, take, slice_get};
@@ -49,7 +49,7 @@ pub fn no_compiled_program_faults_for_a_missing_lock()
         → Compiles source k_limit image → LeadsTo image count events end → All IsSafe (replies_in events) }
 {}
 
-/// 1. Files and texts. Reading undoes writing: what is spelled belongs to one value, and an image and a journal have one spelling.
+/// Files and texts. Reading undoes writing: what is spelled belongs to one value, and an image and a journal have one spelling.
 /// A source is printed as one that is read as the same tree, if it keeps the limit of bytes.
 pub fn reading_undoes_writing()
     ensures images { (image other : Image) (bytes others : List ℕ) → SpellsImage image bytes
@@ -68,7 +68,7 @@ pub fn reading_undoes_writing()
     a_text_has_one_tree();
 }
 
-/// 2. The machine. Journals, of which the commands speak, are runs by the instruction table, and each such run, of as many
+/// The machine. Journals, of which the commands speak, are runs by the instruction table, and each such run, of as many
 /// threads as the program's version allows, is a journal's. Events lead to one state at the most.
 pub fn journals_are_runs_by_the_table()
     ensures table { (image : Image) (count : ℕ) (events : List Event) (end : State) → IsVerified image
@@ -109,7 +109,7 @@ pub fn no_journal_is_stuck()
         → LeadsTo image log.threads (take k log.events) state → AreApart image state }
 {}
 
-/// 3. The lists. A compiled program is its source's: whatever lowering, finest classes and written classes there are of the
+/// The lists. A compiled program is its source's: whatever lowering, finest classes and written classes there are of the
 /// source's tree, the program is the image that is inferred of these. Its tables and its code are the lowering's, with classes in
 /// place of sites; each section's list is the fitted one of what it needs, and none is empty that needs a lock.
 pub fn a_compiled_program_is_its_sources()
@@ -147,7 +147,7 @@ pub fn every_program_has_one_outcome()
     ensures classes { (source : List ℕ) (tree : List Item) (l : Lowered) → Parses source tree → IsLowering tree l → ¬ (¬ ((c : Classed) × AreClasses l c)) }
 {}
 
-/// 5. The debugger. At each position of a journal there is a state to which the instruction table leads the program's threads by the
+/// The debugger. At each position of a journal there is a state to which the instruction table leads the program's threads by the
 /// events before it, and one only: the one that the debugger shows there.
 pub fn positions_go_by_the_table()
     ensures some { (image : Image) (log : Log) (k : ℕ) → IsJournal image log.threads log.events
@@ -156,7 +156,7 @@ pub fn positions_go_by_the_table()
         → LeadsTo image log.threads (take k log.events) state → LeadsTo image log.threads (take k log.events) other → state ≡ other }
 {}
 
-/// 8. Atomicity. Each run of a compiled program, and so each of its journals, has a serial one: the same state in the end, the
+/// Atomicity. Each run of a compiled program, and so each of its journals, has a serial one: the same state in the end, the
 /// same replies for each thread, the same order outside sections, and sections one at a time. It is the very same state where no
 /// step inside a section is a `new`; where none finds that there is no room for an object, the same up to the numbers of objects.
 pub fn compiled_programs_are_atomic()
