@@ -27,7 +27,7 @@ function memoryOf(wasm) {
   const at = (pointer, length) => new Uint8Array(wasm.memory.buffer, Number(pointer), length);
   const take = length => {
     const pointer = wasm.asl_take(BigInt(Math.max(length, 1)));
-    if (!pointer) throw new Error('out of memory');
+    if (!pointer) accept(2);
     return pointer;
   };
   const look = (pointer, length) => new DataView(wasm.memory.buffer, Number(pointer), length);
@@ -35,28 +35,31 @@ function memoryOf(wasm) {
 }
 
 const bytesOf = input => (typeof input === 'string' ? encoder.encode(input) : input);
+// What is no number of 32 bits is given as the greatest one, which no thread, position or count is, so that it is refused as they are.
+const numberOf = n => (Number.isInteger(n) && n >= 0 && n < 2 ** 32 ? n : 2 ** 32 - 1);
+
+// The words with a line feed between two. One inside a word would part it: a space, which no word of the program has either, stands for it.
+const listOf = words => words.map(word => String(word).replaceAll('\n', ' ')).join('\n');
 
 function callerOf(wasm, { at, take, give, look }) {
-  const once = (words, input, room) => {
-    const taken = [words.length, input.length, room, ERRORS, ANSWER].map(take), [w, i, out, err, answer] = taken;
+  const once = (words, input, room, errorRoom) => {
+    const taken = [words.length, input.length, room, errorRoom, ANSWER].map(take), [w, i, out, err, answer] = taken;
     at(w, words.length).set(words);
     at(i, input.length).set(input);
-    wasm.asl_call(w, BigInt(words.length), i, BigInt(input.length), out, BigInt(room), err, BigInt(ERRORS), answer);
+    wasm.asl_call(w, BigInt(words.length), i, BigInt(input.length), out, BigInt(room), err, BigInt(errorRoom), answer);
     const told = look(answer, ANSWER);
     const length = Number(told.getBigUint64(8, true)), said = Number(told.getBigUint64(16, true));
-    const result = { status: told.getUint32(0, true), length, output: length <= room ? at(out, length).slice() : null,
-      errors: decoder.decode(at(err, Math.min(said, ERRORS)).slice()) };
+    const result = { status: told.getUint32(0, true), output: at(out, Math.min(length, room)).slice(),
+      errors: decoder.decode(at(err, Math.min(said, errorRoom)).slice()) };
     taken.forEach(give);
-    return result;
+    return { length, said, result };
   };
   let room = ROOM; // for the output; it grows to the largest that was seen
-  return (words, input) => {
-    const list = encoder.encode(words.join('\n'));
-    const bytes = bytesOf(input);
-    let answer = once(list, bytes, room);
-    room = Math.max(room, Math.ceil(answer.length * 1.3));
-    if (!answer.output) answer = once(list, bytes, room);
-    return answer;
+  return (words, input = '') => {
+    const list = encoder.encode(listOf(words)), bytes = bytesOf(input), given = room;
+    const { length, said, result } = once(list, bytes, given, ERRORS);
+    room = Math.max(room, Math.ceil(length * 1.3));
+    return length <= given && said <= ERRORS ? result : once(list, bytes, room, Math.max(said, ERRORS)).result;
   };
 }
 
@@ -69,7 +72,7 @@ function opened(wasm, { at, take, give }, program, threads) {
   const bytes = bytesOf(program), handle = take(HANDLE), input = take(bytes.length);
   at(handle, HANDLE).fill(0);
   at(input, bytes.length).set(bytes);
-  const status = wasm.asl_session_open_nonnull(input, BigInt(bytes.length), threads, handle);
+  const status = wasm.asl_session_open_nonnull(input, BigInt(bytes.length), numberOf(threads), handle);
   give(input);
   if (status) give(handle);
   accept(status);
@@ -92,8 +95,8 @@ function sessionOf(wasm, memory, program, threads) {
   };
   const tell = (name, ...words) => decoder.decode(toldBytes(name, ...words));
   const telling = Object.fromEntries(['view', 'asks', 'stack', 'objects'].map(name => [name, () => tell(name)]));
-  return { ...telling, step: thread => call('step', thread), go: k => call('go', k), cut: k => call('cut', k),
-    log: first => tell('log', first), runFile: () => toldBytes('run_file').slice(),
+  return { ...telling, step: thread => call('step', numberOf(thread)), go: k => call('go', numberOf(k)),
+    cut: k => call('cut', numberOf(k)), log: (first = 0) => tell('log', numberOf(first)), runFile: () => toldBytes('run_file').slice(),
     place: () => {
       call('place', told);
       const view = look(told, TOLD);

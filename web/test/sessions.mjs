@@ -1,4 +1,5 @@
-// Sessions of asl.mjs against the commands of the same module, at each position; what is refused; and memory, which is given back:
+// Sessions of asl.mjs against the commands of the same module, at each position; what is refused; and memory, which is given back. Of its
+// commands: words and errors that are long or odd.
 //   node --experimental-wasm-memory64 web/test/sessions.mjs [MODULE]      web/out/asl.wasm, if none is named
 import { readFileSync } from 'node:fs';
 import { loadAsl } from '../asl.mjs';
@@ -44,10 +45,12 @@ const file = asl(['asm'], assembly).output;
 follow(file, 2, 60, 'sum.asm');
 
 refused(() => asl.session('nonsense', 2), 'NoProgram');
-refused(() => asl.session(walk, 0), 'BadCount');
+for (const threads of [0, 1.5, 2 ** 32 + 1]) refused(() => asl.session(walk, threads), 'BadCount');
 const session = asl.session(assembly, 2);
 for (const thread of [0, 1, 0]) session.step(thread);
-refused(() => session.step(2), 'BadThread');
+for (const thread of [2, -1, 2 ** 32, undefined, '0']) refused(() => session.step(thread), 'BadThread');
+for (const k of [-1, 0.5, 2 ** 32]) refused(() => session.go(k), 'NoSuchStep');
+check(session.log() === session.log(0) && session.log(3) === '' && session.place().events === 3, 'what is refused is no event');
 refused(() => session.go(4), 'NoSuchStep');
 refused(() => session.cut(4), 'NoSuchStep');
 session.go(1);
@@ -56,6 +59,10 @@ session.close();
 refused(() => session.view(), 'BadHandle');
 refused(() => session.runFile(), 'BadHandle');
 refused(() => session.close(), 'BadHandle');
+
+const long = asl(['compile', '--k', 'x'.repeat(10000)]);
+check(long.status === 2 && long.errors.length > 10000 && long.errors.trimEnd().endsWith("try '--help'."), 'errors are whole');
+check(asl(['compile\n--text'], walk).status === 2 && asl(['--help', 'a\nb']).status === 0, 'a line feed parts no word');
 
 let bytes = 0;
 for (let round = 0; round < 60; round++) {
