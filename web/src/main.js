@@ -28,7 +28,7 @@ import { listenToKeys } from './keys.js';
 import { isDark, setDark, changeTextSize, toggleLecture, toggleInstructions, openDialog, openKeys, note } from './page.js';
 
 const data = id => JSON.parse(byId(id).textContent);
-const examples = data('examples');
+const examples = Object.assign(Object.create(null), data('examples')); // (no other name is one)
 const bench = new Bench(changed);
 const comparison = new Comparison(bench, changed);
 const due = { frame: 0, what: new Set(), address: 0, lists: 0, working: 0, player: 0, own: '' };

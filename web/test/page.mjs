@@ -316,8 +316,12 @@ await part('a share link restores everything', async () => {
   await open(fragment);
   check(await run(said) === before, 'restored');
   console.log('       a link of', fragment.length, 'letters for', (await at())[1], 'steps of a changed source');
-  await open('#asl=%%%&k=99&threads=-4&steps=zz');
-  check(await run("workbench.bench.title") === 'counter.asl', 'a broken link opens the first example');
+  for (const broken of ['#asl=%%%&k=99&threads=-4&steps=zz', '#example=toString', '#example=__proto__']) {
+    await open(broken);
+    check(await run("workbench.bench.title") === 'counter.asl', 'a broken link opens the first example: ' + broken);
+  }
+  await open('#example=counter.asl&threads=12&steps=0*x.1*-1.2*1.5..3*2.12.7');
+  check(String(await run('workbench.bench.run.schedule')) === '2,5,3,3,7', 'what is no step is left out');
 });
 
 await part('files: a run file, an image, an assembly text', async () => {
