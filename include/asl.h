@@ -3,7 +3,8 @@
  *
  * What C owes: pointers with the lengths that go with them (with length 0 any pointer will do, NULL too), buffers that do not
  * overlap, one call at a time on one handle (a mutex will do; a handle may go from one thread to another), and malloc, realloc and
- * free of one allocator. What is proved of these functions stands in docs/PROOFS.md, "For C".
+ * free of one allocator. The functions of sessions test for NULL; those of forests and asl_call do not. What is proved of these
+ * functions stands in docs/PROOFS.md, "For C".
  *
  * docs/EMBEDDING.md shows them at work; examples/c/bank.c is a program. */
 #ifndef ASL_H
