@@ -1,10 +1,13 @@
 #!/usr/bin/env -S node --experimental-wasm-memory64
 // The program `asl` where no kit is: node --experimental-wasm-memory64 web/cli.mjs compile --text < examples/counter.asl
-// `run` is not here, since it starts threads. The module is asl.wasm beside this file, or in the folder out/ there.
+// `run` is not here, since it starts threads. The module is asl.wasm beside this file, or in the folder out/ there; where there is none,
+// the one that docs/workbench.html carries.
 import { existsSync, readFileSync, readSync, writeSync } from 'node:fs';
+import { gunzipSync } from 'node:zlib';
 import { loadAsl } from './asl.mjs';
 
-const MODULE = ['asl.wasm', 'out/asl.wasm'].map(name => new URL(name, import.meta.url)).find(path => existsSync(path));
+const near = name => new URL(name, import.meta.url);
+const MODULE = process.env.ASL_WASM || ['asl.wasm', 'out/asl.wasm'].map(near).find(path => existsSync(path));
 const MOST_INPUT = 268435456;
 const HELP = ['--help', '-h', '--version', '-V'];
 
@@ -59,4 +62,12 @@ function run(asl, words) {
   return end(status, errors);
 }
 
-run(await loadAsl(readFileSync(process.env.ASL_WASM || MODULE)), process.argv.slice(2));
+// (src/ has modules of the page, which Node takes for such only by their text)
+async function moduleOfPage() {
+  const script = encodeURIComponent(readFileSync(near('src/base85.js'), 'utf8'));
+  const { fromBase85 } = await import('data:text/javascript,' + script);
+  const [, letters] = /id="wasm">\s*([^<]*?)\s*</.exec(readFileSync(near('../docs/workbench.html'), 'latin1'));
+  return gunzipSync(fromBase85(letters));
+}
+
+run(await loadAsl(MODULE ? readFileSync(MODULE) : await moduleOfPage()), process.argv.slice(2));
