@@ -17,7 +17,7 @@
 #include <string.h>
 #include <time.h>
 
-enum { ACCOUNTS = 4, MAX_THREADS = 4, MAX_LOCKS = 256, MAX_PATH = 8, MAX_ASKS = 3 * MAX_LOCKS, TRANSFER = 1, START = 1000 };
+enum { ACCOUNTS = 4, REGISTERS = 2, MAX_THREADS = 4, MAX_LOCKS = 256, MAX_PATH = 8, MAX_ASKS = 3 * MAX_LOCKS, TRANSFER = 1, START = 1000 };
 
 static void fail(const char *why) {
   fprintf(stderr, "bank: %s\n", why);
@@ -43,25 +43,30 @@ typedef struct {
 
 static uint16_t global_class, account_class;
 
-/* the word at the cursor, ended in place, or NULL at the end of the line */
+static const char BLANKS[] = " \t,\r";
+
+/* the word at the cursor, ended in place */
 static char *next_word(char **cursor) {
-  char *word = strtok_r(NULL, " ,", cursor);
+  char *word = strtok_r(NULL, BLANKS, cursor);
+  if (!word) fail("a line of a text ends too early");
   return word;
 }
 
 static lock read_lock(char *kind, char **cursor) {
   lock read = {0};
   read.kind = strcmp(kind, "root") == 0 ? ON_ROOT : strcmp(kind, "class") == 0 ? ON_CLASS : ON_CELL;
-  char *word = next_word(cursor);
+  char *word = next_word(cursor); /* for the root its effect */
   if (read.kind == ON_CLASS) read.klass = (uint16_t)atoi(word);
   if (read.kind == ON_CELL) {
     read.from_global = word[0] == 'g';
     read.base = (unsigned)atoi(word + 1);
   }
+  if (read.base >= (read.from_global ? ACCOUNTS : REGISTERS)) fail("a lock of a text begins at nothing that the section has");
   if (read.kind != ON_ROOT) word = next_word(cursor);
-  for (; word && (word[0] == '*' || word[0] == '.'); word = next_word(cursor))
+  for (; (word[0] == '*' || word[0] == '.') && read.operations < MAX_PATH; word = next_word(cursor))
     read.path[read.operations++] = word[0] == '*' ? -1 : atoi(word + 1);
-  read.writes = word && strcmp(word, "write") == 0;
+  read.writes = strcmp(word, "write") == 0;
+  if (!read.writes && strcmp(word, "read") != 0) fail("a lock of a text neither reads nor writes");
   return read;
 }
 
@@ -70,7 +75,8 @@ static void read_program(char *text, list *transfer) {
   int section = -1;
   char *rest, *line = strtok_r(text, "\n", &rest);
   for (transfer->count = 0; line; line = strtok_r(NULL, "\n", &rest)) {
-    char *cursor, *word = strtok_r(line, " ,", &cursor);
+    char *cursor, *word = strtok_r(line, BLANKS, &cursor);
+    if (!word) continue;
     if (strcmp(word, "global") == 0) global_class = (uint16_t)atoi(next_word(&cursor));
     if (strcmp(word, "new") == 0) {
       next_word(&cursor);
@@ -79,7 +85,9 @@ static void read_program(char *text, list *transfer) {
     }
     if (strcmp(word, "list") == 0) section++;
     bool is_lock = strcmp(word, "expr") == 0 || strcmp(word, "root") == 0 || (section >= 0 && strcmp(word, "class") == 0);
-    if (section == TRANSFER && is_lock) transfer->locks[transfer->count++] = read_lock(word, &cursor);
+    if (section != TRANSFER || !is_lock) continue;
+    if (transfer->count == MAX_LOCKS) fail("a list of a text is too long");
+    transfer->locks[transfer->count++] = read_lock(word, &cursor);
   }
 }
 
@@ -89,6 +97,7 @@ static void read_text(const char *path, list *transfer) {
   FILE *file = fopen(path, "rb");
   if (!file) fail("a text cannot be read");
   text[fread(text, 1, sizeof text - 1, file)] = 0;
+  if (!feof(file)) fail("a text is too long");
   fclose(file);
   read_program(text, transfer);
   if (transfer->count == 0) fail("a text has no list for the section");
@@ -109,7 +118,7 @@ static address follow(uint16_t object) {
 }
 
 /* the object whose cell the lock is for, where its two registers are the addresses of globals */
-static address evaluate(const lock *of, const uint16_t registers[2]) {
+static address evaluate(const lock *of, const uint16_t registers[REGISTERS]) {
   address at = {true, of->from_global ? (uint16_t)of->base : registers[of->base]};
   for (unsigned i = 0; i < of->operations && at.there; i++) {
     if (of->path[i] < 0)
@@ -139,7 +148,7 @@ static void ask(request *all, asl_ask one) {
   all->asks[all->count++] = one;
 }
 
-static void ask_for(request *all, const lock *of, const uint16_t registers[2]) {
+static void ask_for(request *all, const lock *of, const uint16_t registers[REGISTERS]) {
   uint8_t mode = of->writes ? ASL_X : ASL_S, above = of->writes ? ASL_IX : ASL_IS;
   if (of->kind == ON_ROOT) {
     ask(all, (asl_ask){ASL_ROOT, mode, 0, 0, 0});
@@ -170,7 +179,7 @@ static atomic_bool stops;
 
 /* The cells that the expressions read, those of the globals, do not change here: so the request that is granted is still the
  * list's. Where they may, evaluate once more after the grant, and begin again if it is another request. */
-static void enter(uint32_t thread, const uint16_t registers[2]) {
+static void enter(uint32_t thread, const uint16_t registers[REGISTERS]) {
   pthread_mutex_lock(&forest_lock);
   for (;;) {
     request all = {.count = 0};
@@ -202,7 +211,7 @@ static void work(void) {
 }
 
 static void transfer(uint32_t thread, uint16_t from, uint16_t to, long amount) {
-  const uint16_t registers[2] = {from, to};
+  const uint16_t registers[REGISTERS] = {from, to};
   if (is_global)
     pthread_mutex_lock(&global_lock);
   else

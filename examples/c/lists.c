@@ -8,7 +8,8 @@
 #include <stdlib.h>
 #include <string.h>
 
-enum { MOST_SOURCE = 1 << 20, MOST_NAME = 64 };
+/* one byte more than a source may have, so that a longer one is refused; a name of 64 bytes and its end */
+enum { MOST_SOURCE = (1 << 20) + 1, MOST_NAME = 65 };
 
 /* The command's output as a text of its own, or an end with the line of its refusal: first its length is asked for, then its bytes. */
 static char *ask(const char *words, const uint8_t *source, size_t length) {
@@ -34,7 +35,7 @@ static const char *next_line(const char *line) {
 static bool find_function(const char *map, int function, char name[MOST_NAME]) {
   for (const char *line = map; line; line = next_line(line)) {
     int number;
-    if (sscanf(line, "function %d %63s", &number, name) == 2 && number == function) return true;
+    if (sscanf(line, "function %d %64s", &number, name) == 2 && number == function) return true;
   }
   return false;
 }
