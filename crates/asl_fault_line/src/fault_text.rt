@@ -1,5 +1,5 @@
 //! The names of the faults of texts, images, sources and journals.
-ghost use Rattle.std.specs.Prelude.{◌≡◌, ◌++◌, OnOk, codes};
+ghost use Rattle.std.specs.Prelude.{◌≡◌, ◌+◌, ◌<◌, ◌≤◌, ◌++◌, length, OnOk, OnErr, codes};
 ghost use Rattle.asl_fault_line.specs.FaultText.{around, pair, verify_text, asm_text, load_text, syntax_text, region_text, infer_text, lower_text, classes_text, map_text, lacking_text, check_text, journal_text, file_text, run_text};
 
 use crate::line_text::{Line, push, push_around, push_number, push_numbered};
@@ -20,7 +20,9 @@ use asl_syntax::SyntaxFault;
 
 /// Adds the rule that an image breaks.
 fn push_rule(line: &mut Line, cause: VerifyFault) -> Result<(), CapacityError>
-    ensures { OnOk result (line.new.items ≡ line.old.items ++ verify_text cause) }
+    ensures text { OnOk result (line.new.items ≡ line.old.items ++ verify_text cause) }
+    ensures adds { length line.new.items ≤ length line.old.items + 30 }
+    ensures room { OnErr result (256 < length line.old.items + 30) }
 {
     match cause {
         VerifyFault::Limit => push(line, "Limit"),
@@ -37,7 +39,9 @@ fn push_rule(line: &mut Line, cause: VerifyFault) -> Result<(), CapacityError>
 
 /// Adds that an image breaks a rule.
 fn push_verify(line: &mut Line, cause: VerifyFault) -> Result<(), CapacityError>
-    ensures { OnOk result (line.new.items ≡ line.old.items ++ around (codes "Verify") (verify_text cause)) }
+    ensures text { OnOk result (line.new.items ≡ line.old.items ++ around (codes "Verify") (verify_text cause)) }
+    ensures adds { length line.new.items ≤ length line.old.items + 38 }
+    ensures room { OnErr result (256 < length line.old.items + 38) }
 {
     push(line, "Verify")?;
     push(line, "(")?;
@@ -47,7 +51,9 @@ fn push_verify(line: &mut Line, cause: VerifyFault) -> Result<(), CapacityError>
 
 /// Adds the fault of an assembly text.
 pub fn push_assembly(line: &mut Line, fault: AsmFault) -> Result<(), CapacityError>
-    ensures { OnOk result (line.new.items ≡ line.old.items ++ asm_text fault) }
+    ensures text { OnOk result (line.new.items ≡ line.old.items ++ asm_text fault) }
+    ensures adds { length line.new.items ≤ length line.old.items + 38 }
+    ensures room { OnErr result (256 < length line.old.items + 38) }
 {
     match fault {
         AsmFault::Line(number) => push_numbered(line, "Line", number),
@@ -58,7 +64,9 @@ pub fn push_assembly(line: &mut Line, fault: AsmFault) -> Result<(), CapacityErr
 
 /// Adds the fault of an image.
 pub fn push_image(line: &mut Line, fault: LoadFault) -> Result<(), CapacityError>
-    ensures { OnOk result (line.new.items ≡ line.old.items ++ load_text fault) }
+    ensures text { OnOk result (line.new.items ≡ line.old.items ++ load_text fault) }
+    ensures adds { length line.new.items ≤ length line.old.items + 38 }
+    ensures room { OnErr result (256 < length line.old.items + 38) }
 {
     match fault {
         LoadFault::Magic => push(line, "Magic"),
@@ -73,7 +81,9 @@ pub fn push_image(line: &mut Line, fault: LoadFault) -> Result<(), CapacityError
 
 /// Adds the fault of a source.
 pub fn push_source(line: &mut Line, fault: &SyntaxFault) -> Result<(), CapacityError>
-    ensures { OnOk result (line.new.items ≡ line.old.items ++ syntax_text fault.now) }
+    ensures text { OnOk result (line.new.items ≡ line.old.items ++ syntax_text fault.now) }
+    ensures adds { length line.new.items ≤ length line.old.items + 73 }
+    ensures room { OnErr result (256 < length line.old.items + 73) }
 {
     match fault {
         SyntaxFault::NotAscii(at) => push_numbered(line, "NotAscii", *at),
@@ -90,7 +100,9 @@ pub fn push_source(line: &mut Line, fault: &SyntaxFault) -> Result<(), CapacityE
 
 /// Adds a name with two numbers.
 fn push_pair(line: &mut Line, name: &str, first: u16, second: u16) -> Result<(), CapacityError>
-    ensures { OnOk result (line.new.items ≡ line.old.items ++ pair name.now first second) }
+    ensures text { OnOk result (line.new.items ≡ line.old.items ++ pair name.now first second) }
+    ensures adds { length line.new.items ≤ length line.old.items + length name.now + 44 }
+    ensures room { OnErr result (256 < length line.old.items + length name.now + 44) }
 {
     push(line, name)?;
     push(line, "(")?;
@@ -102,7 +114,9 @@ fn push_pair(line: &mut Line, name: &str, first: u16, second: u16) -> Result<(),
 
 /// Adds a region.
 fn push_region(line: &mut Line, region: Region) -> Result<(), CapacityError>
-    ensures { OnOk result (line.new.items ≡ line.old.items ++ region_text region) }
+    ensures text { OnOk result (line.new.items ≡ line.old.items ++ region_text region) }
+    ensures adds { length line.new.items ≤ length line.old.items + 29 }
+    ensures room { OnErr result (256 < length line.old.items + 29) }
 {
     match region {
         Region::Body(function) => push_numbered(line, "Body", usize::from(function)),
@@ -112,7 +126,9 @@ fn push_region(line: &mut Line, region: Region) -> Result<(), CapacityError>
 
 /// Adds a name with a region.
 fn push_of_region(line: &mut Line, name: &str, region: Region) -> Result<(), CapacityError>
-    ensures { OnOk result (line.new.items ≡ line.old.items ++ around name.now (region_text region)) }
+    ensures text { OnOk result (line.new.items ≡ line.old.items ++ around name.now (region_text region)) }
+    ensures adds { length line.new.items ≤ length line.old.items + length name.now + 31 }
+    ensures room { OnErr result (256 < length line.old.items + length name.now + 31) }
 {
     push(line, name)?;
     push(line, "(")?;
@@ -122,7 +138,9 @@ fn push_of_region(line: &mut Line, name: &str, region: Region) -> Result<(), Cap
 
 /// Adds why no program is inferred.
 pub fn push_infer(line: &mut Line, fault: InferFault) -> Result<(), CapacityError>
-    ensures { OnOk result (line.new.items ≡ line.old.items ++ infer_text fault) }
+    ensures text { OnOk result (line.new.items ≡ line.old.items ++ infer_text fault) }
+    ensures adds { length line.new.items ≤ length line.old.items + 64 }
+    ensures room { OnErr result (256 < length line.old.items + 64) }
 {
     match fault {
         InferFault::Registers(function) => {
@@ -140,7 +158,9 @@ pub fn push_infer(line: &mut Line, fault: InferFault) -> Result<(), CapacityErro
 
 /// Adds why a source has no code.
 fn push_lower(line: &mut Line, fault: LowerFault) -> Result<(), CapacityError>
-    ensures { OnOk result (line.new.items ≡ line.old.items ++ lower_text fault) }
+    ensures text { OnOk result (line.new.items ≡ line.old.items ++ lower_text fault) }
+    ensures adds { length line.new.items ≤ length line.old.items + 64 }
+    ensures room { OnErr result (256 < length line.old.items + 64) }
 {
     match fault {
         LowerFault::Registers(function) => {
@@ -156,7 +176,9 @@ fn push_lower(line: &mut Line, fault: LowerFault) -> Result<(), CapacityError>
 
 /// Adds why a source has no classes.
 fn push_classes(line: &mut Line, fault: ClassesFault) -> Result<(), CapacityError>
-    ensures { OnOk result (line.new.items ≡ line.old.items ++ classes_text fault) }
+    ensures text { OnOk result (line.new.items ≡ line.old.items ++ classes_text fault) }
+    ensures adds { length line.new.items ≤ length line.old.items + 14 }
+    ensures room { OnErr result (256 < length line.old.items + 14) }
 {
     match fault {
         ClassesFault::TooManyClasses => push(line, "TooManyClasses"),
@@ -166,7 +188,9 @@ fn push_classes(line: &mut Line, fault: ClassesFault) -> Result<(), CapacityErro
 
 /// Adds why a source has no map.
 pub fn push_map(line: &mut Line, fault: &MapFault) -> Result<(), CapacityError>
-    ensures { OnOk result (line.new.items ≡ line.old.items ++ map_text fault.now) }
+    ensures text { OnOk result (line.new.items ≡ line.old.items ++ map_text fault.now) }
+    ensures adds { length line.new.items ≤ length line.old.items + 73 }
+    ensures room { OnErr result (256 < length line.old.items + 73) }
 {
     match fault {
         MapFault::Source(cause) => push_source(line, cause),
@@ -178,7 +202,9 @@ pub fn push_map(line: &mut Line, fault: &MapFault) -> Result<(), CapacityError>
 
 /// Adds that the list of a section lacks a lock.
 fn push_lacking(line: &mut Line, name: &str, section: u16, lock: &Lock) -> Result<(), CapacityError>
-    ensures { OnOk result (line.new.items ≡ line.old.items ++ lacking_text name.now section lock.now) }
+    ensures text { OnOk result (line.new.items ≡ line.old.items ++ lacking_text name.now section lock.now) }
+    ensures adds { length line.new.items ≤ length line.old.items + length name.now + 232 }
+    ensures room { OnErr result (256 < length line.old.items + length name.now + 232) }
 {
     push(line, name)?;
     push(line, "(")?;
@@ -190,7 +216,9 @@ fn push_lacking(line: &mut Line, name: &str, section: u16, lock: &Lock) -> Resul
 
 /// Adds why a program is not checked.
 pub fn push_check(line: &mut Line, fault: &CheckFault) -> Result<(), CapacityError>
-    ensures { OnOk result (line.new.items ≡ line.old.items ++ check_text fault.now) }
+    ensures text { OnOk result (line.new.items ≡ line.old.items ++ check_text fault.now) }
+    ensures adds { length line.new.items ≤ length line.old.items + 241 }
+    ensures room { OnErr result (256 < length line.old.items + 241) }
 {
     match fault {
         CheckFault::Infer(cause) => push_infer(line, *cause),
@@ -203,7 +231,9 @@ pub fn push_check(line: &mut Line, fault: &CheckFault) -> Result<(), CapacityErr
 
 /// Adds the fault of a journal.
 pub fn push_journal(line: &mut Line, fault: JournalFault) -> Result<(), CapacityError>
-    ensures { OnOk result (line.new.items ≡ line.old.items ++ journal_text fault) }
+    ensures text { OnOk result (line.new.items ≡ line.old.items ++ journal_text fault) }
+    ensures adds { length line.new.items ≤ length line.old.items + 31 }
+    ensures room { OnErr result (256 < length line.old.items + 31) }
 {
     match fault {
         JournalFault::JournalFull => push(line, "JournalFull"),
@@ -221,7 +251,9 @@ pub fn push_journal(line: &mut Line, fault: JournalFault) -> Result<(), Capacity
 
 /// Adds that the image of a run file is refused.
 fn push_file_image(line: &mut Line, cause: LoadFault) -> Result<(), CapacityError>
-    ensures { OnOk result (line.new.items ≡ line.old.items ++ around (codes "Image") (load_text cause)) }
+    ensures text { OnOk result (line.new.items ≡ line.old.items ++ around (codes "Image") (load_text cause)) }
+    ensures adds { length line.new.items ≤ length line.old.items + 45 }
+    ensures room { OnErr result (256 < length line.old.items + 45) }
 {
     push(line, "Image")?;
     push(line, "(")?;
@@ -231,7 +263,9 @@ fn push_file_image(line: &mut Line, cause: LoadFault) -> Result<(), CapacityErro
 
 /// Adds that the journal of a run file is refused.
 fn push_file_journal(line: &mut Line, cause: JournalFault) -> Result<(), CapacityError>
-    ensures { OnOk result (line.new.items ≡ line.old.items ++ around (codes "Journal") (journal_text cause)) }
+    ensures text { OnOk result (line.new.items ≡ line.old.items ++ around (codes "Journal") (journal_text cause)) }
+    ensures adds { length line.new.items ≤ length line.old.items + 40 }
+    ensures room { OnErr result (256 < length line.old.items + 40) }
 {
     push(line, "Journal")?;
     push(line, "(")?;
@@ -241,7 +275,9 @@ fn push_file_journal(line: &mut Line, cause: JournalFault) -> Result<(), Capacit
 
 /// Adds the fault of a run file.
 pub fn push_file(line: &mut Line, fault: &FileFault) -> Result<(), CapacityError>
-    ensures { OnOk result (line.new.items ≡ line.old.items ++ file_text fault.now) }
+    ensures text { OnOk result (line.new.items ≡ line.old.items ++ file_text fault.now) }
+    ensures adds { length line.new.items ≤ length line.old.items + 45 }
+    ensures room { OnErr result (256 < length line.old.items + 45) }
 {
     match fault {
         FileFault::Truncated(size) => push_numbered(line, "Truncated", *size),
@@ -253,7 +289,9 @@ pub fn push_file(line: &mut Line, fault: &FileFault) -> Result<(), CapacityError
 
 /// Adds the fault of a run by workers.
 pub fn push_run(line: &mut Line, fault: RunFault) -> Result<(), CapacityError>
-    ensures { OnOk result (line.new.items ≡ line.old.items ++ run_text fault) }
+    ensures text { OnOk result (line.new.items ≡ line.old.items ++ run_text fault) }
+    ensures adds { length line.new.items ≤ length line.old.items + 29 }
+    ensures room { OnErr result (256 < length line.old.items + 29) }
 {
     match fault {
         RunFault::BadCount => push(line, "BadCount"),

@@ -1,5 +1,6 @@
-//! The names of faults, as a line of standard error has them, made without allocation. Each call adds to a line; where the line has no
-//! room left, it answers an error, and may have added a part.
+//! The names of faults, as a line of standard error has them, made without allocation. Each call adds to a line, at most as many bytes
+//! as its clause `adds` says. Where the line has room for so many, the call does not fail (`room`). A call that fails may have added a
+//! part.
 #![tactic(auto)]
 
 mod fault_text;

@@ -1,5 +1,5 @@
 //! Locks as an assembly text has them.
-ghost use Rattle.std.specs.Prelude.{◌≡◌, ◌++◌, OnOk};
+ghost use Rattle.std.specs.Prelude.{◌≡◌, ◌+◌, ◌*◌, ◌<◌, ◌≤◌, ◌++◌, length, OnOk, OnErr};
 ghost use Rattle.asl_fault_line.specs.FaultText.{effect_text, base_text, op_text, path_text, lock_text};
 
 use crate::line_text::{Line, push, push_number};
@@ -8,7 +8,9 @@ use asl_code::{Base, Effect, Expr, Lock, Op};
 
 /// Adds an effect.
 fn push_effect(line: &mut Line, effect: Effect) -> Result<(), CapacityError>
-    ensures { OnOk result (line.new.items ≡ line.old.items ++ effect_text effect) }
+    ensures text { OnOk result (line.new.items ≡ line.old.items ++ effect_text effect) }
+    ensures adds { length line.new.items ≤ length line.old.items + 5 }
+    ensures room { OnErr result (256 < length line.old.items + 5) }
 {
     match effect {
         Effect::Read => push(line, "read"),
@@ -18,7 +20,9 @@ fn push_effect(line: &mut Line, effect: Effect) -> Result<(), CapacityError>
 
 /// Adds where an expression begins.
 fn push_base(line: &mut Line, base: Base) -> Result<(), CapacityError>
-    ensures { OnOk result (line.new.items ≡ line.old.items ++ base_text base) }
+    ensures text { OnOk result (line.new.items ≡ line.old.items ++ base_text base) }
+    ensures adds { length line.new.items ≤ length line.old.items + 21 }
+    ensures room { OnErr result (256 < length line.old.items + 21) }
 {
     match base {
         Base::Reg(register) => {
@@ -34,7 +38,9 @@ fn push_base(line: &mut Line, base: Base) -> Result<(), CapacityError>
 
 /// Adds one operation of a path.
 fn push_op(line: &mut Line, op: Op) -> Result<(), CapacityError>
-    ensures { OnOk result (line.new.items ≡ line.old.items ++ op_text op) }
+    ensures text { OnOk result (line.new.items ≡ line.old.items ++ op_text op) }
+    ensures adds { length line.new.items ≤ length line.old.items + 22 }
+    ensures room { OnErr result (256 < length line.old.items + 22) }
 {
     match op {
         Op::Deref => push(line, " *"),
@@ -47,7 +53,9 @@ fn push_op(line: &mut Line, op: Op) -> Result<(), CapacityError>
 
 /// Adds the operations of a path.
 fn push_path(line: &mut Line, ops: &[Op]) -> Result<(), CapacityError>
-    ensures { OnOk result (line.new.items ≡ line.old.items ++ path_text ops.now) }
+    ensures text { OnOk result (line.new.items ≡ line.old.items ++ path_text ops.now) }
+    ensures adds { length line.new.items ≤ length line.old.items + 22 * length ops.now }
+    ensures room { OnErr result (256 < length line.old.items + 22 * length ops.now) }
 {
     for op in ops {
         push_op(line, *op)?;
@@ -57,7 +65,9 @@ fn push_path(line: &mut Line, ops: &[Op]) -> Result<(), CapacityError>
 
 /// Adds a lock.
 pub fn push_lock(line: &mut Line, lock: &Lock) -> Result<(), CapacityError>
-    ensures { OnOk result (line.new.items ≡ line.old.items ++ lock_text lock.now) }
+    ensures text { OnOk result (line.new.items ≡ line.old.items ++ lock_text lock.now) }
+    ensures adds { length line.new.items ≤ length line.old.items + 208 }
+    ensures room { OnErr result (256 < length line.old.items + 208) }
 {
     match lock {
         Lock::Root(effect) => {
