@@ -13,4 +13,5 @@ mod OneProgram
 mod OneRun
 mod OneAnswer
 mod Outcomes
+pub mod Weaker
 mod Telling

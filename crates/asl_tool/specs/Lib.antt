@@ -12,4 +12,5 @@ pub mod Command
 pub mod Outcome
 pub mod Work
 pub mod FaultLine
+pub mod Ending
 pub mod Tool

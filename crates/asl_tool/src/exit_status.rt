@@ -1,26 +1,20 @@
 //! A run of the program: words, a reader and two writers in, the exit status out.
 ghost use Rattle.std.specs.Prelude.{◌≡◌, ◌≤◌, length, map, Some, OnOk, IfErr, IfNone, IfSome, MatchOption, MatchResult, string_bytes};
 ghost use Rattle.asl_tool.specs.declared.streams.TheConstants.{MAX_INPUT};
-ghost use Rattle.asl_tool.specs.FaultLine.{fault_line};
+ghost use Rattle.asl_tool.specs.Ending.{ending_status, ending_text};
 ghost use Rattle.asl_tool.specs.Streams.{AppendsPart};
 ghost use Rattle.asl_tool.specs.Tool.{AsksForWork, EndsAlone, EndsWith, IsCommandStatus, IsTextStatus, Refuses, WritesOutput, of_command, of_team};
 
+use crate::ending::Ending;
 use crate::run::run_output;
 use crate::streams::{read_whole, write_whole};
 use crate::tool_command::output_of;
-use crate::tool_fault::{ToolFault, tell};
+use crate::tool_fault::ToolFault;
 use asl_words::{Command, Invocation, RunArguments, read_words};
 use std::alloc::Global;
 use std::io::{Read, Write};
 use std::sync::Wait;
 use std::thread::Threads;
-
-/// The status of what was done.
-const DONE: u8 = 0;
-/// The status of a refusal.
-const REFUSED: u8 = 1;
-/// The status of words that are no legal use.
-const WRONG_USAGE: u8 = 2;
 
 /// Which version of the program this is, and in which logic it is proved.
 const VERSION: &str = "asl 2, logic dac8208d650f15bf\n";
@@ -40,14 +34,9 @@ pub fn tool<H: Threads + Wait + Sync, R: Read, W: Write, E: Write>(
         (AppendsPart (E.contents errors.old) (E.contents errors.new)) (R.remaining reader.old) (W.contents writer.old) (W.contents writer.new) result }
     ensures quiet { result ≡ 0 → errors.new ≡ errors.old }
 {
-    match read_words(alloc, words) {
-        Ok(Invocation::Alone(command)) => alone_status(alloc, &command, reader, writer, errors),
-        Ok(Invocation::Run(team)) => run_status(rt, alloc, team, reader, writer, errors),
-        Ok(Invocation::Help(text)) => shown(text.as_str(), writer, errors),
-        Ok(Invocation::Version) => shown(VERSION, writer, errors),
-        Ok(Invocation::WrongUsage(text)) => wrong_usage(text.as_str(), errors),
-        Err(_) => status_of(Err(ToolFault::OutOfMemory), errors),
-    }
+    let ending = ended(rt, alloc, words, reader, writer);
+    ending.say(errors);
+    ending.status()
 }
 
 /// Does the same without waiting, unless the words ask for `run`: then it answers None, and nothing is read or written.
@@ -64,71 +53,101 @@ pub fn tool_alone<R: Read, W: Write, E: Write>(
     ensures untouched { IfNone result ((reader.new ≡ reader.old) × (writer.new ≡ writer.old) × (errors.new ≡ errors.old)) }
     ensures quiet { IfSome result (λ status. status ≡ 0 → errors.new ≡ errors.old) }
 {
+    let ending = ended_alone(alloc, words, reader, writer)?;
+    ending.say(errors);
+    Some(ending.status())
+}
+
+/// Does what the words ask for, and answers how that ended; nothing is said yet.
+fn ended<H: Threads + Wait + Sync, R: Read, W: Write>(
+    rt: &H,
+    alloc: Global,
+    words: &[String],
+    reader: &mut R,
+    writer: &mut W,
+) -> Ending
+    ensures { EndsWith (map string_bytes words.now) (reader.new ≡ reader.old) (writer.new ≡ writer.old)
+        (λ text. ending_text result ≡ text) (R.remaining reader.old) (W.contents writer.old) (W.contents writer.new) (ending_status result) }
+{
     match read_words(alloc, words) {
-        Ok(Invocation::Alone(command)) => Some(alone_status(
-            alloc, &command, reader, writer, errors,
-        )),
-        Ok(Invocation::Run(_)) => None,
-        Ok(Invocation::Help(text)) => Some(shown(text.as_str(), writer, errors)),
-        Ok(Invocation::Version) => Some(shown(VERSION, writer, errors)),
-        Ok(Invocation::WrongUsage(text)) => Some(wrong_usage(text.as_str(), errors)),
-        Err(_) => Some(status_of(Err(ToolFault::OutOfMemory), errors)),
+        Ok(Invocation::Alone(command)) => command_ending(alloc, &command, reader, writer),
+        Ok(Invocation::Run(team)) => run_ending(rt, alloc, team, reader, writer),
+        Ok(Invocation::Help(text)) => shown(text.as_str(), writer),
+        Ok(Invocation::Version) => shown(VERSION, writer),
+        Ok(Invocation::WrongUsage(text)) => Ending::WrongUsage(text),
+        Err(_) => Ending::Refused(ToolFault::OutOfMemory),
     }
 }
 
-/// Performs a command, and answers the status.
-fn alone_status<R: Read, W: Write, E: Write>(
+/// Does the same without waiting, unless the words ask for `run`: then it answers None, and nothing is read or written.
+pub fn ended_alone<R: Read, W: Write>(
+    alloc: Global,
+    words: &[String],
+    reader: &mut R,
+    writer: &mut W,
+) -> Option<Ending>
+    ensures status { MatchOption result (AsksForWork (map string_bytes words.now))
+        (λ ending. EndsAlone (map string_bytes words.now) (reader.new ≡ reader.old) (writer.new ≡ writer.old)
+        (λ text. ending_text ending ≡ text) (R.remaining reader.old) (W.contents writer.old) (W.contents writer.new) (ending_status ending)) }
+    ensures untouched { IfNone result ((reader.new ≡ reader.old) × (writer.new ≡ writer.old)) }
+{
+    match read_words(alloc, words) {
+        Ok(Invocation::Alone(command)) => Some(command_ending(alloc, &command, reader, writer)),
+        Ok(Invocation::Run(_)) => None,
+        Ok(Invocation::Help(text)) => Some(shown(text.as_str(), writer)),
+        Ok(Invocation::Version) => Some(shown(VERSION, writer)),
+        Ok(Invocation::WrongUsage(text)) => Some(Ending::WrongUsage(text)),
+        Err(_) => Some(Ending::Refused(ToolFault::OutOfMemory)),
+    }
+}
+
+/// Performs a command, and answers how that ended.
+fn command_ending<R: Read, W: Write>(
     alloc: Global,
     command: &Command,
     reader: &mut R,
     writer: &mut W,
-    errors: &mut E,
-) -> u8
-    ensures status { IsCommandStatus (writer.new ≡ writer.old)
-        (AppendsPart (E.contents errors.old) (E.contents errors.new)) (R.remaining reader.old)
-        (W.contents writer.old) (W.contents writer.new) (of_command command.now) result }
-    ensures quiet { result ≡ 0 → errors.new ≡ errors.old }
+) -> Ending
+    ensures { IsCommandStatus (writer.new ≡ writer.old) (λ text. ending_text result ≡ text) (R.remaining reader.old)
+        (W.contents writer.old) (W.contents writer.new) (of_command command.now) (ending_status result) }
 {
     let done = perform(alloc, command, reader, writer);
-    status_of(done, errors)
+    ending_of(done)
 }
 
-/// Performs `run`, and answers the status.
-fn run_status<H: Threads + Wait + Sync, R: Read, W: Write, E: Write>(
+/// Performs `run`, and answers how that ended.
+fn run_ending<H: Threads + Wait + Sync, R: Read, W: Write>(
     rt: &H,
     alloc: Global,
     team: RunArguments,
     reader: &mut R,
     writer: &mut W,
-    errors: &mut E,
-) -> u8
-    ensures status { IsCommandStatus (writer.new ≡ writer.old)
-        (AppendsPart (E.contents errors.old) (E.contents errors.new)) (R.remaining reader.old)
-        (W.contents writer.old) (W.contents writer.new) (of_team team) result }
-    ensures quiet { result ≡ 0 → errors.new ≡ errors.old }
+) -> Ending
+    ensures { IsCommandStatus (writer.new ≡ writer.old) (λ text. ending_text result ≡ text) (R.remaining reader.old)
+        (W.contents writer.old) (W.contents writer.new) (of_team team) (ending_status result) }
 {
     let done = perform_run(rt, alloc, team, reader, writer);
-    status_of(done, errors)
+    ending_of(done)
 }
 
-/// Shows a text, and answers the status.
-fn shown<W: Write, E: Write>(text: &str, writer: &mut W, errors: &mut E) -> u8
-    ensures status { IsTextStatus (AppendsPart (E.contents errors.old) (E.contents errors.new)) (W.contents writer.old) (W.contents writer.new) text.now result }
-    ensures quiet { result ≡ 0 → errors.new ≡ errors.old }
+/// Shows a text, and answers how that ended.
+fn shown<W: Write>(text: &str, writer: &mut W) -> Ending
+    ensures { IsTextStatus (λ line. ending_text result ≡ line) (W.contents writer.old) (W.contents writer.new) text.now (ending_status result) }
 {
     match write_whole(writer, text.as_bytes()) {
-        Ok(()) => DONE,
-        Err(fault) => status_of(Err(ToolFault::Write(fault)), errors),
+        Ok(()) => Ending::Done,
+        Err(fault) => Ending::Refused(ToolFault::Write(fault)),
     }
 }
 
-/// Says why the words are no legal use, and answers the status.
-fn wrong_usage<E: Write>(text: &str, errors: &mut E) -> u8
-    ensures status { result ≡ 2 }
-    ensures told { AppendsPart (E.contents errors.old) (E.contents errors.new) text.now }
+/// How a run ends in which this was done.
+fn ending_of(done: Result<(), ToolFault>) -> Ending
+    ensures { MatchResult done (λ _. result ≡ Ending.Done) (λ fault. result ≡ Ending.Refused fault) }
 {
-    let _ = write_whole(errors, text.as_bytes());
-    WRONG_USAGE
+    match done {
+        Ok(()) => Ending::Done,
+        Err(fault) => Ending::Refused(fault),
+    }
 }
 
 /// Performs a command: reads the input to its end, and writes the command's output for it.
@@ -214,20 +233,5 @@ fn answer_run<H: Threads + Wait + Sync, W: Write>(
             Err(fault) => Err(ToolFault::Write(fault)),
         },
         Err(fault) => Err(ToolFault::Command(fault)),
-    }
-}
-
-/// The exit status; a fault's line goes to `errors`.
-fn status_of<E: Write>(done: Result<(), ToolFault>, errors: &mut E) -> u8
-    ensures status { MatchResult done (λ _. result ≡ 0) (λ _. result ≡ 1) }
-    ensures told { IfErr done (λ fault. AppendsPart (E.contents errors.old) (E.contents errors.new) (fault_line fault)) }
-    ensures quiet { result ≡ 0 → errors.new ≡ errors.old }
-{
-    match done {
-        Ok(()) => DONE,
-        Err(fault) => {
-            let _ = tell(errors, &fault);
-            REFUSED
-        }
     }
 }

@@ -5,6 +5,7 @@ mod checking;
 mod command_fault;
 mod compiling;
 mod debugging;
+mod ending;
 mod exit_status;
 mod input_program;
 pub mod laws;
@@ -20,7 +21,9 @@ mod tool_fault;
 
 pub use asl_journal::{FileFault, get_run, put_run};
 pub use command_fault::CommandFault;
-pub use exit_status::{tool, tool_alone};
+pub use ending::Ending;
+pub use exit_status::{ended_alone, tool, tool_alone};
 pub use input_program::ProgramFault;
 pub use streams::{ReadFault, WriteFault, read_whole, write_whole};
 pub use tool_command::output_of;
+pub use tool_fault::ToolFault;

@@ -1,5 +1,5 @@
 //! Why the program did not do what its words ask for, and the line that standard error gets of it.
-ghost use Rattle.std.specs.Prelude.{◌≡◌, ◌++◌, IfOk, OnOk};
+ghost use Rattle.std.specs.Prelude.{◌≡◌, ◌+◌, ◌<◌, ◌≤◌, ◌++◌, length, OnOk, OnErr};
 ghost use Rattle.std.specs.Io.KnownBytes.{Appends};
 ghost use Rattle.asl_tool.specs.FaultLine.{read_text, program_text, command_text, fault_text, fault_line};
 ghost use Rattle.asl_tool.specs.Streams.{AppendsPart};
@@ -29,7 +29,9 @@ pub enum ToolFault {
 
 /// Adds why the input was not read to its end.
 fn push_read(line: &mut Line, fault: ReadFault) -> Result<(), CapacityError>
-    ensures { OnOk result (line.new.items ≡ line.old.items ++ read_text fault) }
+    ensures text { OnOk result (line.new.items ≡ line.old.items ++ read_text fault) }
+    ensures adds { length line.new.items ≤ length line.old.items + 11 }
+    ensures room { OnErr result (256 < length line.old.items + 11) }
 {
     match fault {
         ReadFault::Read => push(line, "Read"),
@@ -40,7 +42,9 @@ fn push_read(line: &mut Line, fault: ReadFault) -> Result<(), CapacityError>
 
 /// Adds why an input is no program.
 fn push_program(line: &mut Line, fault: &ProgramFault) -> Result<(), CapacityError>
-    ensures { OnOk result (line.new.items ≡ line.old.items ++ program_text fault.now) }
+    ensures text { OnOk result (line.new.items ≡ line.old.items ++ program_text fault.now) }
+    ensures adds { length line.new.items ≤ length line.old.items + 38 }
+    ensures room { OnErr result (256 < length line.old.items + 38) }
 {
     match fault {
         ProgramFault::Text(cause) => push_assembly(line, *cause),
@@ -50,7 +54,9 @@ fn push_program(line: &mut Line, fault: &ProgramFault) -> Result<(), CapacityErr
 
 /// Adds why a command gives no output.
 fn push_command(line: &mut Line, fault: &CommandFault) -> Result<(), CapacityError>
-    ensures { OnOk result (line.new.items ≡ line.old.items ++ command_text fault.now) }
+    ensures text { OnOk result (line.new.items ≡ line.old.items ++ command_text fault.now) }
+    ensures adds { length line.new.items ≤ length line.old.items + 241 }
+    ensures room { OnErr result (256 < length line.old.items + 241) }
 {
     match fault {
         CommandFault::Program(cause) => push_program(line, cause),
@@ -68,7 +74,9 @@ fn push_command(line: &mut Line, fault: &CommandFault) -> Result<(), CapacityErr
 
 /// Adds the name of a fault.
 fn push_fault(line: &mut Line, fault: &ToolFault) -> Result<(), CapacityError>
-    ensures { OnOk result (line.new.items ≡ line.old.items ++ fault_text fault.now) }
+    ensures text { OnOk result (line.new.items ≡ line.old.items ++ fault_text fault.now) }
+    ensures adds { length line.new.items ≤ length line.old.items + 241 }
+    ensures room { OnErr result (256 < length line.old.items + 241) }
 {
     match fault {
         ToolFault::Read(cause) => push_read(line, *cause),
@@ -78,18 +86,26 @@ fn push_fault(line: &mut Line, fault: &ToolFault) -> Result<(), CapacityError>
     }
 }
 
-/// The line of a fault, made without memory.
-fn line_of(fault: &ToolFault) -> Result<Line, CapacityError>
-    ensures { IfOk result (λ line. line.items ≡ fault_line fault.now) }
+/// Adds the line of a fault.
+fn push_line(line: &mut Line, fault: &ToolFault) -> Result<(), CapacityError>
+    ensures text { OnOk result (line.new.items ≡ line.old.items ++ fault_line fault.now) }
+    ensures room { OnErr result (256 < length line.old.items + 247) }
 {
-    let mut line = ArrayVec::new();
-    push(&mut line, "asl: ")?;
-    push_fault(&mut line, fault)?;
-    push(&mut line, "\n")?;
-    Ok(line)
+    push(line, "asl: ")?;
+    push_fault(line, fault)?;
+    push(line, "\n")
 }
 
-/// Writes the line of a fault.
+/// The line of a fault, made without memory. There is room for each.
+pub fn line_of(fault: &ToolFault) -> Line
+    ensures { result.items ≡ fault_line fault.now }
+{
+    let mut line = ArrayVec::new();
+    push_line(&mut line, fault).unwrap();
+    line
+}
+
+/// Writes the line of a fault, which is always made: only the writer may fail.
 ///
 /// # Errors
 ///
@@ -98,8 +114,6 @@ pub fn tell<E: Write>(errors: &mut E, fault: &ToolFault) -> Result<(), WriteFaul
     ensures ok { OnOk result (Appends (E.contents errors.old) (E.contents errors.new) (fault_line fault.now)) }
     ensures part { AppendsPart (E.contents errors.old) (E.contents errors.new) (fault_line fault.now) }
 {
-    match line_of(fault) {
-        Ok(line) => write_whole(errors, line.as_slice()),
-        Err(_) => Err(WriteFault),
-    }
+    let line = line_of(fault);
+    write_whole(errors, line.as_slice())
 }
