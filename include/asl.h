@@ -28,7 +28,7 @@ typedef struct asl_answer {
 
 enum {
   ASL_DONE = 0,
-  ASL_REFUSED = 1,     /* errors has a line that says why: docs/CLI.md, "Refusals"; a first part of it where memory for it ran out */
+  ASL_REFUSED = 1,     /* errors has a line that says why: docs/CLI.md, "Refusals"; or nothing, where memory for it ran out */
   ASL_WRONG_USAGE = 2, /* the words are none of the program's */
   /* From here on nothing was done, both lengths are 0, and the buffers are as they were. */
   ASL_NOT_UTF8 = 253,         /* the words are not UTF-8 */

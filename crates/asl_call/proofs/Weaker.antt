@@ -1,64 +1,37 @@
--- What a run of the program leaves, where less is said of what stayed as it was.
-use Rattle.std.proofs.Common.{◌≡◌, ℕ, List, [], Option, Some, None, inl, inr, MatchOption, IfSome, is_some, unwrap_or, sym, subst, ap, true≢false}
-use Rattle.asl_words.specs.declared.command.Invocation.{Invocation}
-use Rattle.asl_words.specs.declared.command.Invocation.TheVariants.{Alone, Run, Help, Version, WrongUsage}
-use Rattle.asl_tool.specs.declared.tool_fault.ToolFault.{ToolFault}
-use Rattle.asl_tool.specs.declared.tool_fault.ToolFault.TheVariants as fault
-use Rattle.asl_tool.specs.declared.streams.WriteFault.{WriteFault}
-use Rattle.asl_tool.specs.Streams.{AppendsPart}
-use Rattle.asl_tool.specs.Tool.{Promise, Refuses, IsCommandStatus, IsTextStatus, IsStatus, EndsAlone}
+-- How a command ends over memory, where less is said of what stayed as it was.
+use Rattle.std.proofs.Common.{◌≡◌, ℕ, List, [], Option, Some, None, MatchOption, refl, sym, subst, arith}
+use Rattle.asl_tool.specs.declared.ending.Ending.{Ending}
+use Rattle.asl_tool.specs.declared.ending.Ending.TheVariants as ending
+use Rattle.asl_tool.specs.Ending.{ending_status, ending_text}
+use Rattle.asl_tool.specs.Tool.{EndsAlone}
+use Rattle.asl_tool.proofs.Weaker.{alone_weaker}
+use Rattle.asl_call.specs.Called.{Says}
 
-refuses_weaker : (P Q : Type 0) (known old new : Option (List ℕ)) (promise : Promise) → (P → Q) → (f : ToolFault) → Refuses P known old new promise f → Refuses Q known old new promise f
-refuses_weaker P Q known old new promise h (fault.Read cause) r = (r.0, h r.1)
-refuses_weaker P Q known old new promise h (fault.Command cause) r = record { input = r.input; whole = r.whole; refused = r.refused; nothing = h r.nothing }
-refuses_weaker P Q known old new promise h (fault.Write cause) r = r
-refuses_weaker P Q known old new promise h fault.OutOfMemory r = r
-
-command_weaker : (P Q : Type 0) (S T : List ℕ → Type 0) (known old new : Option (List ℕ)) (promise : Promise) (status : ℕ) → (P → Q) → ((line : List ℕ) → S line → T line)
-    → IsCommandStatus P S known old new promise status → IsCommandStatus Q T known old new promise status
-command_weaker P Q S T known old new promise status h t (inl x) = inl x
-command_weaker P Q S T known old new promise status h t (inr (e, (f, r, s))) = inr (e, (f, refuses_weaker P Q known old new promise h f r, t _ s))
-
-text_weaker : (S T : List ℕ → Type 0) (old new : Option (List ℕ)) (text : List ℕ) (status : ℕ) → ((line : List ℕ) → S line → T line) → IsTextStatus S old new text status → IsTextStatus T old new text status
-text_weaker S T old new text status t (inl x) = inl x
-text_weaker S T old new text status t (inr (e, (f, part, s))) = inr (e, (f, part, t _ s))
-
-status_weaker : (P Q U V : Type 0) (S T : List ℕ → Type 0) (known old new : Option (List ℕ)) (status : ℕ) → (U → V) → (P → Q) → ((line : List ℕ) → S line → T line) → (asked : Option Invocation)
-    → IsStatus U P S known old new status asked → IsStatus V Q T known old new status asked
-status_weaker P Q U V S T known old new status g h t (Some (Alone command)) x = command_weaker P Q S T known old new _ status h t x
-status_weaker P Q U V S T known old new status g h t (Some (Run team)) x = command_weaker P Q S T known old new _ status h t x
-status_weaker P Q U V S T known old new status g h t (Some (Help text)) x = (g x.0, text_weaker S T old new _ status t x.1)
-status_weaker P Q U V S T known old new status g h t (Some Version) x = (g x.0, text_weaker S T old new _ status t x.1)
-status_weaker P Q U V S T known old new status g h t (Some (WrongUsage text)) x = (g x.0, (h x.1.0, (x.1.1.0, t _ x.1.1.1)))
-status_weaker P Q U V S T known old new status g h t None x = (g x.0, (h x.1.0, (x.1.1.0, t _ x.1.1.1)))
-
-ends_weaker : (P Q U V : Type 0) (S T : List ℕ → Type 0) (words : List (List ℕ)) (known old new : Option (List ℕ)) (status : ℕ) → (U → V) → (P → Q) → ((line : List ℕ) → S line → T line)
-    → EndsAlone words U P S known old new status → EndsAlone words V Q T known old new status
-ends_weaker P Q U V S T words known old new status g h t e =
-    record { invocation = e.invocation; waits_not = e.waits_not; is_asked = e.is_asked; is_status = status_weaker P Q U V S T known old new status g h t e.invocation e.is_status }
-
-any_weaker : (A P Q U V : Type 0) (S T : List ℕ → Type 0) (words : List (List ℕ)) (known old new : Option (List ℕ)) (status : Option ℕ) → (U → V) → (P → Q) → ((line : List ℕ) → S line → T line)
-    → MatchOption status A (EndsAlone words U P S known old new) → MatchOption status A (EndsAlone words V Q T known old new)
-any_weaker A P Q U V S T words known old new None g h t e = e
-any_weaker A P Q U V S T words known old new (Some status) g h t e = ends_weaker P Q U V S T words known old new status g h t e
+any_weaker : (A P Q U V : Type 0) (words : List (List ℕ)) (known old new : Option (List ℕ)) (e : Option Ending) → (U → V) → (P → Q)
+    → MatchOption e A (λ x. EndsAlone words U P (λ text. ending_text x ≡ text) known old new (ending_status x))
+    → MatchOption e A (λ x. EndsAlone words V Q (λ text. ending_text x ≡ text) known old new (ending_status x))
+any_weaker A P Q U V words known old new None g h ended = ended
+any_weaker A P Q U V words known old new (Some x) g h ended =
+    alone_weaker P Q U V (λ text. ending_text x ≡ text) (λ text. ending_text x ≡ text) words known old new (ending_status x) g h (λ text same. same) ended
 
 -- from a writer that had nothing: where it is as it was, nothing is written
-fresh_weaker : (A unread unwritten : Type 0) (S T : List ℕ → Type 0) (words : List (List ℕ)) (input first written : List ℕ) (status : Option ℕ) → first ≡ [] → (unwritten → written ≡ first)
-    → ((line : List ℕ) → S line → T line)
-    → MatchOption status A (EndsAlone words unread unwritten S (Some input) (Some first) (Some written))
-    → MatchOption status A (EndsAlone words (Unit {0}) (written ≡ []) T (Some input) (Some []) (Some written))
-fresh_weaker A unread unwritten S T words input first written status none same tells ended =
-    subst (λ xs. MatchOption status A (EndsAlone words (Unit {0}) (written ≡ xs) T (Some input) (Some xs) (Some written))) none
-    (any_weaker A unwritten (written ≡ first) unread (Unit {0}) S T words (Some input) (Some first) (Some written) status (λ _. tt) same tells ended)
+pub ended_fresh : (A unread unwritten : Type 0) (words : List (List ℕ)) (input first written : List ℕ) (e : Option Ending) → first ≡ [] → (unwritten → written ≡ first)
+    → MatchOption e A (λ x. EndsAlone words unread unwritten (λ text. ending_text x ≡ text) (Some input) (Some first) (Some written) (ending_status x))
+    → MatchOption e A (λ x. EndsAlone words (Unit {0}) (written ≡ []) (λ text. ending_text x ≡ text) (Some input) (Some []) (Some written) (ending_status x))
+ended_fresh A unread unwritten words input first written e none same ended =
+    subst (λ xs. MatchOption e A (λ x. EndsAlone words (Unit {0}) (written ≡ xs) (λ text. ending_text x ≡ text) (Some input) (Some xs) (Some written) (ending_status x))) none
+    (any_weaker A unwritten (written ≡ first) unread (Unit {0}) words (Some input) (Some first) (Some written) e (λ _. tt) same ended)
 
--- the same, with what standard error got, which had nothing either
-pub ended_fresh : (A unread unwritten : Type 0) (words : List (List ℕ)) (input first written silent said : List ℕ) (status : Option ℕ) → first ≡ [] → silent ≡ [] → (unwritten → written ≡ first)
-    → MatchOption status A (EndsAlone words unread unwritten (AppendsPart (Some silent) (Some said)) (Some input) (Some first) (Some written))
-    → MatchOption status A (EndsAlone words (Unit {0}) (written ≡ []) (AppendsPart (Some []) (Some said)) (Some input) (Some []) (Some written))
-ended_fresh A unread unwritten words input first written silent said status none still same ended =
-    fresh_weaker A unread unwritten (AppendsPart (Some silent) (Some said)) (AppendsPart (Some []) (Some said)) words input first written status none same
-    (λ line part. subst (λ xs. AppendsPart (Some xs) (Some said) line) still part) ended
+-- of an ending with status 0 nothing is said
+pub quiet_ending : (e : Ending) → ending_status e ≡ 0 → ending_text e ≡ []
+quiet_ending ending.Done is = refl
+quiet_ending (ending.Refused f) is = absurd (omega arith)
+quiet_ending (ending.WrongUsage text) is = absurd (omega arith)
 
-pub quiet_at : (P : Type 0) (status : Option ℕ) → IfSome status (λ s. s ≡ 0 → P) → status ≡ Some 0 → P
-quiet_at P None e is = absurd (true≢false (sym (ap is_some is)))
-quiet_at P (Some status) e is = e (ap (λ o. unwrap_or o 0) is)
+-- what was said of an ending's text is said of the text that is to be said
+pub ended_said : (P U : Type 0) (words asked : List (List ℕ)) (known old new : Option (List ℕ)) (e : Ending) (said : List ℕ) (status : ℕ) → words ≡ asked → status ≡ ending_status e
+    → Says said (ending_text e) → EndsAlone words U P (λ text. ending_text e ≡ text) known old new (ending_status e) → EndsAlone asked U P (Says said) known old new status
+ended_said P U words asked known old new e said status same is says ended =
+    subst (λ (n : ℕ). EndsAlone asked U P (Says said) known old new n) (sym is)
+    (subst (λ (w : List (List ℕ)). EndsAlone w U P (Says said) known old new (ending_status e)) same
+    (alone_weaker P P U U (λ text. ending_text e ≡ text) (Says said) words known old new (ending_status e) (λ u. u) (λ u. u) (λ text told. subst (Says said) told says) ended))

@@ -1,18 +1,21 @@
 -- What a call of a command leaves: the status, in each buffer a text as far as there is room, and the whole lengths
 -- (docs/EMBEDDING.md, "The commands from C").
 use Rattle.std.specs.Prelude.{◌≡◌, ◌<◌, ◌⊎◌, ℕ, List, [], Some, length, IsUtf8}
-use Rattle.asl_tool.specs.Streams.{AppendsPart}
 use Rattle.asl_tool.specs.Tool.{EndsAlone, AsksForWork}
 use Rattle.asl_call.specs.declared.call.Answer.{Answer}
 use Rattle.asl_call.specs.Words.{words_of}
 use Rattle.asl_foreign.specs.Buffer.{Holds}
 
--- the call did what the words ask for, over the input, from writers that had nothing: the buffers hold what was written, and what
--- was said on standard error, a first part of the line or the text that it is to get; and the answer has their lengths
+-- what was said is the whole text that standard error is to get, or nothing: where memory runs out, of which no clause can speak
+abbrev pub Says : List ℕ → List ℕ → Type 0
+Says said text = (said ≡ text) ⊎ (said ≡ [])
+
+-- the call did what the words ask for, over the input, from a writer that had nothing: the buffers hold what was written and what was
+-- said, as far as there is room, and the answer has their lengths
 pub record IsDone (words input output errors output_now errors_now : List ℕ) (answer : Answer) : Type 0 where
   pub written : List ℕ
   pub said : List ℕ
-  pub ends : EndsAlone (words_of words) (Unit {0}) (written ≡ []) (AppendsPart (Some []) (Some said)) (Some input) (Some []) (Some written) answer.status
+  pub ends : EndsAlone (words_of words) (Unit {0}) (written ≡ []) (Says said) (Some input) (Some []) (Some written) answer.status
   pub quiet : answer.status ≡ 0 → said ≡ []
   pub holds_output : Holds written output output_now
   pub holds_errors : Holds said errors errors_now

@@ -1,13 +1,13 @@
 //! What C calls: a command of the program over memory.
 ghost use Rattle.std.specs.Prelude.{◌≡◌, ◌<◌, [], Some, map, length, IfOk, IfErr, MatchOption, string_bytes};
-ghost use Rattle.asl_tool.specs.Streams.{AppendsPart};
+ghost use Rattle.asl_tool.specs.Ending.{ending_status, ending_text};
 ghost use Rattle.asl_tool.specs.Tool.{AsksForWork, EndsAlone};
 ghost use Rattle.asl_call.specs.Words.{words_of};
-ghost use Rattle.asl_call.specs.Called.{SaysWhyNot, IsAnswered};
+ghost use Rattle.asl_call.specs.Called.{Says, SaysWhyNot, IsAnswered};
 
 use crate::call_words::split;
 use asl_foreign::put_front;
-use asl_tool::tool_alone;
+use asl_tool::{Ending, ended_alone};
 use std::alloc::Global;
 
 /// The words are not UTF-8.
@@ -26,33 +26,37 @@ pub struct Answer {
     pub errors_length: usize,
 }
 
-/// What a command leaves: its status, or none where it would wait; its output; what it says on standard error.
+/// What a command leaves: how it ended, or nothing where it would wait; and its output.
 #[derive(Drop)]
 struct Ended {
-    status: Option<u8>,
+    ending: Option<Ending>,
     output: Vec<u8>,
-    errors: Vec<u8>,
 }
 
 /// Does what the words ask for, over memory.
 fn perform(alloc: Global, words: &[String], input: &[u8]) -> Ended
-    ensures status { MatchOption result.status (AsksForWork (map string_bytes words.now))
-        (EndsAlone (map string_bytes words.now) (Unit {0}) (result.output.items ≡ [])
-        (AppendsPart (Some []) (Some result.errors.items)) (Some input.now) (Some []) (Some result.output.items)) }
-    ensures quiet { result.status ≡ Some 0 → result.errors.items ≡ [] }
+    ensures { MatchOption result.ending (AsksForWork (map string_bytes words.now))
+        (λ ending. EndsAlone (map string_bytes words.now) (Unit {0}) (result.output.items ≡ [])
+        (λ text. ending_text ending ≡ text) (Some input.now) (Some []) (Some result.output.items) (ending_status ending)) }
 {
     let mut reader = input;
     let mut output = Vec::new(alloc);
-    let mut errors = Vec::new(alloc);
-    let status = tool_alone(alloc, words, &mut reader, &mut output, &mut errors);
-    Ended {
-        status,
-        output,
-        errors,
+    let ending = ended_alone(alloc, words, &mut reader, &mut output);
+    Ended { ending, output }
+}
+
+/// What is said of an ending, whole, or nothing where there is no memory for it.
+fn said(alloc: Global, ending: &Ending) -> Vec<u8>
+    ensures whole { Says result.items (ending_text ending.now) }
+    ensures quiet { ending_status ending.now ≡ 0 → result.items ≡ [] }
+{
+    match ending.said(alloc) {
+        Ok(said) => said,
+        Err(_) => Vec::new(alloc),
     }
 }
 
-/// What a command leaves that did not wait.
+/// What a command leaves that did not wait: its status, its output, and what it says on standard error.
 #[derive(Drop)]
 struct Done {
     status: u8,
@@ -63,7 +67,7 @@ struct Done {
 /// What the words ask for, done; or the status that says why nothing was done.
 fn called(alloc: Global, words: &[u8], input: &[u8]) -> Result<Done, u32>
     ensures ended { IfOk result (λ r. EndsAlone (words_of words.now) (Unit {0}) (r.output.items ≡ [])
-        (AppendsPart (Some []) (Some r.errors.items)) (Some input.now) (Some []) (Some r.output.items) r.status) }
+        (Says r.errors.items) (Some input.now) (Some []) (Some r.output.items) r.status) }
     ensures quiet { IfOk result (λ r. r.status ≡ 0 → r.errors.items ≡ []) }
     ensures err { IfErr result (SaysWhyNot words.now) }
 {
@@ -75,16 +79,12 @@ fn called(alloc: Global, words: &[u8], input: &[u8]) -> Result<Done, u32>
         Ok(words) => words,
         Err(_) => return Err(NO_MEMORY),
     };
-    let Ended {
-        status,
-        output,
-        errors,
-    } = perform(alloc, words.as_slice(), input);
-    match status {
-        Some(status) => Ok(Done {
-            status,
+    let Ended { ending, output } = perform(alloc, words.as_slice(), input);
+    match ending {
+        Some(ending) => Ok(Done {
+            status: ending.status(),
             output,
-            errors,
+            errors: said(alloc, &ending),
         }),
         None => Err(RUN_WAITS),
     }
