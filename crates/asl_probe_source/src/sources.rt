@@ -130,7 +130,7 @@ fn put_functions(alloc: Global, ast: &Ast<'_>, out: &mut String) -> Result<(), A
         Err(_refused) => ast.functions(alloc)?,
         Ok(functions) => functions,
     };
-    for function in functions.as_slice() {
+    for function in functions {
         put_word(str::from_utf8(function.name.as_slice()).unwrap_or("?"), out)?;
     }
     Ok(())
