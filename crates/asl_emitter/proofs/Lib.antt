@@ -14,3 +14,4 @@ pub mod Alike
 pub mod Outcomes
 pub mod Guarding
 mod Above
+mod Behind

@@ -1,9 +1,10 @@
 -- The locks of a list that are kept, from the front on.
-use Rattle.std.proofs.Common.{◌≡◌, ◌⊎◌, ◌↔◌, ◌+◌, ◌<◌, ℕ, zero, suc, List, [], ◌∷◌, take, length, get_or, refl, sym, ◌∙◌, subst, inl, inr, arith}
+use Rattle.std.proofs.Common.{◌≡◌, ◌⊎◌, ⊎_elim, ◌↔◌, ◌+◌, ◌<◌, ℕ, zero, suc, List, [], ◌∷◌, ◌++◌, take, length, get_or, refl, sym, ◌∙◌, subst, inl, inr, arith}
 use Rattle.std.proofs.lemmas.List.{take_more}
 use Rattle.asl_code.specs.declared.lock.Lock.{Lock}
 use Rattle.asl_lock_expr.specs.Links.{IsOne}
-use Rattle.asl_lock_expr.specs.Order.{AreInOrder}
+use Rattle.std.specs.declared.cmp.Ordering.TheVariants.{Less}
+use Rattle.asl_lock_expr.specs.Order.{lock_cmp, AreInOrder}
 use Rattle.asl_lock_expr.proofs.Ones.{one_left, one_right, one_either}
 use Rattle.asl_points_to.specs.Classes.{Classed}
 use Rattle.asl_emitter.specs.Lists.{IsFree, IsReduced}
@@ -24,6 +25,29 @@ pub one_at : (xs : List Lock) (n : ℕ) (d : Lock) → n < length xs → IsOne x
 one_at [] n d lt = absurd (omega (arith, lt))
 one_at (x ∷ xs) zero d lt = inl refl
 one_at (x ∷ xs) (suc n) d lt = inr (one_at xs n d (omega (arith, lt)))
+
+-- a list in order, with a lock behind it that comes after all of it
+pub order_more : (xs : List Lock) (a : Lock) → AreInOrder xs → ((b : Lock) → IsOne xs b → lock_cmp b a ≡ Less) → AreInOrder (xs ++ a ∷ [])
+order_more [] a all less = ((λ b o. absurd o), tt)
+order_more (x ∷ xs) a all less = (
+  (λ b o. ⊎_elim (λ p. all.0 b p) (λ q. ⊎_elim (λ is. subst (λ (y : Lock). lock_cmp x y ≡ Less) is (less x (inl refl))) (λ no. absurd no) q) (one_either xs (a ∷ []) b o)),
+  order_more xs a all.1 (λ b o. less b (inr o)),
+)
+
+pub ones_more : (xs : List Lock) (a b : Lock) → IsOne (xs ++ a ∷ []) b ↔ (IsOne xs b ⊎ (a ≡ b))
+ones_more xs a b = (
+  λ o. ⊎_elim (λ p. inl p) (λ q. ⊎_elim (λ is. inr is) (λ no. absurd no) q) (one_either xs (a ∷ []) b o),
+  λ h. ⊎_elim (λ p. one_left xs (a ∷ []) b p) (λ is. one_right xs (a ∷ []) b (inl is)) h,
+)
+
+-- the first locks of a list in order come before the next
+pub first_less : (xs : List Lock) (n : ℕ) (d b : Lock) → AreInOrder xs → n < length xs → IsOne (take n xs) b → lock_cmp b (get_or xs n d) ≡ Less
+first_less [] n d b all lt o = absurd (omega (arith, lt))
+first_less (x ∷ xs) zero d b all lt o = absurd o
+first_less (x ∷ xs) (suc n) d b all lt o = elim o [
+  | inl is ↦ subst (λ (y : Lock). lock_cmp y (get_or xs n d) ≡ Less) is (all.0 (get_or xs n d) (one_at xs n d (omega (arith, lt))))
+  | inr later ↦ first_less xs n d b all.1 (omega (arith, lt)) later
+]
 
 -- what was kept and the next lock, which is free
 pub kept_more : (c : Classed) (f : ℕ) (given old new : List Lock) (n : ℕ) (d lock : Lock) → n < length given → get_or given n d ≡ lock →
@@ -57,3 +81,7 @@ kept_same c f given old n d lock lt is absorbed kept a = (
 -- what is kept of a whole list is its reduced list
 pub reduced_of : (c : Classed) (f : ℕ) (given list : List Lock) → AreInOrder list → ((a : Lock) → IsOne list a ↔ (IsOne given a × IsFree c f (IsOne given) a)) → IsReduced c f (IsOne given) list
 reduced_of c f given list order kept = record { order = order; kept = λ a o. (kept a).0 o; all = λ a g free. (kept a).1 (g, free) }
+
+-- where none of a list in order absorbs another, it is its reduced list
+pub all_kept : (c : Classed) (f : ℕ) (given : List Lock) → AreInOrder given → ((a : Lock) → IsOne given a → IsFree c f (IsOne given) a) → IsReduced c f (IsOne given) given
+all_kept c f given order free = record { order = order; kept = λ a o. (o, free a o); all = λ a g f. g }

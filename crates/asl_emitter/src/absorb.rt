@@ -1,16 +1,16 @@
 //! Which lock does in place of another.
-ghost use Rattle.std.specs.Prelude.{◌≡◌, ◌↔◌, ◌++◌, IsTrue, IfOk, OnOk};
-ghost use Rattle.asl_code.specs.declared.lock.Lock.{Lock as AnyLock};
+ghost use Rattle.std.specs.Prelude.{◌≡◌, ◌<◌, ◌↔◌, ℕ, true, IsTrue, length, slice_get};
+ghost use Rattle.asl_code.specs.declared.value.Effect.{Effect as AnyEffect};
+ghost use Rattle.asl_lock_expr.specs.ClassOf.{class_of};
 ghost use Rattle.asl_lock_expr.specs.Order.{AreInOrder};
 ghost use Rattle.asl_lock_expr.specs.Links.{IsOne};
 ghost use Rattle.asl_soundness.specs.Covering.{covers_effect};
 ghost use Rattle.asl_emitter.specs.Lists.{SufficesFor, IsFree};
-ghost use Rattle.asl_emitter.specs.Above.{above, classes_above};
+ghost use Rattle.asl_emitter.specs.Above.{above, above_expr, classes_above, is_expr, stronger_class, stronger_expr, HasOneOf};
 
 use asl_code::{Effect, Expr, Lock};
 use asl_lock_expr::{class_of, is_one};
 use asl_points_to::Classes;
-use std::alloc::AllocError;
 
 /// Whether the first effect is at least as strong as the second.
 pub fn covers(effect: Effect, other: Effect) -> bool
@@ -47,83 +47,148 @@ pub fn suffices_for(classes: &Classes, function: u16, lock: &Lock, other: &Lock)
     }
 }
 
-/// Whether none of the locks, which are in order, absorbs this one. Only a lock on its class, and one on the same expression or
-/// class with a stronger effect, can. The list `stronger` is for these, so that none is made anew.
-///
-/// # Errors
-///
-/// Allocation failed.
-pub fn is_free(
+/// Whether no lock of a list in order absorbs this one, which stands at a place of it. Only a lock on its class, and one on the
+/// same expression or class with a stronger effect, can.
+pub fn is_free(classes: &Classes, function: u16, given: &[Lock], at: usize, lock: &Lock) -> bool
+    requires order { AreInOrder given.now }
+    requires at { slice_get given.now at ≡ Some lock.now }
+    ensures { IsTrue result ↔ IsFree classes.now function (IsOne given.now) lock.now }
+{
+    !has_absorber(classes, function, given, at, lock)
+}
+
+/// Whether a list in order has one of the locks that absorb this one, which stands at a place of it.
+fn has_absorber(classes: &Classes, function: u16, given: &[Lock], at: usize, lock: &Lock) -> bool
+    requires order { AreInOrder given.now }
+    requires at { slice_get given.now at ≡ Some lock.now }
+    ensures { IsTrue result ↔ HasOneOf given.now (above classes.now function lock.now) }
+{
+    match lock {
+        Lock::Root(_) => false,
+        Lock::Class(class, effect) => has_stronger(given, *class, *effect),
+        Lock::Expr(expr, effect) => has_expr_absorber(classes, function, given, at, expr, *effect),
+    }
+}
+
+/// Whether a list in order has one of the locks that absorb the one on the expression with this effect, which stands at a place
+/// of it.
+fn has_expr_absorber(
     classes: &Classes,
     function: u16,
     given: &[Lock],
-    lock: &Lock,
-    stronger: &mut Vec<Lock>,
-) -> Result<bool, AllocError>
-    requires { AreInOrder given.now }
-    ensures { IfOk result (λ free. IsTrue free ↔ IsFree classes.now function (IsOne given.now) lock.now) }
+    at: usize,
+    expr: &Expr,
+    effect: Effect,
+) -> bool
+    requires order { AreInOrder given.now }
+    requires at { slice_get given.now at ≡ Some (Lock.Expr expr.now effect) }
+    ensures { IsTrue result ↔ HasOneOf given.now (above_expr classes.now function expr.now effect) }
 {
-    list_absorbers(classes, function, lock, stronger)?;
-    Ok(has_none(given, stronger.as_slice()))
-}
-
-/// Whether none of these locks is one of a list in order.
-fn has_none(given: &[Lock], these: &[Lock]) -> bool
-    requires { AreInOrder given.now }
-    ensures { IsTrue result ↔ ((a : AnyLock) → IsOne these.now a → ¬ IsOne given.now a) }
-{
-    for lock in these {
-        if is_one(given, lock) {
-            return false;
-        }
+    if has_class_above(classes, function, given, expr, effect) {
+        return true;
     }
-    true
+    is_before_stronger(given, at, expr, effect)
 }
 
-/// Makes a list that of the locks that absorb this one.
-fn list_absorbers(
+/// Whether a list in order has a lock on the class with a stronger effect.
+fn has_stronger(given: &[Lock], class: u16, effect: Effect) -> bool
+    requires { AreInOrder given.now }
+    ensures { IsTrue result ↔ HasOneOf given.now (stronger_class class effect) }
+{
+    match effect {
+        Effect::Read => is_one(given, &Lock::Class(class, Effect::Write)),
+        Effect::Write => false,
+    }
+}
+
+/// Whether a list in order has a lock on the class of the expression that absorbs one on it with this effect. Locks on classes
+/// come before those on expressions.
+fn has_class_above(
     classes: &Classes,
     function: u16,
-    lock: &Lock,
-    list: &mut Vec<Lock>,
-) -> Result<(), AllocError>
-    ensures { OnOk result (list.new.items ≡ above classes.now function lock.now) }
+    given: &[Lock],
+    expr: &Expr,
+    effect: Effect,
+) -> bool
+    requires { AreInOrder given.now }
+    ensures { IsTrue result ↔ HasOneOf given.now (classes_above (class_of classes.now function expr.now) effect) }
 {
-    list.clear();
+    if begins_with_expr(given) {
+        return false;
+    }
+    match class_of(classes, function, expr) {
+        Some(class) => has_class(given, class, effect),
+        None => false,
+    }
+}
+
+/// Whether a list in order begins with a lock on an expression; then it has none on a class.
+fn begins_with_expr(given: &[Lock]) -> bool
+    requires { AreInOrder given.now }
+    ensures { result ≡ true → (class : ℕ) (effect : AnyEffect) → ¬ IsOne given.now (Lock.Class class effect) }
+{
+    match given.first() {
+        Some(first) => is_expr(first),
+        None => false,
+    }
+}
+
+fn is_expr(lock: &Lock) -> bool
+    ensures { result ≡ is_expr lock.now }
+{
     match lock {
-        Lock::Root(_) => Ok(()),
-        Lock::Class(class, effect) => {
-            if *effect == Effect::Read {
-                list.push(Lock::Class(*class, Effect::Write))?;
-            }
-            Ok(())
-        }
-        Lock::Expr(expr, effect) => {
-            add_classes(class_of(classes, function, expr), *effect, list)?;
-            if *effect == Effect::Read {
-                list.push(stronger(expr)?)?;
-            }
-            Ok(())
-        }
+        Lock::Expr(_, _) => true,
+        _ => false,
     }
 }
 
-/// Adds the locks on the class of an expression that absorb a lock on it with this effect.
-fn add_classes(class: Option<u16>, effect: Effect, above: &mut Vec<Lock>) -> Result<(), AllocError>
-    ensures { OnOk result (above.new.items ≡ above.old.items ++ classes_above class effect) }
+/// Whether a list in order has a lock on the class with at least this effect.
+fn has_class(given: &[Lock], class: u16, effect: Effect) -> bool
+    requires { AreInOrder given.now }
+    ensures { IsTrue result ↔ HasOneOf given.now (classes_above (Some class) effect) }
 {
-    if let Some(class) = class {
-        above.push(Lock::Class(class, Effect::Write))?;
-        if effect == Effect::Read {
-            above.push(Lock::Class(class, Effect::Read))?;
-        }
+    if is_one(given, &Lock::Class(class, Effect::Write)) {
+        return true;
     }
-    Ok(())
+    match effect {
+        Effect::Read => is_one(given, &Lock::Class(class, Effect::Read)),
+        Effect::Write => false,
+    }
 }
 
-/// The lock on the same expression that may write.
-fn stronger(expr: &Expr) -> Result<Lock, AllocError>
-    ensures { IfOk result (λ lock. lock ≡ Lock.Expr expr.now Effect.Write) }
+/// Whether a list in order has a stronger lock on the same expression than the one at a place, which has this effect. It would be
+/// the next.
+fn is_before_stronger(given: &[Lock], at: usize, expr: &Expr, effect: Effect) -> bool
+    requires order { AreInOrder given.now }
+    requires there { at < length given.now }
+    requires at { slice_get given.now at ≡ Some (Lock.Expr expr.now effect) }
+    ensures { IsTrue result ↔ HasOneOf given.now (stronger_expr expr.now effect) }
 {
-    Ok(Lock::Expr(expr.clone()?, Effect::Write))
+    match effect {
+        Effect::Read => match given.get(at + 1) {
+            Some(next) => may_write_on(next, expr),
+            None => false,
+        },
+        Effect::Write => false,
+    }
+}
+
+/// Whether the lock is on the expression and may write.
+fn may_write_on(lock: &Lock, expr: &Expr) -> bool
+    ensures { IsTrue result ↔ (lock.now ≡ Lock.Expr expr.now Effect.Write) }
+{
+    match lock {
+        Lock::Expr(same, effect) => is_write_on(same, *effect, expr),
+        _ => false,
+    }
+}
+
+/// Whether a lock on the first expression with this effect is one on the second that may write.
+fn is_write_on(same: &Expr, effect: Effect, expr: &Expr) -> bool
+    ensures { IsTrue result ↔ (Lock.Expr same.now effect ≡ Lock.Expr expr.now Effect.Write) }
+{
+    match effect {
+        Effect::Write => are_same_expr(same, expr),
+        Effect::Read => false,
+    }
 }

@@ -6,7 +6,7 @@ ghost use Rattle.asl_lock_expr.specs.Links.{IsOne};
 ghost use Rattle.asl_lock_expr.specs.Order.{AreInOrder};
 ghost use Rattle.asl_emitter.specs.Lists.{IsFitted, IsCoarse, as_class, strongest};
 
-use crate::reduced::{keep_free, reduce};
+use crate::reduced::{reduce, reduce_in_order};
 use asl_code::{Effect, Lock, NEWEST_LIMITS};
 use asl_lock_expr::class_of;
 use asl_points_to::Classes;
@@ -38,12 +38,12 @@ pub fn fit_in_order(
     alloc: Global,
     classes: &Classes,
     function: u16,
-    given: &[Lock],
+    given: Vec<Lock>,
 ) -> Result<Vec<Lock>, AllocError>
-    requires { AreInOrder given.now }
-    ensures { IfOk result (λ v. IsFitted classes.now function newest_locks (IsOne given.now) v.items) }
+    requires { AreInOrder given.items }
+    ensures { IfOk result (λ v. IsFitted classes.now function newest_locks (IsOne given.items) v.items) }
 {
-    let fine = keep_free(alloc, classes, function, given)?;
+    let fine = reduce_in_order(alloc, classes, function, given)?;
     at_most(alloc, classes, function, fine)
 }
 

@@ -58,7 +58,7 @@ pub fn lists(
     for (number, section) in lowering.sections().iter().enumerate() {
         let entry = u32::from(section.acquire) + 1;
         let needed = flow.at(alloc, Region::Section(number as u16), entry)?;
-        let list = fit_in_order(alloc, classes, section.function, &needed)?;
+        let list = fit_in_order(alloc, classes, section.function, needed)?;
         lists.push(Items::from_vec(list))?;
     }
     Ok(Items::from_vec(lists))

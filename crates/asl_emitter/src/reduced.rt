@@ -1,9 +1,9 @@
 //! What is left of a set of locks once each that another absorbs is taken out.
-ghost use Rattle.std.specs.Prelude.{◌≡◌, ◌↔◌, IfOk};
+ghost use Rattle.std.specs.Prelude.{◌≡◌, ◌↔◌, true, IfOk};
 ghost use Rattle.asl_code.specs.declared.lock.Lock.{Lock as AnyLock};
 ghost use Rattle.asl_lock_expr.specs.Order.{AreInOrder};
 ghost use Rattle.asl_lock_expr.specs.Links.{IsOne};
-ghost use Rattle.asl_emitter.specs.Lists.{IsReduced};
+ghost use Rattle.asl_emitter.specs.Lists.{IsFree, IsReduced};
 
 use crate::absorb::is_free;
 use asl_code::Lock;
@@ -25,11 +25,40 @@ pub fn reduce(
     ensures { IfOk result (λ v. IsReduced classes.now function (IsOne given.now) v.items) }
 {
     let all = in_order(alloc, given)?;
-    keep_free(alloc, classes, function, all.as_slice())
+    reduce_in_order(alloc, classes, function, all)
+}
+
+/// The same of locks that are in order: the very list, where none of them absorbs another.
+pub fn reduce_in_order(
+    alloc: Global,
+    classes: &Classes,
+    function: u16,
+    given: Vec<Lock>,
+) -> Result<Vec<Lock>, AllocError>
+    requires { AreInOrder given.items }
+    ensures { IfOk result (λ v. IsReduced classes.now function (IsOne given.items) v.items) }
+{
+    if are_free(classes, function, &given) {
+        return Ok(given);
+    }
+    keep_free(alloc, classes, function, &given)
+}
+
+/// Whether no lock of a list in order absorbs another.
+fn are_free(classes: &Classes, function: u16, given: &[Lock]) -> bool
+    requires { AreInOrder given.now }
+    ensures { result ≡ true → (a : AnyLock) → IsOne given.now a → IsFree classes.now function (IsOne given.now) a }
+{
+    for at in 0..given.len() {
+        if !is_free(classes, function, given, at, &given[at]) {
+            return false;
+        }
+    }
+    true
 }
 
 /// The locks of a list in order that no other of them absorbs.
-pub fn keep_free(
+fn keep_free(
     alloc: Global,
     classes: &Classes,
     function: u16,
@@ -39,11 +68,10 @@ pub fn keep_free(
     ensures { IfOk result (λ v. IsReduced classes.now function (IsOne given.now) v.items) }
 {
     let mut reduced = Vec::new(alloc);
-    let mut stronger = Vec::new(alloc);
-    for lock in given {
-        let free = is_free(classes, function, given, lock, &mut stronger)?;
-        if free {
-            add_in_order(&mut reduced, copied(lock)?)?;
+    for at in 0..given.len() {
+        let lock = &given[at];
+        if is_free(classes, function, given, at, lock) {
+            reduced.push(copied(lock)?)?;
         }
     }
     Ok(reduced)

@@ -1,4 +1,4 @@
-use Rattle.std.proofs.Common.{◌≡◌, ◌+◌, ◌++◌, ◌∷◌, [], List, Some, length, slice_get, get_or, ap, sym, ◌∙◌, subst, arith}
+use Rattle.std.proofs.Common.{◌≡◌, ◌+◌, ◌++◌, ◌∷◌, [], List, Some, length, slice_get, get_or, refl, ap, sym, ◌∙◌, subst, arith}
 use Rattle.std.proofs.lemmas.Option.{slice_get-get_or}
 use Rattle.asl_code.specs.declared.lock.Lock.{Lock}
 use Rattle.asl_lower.specs.declared.section.Section.{Section}
@@ -14,20 +14,16 @@ overflow_cast-number c =
     let lt = c.loop-number-test.true in
     omega (arith, few, same, lt)
 
-abbrev section : goal.After-drop-needed-in-loop-number → Section
-section c = get_or c.sections-section-items.result.now c.loop-number.number (record { function = 0; acquire = 0; release = 0 })
-
-section_there : (c : goal.After-drop-needed-in-loop-number) → slice_get c.args.lowering.now.sections c.loop-number.number ≡ Some (section c)
-section_there c =
-    ap (λ (ss : List Section). slice_get ss c.loop-number.number) (sym c.sections-section-items.ensures.sections)
-    ∙ slice_get-get_or c.sections-section-items.result.now c.loop-number.number (record { function = 0; acquire = 0; release = 0 }) c.loop-number-test.true
-
 pub loop-number-preserved : goal.loop-number-preserved
 loop-number-preserved c =
     let l = c.args.lowering.now in
     let k = c.args.classes.now in
     let n = c.loop-number.number in
-    let fits = list_fitted k (section c).function c.args.flow.now n (section c).acquire c.from-entry.result c.deref.result.now c.in_ok-needed.needed.items c.in_ok-list.list.items c.deref.ensures.value c.in_ok-needed.ensures.locks c.from-entry.ensures c.in_ok-list.ensures in
-    let more = fitted_more l k c.args.flow.now n c.loop-number.lists.items (section c) c.in_ok-list.list.items c.loop-number.invariant (section_there c) fits in
+    let section : Section = get_or c.sections-section-items.result.now c.loop-number.number (record { function = 0; acquire = 0; release = 0 }) in
+    let there : slice_get l.sections n ≡ Some section =
+    ap (λ (ss : List Section). slice_get ss c.loop-number.number) (sym c.sections-section-items.ensures.sections)
+    ∙ slice_get-get_or c.sections-section-items.result.now c.loop-number.number (record { function = 0; acquire = 0; release = 0 }) c.loop-number-test.true in
+    let fits = list_fitted k section.function c.args.flow.now n section.acquire c.from-entry.result c.in_ok-needed.needed.items c.in_ok-needed.needed.items c.in_ok-list.list.items refl c.in_ok-needed.ensures.locks c.from-entry.ensures c.in_ok-list.ensures in
+    let more = fitted_more l k c.args.flow.now n c.loop-number.lists.items section c.in_ok-list.list.items c.loop-number.invariant there fits in
     let now : c.push.new.self.items ≡ c.loop-number.lists.items ++ c.in_ok-list.list.items ∷ [] = c.in_ok-push.ensures.items ∙ ap (λ (xs : List Lock). c.loop-number.lists.items ++ xs ∷ []) c.from_vec.ensures in
     subst (λ (xs : List (List Lock)). AreFitted l k c.args.flow.now (n + 1) xs) (sym now) more
