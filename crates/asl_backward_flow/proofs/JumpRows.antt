@@ -1,17 +1,14 @@
 -- The jumps to each pc, as rows.
-use Rattle.std.proofs.Common.{◌≡◌, ◌≢◌, ◌↔◌, ⊎_elim, ℕ, ◌+◌, ◌<◌, ◌≤◌, List, [], ◌∷◌, ◌++◌, Some, length, slice_get, slice_set, get_or, ap, sym, ◌∙◌, arith}
-use Rattle.std.proofs.lemmas.Option.{get_or_from_slice_get, slice_get-get_or, slice_get_within}
+use Rattle.std.proofs.Common.{◌≡◌, ◌≢◌, ◌↔◌, ◌⊎◌, ⊎_elim, ℕ, suc, ◌+◌, ◌<◌, Bool, IsTrue, true, false, List, [], ◌∷◌, ◌++◌, Some, None, length, slice_get, slice_set, refl, ap, sym, subst, ◌∙◌, inl, inr, arith}
 use Rattle.asl_code.specs.declared.instr.Instr.{Instr}
 use Rattle.asl_code.specs.declared.instr.Instr.TheVariants as instr
 use Rattle.asl_lower.specs.Lowered.{Lowered}
 use Rattle.asl_lower.specs.LegalLowering.{IsLegalLowering}
 use Rattle.asl_lower.specs.Region.{FlowsTo}
 use Rattle.asl_lower.proofs.Layouts.{kept_layout}
-use Rattle.asl_backward_flow.specs.Found.{IsAt, list_at}
-use Rattle.asl_backward_flow.specs.Graph.{HasRows, HasSome, IsEdge, IsJump}
-use Rattle.std.specs.List.{Contains}
-use Rattle.asl_backward_flow.proofs.Sets.{some_same, at_front, at_last}
-use Rattle.asl_backward_flow.proofs.SpanLaws.{below_or_at}
+use Rattle.asl_backward_flow.specs.Found.{list_at}
+use Rattle.asl_backward_flow.specs.Graph.{HasRows, IsEdge, IsJump, goes_to_next, jump_target}
+use Rattle.asl_backward_flow.proofs.Sets.{some_same}
 use Rattle.asl_backward_flow.proofs.Rows.{some_begin, some_more, some_end}
 
 -- where control continues to is in the code
@@ -21,60 +18,63 @@ edge_there l kept pc lt i to at goes =
     let body = layout.parted.owned pc lt in
     layout.parted.in_code to _ (layout.inside.body pc to _ i body at goes)
 
-pub at_of_contains : (xs : List ℕ) (x : ℕ) → Contains xs x → IsAt xs x
-at_of_contains xs x c = (c.0, slice_get-get_or xs c.0 x c.1 ∙ ap Some c.2)
+-- where control continues to from an instruction
+pub jumps_there : (i : Instr) (pc target : ℕ) → jump_target i ≡ Some target → FlowsTo i pc target
+jumps_there (instr.Jump t) pc target is = some_same (sym is)
+jumps_there (instr.JumpIfZero test t) pc target is = inl (some_same (sym is))
+jumps_there i pc target is = absurd cc
 
-pub contains_of_at : (xs : List ℕ) (x : ℕ) → IsAt xs x → Contains xs x
-contains_of_at xs x at = (at.0, slice_get_within xs at.0 x at.1, get_or_from_slice_get xs at.0 x x at.1)
+pub goes_there : (i : Instr) (pc : ℕ) → goes_to_next i ≡ true → FlowsTo i pc (suc pc)
+goes_there (instr.Jump t) pc is = absurd cc
+goes_there (instr.Return f) pc is = absurd cc
+goes_there (instr.JumpIfZero test t) pc is = inr refl
+goes_there i pc is = refl
 
--- the pcs to which control continues
-abbrev pub Tells : Lowered → ℕ → List ℕ → Type 0
-Tells l pc next = (i : Instr) → slice_get l.code pc ≡ Some i → (to : ℕ) → Contains next to ↔ FlowsTo i pc to
+pub jumps_or_goes : (i : Instr) (pc to : ℕ) → FlowsTo i pc to → (jump_target i ≡ Some to) ⊎ ((goes_to_next i ≡ true) × (to ≡ suc pc))
+jumps_or_goes (instr.Jump t) pc to h = inl (ap Some (sym h))
+jumps_or_goes (instr.JumpIfZero test t) pc to (inl h) = inl (ap Some (sym h))
+jumps_or_goes (instr.JumpIfZero test t) pc to (inr h) = inr (refl, h)
+jumps_or_goes (instr.Return f) pc to h = absurd h
+jumps_or_goes i pc to h = inr (refl, h)
 
-pub next_edge : (l : Lowered) (pc : ℕ) → pc < length l.code → (next : List ℕ) → Tells l pc next → (k d : ℕ) → k < length next → IsEdge l (get_or next k d) pc
-next_edge l pc lt next tells k d there =
-    let at : slice_get l.code pc ≡ Some (get_or l.code pc instr.Release) = slice_get-get_or l.code pc instr.Release lt in
-    let to : ℕ = get_or next k d in
-    let one : Contains next to = contains_of_at next to (k, slice_get-get_or next k d there) in
-    (get_or l.code pc instr.Release, at, (tells _ at to).0 one)
+-- whether control continues from the instruction at a pc
+module _ (l : Lowered) (pc to : ℕ) (i : Instr) (at : slice_get l.code pc ≡ Some i) where
+  of_flow : FlowsTo i pc to → IsEdge l to pc
+  of_flow h = (i, at, h)
 
-pub edge_next : (l : Lowered) (pc : ℕ) (next : List ℕ) → Tells l pc next → (to : ℕ) → IsEdge l to pc → IsAt next to
-edge_next l pc next tells to e = at_of_contains next to ((tells e.0 e.1 to).1 e.2)
+  flow_of : IsEdge l to pc → FlowsTo i pc to
+  flow_of e = subst (λ (x : Instr). FlowsTo x pc to) (some_same (sym e.1 ∙ at)) e.2
 
--- the rows have the pcs below one that are related to their own number, and that one as far as it was added
-abbrev pub HasTargets : List (List ℕ) → Lowered → ℕ → List ℕ → ℕ → Type 0
-HasTargets rows l pc next below =
-    (added : List ℕ) × HasSome rows (IsJump l) pc added × ((j n : ℕ) → j < below → slice_get next j ≡ Some n → n ≢ pc + 1 → IsAt added n)
+  pub edge_by_jump : jump_target i ≡ Some to → IsTrue true ↔ IsEdge l to pc
+  edge_by_jump is = (λ e. of_flow (jumps_there i pc to is), λ e. refl)
 
-module _ (l : Lowered) (pc : ℕ) (next : List ℕ) where
-  pub targets_begin : (rows : List (List ℕ)) → HasRows rows (IsJump l) pc → HasTargets rows l pc next 0
-  targets_begin rows has = ([], some_begin rows (IsJump l) pc has, λ j n lt. absurd (omega (arith, lt)))
+  module _ (no : jump_target i ≡ Some to → ⊥) where
+    pub edge_nowhere : goes_to_next i ≡ false → IsTrue false ↔ IsEdge l to pc
+    edge_nowhere ends = (λ e. absurd cc, λ e. ⊎_elim (λ j. absurd (no j)) (λ h. (let goes : goes_to_next i ≡ true = h.0 in absurd cc)) (jumps_or_goes i pc to (flow_of e)))
 
-  pub targets_more : (rows new : List (List ℕ)) (j number : ℕ) → slice_get next j ≡ Some number → IsEdge l number pc → number ≢ pc + 1 → number < length rows
-      → new ≡ slice_set rows number (list_at rows number ++ pc ∷ []) → HasTargets rows l pc next j → HasTargets new l pc next (j + 1)
-  targets_more rows new j number at edge other there made has = (
-    has.0 ++ number ∷ [],
-    some_more rows new (IsJump l) pc number has.0 there (edge, other) made has.1,
-    λ k n lt e no. ⊎_elim
-        (λ below. let old = has.2 k n below e no in (old.0, at_front has.0 (number ∷ []) old.0 n old.1))
-        (λ (is : k ≡ j). (length has.0, at_last has.0 number ∙ sym at ∙ ap (slice_get next) (sym is) ∙ e))
-        (below_or_at k j lt),
-  )
+    pub edge_to_next : goes_to_next i ≡ true → (told : Bool) → (told ≡ true → to ≡ pc + 1) → (to ≡ pc + 1 → told ≡ true) → IsTrue told ↔ IsEdge l to pc
+    edge_to_next goes told next tells = (
+      λ e. (let is = next e in let at_next : suc pc ≡ to = omega (arith, is) in of_flow (subst (FlowsTo i pc) at_next (goes_there i pc goes))),
+      λ e. ⊎_elim (λ j. absurd (no j)) (λ h. (let is = h.1 in tells (omega (arith, is)))) (jumps_or_goes i pc to (flow_of e)),
+    )
 
-  pub targets_skip : (rows : List (List ℕ)) (j number : ℕ) → slice_get next j ≡ Some number → number ≡ pc + 1 → HasTargets rows l pc next j → HasTargets rows l pc next (j + 1)
-  targets_skip rows j number at is has = (
-    has.0,
-    has.1,
-    λ k n lt e no. ⊎_elim
-        (λ below. has.2 k n below e no)
-        (λ (same : k ≡ j). absurd (no (some_same (sym e ∙ ap (slice_get next) same ∙ at) ∙ is)))
-        (below_or_at k j lt),
-  )
+-- the rows with the jump of one more pc
+module _ (l : Lowered) (pc : ℕ) (i : Instr) (at : slice_get l.code pc ≡ Some i) (rows : List (List ℕ)) (has : HasRows rows (IsJump l) pc) where
+  jump_only : (n : ℕ) → IsJump l n pc → jump_target i ≡ Some n
+  jump_only n r = ⊎_elim (λ j. j) (λ h. (let is = h.1 in absurd (r.1 (omega (arith, is))))) (jumps_or_goes i pc n (flow_of l pc n i at r.0))
 
-  pub targets_end : (rows : List (List ℕ)) (j : ℕ) → length next ≤ j → Tells l pc next → HasTargets rows l pc next j → HasRows rows (IsJump l) (pc + 1)
-  targets_end rows j end tells has =
-      some_end rows (IsJump l) pc has.0 has.1
-      (λ n r.
-      let at = edge_next l pc next tells n r.0 in
-      let lt = slice_get_within next at.0 n at.1 in
-      has.2 at.0 n (omega (arith, lt, end)) at.1 r.1)
+  pub no_jump : jump_target i ≡ None → HasRows rows (IsJump l) (pc + 1)
+  no_jump none = some_end rows (IsJump l) pc [] (some_begin rows (IsJump l) pc has) (λ n r. (let never : None ≡ Some n = sym none ∙ jump_only n r in absurd cc))
+
+  module _ (target : ℕ) (is : jump_target i ≡ Some target) where
+    pub jump_to_next : target ≡ pc + 1 → HasRows rows (IsJump l) (pc + 1)
+    jump_to_next next = some_end rows (IsJump l) pc [] (some_begin rows (IsJump l) pc has) (λ n r. (let same : target ≡ n = some_same (sym is ∙ jump_only n r) in absurd (r.1 (sym same ∙ next))))
+
+    pub jump_there : IsLegalLowering l → pc < length l.code → target < length l.code
+    jump_there kept lt = edge_there l kept pc lt i target at (jumps_there i pc target is)
+
+    pub one_jump : target ≢ pc + 1 → target < length rows → (new : List (List ℕ)) → new ≡ slice_set rows target (list_at rows target ++ pc ∷ []) → HasRows new (IsJump l) (pc + 1)
+    one_jump other there new made =
+        some_end new (IsJump l) pc (target ∷ [])
+        (some_more rows new (IsJump l) pc target [] there ((i, at, jumps_there i pc target is), other) made (some_begin rows (IsJump l) pc has))
+        (λ n r. (0, sym is ∙ jump_only n r))

@@ -1,7 +1,8 @@
 -- Machinery of the proofs, not of the promise: the jumps to each pc, the calls of each function, and the regions that have
 -- each call (src/graph.rt).
-use Rattle.std.specs.Prelude.{◌≡◌, ◌≢◌, ◌+◌, ◌<◌, ◌≤◌, ℕ, List, Some, slice_get}
+use Rattle.std.specs.Prelude.{◌≡◌, ◌≢◌, ◌+◌, ◌<◌, ◌≤◌, ℕ, Bool, true, false, List, Option, Some, None, slice_get}
 use Rattle.asl_code.specs.declared.instr.Instr.{Instr}
+use Rattle.asl_code.specs.declared.instr.Instr.TheVariants as instr
 use Rattle.asl_lower.specs.Lowered.{Lowered}
 use Rattle.asl_lower.specs.Region.{CallsAt, FlowsTo}
 use Rattle.asl_backward_flow.specs.declared.span.Span.{Span}
@@ -18,6 +19,17 @@ IsEdge l to pc = (i : Instr) × (slice_get l.code pc ≡ Some i) × FlowsTo i pc
 -- control continues from the pc to another that is not the next
 abbrev pub IsJump : Lowered → ℕ → ℕ → Type 0
 IsJump l to pc = IsEdge l to pc × (to ≢ pc + 1)
+
+-- whether control may continue from an instruction to the next, and where it may jump to
+abbrev pub goes_to_next : Instr → Bool
+goes_to_next (instr.Jump target) = false
+goes_to_next (instr.Return from) = false
+goes_to_next i = true
+
+abbrev pub jump_target : Instr → Option ℕ
+jump_target (instr.Jump target) = Some target
+jump_target (instr.JumpIfZero test target) = Some target
+jump_target i = None
 
 -- the function is called at the pc
 abbrev pub IsCall : Lowered → ℕ → ℕ → Type 0

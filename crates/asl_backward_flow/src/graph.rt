@@ -2,7 +2,7 @@
 ghost use Rattle.std.specs.Prelude.{◌≡◌, ◌↔◌, IsTrue, ◌++◌, ◌∷◌, ◌+◌, [], ◌<◌, ◌≤◌, length, map, slice_set, vec_len, IfOk, OnOk, replicate};
 ghost use Rattle.asl_lower.specs.LegalLowering.{IsLegalLowering};
 ghost use Rattle.asl_backward_flow.specs.Found.{list_at};
-ghost use Rattle.asl_backward_flow.specs.Graph.{HasRows, HasCall, EndWithin, IsEdge, IsJump, IsCall};
+ghost use Rattle.asl_backward_flow.specs.Graph.{HasRows, HasCall, EndWithin, IsEdge, IsJump, IsCall, goes_to_next, jump_target};
 
 use crate::span::Span;
 use asl_code::Instr;
@@ -36,7 +36,45 @@ pub fn goes_on(lowering: &Lowering, pc: u16, to: u16) -> bool
     requires { pc < length lowering.now.code }
     ensures { IsTrue result ↔ IsEdge lowering.now to pc }
 {
-    lowering.successors(pc).as_slice().contains(&to)
+    let instr = &lowering.code()[usize::from(pc)];
+    if may_jump_to(instr, to) {
+        return true;
+    }
+    if !goes_to_next(instr) {
+        return false;
+    }
+    usize::from(to) == usize::from(pc) + 1
+}
+
+/// Whether the instruction may jump to a pc.
+fn may_jump_to(instr: &Instr, to: u16) -> bool
+    ensures { IsTrue result ↔ (jump_target instr.now ≡ Some to) }
+{
+    match jump_target(instr) {
+        Some(target) => target == to,
+        None => false,
+    }
+}
+
+/// Whether control may continue from the instruction to the next.
+fn goes_to_next(instr: &Instr) -> bool
+    ensures { result ≡ goes_to_next instr.now }
+{
+    match instr {
+        Instr::Jump { .. } | Instr::Return { .. } => false,
+        _ => true,
+    }
+}
+
+/// Where the instruction may jump to.
+fn jump_target(instr: &Instr) -> Option<u16>
+    ensures { result ≡ jump_target instr.now }
+{
+    match instr {
+        Instr::Jump { target } => Some(*target),
+        Instr::JumpIfZero { target, .. } => Some(*target),
+        _ => None,
+    }
 }
 
 /// For each pc, the pcs from which control continues to it, without the one before it.
@@ -47,13 +85,13 @@ pub fn jumps(alloc: Global, lowering: &Lowering) -> Result<Vec<Vec<u16>>, AllocE
     let count = lowering.code().len();
     let mut rows = empty_rows(alloc, count)?;
     for pc in 0..count {
-        add_jumps(lowering, pc as u16, &mut rows)?;
+        add_jump(lowering, pc as u16, &mut rows)?;
     }
     Ok(rows)
 }
 
-/// Adds the pc to the rows of those to which control continues from it, but for the next.
-fn add_jumps(lowering: &Lowering, pc: u16, rows: &mut Vec<Vec<u16>>) -> Result<(), AllocError>
+/// Adds the pc to the row of the one to which its instruction may jump, unless that is the next.
+fn add_jump(lowering: &Lowering, pc: u16, rows: &mut Vec<Vec<u16>>) -> Result<(), AllocError>
     requires kept { IsLegalLowering lowering.now }
     requires there { pc < length lowering.now.code }
     requires rows { length lowering.now.code ≡ vec_len rows.old }
@@ -61,14 +99,16 @@ fn add_jumps(lowering: &Lowering, pc: u16, rows: &mut Vec<Vec<u16>>) -> Result<(
     ensures rows { OnOk result (HasRows (map (λ r. r.items) rows.new.items) (IsJump lowering.now) (pc + 1)) }
     ensures count { OnOk result (vec_len rows.new ≡ vec_len rows.old) }
 {
-    let next = lowering.successors(pc);
-    for target in next.as_slice() {
-        let target = usize::from(*target);
-        if target != usize::from(pc) + 1 {
-            add_to_row(rows, target, pc)?;
+    match jump_target(&lowering.code()[usize::from(pc)]) {
+        Some(target) => {
+            let target = usize::from(target);
+            if target != usize::from(pc) + 1 {
+                return add_to_row(rows, target, pc);
+            }
+            Ok(())
         }
+        None => Ok(()),
     }
-    Ok(())
 }
 
 /// For each function, the pcs at which it is called.

@@ -10,7 +10,7 @@ loop-pc-init c = (
 )
 
 pub loop-pc-preserved : goal.loop-pc-preserved
-loop-pc-preserved c = (c.in_ok-add_jumps.ensures.rows, (let was = c.loop-pc.invariant.1 in let count = c.in_ok-add_jumps.ensures.count in omega (arith, was, count)))
+loop-pc-preserved c = (c.in_ok-add_jump.ensures.rows, (let was = c.loop-pc.invariant.1 in let count = c.in_ok-add_jump.ensures.count in omega (arith, was, count)))
 
 pub returns-clause-rows : goal.returns-clause-rows
 returns-clause-rows c =
