@@ -113,7 +113,15 @@ fn add_linked(
     stay_over(alloc, analysis, part, pc, scratch, found)?;
     let changed = changed(alloc, &scratch.set, &scratch.stay)?;
     found.add_numbered(part, pc, &scratch.stay)?;
-    add_changed(alloc, analysis, part, pc, &changed, found)
+    add_changed(
+        alloc,
+        analysis,
+        part,
+        pc,
+        &changed,
+        &mut scratch.links,
+        found,
+    )
 }
 
 /// The numbers of the first set that are none of the second.
@@ -162,13 +170,15 @@ fn stay_over(
     )
 }
 
-/// Adds what the locks of these numbers become over the instruction.
+/// Adds what the locks of these numbers become over the instruction. `links` is scratch space: what it holds at first does not
+/// count.
 fn add_changed(
     alloc: Global,
     analysis: &FlowAnalysis,
     part: u16,
     pc: u16,
     set: &Bits,
+    links: &mut Vec<Lock>,
     found: &mut Found,
 ) -> Result<(), AddFault>
     requires analysis { IsRead (read analysis.now) }
@@ -185,18 +195,19 @@ fn add_changed(
     let numbers = set.members(alloc)?;
     for number in numbers.as_slice() {
         let lock = found.lock(part, *number)?;
-        add_link(alloc, analysis, part, pc, &lock, found)?;
+        add_link(alloc, analysis, part, pc, &lock, links, found)?;
     }
     Ok(())
 }
 
-/// Adds what the lock becomes over the instruction.
+/// Adds what the lock becomes over the instruction. `links` is scratch space: what it holds at first does not count.
 fn add_link(
     alloc: Global,
     analysis: &FlowAnalysis,
     part: u16,
     pc: u16,
     lock: &Lock,
+    links: &mut Vec<Lock>,
     found: &mut Found,
 ) -> Result<(), AddFault>
     requires analysis { IsRead (read analysis.now) }
@@ -210,12 +221,12 @@ fn add_link(
         (At part pc (WithFronts (IsLinkedAlone (read analysis.now) part pc lock.now)))) }
 {
     let span = analysis.spans[usize::from(part)];
-    let mut locks = Vec::new(alloc);
+    links.clear();
     add_links(
         &view(analysis, span.function),
         &analysis.lowering.code()[usize::from(pc)],
         lock,
-        &mut locks,
+        links,
     )?;
-    add_with_prefixes(alloc, analysis, part, pc, &mut locks, found)
+    add_with_prefixes(alloc, analysis, part, pc, links, found)
 }

@@ -2,6 +2,7 @@
 ghost use Rattle.std.specs.Prelude.{◌≡◌, IfOk, map, replicate, []};
 
 use crate::masks::{Mask, no_masks};
+use asl_code::Lock;
 use asl_lane_sets::Bits;
 use std::alloc::{AllocError, Global};
 
@@ -16,6 +17,8 @@ pub struct Scratch {
     pub set: Bits,
     /// Those of them that stay over an instruction.
     pub stay: Bits,
+    /// What one of the others becomes.
+    pub links: Vec<Lock>,
 }
 
 /// Nothing found yet, of so many regions.
@@ -27,5 +30,6 @@ pub fn no_scratch(alloc: Global, count: usize) -> Result<Scratch, AllocError>
         pcs: Vec::new(alloc),
         set: Bits::with_len(alloc, 0)?,
         stay: Bits::with_len(alloc, 0)?,
+        links: Vec::new(alloc),
     })
 }
