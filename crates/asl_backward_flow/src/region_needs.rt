@@ -11,18 +11,22 @@ ghost use Rattle.asl_backward_flow.specs.Parts.{part};
 
 use crate::region::Region;
 use crate::span::Span;
-use asl_code::Lock;
+use asl_code::{Base, Lock, Op};
 use asl_lane_sets::Bits;
 use asl_lock_expr::add_in_order;
 use indexmap::IndexSet;
 use std::alloc::{AllocError, Global};
-use std::cmp::Ordering;
 
 /// By how many numbers a set grows at least, where numbers come one by one.
 pub const STEP: usize = 256;
 
 /// So many numbers stay as they are.
 const FEW: usize = 16;
+
+/// How many operations of a path go into a key, and how many digits an operation, or the end of a path, may be.
+const KEY_OPS: usize = 5;
+
+const DIGITS: u64 = 258;
 
 /// A region with its locks in the order in which they were found. For each of its points, from the first pc on, a set has the
 /// numbers of the locks that are needed there; a set is as long as its numbers made it.
@@ -102,21 +106,50 @@ fn empty_sets(alloc: Global, count: usize) -> Result<Vec<Bits>, AllocError>
     Ok(sets)
 }
 
-/// Puts many numbers in the order of their locks, so that few locks are moved where they are put at their places one by one.
-fn arrange(locks: &[Lock], numbers: &mut Vec<usize>)
+/// Puts many numbers nearly in the order of their locks, so that few locks are moved where they are put at their places in turn.
+fn arrange(locks: &[Lock], numbers: &mut Vec<usize>) -> Result<(), AllocError>
     ensures { (k : ℕ) → Contains numbers.new.items k ↔ Contains numbers.old.items k }
 {
     if numbers.len() <= FEW {
-        return;
+        return Ok(());
     }
-    numbers.sort_unstable_by(|a, b| compare(locks, *a, *b));
+    numbers.sort_by_cached_key(|number| key(locks, *number))
 }
 
-/// Which of two numbers has the lock that comes first.
-fn compare(locks: &[Lock], a: usize, b: usize) -> Ordering {
-    match (locks.get(a), locks.get(b)) {
-        (Some(first), Some(second)) => first.cmp(second),
-        _ => Ordering::Equal,
+/// A key that is less where the number's lock comes first, as far as its class, or its base and the front of its path, tell.
+fn key(locks: &[Lock], number: usize) -> u64 {
+    match locks.get(number) {
+        Some(Lock::Expr(expr, _)) => path_key(base_key(expr.base), expr.path.as_slice()),
+        Some(Lock::Class(class, _)) => u64::from(*class),
+        _ => 0,
+    }
+}
+
+/// Registers come before globals, both by number.
+fn base_key(base: Base) -> u64 {
+    match base {
+        Base::Reg(register) => 1 + u64::from(register),
+        Base::Global(global) => 257 + u64::from(global),
+    }
+}
+
+/// The number with the key of the base and the first operations of the path as digits, which is above all classes.
+fn path_key(base: u64, ops: &[Op]) -> u64 {
+    let mut key = base;
+    for place in 0..KEY_OPS {
+        key = key
+            .wrapping_mul(DIGITS)
+            .wrapping_add(op_key(ops.get(place)));
+    }
+    key
+}
+
+/// A path comes before its extensions, and `*` before `.0` before `.1`.
+fn op_key(op: Option<&Op>) -> u64 {
+    match op {
+        None => 0,
+        Some(Op::Deref) => 1,
+        Some(Op::Off(places)) => 2 + u64::from(*places),
     }
 }
 
@@ -176,7 +209,7 @@ impl RegionNeeds {
         ensures locks { OnOk result ((m : Lock) → IsOne locks.new.items m ↔ (IsOne locks.old.items m ⊎ IsNamed self.now.locks.keys set.now m)) }
     {
         let mut numbers = set.members(alloc)?;
-        arrange(self.locks.as_slice(), &mut numbers);
+        arrange(self.locks.as_slice(), &mut numbers)?;
         for number in numbers.as_slice() {
             self.add_lock(*number, locks)?;
         }
