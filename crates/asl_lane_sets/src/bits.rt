@@ -30,6 +30,16 @@ impl Model for Bits {
 }
 
 impl Bits {
+    /// The empty set of length 0, which needs no memory.
+    pub fn new(alloc: Global) -> Bits
+        ensures { result ≡ [] }
+    {
+        Bits {
+            len: 0,
+            lanes: LaneVec::new(alloc),
+        }
+    }
+
     /// The empty set of numbers below `len`.
     ///
     /// # Errors
@@ -100,6 +110,19 @@ impl Bits {
         ensures numbers { (k : ℕ) → IsIn self.new k ↔ (IsIn self.old k × ¬ IsIn other.now k) }
     {
         self.lanes.clear(&other.lanes)
+    }
+
+    /// Whether the set has no number.
+    pub fn is_empty(&self) -> bool
+        ensures empty { result ≡ true → (k : ℕ) → ¬ IsIn self.now k }
+        ensures some { result ≡ false → (k : ℕ) × IsIn self.now k }
+    {
+        for place in 0..self.lanes.len() {
+            if has_one(self.lanes.lane(place)) {
+                return false;
+            }
+        }
+        true
     }
 
     /// The same set.
@@ -203,6 +226,17 @@ fn add_members(lane: u64, first: usize, members: &mut Vec<usize>) -> Result<(), 
         bit = next_one(lane, bit + 1);
     }
     Ok(())
+}
+
+/// Whether a bit of a lane is 1.
+fn has_one(lane: u64) -> bool
+    ensures none { result ≡ false → lane ≡ 0 }
+    ensures one { result ≡ true → (bit : ℕ) × (bit < 64) × (has_bit lane bit ≡ true) }
+{
+    if lane == 0 {
+        return false;
+    }
+    true
 }
 
 /// The lowest bit from a place on that is 1; the bits of a lane where none is.

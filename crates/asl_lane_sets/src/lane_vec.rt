@@ -25,6 +25,16 @@ impl Model for LaneVec {
 }
 
 impl LaneVec {
+    /// The first four lanes, without bits.
+    pub(crate) fn new(alloc: Global) -> LaneVec
+        ensures { result ≡ replicate 4 0 }
+    {
+        LaneVec {
+            first: [0; LANES_OF_BLOCK],
+            more: Vec::new(alloc),
+        }
+    }
+
     /// The first four lanes and so many more, all without bits.
     pub(crate) fn zeros(alloc: Global, more: usize) -> Result<LaneVec, AllocError>
         requires { more % 4 ≡ 0 }
