@@ -72,6 +72,10 @@ pub fn merge(sets: &mut Vec<Bits>, place: usize, numbers: &Bits) -> Result<bool,
     ensures err { OnErr result (sets.new.items ≡ sets.old.items) }
 {
     let set = &mut sets[place];
+    if set.len() == 0 {
+        set.copy_from(numbers)?;
+        return Ok(!numbers.is_empty());
+    }
     make_room(set, numbers.len())?;
     Ok(set.add_all(numbers))
 }
@@ -101,7 +105,7 @@ fn empty_sets(alloc: Global, count: usize) -> Result<Vec<Bits>, AllocError>
 {
     let mut sets = Vec::with_capacity(alloc, count)?;
     for _ in 0..count {
-        sets.push(Bits::with_len(alloc, 0)?)?;
+        sets.push(Bits::new(alloc))?;
     }
     Ok(sets)
 }

@@ -28,8 +28,8 @@ pub fn no_scratch(alloc: Global, count: usize) -> Result<Scratch, AllocError>
     Ok(Scratch {
         masks: no_masks(alloc, count)?,
         pcs: Vec::new(alloc),
-        set: Bits::with_len(alloc, 0)?,
-        stay: Bits::with_len(alloc, 0)?,
+        set: Bits::new(alloc),
+        stay: Bits::new(alloc),
         links: Vec::new(alloc),
     })
 }
