@@ -4,4 +4,4 @@ pub mod Numbers
 pub mod CombinedNumbers
 pub mod Parts
 pub mod Members
-pub mod SetLanes
+pub mod CommonNumbers

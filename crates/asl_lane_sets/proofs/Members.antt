@@ -111,20 +111,20 @@ pub ones_rise : (lanes : List ℕ) (n : ℕ) → IsRising (first_ones lanes n)
 ones_rise lanes n = AllPairs-from_increasing (first_ones lanes n) (IsStrictlyIncreasing-filter (is_set lanes) (range_with_len 0 n) (range_rises 0 n))
 
 -- what stands in the list of members
-contains_here : (x : ℕ) (xs : List ℕ) → Contains (x ∷ xs) x
+pub contains_here : (x : ℕ) (xs : List ℕ) → Contains (x ∷ xs) x
 contains_here x xs = (0, omega arith, refl)
 
 contains_later : (x y : ℕ) (xs : List ℕ) → Contains xs y → Contains (x ∷ xs) y
 contains_later x y xs h = (suc h.0, omega (arith, h.1), h.2)
 
-contains_cases : (x y : ℕ) (xs : List ℕ) → Contains (x ∷ xs) y → (x ≡ y) ⊎ Contains xs y
+pub contains_cases : (x y : ℕ) (xs : List ℕ) → Contains (x ∷ xs) y → (x ≡ y) ⊎ Contains xs y
 contains_cases x y xs h = at h.0 h.1 h.2
   where
     at : (k : ℕ) → k < suc (length xs) → slice_index_or (x ∷ xs) k y ≡ y → (x ≡ y) ⊎ Contains xs y
     at zero lt e = inl e
     at (suc k) lt e = inr (k, omega arith, e)
 
-contains_none : (y : ℕ) → Contains [] y → ⊥
+pub contains_none : (y : ℕ) → Contains [] y → ⊥
 contains_none y h = absurd (omega (arith, h.1))
 
 members_are : (first : ℕ) (set : List Bool) (k : ℕ) → Contains (members_from first set) k → (n : ℕ) × (first + n ≡ k) × IsIn set n

@@ -112,6 +112,26 @@ impl Bits {
         self.lanes.clear(&other.lanes)
     }
 
+    /// Adds the numbers of both sets to a list, and tells whether there are any.
+    ///
+    /// # Errors
+    ///
+    /// An allocation failed.
+    pub fn add_common(&self, other: &Bits, list: &mut Vec<usize>) -> Result<bool, AllocError>
+        ensures numbers { OnOk result ((k : ℕ) → Contains list.new.items k ↔ (Contains list.old.items k ⊎ (IsIn self.now k × IsIn other.now k))) }
+        ensures some { IfOk result (λ some. IsTrue some ↔ ((k : ℕ) × IsIn self.now k × IsIn other.now k)) }
+    {
+        let mut some = false;
+        for place in 0..self.lanes.len().min(other.lanes.len()) {
+            let both = self.lanes.lane(place) & other.lanes.lane(place);
+            if has_one(both) {
+                add_members(both, place * LANE, list)?;
+                some = true;
+            }
+        }
+        Ok(some)
+    }
+
     /// Whether the set has no number.
     pub fn is_empty(&self) -> bool
         ensures empty { result ≡ true → (k : ℕ) → ¬ IsIn self.now k }

@@ -1,4 +1,4 @@
-use Rattle.asl_lane_sets.proofs.SetLanes.{some_bit}
+use Rattle.asl_lane_sets.proofs.CommonNumbers.{some_bit}
 use Rattle.asl_lane_sets.proofs.bits.has_one.Goals as goal
 
 pub returns-clause-one : goal.returns-clause-one

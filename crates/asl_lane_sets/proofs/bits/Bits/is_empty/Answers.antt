@@ -1,5 +1,5 @@
-use Rattle.std.proofs.Common.{sym, ◌∙◌, arith, below_more}
-use Rattle.asl_lane_sets.proofs.SetLanes.{some_there, none_there}
+use Rattle.std.proofs.Common.{◌≡◌, ◌<◌, get_or, ap, sym, ◌∙◌, arith, below_more}
+use Rattle.asl_lane_sets.proofs.CommonNumbers.{some_there, none_there}
 use Rattle.asl_lane_sets.proofs.bits.Bits.is_empty.Goals as goal
 
 pub lane-requires : goal.lane-requires
