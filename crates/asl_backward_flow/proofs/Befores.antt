@@ -3,6 +3,7 @@ use Rattle.std.proofs.Common.{◌≡◌, ◌⊎◌, ⊎_elim, ℕ, zero, suc, Bo
 use Rattle.std.proofs.lemmas.Bool.Decides.{eqb_tells}
 use Rattle.std.proofs.lemmas.Option.{slice_get_within}
 use Rattle.asl_code.specs.declared.lock.Lock.{Lock}
+use Rattle.asl_lane_sets.specs.NumberSet.{IsIn}
 use Rattle.asl_backward_flow.specs.declared.found.AddFault.{AddFault}
 use Rattle.asl_backward_flow.specs.Graph.{IsEdge}
 use Rattle.asl_backward_flow.specs.Found.{Table, IsAt, IsNamed, list_at, locks_of}
@@ -117,13 +118,13 @@ module _ (r : Read) (initial now new : Table) (part : ℕ) (set : List Bool) (ch
     at ∙ ap Some (sym h.1),
     at_point r part q point p y h.0 h.1,
     to_point r part q (λ a b. IsLinkedOf r a b First) p y m
-        (h.0, h.1, linked_as r part q Then First (named_before initial now part so.adds.grows set chosen.named) m h.2),
+        (h.0, h.1, linked_as r part q Then First (named_before initial now part so.adds.grows (IsIn set) chosen.named) m h.2),
   )
 
   of_each : (p y : ℕ) (m : Lock) → each_back r part First pcs j p y m → At part q (IsLinkedOf r part q Then) p y m
   of_each p y m h =
       let here = from_point r part q (λ a b. IsLinkedOf r a b First) p y m h.0 (some_same (sym h.1 ∙ at)) h.3 in
-      (here.0, here.1, linked_as r part q First Then (named_later initial now part so.adds.grows set) m here.2)
+      (here.0, here.1, linked_as r part q First Then (named_later initial now part so.adds.grows (IsIn set)) m here.2)
 
   pub back_more : Added r now new (At part q (IsLinkedOf r part q Then)) → AddedBelow r initial new (each_back r part First pcs) (j + 1)
   back_more x = below_more r initial now new (each_back r part First pcs) j _ to_each of_each so x

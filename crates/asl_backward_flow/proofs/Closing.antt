@@ -101,11 +101,11 @@ module _ (r : Read) (a b c : Table) (part pc : ℕ) (set : List Bool) (chosen : 
     chosen_still = chosen_later a b part x.adds.grows set chosen
 
     entry_part : (p q : ℕ) (m : Lock) → IsEntryOf r part pc (IsNamed (locks_of b part) set) p q m → Follows r part pc (IsNamed (locks_of a part) set) p q m
-    entry_part p q m h = inr (h.0, named_before a b part x.adds.grows set chosen.named h.0 h.1, h.2)
+    entry_part p q m h = inr (h.0, named_before a b part x.adds.grows (IsIn set) chosen.named h.0 h.1, h.2)
 
     parts : (p q : ℕ) (m : Lock) → Follows r part pc (IsNamed (locks_of a part) set) p q m → IsBack r part pc (IsNamed (locks_of a part) set) p q m ⊎ IsEntryOf r part pc (IsNamed (locks_of b part) set) p q m
     parts p q m (inl h) = inl h
-    parts p q m (inr h) = inr (h.0, named_later a b part x.adds.grows set h.0 h.1, h.2)
+    parts p q m (inr h) = inr (h.0, named_later a b part x.adds.grows (IsIn set) h.0 h.1, h.2)
 
     pub follows_ok : (result : Result Unit AddFault) → OnOk result (Added r b c (IsEntryOf r part pc (IsNamed (locks_of b part) set))) → OnOk result (Added r a c (Follows r part pc (IsNamed (locks_of a part) set)))
     follows_ok (Ok u) y = added_on r a b c _ _ (Follows r part pc (IsNamed (locks_of a part) set)) back_part entry_part parts x y

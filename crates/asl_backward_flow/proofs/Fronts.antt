@@ -11,7 +11,7 @@ use Rattle.asl_lane_sets.specs.NumberSet.{IsIn}
 use Rattle.asl_lock_expr.specs.Links.{IsOne, prefixes, dereferenced}
 use Rattle.asl_lock_expr.proofs.Leaves.{prefix_is}
 use Rattle.asl_lock_expr.proofs.Ones.{flat_from, flat_of}
-use Rattle.asl_backward_flow.specs.Found.{Table, HasFact, IsNamed, IsWhole, Adds, Lists, Grows, locks_of}
+use Rattle.asl_backward_flow.specs.Found.{Table, HasFact, HasNumber, IsWhole, Adds, Lists, Grows, locks_of}
 use Rattle.asl_backward_flow.specs.Follows.{Read, WithFronts, At, IsReady, Follows, IsSeed, IsChosen, Added, Stopped}
 use Rattle.asl_backward_flow.specs.declared.found.AddFault.{AddFault}
 use Rattle.asl_backward_flow.proofs.Adding.{ready_still, added_as, added_on, stopped_as, stopped_on}
@@ -80,24 +80,24 @@ follows_as r part pc Such All within p q m (inl h) = inl (h.0, h.1, h.2, fronts_
 follows_as r part pc Such All within p q m (inr h) = inr (h.0, within h.0 h.1, h.2)
 
 -- numbers of locks name the same locks later
-module _ (a b : Table) (part : ℕ) (grows : Grows a b) (set : List Bool) where
-  pub named_later : (m : Lock) → IsNamed (locks_of a part) set m → IsNamed (locks_of b part) set m
+module _ (a b : Table) (part : ℕ) (grows : Grows a b) (These : ℕ → Type 0) where
+  pub named_later : (m : Lock) → HasNumber (locks_of a part) These m → HasNumber (locks_of b part) These m
   named_later m h = (h.0, h.1, grows.names part h.0 m h.2)
 
-  pub named_before : ((n : ℕ) → IsIn set n → (m : Lock) × (slice_get (locks_of a part) n ≡ Some m)) → (m : Lock) → IsNamed (locks_of b part) set m → IsNamed (locks_of a part) set m
+  pub named_before : ((n : ℕ) → These n → (m : Lock) × (slice_get (locks_of a part) n ≡ Some m)) → (m : Lock) → HasNumber (locks_of b part) These m → HasNumber (locks_of a part) These m
   named_before named m h =
       let was = named h.0 h.1 in
       let one : was.0 ≡ m = some_same (sym (grows.names part h.0 was.0 was.1) ∙ h.2) in
       (h.0, h.1, was.1 ∙ ap Some one)
 
-  pub all_named : ((n : ℕ) → IsIn set n → (m : Lock) × (slice_get (locks_of a part) n ≡ Some m)) → (n : ℕ) → IsIn set n → (m : Lock) × (slice_get (locks_of b part) n ≡ Some m)
+  pub all_named : ((n : ℕ) → These n → (m : Lock) × (slice_get (locks_of a part) n ≡ Some m)) → (n : ℕ) → These n → (m : Lock) × (slice_get (locks_of b part) n ≡ Some m)
   all_named named n h = let m = named n h in (m.0, grows.names part n m.0 m.1)
 
-  pub chosen_later : IsChosen (locks_of a part) set → IsChosen (locks_of b part) set
-  chosen_later c = record {
-    named = all_named c.named;
-    fronts = λ m d h k. named_later d (c.fronts m d (named_before c.named m h) k);
-  }
+pub chosen_later : (a b : Table) (part : ℕ) → Grows a b → (set : List Bool) → IsChosen (locks_of a part) set → IsChosen (locks_of b part) set
+chosen_later a b part grows set c = record {
+  named = all_named a b part grows (IsIn set) c.named;
+  fronts = λ m d h k. named_later a b part grows (IsIn set) d (c.fronts m d (named_before a b part grows (IsIn set) c.named m h) k);
+}
 
 -- the locks of a list are added, and then their dereferenced prefixes
 module _ (r : Read) (old mid new : Table) (part pc : ℕ) (locks fronts : List Lock) (is : fronts ≡ flat_map dereferenced locks) where

@@ -17,6 +17,7 @@ mod Fronts
 mod Befores
 mod Masking
 mod Linking
+mod Splitting
 mod Entries
 pub mod Leasts
 mod Sound

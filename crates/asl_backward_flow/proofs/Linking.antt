@@ -1,25 +1,24 @@
 -- What locks become over an instruction, or at calls: some at once, the others one by one.
-use Rattle.std.proofs.Common.{◌≡◌, ◌↔◌, ℕ, ◌+◌, ◌≤◌, Bool, List, Some, Result, Ok, Err, OnOk, IfErr, length, slice_get, inl, inr, refl, ap, sym, subst, ◌∙◌, arith}
+use Rattle.std.proofs.Common.{◌≡◌, ◌↔◌, ℕ, ◌+◌, ◌≤◌, Bool, List, [], Some, Result, Ok, Err, OnOk, IfErr, length, slice_get, inl, inr, refl, ap, sym, subst, ◌∙◌, arith}
 use Rattle.std.specs.List.{Contains}
 use Rattle.std.proofs.lemmas.Option.{slice_get_within, slice_get-get_or, get_or_from_slice_get}
 use Rattle.asl_code.specs.declared.instr.Instr.{Instr}
 use Rattle.asl_code.specs.declared.lock.Lock.{Lock}
 use Rattle.asl_lane_sets.specs.NumberSet.{IsIn}
-use Rattle.asl_lock_expr.specs.Links.{LinkContext, IsOne, link, dereferenced}
-use Rattle.asl_lock_expr.specs.Touches.{Stays}
+use Rattle.asl_lock_expr.specs.Links.{IsOne, link, dereferenced}
 use Rattle.asl_backward_flow.specs.declared.found.AddFault.{AddFault}
 use Rattle.asl_backward_flow.specs.declared.found.AddFault.TheVariants.{OutOfMemory}
 use Rattle.asl_backward_flow.specs.declared.span.Span.{Span}
-use Rattle.asl_backward_flow.specs.Found.{Table, HasFact, IsOver, IsNamed, Adds, Lists, locks_of}
-use Rattle.asl_backward_flow.specs.Follows.{Read, seen, WithFronts, IsLinkedAlone, IsLinkedOf, IsChosen, StaysAt, At, Added, Stopped, AddedBelow}
-use Rattle.asl_backward_flow.proofs.Adding.{adds_as, added_as, stopped_as, below_more, below_end, below_stopped, below_refused}
+use Rattle.asl_backward_flow.specs.Found.{Table, HasFact, IsOver, IsWhole, HasNumber, IsNamed, IsListed, Adds, Lists, locks_of}
+use Rattle.asl_backward_flow.specs.Follows.{Read, seen, WithFronts, IsLinkedAlone, IsLinkedOf, IsChosen, Splits, At, IsReady, Added, Stopped, AddedBelow}
+use Rattle.asl_backward_flow.proofs.Adding.{ready_still, adds_as, added_as, stopped_as, below_more, below_end, below_stopped, below_refused}
 use Rattle.asl_backward_flow.proofs.Fronts.{fronts_as, named_before, all_named}
 use Rattle.asl_backward_flow.specs.declared.masks.Mask.{Mask}
 use Rattle.asl_backward_flow.specs.Masked.{AreAllMasks}
 use Rattle.asl_backward_flow.proofs.Masking.{masks_grow}
 use Rattle.asl_backward_flow.proofs.Marks.{is_in}
 use Rattle.asl_backward_flow.proofs.Sets.{some_same}
-use Rattle.asl_backward_flow.proofs.Steps.{has_still, adds_on, lists_on}
+use Rattle.asl_backward_flow.proofs.Steps.{has_still, adds_same, adds_on, lists_same, lists_on}
 
 -- such a lock is one lock
 pub linked_split : (r : Read) (p q : ℕ) (Such : Lock → Type 0) (m : Lock) → IsLinkedOf r p q Such m → (l : Lock) × Such l × WithFronts (IsLinkedAlone r p q l) m
@@ -40,19 +39,19 @@ each_lock Related locks numbers j p q m = (l : Lock) × Nth locks numbers j l ×
 abbrev pub any_lock : (Lock → ℕ → ℕ → Lock → Type 0) → (Lock → Type 0) → ℕ → ℕ → Lock → Type 0
 any_lock Related Such p q m = (l : Lock) × Such l × Related l p q m
 
-module _ (r : Read) (Related : Lock → ℕ → ℕ → Lock → Type 0) (part : ℕ) (set : List Bool) (initial : Table) (named : (n : ℕ) → IsIn set n → (m : Lock) × (slice_get (locks_of initial part) n ≡ Some m))
-    (numbers : List ℕ) (tells : (k : ℕ) → Contains numbers k ↔ IsIn set k) where
+module _ (r : Read) (Related : Lock → ℕ → ℕ → Lock → Type 0) (part : ℕ) (These : ℕ → Type 0) (initial : Table) (named : (n : ℕ) → These n → (m : Lock) × (slice_get (locks_of initial part) n ≡ Some m))
+    (numbers : List ℕ) (tells : (k : ℕ) → Contains numbers k ↔ These k) where
   abbrev locks : List Lock
   locks = locks_of initial part
 
   module _ (now : Table) (j : ℕ) (so : AddedBelow r initial now (each_lock Related locks numbers) j) where
     -- the number at the place is that of a lock still
     module _ (n : ℕ) (at : slice_get numbers j ≡ Some n) where
-      here : IsIn set n
+      here : These n
       here = (tells n).0 (j, slice_get_within numbers j n at, get_or_from_slice_get numbers j n n at)
 
       pub named_now : (m : Lock) × (slice_get (locks_of now part) n ≡ Some m)
-      named_now = all_named initial now part so.adds.grows set named n here
+      named_now = all_named initial now part so.adds.grows These named n here
 
       module _ (lock : Lock) (read : slice_get (locks_of now part) n ≡ Some lock) where
         first : slice_get locks n ≡ Some lock
@@ -70,17 +69,17 @@ module _ (r : Read) (Related : Lock → ℕ → ℕ → Lock → Type 0) (part :
         pub lock_more : (new : Table) → Added r now new (Related lock) → AddedBelow r initial new (each_lock Related locks numbers) (j + 1)
         lock_more new x = below_more r initial now new (each_lock Related locks numbers) j (Related lock) to_each of_each so x
 
-        pub lock_stopped : (new : Table) (fault : AddFault) → Stopped now new (Related lock) fault → Stopped initial new (any_lock Related (IsNamed locks set)) fault
-        lock_stopped new fault x = below_stopped r initial now new (each_lock Related locks numbers) j (Related lock) (any_lock Related (IsNamed locks set)) fault
+        pub lock_stopped : (new : Table) (fault : AddFault) → Stopped now new (Related lock) fault → Stopped initial new (any_lock Related (HasNumber locks These)) fault
+        lock_stopped new fault x = below_stopped r initial now new (each_lock Related locks numbers) j (Related lock) (any_lock Related (HasNumber locks These)) fault
             (λ i p q m h. (h.0, (h.1.0, (tells h.1.0).0 (i, slice_get_within numbers i h.1.0 h.1.1, get_or_from_slice_get numbers i h.1.0 h.1.0 h.1.1), h.1.2), h.2))
             (λ p q m h. (lock, (n, here, first), h)) so x
 
-    pub lock_refused : (fault : AddFault) → fault ≡ OutOfMemory → Stopped initial now (any_lock Related (IsNamed locks set)) fault
-    lock_refused = below_refused r initial now (each_lock Related locks numbers) j (any_lock Related (IsNamed locks set))
+    pub lock_refused : (fault : AddFault) → fault ≡ OutOfMemory → Stopped initial now (any_lock Related (HasNumber locks These)) fault
+    lock_refused = below_refused r initial now (each_lock Related locks numbers) j (any_lock Related (HasNumber locks These))
         (λ i p q m h. (h.0, (h.1.0, (tells h.1.0).0 (i, slice_get_within numbers i h.1.0 h.1.1, get_or_from_slice_get numbers i h.1.0 h.1.0 h.1.1), h.1.2), h.2)) so
 
-    pub lock_end : length numbers ≤ j → Added r initial now (any_lock Related (IsNamed locks set))
-    lock_end end = below_end r initial now (each_lock Related locks numbers) j (any_lock Related (IsNamed locks set))
+    pub lock_end : length numbers ≤ j → Added r initial now (any_lock Related (HasNumber locks These))
+    lock_end end = below_end r initial now (each_lock Related locks numbers) j (any_lock Related (HasNumber locks These))
         (λ i p q m h. (h.0, (h.1.0, (tells h.1.0).0 (i, slice_get_within numbers i h.1.0 h.1.1, get_or_from_slice_get numbers i h.1.0 h.1.0 h.1.1), h.1.2), h.2))
         (λ p q m h.
         let c = (tells h.1.0).1 h.1.1 in
@@ -108,9 +107,7 @@ module _ (r : Read) (part pc : ℕ) (Such : Lock → Type 0) where
   changed_stopped old new fault x = stopped_as old new _ _ fault any_to x
 
 -- those that stay are added at once, and the others are linked
-module _ (r : Read) (a b c : Table) (part pc : ℕ) (set stay changed : List Bool) (chosen : IsChosen (locks_of a part) set)
-    (within : (n : ℕ) → IsIn stay n → IsIn set n) (stays : (m : Lock) → IsNamed (locks_of a part) stay m → StaysAt r part pc m)
-    (rest : (n : ℕ) → IsIn changed n ↔ (IsIn set n × ¬ IsIn stay n)) where
+module _ (r : Read) (a b c : Table) (part pc : ℕ) (set stay : List Bool) (changed : List ℕ) (chosen : IsChosen (locks_of a part) set) (splits : Splits r a part pc set stay changed) where
   abbrev Set : Lock → Type 0
   Set = IsNamed (locks_of a part) set
 
@@ -118,11 +115,11 @@ module _ (r : Read) (a b c : Table) (part pc : ℕ) (set stay changed : List Boo
   Stay = IsNamed (locks_of a part) stay
 
   pub stay_named : (n : ℕ) → IsIn stay n → (m : Lock) × (slice_get (locks_of a part) n ≡ Some m)
-  stay_named n h = chosen.named n (within n h)
+  stay_named n h = chosen.named n (splits.within n h)
 
   -- a lock that stays becomes itself alone
   stay_linked : (m : Lock) → Stay m → IsLinkedOf r part pc Set m
-  stay_linked m h = let s = stays m h in inl (m, (h.0, within h.0 h.1, h.2), record { span = s.span; there = s.there; instruction = s.instruction; stands = s.stands; one = s.stays.there })
+  stay_linked m h = let s = splits.stays m h in inl (m, (h.0, splits.within h.0 h.1, h.2), record { span = s.span; there = s.there; instruction = s.instruction; stands = s.stands; one = s.stays.there })
 
   stay_at : (p q : ℕ) (m : Lock) → (p ≡ part) × (q ≡ pc) × Stay m → At part pc (IsLinkedOf r part pc Set) p q m
   stay_at p q m h = (h.0, h.1, stay_linked m h.2)
@@ -133,13 +130,13 @@ module _ (r : Read) (a b c : Table) (part pc : ℕ) (set stay changed : List Boo
 
   module _ (adds : Adds a b (λ p q m. (p ≡ part) × (q ≡ pc) × Stay m)) where
     abbrev Changed : Lock → Type 0
-    Changed = IsNamed (locks_of b part) changed
+    Changed = IsListed (locks_of b part) changed
 
-    pub changed_named : (n : ℕ) → IsIn changed n → (m : Lock) × (slice_get (locks_of b part) n ≡ Some m)
-    changed_named n h = all_named a b part adds.grows set chosen.named n ((rest n).0 h).0
+    pub changed_named : (n : ℕ) → Contains changed n → (m : Lock) × (slice_get (locks_of b part) n ≡ Some m)
+    changed_named n h = all_named a b part adds.grows (IsIn set) chosen.named n ((splits.rest n).0 h).0
 
     changed_set : (m : Lock) → Changed m → Set m
-    changed_set m h = let of = ((rest h.0).0 h.1).0 in named_before a b part adds.grows set chosen.named m (h.0, of, h.2)
+    changed_set m h = let of = ((splits.rest h.0).0 h.1).0 in named_before a b part adds.grows (IsIn set) chosen.named m (h.0, of, h.2)
 
     changed_at : (p q : ℕ) (m : Lock) → At part pc (IsLinkedOf r part pc Changed) p q m → At part pc (IsLinkedOf r part pc Set) p q m
     changed_at p q m h = (h.0, h.1, fronts_as _ _ (λ n k. (k.0, changed_set k.0 k.1, k.2)) m h.2)
@@ -152,21 +149,21 @@ module _ (r : Read) (a b c : Table) (part pc : ℕ) (set stay changed : List Boo
       one_there : (l m : Lock) → Set l → IsLinkedAlone r part pc l m → HasFact c part pc m
       one_there l m such k = elim (is_in stay such.0) [
         | inl here ↦
-            let s = stays l (such.0, here, such.2) in
+            let s = splits.stays l (such.0, here, such.2) in
             let span : k.span ≡ s.span = some_same (sym k.there ∙ s.there) in
             let code : k.instruction ≡ s.instruction = some_same (sym k.stands ∙ s.stands) in
             let one : IsOne (link (seen r s.span.function) s.instruction l) m =
             subst (λ (i : Instr). IsOne (link (seen r s.span.function) i l) m) code (subst (λ (t : Span). IsOne (link (seen r t.function) k.instruction l) m) span k.one) in
             subst (HasFact c part pc) (s.stays.itself m one) (has_still b c x.adds.grows part pc l (has l (such.0, here, such.2)))
         | inr gone ↦
-            x.has part pc m (refl, refl, inl (l, (such.0, (rest such.0).1 (such.1, gone), adds.grows.names part such.0 l such.2), k))
+            x.has part pc m (refl, refl, inl (l, (such.0, (splits.rest such.0).1 (such.1, gone), adds.grows.names part such.0 l such.2), k))
       ]
 
       -- a dereferenced prefix of what such a lock becomes is there
       front_there : (l m d : Lock) → Set l → IsLinkedAlone r part pc l m → IsOne (dereferenced m) d → HasFact c part pc d
       front_there l m d such k o = elim (is_in stay such.0) [
         | inl here ↦
-            let s = stays l (such.0, here, such.2) in
+            let s = splits.stays l (such.0, here, such.2) in
             let span : k.span ≡ s.span = some_same (sym k.there ∙ s.there) in
             let code : k.instruction ≡ s.instruction = some_same (sym k.stands ∙ s.stands) in
             let one : IsOne (link (seen r s.span.function) s.instruction l) m =
@@ -174,7 +171,7 @@ module _ (r : Read) (a b c : Table) (part pc : ℕ) (set stay changed : List Boo
             let of_l : IsOne (dereferenced l) d = subst (λ y. IsOne (dereferenced y) d) (sym (s.stays.itself m one)) o in
             one_there d d (chosen.fronts l d such of_l) (record { span = s.span; there = s.there; instruction = s.instruction; stands = s.stands; one = s.stays.fronts d of_l })
         | inr gone ↦
-            x.has part pc d (refl, refl, inr (m, (l, (such.0, (rest such.0).1 (such.1, gone), adds.grows.names part such.0 l such.2), k), o))
+            x.has part pc d (refl, refl, inr (m, (l, (such.0, (splits.rest such.0).1 (such.1, gone), adds.grows.names part such.0 l such.2), k), o))
       ]
 
       all_there : (m : Lock) → IsLinkedOf r part pc Set m → HasFact c part pc m
@@ -194,6 +191,18 @@ module _ (r : Read) (a b c : Table) (part pc : ℕ) (set stay changed : List Boo
     linked_ok has lists (Ok u) x = linked_all has lists x
     linked_ok has lists (Err e) x = tt
 
+    -- none changes: those that stay are all
+    pub all_stay : IsReady r a → changed ≡ [] → ((m : Lock) → Stay m → HasFact b part pc m) → Lists a b → IsWhole b → Added r b b (At part pc (IsLinkedOf r part pc Changed))
+    all_stay ready none has lists whole = record {
+      ready = ready_still r a b _ ready adds whole;
+      has = λ p q m h. absurd (nothing m h.2);
+      adds = adds_same b _;
+      lists = lists_same b;
+    }
+      where
+        nothing : (m : Lock) → IsLinkedOf r part pc Changed m → ⊥
+        nothing m h = let l = linked_split r part pc Changed m h in let lt = (subst (λ xs. Contains xs l.1.0) none l.1.1).1 in omega (arith, lt)
+
     pub linked_err : (result : Result Unit AddFault) → IfErr result (Stopped b c (At part pc (IsLinkedOf r part pc Changed))) → IfErr result (Stopped a c (At part pc (IsLinkedOf r part pc Set)))
     linked_err (Ok u) x = tt
     linked_err (Err e) x = linked_stopped e x
@@ -206,10 +215,3 @@ masks_ok r a b c all some these so adds (Err e) x = tt
 pub masks_later : (r : Read) (b c : Table) (all : List (List Mask)) (these : ℕ → ℕ → Lock → Type 0) → AreAllMasks r b all → (result : Result Unit AddFault) → OnOk result (Added r b c these) → OnOk result (AreAllMasks r c all)
 masks_later r b c all these so (Ok u) x = masks_grow r b c all x.adds.grows so
 masks_later r b c all these so (Err e) x = tt
-
--- what stays over an instruction that was read from the code
-pub stays_ok : {E : Type 0} (r : Read) (t : Table) (part pc : ℕ) (s : Span) (i : Instr) → slice_get r.spans part ≡ Some s → slice_get r.lowered.code pc ≡ Some i → (given : List Lock) → locks_of t part ≡ given → (v : LinkContext) → v ≡ seen r s.function
-    → (stay : List Bool) (result : Result Unit E) → OnOk result ((n : ℕ) (m : Lock) → IsIn stay n → slice_get given n ≡ Some m → Stays v i m) → OnOk result ((m : Lock) → IsNamed (locks_of t part) stay m → StaysAt r part pc m)
-stays_ok r t part pc s i there stands given given_is v view_is stay (Ok u) told =
-    λ m h. record { span = s; there = there; instruction = i; stands = stands; stays = subst (λ w. Stays w i m) view_is (told h.0 m h.1 (ap (λ (l : List Lock). slice_get l h.0) (sym given_is) ∙ h.2)) }
-stays_ok r t part pc s i there stands given given_is v view_is stay (Err e) told = tt

@@ -1,19 +1,21 @@
 -- Masks of the locks that what is touched may concern.
-use Rattle.std.proofs.Common.{◌≡◌, ◌⊎◌, ⊎_elim, ℕ, zero, suc, ◌+◌, ◌≤◌, List, [], ◌∷◌, ◌++◌, Some, Bool, Result, Ok, Err, OnOk, length, replicate, slice_get, slice_set, inl, inr, refl, ap, sym, subst, ◌∙◌, arith, length-set}
+use Rattle.std.proofs.Common.{◌≡◌, ◌⊎◌, ⊎_elim, ℕ, zero, suc, ◌+◌, ◌<◌, ◌≤◌, List, [], ◌∷◌, ◌++◌, Some, Bool, Result, Ok, Err, OnOk, length, replicate, slice_get, slice_set, inl, inr, refl, ap, sym, subst, ◌∙◌, arith, length-set}
 use Rattle.std.proofs.lemmas.List.{length-replicate}
 use Rattle.std.proofs.lemmas.Option.{slice_get_within}
+use Rattle.asl_code.specs.declared.instr.Instr.{Instr}
 use Rattle.asl_code.specs.declared.lock.Lock.{Lock}
 use Rattle.asl_code.specs.declared.lock.Lock.TheVariants as lock
 use Rattle.asl_lane_sets.specs.NumberSet.{IsIn}
 use Rattle.asl_lock_expr.specs.declared.touch.Touch.{Touch}
 use Rattle.asl_lock_expr.specs.declared.touch.Touch.TheVariants as touch
 use Rattle.asl_lock_expr.specs.Links.{LinkContext}
-use Rattle.asl_lock_expr.specs.Touches.{IsClear}
+use Rattle.asl_lock_expr.specs.Touches.{IsClear, set_by, stored_by}
+use Rattle.asl_lock_expr.proofs.Touching.{clear_stays}
 use Rattle.asl_backward_flow.specs.declared.masks.Mask.{Mask}
 use Rattle.asl_backward_flow.specs.declared.span.Span.{Span}
 use Rattle.asl_backward_flow.specs.Found.{Table, Grows, locks_of}
 use Rattle.asl_backward_flow.specs.Follows.{Read, seen}
-use Rattle.asl_backward_flow.specs.Masked.{IsMask, AreMasks, IsMaskOf, AreAllMasks}
+use Rattle.asl_backward_flow.specs.Masked.{IsLeft, IsMask, AreMasks, IsMaskOf, IsMaskOver, AreAllMasks}
 use Rattle.asl_backward_flow.proofs.Sets.{some_same, at_push, at_last}
 use Rattle.asl_backward_flow.proofs.SpanLaws.{below_or_at}
 
@@ -30,22 +32,32 @@ module _ (v : LinkContext) (locks : List Lock) where
   masks_push masks x none so k y e =
       ⊎_elim (λ o. so k y o) (λ is. subst (IsMask v locks) (sym is) (λ n lt. absurd (omega (arith, none, lt)))) (at_push masks x k y e)
 
-  pub mask_there : (masks : List Mask) (touch : Touch) (x : Mask) → x.touch ≡ touch → IsMaskOf touch (masks ++ x ∷ []) (length masks)
-  mask_there masks touch x is = (x, at_last masks x, is)
+  pub mask_there : (masks : List Mask) (register cells : Touch) (x : Mask) → x.register ≡ register → x.cells ≡ cells → IsMaskOf register cells (masks ++ x ∷ []) (length masks)
+  mask_there masks register cells x is also = (x, at_last masks x, is, also)
 
   pub masks_put : (masks : List Mask) (place : ℕ) (x : Mask) → AreMasks v locks masks → IsMask v locks x → AreMasks v locks (slice_set masks place x)
   masks_put masks place x so is k y e = ⊎_elim (λ o. so k y o) (λ h. subst (IsMask v locks) (sym h.1) is) (at_set masks place x k y e)
 
   -- a lock that is none of a mask of all is not concerned
-  pub mask_clear : (x : Mask) (touch : Touch) → x.touch ≡ touch → IsMask v locks x → length locks ≤ x.below → (n : ℕ) (m : Lock) → ¬ IsIn x.touched n → slice_get locks n ≡ Some m → IsClear v touch m
-  mask_clear x touch is so all n m not at =
+  pub mask_clear : (x : Mask) → IsMask v locks x → length locks ≤ x.below → (n : ℕ) (m : Lock) → ¬ IsIn x.touched n → slice_get locks n ≡ Some m → IsLeft v x.register x.cells m
+  mask_clear x so all n m not at =
       let lt = slice_get_within locks n m at in
       let name = so n (omega (arith, lt, all)) in
-      subst (λ t. IsClear v t m) is (subst (IsClear v x.touch) (some_same (sym name.1 ∙ at)) (⊎_elim (λ h. absurd (not h)) (λ c. c) name.2))
+      subst (IsLeft v x.register x.cells) (some_same (sym name.1 ∙ at)) (⊎_elim (λ h. absurd (not h)) (λ c. c) name.2)
+
+  -- so its lock stays over an instruction that touches just this
+  pub mask_over : (masks : List Mask) (place : ℕ) (x : Mask) (i : Instr) → slice_get masks place ≡ Some x → x.register ≡ set_by i → x.cells ≡ stored_by i → IsMask v locks x → length locks ≤ x.below → IsMaskOver v i locks masks place
+  mask_over masks place x i at is also so all = (
+    x,
+    at,
+    λ n m not stands.
+        let left = mask_clear x so all n m not stands in
+        clear_stays v i m (subst (λ t. IsClear v t m) is left.0) (subst (λ t. IsClear v t m) also left.1),
+  )
 
   -- one lock more
-  pub mask_more : (x : Mask) (touched : List Bool) (m : Lock) → slice_get locks x.below ≡ Some m → ((k : ℕ) → IsIn x.touched k → IsIn touched k) → IsIn touched x.below ⊎ IsClear v x.touch m
-      → IsMask v locks x → IsMask v locks (record { touch = x.touch; below = x.below + 1; touched = touched })
+  pub mask_more : (x : Mask) (touched : List Bool) (m : Lock) → slice_get locks x.below ≡ Some m → ((k : ℕ) → IsIn x.touched k → IsIn touched k) → IsIn touched x.below ⊎ IsLeft v x.register x.cells m
+      → IsMask v locks x → IsMask v locks (record { register = x.register; cells = x.cells; below = x.below + 1; touched = touched })
   mask_more x touched m at kept here so n lt =
       ⊎_elim
       (λ below. let name = so n below in (name.0, name.1, ⊎_elim (λ h. inl (kept n h)) (λ c. inr c) name.2))
@@ -57,6 +69,12 @@ pub clear_of_nothing : (v : LinkContext) (t : Touch) (m : Lock) → IsClear v t 
 clear_of_nothing v t (lock.Root effect) h = tt
 clear_of_nothing v t (lock.Class class effect) h = tt
 clear_of_nothing v t (lock.Expr e effect) h = (h.0, refl)
+
+-- what was put at a place of a list
+pub put_here : {A : Type 0} (xs : List A) (p : ℕ) (y : A) → p < length xs → slice_get (slice_set xs p y) p ≡ Some y
+put_here [] p y lt = absurd (omega (arith, lt))
+put_here (x ∷ xs) zero y lt = refl
+put_here (x ∷ xs) (suc p) y lt = put_here xs p y (omega (arith, lt))
 
 -- masks of all regions
 rows_none : (n k : ℕ) (masks : List Mask) → slice_get (replicate {A = List Mask} n []) k ≡ Some masks → masks ≡ []

@@ -1,5 +1,6 @@
 -- Machinery of the proofs, not of the promise: what is needed at once, and what follows from a fact (src/needs_step.rt).
-use Rattle.std.specs.Prelude.{◌≡◌, ◌⊎◌, ◌<◌, ◌≤◌, ℕ, Bool, List, length, map, Some, slice_get}
+use Rattle.std.specs.Prelude.{◌≡◌, ◌↔◌, ◌⊎◌, ◌<◌, ◌≤◌, ℕ, Bool, List, length, map, Some, slice_get}
+use Rattle.std.specs.List.{Contains}
 use Rattle.asl_code.specs.declared.image.Function as entry
 use Rattle.asl_code.specs.declared.instr.Instr.{Instr}
 use Rattle.asl_code.specs.declared.instr.Instr.TheVariants as instr
@@ -15,7 +16,7 @@ use Rattle.asl_backward_flow.specs.declared.region.Region.TheVariants as variant
 use Rattle.asl_backward_flow.specs.declared.span.Span.{Span}
 use Rattle.asl_backward_flow.specs.declared.flow_analysis.FlowAnalysis.{FlowAnalysis}
 use Rattle.asl_backward_flow.specs.declared.found.AddFault.{AddFault}
-use Rattle.asl_backward_flow.specs.Found.{Table, HasPoint, HasFact, IsAt, IsName, IsWhole, IsOver, IsNamed, Adds, Lists}
+use Rattle.asl_backward_flow.specs.Found.{Table, HasPoint, HasFact, IsAt, IsName, IsWhole, IsOver, IsNamed, Adds, Lists, locks_of}
 use Rattle.asl_backward_flow.specs.Graph.{HasPc, HasRows, HasCall, IsEdge, IsJump, IsCall}
 use Rattle.asl_backward_flow.specs.Needed.{Needed, region_of}
 use Rattle.asl_backward_flow.specs.Spans.{AreSpans}
@@ -123,6 +124,12 @@ pub record StaysAt (r : Read) (part pc : ℕ) (m : Lock) : Type 0 where
   pub instruction : Instr
   pub stands : slice_get r.lowered.code pc ≡ Some instruction
   pub stays : Stays (seen r span.function) instruction m
+
+-- some locks of a set stay as they are over the instruction at the pc, and those of the listed numbers are the others
+pub record Splits (r : Read) (t : Table) (part pc : ℕ) (set stay : List Bool) (changed : List ℕ) : Type 0 where
+  pub within : (n : ℕ) → IsIn stay n → IsIn set n
+  pub stays : (m : Lock) → IsNamed (locks_of t part) stay m → StaysAt r part pc m
+  pub rest : (n : ℕ) → Contains changed n ↔ (IsIn set n × ¬ IsIn stay n)
 
 -- the second lock is needed at the call at the pc, at the entry of whose callee the first is needed
 abbrev pub IsCalledAt : Read → ℕ → Lock → ℕ → ℕ → Lock → Type 0

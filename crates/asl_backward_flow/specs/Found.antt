@@ -1,5 +1,6 @@
 -- Machinery of the proofs, not of the promise: what has been found so far (src/region_needs.rt, src/found.rt).
 use Rattle.std.specs.Prelude.{◌≡◌, ◌≢◌, ◌⊎◌, ◌↔◌, ◌+◌, ◌-◌, ◌<◌, ◌≤◌, ℕ, zero, suc, Bool, true, false, if◌then◌else◌, List, [], Some, map, length, slice_get, unwrap_or, replicate, sum_by}
+use Rattle.std.specs.List.{Contains}
 use Rattle.asl_code.specs.declared.lock.Lock.{Lock}
 use Rattle.asl_lane_sets.specs.NumberSet.{IsIn}
 use Rattle.asl_lock_expr.specs.Links.{IsOne}
@@ -68,9 +69,15 @@ HasFact t part pc lock = (n : ℕ) × Has t part pc n × (slice_get (locks_of t 
 abbrev pub IsName : Table → ℕ → Lock → Type 0
 IsName t part lock = IsAt (locks_of t part) lock
 
--- the lock is one of those whose numbers are in the set
+-- the lock has one of these numbers; one of those in the set, or of those in the list
+abbrev pub HasNumber : List Lock → (ℕ → Type 0) → Lock → Type 0
+HasNumber locks These lock = (n : ℕ) × These n × (slice_get locks n ≡ Some lock)
+
 abbrev pub IsNamed : List Lock → List Bool → Lock → Type 0
-IsNamed locks set lock = (n : ℕ) × IsIn set n × (slice_get locks n ≡ Some lock)
+IsNamed locks set = HasNumber locks (IsIn set)
+
+abbrev pub IsListed : List Lock → List ℕ → Lock → Type 0
+IsListed locks numbers = HasNumber locks (Contains numbers)
 
 -- each number that is found is that of a lock, at a point that is listed something is found, no lock has two numbers, and no
 -- region has too many

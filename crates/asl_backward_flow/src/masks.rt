@@ -1,10 +1,10 @@
 //! Which locks of a region stay as they are over an instruction.
-ghost use Rattle.std.specs.Prelude.{◌≡◌, ◌≤◌, ◌<◌, ◌↔◌, ◌⊎◌, ◌++◌, ◌∷◌, [], ℕ, Some, length, map, replicate, ◌^◌, slice_get, OnOk, IfOk, IfSome};
-ghost use Rattle.asl_code.specs.declared.lock.Lock.{Lock as AnyLock};
+ghost use Rattle.std.specs.Prelude.{◌≡◌, ◌≤◌, ◌<◌, ◌↔◌, ◌⊎◌, [], ℕ, true, false, IsTrue, length, map, replicate, ◌^◌, OnOk, IfOk, IfSome};
+ghost use Rattle.std.specs.List.{Contains};
 ghost use Rattle.asl_lane_sets.specs.NumberSet.{IsIn};
 ghost use Rattle.asl_lock_expr.specs.LinksView.{seen as seen_by};
-ghost use Rattle.asl_lock_expr.specs.Touches.{IsClear, Stays};
-ghost use Rattle.asl_backward_flow.specs.Masked.{IsMask, AreMasks, IsMaskOf};
+ghost use Rattle.asl_lock_expr.specs.Touches.{IsClear};
+ghost use Rattle.asl_backward_flow.specs.Masked.{IsMask, AreMasks, IsMaskOf, IsMaskOver, IsLeft};
 
 use crate::region_needs::{STEP, make_room};
 use asl_code::{Instr, Lock};
@@ -12,15 +12,18 @@ use asl_lane_sets::Bits;
 use asl_lock_expr::{LinkContext, Touch, is_clear, set_by, stored_by};
 use std::alloc::{AllocError, Global};
 
-/// The numbers of the locks of a region that what is touched may concern, so far as the locks have numbers below one.
+/// The numbers of the locks of a region that an instruction may concern, so far as the locks have numbers below one.
 #[derive(Drop)]
 pub struct Mask {
-    pub touch: Touch,
+    /// The register that the instruction sets.
+    pub register: Touch,
+    /// What it stores to.
+    pub cells: Touch,
     pub below: usize,
     pub touched: Bits,
 }
 
-/// For how many masks a region begins with capacity: a small one touches no more.
+/// For how many masks a region begins with capacity: a small one has no more.
 const LIKELY_MASKS: usize = 8;
 
 /// So many regions without masks.
@@ -34,84 +37,55 @@ pub fn no_masks(alloc: Global, count: usize) -> Result<Vec<Vec<Mask>>, AllocErro
     Ok(all)
 }
 
-/// Makes a set that of the numbers of another whose locks stay as they are over an instruction, by the masks of their region.
-pub fn staying(
+/// The place of the mask of an instruction, which is put if there is none, and extended to all locks.
+pub fn mask_over(
     alloc: Global,
     view: &LinkContext,
     instr: Instr,
     locks: &[Lock],
-    set: &Bits,
-    stay: &mut Bits,
     masks: &mut Vec<Mask>,
-) -> Result<(), AllocError>
+) -> Result<usize, AllocError>
     requires { AreMasks (seen_by view.now) locks.now masks.old.items }
     ensures masks { OnOk result (AreMasks (seen_by view.now) locks.now masks.new.items) }
-    ensures length { OnOk result (length stay.new ≡ length set.now) }
-    ensures within { OnOk result ((n : ℕ) → IsIn stay.new n → IsIn set.now n) }
-    ensures stays { OnOk result ((n : ℕ) (m : AnyLock) → IsIn stay.new n → slice_get locks.now n ≡ Some m → Stays (seen_by view.now) instr m) }
+    ensures place { IfOk result (IsMaskOver (seen_by view.now) instr locks.now masks.new.items) }
 {
-    stay.copy_from(set)?;
-    keep_clear(alloc, view, set_by(instr), locks, stay, masks)?;
-    let stored = stored_by(instr);
-    if stored.is(Touch::Nothing) {
-        return Ok(());
-    }
-    keep_clear(alloc, view, stored, locks, stay, masks)
-}
-
-/// Takes from a set the numbers of the locks that what is touched may concern.
-fn keep_clear(
-    alloc: Global,
-    view: &LinkContext,
-    touch: Touch,
-    locks: &[Lock],
-    set: &mut Bits,
-    masks: &mut Vec<Mask>,
-) -> Result<(), AllocError>
-    requires { AreMasks (seen_by view.now) locks.now masks.old.items }
-    ensures masks { OnOk result (AreMasks (seen_by view.now) locks.now masks.new.items) }
-    ensures length { OnOk result (length set.new ≡ length set.old) }
-    ensures within { OnOk result ((n : ℕ) → IsIn set.new n → IsIn set.old n) }
-    ensures clear { OnOk result ((n : ℕ) (m : AnyLock) → IsIn set.new n → slice_get locks.now n ≡ Some m → IsClear (seen_by view.now) touch m) }
-{
-    let place = mask_of(alloc, view, touch, locks, masks)?;
-    let mask = &mut masks[place];
-    extend(view, locks, mask)?;
-    set.remove_all(&mask.touched);
-    Ok(())
+    let place = mask_of(alloc, view, set_by(instr), stored_by(instr), locks, masks)?;
+    extend(view, locks, &mut masks[place])?;
+    Ok(place)
 }
 
 /// The place of the mask of what is touched, where one is put if there is none.
 fn mask_of(
     alloc: Global,
     view: &LinkContext,
-    touch: Touch,
+    register: Touch,
+    cells: Touch,
     locks: &[Lock],
     masks: &mut Vec<Mask>,
 ) -> Result<usize, AllocError>
     requires { AreMasks (seen_by view.now) locks.now masks.old.items }
     ensures masks { OnOk result (AreMasks (seen_by view.now) locks.now masks.new.items) }
-    ensures place { IfOk result (IsMaskOf touch masks.new.items) }
+    ensures place { IfOk result (IsMaskOf register cells masks.new.items) }
 {
-    if let Some(place) = find(touch, masks) {
+    if let Some(place) = find(register, cells, masks) {
         return Ok(place);
     }
     let place = masks.len();
-    let touched = Bits::with_len(alloc, 0)?;
     masks.push(Mask {
-        touch,
+        register,
+        cells,
         below: 0,
-        touched,
+        touched: Bits::new(alloc),
     })?;
     Ok(place)
 }
 
 /// The place of the mask of what is touched, if there is one.
-fn find(touch: Touch, masks: &[Mask]) -> Option<usize>
-    ensures { IfSome result (IsMaskOf touch masks.now) }
+fn find(register: Touch, cells: Touch, masks: &[Mask]) -> Option<usize>
+    ensures { IfSome result (IsMaskOf register cells masks.now) }
 {
     for (place, mask) in masks.iter().enumerate() {
-        if mask.touch.is(touch) {
+        if mask.register.is(register) && mask.cells.is(cells) {
             return Some(place);
         }
     }
@@ -122,16 +96,30 @@ fn find(touch: Touch, masks: &[Mask]) -> Option<usize>
 fn extend(view: &LinkContext, locks: &[Lock], mask: &mut Mask) -> Result<(), AllocError>
     requires { IsMask (seen_by view.now) locks.now mask.old }
     ensures mask { OnOk result (IsMask (seen_by view.now) locks.now mask.new) }
-    ensures touch { OnOk result (mask.new.touch ≡ mask.old.touch) }
+    ensures register { OnOk result (mask.new.register ≡ mask.old.register) }
+    ensures cells { OnOk result (mask.new.cells ≡ mask.old.cells) }
     ensures all { OnOk result (length locks.now ≤ mask.new.below) }
 {
     while mask.below < locks.len() {
-        if !is_clear(view, mask.touch, &locks[mask.below]) {
+        if !is_left(view, mask.register, mask.cells, &locks[mask.below]) {
             add(&mut mask.touched, mask.below)?;
         }
         mask.below += 1;
     }
     Ok(())
+}
+
+/// Whether the lock is concerned neither by the register nor by the cells.
+fn is_left(view: &LinkContext, register: Touch, cells: Touch, lock: &Lock) -> bool
+    ensures { IsTrue result → IsLeft (seen_by view.now) register cells lock.now }
+{
+    if cells.is(Touch::Nothing) {
+        return is_clear(view, register, lock);
+    }
+    if register.is(Touch::Nothing) {
+        return is_clear(view, cells, lock);
+    }
+    is_clear(view, register, lock) && is_clear(view, cells, lock)
 }
 
 /// Adds a number, for which capacity is reserved.
@@ -142,4 +130,27 @@ fn add(set: &mut Bits, number: usize) -> Result<(), AllocError>
     make_room(set, (number / STEP + 1) * STEP)?;
     set.add(number);
     Ok(())
+}
+
+/// Lists the numbers of a set that are those of a mask, and tells whether there are any. Then it makes a set that of the others.
+pub fn split(
+    set: &Bits,
+    touched: &Bits,
+    stay: &mut Bits,
+    changed: &mut Vec<usize>,
+) -> Result<bool, AllocError>
+    ensures none { IfOk result (λ some. some ≡ false → (n : ℕ) → IsIn set.now n → ¬ IsIn touched.now n) }
+    ensures changed { IfOk result (λ some. some ≡ true → (n : ℕ) → Contains changed.new.items n ↔ (IsIn set.now n × IsIn touched.now n)) }
+    ensures stay { IfOk result (λ some. some ≡ true → (n : ℕ) → IsIn stay.new n ↔ (IsIn set.now n × ¬ IsIn touched.now n)) }
+{
+    if touched.len() == 0 {
+        return Ok(false);
+    }
+    changed.clear();
+    if !set.add_common(touched, changed)? {
+        return Ok(false);
+    }
+    stay.copy_from(set)?;
+    stay.remove_all(touched);
+    Ok(true)
 }

@@ -1,19 +1,18 @@
 //! What is needed at once, and what follows from what is needed.
-ghost use Rattle.std.specs.Prelude.{◌≡◌, ◌<◌, ◌+◌, ◌↔◌, ℕ, Some, length, map, slice_get, OnOk, IfOk, IfErr};
-ghost use Rattle.asl_lane_sets.specs.NumberSet.{IsIn};
+ghost use Rattle.std.specs.Prelude.{◌≡◌, ◌<◌, ◌+◌, ℕ, true, false, [], Some, length, map, slice_get, OnOk, IfOk, IfErr};
+ghost use Rattle.std.specs.List.{Contains};
 ghost use Rattle.asl_backward_flow.specs.Graph.{IsEdge};
-ghost use Rattle.asl_backward_flow.specs.Found.{table, locks_of, IsNamed};
-ghost use Rattle.asl_backward_flow.specs.Masked.{AreAllMasks};
-ghost use Rattle.asl_backward_flow.specs.Follows.{read, IsRead, IsReady, IsAtPoint, IsLinkedAlone, IsLinkedOf, StaysAt, WithFronts, At, IsBack, AreBefore, IsChosen, Added, Stopped};
+ghost use Rattle.asl_backward_flow.specs.Found.{table, locks_of, IsNamed, IsListed};
+ghost use Rattle.asl_backward_flow.specs.Masked.{AreAllMasks, IsMaskAt};
+ghost use Rattle.asl_backward_flow.specs.Follows.{read, IsRead, IsReady, IsAtPoint, IsLinkedAlone, IsLinkedOf, WithFronts, At, IsBack, AreBefore, IsChosen, Splits, Added, Stopped};
 
 use crate::access_needs::{add_with_prefixes, view};
 use crate::flow_analysis::FlowAnalysis;
 use crate::found::{AddFault, Found};
 use crate::graph::goes_on;
-use crate::masks::staying;
+use crate::masks::{Mask, mask_over, split};
 use crate::scratch::Scratch;
 use asl_code::Lock;
-use asl_lane_sets::Bits;
 use asl_lock_expr::add_links;
 use std::alloc::{AllocError, Global};
 
@@ -110,40 +109,31 @@ fn add_linked(
     ensures err { IfErr result (Stopped (table found.old) (table found.new)
         (At part pc (IsLinkedOf (read analysis.now) part pc (IsNamed (locks_of (table found.old) part) scratch.old.set)))) }
 {
-    stay_over(alloc, analysis, part, pc, scratch, found)?;
-    let changed = changed(alloc, &scratch.set, &scratch.stay)?;
-    found.add_numbered(part, pc, &scratch.stay)?;
-    add_changed(
-        alloc,
-        analysis,
-        part,
-        pc,
-        &changed,
-        &mut scratch.links,
-        found,
-    )
-}
-
-/// The numbers of the first set that are none of the second.
-fn changed(alloc: Global, set: &Bits, stay: &Bits) -> Result<Bits, AllocError>
-    requires { length set.now ≡ length stay.now }
-    ensures numbers { IfOk result (λ changed. (k : ℕ) → IsIn changed k ↔ (IsIn set.now k × ¬ IsIn stay.now k)) }
-{
-    if set.within(stay) {
-        return Bits::with_len(alloc, 0);
+    let changes = split_over(alloc, analysis, part, pc, scratch, found)?;
+    if changes {
+        found.add_numbered(part, pc, &scratch.stay)?;
+        return add_changed(
+            alloc,
+            analysis,
+            part,
+            pc,
+            &scratch.changed,
+            &mut scratch.links,
+            found,
+        );
     }
-    set.without(stay)
+    found.add_numbered(part, pc, &scratch.set)
 }
 
-/// Finds which of the locks that are needed stay over the instruction.
-fn stay_over(
+/// Splits the locks that are needed into those that change over the instruction and those that stay, and tells whether any change.
+fn split_over(
     alloc: Global,
     analysis: &FlowAnalysis,
     part: u16,
     pc: u16,
     scratch: &mut Scratch,
     found: &Found,
-) -> Result<(), AllocError>
+) -> Result<bool, AllocError>
     requires ready { IsReady (read analysis.now) (table found.now) }
     requires there { part < length analysis.now.spans.now }
     requires code { pc < length analysis.now.lowering.now.code }
@@ -151,23 +141,40 @@ fn stay_over(
     ensures set { scratch.new.set ≡ scratch.old.set }
     ensures pcs { scratch.new.pcs ≡ scratch.old.pcs }
     ensures masks { OnOk result (AreAllMasks (read analysis.now) (table found.now) (map (λ v. v.items) scratch.new.masks.items)) }
-    ensures length { OnOk result (length scratch.new.stay ≡ length scratch.old.set) }
-    ensures within { OnOk result ((n : ℕ) → IsIn scratch.new.stay n → IsIn scratch.old.set n) }
-    ensures stays { OnOk result ((m : _) → IsNamed (locks_of (table found.now) part) scratch.new.stay m → StaysAt (read analysis.now) part pc m) }
+    ensures none { IfOk result (λ some. some ≡ false → Splits (read analysis.now) (table found.now) part pc scratch.old.set scratch.old.set []) }
+    ensures some { IfOk result (λ some. some ≡ true → Splits (read analysis.now) (table found.now) part pc scratch.old.set scratch.new.stay scratch.new.changed.items) }
+{
+    let place = mask_at(alloc, analysis, part, pc, &mut scratch.masks, found)?;
+    let mask = &scratch.masks[usize::from(part)][place];
+    split(
+        &scratch.set,
+        &mask.touched,
+        &mut scratch.stay,
+        &mut scratch.changed,
+    )
+}
+
+/// The place of the mask of the instruction among those of its region.
+fn mask_at(
+    alloc: Global,
+    analysis: &FlowAnalysis,
+    part: u16,
+    pc: u16,
+    masks: &mut Vec<Vec<Mask>>,
+    found: &Found,
+) -> Result<usize, AllocError>
+    requires ready { IsReady (read analysis.now) (table found.now) }
+    requires there { part < length analysis.now.spans.now }
+    requires code { pc < length analysis.now.lowering.now.code }
+    requires masks { AreAllMasks (read analysis.now) (table found.now) (map (λ v. v.items) masks.old.items) }
+    ensures masks { OnOk result (AreAllMasks (read analysis.now) (table found.now) (map (λ v. v.items) masks.new.items)) }
+    ensures place { IfOk result (IsMaskAt (read analysis.now) (table found.now) part pc (map (λ v. v.items) masks.new.items)) }
 {
     let span = analysis.spans[usize::from(part)];
     let view = view(analysis, span.function);
     let instr = analysis.lowering.code()[usize::from(pc)];
     let locks = found.parts[usize::from(part)].locks.as_slice();
-    staying(
-        alloc,
-        &view,
-        instr,
-        locks,
-        &scratch.set,
-        &mut scratch.stay,
-        &mut scratch.masks[usize::from(part)],
-    )
+    mask_over(alloc, &view, instr, locks, &mut masks[usize::from(part)])
 }
 
 /// Adds what the locks of these numbers become over the instruction. `links` is scratch space: what it holds at first does not
@@ -177,7 +184,7 @@ fn add_changed(
     analysis: &FlowAnalysis,
     part: u16,
     pc: u16,
-    set: &Bits,
+    numbers: &[usize],
     links: &mut Vec<Lock>,
     found: &mut Found,
 ) -> Result<(), AddFault>
@@ -186,14 +193,13 @@ fn add_changed(
     requires point { IsAtPoint (read analysis.now) part pc }
     requires there { part < length analysis.now.spans.now }
     requires code { pc < length analysis.now.lowering.now.code }
-    requires named { (n : ℕ) → IsIn set.now n → (m : _) × (slice_get (locks_of (table found.old) part) n ≡ Some m) }
+    requires named { (n : ℕ) → Contains numbers.now n → (m : _) × (slice_get (locks_of (table found.old) part) n ≡ Some m) }
     ensures ok { OnOk result (Added (read analysis.now) (table found.old) (table found.new)
-        (At part pc (IsLinkedOf (read analysis.now) part pc (IsNamed (locks_of (table found.old) part) set.now)))) }
+        (At part pc (IsLinkedOf (read analysis.now) part pc (IsListed (locks_of (table found.old) part) numbers.now)))) }
     ensures err { IfErr result (Stopped (table found.old) (table found.new)
-        (At part pc (IsLinkedOf (read analysis.now) part pc (IsNamed (locks_of (table found.old) part) set.now)))) }
+        (At part pc (IsLinkedOf (read analysis.now) part pc (IsListed (locks_of (table found.old) part) numbers.now)))) }
 {
-    let numbers = set.members(alloc)?;
-    for number in numbers.as_slice() {
+    for number in numbers {
         let lock = found.lock(part, *number)?;
         add_link(alloc, analysis, part, pc, &lock, links, found)?;
     }

@@ -15,9 +15,11 @@ pub struct Scratch {
     pub pcs: Vec<u16>,
     /// The numbers of the locks that are needed at the point.
     pub set: Bits,
-    /// Those of them that stay over an instruction.
+    /// Those of them that stay over an instruction, if some do not.
     pub stay: Bits,
-    /// What one of the others becomes.
+    /// Those of them that do not.
+    pub changed: Vec<usize>,
+    /// What one of these locks becomes.
     pub links: Vec<Lock>,
 }
 
@@ -30,6 +32,7 @@ pub fn no_scratch(alloc: Global, count: usize) -> Result<Scratch, AllocError>
         pcs: Vec::new(alloc),
         set: Bits::new(alloc),
         stay: Bits::new(alloc),
+        changed: Vec::new(alloc),
         links: Vec::new(alloc),
     })
 }

@@ -6,7 +6,8 @@ use Rattle.asl_backward_flow.proofs.masks.extend.Given as goal
 abbrev pub invariant-loop-mask : goal.invariant-loop-mask
 invariant-loop-mask l = record {
   mask : IsMask (seen l.view) l.locks l.mask;
-  touch : l.mask.touch ≡ l.initial.mask.touch;
+  register : l.mask.register ≡ l.initial.mask.register;
+  cells : l.mask.cells ≡ l.initial.mask.cells;
 }
 
 abbrev pub decreases-loop-mask : goal.decreases-loop-mask

@@ -11,5 +11,5 @@ returns-clause-masks c =
 pub returns-clause-place : goal.returns-clause-place
 returns-clause-place c =
     let place : length c.args.masks.now.items ≡ c.len-place.result = omega (arith, c.len-place.ensures, c.args.masks.now.ok.0) in
-    subst (IsMaskOf c.args.touch c.push.new.self.items) place
-    (subst (λ l. IsMaskOf c.args.touch l (length c.args.masks.now.items)) (sym c.in_ok-push.ensures.items) (mask_there (seen c.args.view.now) c.args.locks.now c.args.masks.now.items c.args.touch _ refl))
+    subst (IsMaskOf c.args.register c.args.cells c.push.new.self.items) place
+    (subst (λ l. IsMaskOf c.args.register c.args.cells l (length c.args.masks.now.items)) (sym c.in_ok-push.ensures.items) (mask_there (seen c.args.view.now) c.args.locks.now c.args.masks.now.items c.args.register c.args.cells _ refl refl))

@@ -5,4 +5,4 @@ use Rattle.asl_backward_flow.proofs.needs_step.add_changed.Given as goal
 
 abbrev pub invariant-loop-number : goal.invariant-loop-number
 invariant-loop-number l =
-    AddedBelow (read l.fn.analysis) (table l.fn.found) (table l.found) (each_lock (Linked (read l.fn.analysis) l.fn.part l.fn.pc) (locks_of (table l.fn.found) l.fn.part) l.number-items) l.number-index
+    AddedBelow (read l.fn.analysis) (table l.fn.found) (table l.found) (each_lock (Linked (read l.fn.analysis) l.fn.part l.fn.pc) (locks_of (table l.fn.found) l.fn.part) l.numbers) l.number-index
