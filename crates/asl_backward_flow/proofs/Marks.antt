@@ -1,7 +1,6 @@
 -- Numbers in sets.
-use Rattle.std.proofs.Common.{◌≡◌, ◌⊎◌, ⊎_elim, ◌↔◌, if◌then◌else◌, ℕ, zero, suc, ◌+◌, ◌<◌, ◌≤◌, Bool, IsTrue, true, false, not, List, [], ◌∷◌, Some, length, replicate, get_or, slice_get, slice_set, unwrap_or, inl, inr, refl, ap, sym, subst, ◌∙◌, length-set, arith}
+use Rattle.std.proofs.Common.{◌≡◌, ◌⊎◌, ⊎_elim, ◌↔◌, if◌then◌else◌, ℕ, zero, suc, ◌+◌, ◌<◌, ◌≤◌, Bool, IsTrue, true, false, List, [], ◌∷◌, Some, length, replicate, get_or, slice_get, slice_set, unwrap_or, inl, inr, refl, ap, sym, subst, ◌∙◌, length-set, arith}
 use Rattle.std.proofs.lemmas.List.Sums.{sum_by-set}
-use Rattle.std.proofs.lemmas.Option.{slice_get_within}
 use Rattle.asl_lane_sets.specs.NumberSet.{IsIn}
 use Rattle.asl_backward_flow.specs.Found.{list_at, free, free_in, IsMarked}
 use Rattle.asl_backward_flow.proofs.SpanLaws.{below_or_at}
@@ -136,19 +135,6 @@ module _ (sets : List (List Bool)) (place number : ℕ) (x y : List Bool) (there
       differ : (c : Bool) → c ≡ false → c ≡ true → ⊥
       differ true f t = cc
       differ false f t = cc
-
--- the set had no number, and becomes another
-module _ (sets : List (List Bool)) (place : ℕ) (numbers x y : List Bool) (there : place < length sets) (is : x ≡ get_or sets place x) (small : (n : ℕ) → IsIn numbers n → n < 4096)
-    (none : length x ≡ 0) (now : y ≡ numbers) where
-  not_in : (n : ℕ) → ¬ IsIn x n
-  not_in n h = let lt = slice_get_within x n true h in omega (arith, lt, none)
-
-  added_first : (n : ℕ) → IsIn y n ↔ (IsIn x n ⊎ IsIn numbers n)
-  added_first n = (λ h. inr (subst (λ s. IsIn s n) now h), λ h. ⊎_elim (λ o. absurd (not_in n o)) (λ k. subst (λ s. IsIn s n) (sym now) k) h)
-
-  pub marked_first : (empty : Bool) → (empty ≡ true → (n : ℕ) → ¬ IsIn numbers n) → (empty ≡ false → (n : ℕ) × IsIn numbers n) → IsMarked sets (slice_set sets place y) place (IsIn numbers) (not empty)
-  marked_first true has some = marked sets place (IsIn numbers) x y there is small added_first false (λ e. absurd cc) (λ e n h. absurd (has refl n h))
-  marked_first false has some = marked sets place (IsIn numbers) x y there is small added_first true (λ e. (let one = some refl in (one.0, one.1, not_in one.0))) (λ e. absurd cc)
 
 -- the numbers of a set are added to the set, with more room
 module _ (sets : List (List Bool)) (place : ℕ) (numbers x y z : List Bool) (there : place < length sets) (is : x ≡ get_or sets place x) (small : (n : ℕ) → IsIn numbers n → n < 4096)

@@ -72,10 +72,6 @@ pub fn merge(sets: &mut Vec<Bits>, place: usize, numbers: &Bits) -> Result<bool,
     ensures err { OnErr result (sets.new.items ≡ sets.old.items) }
 {
     let set = &mut sets[place];
-    if set.len() == 0 {
-        set.copy_from(numbers)?;
-        return Ok(!numbers.is_empty());
-    }
     make_room(set, numbers.len())?;
     Ok(set.add_all(numbers))
 }

@@ -132,19 +132,6 @@ impl Bits {
         Ok(some)
     }
 
-    /// Whether the set has no number.
-    pub fn is_empty(&self) -> bool
-        ensures empty { result ≡ true → (k : ℕ) → ¬ IsIn self.now k }
-        ensures some { result ≡ false → (k : ℕ) × IsIn self.now k }
-    {
-        for place in 0..self.lanes.len() {
-            if has_one(self.lanes.lane(place)) {
-                return false;
-            }
-        }
-        true
-    }
-
     /// The same set.
     ///
     /// # Errors
