@@ -121,13 +121,13 @@ pub distinct_more : (spans : List Span) (s : Span) → AreDistinct spans → ((k
 distinct_more spans s so new j k a b at_j at_k e =
     ⊎_elim
     (λ old_j. ⊎_elim
-      (λ old_k. so j k a b old_j old_k e)
-      (λ h. absurd (new j a old_j (e ∙ ap (λ (x : Span). x.region) h.1)))
-      (at_end spans s k b at_k))
+    (λ old_k. so j k a b old_j old_k e)
+    (λ h. absurd (new j a old_j (e ∙ ap (λ (x : Span). x.region) h.1)))
+    (at_end spans s k b at_k))
     (λ h. ⊎_elim
-      (λ old_k. absurd (new k b old_k (sym e ∙ ap (λ (x : Span). x.region) h.1)))
-      (λ i. h.0 ∙ sym i.0)
-      (at_end spans s k b at_k))
+    (λ old_k. absurd (new k b old_k (sym e ∙ ap (λ (x : Span). x.region) h.1)))
+    (λ i. h.0 ∙ sym i.0)
+    (at_end spans s k b at_k))
     (at_end spans s j a at_j)
 
 -- the number of a body

@@ -53,10 +53,7 @@ fn list_functions<'a, 't>(
 }
 
 /// Names with their places as numbers; of equal names the first one counts.
-fn number_names<'t>(
-    alloc: Global,
-    names: &[&Ident<'t>],
-) -> Result<NumberedNames<'t>, AllocError>
+fn number_names<'t>(alloc: Global, names: &[&Ident<'t>]) -> Result<NumberedNames<'t>, AllocError>
     ensures { IfOk result (λ n. counts_in n ≡ numbers_from 0 (names_of names.now)) }
 {
     let mut numbering = NumberedNames::new(alloc);
@@ -69,10 +66,7 @@ fn number_names<'t>(
 }
 
 /// The globals with their numbers.
-fn number_globals<'t>(
-    alloc: Global,
-    items: &[Item<'t>],
-) -> Result<NumberedNames<'t>, AllocError>
+fn number_globals<'t>(alloc: Global, items: &[Item<'t>]) -> Result<NumberedNames<'t>, AllocError>
     ensures { IfOk result (λ n. counts_in n ≡ numbers_from 0 (globals_of (map item_of items.now))) }
 {
     let names = list_globals(alloc, items)?;
@@ -80,10 +74,7 @@ fn number_globals<'t>(
 }
 
 /// The functions with their numbers.
-fn number_functions<'t>(
-    alloc: Global,
-    items: &[Item<'t>],
-) -> Result<NumberedNames<'t>, AllocError>
+fn number_functions<'t>(alloc: Global, items: &[Item<'t>]) -> Result<NumberedNames<'t>, AllocError>
     ensures { IfOk result (λ n. counts_in n ≡ numbers_from 0 (function_names (functions_of (map item_of items.now)))) }
 {
     let names = list_functions(alloc, items)?;

@@ -32,7 +32,12 @@ fn mark_callee(items: &[Item<'_>], numbers: &ItemNumbers<'_>, marks: &mut Marks,
 
 /// Marks the functions that statements call outside sections.
 #[cycle(callees)]
-fn mark_block(items: &[Item<'_>], numbers: &ItemNumbers<'_>, marks: &mut Marks, block: &[Statement<'_>])
+fn mark_block(
+    items: &[Item<'_>],
+    numbers: &ItemNumbers<'_>,
+    marks: &mut Marks,
+    block: &[Statement<'_>],
+)
     requires { AreNumbered numbers.now (map item_of items.now) }
     ensures { MarksThese (block_callees (function_names (functions_of (map item_of items.now))) (block_of block.now)) marks.old marks.new }
 {

@@ -19,7 +19,12 @@ pub fn answer(alloc: Global, given: &str, calls: &str, out: &mut String) -> Resu
     }
 }
 
-fn answer_tree(alloc: Global, ast: &Ast<'_>, calls: &str, out: &mut String) -> Result<(), AllocError> {
+fn answer_tree(
+    alloc: Global,
+    ast: &Ast<'_>,
+    calls: &str,
+    out: &mut String,
+) -> Result<(), AllocError> {
     let lowering = match lower(alloc, ast) {
         Ok(lowering) => lowering,
         Err(fault) => return write!(out, "{fault}\n"),

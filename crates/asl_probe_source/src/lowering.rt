@@ -28,7 +28,12 @@ fn lower_again(alloc: Global, ast: &Ast<'_>) -> Result<Lowering, LowerFault> {
     }
 }
 
-fn answer_tree(alloc: Global, call: &str, ast: &Ast<'_>, out: &mut String) -> Result<(), AllocError> {
+fn answer_tree(
+    alloc: Global,
+    call: &str,
+    ast: &Ast<'_>,
+    out: &mut String,
+) -> Result<(), AllocError> {
     let lowered = if call == "lower_once" {
         lower(alloc, ast)
     } else {
