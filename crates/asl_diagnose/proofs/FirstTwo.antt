@@ -1,7 +1,8 @@
 -- Two declarations of a name in one name space are seen: so where none were seen among tokens, there are none.
 use Rattle.std.proofs.Common.{◌≡◌, ◌≢◌, ℕ, List, [], ◌∷◌, ◌++◌, Bool, true, false, ◌||◌, if◌then◌else◌, Option, None, bytes_eq, refl, sym, ap, ◌∙◌}
 use Rattle.std.specs.Option.{is_some}
-use Rattle.std.proofs.lemmas.Bool.{false≢true}
+use Rattle.std.proofs.Math.Bool.{or_assoc, or-false}
+use Rattle.std.proofs.lemmas.Bool.{false≢true, or_right}
 use Rattle.std.proofs.lemmas.Slice.Eq.{bytes_eq-Decides}
 use Rattle.std.proofs.lemmas.List.Elements.{All-head, All-tail}
 use Rattle.asl_grammar.specs.Token.{Name, Spot}
@@ -16,18 +17,6 @@ use Rattle.asl_diagnose.specs.SeenView.{seen_nothing, cell, noted_as, noted_if, 
 abbrev pub after : List ℕ → Seen → List Spot → Seen
 after x s [] = s
 after x s (t ∷ ss) = after x (passed x s t) ss
-
-or_assoc : (a b c : Bool) → ((a || b) || c) ≡ (a || (b || c))
-or_assoc true b c = refl
-or_assoc false b c = refl
-
-or_right : (a b : Bool) → b ≡ true → (a || b) ≡ true
-or_right true b e = refl
-or_right false b e = e
-
-or_none : (a : Bool) → (a || false) ≡ a
-or_none true = refl
-or_none false = refl
 
 pub twice_parts : (x : List ℕ) (s : Seen) (xs ys : List Spot) → is_twice x s (xs ++ ys) ≡ (is_twice x s xs || is_twice x (after x s xs) ys)
 twice_parts x s [] ys = refl
@@ -44,7 +33,7 @@ pub none_more : (x : List ℕ) (s : Seen) (xs : List Spot) (t : Spot) → is_twi
 none_more x s xs t none n =
     twice_parts x s xs (t ∷ [])
     ∙ ap (λ b. b || (is_some (again x (after x s xs) t.token) || false)) none
-    ∙ or_none (is_some (again x (after x s xs) t.token)) ∙ ap (λ (o : Option ℕ). is_some o) n
+    ∙ or-false (is_some (again x (after x s xs) t.token)) ∙ ap (λ (o : Option ℕ). is_some o) n
 
 next_after : (x : List ℕ) (s : Seen) (ss : List Spot) → (after x s ss).next ≡ declares_from s.next ss
 next_after x s [] = refl

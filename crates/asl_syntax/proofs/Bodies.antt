@@ -3,6 +3,7 @@
 -- statement has one.
 use Rattle.std.proofs.Common.{◌≡◌, ◌++◌, ◌∷◌, ◌∙◌, ◌||◌, [], Bool, true, false, List, ℕ, Some, None, if◌then◌else◌, length, map, refl, sym, ap, append_assoc}
 use Rattle.std.specs.List.{list_any}
+use Rattle.std.proofs.Math.Bool.{or-false}
 use Rattle.std.proofs.lemmas.List.Folds.{list_any-append}
 use Rattle.asl_syntax.specs.Tree.{Value, IntegerValue, NullValue, LocalValue, BinaryValue, GlobalValue, FieldValue, LoadValue, NewValue, CallValue, Statement, AssignStatement, StoreStatement, OutStatement, IfStatement, WhileStatement, AtomicStatement, Block, NoMore, Then, Function, Item, GlobalItem, FunctionItem}
 use Rattle.asl_syntax.specs.Mentions.{Mention, DeclaresGlobal, DeclaresFunction, DeclaresParameter, AssignsLocal, UsesLocal, UsesGlobal, CallsFunction, value_mentions, statement_mentions, block_mentions, function_mentions, mentions}
@@ -154,14 +155,10 @@ pub one_of_both : (counts : Counts) (xs ys : List Mention)
     → list_any (is_wrong_call counts) (xs ++ ys) ≡ (list_any (is_wrong_call counts) xs || list_any (is_wrong_call counts) ys)
 one_of_both counts xs ys = list_any-append (is_wrong_call counts) xs ys
 
-or_none : (a : Bool) → (a || false) ≡ a
-or_none true = refl
-or_none false = refl
-
 -- a call with its arguments
 pub one_of_call : (counts : Counts) (f : List ℕ) (n : ℕ) (xs : List (List ℕ))
     → list_any (is_wrong_call counts) (CallsFunction f n ∷ map UsesLocal xs) ≡ differs (counts f) n
-one_of_call counts f n xs = ap (λ b. differs (counts f) n || b) (no_wrong_use counts xs) ∙ or_none (differs (counts f) n)
+one_of_call counts f n xs = ap (λ b. differs (counts f) n || b) (no_wrong_use counts xs) ∙ or-false (differs (counts f) n)
 
 -- of a function the body has one
 pub one_of_body : (counts : Counts) (f : Function) → list_any (is_wrong_call counts) (function_mentions f) ≡ list_any (is_wrong_call counts) (block_mentions f.body)
@@ -171,7 +168,7 @@ one_of_body counts f =
     let last = UsesLocal f.returned ∷ [] in
     one_of_both counts own (body ++ last)
     ∙ ap (λ b. b || list_any (is_wrong_call counts) (body ++ last)) (no_wrong_parameter counts f.parameters)
-    ∙ one_of_both counts body last ∙ or_none (list_any (is_wrong_call counts) body)
+    ∙ one_of_both counts body last ∙ or-false (list_any (is_wrong_call counts) body)
 
 neither : (a b : Bool) → (a || b) ≡ false → (a ≡ false) × (b ≡ false)
 neither false b e = (refl, e)
