@@ -1,5 +1,5 @@
 -- What is found out of a step.
-use Rattle.std.proofs.Common.{◌≡◌, ℕ, Bool, IsTrue, List, [], ◌∷◌, ◌++◌, ◌⊎◌, ⊎_elim, inl, inr, Some, Result, Ok, Err, IfOk, slice_get, refl, sym, ap, subst}
+use Rattle.std.proofs.Common.{◌≡◌, ℕ, Bool, IsTrue, List, [], ◌∷◌, ◌++◌, ◌⊎◌, ⊎_elim, inl, inr, Option, Some, IfSome, Result, Ok, Err, IfOk, slice_get, refl, sym, ap, subst}
 use Rattle.std.specs.List.{flat_map}
 use Rattle.asl_code.specs.declared.image.Function as entry
 use Rattle.asl_code.specs.declared.instr.Instr.{Instr}
@@ -14,7 +14,7 @@ use Rattle.asl_backward_flow.specs.Needed.{RegionNeeds, region_of}
 use Rattle.asl_backward_flow.proofs.Leasts.{needed_inside}
 use Rattle.asl_explain.specs.declared.explain_analysis.ExplainAnalysis.{ExplainAnalysis}
 use Rattle.asl_explain.specs.declared.explained_value.Step.{Step}
-use Rattle.asl_explain.specs.Chains.{Needs, StandsAt, IsEntry}
+use Rattle.asl_explain.specs.Chains.{Needs, Stays, StandsAt, IsEntry}
 use Rattle.asl_explain.specs.Analysed.{read, IsAnalysed}
 
 -- what a part of the flow says is needed
@@ -33,6 +33,13 @@ stands_here a r pc f i lock needed tells at =
     some_same : {X : Type 0} {x y : X} → Some x ≡ Some y → x ≡ y
     some_same e = cc
 
+pub some_holds : {X : Type 0} (P : X → Type 0) (o : Option X) (x : X) → o ≡ Some x → IfSome o P → P x
+some_holds {X} P o x is h = subst (λ (k : Option X). IfSome k P) is h
+
+pub if_ok_so : {E : Type 0} (result : Result Bool E) (Has So : Type 0) → (Has → So) → IfOk result (λ b. IsTrue b → Has) → IfOk result (λ b. IsTrue b → So)
+if_ok_so (Ok b) Has So f h = λ t. f (h t)
+if_ok_so (Err e) Has So f h = tt
+
 one_either : (ms ns : List Lock) (a : Lock) → IsOne (ms ++ ns) a → IsOne ms a ⊎ IsOne ns a
 one_either [] ns a e = inr e
 one_either (m ∷ ms) ns a (inl e) = inl (inl e)
@@ -46,6 +53,7 @@ one_settled v (m ∷ ms) n h = ⊎_elim (λ k. (m, inl refl, k)) (λ k. let t = 
 -- a lock at a callee's entry, which becomes the step's at the call
 pub entry_of : {E : Type 0} (a : ExplainAnalysis) (before s : Step) (f to first callee params : ℕ) (i : Instr) → StandsAt (read a) (region_of s.region) s.pc f i → i ≡ instr.Call to first callee → before.region ≡ variant.Body callee
     → (e : entry.Function) × (slice_get a.lowering.functions callee ≡ Some e) × (e.params ≡ params) × Needs (read a) (Body callee) (start_of a.lowering.functions callee) before.lock
+    × Stays (read a) (Body callee) before.lock (start_of a.lowering.functions callee) before.pc
     → (v : LinkContext) → v ≡ view a.classes (stores a.writes) a.k_limit f → (result : Result Bool E) → IfOk result (λ b. IsTrue b → IsOne (flat_map (settle v) (renamed first params before.lock)) s.lock)
     → IfOk result (λ b. IsTrue b → IsEntry (read a) before s)
 entry_of a before s f to first callee params i at is body entry v seen (Err e) tells = tt
@@ -61,6 +69,7 @@ entry_of a before s f to first callee params i at is body entry v seen (Ok b) te
       in_table = entry.1;
       body = ap region_of body;
       needed = entry.3;
+      stays = entry.4;
       lock = one.0;
       renames = subst (λ n. IsOne (renamed first n before.lock) one.0) (sym entry.2) one.1;
       settles = subst (λ (u : LinkContext). IsOne (settle u one.0) s.lock) seen one.2;

@@ -16,7 +16,7 @@ use Rattle.asl_emitter.proofs.Reducing.{one_of_more, more_of_one}
 use Rattle.asl_explain.specs.declared.explain_analysis.ExplainAnalysis.{ExplainAnalysis}
 use Rattle.asl_explain.specs.declared.explained_value.Ended.{Ended}
 use Rattle.asl_explain.specs.Chains.{Read, Needs, IsOn, IsDropped}
-use Rattle.asl_explain.specs.Explained.{IsEnding, IsEnded, AreEnded, AreAllEnded}
+use Rattle.asl_explain.specs.Explained.{IsEnding, AreEnded, AreAllEnded}
 use Rattle.asl_explain.specs.Analysed.{read, IsAnalysed, IsMadeAt, HasAdded, AreEndedBelow, AreEndedOf}
 use Rattle.asl_explain.proofs.Ends.{get_more, length_more, map_more, all_more as each_more}
 use Rattle.asl_explain.proofs.Under.{one_taken}

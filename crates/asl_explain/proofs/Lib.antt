@@ -6,3 +6,4 @@ mod Needing
 mod Dropping
 mod Explaining
 mod Pieces
+mod Walking

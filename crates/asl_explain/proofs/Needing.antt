@@ -7,6 +7,7 @@ use Rattle.asl_emitter.proofs.Reducing.{one_of_more, more_of_one}
 use Rattle.asl_explain.specs.declared.explained_value.Need.{Need}
 use Rattle.asl_explain.specs.declared.explained_value.Chain.{Chain}
 use Rattle.asl_explain.specs.declared.explained_value.Listed.{Listed}
+use Rattle.asl_lower.specs.Regions.{Region}
 use Rattle.asl_explain.specs.Chains.{Read, IsChain}
 use Rattle.asl_explain.specs.Explained.{AreChains, IsNeed, AreNeeds, IsOneOf, IsListed, locks_of}
 use Rattle.asl_backward_flow.specs.Flows.{IsFlow}
@@ -17,9 +18,9 @@ use Rattle.asl_explain.specs.Analysed.{IsAnalysed, AreListed, AreSections, AreFi
 use Rattle.asl_explain.proofs.Ends.{get_more, at_old, at_end, length_more, all_more, map_more}
 
 -- one chain more
-pub chains_more : (x : Read) (section : ℕ) (lock : Lock) (old new : List Chain) (c : Chain) → new ≡ old ++ c ∷ [] → AreChains x section lock old → IsChain x section lock c.steps → AreChains x section lock new
-chains_more x section lock old new c is all one =
-    subst (AreChains x section lock) (sym is) (all_more (λ (d : Chain). IsChain x section lock d.steps) old c all one)
+pub chains_more : (x : Read) (r : Region) (from : ℕ) (lock : Lock) (old new : List Chain) (c : Chain) → new ≡ old ++ c ∷ [] → AreChains x r from lock old → IsChain x r from lock c.steps → AreChains x r from lock new
+chains_more x r from lock old new c is all one =
+    subst (AreChains x r from lock) (sym is) (all_more (λ (d : Chain). IsChain x r from lock d.steps) old c all one)
 
 -- one need more
 pub needs_more : (x : Read) (section : ℕ) (s : Section) (old new : List Need) (d : Need) → new ≡ old ++ d ∷ [] → AreNeeds x section s old → IsNeed x section s d → AreNeeds x section s new

@@ -1,14 +1,18 @@
 -- Machinery of the proofs, not of the promise: what is known of an analysis (src/explain_analysis.rt).
-use Rattle.std.specs.Prelude.{◌≡◌, ◌↔◌, ◌<◌, ◌≤◌, ◌⊎◌, ℕ, List, length, map, Some, IfSome, slice_get}
-use Rattle.asl_code.specs.declared.instr.Instr.TheVariants.{New}
+use Rattle.std.specs.Prelude.{◌≡◌, ◌↔◌, ◌<◌, ◌≤◌, ◌⊎◌, ℕ, List, [], ◌∷◌, length, map, Some, IfSome, slice_get}
+use Rattle.std.specs.List.{All}
+use Rattle.asl_code.specs.declared.instr.Instr.{Instr}
+use Rattle.asl_code.specs.declared.instr.Instr.TheVariants.{New, Release}
 use Rattle.asl_code.specs.declared.lock.Lock.{Lock}
 use Rattle.asl_lower.specs.declared.section.Section.{Section}
 use Rattle.asl_syntax.specs.Tree.{Item}
 use Rattle.asl_syntax.specs.Parsed.{Parses}
 use Rattle.asl_lower.specs.Lowered.{Lowered, IsLowering}
+use Rattle.asl_lower.specs.Region.{FlowsTo}
+use Rattle.asl_lower.specs.Regions.{IsIn}
 use Rattle.asl_points_to.specs.Classes.{Classed, AreClasses}
 use Rattle.asl_emitter.specs.Refused.{IsAccepted}
-use Rattle.asl_lock_expr.specs.Links.{IsOne}
+use Rattle.asl_lock_expr.specs.Links.{LinkContext, IsOne, link}
 use Rattle.asl_lock_expr.specs.Order.{AreInOrder}
 use Rattle.asl_lock_expr.specs.Stores.{stores}
 use Rattle.asl_lock_expr.specs.ClassOf.{TellsStores}
@@ -22,7 +26,9 @@ use Rattle.asl_explain.specs.declared.explained_value.Ended.{Ended}
 use Rattle.asl_explain.specs.declared.explained_value.Lists.{Lists}
 use Rattle.asl_explain.specs.declared.explained_value.Lists.TheVariants.{Inferred, TooManyLocks}
 use Rattle.asl_explain.specs.declared.explained_value.Explanation.{Explanation}
-use Rattle.asl_explain.specs.Chains.{Read}
+use Rattle.asl_explain.specs.declared.walk.Span.{Span}
+use Rattle.asl_explain.specs.declared.stretch.Stretch.{Stretch}
+use Rattle.asl_explain.specs.Chains.{Read, Stays}
 use Rattle.asl_explain.specs.Explained.{IsListed, IsEnding, AreEnded, AreAllEnded}
 
 -- what the needs of an analysis are read against
@@ -98,3 +104,31 @@ pub record IsOfSource (source : List ℕ) (k_limit : ℕ) (a : ExplainAnalysis) 
   pub analysed : IsAnalysed a
   pub same : a.k_limit ≡ k_limit
   pub accepted : IsAccepted tree k_limit
+
+-- ---- ways over which a lock stays
+
+-- each of the list
+abbrev pub AreEach : (ℕ → Type 0) → List ℕ → Type 0
+AreEach Holds xs = (n x : ℕ) → slice_get xs n ≡ Some x → Holds x
+
+-- an instruction that touches nothing leaves the lock as it is: its path is not too long, and it has a class
+abbrev pub IsSettledIn : LinkContext → Lock → Type 0
+IsSettledIn v lock = link v Release lock ≡ lock ∷ []
+
+-- the pcs are the region's
+abbrev pub IsSpan : Lowered → Span → Type 0
+IsSpan l s = (pc : ℕ) → s.first ≤ pc → pc < s.end → IsIn l (region_of s.region) s.function pc
+
+-- the lock stays from the one pc to the other, which is the region's
+pub record IsStop (x : Read) (s : Span) (lock : Lock) (from pc : ℕ) : Type 0 where
+  pub stays : Stays x (region_of s.region) lock from pc
+  pub inside : IsIn x.lowered (region_of s.region) s.function pc
+
+-- the new pcs are old ones, or such as control may continue at from this one
+abbrev pub AreFrom : Lowered → ℕ → List ℕ → List ℕ → Type 0
+AreFrom l pc old new = (i : Instr) → slice_get l.code pc ≡ Some i → (n next : ℕ) → slice_get new n ≡ Some next
+    → ((m : ℕ) × (slice_get old m ≡ Some next)) ⊎ FlowsTo i pc next
+
+-- what is kept of ways is so
+abbrev pub AreStretches : Read → List Stretch → Type 0
+AreStretches x known = All (λ (s : Stretch). Stays x (region_of s.region) s.lock s.from s.to) known

@@ -32,6 +32,19 @@ pub record StandsAt (x : Read) (r : Region) (pc f : ℕ) (i : Instr) : Type 0 wh
   pub inside : IsIn x.lowered r f pc
   pub stands : slice_get x.lowered.code pc ≡ Some i
 
+-- the instruction at the pc leaves the lock as it is, perhaps besides others that it becomes, and control may continue at the next
+pub record Keeps (x : Read) (r : Region) (lock : Lock) (pc next : ℕ) : Type 0 where
+  pub function : ℕ
+  pub instruction : Instr
+  pub at : StandsAt x r pc function instruction
+  pub goes_on : FlowsTo instruction pc next
+  pub keeps : IsOne (link (view x.classes x.stores x.k_limit function) instruction lock) lock
+
+-- control may come from the first pc to the second within the region, and each instruction on this way keeps the lock
+pub data Stays (x : Read) (r : Region) (lock : Lock) (from : ℕ) : ℕ → Type 0 where
+  Here : Stays x r lock from from
+  Over : (pc next : ℕ) → Stays x r lock from pc → Keeps x r lock pc next → Stays x r lock from next
+
 -- the step's instruction is a load or a store, which needs the step's lock itself, and the step names this reason
 pub record IsAccess (x : Read) (s : Step) : Type 0 where
   pub why : s.why ≡ Accessed
@@ -40,7 +53,8 @@ pub record IsAccess (x : Read) (s : Step) : Type 0 where
   pub at : StandsAt x (region_of s.region) s.pc function instruction
   pub accesses : IsOne (accesses (view x.classes x.stores x.k_limit function) instruction) s.lock
 
--- the lock of the step before is needed after the step's instruction, and becomes the step's lock before it
+-- the lock of the step before is needed after the step's instruction, from where it stays as far as the step before, and becomes
+-- the step's lock before it
 pub record IsLink (x : Read) (before s : Step) : Type 0 where
   pub same : s.region ≡ before.region
   pub function : ℕ
@@ -49,10 +63,11 @@ pub record IsLink (x : Read) (before s : Step) : Type 0 where
   pub next : ℕ
   pub goes_on : FlowsTo instruction s.pc next
   pub needed : Needs x (region_of s.region) next before.lock
+  pub stays : Stays x (region_of s.region) before.lock next before.pc
   pub links : IsOne (link (view x.classes x.stores x.k_limit function) instruction before.lock) s.lock
 
--- the step's instruction is a call; the lock of the step before is needed at the callee's entry, and becomes the step's lock at
--- the call: registers are renamed, and what has too long a path becomes its class
+-- the step's instruction is a call; the lock of the step before is needed at the callee's entry, from where it stays as far as the
+-- step before, and becomes the step's lock at the call: registers are renamed, and what has too long a path becomes its class
 pub record IsEntry (x : Read) (before s : Step) : Type 0 where
   pub function : ℕ
   pub to : ℕ
@@ -63,14 +78,17 @@ pub record IsEntry (x : Read) (before s : Step) : Type 0 where
   pub in_table : slice_get x.lowered.functions callee ≡ Some called
   pub body : region_of before.region ≡ Body callee
   pub needed : Needs x (Body callee) (start_of x.lowered.functions callee) before.lock
+  pub stays : Stays x (Body callee) before.lock (start_of x.lowered.functions callee) before.pc
   pub lock : Lock
   pub renames : IsOne (renamed first called.params before.lock) lock
   pub settles : IsOne (settle (view x.classes x.stores x.k_limit function) lock) s.lock
 
--- the lock of the step before is needed at the same pc, and evaluating it reads the cell of the step's lock
+-- the lock of the step before is needed at the step's pc, from where it stays as far as the step before, and evaluating it reads
+-- the cell of the step's lock
 pub record IsFront (x : Read) (before s : Step) : Type 0 where
   pub same : s.region ≡ before.region
   pub needed : Needs x (region_of s.region) s.pc before.lock
+  pub stays : Stays x (region_of s.region) before.lock s.pc before.pc
   pub reads : IsOne (dereferenced before.lock) s.lock
 
 -- the step's lock is needed for the reason that the step names, because that of the step before is
@@ -89,19 +107,20 @@ pub record AreSteps (x : Read) (steps : List Step) : Type 0 where
   pub begins : (s : Step) → slice_get steps 0 ≡ Some s → IsAccess x s
   pub follows : (n : ℕ) (before s : Step) → slice_get steps n ≡ Some before → slice_get steps (suc n) ≡ Some s → Follows x before s
 
--- the last step is one of the section, and has the lock
-pub record EndsAt (section : ℕ) (lock : Lock) (steps : List Step) : Type 0 where
+-- the last step is one of the region, and has the lock, which stays from the pc as far as this step
+pub record EndsAt (x : Read) (r : Region) (from : ℕ) (lock : Lock) (steps : List Step) : Type 0 where
   pub number : ℕ
   pub last : suc number ≡ length steps
   pub step : Step
   pub at : slice_get steps number ≡ Some step
-  pub region : region_of step.region ≡ Inside section
+  pub region : region_of step.region ≡ r
   pub holds : step.lock ≡ lock
+  pub stays : Stays x r lock from step.pc
 
--- the steps are a chain from an access to a lock of the section
-pub record IsChain (x : Read) (section : ℕ) (lock : Lock) (steps : List Step) : Type 0 where
+-- the steps are a chain from an access to a lock of the region at a pc: they tell one way from there to the access
+pub record IsChain (x : Read) (r : Region) (from : ℕ) (lock : Lock) (steps : List Step) : Type 0 where
   pub path : AreSteps x steps
-  pub ends : EndsAt section lock steps
+  pub ends : EndsAt x r from lock steps
 
 -- the lock begins on the register
 abbrev pub IsOn : ℕ → Lock → Type 0

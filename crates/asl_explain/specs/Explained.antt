@@ -6,7 +6,7 @@ use Rattle.asl_syntax.specs.Tree.{Item}
 use Rattle.asl_syntax.specs.Parsed.{Parses}
 use Rattle.asl_syntax.specs.Fault as syntax
 use Rattle.asl_lower.specs.declared.section.Section.{Section}
-use Rattle.asl_lower.specs.Regions.{Inside}
+use Rattle.asl_lower.specs.Regions.{Region, Inside}
 use Rattle.asl_lock_expr.specs.Order.{AreInOrder}
 use Rattle.asl_soundness.specs.Covering.{CoversLock}
 use Rattle.asl_emitter.specs.declared.fault.InferFault.TheVariants as infer
@@ -25,15 +25,14 @@ use Rattle.asl_explain.specs.declared.explained_value.Lists.TheVariants.{Inferre
 use Rattle.asl_explain.specs.declared.explained_value.Explanation.{Explanation}
 use Rattle.asl_explain.specs.Chains.{Read, Needs, IsChain, IsDropped}
 
--- each of the chains comes from an access to the lock, at a step somewhere in the section; that the lock then stays to the
--- section's start is not said
-abbrev pub AreChains : Read → ℕ → Lock → List Chain → Type 0
-AreChains x section lock chains = (n : ℕ) (c : Chain) → slice_get chains n ≡ Some c → IsChain x section lock c.steps
+-- each of the chains comes from an access to the lock of the region at the pc
+abbrev pub AreChains : Read → Region → ℕ → Lock → List Chain → Type 0
+AreChains x r from lock chains = (n : ℕ) (c : Chain) → slice_get chains n ≡ Some c → IsChain x r from lock c.steps
 
--- the lock is needed at the section's start, and its chains come to the lock
+-- the lock is needed at the section's start, and its chains come to it there
 pub record IsNeed (x : Read) (section : ℕ) (is : Section) (d : Need) : Type 0 where
   pub needed : Needs x (Inside section) (suc is.acquire) d.lock
-  pub chains : AreChains x section d.lock d.chains
+  pub chains : AreChains x (Inside section) (suc is.acquire) d.lock d.chains
 
 abbrev pub AreNeeds : Read → ℕ → Section → List Need → Type 0
 AreNeeds x section is needs = (n : ℕ) (d : Need) → slice_get needs n ≡ Some d → IsNeed x section is d
@@ -58,10 +57,9 @@ pub record AreExplained (x : Read) (image : Image) (sections : List (List Listed
   pub each : (section : ℕ) (is : Section) (ls : List Listed) (n : ℕ) (d : Listed) → slice_get x.lowered.sections section ≡ Some is → slice_get sections section ≡ Some ls →
       slice_get ls n ≡ Some d → IsListed x section is d
 
--- a chain comes from an access to the lock, and the `new` is one at which the lock ends; that the one leads to the other is not
--- said
+-- a chain comes from an access to the lock after the `new`, at which the lock ends
 pub record IsEnding (x : Read) (section : ℕ) (lock : Lock) (e : Ending) : Type 0 where
-  pub chain : IsChain x section lock e.chain.steps
+  pub chain : IsChain x (Inside section) (suc e.pc) lock e.chain.steps
   pub dropped : IsDropped x section e.pc lock
 
 -- the lock ends at a `new` of the section, and at the one that is reported, if one is

@@ -1,63 +1,92 @@
 //! Whether the steps that a search found are a chain. Each is looked at again here, so nothing of what is explained rests on how
 //! the search goes.
-ghost use Rattle.std.specs.Prelude.{◌≡◌, ◌<◌, ◌↔◌, ℕ, suc, Some, IfOk, IfSome, IsTrue, slice_get};
+ghost use Rattle.std.specs.Prelude.{◌≡◌, ◌<◌, ◌↔◌, ℕ, suc, Some, IfOk, IfSome, OnOk, IsTrue, slice_get};
 ghost use Rattle.asl_code.specs.declared.instr.Instr.TheVariants.{New};
+ghost use Rattle.asl_lower.specs.Regions.{Inside};
 ghost use Rattle.asl_explain.specs.declared.explained_value.Step.{Step as StepValue};
 ghost use Rattle.asl_explain.specs.Chains.{Follows, EndsAt, IsChain, IsOn, IsDropped};
 ghost use Rattle.asl_explain.specs.Explained.{IsEnding};
-ghost use Rattle.asl_explain.specs.Analysed.{read, IsAnalysed, IsMadeAt};
+ghost use Rattle.asl_explain.specs.Analysed.{read, AreStretches, IsAnalysed, IsMadeAt};
 
 use crate::confirm_step::{follows, instr_at, is_access, is_needed};
 use crate::explain_analysis::ExplainAnalysis;
 use crate::explained_value::{Ending, Step};
 use crate::links::are_same;
+use crate::stretch::Stretch;
+use crate::walk::stays_to;
 use asl_backward_flow::Region;
 use asl_code::{Base, Instr, Lock};
 use asl_lower::Section;
 use std::alloc::{AllocError, Global};
 
 /// Whether each step follows from the one before it.
-fn all_follow(alloc: Global, analysis: &ExplainAnalysis, steps: &[Step]) -> Result<bool, AllocError>
-    requires { IsAnalysed analysis.now }
-    ensures { IfOk result (λ b. IsTrue b → (n : ℕ) (before s : StepValue) → slice_get steps.now n ≡ Some before → slice_get steps.now (suc n) ≡ Some s
+fn all_follow(
+    alloc: Global,
+    analysis: &ExplainAnalysis,
+    known: &mut Vec<Stretch>,
+    steps: &[Step],
+) -> Result<bool, AllocError>
+    requires analysed { IsAnalysed analysis.now }
+    requires known { AreStretches (read analysis.now) known.old.items }
+    ensures known { OnOk result (AreStretches (read analysis.now) known.new.items) }
+    ensures follow { IfOk result (λ b. IsTrue b → (n : ℕ) (before s : StepValue) → slice_get steps.now n ≡ Some before → slice_get steps.now (suc n) ≡ Some s
         → Follows (read analysis.now) before s) }
 {
     for number in 1..steps.len() {
-        if !follows(alloc, analysis, &steps[number - 1], &steps[number])? {
+        if !follows(alloc, analysis, known, &steps[number - 1], &steps[number])? {
             return Ok(false);
         }
     }
     Ok(true)
 }
 
-/// Whether the last step is one of the section, and has the lock.
-fn ends_at(section: u16, lock: &Lock, steps: &[Step]) -> bool
-    ensures { IsTrue result → EndsAt section lock.now steps.now }
-{
-    match steps.last() {
-        Some(step) => step.region == Region::Section(section) && are_same(&step.lock, lock),
-        None => false,
-    }
-}
-
-/// Whether the steps are a chain from an access to a lock at the section's start.
-pub fn is_chain(
+/// Whether the last step is one of the section, and has the lock, which stays as far as this step after an instruction at a pc.
+fn ends_at(
     alloc: Global,
     analysis: &ExplainAnalysis,
+    known: &mut Vec<Stretch>,
     section: u16,
+    pc: u16,
     lock: &Lock,
     steps: &[Step],
 ) -> Result<bool, AllocError>
-    requires { IsAnalysed analysis.now }
-    ensures { IfOk result (λ b. IsTrue b → IsChain (read analysis.now) section lock.now steps.now) }
+    requires analysed { IsAnalysed analysis.now }
+    requires known { AreStretches (read analysis.now) known.old.items }
+    ensures known { OnOk result (AreStretches (read analysis.now) known.new.items) }
+    ensures ends { IfOk result (λ b. IsTrue b → EndsAt (read analysis.now) (Inside section) (suc pc) lock.now steps.now) }
+{
+    let (Some(step), Some(start)) = (steps.last(), pc.checked_add(1)) else {
+        return Ok(false);
+    };
+    let region = Region::Section(section);
+    if step.region != region || !are_same(&step.lock, lock) {
+        return Ok(false);
+    }
+    stays_to(alloc, analysis, known, region, lock, start, step.pc)
+}
+
+/// Whether the steps are a chain from an access to a lock of the section after an instruction at a pc.
+pub fn is_chain(
+    alloc: Global,
+    analysis: &ExplainAnalysis,
+    known: &mut Vec<Stretch>,
+    section: u16,
+    pc: u16,
+    lock: &Lock,
+    steps: &[Step],
+) -> Result<bool, AllocError>
+    requires analysed { IsAnalysed analysis.now }
+    requires known { AreStretches (read analysis.now) known.old.items }
+    ensures known { OnOk result (AreStretches (read analysis.now) known.new.items) }
+    ensures chain { IfOk result (λ b. IsTrue b → IsChain (read analysis.now) (Inside section) (suc pc) lock.now steps.now) }
 {
     let Some(first) = steps.first() else {
         return Ok(false);
     };
-    if !is_access(alloc, analysis, first)? || !all_follow(alloc, analysis, steps)? {
+    if !is_access(alloc, analysis, first)? || !all_follow(alloc, analysis, known, steps)? {
         return Ok(false);
     }
-    Ok(ends_at(section, lock, steps))
+    ends_at(alloc, analysis, known, section, pc, lock, steps)
 }
 
 /// Whether the lock begins on the register.
@@ -141,5 +170,7 @@ pub fn is_ending(
     if !is_dropped(analysis, number, section, ending.pc, lock) {
         return Ok(false);
     }
-    is_chain(alloc, analysis, number, lock, ending.chain.steps.as_slice())
+    let steps = ending.chain.steps.as_slice();
+    let mut known = Vec::new(alloc);
+    is_chain(alloc, analysis, &mut known, number, ending.pc, lock, steps)
 }

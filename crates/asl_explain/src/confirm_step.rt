@@ -1,16 +1,18 @@
 //! Whether a step of a chain follows from the one before it, looked at again without the search.
-ghost use Rattle.std.specs.Prelude.{◌≡◌, ◌<◌, ℕ, Some, IfOk, IfSome, IsTrue, length, slice_get};
+ghost use Rattle.std.specs.Prelude.{◌≡◌, ◌<◌, ℕ, Some, IfOk, IfSome, OnOk, IsTrue, length, slice_get};
 ghost use Rattle.asl_code.specs.declared.image.Function.{Function};
 ghost use Rattle.asl_code.specs.declared.instr.Instr.{Instr};
 ghost use Rattle.asl_lower.specs.Region.{FlowsTo, start_of};
 ghost use Rattle.asl_lower.specs.Regions.{Body, IsIn};
 ghost use Rattle.asl_backward_flow.specs.Needed.{region_of};
-ghost use Rattle.asl_explain.specs.Chains.{Needs, StandsAt, IsAccess, IsLink, IsEntry, IsFront, Follows};
-ghost use Rattle.asl_explain.specs.Analysed.{read, IsAnalysed};
+ghost use Rattle.asl_explain.specs.Chains.{Needs, Stays, StandsAt, IsAccess, IsLink, IsEntry, IsFront, Follows};
+ghost use Rattle.asl_explain.specs.Analysed.{read, AreStretches, IsAnalysed};
 
 use crate::explain_analysis::ExplainAnalysis;
 use crate::explained_value::{Step, Why};
 use crate::links::{are_same, is_accessed, is_dereferenced, is_entered, is_link};
+use crate::stretch::Stretch;
+use crate::walk::stays_to;
 use asl_backward_flow::Region;
 use asl_code::{Instr, Lock};
 use asl_lower::Section;
@@ -74,20 +76,31 @@ fn find_here(analysis: &ExplainAnalysis, step: &Step) -> Option<Here>
     Some(Here { function, instr })
 }
 
-/// Whether the region needs the lock at a pc at which control continues from another.
-fn is_needed_after(analysis: &ExplainAnalysis, region: Region, pc: u16, lock: &Lock) -> bool
+/// Whether the region needs the lock at a pc at which control continues from another, and from there it stays as far as a third.
+fn stays_after(
+    alloc: Global,
+    analysis: &ExplainAnalysis,
+    known: &mut Vec<Stretch>,
+    region: Region,
+    pc: u16,
+    lock: &Lock,
+    to: u16,
+) -> Result<bool, AllocError>
     requires analysed { IsAnalysed analysis.now }
     requires there { pc < length analysis.now.lowering.code }
-    ensures { IsTrue result → (i : Instr) → slice_get analysis.now.lowering.code pc ≡ Some i
-        → (next : ℕ) × FlowsTo i pc next × Needs (read analysis.now) (region_of region) next lock.now }
+    requires known { AreStretches (read analysis.now) known.old.items }
+    ensures known { OnOk result (AreStretches (read analysis.now) known.new.items) }
+    ensures stays { IfOk result (λ b. IsTrue b → (i : Instr) → slice_get analysis.now.lowering.code pc ≡ Some i
+        → (next : ℕ) × FlowsTo i pc next × Needs (read analysis.now) (region_of region) next lock.now
+        × Stays (read analysis.now) (region_of region) lock.now next to) }
 {
     let successors = analysis.lowering.successors(pc);
     for next in successors.as_slice() {
-        if is_needed(analysis, region, u32::from(*next), lock) {
-            return true;
+        if stays_to(alloc, analysis, known, region, lock, *next, to)? {
+            return Ok(true);
         }
     }
-    false
+    Ok(false)
 }
 
 /// Whether the step's instruction is a load or a store that needs the step's lock itself, and the step names this reason.
@@ -117,11 +130,14 @@ pub(crate) fn is_access(
 fn is_linked(
     alloc: Global,
     analysis: &ExplainAnalysis,
+    known: &mut Vec<Stretch>,
     before: &Step,
     step: &Step,
 ) -> Result<bool, AllocError>
-    requires { IsAnalysed analysis.now }
-    ensures { IfOk result (λ b. IsTrue b → IsLink (read analysis.now) before.now step.now) }
+    requires analysed { IsAnalysed analysis.now }
+    requires known { AreStretches (read analysis.now) known.old.items }
+    ensures known { OnOk result (AreStretches (read analysis.now) known.new.items) }
+    ensures step { IfOk result (λ b. IsTrue b → IsLink (read analysis.now) before.now step.now) }
 {
     if step.region != before.region {
         return Ok(false);
@@ -129,7 +145,15 @@ fn is_linked(
     let Some(here) = find_here(analysis, step) else {
         return Ok(false);
     };
-    if !is_needed_after(analysis, step.region, step.pc, &before.lock) {
+    if !stays_after(
+        alloc,
+        analysis,
+        known,
+        step.region,
+        step.pc,
+        &before.lock,
+        before.pc,
+    )? {
         return Ok(false);
     }
     let view = analysis.view(here.function);
@@ -140,11 +164,14 @@ fn is_linked(
 fn is_entry(
     alloc: Global,
     analysis: &ExplainAnalysis,
+    known: &mut Vec<Stretch>,
     before: &Step,
     step: &Step,
 ) -> Result<bool, AllocError>
-    requires { IsAnalysed analysis.now }
-    ensures { IfOk result (λ b. IsTrue b → IsEntry (read analysis.now) before.now step.now) }
+    requires analysed { IsAnalysed analysis.now }
+    requires known { AreStretches (read analysis.now) known.old.items }
+    ensures known { OnOk result (AreStretches (read analysis.now) known.new.items) }
+    ensures step { IfOk result (λ b. IsTrue b → IsEntry (read analysis.now) before.now step.now) }
 {
     let Some(here) = find_here(analysis, step) else {
         return Ok(false);
@@ -160,42 +187,65 @@ fn is_entry(
     if before.region != Region::Body(function) {
         return Ok(false);
     }
-    let Some(params) = needed_params(analysis, function, &before.lock) else {
+    let Some(params) = needed_params(alloc, analysis, known, function, before)? else {
         return Ok(false);
     };
     let view = analysis.view(here.function);
     is_entered(alloc, &view, first, params, &before.lock, &step.lock)
 }
 
-/// How many parameters a function has, if its body needs the lock at its entry.
-fn needed_params(analysis: &ExplainAnalysis, function: u16, lock: &Lock) -> Option<u8>
-    requires { IsAnalysed analysis.now }
-    ensures { IfSome result (λ params. (e : Function) × (slice_get analysis.now.lowering.functions function ≡ Some e) × (e.params ≡ params)
-        × Needs (read analysis.now) (Body function) (start_of analysis.now.lowering.functions function) lock.now) }
+/// How many parameters a function has, if its body needs the step's lock at its entry, from where it stays as far as the step.
+fn needed_params(
+    alloc: Global,
+    analysis: &ExplainAnalysis,
+    known: &mut Vec<Stretch>,
+    function: u16,
+    step: &Step,
+) -> Result<Option<u8>, AllocError>
+    requires analysed { IsAnalysed analysis.now }
+    requires known { AreStretches (read analysis.now) known.old.items }
+    ensures known { OnOk result (AreStretches (read analysis.now) known.new.items) }
+    ensures params { IfOk result (λ found. IfSome found (λ params. (e : Function) × (slice_get analysis.now.lowering.functions function ≡ Some e) × (e.params ≡ params)
+        × Needs (read analysis.now) (Body function) (start_of analysis.now.lowering.functions function) step.now.lock
+        × Stays (read analysis.now) (Body function) step.now.lock (start_of analysis.now.lowering.functions function) step.now.pc)) }
 {
-    let callee = analysis.lowering.functions().get(usize::from(function))?;
-    let start = u32::from(analysis.lowering.start(function));
-    if is_needed(analysis, Region::Body(function), start, lock) {
-        Some(callee.params)
+    let Some(callee) = analysis.lowering.functions().get(usize::from(function)) else {
+        return Ok(None);
+    };
+    let start = analysis.lowering.start(function);
+    let region = Region::Body(function);
+    if stays_to(alloc, analysis, known, region, &step.lock, start, step.pc)? {
+        Ok(Some(callee.params))
     } else {
-        None
+        Ok(None)
     }
 }
 
-/// Whether the lock of the step before, needed at the same pc, reads the cell of the step's when it is evaluated.
+/// Whether the lock of the step before, needed at the step's pc, reads the cell of the step's when it is evaluated.
 fn is_front(
     alloc: Global,
     analysis: &ExplainAnalysis,
+    known: &mut Vec<Stretch>,
     before: &Step,
     step: &Step,
 ) -> Result<bool, AllocError>
-    requires { IsAnalysed analysis.now }
-    ensures { IfOk result (λ b. IsTrue b → IsFront (read analysis.now) before.now step.now) }
+    requires analysed { IsAnalysed analysis.now }
+    requires known { AreStretches (read analysis.now) known.old.items }
+    ensures known { OnOk result (AreStretches (read analysis.now) known.new.items) }
+    ensures step { IfOk result (λ b. IsTrue b → IsFront (read analysis.now) before.now step.now) }
 {
     if step.region != before.region {
         return Ok(false);
     }
-    if !is_needed(analysis, step.region, u32::from(step.pc), &before.lock) {
+    if !stays_to(
+        alloc,
+        analysis,
+        known,
+        step.region,
+        &before.lock,
+        step.pc,
+        before.pc,
+    )? {
         return Ok(false);
     }
     is_dereferenced(alloc, &before.lock, &step.lock)
@@ -205,16 +255,19 @@ fn is_front(
 pub(crate) fn follows(
     alloc: Global,
     analysis: &ExplainAnalysis,
+    known: &mut Vec<Stretch>,
     before: &Step,
     step: &Step,
 ) -> Result<bool, AllocError>
-    requires { IsAnalysed analysis.now }
-    ensures { IfOk result (λ b. IsTrue b → Follows (read analysis.now) before.now step.now) }
+    requires analysed { IsAnalysed analysis.now }
+    requires known { AreStretches (read analysis.now) known.old.items }
+    ensures known { OnOk result (AreStretches (read analysis.now) known.new.items) }
+    ensures follows { IfOk result (λ b. IsTrue b → Follows (read analysis.now) before.now step.now) }
 {
     match step.why {
         Why::Accessed => Ok(false),
-        Why::Linked => is_linked(alloc, analysis, before, step),
-        Why::Entered => is_entry(alloc, analysis, before, step),
-        Why::Dereferenced => is_front(alloc, analysis, before, step),
+        Why::Linked => is_linked(alloc, analysis, known, before, step),
+        Why::Entered => is_entry(alloc, analysis, known, before, step),
+        Why::Dereferenced => is_front(alloc, analysis, known, before, step),
     }
 }

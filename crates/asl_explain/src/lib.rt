@@ -18,7 +18,9 @@ mod notes;
 mod region_table;
 mod search;
 mod source_places;
+mod stretch;
 mod text;
+mod walk;
 
 pub use explained_source::{explain, explained};
 pub use explained_value::{Chain, Ended, Ending, Explanation, Listed, Lists, Need, Step, Why};

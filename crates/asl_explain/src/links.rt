@@ -123,6 +123,7 @@ pub fn is_kept(
     lock: &Lock,
 ) -> Result<bool, AllocError>
     requires { view.now.k_limit ≤ 8 }
+    ensures { IfOk result (λ b. IsTrue b → IsOne (link (seen view.now) instr.now lock.now) lock.now) }
 {
     if stays(view, instr, lock) {
         return Ok(true);

@@ -23,20 +23,23 @@ use asl_lower::Section;
 use asl_points_to::Classes;
 use std::alloc::{AllocError, Global};
 
-/// Those of the chains that come to a lock at the section's start: all, as far as a search is right.
+/// Those of the chains that come to a lock of the section after an instruction at a pc: all, as far as a search is right.
 fn confirmed(
     alloc: Global,
     analysis: &ExplainAnalysis,
     section: u16,
+    pc: u16,
     lock: &Lock,
     found: Vec<Chain>,
 ) -> Result<Items<Chain>, AllocError>
     requires { IsAnalysed analysis.now }
-    ensures { IfOk result (AreChains (read analysis.now) section lock.now) }
+    ensures { IfOk result (AreChains (read analysis.now) (Inside section) (suc pc) lock.now) }
 {
+    let mut known = Vec::new(alloc);
     let mut chains = Vec::new(alloc);
     for chain in found {
-        if is_chain(alloc, analysis, section, lock, chain.steps.as_slice())? {
+        let steps = chain.steps.as_slice();
+        if is_chain(alloc, analysis, &mut known, section, pc, lock, steps)? {
             chains.push(chain)?;
         }
     }
@@ -84,12 +87,12 @@ fn find_need(
 ) -> Result<Need, AllocError>
     requires { IsAnalysed analysis.now }
     ensures lock { IfOk result (λ d. d.lock ≡ lock.now) }
-    ensures chains { IfOk result (λ d. AreChains (read analysis.now) number lock.now d.chains) }
+    ensures chains { IfOk result (λ d. AreChains (read analysis.now) (Inside number) (suc section.acquire) lock.now d.chains) }
 {
     let found = searcher.chains(analysis, number, section, lock)?;
     Ok(Need {
         lock: copied(lock)?,
-        chains: confirmed(alloc, analysis, number, lock, found)?,
+        chains: confirmed(alloc, analysis, number, section.acquire, lock, found)?,
     })
 }
 

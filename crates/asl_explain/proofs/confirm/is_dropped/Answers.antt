@@ -1,4 +1,4 @@
-use Rattle.std.proofs.Common.{◌≡◌, ◌+◌, ℕ, suc, subst, arith}
+use Rattle.std.proofs.Common.{◌≡◌, ◌+◌, suc, subst, arith}
 use Rattle.asl_lower.specs.Regions.{Inside}
 use Rattle.asl_explain.specs.Chains.{Needs}
 use Rattle.asl_explain.specs.Analysed.{read}

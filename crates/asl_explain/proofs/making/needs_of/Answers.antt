@@ -17,7 +17,7 @@ loop-lock-preserved c =
     record {
       needs = needs_more x c.args.number c.args.section c.loop-lock.needs.items c.push.new.self.items d c.in_ok-push.ensures.items c.loop-lock.invariant.needs (record {
         needed = subst (λ (m : Lock). Needs x (Inside c.args.number) (suc c.args.section.acquire) m) (sym c.in_ok-find_need.ensures.lock) (c.requires.needed c.lock-item.result there);
-        chains = subst (λ (m : Lock). AreChains x c.args.number m d.chains) (sym c.in_ok-find_need.ensures.lock) c.in_ok-find_need.ensures.chains;
+        chains = subst (λ (m : Lock). AreChains x (Inside c.args.number) (suc c.args.section.acquire) m d.chains) (sym c.in_ok-find_need.ensures.lock) c.in_ok-find_need.ensures.chains;
       });
       locks = ones_more c.loop-lock.needs.items c.push.new.self.items d c.in_ok-push.ensures.items c.args.locks.now c.loop-lock.lock-index c.lock-item.result c.loop-lock-test.true
           (c.in_ok-find_need.ensures.lock ∙ c.lock-item.is) c.loop-lock.invariant.locks;
