@@ -7,3 +7,4 @@ mod Dropping
 mod Explaining
 mod Pieces
 mod Walking
+mod Reasons
