@@ -1,14 +1,32 @@
 //! The instructions at which something may happen to a lock, by what they mention, so that a search skips the others.
 
-use asl_code::{Base, Instr, Lock, Op};
+use asl_code::{Base, Expr, Instr, Lock, Op};
 use asl_lower::Lowering;
 use std::alloc::{AllocError, Global};
+
+/// An instruction that takes an address by a register.
+#[derive(Clone, Copy, PartialEq, Eq, PartialOrd, Ord)]
+struct FieldTaken {
+    offset: u8,
+    pc: u16,
+}
+
+/// The pcs of the instructions that mention a register, each list in order.
+#[derive(Drop)]
+struct Mentions {
+    /// Those that set it, or move or store by it.
+    settings: Vec<u16>,
+    /// Those that load by it and set another.
+    loads: Vec<u16>,
+    /// Those that take an address by it and set another, by their offsets.
+    fields: Vec<FieldTaken>,
+}
 
 /// The pcs of a program's instructions, each list in order, by what they mention.
 #[derive(Drop)]
 pub struct Events {
-    /// For each function and each of its registers: those that set it, or move, load or store by it.
-    registers: Vec<Vec<Vec<u16>>>,
+    /// For each function and each of its registers: those that mention it.
+    registers: Vec<Vec<Mentions>>,
     /// For each global: those that take its address.
     globals: Vec<Vec<u16>>,
     /// The stores.
@@ -19,13 +37,14 @@ pub struct Events {
     lengthening: Vec<u16>,
 }
 
-/// The registers that an instruction sets, and moves, loads or stores by.
+/// The registers that an instruction sets, and moves or stores by.
 fn mentioned(instr: &Instr) -> (Option<u8>, Option<u8>) {
     match *instr {
-        Instr::Move { to, from } | Instr::FieldAddress { to, from, .. } => (Some(to), Some(from)),
-        Instr::Load { to, address } => (Some(to), Some(address)),
+        Instr::Move { to, from } => (Some(to), Some(from)),
         Instr::Store { address, from } => (Some(address), Some(from)),
-        Instr::GlobalAddress { to, .. }
+        Instr::FieldAddress { to, .. }
+        | Instr::Load { to, .. }
+        | Instr::GlobalAddress { to, .. }
         | Instr::SetInt { to, .. }
         | Instr::SetNull { to }
         | Instr::Add { to, .. }
@@ -45,37 +64,23 @@ pub fn has_star(lock: &Lock) -> bool {
     }
 }
 
-/// Whether an instruction that takes an address or a value by the register of a lock makes the lock of no other, since the
-/// lock's path begins otherwise.
-fn is_passed(instr: &Instr, lock: &Lock) -> bool {
-    let Lock::Expr(expr, _) = lock else {
-        return false;
-    };
-    let first = expr.path.as_slice().first().copied();
-    match *instr {
-        Instr::FieldAddress { to, offset, .. } => {
-            expr.base != Base::Reg(to) && first != Some(Op::Off(offset))
-        }
-        Instr::Load { to, .. } => {
-            expr.base != Base::Reg(to) && first != Some(Op::Deref) && first.is_some()
-        }
-        _ => false,
+/// The first pc of the list that is not below this one.
+fn first_from(pcs: &[u16], pc: u16) -> Option<u16> {
+    match pcs.binary_search(&pc) {
+        Ok(place) | Err(place) => pcs.get(place).copied(),
     }
 }
 
-/// The first pc of the list that is not below this one.
-fn first_from(pcs: &[u16], pc: u16) -> Option<u16> {
-    let mut low = 0;
-    let mut high = pcs.len();
-    while low < high {
-        let middle = low + (high - low) / 2;
-        if pcs[middle] < pc {
-            low = middle + 1;
-        } else {
-            high = middle;
-        }
+/// The first pc of the list, not below this one, at which an address with this offset is taken.
+fn first_field(fields: &[FieldTaken], offset: u8, pc: u16) -> Option<u16> {
+    let first = match fields.binary_search(&FieldTaken { offset, pc }) {
+        Ok(place) | Err(place) => fields.get(place)?,
+    };
+    if first.offset == offset {
+        Some(first.pc)
+    } else {
+        None
     }
-    pcs.get(low).copied()
 }
 
 /// The lower of two pcs that may be missing.
@@ -89,7 +94,7 @@ fn earlier(a: Option<u16>, b: Option<u16>) -> Option<u16> {
 
 /// So many empty lists.
 fn empty_lists(alloc: Global, count: usize) -> Result<Vec<Vec<u16>>, AllocError> {
-    let mut lists = Vec::new(alloc);
+    let mut lists = Vec::with_capacity(alloc, count)?;
     for _ in 0..count {
         lists.push(Vec::new(alloc))?;
     }
@@ -99,9 +104,54 @@ fn empty_lists(alloc: Global, count: usize) -> Result<Vec<Vec<u16>>, AllocError>
 /// Adds a pc to the list of a number, if there is one, unless it is its last.
 fn add_to(lists: &mut Vec<Vec<u16>>, number: usize, pc: u16) -> Result<(), AllocError> {
     if let Some(list) = lists.get_mut(number) {
-        if list.last().copied() != Some(pc) {
-            list.push(pc)?;
+        add_last(list, pc)?;
+    }
+    Ok(())
+}
+
+/// Adds a pc to a list, unless it is its last.
+fn add_last(list: &mut Vec<u16>, pc: u16) -> Result<(), AllocError> {
+    if list.last().copied() != Some(pc) {
+        list.push(pc)?;
+    }
+    Ok(())
+}
+
+/// What mentions so many registers: nothing yet.
+fn no_mentions(alloc: Global, count: usize) -> Result<Vec<Mentions>, AllocError> {
+    let mut registers = Vec::with_capacity(alloc, count)?;
+    for _ in 0..count {
+        registers.push(Mentions {
+            settings: Vec::new(alloc),
+            loads: Vec::new(alloc),
+            fields: Vec::new(alloc),
+        })?;
+    }
+    Ok(registers)
+}
+
+/// Adds an instruction that sets a register, or moves or stores by it.
+fn add_setting(registers: &mut Vec<Mentions>, register: u8, pc: u16) -> Result<(), AllocError> {
+    if let Some(mentions) = registers.get_mut(usize::from(register)) {
+        add_last(&mut mentions.settings, pc)?;
+    }
+    Ok(())
+}
+
+/// Adds an instruction that loads or takes an address by a register and sets another.
+fn add_use(registers: &mut Vec<Mentions>, instr: &Instr, pc: u16) -> Result<(), AllocError> {
+    match *instr {
+        Instr::FieldAddress { to, from, offset } if to != from => {
+            if let Some(mentions) = registers.get_mut(usize::from(from)) {
+                mentions.fields.push(FieldTaken { offset, pc })?;
+            }
         }
+        Instr::Load { to, address } if to != address => {
+            if let Some(mentions) = registers.get_mut(usize::from(address)) {
+                mentions.loads.push(pc)?;
+            }
+        }
+        _ => {}
     }
     Ok(())
 }
@@ -117,33 +167,51 @@ pub fn find_events(alloc: Global, lowering: &Lowering) -> Result<Events, AllocEr
     };
     let mut pc = 0;
     for function in lowering.functions() {
-        let mut registers = empty_lists(alloc, usize::from(function.regs))?;
+        let mut registers = no_mentions(alloc, usize::from(function.regs))?;
         for _ in 0..function.len {
             if let Some(instr) = lowering.code().get(pc) {
                 events.add(&mut registers, instr, pc as u16)?;
             }
             pc = pc.saturating_add(1);
         }
+        for mentions in &mut registers {
+            mentions.fields.sort_unstable();
+        }
         events.registers.push(registers)?;
     }
     Ok(events)
+}
+
+impl Mentions {
+    /// The first instruction from a pc on that makes a lock on the register, with this path, another, or makes another this one. One
+    /// that takes an address or a value by the register does so only where the path begins with that operation, and a load needs
+    /// the register's own cell.
+    fn next(&self, path: &[Op], pc: u16) -> Option<u16> {
+        let setting = first_from(&self.settings, pc);
+        let taken = match path.first() {
+            Some(Op::Off(offset)) => first_field(&self.fields, *offset, pc),
+            Some(Op::Deref) | None => first_from(&self.loads, pc),
+        };
+        earlier(setting, taken)
+    }
 }
 
 impl Events {
     /// Adds the instruction at a pc, of a function with these lists of its registers.
     fn add(
         &mut self,
-        registers: &mut Vec<Vec<u16>>,
+        registers: &mut Vec<Mentions>,
         instr: &Instr,
         pc: u16,
     ) -> Result<(), AllocError> {
         let (set, used) = mentioned(instr);
         if let Some(register) = set {
-            add_to(registers, usize::from(register), pc)?;
+            add_setting(registers, register, pc)?;
         }
         if let Some(register) = used {
-            add_to(registers, usize::from(register), pc)?;
+            add_setting(registers, register, pc)?;
         }
+        add_use(registers, instr, pc)?;
         match *instr {
             Instr::GlobalAddress { global, .. } => {
                 add_to(&mut self.globals, usize::from(global), pc)
@@ -158,48 +226,30 @@ impl Events {
         }
     }
 
-    /// The instructions that mention what a lock of the function begins with.
-    fn of_base(&self, function: u16, base: Base) -> &[u16] {
-        let list = match base {
-            Base::Global(global) => self.globals.get(usize::from(global)),
-            Base::Reg(register) => match self.registers.get(usize::from(function)) {
-                Some(registers) => registers.get(usize::from(register)),
-                None => None,
-            },
-        };
-        match list {
-            Some(list) => list.as_slice(),
-            None => &[],
+    /// The first instruction from a pc on that mentions what an expression of the function begins with.
+    fn next_mention(&self, function: u16, expr: &Expr, pc: u16) -> Option<u16> {
+        match expr.base {
+            Base::Global(global) => first_from(self.globals.get(usize::from(global))?, pc),
+            Base::Reg(register) => {
+                let registers = self.registers.get(usize::from(function))?;
+                let mentions = registers.get(usize::from(register))?;
+                mentions.next(expr.path.as_slice(), pc)
+            }
         }
     }
 
     /// The first instruction from a pc on at which something may happen to a lock of the function: those before it leave the
     /// lock as it is, need it not, make it of no other, and continue with the next.
-    pub fn next(&self, code: &[Instr], function: u16, lock: &Lock, pc: u16) -> Option<u16> {
-        let mut from = pc;
-        for _ in 0..code.len() {
-            let found = self.next_mention(function, lock, from)?;
-            match code.get(usize::from(found)) {
-                Some(instr) if is_passed(instr, lock) => from = found.saturating_add(1),
-                _ => return Some(found),
-            }
-        }
-        None
-    }
-
-    /// The first instruction from a pc on that mentions what the lock begins with, or may change it otherwise.
-    fn next_mention(&self, function: u16, lock: &Lock, pc: u16) -> Option<u16> {
+    pub fn next(&self, function: u16, lock: &Lock, pc: u16) -> Option<u16> {
         let turn = first_from(&self.turns, pc);
-        match lock {
-            Lock::Expr(expr, _) => {
-                let mention = earlier(turn, first_from(self.of_base(function, expr.base), pc));
-                if has_star(lock) {
-                    earlier(mention, first_from(&self.stores, pc))
-                } else {
-                    mention
-                }
-            }
-            _ => earlier(turn, first_from(&self.lengthening, pc)),
+        let Lock::Expr(expr, _) = lock else {
+            return earlier(turn, first_from(&self.lengthening, pc));
+        };
+        let mention = earlier(turn, self.next_mention(function, expr, pc));
+        if has_star(lock) {
+            earlier(mention, first_from(&self.stores, pc))
+        } else {
+            mention
         }
     }
 }

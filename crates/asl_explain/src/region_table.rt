@@ -3,10 +3,18 @@
 use crate::events::has_star;
 use crate::links::front_of;
 use asl_backward_flow::{Flow, Region};
-use asl_code::{Base, Expr, Lock, Op};
+use asl_code::{Base, Lock, Op};
 use asl_lock_expr::class_of;
 use asl_points_to::Classes;
 use std::alloc::{AllocError, Global};
+use std::collections::HashMap;
+
+/// A register and a class.
+#[derive(PartialEq, Eq, Hash, Drop)]
+struct OfClass {
+    register: u8,
+    class: u16,
+}
 
 /// The locks of a region, by their numbers.
 #[derive(Drop)]
@@ -19,10 +27,10 @@ pub struct RegionTable {
     pub longer: Vec<Vec<u16>>,
     /// The expressions whose paths read a cell.
     pub starred: Vec<u16>,
-    /// The expressions on registers whose paths are as long as they may be.
-    pub full: Vec<u16>,
-    /// For each lock that is an expression its class, if it has one.
-    pub classes: Vec<Option<u16>>,
+    /// For each class its expressions.
+    members: HashMap<u16, Vec<u16>>,
+    /// For each register and each class the expressions whose paths are as long as they may be.
+    full: HashMap<OfClass, Vec<u16>>,
 }
 
 /// The table of the region at a place of the flow, which is of a function.
@@ -35,21 +43,21 @@ pub fn make_table(
     region: Region,
     function: u16,
 ) -> Result<RegionTable, AllocError> {
+    let locks = flow.locks(place);
     let mut table = RegionTable {
         region,
         function,
-        longer: Vec::new(alloc),
+        longer: Vec::with_capacity(alloc, locks.len())?,
         starred: Vec::new(alloc),
-        full: Vec::new(alloc),
-        classes: Vec::new(alloc),
+        members: HashMap::new(alloc),
+        full: HashMap::new(alloc),
     };
-    let locks = flow.locks(place);
     for _ in 0..locks.len() {
         table.longer.push(Vec::new(alloc))?;
     }
     let mut number = 0;
     for lock in locks {
-        table.add(classes, k_limit as usize, number, lock)?;
+        table.add(alloc, classes, k_limit as usize, number, lock)?;
         table.add_fronts(flow, place, number, lock)?;
         number = number.saturating_add(1);
     }
@@ -57,24 +65,48 @@ pub fn make_table(
 }
 
 impl RegionTable {
+    /// The expressions of a class.
+    pub fn members(&self, class: u16) -> &[u16] {
+        match self.members.get(&class) {
+            Some(numbers) => numbers.as_slice(),
+            None => &[],
+        }
+    }
+
+    /// The expressions of a class on a register whose paths are as long as they may be.
+    pub fn full(&self, register: u8, class: u16) -> &[u16] {
+        match self.full.get(&OfClass { register, class }) {
+            Some(numbers) => numbers.as_slice(),
+            None => &[],
+        }
+    }
+
     /// Adds a lock with its number, but for those that its evaluation reads.
     fn add(
         &mut self,
+        alloc: Global,
         classes: &Classes,
         k_limit: usize,
         number: u16,
         lock: &Lock,
     ) -> Result<(), AllocError> {
         let Lock::Expr(expr, _) = lock else {
-            self.classes.push(None)?;
             return Ok(());
         };
-        self.classes.push(class_of(classes, self.function, expr))?;
         if has_star(lock) {
             self.starred.push(number)?;
         }
-        if is_register(expr) && expr.path.len() >= k_limit {
-            self.full.push(number)?;
+        let Some(class) = class_of(classes, self.function, expr) else {
+            return Ok(());
+        };
+        let members = self.members.entry(class)?.or_insert(Vec::new(alloc));
+        members.push(number)?;
+        if let Base::Reg(register) = expr.base {
+            if expr.path.len() >= k_limit {
+                let of_class = OfClass { register, class };
+                let full = self.full.entry(of_class)?.or_insert(Vec::new(alloc));
+                full.push(number)?;
+            }
         }
         Ok(())
     }
@@ -107,13 +139,5 @@ impl RegionTable {
             longer.push(number)?;
         }
         Ok(())
-    }
-}
-
-/// Whether the expression begins at a register.
-fn is_register(expr: &Expr) -> bool {
-    match expr.base {
-        Base::Reg(_) => true,
-        Base::Global(_) => false,
     }
 }

@@ -2,28 +2,31 @@
 ghost use Rattle.asl_explain.specs.Analysed.{IsAnalysed};
 
 mod chains;
+mod graph;
+mod nodes;
 mod point;
 mod points;
 mod ways;
 
 use crate::confirm::{is_on, made_at};
-use crate::events::{Events, find_events};
 use crate::explain_analysis::ExplainAnalysis;
 use crate::explained_value::{Chain, Ending, Why};
-use crate::region_table::{RegionTable, make_table};
-use crate::search::point::{Point, narrow, needed_point};
-use asl_backward_flow::Region;
+use crate::search::graph::Graph;
+use crate::search::nodes::{Cost, Nodes, Way};
+use crate::search::point::{Point, needed_point};
 use asl_code::Lock;
 use asl_lower::Section;
 use std::alloc::{AllocError, Global};
-use std::collections::{BTreeMap, HashSet};
+use std::cmp::Reverse;
+use std::collections::BinaryHeap;
 
-/// A point that is to be looked at: the one with the fewest changes first, then that with the fewest instructions.
-#[derive(Clone, Copy, PartialEq, Eq, PartialOrd, Ord, Drop)]
+/// A point that is to be looked at, with its number among those that are kept: the one with the fewest changes first, then that with
+/// the fewest instructions.
+#[derive(Clone, Copy, PartialEq, Eq, PartialOrd, Ord)]
 struct Waiting {
-    changes: u32,
-    instructions: u32,
+    cost: Cost,
     point: Point,
+    number: usize,
 }
 
 /// A change of the lock on the way on from a section's start: the point before it, and the change before that.
@@ -36,57 +39,96 @@ struct Change {
 
 /// A statement that needs the lock: the point of its access, and the last change on the way to it.
 #[derive(Clone, Copy)]
-pub(crate) struct Access {
+struct Access {
     point: Point,
     last: Option<usize>,
 }
 
 /// One search.
 #[derive(Drop)]
-pub(crate) struct LockSearch {
-    waiting: BTreeMap<Waiting, Option<usize>>,
-    seen: HashSet<Point>,
+struct LockSearch {
+    number: u32,
+    waiting: BinaryHeap<Reverse<Waiting>>,
     changes: Vec<Change>,
-    statements: HashSet<u16>,
+    /// For each pc the number of the last search that found its statement.
+    statements: Vec<u32>,
     accesses: Vec<Access>,
 }
 
-/// What all searches of a program share.
+/// The searches of a program, one after the other.
 #[derive(Drop)]
 pub struct Searcher {
     alloc: Global,
-    events: Events,
-    /// For each function the place of its body in the flow, if it is an inner function.
-    bodies: Vec<Option<u16>>,
-    /// The tables of the regions that a search came to, by their places in the flow.
-    tables: Vec<Option<RegionTable>>,
+    graph: Graph,
+    nodes: Nodes,
+    /// The ways on from the point that is looked at.
+    ways: Vec<Way>,
+    search: LockSearch,
 }
 
-/// The search of a point.
-fn search_from(alloc: Global) -> LockSearch {
-    LockSearch {
-        waiting: BTreeMap::new(alloc),
-        seen: HashSet::new(alloc),
+/// No search of a program of so many instructions.
+fn no_search(alloc: Global, count: usize) -> Result<LockSearch, AllocError> {
+    let mut statements = Vec::with_capacity(alloc, count)?;
+    for _ in 0..count {
+        statements.push(0)?;
+    }
+    Ok(LockSearch {
+        number: 0,
+        waiting: BinaryHeap::new(alloc),
         changes: Vec::new(alloc),
-        statements: HashSet::new(alloc),
+        statements,
         accesses: Vec::new(alloc),
+    })
+}
+
+impl LockSearch {
+    /// Begins the next search.
+    fn begin(&mut self) {
+        self.number = self.number.saturating_add(1);
+        self.waiting.clear();
+        self.changes.clear();
+        self.accesses.clear();
+    }
+
+    /// Notes a change, and returns its number.
+    fn change(
+        &mut self,
+        point: Point,
+        why: Why,
+        earlier: Option<usize>,
+    ) -> Result<usize, AllocError> {
+        let number = self.changes.len();
+        self.changes.push(Change {
+            point,
+            why,
+            earlier,
+        })?;
+        Ok(number)
+    }
+
+    /// Notes a statement that needs the lock, unless it is noted.
+    fn note(&mut self, access: Access) -> Result<(), AllocError> {
+        let Some(mark) = self.statements.get_mut(usize::from(access.point.pc)) else {
+            return Ok(());
+        };
+        if *mark == self.number {
+            return Ok(());
+        }
+        *mark = self.number;
+        self.accesses.push(access)?;
+        Ok(())
     }
 }
 
 impl Searcher {
     /// The searcher of a program.
     pub fn new(alloc: Global, analysis: &ExplainAnalysis) -> Result<Searcher, AllocError> {
-        let mut bodies = Vec::new(alloc);
-        let mut function = 0;
-        for _ in analysis.lowering.functions() {
-            bodies.push(narrow(analysis.flow.place(Region::Body(function))))?;
-            function = function.saturating_add(1);
-        }
         Ok(Searcher {
             alloc,
-            events: find_events(alloc, &analysis.lowering)?,
-            bodies,
-            tables: Vec::new(alloc),
+            graph: Graph::new(alloc, analysis)?,
+            nodes: Nodes::new(alloc),
+            ways: Vec::new(alloc),
+            search: no_search(alloc, analysis.lowering.code().len())?,
         })
     }
 
@@ -100,17 +142,18 @@ impl Searcher {
     ) -> Result<Vec<Chain>, AllocError>
         requires { IsAnalysed analysis.now }
     {
-        let mut search = search_from(self.alloc);
-        let region = Region::Section(number);
-        if let Some(place) = narrow(analysis.flow.place(region)) {
-            self.prepare(analysis, place, region, section.function)?;
+        self.begin();
+        if let Some(place) = self
+            .graph
+            .enter_section(analysis, number, section.function)?
+        {
             let start = section.acquire.saturating_add(1);
-            if let Some(to) = needed_point(analysis, place, start, lock) {
-                self.wait(analysis, &mut search, to, 0, 0, None)?;
+            if let Some(from) = needed_point(analysis, place, start, lock) {
+                self.begin_at(analysis, from, None)?;
             }
         }
-        self.go_on(analysis, &mut search, usize::MAX)?;
-        self.chains_of(analysis, &search)
+        self.go_on(analysis, usize::MAX)?;
+        self.chains_of(analysis)
     }
 
     /// The cheapest chain of a lock that the section of a number needs after one of its `new`, which sets the register on which the
@@ -125,21 +168,29 @@ impl Searcher {
     ) -> Result<Option<Ending>, AllocError>
         requires { IsAnalysed analysis.now }
     {
-        let mut search = search_from(self.alloc);
-        let region = Region::Section(number);
-        if let Some(place) = narrow(analysis.flow.place(region)) {
-            self.prepare(analysis, place, region, section.function)?;
-            self.wait_after_all(analysis, &mut search, place, news, lock)?;
+        self.begin();
+        if let Some(place) = self
+            .graph
+            .enter_section(analysis, number, section.function)?
+        {
+            self.begin_after_all(analysis, place, news, lock)?;
         }
-        self.go_on(analysis, &mut search, 1)?;
-        self.ending_of(analysis, &search)
+        self.go_on(analysis, 1)?;
+        self.ending_of(analysis)
     }
 
-    /// Queues the lock after each `new` of the list that sets the register on which the lock begins.
-    fn wait_after_all(
-        &self,
+    /// Begins the next search, with nothing to be looked at. Where too many points are kept, they are all given up.
+    fn begin(&mut self) {
+        if self.nodes.is_full() {
+            self.nodes = Nodes::new(self.alloc);
+        }
+        self.search.begin();
+    }
+
+    /// Begins with the lock after each `new` of the list that sets the register on which the lock begins.
+    fn begin_after_all(
+        &mut self,
         analysis: &ExplainAnalysis,
-        search: &mut LockSearch,
         place: u16,
         news: &[u16],
         lock: &Lock,
@@ -147,71 +198,30 @@ impl Searcher {
         for pc in news {
             if let Some(to) = made_at(analysis, *pc) {
                 if is_on(to, lock) {
-                    self.wait_after(analysis, search, place, *pc, lock)?;
+                    self.begin_after(analysis, place, *pc, lock)?;
                 }
             }
         }
         Ok(())
     }
 
-    /// Puts a lock among those that wait if the region at a place needs it after the `new` at a pc, which is noted as its last change.
-    fn wait_after(
-        &self,
+    /// Begins with a lock after the `new` at a pc, if the region at a place needs it there. The `new` is noted as its last change.
+    fn begin_after(
+        &mut self,
         analysis: &ExplainAnalysis,
-        search: &mut LockSearch,
         place: u16,
         pc: u16,
         lock: &Lock,
     ) -> Result<(), AllocError> {
-        let Some(to) = needed_point(analysis, place, pc.saturating_add(1), lock) else {
+        let Some(from) = needed_point(analysis, place, pc.saturating_add(1), lock) else {
             return Ok(());
         };
-        let last = search.changes.len();
-        search.changes.push(Change {
-            point: Point {
-                place,
-                pc,
-                number: to.number,
-            },
-            why: Why::Linked,
-            earlier: None,
-        })?;
-        self.wait(analysis, search, to, 0, 0, Some(last))
-    }
-
-    fn table_of(&self, place: u16) -> Option<&RegionTable> {
-        match self.tables.get(usize::from(place)) {
-            Some(Some(table)) => Some(table),
-            _ => None,
-        }
-    }
-
-    /// Sees to it that there is a table of the region at a place.
-    fn prepare(
-        &mut self,
-        analysis: &ExplainAnalysis,
-        place: u16,
-        region: Region,
-        function: u16,
-    ) -> Result<(), AllocError> {
-        if self.table_of(place).is_some() {
-            return Ok(());
-        }
-        for _ in self.tables.len()..usize::from(place) + 1 {
-            self.tables.push(None)?;
-        }
-        let new = make_table(
-            self.alloc,
-            &analysis.classes,
-            &analysis.flow,
-            analysis.k_limit,
-            usize::from(place),
-            region,
-            function,
-        )?;
-        if let Some(slot) = self.tables.get_mut(usize::from(place)) {
-            *slot = Some(new);
-        }
-        Ok(())
+        let at = Point {
+            place,
+            pc,
+            number: from.number,
+        };
+        let last = self.search.change(at, Why::Linked, None)?;
+        self.begin_at(analysis, from, Some(last))
     }
 }

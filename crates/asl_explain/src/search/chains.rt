@@ -3,7 +3,7 @@
 use crate::explain_analysis::ExplainAnalysis;
 use crate::explained_value::{Chain, Ending, Step, Why};
 use crate::search::point::{Point, lock_of};
-use crate::search::{Access, LockSearch, Searcher};
+use crate::search::{Access, Change, Searcher};
 use asl_code::Items;
 use std::alloc::AllocError;
 
@@ -12,12 +12,11 @@ impl Searcher {
     pub(crate) fn ending_of(
         &self,
         analysis: &ExplainAnalysis,
-        search: &LockSearch,
     ) -> Result<Option<Ending>, AllocError> {
-        let Some(access) = search.accesses.first() else {
+        let Some(access) = self.search.accesses.first() else {
             return Ok(None);
         };
-        let mut steps = self.steps(analysis, search, *access)?;
+        let mut steps = self.steps(analysis, *access)?;
         let Some(end) = steps.pop() else {
             return Ok(None);
         };
@@ -30,14 +29,11 @@ impl Searcher {
     }
 
     /// The chains of the statements that were found.
-    pub(crate) fn chains_of(
-        &self,
-        analysis: &ExplainAnalysis,
-        search: &LockSearch,
-    ) -> Result<Vec<Chain>, AllocError> {
-        let mut chains = Vec::new(self.alloc);
-        for access in &search.accesses {
-            let steps = self.steps(analysis, search, *access)?;
+    pub(crate) fn chains_of(&self, analysis: &ExplainAnalysis) -> Result<Vec<Chain>, AllocError> {
+        let accesses = &self.search.accesses;
+        let mut chains = Vec::with_capacity(self.alloc, accesses.len())?;
+        for access in accesses {
+            let steps = self.steps(analysis, *access)?;
             chains.push(Chain {
                 steps: Items::from_vec(steps),
             })?;
@@ -46,20 +42,13 @@ impl Searcher {
     }
 
     /// The steps of the chain of a statement.
-    pub(crate) fn steps(
-        &self,
-        analysis: &ExplainAnalysis,
-        search: &LockSearch,
-        access: Access,
-    ) -> Result<Vec<Step>, AllocError> {
-        let mut steps = Vec::new(self.alloc);
+    fn steps(&self, analysis: &ExplainAnalysis, access: Access) -> Result<Vec<Step>, AllocError> {
+        let count = self.count_changes(access.last).saturating_add(1);
+        let mut steps = Vec::with_capacity(self.alloc, count)?;
         self.add_step(analysis, access.point, Why::Accessed, &mut steps)?;
         let mut last = access.last;
-        for _ in 0..search.changes.len() {
-            let Some(number) = last else {
-                break;
-            };
-            let Some(change) = search.changes.get(number) else {
+        for _ in 0..self.search.changes.len() {
+            let Some(change) = self.change_at(last) else {
                 break;
             };
             self.add_step(analysis, change.point, change.why, &mut steps)?;
@@ -68,15 +57,35 @@ impl Searcher {
         Ok(steps)
     }
 
+    /// The change of a number, if there is one.
+    fn change_at(&self, number: Option<usize>) -> Option<Change> {
+        self.search.changes.get(number?).copied()
+    }
+
+    /// How many changes lead up to one, itself among them.
+    fn count_changes(&self, from: Option<usize>) -> usize {
+        let mut last = from;
+        for count in 0..self.search.changes.len() {
+            let Some(change) = self.change_at(last) else {
+                return count;
+            };
+            last = change.earlier;
+        }
+        self.search.changes.len()
+    }
+
     /// Adds a step with the lock of a point.
-    pub(crate) fn add_step(
+    fn add_step(
         &self,
         analysis: &ExplainAnalysis,
         point: Point,
         why: Why,
         steps: &mut Vec<Step>,
     ) -> Result<(), AllocError> {
-        if let (Some(table), Some(lock)) = (self.table_of(point.place), lock_of(analysis, point)) {
+        if let (Some(table), Some(lock)) = (
+            self.graph.table_of(point.place),
+            lock_of(analysis, point),
+        ) {
             steps.push(Step {
                 region: table.region,
                 pc: point.pc,

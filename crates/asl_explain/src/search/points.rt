@@ -2,127 +2,163 @@
 ghost use Rattle.asl_explain.specs.Analysed.{IsAnalysed};
 
 use crate::explain_analysis::ExplainAnalysis;
-use crate::links::is_accessed;
-use crate::search::point::{Point, lock_of, point_of};
-use crate::search::{Access, Change, LockSearch, Searcher, Waiting};
+use crate::search::nodes::{Cost, Edge, Onward, Visit, Way};
+use crate::search::point::{Point, lock_of};
+use crate::search::{Access, Searcher, Waiting};
+use asl_code::{Base, Effect, Instr, Lock};
 use std::alloc::AllocError;
+use std::cmp::Reverse;
+
+/// Whether the instruction at a point is a load or a store that needs the point's lock itself.
+fn is_access(analysis: &ExplainAnalysis, point: Point) -> bool {
+    let (address, effect) = match analysis.lowering.code().get(usize::from(point.pc)) {
+        Some(Instr::Load { address, .. }) => (*address, Effect::Read),
+        Some(Instr::Store { address, .. }) => (*address, Effect::Write),
+        _ => return false,
+    };
+    match lock_of(analysis, point) {
+        Some(Lock::Expr(expr, own)) => {
+            expr.base == Base::Reg(address) && expr.path.len() == 0 && *own == effect
+        }
+        _ => false,
+    }
+}
+
+/// How many instructions the pcs are apart.
+fn passed(from: Point, to: Point) -> u32 {
+    u32::from(to.pc.saturating_sub(from.pc))
+}
 
 impl Searcher {
     /// Looks at the points that wait until so many statements are found.
     pub(crate) fn go_on(
         &mut self,
         analysis: &ExplainAnalysis,
-        search: &mut LockSearch,
         most: usize,
     ) -> Result<(), AllocError>
         requires { IsAnalysed analysis.now }
     {
         for _ in 0..u64::MAX {
-            if search.accesses.len() >= most {
+            if self.search.accesses.len() >= most {
                 break;
             }
-            let Some((waiting, last)) = search.waiting.pop_first() else {
+            let Some(Reverse(waiting)) = self.search.waiting.pop() else {
                 break;
             };
-            self.look_at(analysis, search, waiting, last)?;
+            self.look_at(analysis, waiting)?;
         }
         Ok(())
     }
 
     /// Puts the next point at which something may happen to a lock among those that wait.
-    pub(crate) fn wait(
-        &self,
-        analysis: &ExplainAnalysis,
-        search: &mut LockSearch,
-        from: Point,
-        changes: u32,
-        instructions: u32,
-        last: Option<usize>,
-    ) -> Result<(), AllocError> {
-        let (Some(table), Some(lock)) = (self.table_of(from.place), lock_of(analysis, from)) else {
-            return Ok(());
-        };
-        let Some(pc) = self
-            .events
-            .next(analysis.lowering.code(), table.function, lock, from.pc)
-        else {
-            return Ok(());
-        };
-        let number = usize::from(from.number);
-        let Some(point) = point_of(analysis, from.place, pc, number) else {
-            return Ok(());
-        };
-        if search.seen.contains(&point) {
-            return Ok(());
-        }
-        let passed = u32::from(pc.saturating_sub(from.pc));
-        let waiting = Waiting {
-            changes,
-            instructions: instructions.saturating_add(passed),
-            point,
-        };
-        if !search.waiting.contains_key(&waiting) {
-            search.waiting.insert(waiting, last)?;
-        }
-        Ok(())
-    }
-
-    /// Looks where a point leads.
-    fn look_at(
+    pub(crate) fn begin_at(
         &mut self,
         analysis: &ExplainAnalysis,
-        search: &mut LockSearch,
-        waiting: Waiting,
+        from: Point,
         last: Option<usize>,
-    ) -> Result<(), AllocError>
-        requires { IsAnalysed analysis.now }
-    {
-        let point = waiting.point;
-        if !search.seen.insert(point)? {
+    ) -> Result<(), AllocError> {
+        let Some(to) = self.graph.event(analysis, from) else {
             return Ok(());
-        }
-        self.enter(analysis, point)?;
-        self.note_access(analysis, search, point, last)?;
-        let ways = self.ways(analysis, point)?;
-        for way in ways {
-            let mut changes = waiting.changes;
-            let mut newest = last;
-            if let Some(why) = way.why {
-                changes = changes.saturating_add(1);
-                newest = Some(search.changes.len());
-                search.changes.push(Change {
-                    point,
-                    why,
-                    earlier: last,
-                })?;
-            }
-            let instructions = waiting.instructions.saturating_add(1);
-            self.wait(analysis, search, way.to, changes, instructions, newest)?;
+        };
+        let number = self.nodes.number(to)?;
+        let cost = Cost {
+            changes: 0,
+            instructions: passed(from, to),
+        };
+        if self
+            .nodes
+            .nearer(number, self.search.number, cost)
+            .is_some()
+        {
+            self.wait(to, number, cost, last)?;
         }
         Ok(())
     }
 
-    /// Notes the statement of a point, if it needs the point's lock itself and is not noted yet.
-    fn note_access(
-        &self,
-        analysis: &ExplainAnalysis,
-        search: &mut LockSearch,
+    /// Puts a point among those that wait.
+    fn wait(
+        &mut self,
         point: Point,
+        number: usize,
+        cost: Cost,
         last: Option<usize>,
-    ) -> Result<(), AllocError>
+    ) -> Result<(), AllocError> {
+        let visit = Visit {
+            search: self.search.number,
+            cost,
+            last,
+            is_done: false,
+        };
+        self.nodes.visit(number, visit);
+        self.search.waiting.push(Reverse(Waiting {
+            cost,
+            point,
+            number,
+        }))?;
+        Ok(())
+    }
+
+    /// Looks where a point leads, unless the search has done so.
+    fn look_at(&mut self, analysis: &ExplainAnalysis, waiting: Waiting) -> Result<(), AllocError>
         requires { IsAnalysed analysis.now }
     {
-        let (Some(table), Some(lock)) = (self.table_of(point.place), lock_of(analysis, point))
-        else {
+        let Some(visit) = self.nodes.leave(waiting.number) else {
             return Ok(());
         };
-        let Some(instr) = analysis.lowering.code().get(usize::from(point.pc)) else {
-            return Ok(());
-        };
-        let view = analysis.view(table.function);
-        if is_accessed(self.alloc, &view, instr, lock)? && search.statements.insert(point.pc)? {
-            search.accesses.push(Access { point, last })?;
+        let onward = self.onward(analysis, waiting)?;
+        if onward.is_access {
+            self.search.note(Access {
+                point: waiting.point,
+                last: visit.last,
+            })?;
+        }
+        for place in onward.first..onward.end {
+            if let Some(edge) = self.nodes.edge(place) {
+                self.go_along(waiting, edge, visit.last)?;
+            }
         }
         Ok(())
+    }
+
+    /// Where a point leads.
+    fn onward(&mut self, analysis: &ExplainAnalysis, waiting: Waiting) -> Result<Onward, AllocError>
+        requires { IsAnalysed analysis.now }
+    {
+        if let Some(onward) = self.nodes.onward(waiting.number) {
+            return Ok(onward);
+        }
+        let point = waiting.point;
+        self.graph.enter(analysis, point)?;
+        self.ways.clear();
+        self.graph.add_ways(analysis, point, &mut self.ways)?;
+        let first = self.nodes.count();
+        for way in &self.ways {
+            let Way { to: from, why } = *way;
+            if let Some(to) = self.graph.event(analysis, from) {
+                self.nodes.add(to, passed(from, to).saturating_add(1), why)?;
+            }
+        }
+        Ok(
+            self.nodes
+                .know(waiting.number, first, is_access(analysis, point)),
+        )
+    }
+
+    /// Goes along an edge from a point, with the last change on the way to it, if no way to the edge's end is known that is as cheap.
+    fn go_along(
+        &mut self,
+        from: Waiting,
+        edge: Edge,
+        last: Option<usize>,
+    ) -> Result<(), AllocError> {
+        let cost = from.cost.after(edge);
+        let Some(to) = self.nodes.nearer(edge.to, self.search.number, cost) else {
+            return Ok(());
+        };
+        let last = match edge.why {
+            Some(why) => Some(self.search.change(from.point, why, last)?),
+            None => last,
+        };
+        self.wait(to, edge.to, cost, last)
     }
 }

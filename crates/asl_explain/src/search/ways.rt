@@ -7,70 +7,66 @@ use crate::explain_analysis::ExplainAnalysis;
 use crate::explained_value::Why;
 use crate::links::{based_back, entered_back, is_kept, is_link};
 use crate::region_table::RegionTable;
-use crate::search::Searcher;
+use crate::search::graph::Graph;
+use crate::search::nodes::Way;
 use crate::search::point::{Point, lock_of, needed_point, point_of};
-use asl_backward_flow::Region;
-use asl_code::{Base, Instr, Lock};
-use asl_lock_expr::LinkContext;
+use asl_code::{Base, Expr, Instr, Lock, Op};
+use asl_lock_expr::{LinkContext, stays};
 use std::alloc::AllocError;
 
-/// A successor of a point. `why` is the rule by which the lock at `to` makes that of the point needed; `None` where the lock is the same.
-#[derive(Clone, Copy)]
-pub(crate) struct Way {
-    pub(crate) to: Point,
-    pub(crate) why: Option<Why>,
+/// Whether the path of an expression ends with that of another behind a `*`.
+fn ends_behind_star(expr: &Expr, end: &Expr) -> bool {
+    let (ops, end) = (expr.path.as_slice(), end.path.as_slice());
+    let Some(front) = ops.strip_suffix(end) else {
+        return false;
+    };
+    front.last().copied() == Some(Op::Deref)
 }
 
-impl Searcher {
-    /// Sees to it that there is a table of what is called at a point.
-    pub(crate) fn enter(
-        &mut self,
-        analysis: &ExplainAnalysis,
-        point: Point,
-    ) -> Result<(), AllocError> {
-        if let Some(Instr::Call { function, .. }) = analysis
-            .lowering
-            .code()
-            .get(usize::from(point.pc))
-        {
-            if let Some(Some(place)) = self.bodies.get(usize::from(*function)) {
-                let place = *place;
-                self.prepare(analysis, place, Region::Body(*function), *function)?;
-            }
-        }
-        Ok(())
+/// Whether the first lock, after the instruction, may become the second before it, as far as is told at once.
+fn may_become(instr: &Instr, after: &Lock, before: &Lock) -> bool {
+    if after.effect() != before.effect() {
+        return false;
     }
+    match (instr, after, before) {
+        (Instr::Store { .. }, Lock::Expr(expr, _), Lock::Expr(end, _)) => {
+            ends_behind_star(expr, end)
+        }
+        _ => true,
+    }
+}
 
-    /// The ways on from a point.
-    pub(crate) fn ways(
+impl Graph {
+    /// Adds the ways on from a point.
+    pub(crate) fn add_ways(
         &self,
         analysis: &ExplainAnalysis,
         point: Point,
-    ) -> Result<Vec<Way>, AllocError>
+        ways: &mut Vec<Way>,
+    ) -> Result<(), AllocError>
         requires { IsAnalysed analysis.now }
     {
-        let mut ways = Vec::new(self.alloc);
         let (Some(table), Some(lock)) = (self.table_of(point.place), lock_of(analysis, point))
         else {
-            return Ok(ways);
+            return Ok(());
         };
         let pc = usize::from(point.pc);
         let lowering = &analysis.lowering;
         if pc >= lowering.code().len() {
-            return Ok(ways);
+            return Ok(());
         }
         let instr = &lowering.code()[pc];
         let view = analysis.view(table.function);
         for next in lowering.successors(point.pc).as_slice() {
-            self.add_linked(analysis, &view, instr, table, point, lock, *next, &mut ways)?;
+            self.add_kept(analysis, &view, instr, point, lock, *next, ways)?;
+            self.add_linked(analysis, &view, instr, table, point, lock, *next, ways)?;
         }
-        self.add_entry(analysis, instr, point, lock, &mut ways)?;
-        self.add_longer(analysis, table, point, &mut ways)?;
-        Ok(ways)
+        self.add_entry(analysis, instr, point, lock, ways)?;
+        self.add_longer(analysis, table, point, ways)
     }
 
     /// Adds the ways to the locks at the same pc whose evaluation reads the cell of the point's.
-    pub(crate) fn add_longer(
+    fn add_longer(
         &self,
         analysis: &ExplainAnalysis,
         table: &RegionTable,
@@ -92,7 +88,7 @@ impl Searcher {
     }
 
     /// Adds the way to the entry of the function that is called at a point.
-    pub(crate) fn add_entry(
+    fn add_entry(
         &self,
         analysis: &ExplainAnalysis,
         instr: &Instr,
@@ -112,11 +108,11 @@ impl Searcher {
         let Some(callee) = lowering.functions().get(usize::from(function)) else {
             return Ok(());
         };
-        let Some(Some(place)) = self.bodies.get(usize::from(function)) else {
+        let Some(place) = self.body(function) else {
             return Ok(());
         };
         if let Some(entered) = entered_back(first, callee.params, lock)? {
-            if let Some(to) = needed_point(analysis, *place, lowering.start(function), &entered) {
+            if let Some(to) = needed_point(analysis, place, lowering.start(function), &entered) {
                 ways.push(Way {
                     to,
                     why: Some(Why::Entered),
@@ -126,13 +122,12 @@ impl Searcher {
         Ok(())
     }
 
-    /// Adds the ways over an instruction to the locks after it that become the point's.
-    pub(crate) fn add_linked(
+    /// Adds the way over an instruction to the same lock, if it stays.
+    fn add_kept(
         &self,
         analysis: &ExplainAnalysis,
         view: &LinkContext,
         instr: &Instr,
-        table: &RegionTable,
         point: Point,
         lock: &Lock,
         next: u16,
@@ -145,38 +140,47 @@ impl Searcher {
                 ways.push(Way { to, why: None })?;
             }
         }
+        Ok(())
+    }
+
+    /// Adds the ways over an instruction to the other locks after it that become the point's.
+    fn add_linked(
+        &self,
+        analysis: &ExplainAnalysis,
+        view: &LinkContext,
+        instr: &Instr,
+        table: &RegionTable,
+        point: Point,
+        lock: &Lock,
+        next: u16,
+        ways: &mut Vec<Way>,
+    ) -> Result<(), AllocError>
+        requires { view.now.k_limit ≤ 8 }
+    {
         if let Some(after) = based_back(instr, lock) {
             if let Some(number) = analysis.flow.number(usize::from(point.place), &after) {
                 self.add_changed(analysis, view, instr, point, lock, next, number, ways)?;
             }
         }
-        match (instr, lock) {
+        let numbers = match (instr, lock) {
             (Instr::Store { from, .. }, Lock::Expr(expr, _)) if expr.base == Base::Reg(*from) => {
-                for number in &table.starred {
-                    let number = usize::from(*number);
-                    self.add_changed(analysis, view, instr, point, lock, next, number, ways)?;
-                }
+                table.starred.as_slice()
             }
-            (Instr::FieldAddress { .. } | Instr::Load { .. }, Lock::Class(_, _)) => {
-                for number in &table.full {
-                    let number = usize::from(*number);
-                    self.add_changed(analysis, view, instr, point, lock, next, number, ways)?;
-                }
+            (Instr::FieldAddress { to, .. } | Instr::Load { to, .. }, Lock::Class(class, _)) => {
+                table.full(*to, *class)
             }
-            (Instr::Call { .. }, Lock::Class(class, _)) => {
-                for (number, own) in table.classes.iter().enumerate() {
-                    if *own == Some(*class) {
-                        self.add_changed(analysis, view, instr, point, lock, next, number, ways)?;
-                    }
-                }
-            }
-            _ => {}
+            (Instr::Call { .. }, Lock::Class(class, _)) => table.members(*class),
+            _ => return Ok(()),
+        };
+        for number in numbers {
+            let number = usize::from(*number);
+            self.add_changed(analysis, view, instr, point, lock, next, number, ways)?;
         }
         Ok(())
     }
 
     /// Adds the way over an instruction to another lock after it, if that is needed there and becomes the point's.
-    pub(crate) fn add_changed(
+    fn add_changed(
         &self,
         analysis: &ExplainAnalysis,
         view: &LinkContext,
@@ -192,13 +196,16 @@ impl Searcher {
         if number == usize::from(point.number) {
             return Ok(());
         }
+        let Some(after) = analysis.flow.locks(usize::from(point.place)).get(number) else {
+            return Ok(());
+        };
+        if !may_become(instr, after, lock) {
+            return Ok(());
+        }
         let Some(to) = point_of(analysis, point.place, next, number) else {
             return Ok(());
         };
-        let Some(after) = lock_of(analysis, to) else {
-            return Ok(());
-        };
-        if is_link(self.alloc, view, instr, after, lock)? {
+        if !stays(view, instr, after) && is_link(self.alloc, view, instr, after, lock)? {
             ways.push(Way {
                 to,
                 why: Some(Why::Linked),

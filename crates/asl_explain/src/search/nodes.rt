@@ -1,0 +1,197 @@
+//! The points that searches came to, each with the ways on from it, so that later searches find them again.
+
+use crate::explained_value::Why;
+use crate::search::point::Point;
+use std::alloc::{AllocError, Global};
+use std::collections::HashMap;
+
+/// So many points are kept from search to search.
+const MOST_KEPT: usize = 262144;
+
+/// What a search has passed on its way: changes of the lock first, then instructions.
+#[derive(Clone, Copy, PartialEq, Eq, PartialOrd, Ord)]
+pub(crate) struct Cost {
+    pub(crate) changes: u32,
+    pub(crate) instructions: u32,
+}
+
+/// How the last search that came to a point came there.
+#[derive(Clone, Copy)]
+pub(crate) struct Visit {
+    /// The number of the search; no search has the number 0.
+    pub(crate) search: u32,
+    pub(crate) cost: Cost,
+    /// The last change on the way.
+    pub(crate) last: Option<usize>,
+    /// Whether the search has looked where the point leads.
+    pub(crate) is_done: bool,
+}
+
+/// A way on from a point. `why` is the rule by which the lock at `to` makes that of the point needed; `None` where the lock is the
+/// same.
+#[derive(Clone, Copy)]
+pub(crate) struct Way {
+    pub(crate) to: Point,
+    pub(crate) why: Option<Why>,
+}
+
+/// A way to the point of a number, over so many instructions.
+#[derive(Clone, Copy)]
+pub(crate) struct Edge {
+    pub(crate) to: usize,
+    pub(crate) instructions: u32,
+    pub(crate) why: Option<Why>,
+}
+
+/// What is known of where a point leads.
+#[derive(Clone, Copy)]
+pub(crate) struct Onward {
+    /// Where its edges lie among all.
+    pub(crate) first: usize,
+    pub(crate) end: usize,
+    /// Whether its instruction needs the lock itself.
+    pub(crate) is_access: bool,
+}
+
+/// A point that is kept.
+#[derive(Clone, Copy)]
+struct Node {
+    point: Point,
+    visit: Visit,
+    onward: Option<Onward>,
+}
+
+/// The points that are kept, by their numbers.
+#[derive(Drop)]
+pub(crate) struct Nodes {
+    nodes: Vec<Node>,
+    numbers: HashMap<Point, usize>,
+    edges: Vec<Edge>,
+}
+
+/// A point to which no search came.
+fn new_node(point: Point) -> Node {
+    Node {
+        point,
+        visit: Visit {
+            search: 0,
+            cost: Cost {
+                changes: 0,
+                instructions: 0,
+            },
+            last: None,
+            is_done: false,
+        },
+        onward: None,
+    }
+}
+
+impl Cost {
+    /// The cost after an edge more.
+    pub(crate) fn after(self, edge: Edge) -> Cost {
+        let changed = if edge.why.is_some() { 1 } else { 0 };
+        Cost {
+            changes: self.changes.saturating_add(changed),
+            instructions: self.instructions.saturating_add(edge.instructions),
+        }
+    }
+}
+
+impl Nodes {
+    /// No points.
+    pub(crate) fn new(alloc: Global) -> Nodes {
+        Nodes {
+            nodes: Vec::new(alloc),
+            numbers: HashMap::new(alloc),
+            edges: Vec::new(alloc),
+        }
+    }
+
+    /// Whether there are too many points to be kept.
+    pub(crate) fn is_full(&self) -> bool {
+        self.nodes.len() > MOST_KEPT
+    }
+
+    /// The number of a point, which is kept from now on.
+    pub(crate) fn number(&mut self, point: Point) -> Result<usize, AllocError> {
+        if let Some(number) = self.numbers.get(&point) {
+            return Ok(*number);
+        }
+        let number = self.nodes.len();
+        self.nodes.push(new_node(point))?;
+        self.numbers.insert(point, number)?;
+        Ok(number)
+    }
+
+    /// The point of a number, if the search has not come to it, or only at a higher cost and without looking where it leads.
+    pub(crate) fn nearer(&self, number: usize, search: u32, cost: Cost) -> Option<Point> {
+        let node = self.nodes.get(number)?;
+        let visit = node.visit;
+        if visit.search == search && (visit.is_done || visit.cost <= cost) {
+            return None;
+        }
+        Some(node.point)
+    }
+
+    /// Notes how a search came to the point of a number.
+    pub(crate) fn visit(&mut self, number: usize, visit: Visit) {
+        if let Some(node) = self.nodes.get_mut(number) {
+            node.visit = visit;
+        }
+    }
+
+    /// How the search came to the point of a number, where it has not looked yet where that leads: now it does.
+    pub(crate) fn leave(&mut self, number: usize) -> Option<Visit> {
+        let node = self.nodes.get_mut(number)?;
+        let visit = node.visit;
+        if visit.is_done {
+            return None;
+        }
+        node.visit.is_done = true;
+        Some(visit)
+    }
+
+    /// Where the point of a number leads, if that is known.
+    pub(crate) fn onward(&self, number: usize) -> Option<Onward> {
+        self.nodes.get(number)?.onward
+    }
+
+    /// Notes where the point of a number leads: the edges from a place on.
+    pub(crate) fn know(&mut self, number: usize, first: usize, is_access: bool) -> Onward {
+        let onward = Onward {
+            first,
+            end: self.edges.len(),
+            is_access,
+        };
+        if let Some(node) = self.nodes.get_mut(number) {
+            node.onward = Some(onward);
+        }
+        onward
+    }
+
+    /// How many edges there are.
+    pub(crate) fn count(&self) -> usize {
+        self.edges.len()
+    }
+
+    /// Adds an edge to a point.
+    pub(crate) fn add(
+        &mut self,
+        to: Point,
+        instructions: u32,
+        why: Option<Why>,
+    ) -> Result<(), AllocError> {
+        let to = self.number(to)?;
+        self.edges.push(Edge {
+            to,
+            instructions,
+            why,
+        })?;
+        Ok(())
+    }
+
+    /// The edge at a place.
+    pub(crate) fn edge(&self, place: usize) -> Option<Edge> {
+        self.edges.get(place).copied()
+    }
+}
