@@ -12,7 +12,7 @@ use crate::explained_value::Explanation;
 use crate::fault::ExplainFault;
 use crate::making::explanation_of;
 use crate::source_places::places_of;
-use crate::text::Teller;
+use crate::text::{Teller, most_explained};
 use asl_emitter::InferFault;
 use asl_map::map_of;
 use asl_syntax::parse;
@@ -46,7 +46,7 @@ pub fn explain(alloc: Global, source: &[u8], k: u32) -> Result<Explanation, Expl
     ensures refused { IfErr result (IsRefusedExplanation source.now k) }
 {
     let analysis = analysis_of(alloc, source, k)?;
-    match explanation_of(alloc, &analysis) {
+    match explanation_of(alloc, &analysis, usize::MAX) {
         Ok(explanation) => Ok(explanation),
         Err(_) => Err(ExplainFault::Infer(InferFault::OutOfMemory)),
     }
@@ -80,7 +80,7 @@ fn told(
     requires { IsAnalysed analysis.now }
     ensures { IfOk result (λ text. IsTextOf analysis.now (string_bytes text)) }
 {
-    let explanation = explanation_of(alloc, analysis)?;
+    let explanation = explanation_of(alloc, analysis, most_explained(all))?;
     let Ok(map) = map_of(alloc, source) else {
         return Err(AllocError);
     };

@@ -111,7 +111,8 @@ fn needs_of(
     ensures locks { IfOk result (λ needs. (n : AnyLock) → IsOneOf needs n ↔ IsOne locks.now n) }
     ensures same { IfOk result (λ needs. locks_of needs ≡ locks.now) }
 {
-    let mut needs = Vec::new(alloc);
+    let mut needs = Vec::with_capacity(alloc, locks.len())?;
+    searcher.begin_needs();
     for lock in locks {
         needs.push(find_need(alloc, analysis, searcher, number, section, lock)?)?;
     }
@@ -200,13 +201,18 @@ fn explained_sections(
     Ok(Items::from_vec(sections))
 }
 
-/// Why the lists of a program are as they are.
-pub fn explanation_of(alloc: Global, analysis: &ExplainAnalysis) -> Result<Explanation, AllocError>
+/// Why the lists of a program are as they are, with the chains of so many needs under a lock of a list, the first of them.
+pub fn explanation_of(
+    alloc: Global,
+    analysis: &ExplainAnalysis,
+    most: usize,
+) -> Result<Explanation, AllocError>
     requires { IsAnalysed analysis.now }
     ensures { IfOk result (IsMade analysis.now) }
 {
     let own = lists(alloc, &analysis.lowering, &analysis.classes, &analysis.flow)?;
     let mut searcher = Searcher::new(alloc, analysis)?;
+    searcher.tell_first(most);
     Ok(Explanation {
         sections: explained_sections(alloc, analysis, &mut searcher, own.as_slice())?,
         ended: ended_of_sections(alloc, analysis, &mut searcher)?,

@@ -64,6 +64,10 @@ pub struct Searcher {
     /// The ways on from the point that is looked at.
     ways: Vec<Way>,
     search: LockSearch,
+    /// Of how many needs under a lock of a list chains are told.
+    most: usize,
+    /// Of how many of these needs chains are still to be told.
+    left: usize,
 }
 
 /// No search of a program of so many instructions.
@@ -129,10 +133,23 @@ impl Searcher {
             nodes: Nodes::new(alloc),
             ways: Vec::new(alloc),
             search: no_search(alloc, analysis.lowering.code().len())?,
+            most: usize::MAX,
+            left: usize::MAX,
         })
     }
 
-    /// The chains of a lock that the section of a number needs at its start, one for each statement that needs it, the cheapest first.
+    /// From now on chains are told of the first needs under a lock of a list alone, so many of them.
+    pub fn tell_first(&mut self, most: usize) {
+        self.most = most;
+    }
+
+    /// Begins with the needs under another lock of a list.
+    pub fn begin_needs(&mut self) {
+        self.left = self.most;
+    }
+
+    /// The chains of a lock that the section of a number needs at its start, one for each statement that needs it, the cheapest first;
+    /// none where those of enough needs are told.
     pub fn chains(
         &mut self,
         analysis: &ExplainAnalysis,
@@ -142,6 +159,10 @@ impl Searcher {
     ) -> Result<Vec<Chain>, AllocError>
         requires { IsAnalysed analysis.now }
     {
+        if self.left == 0 {
+            return Ok(Vec::new(self.alloc));
+        }
+        self.left = self.left.saturating_sub(1);
         self.begin();
         if let Some(place) = self
             .graph

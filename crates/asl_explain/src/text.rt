@@ -14,8 +14,11 @@ use asl_lower::Section;
 use std::alloc::{AllocError, Global};
 use std::fmt::Write;
 
-/// The most members of a class, or locks under another, that are named where not all are to be.
+/// The most members of a class, or statements, that are named where not all are to be.
 const MAX_NAMED: usize = 8;
+
+/// Of how many locks under another the statements are named where not all are to be.
+const MAX_CONTAINED: usize = 6;
 
 /// What stands in place of the line and the statement of an instruction.
 const NO_PLACE: &str = "                                       ";
@@ -28,6 +31,11 @@ pub struct Teller<'a> {
     pub places: &'a Places<'a>,
     /// Whether every chain is reported.
     pub all: bool,
+}
+
+/// Of how many locks under another chains are told: of one the chain itself, and of others the statements.
+pub fn most_explained(all: bool) -> usize {
+    if all { usize::MAX } else { MAX_CONTAINED + 1 }
 }
 
 /// A number of a table, each of which has at most 65,536.

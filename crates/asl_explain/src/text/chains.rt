@@ -2,7 +2,9 @@
 
 use crate::explained_value::{Chain, Listed, Need, Step, Why};
 use crate::notes::note_of;
-use crate::text::{MAX_NAMED, NO_PLACE, Teller, narrow, pad, pad_behind, plural, write_line};
+use crate::text::{
+    MAX_CONTAINED, MAX_NAMED, NO_PLACE, Teller, narrow, pad, pad_behind, plural, write_line,
+};
 use asl_code::{Base, Lock};
 use std::alloc::{AllocError, Global};
 use std::fmt::Write;
@@ -121,13 +123,11 @@ impl Teller<'_> {
         for need in ordered(self.alloc, listed)? {
             let mut statements = statements_of(self.alloc, need, is_first)?;
             is_first = is_first && need.chains.len() == 0;
-            if statements.len() > 0 {
-                if told < 6 {
-                    told += 1;
-                    self.push_other(text, function, listed, need, &mut statements)?;
-                } else {
-                    left = left.saturating_add(1);
-                }
+            if told == MAX_CONTAINED {
+                left = left.saturating_add(1);
+            } else if statements.len() > 0 {
+                told = told.saturating_add(1);
+                self.push_other(text, function, listed, need, &mut statements)?;
             }
         }
         push_left(text, left)
