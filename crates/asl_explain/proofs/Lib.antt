@@ -8,3 +8,5 @@ mod Explaining
 mod Pieces
 mod Walking
 mod Reasons
+mod Lengthening
+mod Short

@@ -3,4 +3,5 @@ pub mod Explained
 pub mod Told
 -- Machinery of the proofs, not of the promise:
 pub mod Analysed
+pub mod Lengths
 pub mod Telling

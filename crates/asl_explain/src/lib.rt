@@ -18,6 +18,7 @@ mod making;
 mod notes;
 mod region_table;
 mod search;
+mod short_paths;
 mod source_places;
 mod stretch;
 mod text;

@@ -1,17 +1,60 @@
 //! The lists of a program for each length of paths.
 ghost use Rattle.std.specs.Prelude.{◌≡◌, ◌≤◌, IfOk, OnOk, length};
-ghost use Rattle.asl_explain.specs.declared.explained_value.Lists.TheVariants.{Inferred};
+ghost use Rattle.asl_emitter.specs.BuiltImage.{AreFitted};
 ghost use Rattle.asl_explain.specs.Analysed.{IsAnalysed, AreEachFitted, AreFittedAt};
 
 use crate::explain_analysis::ExplainAnalysis;
 use crate::explained_value::Lists;
+use crate::links::copied;
+use crate::short_paths::are_needs_below;
 use asl_backward_flow::{FlowFault, needed};
 use asl_code::{Items, Lock};
 use asl_emitter::lists;
 use std::alloc::{AllocError, Global};
 
-/// The lists with paths of at most so many operations.
-fn lists_at(alloc: Global, analysis: &ExplainAnalysis, k_limit: u32) -> Result<Lists, AllocError>
+/// The same list.
+fn same_list(alloc: Global, list: &[Lock]) -> Result<Items<Lock>, AllocError>
+    ensures { IfOk result (λ copy. copy ≡ list.now) }
+{
+    let mut copies = Vec::with_capacity(alloc, list.len())?;
+    for lock in list {
+        copies.push(copied(lock)?)?;
+    }
+    Ok(Items::from_vec(copies))
+}
+
+/// The same lists.
+fn same_lists(alloc: Global, lists: &[Items<Lock>]) -> Result<Items<Items<Lock>>, AllocError>
+    ensures { IfOk result (λ copies. copies ≡ lists.now) }
+{
+    let mut copies = Vec::with_capacity(alloc, lists.len())?;
+    for list in lists {
+        copies.push(same_list(alloc, list.as_slice())?)?;
+    }
+    Ok(Items::from_vec(copies))
+}
+
+/// The lists with paths of at most so many operations: these, which are those of the analysis, where all that is needed has shorter
+/// paths.
+fn lists_at(
+    alloc: Global,
+    analysis: &ExplainAnalysis,
+    own: &[Items<Lock>],
+    k_limit: u32,
+) -> Result<Lists, AllocError>
+    requires analysed { IsAnalysed analysis.now }
+    requires own { AreFitted analysis.now.lowering analysis.now.classes analysis.now.flow (length analysis.now.lowering.sections) own.now }
+    requires short { k_limit ≤ 8 }
+    ensures { IfOk result (AreFittedAt analysis.now.lowering analysis.now.classes k_limit) }
+{
+    if are_needs_below(analysis, k_limit.min(analysis.k_limit) as usize) {
+        return Ok(Lists::Inferred(same_lists(alloc, own)?));
+    }
+    inferred_at(alloc, analysis, k_limit)
+}
+
+/// The lists that are inferred with paths of at most so many operations.
+fn inferred_at(alloc: Global, analysis: &ExplainAnalysis, k_limit: u32) -> Result<Lists, AllocError>
     requires analysed { IsAnalysed analysis.now }
     requires short { k_limit ≤ 8 }
     ensures { IfOk result (AreFittedAt analysis.now.lowering analysis.now.classes k_limit) }
@@ -28,11 +71,13 @@ fn lists_at(alloc: Global, analysis: &ExplainAnalysis, k_limit: u32) -> Result<L
 fn add_lists(
     alloc: Global,
     analysis: &ExplainAnalysis,
+    own: &[Items<Lock>],
     first: u32,
     last: u32,
     by_length: &mut Vec<Lists>,
 ) -> Result<(), AllocError>
     requires analysed { IsAnalysed analysis.now }
+    requires own { AreFitted analysis.now.lowering analysis.now.classes analysis.now.flow (length analysis.now.lowering.sections) own.now }
     requires order { first ≤ last }
     requires short { last ≤ 9 }
     requires count { length by_length.old.items ≡ first }
@@ -41,7 +86,7 @@ fn add_lists(
     ensures each { OnOk result (AreEachFitted analysis.now.lowering analysis.now.classes by_length.new.items) }
 {
     for k_limit in first..last {
-        by_length.push(lists_at(alloc, analysis, k_limit)?)?;
+        by_length.push(lists_at(alloc, analysis, own, k_limit)?)?;
     }
     Ok(())
 }
@@ -53,13 +98,21 @@ pub(crate) fn by_length(
     own: Items<Items<Lock>>,
 ) -> Result<Items<Lists>, AllocError>
     requires analysed { IsAnalysed analysis.now }
-    requires own { AreFittedAt analysis.now.lowering analysis.now.classes analysis.now.k_limit (Inferred own) }
+    requires own { AreFitted analysis.now.lowering analysis.now.classes analysis.now.flow (length analysis.now.lowering.sections) own }
     ensures count { IfOk result (λ lists. length lists ≡ 9) }
     ensures each { IfOk result (AreEachFitted analysis.now.lowering analysis.now.classes) }
 {
     let mut by_length = Vec::new(alloc);
-    add_lists(alloc, analysis, 0, analysis.k_limit, &mut by_length)?;
-    by_length.push(Lists::Inferred(own))?;
-    add_lists(alloc, analysis, analysis.k_limit + 1, 9, &mut by_length)?;
+    let k_limit = analysis.k_limit;
+    add_lists(alloc, analysis, own.as_slice(), 0, k_limit, &mut by_length)?;
+    by_length.push(Lists::Inferred(same_lists(alloc, own.as_slice())?))?;
+    add_lists(
+        alloc,
+        analysis,
+        own.as_slice(),
+        k_limit + 1,
+        9,
+        &mut by_length,
+    )?;
     Ok(Items::from_vec(by_length))
 }

@@ -1,0 +1,158 @@
+-- What is needed is the same for other lengths of paths, where all that is needed has shorter ones than both.
+use Rattle.std.proofs.Common.{◌≡◌, ⊎_elim, ℕ, suc, zero, ◌+◌, ◌<◌, ◌≤◌, ◌&&◌, ◌++◌, Bool, true, false, cond, List, [], ◌∷◌, Option, Some, None, length, slice_get, refl, ap, ap₂, sym, ◌∙◌, subst, inl, inr, arith, le-leb}
+use Rattle.std.specs.Prelude.{nat_le, nat_lt, option_and_then}
+use Rattle.std.specs.List.{flat_map}
+use Rattle.asl_code.specs.declared.instr.Instr.{Instr}
+use Rattle.asl_code.specs.declared.instr.Instr.TheVariants as instr
+use Rattle.asl_code.specs.declared.value.Effect.{Effect}
+use Rattle.asl_code.specs.declared.value.Effect.TheVariants.{Read, Write}
+use Rattle.asl_code.specs.declared.lock.Base.{Base}
+use Rattle.asl_code.specs.declared.lock.Base.TheVariants.{Reg, Global}
+use Rattle.asl_code.specs.declared.lock.Expr.{Expr}
+use Rattle.asl_code.specs.declared.lock.Lock.{Lock}
+use Rattle.asl_code.specs.declared.lock.Lock.TheVariants as lock
+use Rattle.asl_code.specs.declared.path.Op.{Op}
+use Rattle.asl_code.specs.declared.path.Op.TheVariants.{Deref, Off}
+use Rattle.asl_lower.specs.Lowered.{Lowered}
+use Rattle.asl_lower.specs.Regions.{Region, Body}
+use Rattle.asl_points_to.specs.Classes.{Classed, to}
+use Rattle.asl_lock_expr.specs.ClassOf.{base_class, step_class, class_of}
+use Rattle.asl_lock_expr.specs.Links.{view, IsOne, on, class_lock, settled, settle, is_register, is_star, is_class, begins_with_star, hits, replaced, before, link, accesses, renamed, renamed_on}
+use Rattle.asl_lock_expr.proofs.Ones.{one_either}
+use Rattle.asl_backward_flow.specs.Needed.{Needed, NeedsMany, RegionNeeds, Accessed, Linked, Entered, Before}
+use Rattle.asl_backward_flow.specs.Flows.{IsFlow}
+use Rattle.asl_explain.specs.Lengths.{IsBelow}
+
+-- an expression has at most so many operations
+abbrev Fits : ℕ → Lock → Type 0
+Fits n (lock.Expr e effect) = length e.path ≤ n
+Fits n (lock.Class class effect) = Unit {0}
+Fits n (lock.Root effect) = Unit {0}
+
+abbrev AllFit : ℕ → List Lock → Type 0
+AllFit n locks = (m : Lock) → IsOne locks m → Fits n m
+
+none_fit : (n : ℕ) → AllFit n []
+none_fit n m o = absurd o
+
+one_fits : (n : ℕ) (l : Lock) → Fits n l → AllFit n (l ∷ [])
+one_fits n l fits m (inl is) = subst (Fits n) is fits
+one_fits n l fits m (inr o) = absurd o
+
+both_fit : (n : ℕ) (ms ns : List Lock) → AllFit n ms → AllFit n ns → AllFit n (ms ++ ns)
+both_fit n ms ns a b m o = ⊎_elim (λ x. a m x) (λ y. b m y) (one_either ms ns m o)
+
+either_fit : (n : ℕ) (b : Bool) (ms ns : List Lock) → AllFit n ms → AllFit n ns → AllFit n (cond b ms ns)
+either_fit n true ms ns x y = x
+either_fit n false ms ns x y = y
+
+class_fits : (n : ℕ) (effect : Effect) (o : Option ℕ) → AllFit n (class_lock effect o)
+class_fits n effect None = none_fit n
+class_fits n effect (Some x) = one_fits n (lock.Class x effect) tt
+
+replaced_fit : (n a : ℕ) (e : Expr) (effect : Effect) (locks : List Lock) → length e.path ≤ n → AllFit n locks → AllFit n (replaced a e effect locks)
+replaced_fit n a e effect locks le all = either_fit n (is_register a e.base) locks (lock.Expr e effect ∷ []) all (one_fits n (lock.Expr e effect) le)
+
+module _ (c : Classed) (s : ℕ → ℕ → Bool) (f n : ℕ) where
+  hits_fit : (b : ℕ) (hit : Option ℕ) (effect : Effect) (class : Option ℕ) (ops : List Op) → length ops ≤ n → AllFit n (hits c hit b effect class ops)
+  hits_fit b hit effect class [] le = none_fit n
+  hits_fit b hit effect class (op ∷ ops) le =
+      both_fit n (cond (is_star op && is_class class hit) (on (Reg b) ops effect ∷ []) []) (hits c hit b effect (option_and_then (step_class c op) class) ops)
+      (either_fit n (is_star op && is_class class hit) (on (Reg b) ops effect ∷ []) [] (one_fits n (on (Reg b) ops effect) (omega (arith, le))) (none_fit n))
+      (hits_fit b hit effect (option_and_then (step_class c op) class) ops (omega (arith, le)))
+
+  -- what an expression becomes has at most one operation more
+  before_fit : (k : ℕ) (i : Instr) (e : Expr) (effect : Effect) → length e.path < n → AllFit n (before (view c s k f) i e effect)
+  before_fit k (instr.Move a b) e effect lt = replaced_fit n a e effect _ (omega (arith, lt)) (one_fits n (on (Reg b) e.path effect) (omega (arith, lt)))
+  before_fit k (instr.GlobalAddress a g) e effect lt = replaced_fit n a e effect _ (omega (arith, lt)) (one_fits n (on (Global g) e.path effect) (omega (arith, lt)))
+  before_fit k (instr.FieldAddress a b d) e effect lt = replaced_fit n a e effect _ (omega (arith, lt)) (one_fits n (on (Reg b) (Off d ∷ e.path) effect) (omega (arith, lt)))
+  before_fit k (instr.Load a b) e effect lt = replaced_fit n a e effect _ (omega (arith, lt)) (one_fits n (on (Reg b) (Deref ∷ e.path) effect) (omega (arith, lt)))
+  before_fit k (instr.SetInt a m) e effect lt = replaced_fit n a e effect [] (omega (arith, lt)) (none_fit n)
+  before_fit k (instr.SetNull a) e effect lt = replaced_fit n a e effect [] (omega (arith, lt)) (none_fit n)
+  before_fit k (instr.Add a x y) e effect lt = replaced_fit n a e effect [] (omega (arith, lt)) (none_fit n)
+  before_fit k (instr.Subtract a x y) e effect lt = replaced_fit n a e effect [] (omega (arith, lt)) (none_fit n)
+  before_fit k (instr.LessThan a x y) e effect lt = replaced_fit n a e effect [] (omega (arith, lt)) (none_fit n)
+  before_fit k (instr.Equals a x y) e effect lt = replaced_fit n a e effect [] (omega (arith, lt)) (none_fit n)
+  before_fit k (instr.New a m x) e effect lt = replaced_fit n a e effect [] (omega (arith, lt)) (none_fit n)
+  before_fit k (instr.Store a b) e effect lt =
+      both_fit n (cond (is_register a e.base && begins_with_star e.path) [] (lock.Expr e effect ∷ [])) (hits c (to c f a) b effect (base_class c f e.base) e.path)
+      (either_fit n (is_register a e.base && begins_with_star e.path) [] (lock.Expr e effect ∷ []) (none_fit n) (one_fits n (lock.Expr e effect) (omega (arith, lt))))
+      (hits_fit b (to c f a) effect (base_class c f e.base) e.path (omega (arith, lt)))
+  before_fit k (instr.Call a b g) e effect lt =
+      either_fit n _ (class_lock effect (class_of c f e)) (lock.Expr e effect ∷ []) (class_fits n effect (class_of c f e)) (one_fits n (lock.Expr e effect) (omega (arith, lt)))
+  before_fit k i e effect lt = one_fits n (lock.Expr e effect) (omega (arith, lt))
+
+renamed_fit : (n first params : ℕ) (m : Lock) → IsBelow n m → AllFit n (renamed first params m)
+renamed_fit n first params (lock.Root effect) below = one_fits n (lock.Root effect) tt
+renamed_fit n first params (lock.Class x effect) below = one_fits n (lock.Class x effect) tt
+renamed_fit n first params (lock.Expr e effect) below = by e.base
+  where
+    by : (b : Base) → AllFit n (renamed_on first params b e.path effect)
+    by (Reg r) = either_fit n (nat_lt r params) (on (Reg (first + r)) e.path effect ∷ []) [] (one_fits n (on (Reg (first + r)) e.path effect) (omega (arith, below))) (none_fit n)
+    by (Global g) = one_fits n (on (Global g) e.path effect) (omega (arith, below))
+
+-- two lengths, neither of which is below a third
+module _ (c : Classed) (s : ℕ → ℕ → Bool) (n j k : ℕ) (to_j : n ≤ j) (to_k : n ≤ k) (f : ℕ) where
+  settled_same : (e : Expr) (effect : Effect) (o : Option ℕ) → length e.path ≤ n → settled (view c s j f) e effect o ≡ settled (view c s k f) e effect o
+  settled_same e effect None le = refl
+  settled_same e effect (Some x) le =
+      ap (λ b. cond b (lock.Expr e effect) (lock.Class x effect) ∷ []) (le-leb (length e.path) j (omega (arith, le, to_j)) ∙ sym (le-leb (length e.path) k (omega (arith, le, to_k))))
+
+  settle_same : (m : Lock) → Fits n m → settle (view c s j f) m ≡ settle (view c s k f) m
+  settle_same (lock.Root effect) fits = refl
+  settle_same (lock.Class x effect) fits = refl
+  settle_same (lock.Expr e effect) fits = settled_same e effect (class_of c f e) fits
+
+  all_same : (ms : List Lock) → AllFit n ms → flat_map (settle (view c s j f)) ms ≡ flat_map (settle (view c s k f)) ms
+  all_same [] all = refl
+  all_same (m ∷ ms) all = ap₂ (λ a b. a ++ b) (settle_same m (all m (inl refl))) (all_same ms (λ l o. all l (inr o)))
+
+  before_same : (i : Instr) (e : Expr) (effect : Effect) → before (view c s j f) i e effect ≡ before (view c s k f) i e effect
+  before_same (instr.Store a b) e effect = refl
+  before_same i e effect = refl
+
+  link_same : (i : Instr) (m : Lock) → IsBelow n m → link (view c s j f) i m ≡ link (view c s k f) i m
+  link_same i (lock.Root effect) below = refl
+  link_same i (lock.Class x effect) below = refl
+  link_same i (lock.Expr e effect) below =
+      all_same (before (view c s j f) i e effect) (before_fit c s f n j i e effect below) ∙ ap (flat_map (settle (view c s k f))) (before_same i e effect)
+
+  accesses_same : (i : Instr) → accesses (view c s j f) i ≡ accesses (view c s k f) i
+  accesses_same (instr.Load a b) = settle_same (on (Reg b) [] Read) (omega arith)
+  accesses_same (instr.Store a b) = settle_same (on (Reg a) [] Write) (omega arith)
+  accesses_same i = refl
+
+module _ (l : Lowered) (c : Classed) (s : ℕ → ℕ → Bool) (n j k : ℕ) (to_j : n ≤ j) (to_k : n ≤ k) (short : (r : Region) (pc : ℕ) (m : Lock) → Needed l c s j r pc m → IsBelow n m) where
+  there : (r : Region) (pc : ℕ) (m : Lock) → Needed l c s j r pc m → Needed l c s k r pc m
+  there _ _ _ (Accessed r f pc i m isin at o) = Accessed r f pc i m isin at (subst (λ ms. IsOne ms m) (accesses_same c s n j k to_j to_k f i) o)
+  there _ _ _ (Linked r f pc next i p m isin at goes h o) =
+      Linked r f pc next i p m isin at goes (there r next p h) (subst (λ ms. IsOne ms m) (link_same c s n j k to_j to_k f i p (short r next p h)) o)
+  there _ _ _ (Entered r f pc a first g callee p q m isin at called h o d) =
+      Entered r f pc a first g callee p q m isin at called (there (Body g) _ p h) o
+      (subst (λ ms. IsOne ms m) (settle_same c s n j k to_j to_k f q (renamed_fit n first callee.params p (short (Body g) _ p h) q o)) d)
+  there _ _ _ (Before r pc p m h o) = Before r pc p m (there r pc p h) o
+
+  back : (r : Region) (pc : ℕ) (m : Lock) → Needed l c s k r pc m → Needed l c s j r pc m
+  back _ _ _ (Accessed r f pc i m isin at o) = Accessed r f pc i m isin at (subst (λ ms. IsOne ms m) (sym (accesses_same c s n j k to_j to_k f i)) o)
+  back _ _ _ (Linked r f pc next i p m isin at goes h o) =
+      let b = back r next p h in
+      Linked r f pc next i p m isin at goes b (subst (λ ms. IsOne ms m) (sym (link_same c s n j k to_j to_k f i p (short r next p b))) o)
+  back _ _ _ (Entered r f pc a first g callee p q m isin at called h o d) =
+      let b = back (Body g) _ p h in
+      Entered r f pc a first g callee p q m isin at called b o
+      (subst (λ ms. IsOne ms m) (sym (settle_same c s n j k to_j to_k f q (renamed_fit n first callee.params p (short (Body g) _ p b) q o))) d)
+  back _ _ _ (Before r pc p m h o) = Before r pc p m (back r pc p h) o
+
+-- a flow is that of another length, too
+pub same_flow : (l : Lowered) (c : Classed) (n j k : ℕ) (parts : List RegionNeeds) → n ≤ j → n ≤ k → (flow : IsFlow l c j parts)
+    → ((r : Region) (pc : ℕ) (m : Lock) → Needed l c flow.stores j r pc m → IsBelow n m) → IsFlow l c k parts
+same_flow l c n j k parts to_j to_k flow short =
+    let on_there = there l c flow.stores n j k to_j to_k short in
+    let on_back = back l c flow.stores n j k to_j to_k short in record {
+      stores = flow.stores;
+      written = flow.written;
+      tells = λ r pc m. (λ t. on_there r pc m ((flow.tells r pc m).0 t), λ h. (flow.tells r pc m).1 (on_back r pc m h));
+      apart = flow.apart;
+      few = λ r many.
+          flow.few r (record { locks = many.locks; many = many.many; different = many.different; needed = λ i m at. let h = many.needed i m at in (h.0, on_back r h.0 m h.1) });
+    }

@@ -1,0 +1,77 @@
+//! Whether all that is needed has shorter paths than there may be, so that it is the same with longer ones.
+ghost use Rattle.std.specs.Prelude.{◌≡◌, ◌≤◌, IsTrue, IfOk, length};
+ghost use Rattle.asl_lower.specs.Regions.{Inside, Body};
+ghost use Rattle.asl_backward_flow.specs.Needed.{AreParts, region_of};
+ghost use Rattle.asl_explain.specs.Analysed.{read, IsAnalysed};
+ghost use Rattle.asl_explain.specs.Lengths.{IsBelow, AreBelow, IsRegionBelow, AreSectionsBelow, AreBodiesBelow, AreNeedsBelow};
+
+use crate::explain_analysis::ExplainAnalysis;
+use asl_backward_flow::{Flow, Region};
+use asl_code::Lock;
+
+/// Whether the lock has a path of fewer operations than so many, if it is on an expression.
+fn is_below(limit: usize, lock: &Lock) -> bool
+    ensures { IsTrue result → IsBelow limit lock.now }
+{
+    match lock {
+        Lock::Root(_) | Lock::Class(_, _) => true,
+        Lock::Expr(expr, _) => expr.path.len() < limit,
+    }
+}
+
+/// So each of these locks.
+fn are_below(limit: usize, locks: &[Lock]) -> bool
+    ensures { IsTrue result → AreBelow limit locks.now }
+{
+    for number in 0..locks.len() {
+        if !is_below(limit, &locks[number]) {
+            return false;
+        }
+    }
+    true
+}
+
+/// So each lock that a region needs.
+fn is_region_below(flow: &Flow, limit: usize, region: Region) -> bool
+    requires { AreParts flow.now }
+    ensures { IsTrue result → IsRegionBelow flow.now limit (region_of region) }
+{
+    match flow.place(region) {
+        Some(place) => are_below(limit, flow.locks(place)),
+        None => true,
+    }
+}
+
+/// So each lock that a section needs.
+fn are_sections_below(analysis: &ExplainAnalysis, limit: usize) -> bool
+    requires { IsAnalysed analysis.now }
+    ensures { IsTrue result → AreSectionsBelow analysis.now.flow limit (length analysis.now.lowering.sections) }
+{
+    for number in 0..analysis.lowering.sections().len() {
+        if !is_region_below(&analysis.flow, limit, Region::Section(number as u16)) {
+            return false;
+        }
+    }
+    true
+}
+
+/// So each lock that the body of a function needs.
+fn are_bodies_below(analysis: &ExplainAnalysis, limit: usize) -> bool
+    requires { IsAnalysed analysis.now }
+    ensures { IsTrue result → AreBodiesBelow analysis.now.flow limit (length analysis.now.lowering.functions) }
+{
+    for number in 0..analysis.lowering.functions().len() {
+        if !is_region_below(&analysis.flow, limit, Region::Body(number as u16)) {
+            return false;
+        }
+    }
+    true
+}
+
+/// Whether all that is needed has paths of fewer operations than so many.
+pub fn are_needs_below(analysis: &ExplainAnalysis, limit: usize) -> bool
+    requires { IsAnalysed analysis.now }
+    ensures { IsTrue result → AreNeedsBelow (read analysis.now) limit }
+{
+    are_sections_below(analysis, limit) && are_bodies_below(analysis, limit)
+}
