@@ -19,6 +19,9 @@ const FEW: usize = 2048;
 /// Into how many parts statements are divided.
 const PARTS: usize = 16;
 
+/// So many parts are tried together first.
+const HALF: usize = 8;
+
 /// How often they are divided: a program has fewer statements than so many parts of parts.
 const DIVISIONS: usize = 5;
 
@@ -162,7 +165,7 @@ fn brought(
 }
 
 /// Of the parts of these statements the one without which the fewest locks are left, if it brings most of them, and the number of
-/// its first statement.
+/// its first statement. Where half of the parts do not bring most of the locks together, none of them is tried alone.
 fn best_part(
     alloc: Global,
     text: &[u8],
@@ -175,11 +178,18 @@ fn best_part(
 {
     let size = lines.len().saturating_add(PARTS - 1) / PARTS;
     let mut best: Option<(Bringers, usize)> = None;
+    let mut is_tried = false;
     for part in 0..PARTS {
         let from = size.saturating_mul(part);
-        if let Some(found) = brought(alloc, text, region, k, part_of(lines, from, size))? {
-            if best.map_or(true, |other| found.left < other.0.left) {
-                best = Some((found, from));
+        if part % HALF == 0 {
+            let half = part_of(lines, from, size.saturating_mul(HALF));
+            is_tried = brought(alloc, text, region, k, half)?.is_some();
+        }
+        if is_tried {
+            if let Some(found) = brought(alloc, text, region, k, part_of(lines, from, size))? {
+                if best.map_or(true, |other| found.left < other.0.left) {
+                    best = Some((found, from));
+                }
             }
         }
     }
