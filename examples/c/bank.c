@@ -140,7 +140,7 @@ typedef struct {
 static void ask(request *all, asl_ask one) {
   for (size_t i = 0; i < all->count; i++) {
     asl_ask *other = &all->asks[i];
-    if (other->kind == one.kind && other->klass == one.klass && other->object == one.object) {
+    if (other->kind == one.kind && other->klass == one.klass && other->object == one.object && other->offset == one.offset) {
       other->mode |= one.mode;
       return;
     }
