@@ -270,7 +270,7 @@ build_crates() {
 
 needs_kit() {
   local version
-  command -v rt >/dev/null || { echo "asl: the command rt of the Rattle kit is needed to build" >&2; exit 1; }
+  command -v rt >/dev/null || { echo 'asl: the command rt of the Rattle kit is needed to build; README.md, "Try it", has ways without it' >&2; exit 1; }
   version=$(rt version) || :
   [[ $version == *" logic $logic" ]] ||
     { echo "asl: a Rattle kit of the logic $logic is needed to build; rt version says: $version" >&2; exit 1; }
