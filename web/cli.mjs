@@ -70,4 +70,15 @@ async function moduleOfPage() {
   return gunzipSync(fromBase85(letters));
 }
 
-run(await loadAsl(MODULE ? readFileSync(MODULE) : await moduleOfPage()), process.argv.slice(2));
+// Node before 24 takes a 64-bit memory only where it is asked to.
+async function loaded() {
+  try {
+    return await loadAsl(MODULE ? readFileSync(MODULE) : await moduleOfPage());
+  } catch (error) {
+    if (/memory64/.test(error.message)) return end(2, 'asl: Node before 24 needs the option --experimental-wasm-memory64\n');
+    throw error;
+  }
+}
+
+const asl = await loaded();
+if (asl) run(asl, process.argv.slice(2));
