@@ -1,4 +1,4 @@
-"""The words that a script of tests/ takes. `--help` prints the line of its text that begins with `usage: `, with status 0; after
+"""The words that a script takes. `--help` prints the line of its text that begins with `usage: `, with status 0; after
 words that it does not know that line goes to standard error, with status 2. Nothing has begun by then. usage.sh is for shells."""
 import argparse
 import re

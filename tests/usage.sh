@@ -1,4 +1,4 @@
-# The words that a script of tests/ takes, which reads this before it begins. `--help` prints the line of its head that begins with
+# The words that a script takes, which reads this before it begins. `--help` prints the line of its head that begins with
 # `usage: `, with status 0; after words that it does not know that line goes to standard error, with status 2. Each `[` of the line
 # stands for a number that may be given. usage.py is for scripts in Python.
 usage=$(sed -n '/^# usage: /{s/^# //p;q;}' "${BASH_SOURCE[1]}")
