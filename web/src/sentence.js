@@ -1,6 +1,6 @@
 // What the last event did, in one sentence; and which comes next.
 
-import { el, chip } from './dom.js';
+import { el, chip, count } from './dom.js';
 import { differenceAt } from './difference.js';
 import { sectionAt } from './stretches.js';
 import { listAt } from './program.js';
@@ -89,7 +89,7 @@ function ran(bench, event) {
   if (change.op === 'call') say('calls ', code(names.functionAt(thread.pc)));
   for (const o of change.objects) {
     const fresh = thread.fresh.includes(o) ? ', fresh: it needs no lock before the section ends' : '';
-    say(`makes ${names.object(o)}, ${state.objects[o].length} cells, class ${run.classOf(bench.position, o)}${fresh}`);
+    say(`makes ${names.object(o)}, ${count(state.objects[o].length, 'cell')}, class ${run.classOf(bench.position, o)}${fresh}`);
   }
   for (const r of change.objects.length ? [] : change.registers)
     say(code(names.registerAt(thread.pc, r)), ' is now ', strong(names.value(thread.registers[r])));
