@@ -1,33 +1,39 @@
+-- sets, lists and rows
 mod Sets
 mod ReplacedLists
 mod Tables
-mod Additions
 mod Marks
-mod Blanks
-mod Steps
-mod SpanLaws
 mod Rows
 mod CallRows
 mod JumpRows
-mod Adding
-mod Numbering
-mod Points
-mod Each
-mod Fronts
-mod Befores
-mod Masking
-mod Linking
-mod Splitting
-mod Entries
-pub mod Leasts
-mod Sound
-mod Closing
-mod Waits
-mod Completing
-mod Tellings
-mod SetNeeds
 mod Listing
 mod LockNumbers
+-- one addition to what is found, and many
+mod Blanks
+mod Additions
+mod Numbering
+mod Steps
+mod Adding
+mod Each
+-- points of regions, and those that wait
+mod SpanLaws
+mod Points
+mod Waits
+mod Befores
+-- what locks become over an instruction, at calls and at entries
+mod Fronts
+mod Masking
+mod Splitting
+mod Linking
+mod Entries
+-- only what is needed is found, and all of it
+mod Sound
+mod Closing
+mod Completing
+pub mod Leasts
+-- what is found is told, and what is needed by the definition
+mod SetNeeds
+mod Tellings
 pub mod Basing
 pub mod Ending
 pub mod Alike
