@@ -96,7 +96,7 @@ impl<'p> Debugger<'p> {
         }
     }
 
-    /// Goes to position k.
+    /// Goes to position k. Where it is there already, no memory is wanted.
     ///
     /// # Errors
     ///
@@ -104,6 +104,7 @@ impl<'p> Debugger<'p> {
     pub fn goto(&mut self, alloc: Global, k: u32) -> Result<(), DebugFault>
         ensures moves { OnOk result (self.new ≡ moved self.old k) }
         ensures none { IsErrOf result DebugFault.NoSuchStep ↔ (length self.old.log.events < k) }
+        ensures here { k ≡ self.old.position → IsOk result }
         ensures other { IfErr result (λ fault. (fault ≡ DebugFault.NoSuchStep) ⊎ (fault ≡ DebugFault.OutOfMemory)) }
         ensures err { OnErr result (self.new ≡ self.old) }
     {

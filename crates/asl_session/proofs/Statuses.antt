@@ -1,6 +1,6 @@
 -- What the status of a call tells, from what its answer tells.
 use Rattle.std.proofs.Common.{◌≡◌, ◌≢◌, ℕ, ◌+◌, ◌<◌, ◌≤◌, ◌⊎◌, length, refl, arith}
-use Rattle.std.specs.Prelude.{◌↔◌, Result, Ok, Err, IfOk, OnOk, OnErr, IsErrOf}
+use Rattle.std.specs.Prelude.{◌↔◌, Result, Ok, Err, IfOk, IsOk, OnOk, OnErr, IsErrOf}
 use Rattle.asl_machine.specs.declared.reply.Reply.{Reply}
 use Rattle.asl_journal.specs.Journal.{IsJournal, most_events, with_event}
 use Rattle.asl_debugger.specs.declared.fault.StepFault.{StepFault}
@@ -124,10 +124,15 @@ move_other (Err (debug.Differs index)) = λ e. omega arith
 move_other (Err debug.OutOfMemory) = λ e. omega arith
 move_other (Err debug.BadCount) = λ e. omega arith
 
+move_done : (a : Result (Unit {0}) DebugFault) → IsOk a → move_status a ≡ 0
+move_done (Ok done) is = refl
+move_done (Err fault) is = absurd cc
+
 pub moved_to : (s wanted new : Session) (k : ℕ) (a : Result (Unit {0}) DebugFault) → OnOk a (new ≡ wanted) → (IsErrOf a debug.NoSuchStep ↔ (length s.log.events < k)) → OnErr a (new ≡ s)
-    → IsMovedTo s wanted k (move_status a) new
-moved_to s wanted new k a made none err = record {
+    → (k ≡ s.position → IsOk a) → IsMovedTo s wanted k (move_status a) new
+moved_to s wanted new k a made none err here = record {
   done = move_made (new ≡ wanted) a made;
+  here = λ same. move_done a (here same);
   none = through (none_told a) none;
   other = move_others a;
   same = move_kept (new ≡ s) a err;

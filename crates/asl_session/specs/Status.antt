@@ -42,9 +42,11 @@ pub record IsStepped (s : Session) (t status : ℕ) (new : Session) : Type 0 whe
   pub other : (status ≡ 0) ⊎ (status ≡ 2) ⊎ (status ≡ 4) ⊎ (status ≡ 14) ⊎ (status ≡ 15)
   pub same : status ≢ 0 → new ≡ s
 
--- 0: this is left. Else nothing has changed, and it is 13: there is no such position; else 2: there was no memory
+-- 0: this is left, and it is no other where the session is at the position. Else nothing has changed, and it is 13: there is no such
+-- position; else 2: there was no memory
 pub record IsMovedTo (s wanted : Session) (k status : ℕ) (new : Session) : Type 0 where
   pub done : status ≡ 0 → new ≡ wanted
+  pub here : k ≡ s.position → status ≡ 0
   pub none : (status ≡ 13) ↔ (length s.log.events < k)
   pub other : (status ≡ 0) ⊎ (status ≡ 2) ⊎ (status ≡ 13)
   pub same : status ≢ 0 → new ≡ s

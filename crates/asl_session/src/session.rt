@@ -1,5 +1,5 @@
 //! A program and a debugger over it that records.
-ghost use Rattle.std.specs.Prelude.{◌≡◌, ◌≢◌, ◌<◌, ◌≤◌, ◌+◌, ◌↔◌, ◌⊎◌, [], length, take, IfOk, IfErr, IsErrOf, OnOk, OnErr, string_bytes};
+ghost use Rattle.std.specs.Prelude.{◌≡◌, ◌≢◌, ◌<◌, ◌≤◌, ◌+◌, ◌↔◌, ◌⊎◌, [], length, take, IfOk, IfErr, IsErrOf, IsOk, OnOk, OnErr, string_bytes};
 ghost use Rattle.asl_code.specs.Versions.{most_threads};
 ghost use Rattle.asl_machine.specs.Run.{IsThreadCount};
 ghost use Rattle.asl_journal.specs.Journal.{IsJournal, most_events, with_event};
@@ -93,6 +93,7 @@ impl Session {
         ensures none { IsErrOf result.1 DebugFault.NoSuchStep ↔ (length self.log.events < call.1) }
         ensures other { IfErr result.1 (λ fault. (fault ≡ DebugFault.NoSuchStep) ⊎ (fault ≡ DebugFault.OutOfMemory)) }
         ensures err { OnErr result.1 (result.0 ≡ self) }
+        ensures here { call.1 ≡ self.position → IsOk result.1 }
     {
         let (alloc, k) = call;
         let Session { program, debugger } = self;
@@ -108,6 +109,7 @@ impl Session {
         ensures none { IsErrOf result.1 DebugFault.NoSuchStep ↔ (length self.log.events < call.1) }
         ensures other { IfErr result.1 (λ fault. (fault ≡ DebugFault.NoSuchStep) ⊎ (fault ≡ DebugFault.OutOfMemory)) }
         ensures err { OnErr result.1 (result.0 ≡ self) }
+        ensures here { call.1 ≡ self.position → IsOk result.1 }
     {
         let (alloc, k) = call;
         let Session { program, debugger } = self;
@@ -202,6 +204,7 @@ fn first(alloc: Global, program: &Program, threads: u32) -> Result<PausedDebugge
 fn go_and_cut(alloc: Global, debugger: &mut Debugger<'_>, k: u32) -> Result<(), DebugFault>
     ensures cuts { OnOk result (debugger.new ≡ recorded debugger.old (record { threads = debugger.old.log.threads; events = take k debugger.old.log.events }) k) }
     ensures none { IsErrOf result DebugFault.NoSuchStep ↔ (length debugger.old.log.events < k) }
+    ensures here { k ≡ debugger.old.position → IsOk result }
     ensures other { IfErr result (λ fault. (fault ≡ DebugFault.NoSuchStep) ⊎ (fault ≡ DebugFault.OutOfMemory)) }
     ensures err { OnErr result (debugger.new ≡ debugger.old) }
 {

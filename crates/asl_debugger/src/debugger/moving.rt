@@ -1,5 +1,5 @@
 //! Moves: the way to a position from the nearest copy of the machine before it.
-ghost use Rattle.std.specs.Prelude.{◌≡◌, ◌<◌, ◌≤◌, length, IfErr, IfOk, OnErr, OnOk};
+ghost use Rattle.std.specs.Prelude.{◌≡◌, ◌<◌, ◌≤◌, length, IfErr, IfOk, IsOk, OnErr, OnOk};
 
 use crate::checkpoints::{machine_between, machine_of};
 use crate::debugger::Debugger;
@@ -12,13 +12,18 @@ impl<'p> Debugger<'p> {
     ghost use Rattle.asl_debugger.specs.Computed.{machine_before};
     ghost use Rattle.asl_debugger.specs.Session.{moved};
 
-    /// Goes to position k. A move back leaves marks on its way, and keeps no others than those between the checkpoint before k and k.
+    /// Goes to position k; where it is there, nothing is done. A move back leaves marks on its way, and keeps no others than those between
+    /// the checkpoint before k and k.
     pub(crate) fn show(&mut self, alloc: Global, k: u32) -> Result<(), DebugFault>
         requires { k ≤ length self.old.log.events }
         ensures moves { OnOk result (self.new ≡ moved self.old k) }
+        ensures here { k ≡ self.old.position → IsOk result }
         ensures memory { IfErr result (λ fault. fault ≡ DebugFault.OutOfMemory) }
         ensures err { OnErr result (self.new ≡ self.old) }
     {
+        if k == self.position {
+            return Ok(());
+        }
         if k < self.position {
             return self.go_back(alloc, k);
         }
