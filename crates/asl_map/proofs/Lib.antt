@@ -9,3 +9,6 @@ pub mod Standing
 pub mod Placing
 pub mod Mapping
 pub mod Covering
+pub mod SamePieces
+pub mod OneMap
+pub mod NoRefusal

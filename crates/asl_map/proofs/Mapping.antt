@@ -1,5 +1,5 @@
 -- A map that was made is the map of its source.
-use Rattle.std.proofs.Common.{◌≡◌, ℕ, suc, ◌+◌, ◌-◌, List, [], ◌∷◌, length, map, drop, Some, slice_get, refl, sym, ap, ◌∙◌, subst, arith, length-append}
+use Rattle.std.proofs.Common.{◌≡◌, ℕ, suc, ◌+◌, ◌-◌, ◌≤◌, List, [], ◌∷◌, length, map, drop, Some, slice_get, refl, sym, ap, ◌∙◌, subst, arith, length-append}
 use Rattle.asl_grammar.specs.declared.token.Mark.TheVariants as mark
 use Rattle.asl_grammar.specs.Token.{Token, Fixed, Name, Spot}
 use Rattle.asl_grammar.specs.Grammar.{bare}
@@ -11,6 +11,7 @@ use Rattle.asl_syntax.specs.Spelled.{block_meaning, function_meaning, item_meani
 use Rattle.asl_syntax.specs.Parsed.{Parses}
 use Rattle.asl_lower.specs.Lowered.{Lowered, IsLowering}
 use Rattle.asl_lower.specs.Place.{Place, origin, past_block, past_function}
+use Rattle.asl_lower.specs.Refused.{HasRoom}
 use Rattle.asl_lower.specs.Size.{functions_size}
 use Rattle.asl_lower.proofs.Sized.{block_sized, functions_sized}
 use Rattle.asl_lower.proofs.Slices.{StandAt, splits, stands_whole}
@@ -21,10 +22,10 @@ use Rattle.asl_map.specs.declared.text_piece.Named.{Named}
 use Rattle.asl_map.specs.declared.text_piece.Piece.{Piece}
 use Rattle.asl_map.specs.Pieces.{first_place, piece, behind}
 use Rattle.asl_map.specs.Taken.{past_end, piece_of}
-use Rattle.asl_map.specs.Placed.{head_of, IsPlacedBlock, IsPlacedFunction, ArePlaced}
+use Rattle.asl_map.specs.Placed.{head_of, HasPiece, IsPlacedBlock, IsPlacedFunction, ArePlaced}
 use Rattle.asl_map.specs.Walked.{block_pieces, return_rest, function_rest, function_pieces, named_of, items_pieces, items_named}
 use Rattle.asl_map.specs.BuiltMap.{IsMade}
-use Rattle.asl_map.specs.Mapped.{IsMapped}
+use Rattle.asl_map.specs.Mapped.{HasNoBareAccess, IsMapped}
 use Rattle.asl_map.proofs.StatementTokens.{Ends, ends, names_on_append, names_none, block_count}
 use Rattle.asl_map.proofs.Standing.{Left, block_left, drop_one, left_end, left_more}
 use Rattle.asl_map.proofs.Placing.{block_many, piece_is, block_placed}
@@ -32,12 +33,12 @@ use Rattle.asl_map.proofs.Placing.{block_many, piece_is, block_placed}
 -- ---- functions
 
 -- what stands before the brace of a body
-abbrev front : w.Function → List Token
+abbrev pub front : w.Function → List Token
 front f =
     Fixed mark.Fn ∷ Name f.name ∷ Fixed mark.OpenParen ∷ names_on f.parameters (Fixed mark.CloseParen ∷ [])
 
 -- what stands after the body
-abbrev tail : w.Function → List Token → List Token
+abbrev pub tail : w.Function → List Token → List Token
 tail f rest =
     Fixed mark.Return ∷ Name f.returned ∷ Fixed mark.Semicolon ∷ Fixed mark.CloseBrace ∷ rest
 
@@ -58,15 +59,15 @@ head_ends f rest ss e =
     (e ∙ ap (λ (ts : List Token). Fixed mark.Fn ∷ Name f.name ∷ Fixed mark.OpenParen ∷ ts) (names_on_append f.parameters (Fixed mark.OpenBrace ∷ block_on f.body (tail f rest))))
 
 -- a function, token by token
-record Parts (f : w.Function) (rest : List Token) (ss : List Spot) : Type 0 where
-  head : Ends (front f) (block_on f.body (tail f rest)) ss
-  inside : Left (suc (length (front f))) (block_on f.body (tail f rest)) ss (past_end ss)
-  body : Left (length (block_on f.body [])) (tail f rest) (past_end ss) (return_rest (function_meaning f) ss)
-  returns : Ends (Fixed mark.Return ∷ Name f.returned ∷ []) (Fixed mark.CloseBrace ∷ rest) (return_rest (function_meaning f) ss)
-  last : Left (length (function_on f []) - 1) (Fixed mark.CloseBrace ∷ rest) ss (past_end (return_rest (function_meaning f) ss))
-  whole : Left (length (function_on f [])) rest ss (function_rest (function_meaning f) ss)
+pub record Parts (f : w.Function) (rest : List Token) (ss : List Spot) : Type 0 where
+  pub head : Ends (front f) (block_on f.body (tail f rest)) ss
+  pub inside : Left (suc (length (front f))) (block_on f.body (tail f rest)) ss (past_end ss)
+  pub body : Left (length (block_on f.body [])) (tail f rest) (past_end ss) (return_rest (function_meaning f) ss)
+  pub returns : Ends (Fixed mark.Return ∷ Name f.returned ∷ []) (Fixed mark.CloseBrace ∷ rest) (return_rest (function_meaning f) ss)
+  pub last : Left (length (function_on f []) - 1) (Fixed mark.CloseBrace ∷ rest) ss (past_end (return_rest (function_meaning f) ss))
+  pub whole : Left (length (function_on f [])) rest ss (function_rest (function_meaning f) ss)
 
-parts_of : (f : w.Function) (rest : List Token) (ss : List Spot) → bare ss ≡ function_on f rest → Parts f rest ss
+pub parts_of : (f : w.Function) (rest : List Token) (ss : List Spot) → bare ss ≡ function_on f rest → Parts f rest ss
 parts_of f rest ss e =
     let r = return_rest (function_meaning f) ss in
     let head = head_ends f rest ss e in
@@ -86,24 +87,37 @@ parts_of f rest ss e =
       whole = left_more (length (function_on f []) - 1) 1 (length (function_on f [])) (Fixed mark.CloseBrace ∷ rest) rest ss (past_end r) (drop 1 (past_end r)) (omega (arith, function_count f)) last (drop_one (Fixed mark.CloseBrace) rest (past_end r) last.tokens);
     }
 
-function_many : (f : w.Function) (ss : List Spot) (p : Place) → p.pc + length (function_pieces (function_meaning f) ss) ≡ (past_function (function_meaning f) p).pc
+pub function_many : (f : w.Function) (ss : List Spot) (p : Place) → p.pc + length (function_pieces (function_meaning f) ss) ≡ (past_function (function_meaning f) p).pc
 function_many f ss p =
     omega (arith, length-append (block_pieces (block_meaning f.body) (past_end ss)) (piece_of kind.Return (return_rest (function_meaning f) ss) ∷ []), block_many (block_meaning f.body) (past_end ss), block_sized (block_meaning f.body) p)
+
+-- the body and the `return` of a function have their pieces
+pub record Laid (pieces : List Piece) (f : w.Function) (ss : List Spot) (p : Place) : Type 0 where
+  pub body : IsPlacedBlock pieces f.body (behind (head_of f) ss) p
+  pub returns : HasPiece pieces (past_block (block_meaning f.body) p) (piece kind.Return 3 (behind (block_on f.body []) (behind (head_of f) ss)))
+
+pub function_laid : (f : w.Function) (pieces : List Piece) (rest : List Token) (ss : List Spot) (p : Place) → Parts f rest ss → StandAt pieces p.pc (function_pieces (function_meaning f) ss) → Laid pieces f ss p
+function_laid f pieces rest ss p t stand =
+    let B = block_meaning f.body in
+    let split = splits pieces p.pc (past_block B p).pc (block_pieces B (past_end ss)) _ (omega (arith, block_many B (past_end ss), block_sized B p)) stand in
+    let there : past_end ss ≡ behind (head_of f) ss = t.inside.behind ∙ ap (λ (n : ℕ). drop n ss) (sym (head_count f)) in
+    let Body : List Spot → Type 0 = λ r. IsPlacedBlock pieces f.body r p in
+    record {
+      body = subst Body there (block_placed f.body pieces (tail f rest) (past_end ss) p refl t.inside.tokens split.0);
+      returns = split.1.0
+          ∙ ap Some (piece_is kind.Return (Fixed mark.Return ∷ Name f.returned ∷ []) (Fixed mark.CloseBrace ∷ rest) (return_rest (function_meaning f) ss) 3 refl t.returns)
+          ∙ ap (λ (r : List Spot). Some (piece kind.Return 3 r)) (t.body.behind ∙ ap (λ (r : List Spot). behind (block_on f.body []) r) there);
+    }
 
 function_placed : (f : w.Function) (m : Map) (number : ℕ) (rest : List Token) (ss : List Spot) (p : Place) → Parts f rest ss → slice_get m.functions.items number ≡ Some (named_of (function_meaning f) ss)
     → StandAt m.pieces.items p.pc (function_pieces (function_meaning f) ss) → IsPlacedFunction m number f ss p
 function_placed f m number rest ss p t named stand =
-    let B = block_meaning f.body in
-    let split = splits m.pieces.items p.pc (past_block B p).pc (block_pieces B (past_end ss)) _ (omega (arith, block_many B (past_end ss), block_sized B p)) stand in
-    let there : past_end ss ≡ behind (head_of f) ss = t.inside.behind ∙ ap (λ (n : ℕ). drop n ss) (sym (head_count f)) in
-    let Body : List Spot → Type 0 = λ r. IsPlacedBlock m.pieces.items f.body r p in
+    let laid = function_laid f m.pieces.items rest ss p t stand in
     let ends_at : ℕ → Named = λ n. record { name = f.name; from = first_place ss; to = n + 1 } in
     record {
       stands = named ∙ ap (λ (r : List Spot). Some (ends_at (first_place r))) t.last.behind;
-      body = subst Body there (block_placed f.body m.pieces.items (tail f rest) (past_end ss) p refl t.inside.tokens split.0);
-      returns = split.1.0
-          ∙ ap Some (piece_is kind.Return (Fixed mark.Return ∷ Name f.returned ∷ []) (Fixed mark.CloseBrace ∷ rest) (return_rest (function_meaning f) ss) 3 refl t.returns)
-          ∙ ap (λ (r : List Spot). Some (piece kind.Return 3 r)) (t.body.behind ∙ ap (λ (r : List Spot). behind (block_on f.body []) r) there);
+      body = laid.body;
+      returns = laid.returns;
     }
 
 -- ---- programs
@@ -124,19 +138,19 @@ items_placed (w.FunctionItem f ∷ is) m number ss p e pieces named =
       subst P t.whole.behind (items_placed is m (suc number) (function_rest g ss) (past_function g p) t.whole.tokens split.1 named.1),
     )
 
-items_many : (is : List Item) (ss : List Spot) → length (items_pieces is ss) ≡ functions_size (functions_of is)
+pub items_many : (is : List Item) (ss : List Spot) → length (items_pieces is ss) ≡ functions_size (functions_of is)
 items_many [] ss = refl
 items_many (GlobalItem x ∷ is) ss = items_many is (past_end ss)
 items_many (FunctionItem f ∷ is) ss =
     omega (arith, length-append (function_pieces f ss) (items_pieces is (function_rest f ss)), length-append (block_pieces f.body (past_end ss)) (piece_of kind.Return (return_rest f ss) ∷ []), block_many f.body (past_end ss), items_many is (function_rest f ss))
 
-named_many : (is : List Item) (ss : List Spot) → length (items_named is ss) ≡ length (functions_of is)
+pub named_many : (is : List Item) (ss : List Spot) → length (items_named is ss) ≡ length (functions_of is)
 named_many [] ss = refl
 named_many (GlobalItem x ∷ is) ss = named_many is (past_end ss)
 named_many (FunctionItem f ∷ is) ss = ap suc (named_many is (function_rest f ss))
 
-pub mapped_is : (source : List ℕ) (tree : List Item) (l : Lowered) (c : Classed) (m : Map) → Parses source tree → IsLowering tree l → AreClasses l c → IsMade source tree l c m → IsMapped source m
-mapped_is source tree l c m parses lowering classes made =
+pub mapped_is : (source : List ℕ) (tree : List Item) (l : Lowered) (c : Classed) (m : Map) → Parses source tree → IsLowering tree l → HasRoom tree → HasNoBareAccess l → AreClasses l c → c.count ≤ 1024 → IsMade source tree l c m → IsMapped source m
+mapped_is source tree l c m parses lowering room inside classes few made =
     let ss = tokens_of source in
     let spells = parses.spelled.spelled in
     let AtPieces : List Piece → Type 0 = λ ys. StandAt m.pieces.items 0 ys in
@@ -146,8 +160,11 @@ mapped_is source tree l c m parses lowering classes made =
       parses = parses;
       lowered = l;
       lowering = lowering;
+      room = room;
+      inside = inside;
       classed = c;
       classes = classes;
+      few = few;
       names = made.names;
       reached = made.reached;
       members = made.members;

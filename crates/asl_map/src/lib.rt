@@ -16,7 +16,9 @@ mod walker;
 mod whole;
 
 pub use fault::MapFault;
-pub use laws::each_instruction_is_of_a_statement;
+pub use laws::{
+    a_source_has_one_map, a_source_with_a_map_has_no_refusal, each_instruction_is_of_a_statement,
+};
 pub use map::Map;
 pub use map_text::spell;
 pub use text_piece::{Area, Kind, Named, Piece};
