@@ -3,11 +3,11 @@ use Rattle.std.specs.Prelude.{◌≡◌, ◌⊎◌, ℕ, List, Option, codes}
 use Rattle.asl_tool.specs.Tool.{EndsWith}
 use Rattle.asl.specs.CommandLine.{AreGiven, HasNoText}
 
--- what is said of words of which one is no text
+-- what is said of words of which one is not UTF-8
 abbrev pub no_text : List ℕ
-no_text = codes "error: a word of the command line is no text\n\nFor more information, try '--help'.\n"
+no_text = codes "error: a word of the command line is not UTF-8\n\nFor more information, try '--help'.\n"
 
--- the process ends as the tool does with the words after its name, or one of these is no text; then the streams that it reads
+-- the process ends as the tool does with the words after its name, or one of these is not UTF-8; then the streams that it reads
 -- and writes are the very values that they were. `tells` stands for what the contracts put there: that standard error got this text,
 -- or, where its writer failed, a first part of it
 abbrev pub EndsProcess : Option (List (List ℕ)) → Type 0 → Type 0 → (List ℕ → Type 0) → Option (List ℕ) → Option (List ℕ) → Option (List ℕ) → ℕ → Type 0

@@ -58,7 +58,7 @@ fn say_not_text<E: Write>(errors: &mut E) -> u8
     ensures told { AppendsPart (E.contents errors.old) (E.contents errors.new) no_text }
 {
     let text =
-        "error: a word of the command line is no text\n\nFor more information, try '--help'.\n";
+        "error: a word of the command line is not UTF-8\n\nFor more information, try '--help'.\n";
     let _ = write_whole(errors, text.as_bytes());
     2
 }

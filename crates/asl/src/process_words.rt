@@ -13,7 +13,7 @@ const FIRST_ROOM: usize = 24;
 /// Why a process has no words.
 #[derive(Clone, Copy)]
 pub enum WordsFault {
-    /// A word is no text.
+    /// A word is not UTF-8.
     NotText,
     /// Memory ran out.
     OutOfMemory,

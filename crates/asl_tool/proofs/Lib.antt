@@ -15,3 +15,4 @@ mod OneAnswer
 mod Outcomes
 pub mod Weaker
 mod Telling
+mod OverMemory

@@ -14,3 +14,4 @@ pub mod Work
 pub mod FaultLine
 pub mod Ending
 pub mod Tool
+pub mod Memory

@@ -3,8 +3,11 @@
 use Rattle.std.specs.Prelude.{ℕ, ◌<◌, ◌≤◌, List, Option, take, length, IfSome}
 use Rattle.asl_tool.specs.declared.streams.ReadFault.{ReadFault}
 use Rattle.asl_tool.specs.declared.streams.ReadFault.TheVariants as fault
-use Rattle.asl_tool.specs.declared.streams.TheConstants.{MAX_INPUT}
 use Rattle.std.specs.Io.KnownBytes.{Appends}
+
+-- the most bytes that an input may have
+abbrev pub most_input : ℕ
+most_input = 268435456
 
 -- known bytes grow by a first part of the bytes
 abbrev pub AppendsPart : Option (List ℕ) → Option (List ℕ) → List ℕ → Type 0
@@ -13,6 +16,6 @@ AppendsPart old new bytes = (count : ℕ) × Appends old new (take count bytes)
 -- an input that is too long has more bytes than the limit, and one for which memory ran out has no more, where that is known;
 -- of a reader that fails nothing is said
 abbrev pub IsReadFault : Option (List ℕ) → ReadFault → Type 0
-IsReadFault known fault.TooLong = IfSome known (λ bytes. MAX_INPUT < length bytes)
+IsReadFault known fault.TooLong = IfSome known (λ bytes. most_input < length bytes)
 IsReadFault known fault.Read = Unit {0}
-IsReadFault known fault.OutOfMemory = IfSome known (λ bytes. length bytes ≤ MAX_INPUT)
+IsReadFault known fault.OutOfMemory = IfSome known (λ bytes. length bytes ≤ most_input)

@@ -11,12 +11,11 @@ use Rattle.asl_words.specs.declared.command.Invocation.{Invocation}
 use Rattle.asl_words.specs.declared.command.Invocation.TheVariants.{Alone, Run, Help, Version, WrongUsage}
 use Rattle.asl_words.specs.Words.{AsksFor}
 use Rattle.asl_tool.specs.declared.command_fault.CommandFault.{CommandFault}
-use Rattle.asl_tool.specs.declared.streams.TheConstants.{MAX_INPUT}
 use Rattle.asl_tool.specs.declared.streams.WriteFault.{WriteFault}
 use Rattle.asl_tool.specs.declared.tool_fault.ToolFault.{ToolFault}
 use Rattle.asl_tool.specs.declared.tool_fault.ToolFault.TheVariants as fault
 use Rattle.asl_tool.specs.FaultLine.{fault_line}
-use Rattle.asl_tool.specs.Streams.{AppendsPart, IsReadFault}
+use Rattle.asl_tool.specs.Streams.{AppendsPart, IsReadFault, most_input}
 use Rattle.asl_tool.specs.Command.{IsOutput, IsRunFile, IsRefusedCommand}
 use Rattle.asl_tool.specs.Work.{IsWorkOutput, IsRefusedWork}
 
@@ -35,7 +34,7 @@ of_team team = record { output = IsWorkOutput team; refusal = IsRefusedWork team
 
 -- the input is all that the reader had, where that is known, and no longer than an input may be
 abbrev pub IsWhole : Option (List ℕ) → List ℕ → Type 0
-IsWhole known input = IfSome known (λ bytes. input ≡ bytes) × (length input ≤ MAX_INPUT)
+IsWhole known input = IfSome known (λ bytes. input ≡ bytes) × (length input ≤ most_input)
 
 -- the writer got the command's output for the input
 pub record WritesOutput (known old new : Option (List ℕ)) (promise : Promise) : Type 0 where

@@ -1,11 +1,10 @@
 //! How a run of the program ends: with a status, and with what is said of it.
-ghost use Rattle.std.specs.Prelude.{◌≡◌, IfOk};
+ghost use Rattle.std.specs.Prelude.{◌≡◌};
 ghost use Rattle.asl_tool.specs.Ending.{ending_status, ending_text};
 ghost use Rattle.asl_tool.specs.Streams.{AppendsPart};
 
 use crate::streams::write_whole;
-use crate::tool_fault::{ToolFault, line_of, tell};
-use std::alloc::{AllocError, Global};
+use crate::tool_fault::{ToolFault, tell};
 use std::io::Write;
 
 /// The status of what was done.
@@ -51,21 +50,6 @@ impl Ending {
             Ending::WrongUsage(text) => {
                 let _ = write_whole(errors, text.as_str().as_bytes());
             }
-        }
-    }
-
-    /// What is said, in memory of its own.
-    ///
-    /// # Errors
-    ///
-    /// An allocation failed.
-    pub fn said(&self, alloc: Global) -> Result<Vec<u8>, AllocError>
-        ensures { IfOk result (λ said. said.items ≡ ending_text self.now) }
-    {
-        match self {
-            Ending::Done => Ok(Vec::new(alloc)),
-            Ending::Refused(fault) => Vec::from_slice(alloc, line_of(fault).as_slice()),
-            Ending::WrongUsage(text) => Vec::from_slice(alloc, text.as_str().as_bytes()),
         }
     }
 }

@@ -1,8 +1,7 @@
 //! A run of the program: words, a reader and two writers in, the exit status out.
 ghost use Rattle.std.specs.Prelude.{◌≡◌, ◌≤◌, length, map, Some, OnOk, IfErr, IfNone, IfSome, MatchOption, MatchResult, string_bytes};
-ghost use Rattle.asl_tool.specs.declared.streams.TheConstants.{MAX_INPUT};
 ghost use Rattle.asl_tool.specs.Ending.{ending_status, ending_text};
-ghost use Rattle.asl_tool.specs.Streams.{AppendsPart};
+ghost use Rattle.asl_tool.specs.Streams.{AppendsPart, most_input};
 ghost use Rattle.asl_tool.specs.Tool.{AsksForWork, EndsAlone, EndsWith, IsCommandStatus, IsTextStatus, Refuses, WritesOutput, of_command, of_team};
 
 use crate::ending::Ending;
@@ -17,7 +16,7 @@ use std::sync::Wait;
 use std::thread::Threads;
 
 /// Which version of the program this is, and in which logic it is proved.
-const VERSION: &str = "asl 2, logic dac8208d650f15bf\n";
+pub(crate) const VERSION: &str = "asl 2, logic dac8208d650f15bf\n";
 
 /// Does what the words ask for: reads from `reader`, writes to `writer`, says on `errors` what went wrong, and answers
 /// the exit status: 0 done, 1 refused, 2 wrong usage. Faults of `errors` count for nothing. Only the command `run` waits.
@@ -196,7 +195,7 @@ fn answer<W: Write>(
     input: &[u8],
     writer: &mut W,
 ) -> Result<(), ToolFault>
-    requires { length input.now ≤ MAX_INPUT }
+    requires { length input.now ≤ most_input }
     ensures ok { OnOk result
         (WritesOutput (Some input.now) (W.contents writer.old) (W.contents writer.new) (of_command command.now)) }
     ensures err { IfErr result
@@ -220,7 +219,7 @@ fn answer_run<H: Threads + Wait + Sync, W: Write>(
     input: &[u8],
     writer: &mut W,
 ) -> Result<(), ToolFault>
-    requires { length input.now ≤ MAX_INPUT }
+    requires { length input.now ≤ most_input }
     ensures ok { OnOk result
         (WritesOutput (Some input.now) (W.contents writer.old) (W.contents writer.new) (of_team team)) }
     ensures err { IfErr result

@@ -1,7 +1,7 @@
 //! Reading the whole of the input, and writing the whole of the output.
 ghost use Rattle.std.specs.Prelude.{◌≡◌, ◌<◌, ◌≤◌, ◌++◌, ℕ, List, length, [], take, IfOk, IfErr, IfSome, OnOk, OnErr};
 ghost use Rattle.std.specs.Io.KnownBytes.{Appends};
-ghost use Rattle.asl_tool.specs.Streams.{AppendsPart, IsReadFault};
+ghost use Rattle.asl_tool.specs.Streams.{AppendsPart, IsReadFault, most_input};
 
 use std::alloc::Global;
 use std::io::{Read, Write};
@@ -37,7 +37,7 @@ pub struct WriteFault;
 /// memory hides neither an input that is too long nor a reader that fails.
 pub fn read_whole<R: Read>(alloc: Global, reader: &mut R) -> Result<Vec<u8>, ReadFault>
     ensures whole { IfOk result (λ all. IfSome (R.remaining reader.old) (λ bytes. all.items ≡ bytes)) }
-    ensures short { IfOk result (λ all. length all.items ≤ MAX_INPUT) }
+    ensures short { IfOk result (λ all. length all.items ≤ most_input) }
     ensures fault { IfErr result (IsReadFault (R.remaining reader.old)) }
 {
     let mut kept = Some(Vec::new(alloc));

@@ -66,7 +66,7 @@ static CASES: [(&str, &str, u8, &str); 12] = [
         "compile --k 9",
         COUNTER,
         2,
-        "error: invalid value '9' for '--k <K>': no number from 0 to 8\n\nFor more information, try '--help'.\n",
+        "error: invalid value '9' for '--k <K>': not a number from 0 to 8\n\nFor more information, try '--help'.\n",
     ),
 ];
 

@@ -94,7 +94,7 @@ static CASES: [(&str, u8, &str, &str); 8] = [
         "run --threads 1 --workers 1 --limit x",
         2,
         "",
-        "error: invalid value 'x' for '--limit <L>': no number from 0 to 4294967295",
+        "error: invalid value 'x' for '--limit <L>': not a number from 0 to 4294967295",
     ),
 ];
 

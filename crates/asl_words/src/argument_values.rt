@@ -14,17 +14,17 @@ use clap::ArgMatches;
 use std::alloc::{AllocError, Global};
 
 /// What a number must be.
-pub(crate) const A_NUMBER: &str = "no number from 0 to 4294967295";
+pub(crate) const A_NUMBER: &str = "not a number from 0 to 4294967295";
 
 /// What a length of paths must be.
-pub(crate) const A_PATH_LIMIT: &str = "no number from 0 to 8";
+pub(crate) const A_PATH_LIMIT: &str = "not a number from 0 to 8";
 
 /// Where usage is explained.
 const HELP_IS_THERE: &str = "For more information, try '--help'.\n";
 
 /// What a word of the debugger must be.
 pub(crate) const A_WORD: &str =
-    "none of goto, forward, back, next, prev, break, clear, view, asks, stack, objects";
+    "not one of goto, forward, back, next, prev, break, clear, view, asks, stack, objects";
 
 /// Whether the flag was given.
 pub(crate) fn flag_at(values: &ArgMatches<'_>, name: &str) -> bool

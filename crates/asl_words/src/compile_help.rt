@@ -4,7 +4,7 @@ use crate::help::{ASSEMBLY, Page};
 
 /// The page of the command `compile`.
 pub const COMPILE: Page = Page {
-    about: "Infers the locks of a source's sections; no run of the program faults for want of a lock",
+    about: "Infers the locks of a source's sections; no run of the program faults for a missing lock",
     more: "Input: a source (docs/SOURCE.md)\n\
         Output: the program's image, or with --text its assembly text\n\
         \n\
@@ -17,8 +17,8 @@ pub const COMPILE: Page = Page {
         Refusals, where several apply the first of them:\n\
         \u{20} Read                         standard input failed\n\
         \u{20} TooLong                      the input is longer than 268435456 bytes\n\
-        \u{20} NotAscii(n), Token(n)        the byte at n is no ASCII character, or begins no token\n\
-        \u{20} Grammar(n)                   the token at n is one with which no program goes on\n\
+        \u{20} NotAscii(n), Token(n)        the byte at n is not an ASCII character, or begins no token\n\
+        \u{20} Grammar(n)                   the token at n does not continue any program\n\
         \u{20} Limit(n)                     a limit of docs/SOURCE.md is passed at n\n\
         \u{20} Twice(x), Unknown(x)         the name x is declared twice, or not at all\n\
         \u{20} Arity(n)                     the call at n has another number of arguments\n\
@@ -36,7 +36,7 @@ pub const COMPILE: Page = Page {
 
 /// The page of the command `check`.
 pub const CHECK: Page = Page {
-    about: "Checks the lists of a program against its source; where they are enough, no run faults for want of a lock",
+    about: "Checks the lists of a program against its source; where they are enough, no run faults for a missing lock",
     more: "Input: a source (docs/SOURCE.md), one byte 0, and a program: an image where it begins with ASLM, and else assembly text\n\
         Output: 'checked S sections', where each list is enough for what its section needs and for what its own expressions read\n\
         \n\
@@ -70,7 +70,7 @@ pub const MAP: Page = Page {
     about: "Says what the numbers in a source's code stand for, and which piece of the text each instruction is of",
     more: "Input: a source (docs/SOURCE.md)\n\
         Output: a line for each function, register, global, class, section, site and instruction, and one for each\n\
-        function that `main` never calls (docs/SOURCE.md)\n\
+        function that `main` never calls, not even through others (docs/SOURCE.md)\n\
         \n\
         Examples, from the top of the repository:\n\
         \u{20} ./asl map < examples/counter.asl\n\
@@ -113,16 +113,16 @@ pub const EXPLAIN: Page = Page {
 
 /// The page of the command `diagnose`.
 pub const DIAGNOSE: Page = Page {
-    about: "Says where and why a source or an assembly text is refused, and how to go on",
+    about: "Says where and why a source or an assembly text is at fault, and how to go on",
     more: "Input: a source (docs/SOURCE.md), or with --asm an assembly text (docs/ASSEMBLY.md)\n\
-        Output: nothing where it is accepted; else line and column, both from 1, the refusal's name, a sentence, the line of the text with a mark below the place, and what helps\n\
+        Output: nothing where there is no fault; else line and column, both from 1, the fault's name, a sentence, the line of the text with a mark below the place, and what helps\n\
         \n\
         Examples, from the top of the repository:\n\
         \u{20} ./asl diagnose < examples/counter.asl\n\
         \u{20} ./asl diagnose --asm < examples/counter.asm\n\
         \u{20} echo 'fn main(t) { x = 1 + 1; return x; }' | ./asl diagnose\n\
         \n\
-        Status: 0 done, whether or not the text is refused; 1 refused, with one line 'asl: NAME' on standard error; 2 wrong usage.\n\
+        Status: 0 done, also where the text is at fault; 1 refused, with one line 'asl: NAME' on standard error; 2 wrong usage.\n\
         \n\
         Refusals, where several apply the first of them:\n\
         \u{20} Read         standard input failed\n\
@@ -173,7 +173,7 @@ pub const DIS: Page = Page {
         \u{20} TooLong         the input is longer than 268435456 bytes\n\
         \u{20} Magic, Version  the image begins with other letters, or is of a version other than 1 and 2\n\
         \u{20} Truncated(n)    the image ends too early, at byte n\n\
-        \u{20} BadField(n)     the field at byte n of the image is none\n\
+        \u{20} BadField(n)     the field at byte n of the image has a value that it cannot have\n\
         \u{20} Trailing(n)     there are bytes after the image, from byte n on\n\
         \u{20} Verify(RULE)    the image breaks a rule of docs/LIMITS.md\n\
         \u{20} Write           standard output failed; a part of the output may have been written\n\

@@ -179,7 +179,7 @@ fn read_debug(alloc: Global, values: &ArgMatches<'_>) -> Result<Invocation, Allo
         Err(DebugWordsFault::NoWord(word)) => invalid(alloc, word, "<WORD>...", A_WORD),
         Err(DebugWordsFault::NoNumber(word)) => invalid(alloc, word, "<WORD>...", A_NUMBER),
         Err(DebugWordsFault::NumberMissing) => {
-            wrong_usage(alloc, "a number is required behind the last '<WORD>...'")
+            wrong_usage(alloc, "a number is required after the last '<WORD>...'")
         }
         Err(DebugWordsFault::OutOfMemory) => Err(AllocError),
     }

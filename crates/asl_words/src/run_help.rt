@@ -75,7 +75,7 @@ pub const REPLAY: Page = Page {
         \u{20} Image(NAME)    its image is refused: asl dis --help\n\
         \u{20} Journal(NAME)  its journal is refused: Magic, Version, Truncated(n), BadField(n), Trailing(n)\n\
         \u{20} BadCount       the journal has more threads than the program's version sets\n\
-        \u{20} Differs(n)     the journal is none of the program: event n, from 0, is the first that differs\n\
+        \u{20} Differs(n)     the journal does not belong to the program: event n, from 0, is the first that differs\n\
         \u{20} Write          standard output failed; a part of the output may have been written\n\
         \u{20} OutOfMemory    memory ran out\n\
         \n\
@@ -101,7 +101,7 @@ pub const LOG: Page = Page {
         \u{20} Image(NAME)    its image is refused: asl dis --help\n\
         \u{20} Journal(NAME)  its journal is refused: Magic, Version, Truncated(n), BadField(n), Trailing(n)\n\
         \u{20} BadCount       the journal has more threads than the program's version sets\n\
-        \u{20} Differs(n)     the journal is none of the program: event n, from 0, is the first that differs\n\
+        \u{20} Differs(n)     the journal does not belong to the program: event n, from 0, is the first that differs\n\
         \u{20} Write          standard output failed; a part of the output may have been written\n\
         \u{20} OutOfMemory    memory ran out\n\
         \n\
@@ -130,7 +130,7 @@ pub const DEBUG: Page = Page {
         \u{20} Image(NAME)    its image is refused: asl dis --help\n\
         \u{20} Journal(NAME)  its journal is refused: Magic, Version, Truncated(n), BadField(n), Trailing(n)\n\
         \u{20} BadCount       the journal has more threads than the program's version sets\n\
-        \u{20} Differs(n)     the journal is none of the program: event n, from 0, is the first that differs\n\
+        \u{20} Differs(n)     the journal does not belong to the program: event n, from 0, is the first that differs\n\
         \u{20} Write          standard output failed; a part of the output may have been written\n\
         \u{20} OutOfMemory    memory ran out\n\
         \n\

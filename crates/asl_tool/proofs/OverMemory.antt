@@ -1,0 +1,51 @@
+-- What words come to over memory is what the program does with a reader and a writer over memory.
+use Rattle.std.proofs.Common.{◌≡◌, ℕ, List, [], Option, None, Some, inl, inr, refl, ap}
+use Rattle.asl_words.specs.declared.command.Command.{Command}
+use Rattle.asl_words.specs.declared.command.Invocation.{Invocation}
+use Rattle.asl_words.specs.declared.command.Invocation.TheVariants.{Alone, Run, Help, Version, WrongUsage}
+use Rattle.asl_tool.specs.declared.streams.ReadFault.TheVariants as read
+use Rattle.asl_tool.specs.declared.tool_fault.ToolFault.TheVariants as fault
+use Rattle.asl_tool.specs.declared.ending.Ending.{Ending}
+use Rattle.asl_tool.specs.declared.ending.Ending.TheVariants as ending
+use Rattle.asl_tool.specs.Ending.{ending_status, ending_text}
+use Rattle.asl_tool.specs.Memory.{IsCommandEnding, IsEnding, EndsOver}
+use Rattle.asl_tool.specs.Tool.{EndsAlone, IsCommandStatus, IsNoWork, IsStatus, of_command}
+
+command_status : (command : Command) (input output : List ℕ) (e : Ending) → IsCommandEnding command input output e
+    → IsCommandStatus (output ≡ []) (λ text. ending_text e ≡ text) (Some input) (Some []) (Some output) (of_command command) (ending_status e)
+command_status command input output ending.Done h =
+    inl (refl, record { input = input; output = output; whole = (refl, h.0); made = (h.1, h.2); written = refl })
+command_status command input output (ending.Refused (fault.Read read.TooLong)) h = inr (refl, (fault.Read read.TooLong, (h.1, h.0), refl))
+command_status command input output (ending.Refused (fault.Read read.Read)) h = absurd h.1
+command_status command input output (ending.Refused (fault.Read read.OutOfMemory)) h = absurd h.1
+command_status command input output (ending.Refused (fault.Command cause)) h =
+    inr (refl, (fault.Command cause, record { input = input; whole = (refl, h.1.0); refused = h.1.1; nothing = h.0 }, refl))
+command_status command input output (ending.Refused (fault.Write cause)) h = absurd h.1
+command_status command input output (ending.Refused fault.OutOfMemory) h = absurd h.1
+command_status command input output (ending.WrongUsage text) h = absurd h
+
+no_work : (o : Option Invocation) (input output : List ℕ) (e : Ending) → IsEnding o input output e → IsNoWork o
+no_work (Some (Alone command)) input output e h = tt
+no_work (Some (Run team)) input output e h = h
+no_work (Some (Help text)) input output e h = tt
+no_work (Some Version) input output e h = tt
+no_work (Some (WrongUsage text)) input output e h = tt
+no_work None input output e h = tt
+
+status_over : (o : Option Invocation) (input output : List ℕ) (e : Ending) → IsEnding o input output e
+    → IsStatus (Unit {0}) (output ≡ []) (λ text. ending_text e ≡ text) (Some input) (Some []) (Some output) (ending_status e) o
+status_over (Some (Alone command)) input output e h = command_status command input output e h
+status_over (Some (Run team)) input output e h = absurd h
+status_over (Some (Help text)) input output e h = (tt, inl (ap ending_status h.0, h.1))
+status_over (Some Version) input output e h = (tt, inl (ap ending_status h.0, h.1))
+status_over (Some (WrongUsage text)) input output e h = (tt, (h.1, (ap ending_status h.0, ap ending_text h.0)))
+status_over None input output e h = (tt, (h.1, (ap ending_status h.0, ap ending_text h.0)))
+
+pub over_is_alone : (words : List (List ℕ)) (input output : List ℕ) (e : Ending) → EndsOver words input output e
+    → EndsAlone words (Unit {0}) (output ≡ []) (λ text. ending_text e ≡ text) (Some input) (Some []) (Some output) (ending_status e)
+over_is_alone words input output e h = record {
+  invocation = h.invocation;
+  waits_not = no_work h.invocation input output e h.is_ending;
+  is_asked = h.is_asked;
+  is_status = status_over h.invocation input output e h.is_ending;
+}
