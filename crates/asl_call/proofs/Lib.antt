@@ -1,1 +1,1 @@
-mod Weaker
+mod Answering

@@ -1,26 +1,26 @@
 -- What a call of a command leaves: the status, in each buffer a text as far as there is room, and the whole lengths
 -- (docs/EMBEDDING.md, "The commands from C").
-use Rattle.std.specs.Prelude.{◌≡◌, ◌<◌, ◌⊎◌, ℕ, List, [], Some, length, IsUtf8}
-use Rattle.asl_tool.specs.Tool.{EndsAlone, AsksForWork}
+use Rattle.std.specs.Prelude.{◌≡◌, ◌<◌, ◌⊎◌, ℕ, List, length, IsUtf8}
+use Rattle.asl_tool.specs.declared.ending.Ending.{Ending}
+use Rattle.asl_tool.specs.Ending.{ending_status, ending_text}
+use Rattle.asl_tool.specs.Memory.{EndsOver}
+use Rattle.asl_tool.specs.Tool.{AsksForWork}
 use Rattle.asl_call.specs.declared.call.Answer.{Answer}
 use Rattle.asl_call.specs.Words.{words_of}
 use Rattle.asl_foreign.specs.Buffer.{Holds}
 
--- what was said is the whole text that standard error is to get, or nothing: where memory runs out, of which no clause can speak
-abbrev pub Says : List ℕ → List ℕ → Type 0
-Says said text = (said ≡ text) ⊎ (said ≡ [])
-
--- the call did what the words ask for, over the input, from a writer that had nothing: the buffers hold what was written and what was
--- said, as far as there is room, and the answer has their lengths
+-- the words are UTF-8, and the call did what they ask for, over the input: the buffers hold the output, and what is said of the ending, as far as there is
+-- room, and the answer has their lengths
 pub record IsDone (words input output errors output_now errors_now : List ℕ) (answer : Answer) : Type 0 where
+  pub utf8 : IsUtf8 words
+  pub ending : Ending
   pub written : List ℕ
-  pub said : List ℕ
-  pub ends : EndsAlone (words_of words) (Unit {0}) (written ≡ []) (Says said) (Some input) (Some []) (Some written) answer.status
-  pub quiet : answer.status ≡ 0 → said ≡ []
+  pub ends : EndsOver (words_of words) input written ending
+  pub status : answer.status ≡ ending_status ending
   pub holds_output : Holds written output output_now
-  pub holds_errors : Holds said errors errors_now
+  pub holds_errors : Holds (ending_text ending) errors errors_now
   pub output_length : answer.output_length ≡ length written
-  pub errors_length : answer.errors_length ≡ length said
+  pub errors_length : answer.errors_length ≡ length (ending_text ending)
 
 -- why nothing was done: the words are not UTF-8; memory ran out for them; or they ask for `run`
 abbrev pub SaysWhyNot : List ℕ → ℕ → Type 0

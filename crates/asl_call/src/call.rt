@@ -1,13 +1,14 @@
 //! What C calls: a command of the program over memory.
-ghost use Rattle.std.specs.Prelude.{◌≡◌, ◌<◌, [], Some, map, length, IfOk, IfErr, MatchOption, string_bytes};
-ghost use Rattle.asl_tool.specs.Ending.{ending_status, ending_text};
-ghost use Rattle.asl_tool.specs.Tool.{AsksForWork, EndsAlone};
+ghost use Rattle.std.specs.Prelude.{◌≡◌, Ok, Err, length, IfOk, IfErr, OnOk, MatchOption, IsUtf8};
+ghost use Rattle.asl_foreign.specs.Buffer.{Holds};
+ghost use Rattle.asl_tool.specs.Ending.{ending_text};
+ghost use Rattle.asl_tool.specs.Memory.{EndsOver};
 ghost use Rattle.asl_call.specs.Words.{words_of};
-ghost use Rattle.asl_call.specs.Called.{Says, SaysWhyNot, IsAnswered};
+ghost use Rattle.asl_call.specs.Called.{SaysWhyNot, IsAnswered};
 
 use crate::call_words::split;
 use asl_foreign::put_front;
-use asl_tool::{Ending, ended_alone};
+use asl_tool::{Ended, Ending, ended_over, line_of};
 use std::alloc::Global;
 
 /// The words are not UTF-8.
@@ -26,49 +27,20 @@ pub struct Answer {
     pub errors_length: usize,
 }
 
-/// What a command leaves: how it ended, or nothing where it would wait; and its output.
-#[derive(Drop)]
-struct Ended {
-    ending: Option<Ending>,
-    output: Vec<u8>,
-}
-
-/// Does what the words ask for, over memory.
-fn perform(alloc: Global, words: &[String], input: &[u8]) -> Ended
-    ensures { MatchOption result.ending (AsksForWork (map string_bytes words.now))
-        (λ ending. EndsAlone (map string_bytes words.now) (Unit {0}) (result.output.items ≡ [])
-        (λ text. ending_text ending ≡ text) (Some input.now) (Some []) (Some result.output.items) (ending_status ending)) }
+/// How words ended, or the status of those that ask for `run`, of which nothing is done.
+fn answered(ended: Option<Ended>) -> Result<Ended, u32>
+    ensures { MatchOption ended (result ≡ Err 255) (λ ended. result ≡ Ok ended) }
 {
-    let mut reader = input;
-    let mut output = Vec::new(alloc);
-    let ending = ended_alone(alloc, words, &mut reader, &mut output);
-    Ended { ending, output }
-}
-
-/// What is said of an ending, whole, or nothing where there is no memory for it.
-fn said(alloc: Global, ending: &Ending) -> Vec<u8>
-    ensures whole { Says result.items (ending_text ending.now) }
-    ensures quiet { ending_status ending.now ≡ 0 → result.items ≡ [] }
-{
-    match ending.said(alloc) {
-        Ok(said) => said,
-        Err(_) => Vec::new(alloc),
+    match ended {
+        Some(ended) => Ok(ended),
+        None => Err(RUN_WAITS),
     }
 }
 
-/// What a command leaves that did not wait: its status, its output, and what it says on standard error.
-#[derive(Drop)]
-struct Done {
-    status: u8,
-    output: Vec<u8>,
-    errors: Vec<u8>,
-}
-
 /// What the words ask for, done; or the status that says why nothing was done.
-fn called(alloc: Global, words: &[u8], input: &[u8]) -> Result<Done, u32>
-    ensures ended { IfOk result (λ r. EndsAlone (words_of words.now) (Unit {0}) (r.output.items ≡ [])
-        (Says r.errors.items) (Some input.now) (Some []) (Some r.output.items) r.status) }
-    ensures quiet { IfOk result (λ r. r.status ≡ 0 → r.errors.items ≡ []) }
+fn called(alloc: Global, words: &[u8], input: &[u8]) -> Result<Ended, u32>
+    ensures ended { IfOk result (λ ended. EndsOver (words_of words.now) input.now ended.output.items ended.ending) }
+    ensures utf8 { OnOk result (IsUtf8 words.now) }
     ensures err { IfErr result (SaysWhyNot words.now) }
 {
     let text = match std::str::from_utf8(words) {
@@ -79,14 +51,27 @@ fn called(alloc: Global, words: &[u8], input: &[u8]) -> Result<Done, u32>
         Ok(words) => words,
         Err(_) => return Err(NO_MEMORY),
     };
-    let Ended { ending, output } = perform(alloc, words.as_slice(), input);
+    answered(ended_over(alloc, words.as_slice(), input))
+}
+
+/// Puts the text at the front of the buffer, as far as there is room, and answers how long it is.
+fn hand_over(text: &[u8], buffer: &mut [u8]) -> usize
+    ensures front { Holds text.now buffer.old buffer.new }
+    ensures length { result ≡ length text.now }
+{
+    put_front(text, buffer);
+    text.len()
+}
+
+/// Puts what is said of an ending into the buffer, as far as there is room, and answers how long it is. No memory is wanted.
+fn say(ending: &Ending, errors: &mut [u8]) -> usize
+    ensures front { Holds (ending_text ending.now) errors.old errors.new }
+    ensures length { result ≡ length (ending_text ending.now) }
+{
     match ending {
-        Some(ending) => Ok(Done {
-            status: ending.status(),
-            output,
-            errors: said(alloc, &ending),
-        }),
-        None => Err(RUN_WAITS),
+        Ending::Done => hand_over(b"", errors),
+        Ending::Refused(fault) => hand_over(line_of(fault).as_slice(), errors),
+        Ending::WrongUsage(text) => hand_over(text.as_str().as_bytes(), errors),
     }
 }
 
@@ -107,13 +92,13 @@ pub extern "C" fn asl_call(
     ensures { IsAnswered words.now input.now output.old errors.old output.new errors.new answer.new }
 {
     match called(alloc, words, input) {
-        Ok(done) => {
-            put_front(done.output.as_slice(), output);
-            put_front(done.errors.as_slice(), errors);
+        Ok(ended) => {
+            let output_length = hand_over(ended.output.as_slice(), output);
+            let errors_length = say(&ended.ending, errors);
             *answer = Answer {
-                status: u32::from(done.status),
-                output_length: done.output.len(),
-                errors_length: done.errors.len(),
+                status: u32::from(ended.ending.status()),
+                output_length,
+                errors_length,
             };
         }
         Err(status) => {

@@ -1,10 +1,20 @@
-use Rattle.std.proofs.Common.{◌≡◌, rules, map, string_bytes}
+use Rattle.std.proofs.Common.{◌≡◌, List, ℕ, IfOk, rules, refl, inr, map, subst, string_bytes}
+use Rattle.asl_tool.specs.declared.over_memory.Ended.{Ended}
+use Rattle.asl_tool.specs.Memory.{EndsOver}
+use Rattle.asl_tool.specs.Tool.{AsksForWork}
 use Rattle.asl_call.specs.Words.{words_of}
-use Rattle.asl_call.proofs.Weaker.{ended_said}
+use Rattle.asl_call.specs.Called.{SaysWhyNot}
+use Rattle.asl_call.proofs.Answering.{ok_of, err_of}
 use Rattle.asl_call.proofs.call.called.Goals as goal
 
-pub returns-in-Some-clause-ended : goal.returns-in-Some-clause-ended
-returns-in-Some-clause-ended c =
+pub returns-clause-ended : goal.returns-clause-ended
+returns-clause-ended c =
     let same : map string_bytes c.as_slice.result.now ≡ words_of c.args.words.now = first_of (search rules, cc) in
-    let ended = rw c.in-Some.is at c.perform-ending.ensures in
-    ended_said _ _ _ _ _ _ _ c.in-Some.ending c.said.result.items c.status.result same c.status.ensures c.said.ensures.whole ended
+    subst (λ (w : List (List ℕ)). IfOk c.answered.result (λ (e : Ended). EndsOver w c.args.input.now e.output.items e.ending)) same
+    (ok_of c.ended_over.result c.answered.result _ _ c.answered.ensures c.ended_over.ensures)
+
+pub returns-clause-err : goal.returns-clause-err
+returns-clause-err c =
+    let same : map string_bytes c.as_slice.result.now ≡ words_of c.args.words.now = first_of (search rules, cc) in
+    err_of c.ended_over.result c.answered.result _ _ (SaysWhyNot c.args.words.now) c.answered.ensures c.ended_over.ensures
+    (λ waits. inr (inr (refl, subst (λ (w : List (List ℕ)). AsksForWork w) same waits)))
