@@ -4,7 +4,7 @@ use Rattle.std.specs.List.{prefix_len}
 use Rattle.asl_assembler.specs.Words.{is_separator, words_of, lines_of}
 use Rattle.asl_assembler.specs.Reading.{is_word_byte, is_line_byte}
 use Rattle.asl_assembler.proofs.Split.{first_line, first_word, past_gap}
-use Rattle.asl_diagnose.specs.TextLines.{first_of}
+use Rattle.asl_diagnose.specs.Position.{first_of}
 
 word_of : (line ws : List ℕ) → drop (prefix_len is_separator line) line ≡ ws → take (prefix_len is_word_byte ws) ws ≡ first_of (words_of line)
 word_of line [] e =

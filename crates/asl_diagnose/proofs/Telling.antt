@@ -1,5 +1,6 @@
 -- What is reported of a refusal, of its parts.
 use Rattle.std.proofs.Common.{◌≡◌, ◌≢◌, ℕ, List, None, sym, subst}
+use Rattle.std.specs.Prelude.{Result, Ok, Err, OnErr}
 use Rattle.asl_syntax.specs.declared.fault.SyntaxFault.{SyntaxFault}
 use Rattle.asl_syntax.specs.declared.fault.SyntaxFault.TheVariants as syntax
 use Rattle.asl_syntax.specs.Fault.{IsFault}
@@ -12,6 +13,11 @@ use Rattle.asl_diagnose.specs.declared.diagnosis.Refusal.{Refusal}
 use Rattle.asl_diagnose.specs.declared.diagnosis.Refusal.TheVariants as refusal
 use Rattle.asl_diagnose.specs.declared.diagnosis.Diagnosis.{Diagnosis}
 use Rattle.asl_diagnose.specs.Diagnosed.{IsSourceRefusal, IsSourcePlace, IsSyntaxPlace, IsExpectedFor, IsInferPlace, IsPosition, IsSourceDiagnosis, HasFirst, HasKinds, HasBringers}
+
+-- what holds whatever the answer is
+pub on_err : {R E : Type 0} (a : Result R E) (P : Type 0) → P → OnErr a P
+on_err (Ok r) P holds = tt
+on_err (Err e) P holds = holds
 
 pub syntax_told : (source : List ℕ) (k : ℕ) (d : Diagnosis) (fault : SyntaxFault) → IsFault source fault → fault ≢ syntax.OutOfMemory → d.refusal ≡ refusal.Syntax fault → IsSyntaxPlace source fault d.first d.at → IsExpectedFor source fault d.expected.items d.may_end → IsPosition source d.at d.line d.column
     → HasFirst (refusal.Syntax fault) d.first → HasKinds (refusal.Syntax fault) d.expected.items d.may_end → d.bringers ≡ None → IsSourceDiagnosis source k d

@@ -1,10 +1,10 @@
 -- What is reported of a text that is refused: why, where it is, its line and column, and with what a program continues there.
-use Rattle.std.specs.Prelude.{◌≡◌, ◌≢◌, ℕ, ◌+◌, ◌≤◌, ◌⊎◌, List, [], Bool, false, codes, length, take, Option, None, IfSome, IsSomeAnd, MatchOption}
+use Rattle.std.specs.Prelude.{◌≡◌, ◌≢◌, ℕ, ◌+◌, ◌≤◌, ◌⊎◌, List, [], Bool, false, codes, length, take, true, Option, None, IfSome, IsSomeAnd, MatchOption}
 use Rattle.asl_grammar.specs.Lex.{tokens_of}
 use Rattle.asl_syntax.specs.declared.fault.SyntaxFault.{SyntaxFault}
 use Rattle.asl_syntax.specs.declared.fault.SyntaxFault.TheVariants as syntax
 use Rattle.asl_syntax.specs.Tree.{Item}
-use Rattle.asl_syntax.specs.Parsed.{Parses}
+use Rattle.asl_syntax.specs.Parsed.{Parses, HasTree}
 use Rattle.asl_syntax.specs.Fault.{IsFault as IsSyntaxFault}
 use Rattle.asl_lower.specs.Lowered.{Lowered, IsLowering}
 use Rattle.asl_emitter.specs.declared.fault.InferFault.{InferFault}
@@ -17,14 +17,15 @@ use Rattle.asl_assembler.specs.declared.assembly.AsmFault.TheVariants as asm
 use Rattle.asl_assembler.specs.Faults.{IsProgramText, IsFault as IsAsmFault}
 use Rattle.asl_assembler.specs.Words.{lines_of}
 use Rattle.asl_code.specs.declared.image.Image.{Image}
+use Rattle.asl_code.specs.declared.fault.VerifyFault.{VerifyFault}
 use Rattle.asl_diagnose.specs.declared.diagnosis.Refusal.{Refusal}
 use Rattle.asl_diagnose.specs.declared.diagnosis.Refusal.TheVariants as refusal
 use Rattle.asl_diagnose.specs.declared.diagnosis.Diagnosis.{Diagnosis}
 use Rattle.asl_diagnose.specs.declared.kind.TokenKind.{TokenKind}
 use Rattle.asl_diagnose.specs.declared.most.Bringers.{Bringers}
 use Rattle.asl_diagnose.specs.declared.word_place.Word.TheVariants as word
-use Rattle.asl_diagnose.specs.Position.{line_behind, IsColumn, IsLineFront}
-use Rattle.asl_diagnose.specs.Instructions.{instructions_in, IsInstructionLine, pc_of}
+use Rattle.asl_diagnose.specs.Position.{line_behind, word_from, IsColumn, IsLineFront}
+use Rattle.asl_diagnose.specs.Instructions.{instructions_in, IsInstructionLine, may_break, pc_of}
 use Rattle.asl_diagnose.specs.Expected.{IsStop}
 use Rattle.asl_diagnose.specs.Brought.{AreBringers}
 use Rattle.asl_diagnose.specs.Unknown.{IsUnknownPlace}
@@ -131,6 +132,10 @@ pub record IsSourceDiagnosis (source : List ℕ) (k : ℕ) (d : Diagnosis) : Typ
 abbrev pub IsSourceDiagnosed : List ℕ → ℕ → Option Diagnosis → Type 0
 IsSourceDiagnosed source k told = MatchOption told (IsAcceptedSource source k) (IsSourceDiagnosis source k)
 
+-- where lack of memory may hide the answer for a source: it has a tree, or it is to be listed with what a program continues
+abbrev pub MayLackMemory : List ℕ → Type 0
+MayLackMemory source = HasTree source ⊎ ((place : ℕ) × IsSyntaxFault source (syntax.Grammar place))
+
 -- where a wrong line of an assembly text is: its first byte that is no blank, and where the text ends too early, its end
 abbrev pub IsLinePlace : List ℕ → ℕ → ℕ → Type 0
 IsLinePlace text number at =
@@ -146,15 +151,20 @@ IsInstructionPlace text pc at line =
     (IsInstructionLine (lines_of text) pc line × IsLineFront text line at)
     ⊎ ((instructions_in (lines_of text) ≤ pc) × IsEndPlace text at line)
 
--- where a line is; or the text's end
-abbrev pub IsRulePlace : List ℕ → ℕ → ℕ → Type 0
-IsRulePlace text at line = IsLineFront text line at ⊎ IsEndPlace text at line
+-- where a line is by which the rule may be broken
+pub record IsRuleLine (text : List ℕ) (cause : VerifyFault) (at line : ℕ) : Type 0 where
+  pub front : IsLineFront text line at
+  pub named : may_break cause (word_from text at) ≡ true
+
+-- where such a line is; or the text's end
+abbrev pub IsRulePlace : List ℕ → VerifyFault → ℕ → ℕ → Type 0
+IsRulePlace text cause at line = IsRuleLine text cause at line ⊎ IsEndPlace text at line
 
 -- the line that is reported, and the place in it: those of a wrong line; those of the instruction that breaks a rule; and for a rule of
--- the whole image those of some line
+-- the whole image those of a line by which it may be broken
 abbrev pub IsAssemblyPlace : List ℕ → AsmFault → ℕ → ℕ → Type 0
 IsAssemblyPlace text (asm.Line number) at line = (line ≡ number) × IsLinePlace text number at
-IsAssemblyPlace text (asm.Verify cause) at line = MatchOption (pc_of cause) (IsRulePlace text at line) (λ pc. IsInstructionPlace text pc at line)
+IsAssemblyPlace text (asm.Verify cause) at line = MatchOption (pc_of cause) (IsRulePlace text cause at line) (λ pc. IsInstructionPlace text pc at line)
 IsAssemblyPlace text asm.OutOfMemory at line = Unit {0}
 
 -- what is reported of an assembly text that is refused

@@ -1,4 +1,5 @@
--- Lines of an assembly text that are instructions (docs/ASSEMBLY.md), and the instruction that a broken rule names.
+-- Lines of an assembly text that are instructions (docs/ASSEMBLY.md), the instruction that a broken rule names, and the words of lines by
+-- which a rule of the whole image may be broken.
 use Rattle.std.specs.Prelude.{◌≡◌, ℕ, suc, ◌+◌, List, [], ◌∷◌, ◌++◌, Bool, true, false, ◌||◌, bytes_eq, codes, length, Option, Some, None, if◌then◌else◌}
 use Rattle.asl_assembler.specs.Words.{words_of}
 use Rattle.asl_code.specs.declared.fault.VerifyFault.{VerifyFault}
@@ -52,3 +53,12 @@ pc_of (verify.Register pc) = Some pc
 pc_of (verify.Operand pc) = Some pc
 pc_of (verify.ListBase pc) = Some pc
 pc_of _ = None
+
+-- a line that begins with the word may break a rule of the whole image: a table by a line that names a class or a global; the entry by
+-- the line `entry`; a range by a function's line; an end by an instruction; a limit by any line
+abbrev pub may_break : VerifyFault → List ℕ → Bool
+may_break verify.Table word = is_one word (codes "global" ∷ codes "class" ∷ codes "expr" ∷ [])
+may_break verify.NoEntry word = is_one word (codes "entry" ∷ [])
+may_break verify.FunctionRange word = is_one word (codes "fn" ∷ [])
+may_break verify.FallsOut word = is_instruction_word word
+may_break cause word = true

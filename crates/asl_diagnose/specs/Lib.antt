@@ -4,6 +4,7 @@ pub mod Brought
 pub mod Unknown
 pub mod Names
 pub mod Position
+pub mod Shown
 pub mod Expected
 pub mod Places
 pub mod Instructions

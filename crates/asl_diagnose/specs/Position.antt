@@ -1,7 +1,7 @@
--- Lines and columns of a text, in bytes.
-use Rattle.std.specs.Prelude.{◌≡◌, ◌≢◌, ℕ, suc, ◌+◌, ◌-◌, ◌<◌, ◌≤◌, ◌⊎◌, ◌==◌, Bool, List, length, take, drop, slice_index, count_by}
+-- Lines, columns and words of a text, in bytes.
+use Rattle.std.specs.Prelude.{◌≡◌, ◌≢◌, ℕ, suc, ◌+◌, ◌-◌, ◌<◌, ◌≤◌, ◌⊎◌, ◌==◌, Bool, not, List, [], ◌∷◌, length, take, drop, slice_index, count_by}
 use Rattle.std.specs.List.{prefix_len}
-use Rattle.asl_assembler.specs.Words.{is_separator}
+use Rattle.asl_assembler.specs.Words.{is_separator, words_of}
 
 -- a line feed
 abbrev pub is_feed : ℕ → Bool
@@ -34,3 +34,16 @@ pub record IsLineFront (text : List ℕ) (number at : ℕ) : Type 0 where
   pub start : ℕ
   pub line : BeginsLine text number start
   pub blanks : at ≡ start + prefix_len is_separator (drop start text)
+
+-- what is left of a line from a place on
+abbrev pub line_from : List ℕ → ℕ → List ℕ
+line_from text at = take (prefix_len (λ b. not (is_feed b)) (drop at text)) (drop at text)
+
+-- the first of some words, which is empty where there is none
+abbrev pub first_of : List (List ℕ) → List ℕ
+first_of [] = []
+first_of (word ∷ words) = word
+
+-- the first word from a place on in its line
+abbrev pub word_from : List ℕ → ℕ → List ℕ
+word_from text at = first_of (words_of (line_from text at))

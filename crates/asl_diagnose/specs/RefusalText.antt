@@ -1,18 +1,23 @@
--- The text that is told of an input: nothing where it is accepted, and else a text that begins with line, column and name.
-use Rattle.std.specs.Prelude.{◌≡◌, ℕ, List, [], ◌++◌, Bool, true, false, Option, Some, None}
+-- The text that is told of an input: nothing where it is accepted, and else a text that begins with line, column and name, and shows the line.
+use Rattle.std.specs.Prelude.{◌≡◌, ℕ, List, [], ◌++◌, Bool, true, false, Option, Some, None, length, map, min, codes}
 use Rattle.asl_diagnose.specs.declared.diagnosis.Diagnosis.{Diagnosis}
 use Rattle.asl_diagnose.specs.Diagnosed.{IsSourceDiagnosed, IsAssemblyDiagnosed}
 use Rattle.asl_diagnose.specs.Names.{head_text}
+use Rattle.asl_diagnose.specs.Shown.{shown, AreLines}
 
--- the text begins with the line, the column and the name
-pub record IsHeaded (d : Diagnosis) (text : List ℕ) : Type 0 where
-  pub behind : List ℕ
-  pub begins : text ≡ head_text d ++ behind
+-- the first line of the text has the line, the column and the name, and a sentence; then the line round the place is shown, and a caret
+-- below it
+pub record IsHeaded (input : List ℕ) (d : Diagnosis) (text : List ℕ) : Type 0 where
+  pub sentence : List ℕ
+  pub lines : List ℕ
+  pub are_lines : AreLines input (min d.at (length input)) lines
+  pub hints : List ℕ
+  pub begins : text ≡ head_text d ++ (map shown sentence ++ (codes "\n" ++ (lines ++ hints)))
 
 -- the text of an answer
-abbrev pub IsSpelled : Option Diagnosis → List ℕ → Type 0
-IsSpelled None text = text ≡ []
-IsSpelled (Some d) text = IsHeaded d text
+abbrev pub IsSpelled : List ℕ → Option Diagnosis → List ℕ → Type 0
+IsSpelled input None text = text ≡ []
+IsSpelled input (Some d) text = IsHeaded input d text
 
 -- the answer for an assembly text, or for a source
 abbrev pub IsAnswer : List ℕ → Bool → ℕ → Option Diagnosis → Type 0
@@ -23,4 +28,4 @@ IsAnswer input false k told = IsSourceDiagnosed input k told
 pub record IsTold (input : List ℕ) (is_assembly : Bool) (k : ℕ) (text : List ℕ) : Type 0 where
   pub told : Option Diagnosis
   pub answer : IsAnswer input is_assembly k told
-  pub spelled : IsSpelled told text
+  pub spelled : IsSpelled input told text

@@ -18,11 +18,6 @@ abbrev pub IsNextLine : rows.TextLines → Option row.TextLine → rows.TextLine
 IsNextLine old None new = lines_left old ≡ []
 IsNextLine old (Some r) new = (lines_left old ≡ r.line.now ∷ lines_left new) × (rows_left new < rows_left old)
 
--- the first word, which is empty where there is none
-abbrev pub first_of : List (List ℕ) → List ℕ
-first_of [] = []
-first_of (word ∷ words) = word
-
 -- the number of the line of the instruction that has so many before it, where the first of the lines has this number
 abbrev pub row_of : ℕ → ℕ → List (List ℕ) → Option ℕ
 row_of pc number [] = None

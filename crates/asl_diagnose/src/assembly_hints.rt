@@ -117,7 +117,7 @@ fn range_text(word: &[u8]) -> &'static str {
         b"jmp" | b"jz" =>
             "the target is a number: that of an instruction, from 0 over all functions\n",
         b"expr" => {
-            "behind `expr` stand r1 or g1, at most eight of `*` and `.0`, and `read` or `write`\n"
+            "after `expr` stand r1 or g1, at most eight of `*` and `.0`, and `read` or `write`\n"
         }
         b"class" | b"root" => "the last word is `read` or `write`\n",
         b"classes" | b"global" | b"entry" | b"fn" | b"acq" | b"list" | b"rel" => "",

@@ -1,18 +1,18 @@
 //! What is reported of an assembly text that is refused.
 
-ghost use Rattle.std.specs.Prelude.{◌≡◌, ◌≢◌, ◌+◌, ◌<◌, ◌≤◌, false, length, IfOk};
+ghost use Rattle.std.specs.Prelude.{◌≡◌, ◌≢◌, ◌+◌, ◌<◌, ◌≤◌, true, false, length, IfOk, OnErr};
 ghost use Rattle.asl_assembler.specs.declared.assembly.AsmFault.TheVariants as asm;
 ghost use Rattle.asl_assembler.specs.Faults.{IsFault};
 ghost use Rattle.asl_assembler.specs.Text.{IsBadLine};
 ghost use Rattle.asl_assembler.specs.Words.{lines_of};
-ghost use Rattle.asl_diagnose.specs.Position.{IsLineFront};
+ghost use Rattle.asl_diagnose.specs.Position.{BeginsLine, IsLineFront};
 ghost use Rattle.asl_diagnose.specs.Diagnosed.{IsAssemblyDiagnosed, IsAssemblyDiagnosis, IsAssemblyPlace, IsEndPlace, IsInstructionPlace, IsLinePlace, IsRulePlace};
 
 use crate::diagnosis::{Diagnosis, Refusal};
-use crate::fault_row::fault_row;
+use crate::fault_row::{fault_row, may_break};
 use crate::listing::instruction_row;
 use crate::place::{column, line};
-use crate::text_lines::{front, line_begin};
+use crate::text_lines::{front, line_begin, word_from};
 use asl_assembler::{AsmFault, assemble};
 use asl_code::VerifyFault;
 use std::alloc::{AllocError, Global};
@@ -21,9 +21,10 @@ use std::alloc::{AllocError, Global};
 ///
 /// # Errors
 ///
-/// An allocation failed.
+/// An allocation failed. This hides no wrong line.
 pub fn diagnose_assembly(alloc: Global, text: &[u8]) -> Result<Option<Diagnosis>, AllocError>
-    ensures { IfOk result (IsAssemblyDiagnosed text.now) }
+    ensures told { IfOk result (IsAssemblyDiagnosed text.now) }
+    ensures memory { OnErr result (IsFault text.now asm.OutOfMemory) }
 {
     match assemble(alloc, text) {
         Ok(program) => {
@@ -41,7 +42,8 @@ pub fn diagnose_assembly(alloc: Global, text: &[u8]) -> Result<Option<Diagnosis>
 
 /// Whether memory was all that was wanting.
 fn is_memory(fault: AsmFault) -> bool
-    ensures { result ≡ false → fault ≢ asm.OutOfMemory }
+    ensures real { result ≡ false → fault ≢ asm.OutOfMemory }
+    ensures memory { result ≡ true → fault ≡ asm.OutOfMemory }
 {
     matches!(fault, AsmFault::OutOfMemory)
 }
@@ -137,13 +139,26 @@ fn row_front(text: &[u8], number: usize) -> usize
 
 /// The first word of a line by which a rule of the whole image is broken, and the line, or the end of the text.
 fn rule_place(text: &[u8], cause: VerifyFault) -> (usize, usize)
-    ensures { IsRulePlace text.now result.0 result.1 }
+    ensures { IsRulePlace text.now cause result.0 result.1 }
 {
     match fault_row(text, cause) {
         Some(number) => match line_begin(text, number) {
-            Some(start) => (front(text, start), number),
+            Some(start) => rule_at(text, cause, number, start),
             None => end_place(text),
         },
         None => end_place(text),
+    }
+}
+
+/// The first word of the line that begins there, and the line, if the rule may be broken by such a line; else the end of the text.
+fn rule_at(text: &[u8], cause: VerifyFault, number: usize, start: usize) -> (usize, usize)
+    requires { BeginsLine text.now number start }
+    ensures { IsRulePlace text.now cause result.0 result.1 }
+{
+    let at = front(text, start);
+    if may_break(cause, word_from(text, at)) {
+        (at, number)
+    } else {
+        end_place(text)
     }
 }

@@ -1,7 +1,10 @@
 //! The line of an assembly text at which a rule of the whole image is broken.
 
+ghost use Rattle.std.specs.Prelude.{◌≡◌};
+ghost use Rattle.asl_diagnose.specs.Instructions.{may_break};
+
 use crate::forms::{Turn, turn_after};
-use crate::listing::{Listing, whole};
+use crate::listing::{Listing, is_instruction_word, whole};
 use crate::text_lines::{TextLine, TextLines, first_word, number_in, word};
 use asl_code::VerifyFault;
 
@@ -14,6 +17,23 @@ pub fn fault_row(text: &[u8], cause: VerifyFault) -> Option<usize> {
         VerifyFault::FunctionRange => range_row(text),
         VerifyFault::FallsOut => falling_row(text),
         _ => None,
+    }
+}
+
+/// Whether a line that begins with this word may break a rule of the whole image.
+pub fn may_break(cause: VerifyFault, word: &[u8]) -> bool
+    ensures { result ≡ may_break cause word.now }
+{
+    match cause {
+        VerifyFault::Table => matches!(word, b"global" | b"class" | b"expr"),
+        VerifyFault::NoEntry => matches!(word, b"entry"),
+        VerifyFault::FunctionRange => matches!(word, b"fn"),
+        VerifyFault::FallsOut => is_instruction_word(word),
+        VerifyFault::Limit
+        | VerifyFault::Target(_)
+        | VerifyFault::Register(_)
+        | VerifyFault::Operand(_)
+        | VerifyFault::ListBase(_) => true,
     }
 }
 

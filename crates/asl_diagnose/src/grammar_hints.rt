@@ -49,20 +49,20 @@ fn start_hint(kind: Kind, token: Token<'_>) -> &'static str {
     match token {
         Token::Fixed(Mark::CloseBrace) => match kind {
             Kind::Body => {
-                "`return x;` is wanting: it is the last line of each function, and x a name"
+                "`return x;` is missing: it is the last line of each function, and x a name"
             }
             _ => "",
         },
         Token::Fixed(Mark::Return) => {
-            "`return` stands only as the last line of a function, in no block; or a `}` is wanting before it"
+            "`return` stands only as the last line of a function, in no block; or a `}` is missing before it"
         }
-        Token::Fixed(Mark::Else) => "`else` stands directly behind the block of its `if`",
+        Token::Fixed(Mark::Else) => "`else` stands right after the block of its `if`",
         Token::Fixed(Mark::Fn) =>
             "the function before is not at its end: it ends with `return x; }`",
         Token::Fixed(Mark::Global) => "globals are declared outside functions",
         Token::Fixed(Mark::Semicolon) => "there is no empty statement",
         Token::Fixed(Mark::OpenBrace) => {
-            "a block stands behind `if x`, `else`, `while x` or `atomic` alone"
+            "a block stands after `if x`, `else`, `while x` or `atomic` alone"
         }
         Token::Fixed(Mark::New | Mark::Null) =>
             "that word is the language's own, and stands at the right of `=`: `x = new 2;`",
@@ -88,7 +88,7 @@ fn target_hint(name: &[u8], token: Token<'_>) -> &'static str {
             _ => "a name alone is no statement",
         },
         Token::Fixed(Mark::OpenBrace) => {
-            "a block stands behind `if x`, `else`, `while x` or `atomic` alone"
+            "a block stands after `if x`, `else`, `while x` or `atomic` alone"
         }
         Token::Name(_) => declaring_hint(name),
         _ => "a local is set by `x = value;`",
@@ -125,7 +125,7 @@ fn declaring_hint(name: &[u8]) -> &'static str {
     }
 }
 
-/// Where only `;` is wanting.
+/// Where only `;` is missing.
 fn line_end_hint(line: Line<'_>, token: Token<'_>) -> &'static str {
     match (line, token) {
         (

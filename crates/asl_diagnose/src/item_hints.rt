@@ -5,7 +5,7 @@ use crate::value_hints::name_hint;
 use asl_grammar::control::{Control, Kind};
 use asl_grammar::token::{Mark, Token};
 
-/// What is wanting where a text ends.
+/// What is missing where a text ends.
 pub(crate) fn end_hint(stop: Stop<'_>) -> &'static str {
     match stop.control {
         Control::StatementStart | Control::AfterThen => match stop.kind {
@@ -60,7 +60,7 @@ pub(crate) fn head_hint(control: Control<'_>, token: Token<'_>) -> &'static str 
         }
         (Control::AfterParameter, Token::Fixed(Mark::Becomes)) => "a parameter has no default",
         (Control::NextParameter, Token::Fixed(Mark::CloseParen)) => {
-            "no `,` stands behind the last parameter"
+            "no `,` stands after the last parameter"
         }
         (Control::BodyStart, Token::Fixed(Mark::Minus)) => {
             "a function has no result type: what it returns is said by `return x;`"

@@ -2,7 +2,7 @@
 ghost use Rattle.std.specs.Prelude.{◌≡◌};
 ghost use Rattle.asl_assembler.specs.Words.{lines_of};
 ghost use Rattle.asl_diagnose.specs.TextLines.{row_of};
-ghost use Rattle.asl_diagnose.specs.Instructions.{setters, others, is_one, is_instruction};
+ghost use Rattle.asl_diagnose.specs.Instructions.{setters, others, is_one, is_instruction, is_instruction_word};
 
 use crate::forms::{Turn, turn_after};
 use crate::text_lines::{TextLines, first_word, number_in, word};
@@ -113,6 +113,13 @@ fn is_instruction(line: &[u8]) -> bool
     ensures { result ≡ is_instruction line.now }
 {
     let (word, _) = first_word(line);
+    is_instruction_word(word)
+}
+
+/// Whether a word begins an instruction.
+pub fn is_instruction_word(word: &[u8]) -> bool
+    ensures { result ≡ is_instruction_word word.now }
+{
     is_setter(word) || is_other(word)
 }
 

@@ -1,8 +1,10 @@
 //! The text of a refusal: where and what, the line, a caret, and what helps.
 
-ghost use Rattle.std.specs.Prelude.{◌≡◌, ◌≤◌, ◌++◌, IfOk, OnOk, string_bytes};
+ghost use Rattle.std.specs.Prelude.{◌≡◌, ◌≤◌, ◌++◌, ℕ, List, not, length, IfOk, OnOk, string_bytes};
+ghost use Rattle.std.specs.List.{prefix_len};
 ghost use Rattle.asl_diagnose.specs.Names.{head_text};
 ghost use Rattle.asl_diagnose.specs.RefusalText.{IsHeaded, IsAnswer, IsSpelled, IsTold};
+ghost use Rattle.asl_diagnose.specs.Shown.{AreBefore, AreLines, bytes_on, ends_line, shown};
 
 use crate::assembly_hints;
 use crate::assembly_refusal::diagnose_assembly;
@@ -30,12 +32,16 @@ const SHOWN_BEFORE: usize = 80;
 ///
 /// An allocation failed.
 pub fn spell(alloc: Global, text: &[u8], told: &Diagnosis) -> Result<String, AllocError>
-    ensures { IfOk result (λ t. IsHeaded told.now (string_bytes t)) }
+    ensures { IfOk result (λ t. IsHeaded text.now told.now (string_bytes t)) }
 {
     let mut message = String::new(alloc);
     push_head(&mut message, told)?;
-    let rest = rest(alloc, text, told)?;
-    message.push_str(rest.as_str())?;
+    let sentence = sentence(alloc, text, told)?;
+    push_bytes(&mut message, sentence.as_str().as_bytes())?;
+    message.push_str("\n")?;
+    push_line(&mut message, text, told.at.min(text.len()))?;
+    let hints = hints(alloc, text, told)?;
+    message.push_str(hints.as_str())?;
     Ok(message)
 }
 
@@ -49,12 +55,16 @@ fn push_head(message: &mut String, told: &Diagnosis) -> Result<(), AllocError>
     write!(message, "{line}:{column}: {name}: ")
 }
 
-/// The sentence, the line of the text, the caret and what helps.
-fn rest(alloc: Global, text: &[u8], told: &Diagnosis) -> Result<String, AllocError> {
+/// The sentence.
+fn sentence(alloc: Global, text: &[u8], told: &Diagnosis) -> Result<String, AllocError> {
     let mut message = String::new(alloc);
     push_sentence(alloc, &mut message, text, told)?;
-    message.push_str("\n")?;
-    push_line(&mut message, text, told.at)?;
+    Ok(message)
+}
+
+/// What helps.
+fn hints(alloc: Global, text: &[u8], told: &Diagnosis) -> Result<String, AllocError> {
+    let mut message = String::new(alloc);
     push_hints(alloc, &mut message, text, told)?;
     Ok(message)
 }
@@ -91,24 +101,54 @@ fn push_hints(
     }
 }
 
+/// What is shown of the line of a place before the place.
+fn shown_before(text: &[u8], at: usize) -> &[u8]
+    requires { at ≤ length text.now }
+    ensures { AreBefore text.now at result.now }
+{
+    let start = line_start(text, at).max(at.saturating_sub(SHOWN_BEFORE));
+    let (before, _) = text.split_at(at);
+    let (_, shown) = before.split_at(start);
+    shown
+}
+
+/// Whether the byte ends a line.
+fn ends_line(byte: u8) -> bool
+    ensures { result ≡ ends_line byte }
+{
+    byte == b'\n' || byte == b'\r'
+}
+
+/// How many bytes stand before the end of the first line.
+fn rest_len(text: &[u8]) -> usize
+    ensures { result ≡ prefix_len (λ b. not (ends_line b)) text.now }
+{
+    text.iter().take_while(|byte| !ends_line(**byte)).count()
+}
+
+/// What is shown of the line of a place from the place on.
+fn shown_on(text: &[u8], at: usize, room: usize) -> &[u8]
+    requires { at ≤ length text.now }
+    ensures { result.now ≡ bytes_on text.now at room }
+{
+    let (_, rest) = text.split_at(at);
+    let (shown, _) = rest.split_at(rest_len(rest).min(room));
+    shown
+}
+
 /// Adds the line of a place, as far as it is shown, and a caret below the place.
-fn push_line(message: &mut String, text: &[u8], at: usize) -> Result<(), AllocError> {
-    let at = at.min(text.len());
-    let start = line_start(text, at)
-        .min(at)
-        .max(at.saturating_sub(SHOWN_BEFORE));
-    let (before, after) = text.split_at(at);
-    let (_, before) = before.split_at(start.min(before.len()));
-    let len = after
-        .iter()
-        .take_while(|byte| **byte != b'\n' && **byte != b'\r')
-        .count();
-    let shown = len.min(SHOWN.saturating_sub(before.len())).min(after.len());
+fn push_line(message: &mut String, text: &[u8], at: usize) -> Result<(), AllocError>
+    requires { at ≤ length text.now }
+    ensures { OnOk result ((lines : List ℕ) × AreLines text.now at lines × (string_bytes message.new ≡ string_bytes message.old ++ lines)) }
+{
+    let before = shown_before(text, at);
+    let after = shown_on(text, at, SHOWN.saturating_sub(before.len()));
     push_bytes(message, before)?;
-    push_bytes(message, &after[..shown])?;
+    push_bytes(message, after)?;
     message.push_str("\n")?;
     push_blanks(message, before)?;
-    message.push_str("^\n")
+    message.push_str("^\n")?;
+    Ok(())
 }
 
 /// What is reported of an input, as text: of an assembly text, or of a source for paths of at most `k` operations. The text is empty
@@ -150,7 +190,7 @@ fn answer(
 
 /// An answer as text, which is empty where there is nothing to tell.
 fn spell_answer(alloc: Global, input: &[u8], told: &Option<Diagnosis>) -> Result<String, AllocError>
-    ensures { IfOk result (λ t. IsSpelled told.now (string_bytes t)) }
+    ensures { IfOk result (λ t. IsSpelled input.now told.now (string_bytes t)) }
 {
     match told {
         None => Ok(String::new(alloc)),

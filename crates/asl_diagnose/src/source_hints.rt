@@ -198,7 +198,7 @@ fn call_hint(name: &[u8]) -> &'static str {
         b"lock" | b"acquire" | b"unlock" | b"release" => {
             "locks are inferred: mark the statements that belong together by `atomic { .. }`"
         }
-        _ => "a function is written `fn f(x) { .. return x; }`, before its call or behind it",
+        _ => "a function is written `fn f(x) { .. return x; }`, before its call or after it",
     }
 }
 

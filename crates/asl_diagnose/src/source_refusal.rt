@@ -1,10 +1,10 @@
 //! What is reported of a source that is refused.
-ghost use Rattle.std.specs.Prelude.{◌≡◌, ◌≢◌, ◌≤◌, ℕ, false, IfOk};
+ghost use Rattle.std.specs.Prelude.{◌≡◌, ◌≢◌, ◌≤◌, ℕ, true, false, IfOk, OnErr};
 ghost use Rattle.asl_syntax.specs.AstView.{tree_of};
 ghost use Rattle.asl_syntax.specs.Parsed.{Parses};
 ghost use Rattle.asl_syntax.specs.Fault.{IsFault};
 ghost use Rattle.asl_emitter.specs.Refused.{IsRefusedInference};
-ghost use Rattle.asl_diagnose.specs.Diagnosed.{IsSourceDiagnosed, IsSourceDiagnosis, IsExpectedFor, IsInferPlace, IsPosition, HasFirst, HasKinds, HasBringers};
+ghost use Rattle.asl_diagnose.specs.Diagnosed.{IsSourceDiagnosed, IsSourceDiagnosis, IsExpectedFor, IsInferPlace, IsPosition, HasFirst, HasKinds, HasBringers, MayLackMemory};
 
 use crate::diagnosis::{Diagnosis, Refusal};
 use crate::expected::{Expected, expected_at_stop};
@@ -20,14 +20,15 @@ use std::alloc::{AllocError, Global};
 ///
 /// # Errors
 ///
-/// An allocation failed.
+/// An allocation failed. Of a text that is no program this hides nothing, but for `Grammar`.
 pub fn diagnose_source(
     alloc: Global,
     source: &[u8],
     k: u32,
 ) -> Result<Option<Diagnosis>, AllocError>
     requires { k ≤ 8 }
-    ensures { IfOk result (IsSourceDiagnosed source.now k) }
+    ensures told { IfOk result (IsSourceDiagnosed source.now k) }
+    ensures memory { OnErr result (MayLackMemory source.now) }
 {
     match parse(alloc, source) {
         Ok(ast) => diagnose_tree(alloc, source, &ast, k),
@@ -44,7 +45,8 @@ fn diagnose_tree(
 ) -> Result<Option<Diagnosis>, AllocError>
     requires small { k ≤ 8 }
     requires parses { Parses source.now (tree_of ast.now) }
-    ensures { IfOk result (IsSourceDiagnosed source.now k) }
+    ensures told { IfOk result (IsSourceDiagnosed source.now k) }
+    ensures memory { OnErr result (MayLackMemory source.now) }
 {
     match infer(alloc, ast, k) {
         Ok(program) => {
@@ -57,7 +59,8 @@ fn diagnose_tree(
 
 /// Whether memory was all that was wanting.
 fn is_memory(fault: &SyntaxFault) -> bool
-    ensures { result ≡ false → fault.now ≢ SyntaxFault.OutOfMemory }
+    ensures real { result ≡ false → fault.now ≢ SyntaxFault.OutOfMemory }
+    ensures memory { result ≡ true → fault.now ≡ SyntaxFault.OutOfMemory }
 {
     matches!(fault, SyntaxFault::OutOfMemory)
 }
@@ -65,7 +68,8 @@ fn is_memory(fault: &SyntaxFault) -> bool
 /// What is reported of a source that is no program.
 fn told_syntax(alloc: Global, source: &[u8], fault: SyntaxFault) -> Result<Diagnosis, AllocError>
     requires { IsFault source.now fault }
-    ensures { IfOk result (λ told. (k : ℕ) → IsSourceDiagnosis source.now k told) }
+    ensures told { IfOk result (λ told. (k : ℕ) → IsSourceDiagnosis source.now k told) }
+    ensures memory { OnErr result (MayLackMemory source.now) }
 {
     if is_memory(&fault) {
         return Err(AllocError);
@@ -91,6 +95,7 @@ fn expected_for(alloc: Global, source: &[u8], fault: &SyntaxFault) -> Result<Exp
     requires { IsFault source.now fault.now }
     ensures stop { IfOk result (λ e. IsExpectedFor source.now fault.now e.kinds.items e.may_end) }
     ensures others { IfOk result (λ e. HasKinds (Refusal.Syntax fault.now) e.kinds.items e.may_end) }
+    ensures memory { OnErr result ((place : ℕ) × IsFault source.now (SyntaxFault.Grammar place)) }
 {
     match fault {
         SyntaxFault::Grammar(_) => expected_at_stop(alloc, source),

@@ -3,8 +3,7 @@
 ghost use Rattle.std.specs.Prelude.{◌≡◌, ◌+◌, ◌<◌, ◌≤◌, drop, length, IfSome, IfNone};
 ghost use Rattle.std.specs.List.{prefix_len};
 ghost use Rattle.asl_assembler.specs.Words.{is_separator, words_of};
-ghost use Rattle.asl_diagnose.specs.Position.{line_behind, BeginsLine};
-ghost use Rattle.asl_diagnose.specs.TextLines.{first_of};
+ghost use Rattle.asl_diagnose.specs.Position.{first_of, line_behind, word_from, BeginsLine};
 ghost use Rattle.asl_assembler.specs.Reading.{is_line_byte, is_word_byte};
 
 /// A line of a text: its number from 1, and its bytes.
@@ -98,6 +97,17 @@ pub fn first_word(line: &[u8]) -> (&[u8], &[u8])
 {
     let (_, words) = line.split_at(gap_len(line));
     words.split_at(word_len(words))
+}
+
+/// The first word from a place on in its line, which is empty where there is none.
+pub fn word_from(text: &[u8], at: usize) -> &[u8]
+    requires { at ≤ length text.now }
+    ensures { result.now ≡ word_from text.now at }
+{
+    let (_, rest) = text.split_at(at);
+    let (line, _) = rest.split_at(line_len(rest));
+    let (word, _) = first_word(line);
+    word
 }
 
 /// The word of this number in a line, from 0; empty where there is none.

@@ -1,4 +1,4 @@
-//! What to write in a value, where a name or an operand is wanting.
+//! What to write in a value, where a name or an operand is missing.
 
 use asl_grammar::control::Control;
 use asl_grammar::token::{Mark, Token};
@@ -9,7 +9,7 @@ pub(crate) fn value_hint(token: Token<'_>) -> &'static str {
         Token::Fixed(Mark::OpenParen) => {
             "no parentheses stand around a value: one operator a line, as in `t = a + b;`"
         }
-        Token::Fixed(Mark::Semicolon) => "a value is wanting at the right of `=`",
+        Token::Fixed(Mark::Semicolon) => "a value is missing at the right of `=`",
         Token::Fixed(Mark::OpenBracket) => "an object is made by `new`: `x = new 2;`",
         Token::Fixed(Mark::Becomes | Mark::Same) => "a local is set by one `=`",
         _ => "a value is a number, `null`, a name, or what is made of names by one operator",
@@ -25,7 +25,7 @@ pub(crate) fn after_name_hint(token: Token<'_>) -> &'static str {
             "there is no such operator between names: there are `+`, `-`, `<` and `==`"
         }
         Token::Fixed(Mark::Comma) => "a line sets one local",
-        Token::Number(_) => "an operator is wanting, or `;`",
+        Token::Number(_) => "an operator is missing, or `;`",
         _ => "`;` ends the line",
     }
 }
@@ -80,7 +80,7 @@ fn operand_hint(token: Token<'_>) -> &'static str {
     }
 }
 
-/// Where a name is wanting.
+/// Where a name is missing.
 pub(crate) fn name_hint(token: Token<'_>) -> &'static str {
     match token {
         Token::Fixed(

@@ -1,9 +1,12 @@
-use Rattle.std.proofs.Common.{◌∙◌, ◌++◌, ℕ, List, ap}
-use Rattle.asl_diagnose.specs.Names.{head_text}
+use Rattle.std.proofs.Common.{ℕ, rules, append_assoc, subst}
+use Rattle.asl_diagnose.specs.Shown.{AreLines}
 use Rattle.asl_diagnose.proofs.refusal_text.spell.Goals as goal
 
 pub returns : goal.returns
 returns c = record {
-  behind = c.as_str.result.now;
-  begins = c.in_ok-push_str.ensures.bytes ∙ ap (λ (l : List ℕ). l ++ c.as_str.result.now) (c.in_ok-push_head.ensures ∙ ap (λ (l : List ℕ). l ++ head_text c.args.told.now) c.new-message.ensures.bytes);
+  sentence = c.as_bytes.result.now;
+  lines = c.in_ok-push_line.ensures.0;
+  are_lines = subst (λ (n : ℕ). AreLines c.args.text.now n c.in_ok-push_line.ensures.0) c.min.ensures c.in_ok-push_line.ensures.1;
+  hints = c.as_str-2.result.now;
+  begins = search (rules, append_assoc);
 }
