@@ -51,7 +51,8 @@ pub record Reads (is : List Item) (k_limit : ℕ) (image : Image) (section : ℕ
   pub covered : IsCovered is k_limit image
   pub open_at : IsFirstOpen covered.of_tree.analysis.program.lowering covered.of_tree.analysis.program.classes image.lists section lock
 
--- the program is not checked for this reason; out of memory hides no fault of the tree, and no code that is another's
+-- the program is not checked for this reason; `OutOfMemory` hides no fault of the tree, and no code that is another's;
+-- `Infer(OutOfMemory)` may hide all that comes after the tree's lowering
 abbrev pub IsRefusedLists : List Item → ℕ → Image → CheckFault → Type 0
 IsRefusedLists is k_limit image (Infer fault) = IsNotInferred is k_limit fault
 IsRefusedLists is k_limit image (OtherCode pc) = IsOther is k_limit image pc

@@ -1,5 +1,6 @@
 -- What is found out of a step.
 use Rattle.std.proofs.Common.{◌≡◌, ℕ, Bool, IsTrue, List, [], ◌∷◌, ◌++◌, ◌⊎◌, ⊎_elim, inl, inr, Option, Some, IfSome, Result, Ok, Err, IfOk, slice_get, refl, sym, ap, subst}
+use Rattle.std.proofs.lemmas.Option.{same_Some}
 use Rattle.std.specs.List.{flat_map}
 use Rattle.asl_code.specs.declared.image.Function as entry
 use Rattle.asl_code.specs.declared.instr.Instr.{Instr}
@@ -27,11 +28,8 @@ pub stands_here : (a : ExplainAnalysis) (r : Region) (pc f : ℕ) (i : Instr) (l
     → StandsAt (read a) r pc f i
 stands_here a r pc f i lock needed tells at =
     let is = needed_inside a.lowering a.classes (stores a.writes) a.k_limit r pc lock needed in
-    let same : is.0 ≡ f = some_same (sym (tells is.0 pc is.1)) in
+    let same : is.0 ≡ f = same_Some _ _ (sym (tells is.0 pc is.1)) in
     record { inside = subst (λ g. IsIn a.lowering r g pc) same is.1; stands = at }
-  where
-    some_same : {X : Type 0} {x y : X} → Some x ≡ Some y → x ≡ y
-    some_same e = cc
 
 pub some_holds : {X : Type 0} (P : X → Type 0) (o : Option X) (x : X) → o ≡ Some x → IfSome o P → P x
 some_holds {X} P o x is h = subst (λ (k : Option X). IfSome k P) is h

@@ -1,5 +1,6 @@
 -- Locks that end at a `new`.
 use Rattle.std.proofs.Common.{◌≡◌, ◌↔◌, ◌+◌, ◌<◌, ◌≤◌, ◌⊎◌, ⊎_elim, ℕ, zero, suc, Bool, true, List, [], ◌∷◌, ◌++◌, length, map, take, get_or, Some, IfSome, slice_get, inl, inr, refl, sym, ap, ◌∙◌, subst, arith, eq-eqb, if◌then◌else◌}
+use Rattle.std.proofs.lemmas.Option.{same_Some}
 use Rattle.std.specs.List.{flat_map}
 use Rattle.std.proofs.Math.Nat.{eq-or-lt_of_le}
 use Rattle.asl_code.specs.declared.instr.Instr.TheVariants.{New}
@@ -91,9 +92,6 @@ none_of v to cells site (Expr e effect) on =
 none_of v to cells site (Class class effect) on = absurd on
 none_of v to cells site (Root effect) on = absurd on
 
-some_same : {X : Type 0} {x y : X} → Some x ≡ Some y → x ≡ y
-some_same e = cc
-
 module _ (a : ExplainAnalysis) (number : ℕ) (s : Section) (there : slice_get a.lowering.sections number ≡ Some s) where
   pub dropped : (pc to : ℕ) (l : Lock) → IsMadeAt (read a) s pc to → IsOn to l → Needs (read a) (Inside number) (suc pc) l → IsDropped (read a) number pc l
   dropped pc to l made on needed = record {
@@ -110,7 +108,7 @@ module _ (a : ExplainAnalysis) (number : ℕ) (s : Section) (there : slice_get a
   -- where a lock ends, a `new` is inside the section
   pub made_dropped : (pc : ℕ) (l : Lock) (d : IsDropped (read a) number pc l) → IsMadeAt (read a) s pc d.to
   made_dropped pc l d =
-      let same = some_same (sym d.at.inside.in_table ∙ there) in
+      let same = same_Some _ _ (sym d.at.inside.in_table ∙ there) in
       record {
         behind = subst (λ (t : Section). t.acquire < pc) same d.at.inside.behind;
         ahead = subst (λ (t : Section). pc < t.release) same d.at.inside.ahead;
@@ -186,7 +184,7 @@ one_mapped (e ∷ es) m (inr o) = let t = one_mapped es m o in (suc t.0, t.1, t.
 
 mapped_one : (es : List Ended) (n : ℕ) (e : Ended) → slice_get es n ≡ Some e → IsOne (map (λ (d : Ended). d.lock) es) e.lock
 mapped_one [] n e at = cc
-mapped_one (d ∷ es) zero e at = inl (ap (λ (x : Ended). x.lock) (some_same at))
+mapped_one (d ∷ es) zero e at = inl (ap (λ (x : Ended). x.lock) (same_Some _ _ at))
 mapped_one (d ∷ es) (suc n) e at = inr (mapped_one es n e at)
 
 pub ended_whole : (x : Read) (section : ℕ) (locks : List Lock) (es : List Ended) → HasAdded (λ m. (pc : ℕ) × IsDropped x section pc m) [] locks → AreEndedOf x section locks es → AreEnded x section es

@@ -1,5 +1,6 @@
 -- Needs of a section with one more, and the lists of the length that an analysis has.
 use Rattle.std.proofs.Common.{◌≡◌, ◌↔◌, ◌+◌, ◌<◌, ⊎_elim, ℕ, zero, suc, List, [], ◌∷◌, ◌++◌, length, map, take, get_or, Some, slice_get, inl, inr, refl, sym, ap, ◌∙◌, subst, arith}
+use Rattle.std.proofs.lemmas.Option.{same_Some}
 use Rattle.asl_code.specs.declared.lock.Lock.{Lock}
 use Rattle.asl_lower.specs.declared.section.Section.{Section}
 use Rattle.asl_lock_expr.specs.Links.{IsOne}
@@ -77,13 +78,10 @@ sections_more x lists n s list old new ls is stands at all one = record {
       (get_more old ls k ds (subst (λ (xs : List (List Listed)). slice_get xs k ≡ Some ds) is placed));
 }
   where
-    some_same : {X : Type 0} {a b : X} → Some a ≡ Some b → a ≡ b
-    some_same e = cc
-
     last : (k : ℕ) (t : Section) (ms : List Lock) (ds : List Listed) → n ≡ k → ls ≡ ds → slice_get x.lowered.sections k ≡ Some t → slice_get lists k ≡ Some ms → AreListed x k t ms ds
     last k t ms ds place same section with =
-        let here : s ≡ t = some_same (sym stands ∙ subst (λ m. slice_get x.lowered.sections m ≡ Some t) (sym place) section) in
-        let there : list ≡ ms = some_same (sym at ∙ subst (λ m. slice_get lists m ≡ Some ms) (sym place) with) in
+        let here : s ≡ t = same_Some _ _ (sym stands ∙ subst (λ m. slice_get x.lowered.sections m ≡ Some t) (sym place) section) in
+        let there : list ≡ ms = same_Some _ _ (sym at ∙ subst (λ m. slice_get lists m ≡ Some ms) (sym place) with) in
         subst (λ m. AreListed x m t ms ds) place
         (subst (λ (u : Section). AreListed x n u ms ds) here
         (subst (λ (xs : List Lock). AreListed x n s xs ds) there

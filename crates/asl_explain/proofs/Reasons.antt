@@ -1,6 +1,6 @@
 -- Where there is a need, a chain comes to it; what a chain comes to is needed.
 use Rattle.std.proofs.Common.{◌≡◌, ⊎_elim, ℕ, zero, suc, List, [], ◌∷◌, ◌++◌, length, Some, slice_get, refl, sym, ap, ap₂, ◌∙◌, subst, arith}
-use Rattle.std.proofs.lemmas.Option.{slice_get_within}
+use Rattle.std.proofs.lemmas.Option.{same_Some, slice_get_within}
 use Rattle.asl_code.specs.declared.image.Function as entry
 use Rattle.asl_code.specs.declared.instr.Instr.{Instr}
 use Rattle.asl_code.specs.declared.instr.Instr.TheVariants as instr
@@ -35,9 +35,6 @@ step_at r pc lock reason = record { region = named r; pc = pc; lock = lock; why 
 
 step_same : (s : Step) (r : code.Region) (lock : Lock) → s.region ≡ r → s.lock ≡ lock → s ≡ record { region = r; pc = s.pc; lock = lock; why = s.why }
 step_same s r lock p q = ap₂ (λ (a : code.Region) (l : Lock). record { region = a; pc = s.pc; lock = l; why = s.why }) p q
-
-some_same : {X : Type 0} {a b : X} → Some a ≡ Some b → a ≡ b
-some_same h = cc
 
 module _ (x : Read) where
   -- ---- what a chain comes to is needed
@@ -140,7 +137,7 @@ module _ (x : Read) where
   )
     where
       first_same : (t : Step) → slice_get (step_at r pc lock why.Accessed ∷ []) 0 ≡ Some t → step_at r pc lock why.Accessed ≡ t
-      first_same t at = some_same at
+      first_same t at = same_Some _ _ at
 
       none : (n : ℕ) (t : Step) → slice_get (step_at r pc lock why.Accessed ∷ []) (suc n) ≡ Some t → ⊥
       none n t at = cc
@@ -184,7 +181,7 @@ module _ (x : Read) where
           let last = e.last in
           let number : e.number ≡ n = omega (arith, same, last) in
           let there : slice_get (steps ++ s ∷ []) n ≡ Some e.step = subst (λ (m : ℕ). slice_get (steps ++ s ∷ []) m ≡ Some e.step) number (at_old steps s e.number e.step e.at) in
-          let own : b ≡ step_at q e.step.pc before e.step.why = some_same (sym at ∙ there) ∙ step_is in
+          let own : b ≡ step_at q e.step.pc before e.step.why = same_Some _ _ (sym at ∙ there) ∙ step_is in
           subst (λ (u : Step). Follows x b u) is (subst (λ (u : Step). Follows x u s) (sym own) (next e.step.pc e.step.why e.stays))
 
   pub chain_found : (r : Region) (pc : ℕ) (lock : Lock) → Needs x r pc lock → (steps : List Step) × IsChain x r pc lock steps

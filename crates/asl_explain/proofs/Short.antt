@@ -1,6 +1,6 @@
 -- Where all that is needed has shorter paths, the lists of an analysis are those of other lengths, too.
-use Rattle.std.proofs.Common.{◌≡◌, ◌+◌, ◌<◌, ◌≤◌, ⊎_elim, ℕ, List, length, Some, slice_get, refl, sym, ap, ◌∙◌, subst, arith}
-use Rattle.std.proofs.lemmas.Option.{slice_get_within}
+use Rattle.std.proofs.Common.{◌≡◌, ◌+◌, ◌<◌, ◌≤◌, ⊎_elim, ℕ, suc, List, length, Some, slice_get, refl, sym, ap, ◌∙◌, subst, arith}
+use Rattle.std.proofs.lemmas.Option.{same_Some, slice_get_within}
 use Rattle.std.proofs.Math.Nat.{eq-or-lt_of_le}
 use Rattle.asl_code.specs.declared.image.Function.{Function}
 use Rattle.asl_code.specs.declared.lock.Lock.{Lock}
@@ -8,25 +8,22 @@ use Rattle.asl_lower.specs.declared.section.Section.{Section}
 use Rattle.asl_lower.specs.Lowered.{Lowered}
 use Rattle.asl_lower.specs.Regions.{Region, Body, Inside, IsIn}
 use Rattle.asl_lock_expr.specs.Stores.{stores}
-use Rattle.asl_backward_flow.specs.Needed.{RegionNeeds, IsInNeeds, IsTold, AreParts}
+use Rattle.asl_backward_flow.specs.Needed.{Needed, RegionNeeds, IsInNeeds, IsTold, AreParts}
 use Rattle.asl_backward_flow.proofs.Alike.{tests_same, needed_same}
 use Rattle.asl_backward_flow.proofs.Leasts.{needed_inside}
 use Rattle.asl_emitter.specs.BuiltImage.{AreFitted}
 use Rattle.asl_explain.specs.declared.explain_analysis.ExplainAnalysis.{ExplainAnalysis}
 use Rattle.asl_explain.specs.declared.explained_value.Lists.TheVariants.{Inferred}
-use Rattle.asl_explain.specs.Chains.{Read}
+use Rattle.asl_explain.specs.Chains.{Read, Needs}
 use Rattle.asl_explain.specs.Analysed.{read, IsAnalysed, AreFittedAt}
 use Rattle.asl_explain.specs.Lengths.{IsBelow, AreBelow, IsRegionBelow, AreSectionsBelow, AreBodiesBelow, AreNeedsBelow}
 use Rattle.asl_explain.proofs.Lengthening.{same_flow}
-
-some_same : {X : Type 0} {x y : X} → Some x ≡ Some y → x ≡ y
-some_same e = cc
 
 -- the locks of the part of a region
 pub region_below : (parts : List RegionNeeds) (limit : ℕ) (r : Region) → AreParts parts → (place : ℕ) (p : RegionNeeds) → slice_get parts place ≡ Some p → p.region ≡ r → AreBelow limit p.locks → IsRegionBelow parts limit r
 region_below parts limit r apart place p at is below pc lock told =
     let same : told.0 ≡ place = apart.distinct told.0 place told.1 p told.2 at (told.3 ∙ sym is) in
-    let part : told.1 ≡ p = some_same (sym told.2 ∙ ap (slice_get parts) same ∙ at) in
+    let part : told.1 ≡ p = same_Some _ _ (sym told.2 ∙ ap (slice_get parts) same ∙ at) in
     let names : IsInNeeds told.1 pc lock = told.4 in
     below names.0 lock (subst (λ (q : RegionNeeds). slice_get q.locks names.0 ≡ Some lock) part names.3)
 
@@ -43,11 +40,16 @@ needs_below a limit known sections bodies (Body g) pc lock needed =
     let inside = needed_inside a.lowering a.classes (stores a.writes) a.k_limit (Body g) pc lock needed in
     bodies g (slice_get_within a.lowering.functions g inside.1.2.function inside.1.2.in_table) pc lock ((known.tells (Body g) pc lock).1 needed)
 
-pub fitted_at : (a : ExplainAnalysis) (k limit : ℕ) (lists : List (List Lock)) → IsAnalysed a → limit ≤ k → limit ≤ a.k_limit → AreNeedsBelow (read a) limit → AreFitted a.lowering a.classes a.flow (length a.lowering.sections) lists
+-- what a flow tells to be needed by its own test of written classes
+alike : (a : ExplainAnalysis) (known : IsAnalysed a) (r : Region) (pc : ℕ) (m : Lock) → Needed a.lowering a.classes known.flow.stores a.k_limit r pc m → Needs (read a) r pc m
+alike a known r pc m h =
+    needed_same a.lowering a.classes a.k_limit known.flow.stores (stores a.writes) (tests_same a.lowering a.classes known.flow.stores (stores a.writes) known.flow.written known.written) r pc m h
+
+pub fitted_at : (a : ExplainAnalysis) (k : ℕ) (lists : List (List Lock)) → IsAnalysed a → AreNeedsBelow (read a) a.k_limit → AreNeedsBelow (read a) (k + 1) → AreFitted a.lowering a.classes a.flow (length a.lowering.sections) lists
     → AreFittedAt a.lowering a.classes k (Inferred lists)
-fitted_at a k limit lists known to_k to_own below fitted = (
-  a.flow,
-  same_flow a.lowering a.classes limit a.k_limit k a.flow to_own to_k known.flow (λ r pc m h.
-      below r pc m (needed_same a.lowering a.classes a.k_limit known.flow.stores (stores a.writes) (tests_same a.lowering a.classes known.flow.stores (stores a.writes) known.flow.written known.written) r pc m h)),
-  fitted,
-)
+fitted_at a k lists known short within fitted =
+    let longer : k + 1 ≡ suc k = omega arith in (
+      a.flow,
+      same_flow a.lowering a.classes a.k_limit k a.flow known.flow (λ r pc m h. short r pc m (alike a known r pc m h)) (λ r pc m h. subst (λ n. IsBelow n m) longer (within r pc m (alike a known r pc m h))),
+      fitted,
+    )

@@ -1,7 +1,8 @@
 //! The lists of a program for each length of paths.
-ghost use Rattle.std.specs.Prelude.{◌≡◌, ◌≤◌, IfOk, OnOk, length};
+ghost use Rattle.std.specs.Prelude.{◌≡◌, ◌≤◌, ◌+◌, IfOk, OnOk, IsTrue, length};
 ghost use Rattle.asl_emitter.specs.BuiltImage.{AreFitted};
-ghost use Rattle.asl_explain.specs.Analysed.{IsAnalysed, AreEachFitted, AreFittedAt};
+ghost use Rattle.asl_explain.specs.Analysed.{read, IsAnalysed, AreEachFitted, AreFittedAt};
+ghost use Rattle.asl_explain.specs.Lengths.{AreNeedsBelow};
 
 use crate::explain_analysis::ExplainAnalysis;
 use crate::explained_value::Lists;
@@ -34,8 +35,18 @@ fn same_lists(alloc: Global, lists: &[Items<Lock>]) -> Result<Items<Items<Lock>>
     Ok(Items::from_vec(copies))
 }
 
-/// The lists with paths of at most so many operations: these, which are those of the analysis, where all that is needed has shorter
-/// paths.
+/// Whether all that is needed has shorter paths than it may have, and none of more operations than so many: then it is the same with
+/// paths of at most so many.
+fn is_same(analysis: &ExplainAnalysis, k_limit: u32) -> bool
+    requires analysed { IsAnalysed analysis.now }
+    requires short { k_limit ≤ 8 }
+    ensures { IsTrue result → AreNeedsBelow (read analysis.now) analysis.now.k_limit × AreNeedsBelow (read analysis.now) (k_limit + 1) }
+{
+    are_needs_below(analysis, analysis.k_limit as usize)
+        && are_needs_below(analysis, k_limit as usize + 1)
+}
+
+/// The lists with paths of at most so many operations: these, which are those of the analysis, where all that is needed is the same.
 fn lists_at(
     alloc: Global,
     analysis: &ExplainAnalysis,
@@ -47,7 +58,7 @@ fn lists_at(
     requires short { k_limit ≤ 8 }
     ensures { IfOk result (AreFittedAt analysis.now.lowering analysis.now.classes k_limit) }
 {
-    if are_needs_below(analysis, k_limit.min(analysis.k_limit) as usize) {
+    if is_same(analysis, k_limit) {
         return Ok(Lists::Inferred(same_lists(alloc, own)?));
     }
     inferred_at(alloc, analysis, k_limit)
