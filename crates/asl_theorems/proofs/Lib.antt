@@ -1,10 +1,13 @@
 mod Programs
+mod Receipts
 mod Runs
+mod Serials
 mod Positions
 mod Surely
 mod FittingStates
 mod FittingReplies
 mod Writing
+mod Printing
 mod Numbering
 mod Elements
 mod SharedClasses

@@ -13,13 +13,14 @@ use Rattle.asl_machine.specs.StepFunction.{step_of}
 use Rattle.asl_machine.proofs.Starts.{length-first_threads}
 use Rattle.asl_machine.proofs.Lines.{line_there}
 use Rattle.asl_machine.proofs.Reached.{line_count}
+use Rattle.asl_machine.proofs.Unique.{step_only}
 use Rattle.asl_journal.specs.declared.event.Event.{Event}
 use Rattle.asl_journal.specs.Journal.{AreThere, LeadsTo, IsJournal, schedule_of, replies_in}
 use Rattle.asl_journal.specs.Computed.{GoesBy}
 use Rattle.asl_journal.proofs.ByTable.{goes_of, journal_of}
 use Rattle.asl_journal.proofs.Runs.{goes_head, goes_tail, goes_cons}
 use Rattle.asl_atomicity.specs.Serial.{TakenStep, IsRun}
-use Rattle.asl_theorems.specs.Journals.{events_of}
+use Rattle.asl_theorems.specs.Journals.{event_of, events_of}
 
 -- ---- a journal's steps are a run
 
@@ -49,6 +50,28 @@ lead_journal image count events end v leads =
 pub steps_table : (image : Image) (steps : List TakenStep) (s : State) (end : State) → IsRun image s steps end → RunsBy image s (schedule_of (events_of steps)) (replies_in (events_of steps)) end
 steps_table image [] s end e = e
 steps_table image (step ∷ steps) s end e = (e.1, e.2, steps_table image steps e.1 end e.3)
+
+-- ---- events are those of one run
+
+-- a step with the same thread and reply leads to the same state
+same_after : (image : Image) (s new other : State) (one two : Event) → one ≡ two → Step image s one.thread one.reply new → Step image s two.thread two.reply other → new ≡ other
+same_after image s new other one two e h k =
+    (step_only image s one.thread one.reply new h).1 ∙ ap (λ (event : Event). (step_of image s event.thread).state) e ∙ sym (step_only image s two.thread two.reply other k).1
+
+same_step : (x y : TakenStep) → x.before ≡ y.before → event_of x ≡ event_of y → x ≡ y
+same_step x y before told =
+    ap₂ {C = TakenStep} (λ (s : State) (event : Event). record { before = s; thread = event.thread; reply = event.reply }) before told
+
+pub one_run_of : (image : Image) (steps others : List TakenStep) (s end other : State) → IsRun image s steps end → IsRun image s others other → events_of steps ≡ events_of others → steps ≡ others
+one_run_of image [] [] s end other p q e = refl
+one_run_of image [] (y ∷ ys) s end other p q e = absurd cc
+one_run_of image (x ∷ xs) [] s end other p q e = absurd cc
+one_run_of image (x ∷ xs) (y ∷ ys) s end other p q e =
+    let first : event_of x ≡ event_of y = cc in
+    let rest : events_of xs ≡ events_of ys = cc in
+    let next = same_after image s p.1 q.1 (event_of x) (event_of y) first p.2 q.2 in
+    ap₂ {C = List TakenStep} (λ z zs. z ∷ zs) (same_step x y (p.0 ∙ sym q.0) first)
+    (one_run_of image xs ys p.1 end other p.3 (subst (λ (u : State). IsRun image u ys other) (sym next) q.3) rest)
 
 -- ---- every schedule has one journal
 

@@ -29,16 +29,19 @@ ghost use Rattle.asl_assembler.specs.Text.{Spells};
 ghost use Rattle.asl_assembler.specs.Canonical.{canonical_text};
 ghost use Rattle.asl_loader.specs.Bytes.{SpellsImage, text_of};
 ghost use Rattle.asl_journal.specs.declared.event.Event.{Event};
+ghost use Rattle.asl_journal.specs.declared.event.Receipt.{Receipt};
 ghost use Rattle.asl_journal.specs.Bytes.{SpellsLog, log_fields};
 ghost use Rattle.asl_journal.specs.Journal.{Log, LeadsTo, IsJournal, most_events, schedule_of, replies_in};
+ghost use Rattle.asl_journal.specs.RunFile.{SpellsRun};
+ghost use Rattle.asl_runner.specs.History.{IsHistory};
 ghost use Rattle.asl_soundness.specs.Safe.{IsSafe};
 ghost use Rattle.asl_atomicity.specs.Serial.{TakenStep, IsRun, HasSerial, MakesNoneInside};
 ghost use Rattle.asl_atomicity.specs.Renamed.{HasSerialUpTo, FindsRoomInside};
 ghost use Rattle.asl_theorems.specs.Compiled.{Compiles};
-ghost use Rattle.asl_theorems.specs.Journals.{events_of};
+ghost use Rattle.asl_theorems.specs.Journals.{events_of, AreSteps, HasSerialJournal, HasSerialJournalUpTo};
 
-use asl_assembler::laws::texts_spell_one_image;
-use asl_journal::laws::journal_and_bytes_are_one;
+use asl_assembler::laws::{canonical_texts_are_spelled, texts_spell_one_image};
+use asl_journal::laws::{journal_and_bytes_are_one, run_and_bytes_are_one};
 use asl_loader::laws::image_and_bytes_are_one;
 use asl_syntax::laws::{a_printed_tree_is_read_back, a_text_has_one_tree};
 
@@ -49,27 +52,46 @@ pub fn no_compiled_program_faults_for_a_missing_lock()
         → Compiles source k_limit image → LeadsTo image count events end → All IsSafe (replies_in events) }
 {}
 
-/// Files and texts. Reading undoes writing: what is spelled belongs to one value, and an image and a journal have one spelling.
-/// A source is printed as one that is read as the same tree, if it keeps the limit of bytes.
+/// Workers. No reply in the journal that workers leave of a compiled program is such a fault, and so none in their receipts: with
+/// any number of threads and of workers, however these come to their turns.
+pub fn no_worker_meets_a_missing_lock()
+    ensures events { (source : List ℕ) (k_limit : ℕ) (image : Image) (count workers : ℕ) (events : List Event) (receipts : List (List Receipt))
+        → Compiles source k_limit image → IsHistory image count workers events receipts → All IsSafe (replies_in events) }
+    ensures receipts { (source : List ℕ) (k_limit : ℕ) (image : Image) (count workers : ℕ) (events : List Event) (receipts : List (List Receipt))
+        (worker : ℕ) (mine : List Receipt) → Compiles source k_limit image → IsHistory image count workers events receipts
+        → slice_get receipts worker ≡ Some mine → All (λ receipt. IsSafe receipt.reply) mine }
+{}
+
+/// Files and texts. Reading undoes writing: what is spelled belongs to one value, and an image, a journal and a run have one
+/// spelling. A source is printed as one that is read as the same tree, if it keeps the limit of bytes. The canonical text of a
+/// program that some text or some bytes spell is read as the same program.
 pub fn reading_undoes_writing()
     ensures images { (image other : Image) (bytes others : List ℕ) → SpellsImage image bytes
         → (SpellsImage other bytes → other ≡ image) × (SpellsImage image others → others ≡ bytes) }
     ensures texts { (image other : Image) (text : List ℕ) → Spells text image → Spells text other → other ≡ image }
     ensures journals { (log other : Log) (bytes others : List ℕ) → SpellsLog log bytes
         → (SpellsLog other bytes → other ≡ log) × (SpellsLog log others → others ≡ bytes) }
+    ensures runs { (image other : Image) (log another : Log) (bytes others : List ℕ) → SpellsRun image log bytes
+        → (SpellsRun other another bytes → (other ≡ image) × (another ≡ log)) × (SpellsRun image log others → others ≡ bytes) }
     ensures sources { (tree : List Item) (source : List ℕ) → Parses source tree → length (printed tree) ≤ 1048576
         → Parses (printed tree) tree }
     ensures trees { (tree other : List Item) (source : List ℕ) → Parses source tree → Parses source other → other ≡ tree }
+    ensures canonical { (image other : Image) (text : List ℕ) → IsVerified image → Spells text image
+        → Spells (canonical_text image) image × (Spells (canonical_text image) other → other ≡ image) }
+    ensures disassembled { (image other : Image) (bytes : List ℕ) → IsVerified image → SpellsImage image bytes
+        → Spells (canonical_text image) image × (Spells (canonical_text image) other → other ≡ image) }
 {
     image_and_bytes_are_one();
     texts_spell_one_image();
+    canonical_texts_are_spelled();
     journal_and_bytes_are_one();
+    run_and_bytes_are_one();
     a_printed_tree_is_read_back();
     a_text_has_one_tree();
 }
 
 /// The machine. Journals, of which the commands speak, are runs by the instruction table, and each such run, of as many
-/// threads as the program's version allows, is a journal's. Events lead to one state at the most.
+/// threads as the program's version allows, is a journal's. Events lead to one state at the most, and are those of one run.
 pub fn journals_are_runs_by_the_table()
     ensures table { (image : Image) (count : ℕ) (events : List Event) (end : State) → IsVerified image
         → LeadsTo image count events end → IsJournal image count events }
@@ -79,6 +101,9 @@ pub fn journals_are_runs_by_the_table()
         → (steps : List TakenStep) × IsRun image (start_of image count) steps end × (events ≡ events_of steps) }
     ensures only { (image : Image) (count : ℕ) (steps : List TakenStep) (end : State) → IsThreadCount image count
         → IsRun image (start_of image count) steps end → LeadsTo image count (events_of steps) end }
+    ensures steps { (image : Image) (count : ℕ) (steps others : List TakenStep) (end other : State)
+        → IsRun image (start_of image count) steps end → IsRun image (start_of image count) others other
+        → events_of steps ≡ events_of others → steps ≡ others }
 {}
 
 /// It is not said of nothing. Each order of the steps of as many threads as the program's version allows has a journal, and no
@@ -166,4 +191,14 @@ pub fn compiled_programs_are_atomic()
     ensures up_to_numbers { (source : List ℕ) (k_limit : ℕ) (image : Image) (count : ℕ) (steps : List TakenStep) (end : State)
         → Compiles source k_limit image → IsRun image (start_of image count) steps end
         → All FindsRoomInside steps → HasSerialUpTo image count steps end }
+{}
+
+/// Atomicity of journals. Each journal of a compiled program is that of a run; under the same conditions on its steps there is a
+/// serial journal, which leads to the same state and reports the same to each thread, in the second form up to the numbers of objects.
+pub fn journals_of_compiled_programs_are_atomic()
+    ensures { (source : List ℕ) (k_limit : ℕ) (image : Image) (count : ℕ) (events : List Event) (end : State)
+        → Compiles source k_limit image → LeadsTo image count events end
+        → (steps : List TakenStep) × AreSteps image count events end steps
+        × (All (MakesNoneInside image) steps → HasSerialJournal image count events steps end)
+        × (All FindsRoomInside steps → HasSerialJournalUpTo image count events steps end) }
 {}
