@@ -5,6 +5,7 @@ export const KEYS = [
   ['r', 'round robin'], ['R', 'random steps, by the seed'], ['n', 'until somebody is blocked, or all have ended'],
   ['u  U', 'undo a branch, redo'], ['c', 'clear the run'], ['Space', 'play, pause'],
   ['b  B', 'next, previous blocked'], ['h', 'from a blocked try to the event that took the lock'],
+  ['w', 'from a register or cell to the event that wrote it'],
   ['o  O', 'next, previous output'], ['f  F', 'next, previous fault'], ['[  ]', 'previous, next event of the same thread'],
   ['e  Esc', 'into the editor, out of it'], ['Esc', 'stop what takes long'], ['k  K', 'larger, smaller k'], ['t  T', 'more, fewer threads'],
     ['x', 'why these locks'], ['m', 'instructions, hidden or shown'],

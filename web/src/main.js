@@ -22,6 +22,7 @@ import { drawComparison, elsewhere } from './panels/comparison.js';
 import { Comparison } from './comparison.js';
 import { drawLesson, openLesson, closeLesson, lessonNumber, lessonList } from './panels/lesson.js';
 import { whyText } from './why.js';
+import { pictureOf } from './picture.js';
 import { toFragment, fromFragment, commandLines } from './share.js';
 import { readFile, download, copyText } from './files.js';
 import { listenToKeys } from './keys.js';
@@ -75,7 +76,8 @@ function drawLists(atOnce) {
 function drawSentences() {
   drawComparison(bench, comparison, chooseK);
   if (bench.run) renew(byId('say'), el('p', {}, sentence(bench, openWhy)),
-    el('p', { class: 'soft' }, elsewhere(bench, comparison), nextSentence(bench)));
+    el('p', { class: 'soft' }, bench.origin?.state === bench.state && bench.origin.told, elsewhere(bench, comparison),
+      nextSentence(bench)));
 }
 
 function drawRun(what) {
@@ -160,6 +162,11 @@ function toHolder() {
   if (section) bench.go(section.from + 1);
 }
 
+function toWriter() {
+  const at = document.activeElement;
+  if (at.matches('.register,.cell')) at.click(); else note('Go to a register or a cell by Tab first.');
+}
+
 function play() {
   if (due.player) { clearInterval(due.player); due.player = 0; } else {
     if (bench.position === events().length) bench.go(0);
@@ -189,7 +196,8 @@ async function openShare() {
   const file = (name, bytesOf) => el('button', { onclick: () => unlessDropped((async () => download(name, await bytesOf()))()) },
     'Save ' + name);
   openDialog('Share', copy('Link', location.href), copy('The same by command line', commandLines(bench)),
-    el('p', { class: 'files' }, bench.run.length ? file(base + '.run', () => bench.run.file()) : null,
+    el('p', { class: 'files' }, bench.run.length
+      ? [file(base + '.run', () => bench.run.file()), file(base + '.svg', () => pictureOf(bench))] : null,
       file(base + '.img', () => bench.image),
       file(`${base}.${bench.kind}`, () => bench.text)));
 }
@@ -247,7 +255,7 @@ function listenToKeyboard() {
     End: () => bench.go(Infinity), Escape: stopAll,
     r: robin, R: random, n: until, u: () => bench.undo(), U: () => bench.redo(), c: () => bench.clear(), ' ': play,
     b: replies('blocked', 1), B: replies('blocked', -1), o: replies('out', 1), O: replies('out', -1), f: replies('fault', 1),
-      F: replies('fault', -1), h: toHolder, '[': sameThread(-1), ']': sameThread(1),
+      F: replies('fault', -1), h: toHolder, w: toWriter, '[': sameThread(-1), ']': sameThread(1),
     e: enterEditor, k: () => chooseK(bench.k + 1), K: () => chooseK(bench.k - 1),
     t: () => bench.setThreads(bench.threads + 1), T: () => bench.setThreads(bench.threads - 1), x: whyHere,
       m: () => toggleInstructions(), s: openShare, j: openLessons, '?': openKeys,

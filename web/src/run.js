@@ -104,6 +104,11 @@ export class Run {
     }
     return state;
   }
+  // A register of the top frame at position k; a view of many positions need not be read whole.
+  register(k, thread, register) {
+    this.session.go(k);
+    return new RegExp(`^reg ${thread} ${register} (.*)$`, 'm').exec(this.session.view())?.[1];
+  }
   // The request of a thread at position k, and who is in the way; none where it stands at no `acq`.
   request(k, thread) { return this.view(k).requests.get(thread) || NO_REQUEST; }
   classOf(k, object) { return this.view(k).classes[object]; }

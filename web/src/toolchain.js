@@ -38,6 +38,8 @@ const text = async answer => { const { output, refusal } = await answer; return 
 
 export const compile = (source, k, behind) => ofText(['compile', '--k', k], source, behind);
 export const compileText = (source, k, behind) => text(ofText(['compile', '--k', k, '--text'], source, behind));
+// Whether the lists of a program are enough for a source. (Of a lesson, which a newer text does not end.)
+export const checkLists = (source, program, k) => text(ofRun(['check', '--k', k], `${source}\0${program}`));
 export const mapText = source => text(ofText(['map'], source));
 export const explainText = (source, k) => text(ofText(['explain', '--k', k], source));
 export const diagnoseText = (source, k) => text(ofText(['diagnose', '--k', k], source));

@@ -1,5 +1,5 @@
 // The six lessons, each done to its end by keys alone: what is pressed is found as a reader would, from what the page says.
-import { browser, check, key, open, part, run, settled, textOf } from './kit.mjs';
+import { asl, browser, check, key, open, part, run, settled, textOf } from './kit.mjs';
 
 const done = () => run("document.querySelectorAll('#s-lesson:not([hidden]) li.done').length");
 const thread = t => textOf(`[data-thread^="thread ${t} "]`);
@@ -52,26 +52,33 @@ const WAYS = [
   },
   async () => { await tick('0', 1); await tick('0', 2); },
   async () => {
+    const append = async line => {
+      await key('e');
+      for (let i = 0; i < 40; i++) await browser.strike('ArrowDown');
+      await browser.typed(line + '\n');
+      await key('Escape'); await settled(); await settled();
+      check(await run("document.getElementById('complaint').hidden"), 'what was typed is accepted: ' + await textOf('#complaint'));
+    };
     await tick('0', 1);
-    await key('e');
-    for (let i = 0; i < 6; i++) await browser.strike('ArrowDown');
-    await browser.typed('acq 0\n');
-    await browser.strike('ArrowDown');
-    await browser.typed('rel\n');
-    await browser.strike('ArrowDown');
-    await browser.typed('list\nexpr r1 read\n');
-    await key('Escape'); await settled(); await settled();
-    check(await run("document.getElementById('complaint').hidden"), 'what was typed is accepted: ' + await textOf('#complaint'));
+    await append('expr r1 write');
     await tick('r', 2, 2);
+    await settled();
+    check(await done() === 2 && /not enough, section 1 needs expr r2 write/.test(await textOf('#lesson-end')), 'one run is not enough: ' + await textOf('#lesson-end'));
+    await append('expr r2 write');
+    const source = await textOf('#lesson-source pre'), text = await run('workbench.bench.text');
+    check(asl(['check', '--k', 0], source + '\0' + text).toString() === 'checked 2 sections\n', 'the program accepts the list');
   },
 ];
+// What each lesson tells at its end.
+const ANSWERS = [/0 0 1 1/, /still one addition is lost/, /^Done\. k 1\./, /no circle/, /The end of the section/, /expr r2 write/];
 
 await part('the six lessons, each to its end, by keys alone', async () => {
   await open();
   for (const [i, way] of WAYS.entries()) {
     await openLesson(i + 1);
     await way();
-    check((await textOf('#lesson-end')).startsWith('Done'), `lesson ${i + 1}: ${await done()} steps done, ${await textOf('#say')}`);
+    const end = await textOf('#lesson-end');
+    check(end.startsWith('Done') && ANSWERS[i].test(end), `lesson ${i + 1}: ${await done()} steps done, ${end} ${await textOf('#say')}`);
   }
 });
 
@@ -83,6 +90,10 @@ await part('each control that is pressed keeps the focus', async () => {
   check(await tabTo('#sections button.k') >= 0, 'a k is reached');
   await key('Enter'); await settled();
   check(await run("document.activeElement.matches('button.k') && workbench.bench.k === 0"), 'a k keeps the focus, and is chosen');
+  await open('#lesson=1');
+  check(await tabTo('#lesson-steps button') >= 0, 'a hint is reached');
+  await key('Enter');
+  check(/frame begins/.test(await textOf('#lesson-steps em')) && await run("document.activeElement.ariaExpanded") === 'true', 'a hint keeps the focus, and is told');
 });
 
 // The last part: behind the last control the keys may be the browser's own.

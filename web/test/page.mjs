@@ -4,6 +4,7 @@ import { mkdtempSync, readFileSync, readdirSync, writeFileSync } from 'node:fs';
 import { tmpdir } from 'node:os';
 import { join } from 'node:path';
 import { fileURLToPath } from 'node:url';
+import { deflateRawSync } from 'node:zlib';
 import { asl, at, browser, calm, check, finish, hasMemory64, key, open, part, run, settled, textOf } from './kit.mjs';
 import { EXAMPLES, PAGE } from './paths.mjs';
 
@@ -16,7 +17,7 @@ const type = async text => {
 const SHOWN = `(() => { const all = name => [...document.querySelectorAll('[data-' + name + ']')].map(e => e.dataset[name]);
   const says = (e, text) => { const [kind, v] = e.dataset[text].split(' ').slice(-2); return kind === 'int' ? e.textContent.endsWith(v) : v === 'null' ? e.textContent.endsWith('null') : e.textContent.includes('→ '); };
   const wrong = ['register', 'cell'].flatMap(name => [...document.querySelectorAll('[data-' + name + ']')].filter(e => !says(e, name)).map(e => 'text ' + e.textContent));
-  return [...wrong, ...all('thread'), ...all('register'), ...all('cell'), ...all('held')].sort().join('\\n'); })()`;
+  return [...wrong, ...all('thread'), ...all('register').filter(line => !line.startsWith('local ')), ...all('cell'), ...all('held')].sort().join('\\n'); })()`;
 const difference = (a, b) => { const x = a.split('\n'), y = b.split('\n'); return 'shown ' + x.filter(l => !y.includes(l)).slice(0, 3) + ' / native ' + y.filter(l => !x.includes(l)).slice(0, 3); };
 const viewLines = text => text.trim().split('\n').filter(l => !l.startsWith('at ') && !l.startsWith('fresh ')).sort().join('\n');
 
@@ -83,6 +84,116 @@ await part('random steps on 3 examples: the page at each position is the native 
       check(shown === viewLines(native), `${name} at ${p}: page: ${difference(shown, viewLines(native))}`);
     }
   }
+});
+
+// What is shown at random positions of a run, with the program and its run file.
+async function randomRun(name, threads, k, seed, steps) {
+  await open(`#example=${name}&k=${k}&threads=${threads}`);
+  await run(`document.getElementById('seed').value = ${seed}; document.getElementById('most').value = ${steps}`);
+  await key('R');
+  const text = readFileSync(EXAMPLES + name), image = name.endsWith('.asl') ? asl(['compile', '--k', k], text) : asl(['asm'], text);
+  const file = asl(['step', '--threads', threads, '--record', ...await run('workbench.bench.run.schedule')], image);
+  const [, length] = await at(), places = Array.from({ length: Math.min(8, STEPS) }, (_, i) => (i * 7919 * seed) % (length + 1));
+  return { image, file, length, places };
+}
+// What the program prints at each position for some words.
+const printedAt = (file, length, ...words) => asl(['debug', ...Array.from({ length: length + 1 }, (_, p) => ['goto', p, ...words]).flat()],
+  file).toString().split(/^at \d+\n/m).slice(1);
+
+// Who wrote what at a position, told forwards: the last event of each register, by thread, frame from below and number, and of each cell.
+function writersAt(position, image, file, threads, views) {
+  const program = asl(['dis'], image).toString().trim().split('\n'), written = {}, waits = [], stacks = Array(threads).fill(1);
+  const code = program.filter(line => !/^(version|classes|global|entry|fn|list|expr|class|root)\b/.test(line));
+  const parameters = program.flatMap(line => (line.startsWith('fn ') ? [Number(line.split(' ')[1])] : []));
+  let objects = program.filter(line => line.startsWith('global ')).length;
+  asl(['log', '--trace'], file).toString().split('\n').slice(0, position).forEach((line, k) => {
+    const [, t, pc, , reply] = line.split(' '), [op, ...words] = reply === 'ran' ? code[pc].split(/,? /) : [''];
+    const a = words[0]?.slice(1), frame = above => `register-${t}-${stacks[t] - 1 + above}-`;
+    if (op === 'store') written['cell-' + new RegExp(`^reg ${t} ${a} addr (.*)$`, 'm').exec(views[k])[1]] = k;
+    if (op === 'new') { for (let f = 0; f < words[1]; f++) written[`cell-${objects}.${f}`] = k; objects++; }
+    if (op === 'call') {
+      for (const keep in written) if (keep.startsWith(frame(1))) delete written[keep];
+      for (let r = 0; r < parameters[words[2]]; r++) written[frame(1) + r] = k;
+      waits.push([t, stacks[t]++, a]);
+    } else if (op === 'ret' && stacks[t] > 1) {
+      stacks[t]--;
+      written[frame(0) + waits.splice(waits.findLastIndex(wait => wait[0] === t), 1)[0][2]] = k;
+    } else if (/^(int|null|mov|add|sub|lt|eq|glob|field|load|new)$/.test(op)) written[frame(0) + a] = k;
+  });
+  return { written, code };
+}
+
+await part('registers and cells lead to the event that wrote them', async () => {
+  let tried = 0, unwritten = 0;
+  for (const [name, threads, k, steps] of [['hash.asl', 3, 3, 200], ['tree.asl', 2, 0, 150], ['sum.asm', 1, 3, 60]]) {
+    const { image, file, length, places } = await randomRun(name, threads, k, 13, steps), views = printedAt(file, length, 'view');
+    for (const p of places) {
+      const { written, code } = writersAt(p, image, file, threads, views);
+      await run(`workbench.bench.go(${p})`); await calm();
+      const led = await run(`(async () => { const { bench } = workbench, led = [];
+        for (const e of document.querySelectorAll('.register,.cell')) {
+          await bench.go(${p}); e.click(); await bench.going; led.push([e.dataset.keep, bench.position]);
+        }
+        return led; })()`);
+      if (!led.length) continue;
+      for (const [keep, there] of led) check(there === (keep in written ? written[keep] + 1 : p), `${name} at ${p}: ${keep} leads to ${there}, of ${written[keep]}`);
+      const [keep] = led[p % led.length], at = written[keep], [, thread, pc] = at === undefined ? [] : asl(['log', '--trace'], file).toString().split('\n')[at].split(' ');
+      await run(`workbench.bench.go(${p})`); await calm();
+      await run(`document.querySelector('[data-keep="${keep}"]').click()`); await calm();
+      const told = at === undefined ? ' is as it began: nothing wrote it.' : ` was written by event ${at}, thread ${thread}: ${code[pc]}.`;
+      check((await textOf('#say')).includes(told), `${name} at ${p}: ${keep}${told} / ${await textOf('#say')}`);
+      tried += led.length; unwritten += led.filter(([is]) => !(is in written)).length;
+    }
+  }
+  check(tried > 400 && unwritten > 40, 'values tried: ' + tried);
+  console.log('      ', tried, 'values,', unwritten, 'of them as they began');
+  await open('#example=counter.asl&k=3&threads=2&steps=000011000&at=9');
+  await key('w'); check(/by Tab/.test(await textOf('#note')), 'w without a register or a cell says what to do');
+  await run(`document.querySelector('[data-keep="cell-0.0"]').focus()`); await key('w');
+  const said = await textOf('#say');
+  check(/^count was written by event 7, thread 0: store r1, r4\./.test(await textOf('#say p+p')) && String(await at()) === '8,9', 'w: ' + said);
+  await run(`document.querySelector('[data-register="reg 0 1 addr 0.0"]').focus()`); await key('w');
+  check(String(await at()) === '1,9' && await run("document.activeElement.dataset.keep") === 'register-0-0-1', 'w goes back, and the focus stays');
+  await key('ArrowRight'); check(!/written by/.test(await textOf('#say')), 'the next step says nothing of it');
+  await browser.size(420, 900); await key('End');
+  await run(`scrollTo(0, 9999); document.querySelector('[data-keep="cell-0.0"]').click()`); await calm();
+  check(await textOf('#note:not([hidden])') === 'count was written by event 7, thread 0: store r1, r4.', 'where the sentence is out of sight a note says it');
+  await browser.size(1400, 1000);
+});
+
+// The panels' lines of what waits, of frames and of objects, and what is wrong with their words.
+const PANELS = `(() => { const all = (selector, name) => [...document.querySelectorAll(selector)].map(e => e.dataset[name]);
+  const wrong = [...document.querySelectorAll('.wish')].filter(e => e.textContent !== (e.matches('.no') ? '✕ ' : '') + e.dataset.asks.split(' ').at(-1) + '?')
+    .concat([...document.querySelectorAll('.object')].filter(e => { const [, , c, cells] = e.dataset.object.split(' ');
+      return !e.querySelector('.title').textContent.includes(' class ' + c) || e.querySelectorAll('.cell').length !== Math.min(16, cells); })).map(e => e.textContent);
+  const tops = [...document.querySelectorAll('.thread')].map(e => e.dataset.thread.split(' ')[1] + ': ' + (e.querySelector('.line .code')?.textContent || 'over'));
+  return { asks: all('.wish', 'asks'), crossed: all('.wish.no', 'asks'), framed: all('.mode.clash', 'held'), frames: all('.frame', 'frame'),
+    locals: all('.register', 'register').map(line => line.replace(/^reg (\\d+)/, 'local $1 0')), objects: all('.object', 'object'), wrong, tops }; })()`;
+
+await part('waiting requests, frames and objects at random positions are what the program prints', async () => {
+  const seen = {};
+  for (const [name, threads, k] of [['bank.asl', 4, 0], ['hash.asl', 3, 3], ['tree.asl', 3, 0], ['sum.asm', 1, 3]]) {
+    const { file, places } = await randomRun(name, threads, k, 17, 200), events = asl(['log'], file).toString().split('\n');
+    const names = readFileSync(EXAMPLES + name, 'utf8').split(/^fn /m).slice(1).map((text, f) => (name.endsWith('.asl') ? /\w+/.exec(text)[0] : 'fn ' + f));
+    for (const p of places) {
+      const lines = asl(['debug', 'goto', p, 'asks', 'stack', 'objects'], file).toString().trim().split('\n').slice(1).map(line => line.split(' '));
+      const waits = t => events.slice(0, p).findLast(line => line.split(' ')[1] === t)?.endsWith(' blocked');
+      const told = (word, is = () => true) => lines.filter(words => words[0] === word && is(words)).map(words => words.join(' '));
+      const clashes = lines.filter(words => words[0] === 'clash' && waits(words[1]));
+      const tops = Object.fromEntries(lines.filter(words => words[0] === 'frame' && words[2] === '0').map(words => [words[1], `${names[words[4]]}, pc ${words[6]}`]));
+      const native = { asks: told('asks', words => words.length > 2 && waits(words[1])), crossed: clashes.map(words => ['asks', ...words.slice(1, -2)].join(' ')),
+        framed: clashes.map(words => ['held', words.at(-2), ...words.slice(2, -3), words.at(-1)].join(' ')), frames: told('frame', words => words[2] !== '0'),
+        locals: told('local'), objects: told('object'), wrong: [], tops: Array.from({ length: threads }, (_, t) => `${t}: ${tops[t] || 'over'}`) };
+      await run(`workbench.bench.go(${p})`); await calm();
+      const shown = await run(PANELS), sorted = list => [...new Set(list)].sort().join('\n');
+      for (const what in native) {
+        seen[what] = (seen[what] || 0) + native[what].length;
+        check(sorted(shown[what]) === sorted(native[what]), `${name} at ${p}: ${what}: ${difference(sorted(shown[what]), sorted(native[what]))}`);
+      }
+    }
+  }
+  check(['asks', 'crossed', 'frames', 'locals', 'objects'].every(what => seen[what] > 20), 'seen ' + JSON.stringify(seen));
+  console.log('       compared', JSON.stringify(seen));
 });
 
 await part('128 threads, assembly texts, faults', async () => {
@@ -316,12 +427,40 @@ await part('a share link restores everything', async () => {
   await open(fragment);
   check(await run(said) === before, 'restored');
   console.log('       a link of', fragment.length, 'letters for', (await at())[1], 'steps of a changed source');
-  for (const broken of ['#asl=%%%&k=99&threads=-4&steps=zz', '#example=toString', '#example=__proto__']) {
+  const long = '#asl=' + deflateRawSync(Buffer.alloc(2 ** 24 + 1, ' ')).toString('base64url');
+  for (const broken of ['#asl=%%%&k=99&threads=-4&steps=zz', '#example=toString', '#example=__proto__', long]) {
     await open(broken);
-    check(await run("workbench.bench.title") === 'counter.asl', 'a broken link opens the first example: ' + broken);
+    check(await run("workbench.bench.title") === 'counter.asl', 'a broken link opens the first example: ' + broken.slice(0, 40));
   }
   await open('#example=counter.asl&threads=12&steps=0*x.1*-1.2*1.5..3*2.12.7');
   check(String(await run('workbench.bench.run.schedule')) === '2,5,3,3,7', 'what is no step is left out');
+});
+
+// What a button of the share dialog saves, as text.
+const savedBy = words => run(`(async () => { const made = URL.createObjectURL, { click } = HTMLAnchorElement.prototype; let saved;
+  URL.createObjectURL = blob => made.call(URL, saved = blob); HTMLAnchorElement.prototype.click = () => {};
+  [...document.querySelectorAll('.files button')].find(e => e.textContent === '${words}').click();
+  await new Promise(done => setTimeout(done, 300));
+  URL.createObjectURL = made; HTMLAnchorElement.prototype.click = click; return saved.text(); })()`);
+
+await part('a picture of the run is an SVG that stands alone, with a row per thread, in light colours', async () => {
+  await open('#example=queue.asl&k=3&threads=3');
+  for (const name of ['R', 'd', 's']) await key(name);
+  await settled();
+  const text = await savedBy('Save queue.svg'), [, length] = await at();
+  check(await run("document.documentElement.dataset.dark === '1' && !document.querySelector('#print-lanes *')"), 'the page is as it was');
+  const [root, rows, events] = await run(`(() => { const { documentElement } = new DOMParser().parseFromString(${JSON.stringify(text)}, 'image/svg+xml');
+    const words = (box, name) => [...box.querySelectorAll(name)].map(e => e.textContent);
+    return [documentElement.tagName, [...documentElement.children].filter(e => e.tagName === 'svg').map(row => words(row, 'text').filter(text => /^T\\d$/.test(text)).join()),
+      words(documentElement, '.lanes title').filter(text => text.startsWith('event ')).length]; })()`);
+  check(root === 'svg' && rows.length === Math.ceil(length / 48) && rows.every(row => row === 'T0,T1,T2'), `${root}: ${rows}`);
+  check(events === length, `${events} marks of ${length} events`);
+  check(!/var\(|style=|<script|href/.test(text), 'nothing in it needs the page');
+  const file = join(mkdtempSync(join(tmpdir(), 'workbench-')), 'run.svg');
+  writeFileSync(file, text);
+  await browser.open('file://' + file, "document.documentElement.tagName === 'svg'");
+  const looks = await run("['circle', 'rect', 'text'].map(name => getComputedStyle(document.querySelector(name)).fill).join('; ')");
+  check(/^rgb\(0, 114, 178\)|^rgb\(192, 79, 0\)|^rgb\(0, 122, 90\)/.test(looks) && looks.includes('; rgb(246, 247, 249); rgb(77, 86, 99)'), 'colours ' + looks);
 });
 
 await part('files: a run file, an image, an assembly text', async () => {
@@ -348,6 +487,22 @@ await part('a source with </script> and <img onerror> stays text', async () => {
   check(await run('window.bad === undefined && document.images.length === 0') && await run('workbench.bench.text') === evil, 'from a link too');
   await open('#asl=' + fragment.slice(5).split('&')[0] + '&title=' + encodeURIComponent('<img src=x onerror="window.bad=1"></title></script>')); await settled();
   check(await run('window.bad === undefined && document.images.length === 0'), 'a title too');
+});
+
+await part('right-to-left marks stay text, and turn nothing round', async () => {
+  const evil = 'fn main(t) {\n  x = \u202Etxe\u2067; y = \u200F;\n  return t;\n}\n', title = 'safe.\u202Elsa\u2066';
+  const marked = () => run("[...document.querySelectorAll('title,header,#complaint,#s-sections,#dialog')].filter(e => /\\p{Cf}/u.test(e.textContent)).map(e => e.textContent).join('; ')");
+  await open('#asl=' + deflateRawSync(evil).toString('base64url') + '&title=' + encodeURIComponent(title)); await settled();
+  check(await run('workbench.bench.text') === evil && await run("document.getElementById('text').value") === evil, 'the text is as it came');
+  check(await textOf('#title') === 'safe.lsa' && await marked() === '', 'marks in ' + await marked());
+  const row = await textOf('#complaint pre');
+  check(/^ {2}x = \uFFFDtxe\uFFFD; y = \uFFFD;\n {6}\^/.test(row), 'each mark is seen: ' + row);
+  await type('global g; fn main(t) { return t; }'); await type('global g; fn main(t) { return t; } \u202E');
+  for (const name of ['0', 's']) await key(name);
+  await settled();
+  check(await run("document.getElementById('dialog').open") && await marked() === '', 'marks in ' + await marked());
+  await open(await run('location.hash')); await settled();
+  check(await run('workbench.bench.text') === 'global g; fn main(t) { return t; } \u202E', 'from a link too');
 });
 
 await part('no sideways scrolling at 420 px', async () => {

@@ -15,7 +15,7 @@ const one = list => list[below(list.length)];
 const EXAMPLES = ['counter.asl', 'lost.asl', 'walk.asl', 'move.asl', 'bank.asl', 'queue.asl', 'hash.asl', 'tree.asl', 'hit.asl',
   'nested.asl', 'counter.asm', 'sum.asm', 'unprotected.asm', 'unguarded-pair.asm'];
 const STEPS = ['0', '1', '2', '3', '0', '1'];
-const MOVES = ['ArrowLeft', 'ArrowRight', 'Home', 'End', 'b', 'B', 'o', 'O', 'h', '[', ']', 'f', 'F'];
+const MOVES = ['ArrowLeft', 'ArrowRight', 'Home', 'End', 'b', 'B', 'o', 'O', 'h', '[', ']', 'f', 'F', 'w'];
 const CHANGES = ['r', 'R', 'n', 'u', 'U', 'c', 'k', 'K', 't', 'T'];
 const LOOKS = ['m', 'l', '+', '-', 'L', 'd', 'A', 'a', ' '];
 const TEXTS = [' ', ';', '{', '}', 'x', 'global more;', 'atomic {', '<b>', '\n', '=', '*', '\u202e'];
@@ -32,7 +32,7 @@ const ACTIONS = [
   [5, () => browser.strike(one(LOOKS))],
   [3, () => browser.run(`(() => { const e = document.getElementById('example'); e.value = '${one(EXAMPLES)}'; e.dispatchEvent(new Event('change')); })()`)],
   [6, () => browser.run(edit())], [3, () => browser.run(click('#undo, #redo, #first, #last, #back, #forward'))],
-  [6, () => browser.run(click('.head, .k, svg.lanes, #strip, #events tr, .link'))],
+  [6, () => browser.run(click('.head, .k, svg.lanes, #strip, #events tr, .link, .register, .cell'))],
   [2, async () => { await browser.strike(one(['x', 's', '?', 'j'])); await browser.sleep(20); await browser.strike('Escape'); }],
   [2, () => browser.run(`document.getElementById('slide').value = ${below(400)}; document.getElementById('slide').dispatchEvent(new Event('input'))`)],
   [1, () => browser.run(`location.hash = '#lesson=${1 + below(6)}'`)],

@@ -2,6 +2,7 @@
 // between them, the registers that point at each, the locks on each cell.
 
 import { byId, el, svg, threadColour, count, renew, setText, textSize, whenDrawn } from '../dom.js';
+import { showWriter, writerOfCell } from '../writers.js';
 
 const MOST_OBJECTS = 28, MOST_CELLS = 16, MOST_TAGS = 6;
 const target = value => (value.startsWith('addr ') ? Number(value.slice(5).split('.')[0]) : -1);
@@ -68,7 +69,8 @@ function objectBox(bench, o, tags, locks, change) {
   const mine = cells.flatMap((_, f) => (tags.get(`${o}.${f}`) || []).map(([t, name]) => [t, name + (f ? ` → [${f}]` : '')]));
   const fresh = bench.state.threads.findIndex(thread => thread.fresh.includes(o));
   return el('div', { key: o, class: 'object' + (fresh >= 0 ? ' fresh' : '') + (change.objects.includes(o) ? ' made' : ''),
-    id: 'object-' + o },
+    id: 'object-' + o, role: 'group', 'aria-label': bench.names.object(o),
+    'data-object': `object ${o} ${bench.run.classOf(bench.position, o)} ${cells.length}` },
     el('div', { class: 'tags' }, mine.slice(0,
       MOST_TAGS).map(([t, name]) => el('span',
       { class: 'tag', style: threadColour(t), title: `${name} of thread ${t} points here` }, `T${t} ${name}`)),
@@ -82,8 +84,9 @@ function objectBox(bench, o, tags, locks, change) {
 
 function cellBox(bench, o, f, value, size, locks, change) {
   const place = `${o}.${f}`;
-  return el('div', { class: 'cell' + (change.cells.includes(place) ? ' changed' : ''), id: `cell-${o}-${f}`,
-    'data-cell': `cell ${place} ${value}` },
+  return el('button', { class: 'cell' + (change.cells.includes(place) ? ' changed' : ''), id: `cell-${o}-${f}`,
+    'data-cell': `cell ${place} ${value}`, 'data-keep': 'cell-' + place, title: 'to the event that wrote it (w)',
+    onclick: () => showWriter(bench, bench.names.cell(place), (run, position) => writerOfCell(run, position, place)) },
     el('small', {}, size > 1 ? `[${f}]` : '\u00a0',
       el('span', { class: 'on-cell' }, (locks.get(place) || []).slice(0, 2).map(([t, mode]) =>
       el('span', { style: threadColour(t), title: `thread ${t} holds ${mode} on this cell` }, ` ${mode}·T${t}`)))),

@@ -73,6 +73,7 @@ const heldMode = (node, t, mode, framed) => el('span', { class: `mode ${look(mod
 
 function wish(node, t, asked, wait) {
   const no = wait.clashes.some(c => c.node === node);
-  return el('span', { class: 'wish' + (no ? ' no' : ''), title: `thread ${t} asks ${asked}: ${MEANING[asked]}` },
+  return el('span', { class: 'wish' + (no ? ' no' : ''), 'data-asks': `asks ${t} ${node} ${asked}`,
+    title: `thread ${t} asks ${asked}: ${MEANING[asked]}` },
     (no ? '✕ ' : '') + asked + '?');
 }

@@ -1,7 +1,9 @@
 // Each thread: what it is at, why it waits, its registers by variable name.
 
 import { byId, el, chip, threadColour, count, renew } from '../dom.js';
+import { functionAt } from '../program.js';
 import { countBefore, waitAt } from '../stretches.js';
+import { showWriter, writerOfRegister } from '../writers.js';
 
 export function drawThreads(bench, change) {
   const { threads } = bench.run.viewWithFrames(bench.position);
@@ -22,22 +24,21 @@ function threadBox(bench, thread, t, change) {
   const acted = change.thread === t;
   const runs = `thread ${t} pc ${thread.pc} depth ${thread.depth}`;
   const told = thread.status === 'runs' ? runs : `thread ${t} ${thread.status} ${thread.value ?? thread.fault}`;
-  return el('div', { key: t, class: 'thread' + (acted ? ' acted' : ''), style: threadColour(t), 'data-thread': told },
+  return el('div', { key: t, class: 'thread' + (acted ? ' acted' : ''), style: threadColour(t), 'data-thread': told,
+    role: 'group', 'aria-label': `thread ${t}` },
     el('div', { class: 'line' }, chip(t, lookOf(bench, t)), status(bench, thread, t),
       thread.status === 'runs' ? el('span', { class: 'soft code' },
         `${bench.names.functionAt(thread.pc)}, pc ${thread.pc}`) : null),
     waiting(bench, t),
-    el('div', { class: 'registers' },
-      thread.registers.map((value, r) => register(bench, thread, t, r, value, acted && change.registers.includes(r)))),
-    thread.frames.slice(1).map(frame => waitingFrame(bench, frame)));
+    registers(bench, t, 0, { ...thread, function: functionAt(bench.program, thread.pc) }, acted ? change.registers : []),
+    thread.frames.slice(1).map((frame, i) => waitingFrame(bench, t, i + 1, frame)));
 }
 
 // A frame that waits for the one above it: its function, where it continues, its registers.
-function waitingFrame(bench, frame) {
-  const words = frame.registers.map((value, r) => `${bench.names.register(frame.function, r)} ${bench.names.value(value)}`);
-  return el('details', { class: 'frame' },
+function waitingFrame(bench, t, level, frame) {
+  return el('details', { class: 'frame', 'data-frame': `frame ${t} ${level} fn ${frame.function} pc ${frame.pc}` },
     el('summary', {}, 'called from ', el('code', {}, bench.names.function(frame.function)), `, continues at pc ${frame.pc}`),
-    el('div', { class: 'registers' }, words.map(text => el('span', { class: 'register' }, text))));
+    registers(bench, t, level, frame, []));
 }
 
 function status(bench, thread, t) {
@@ -57,7 +58,17 @@ function waiting(bench, t) {
   return el('div', { class: 'waits' }, `since event ${wait.from}, ${count(tries, 'try', 'tries')}; ${why}`);
 }
 
-function register(bench, thread, t, r, value, changed) {
-  return el('span', { class: 'register' + (changed ? ' changed' : ''), 'data-register': `reg ${t} ${r} ${value}` },
-    el('i', {}, bench.names.registerAt(thread.pc, r)), ' ', bench.names.value(value));
+function register(bench, t, level, f, r, value, changed, keep) {
+  const name = bench.names.register(f, r);
+  const told = level ? `local ${t} ${level} ${r} ${value}` : `reg ${t} ${r} ${value}`;
+  return el('button', { class: 'register' + (changed ? ' changed' : ''), 'data-register': told, 'data-keep': keep,
+    title: 'to the event that wrote it (w)', onclick: () => showWriter(bench, `${name} of T${t}`,
+      (run, position) => writerOfRegister(run, position, t, level, r)) }, el('i', {}, name), ' ', bench.names.value(value));
+}
+
+// The registers of a frame, which keeps its number while others come and go above it.
+function registers(bench, t, level, frame, changed) {
+  const below = Math.max(bench.state.threads[t].frames.length - 1, 0) - level;
+  return el('div', { class: 'registers' }, frame.registers.map((value, r) =>
+    register(bench, t, level, frame.function, r, value, changed.includes(r), `register-${t}-${below}-${r}`)));
 }
