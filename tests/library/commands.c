@@ -83,7 +83,7 @@ static void memory(void) {
     if (answer.status == ASL_NO_ROOM_FOR_WORDS)
       of_words++, must(is_untouched(said, 0), "nothing is said");
     else
-      must(answer.status == ASL_REFUSED && (answer.errors_length == 0 || memcmp(said, no_memory, sizeof no_memory - 1) == 0), "want of memory");
+      must(answer.status == ASL_REFUSED && answer.errors_length == sizeof no_memory - 1 && memcmp(said, no_memory, sizeof no_memory - 1) == 0, "want of memory");
   }
   must(of_words > 0 && grants > of_words + 20, "memory was refused at each request");
 }

@@ -149,9 +149,9 @@ static void must_be_same(told one, told other) {
   must(memcmp(one.errors.at, other.errors.at, least(one.answer.errors_length, least(one.errors.length, other.errors.length))) == 0, "another text");
 }
 
-/* whether what was said is a first part of the text */
-static bool begins(told it, const void *text, size_t length) {
-  return it.answer.errors_length <= length && memcmp(it.errors.at, text, it.answer.errors_length) == 0;
+/* whether this was said */
+static bool says(told it, const void *text, size_t length) {
+  return it.answer.errors_length == length && memcmp(it.errors.at, text, length) == 0;
 }
 
 static void refuse_memory(told ample) {
@@ -165,11 +165,8 @@ static void refuse_memory(told ample) {
   granted = -1;
   static const char no_memory[] = "asl: OutOfMemory\n";
   bool without_words = made.answer.status == ASL_NO_ROOM_FOR_WORDS;
-  bool is_refused = made.answer.status == ASL_REFUSED && made.answer.output_length == 0 && begins(made, no_memory, sizeof no_memory - 1);
-  /* (the text itself may lack memory, and is cut then) */
-  bool is_cut = made.answer.status == ample.answer.status && made.answer.output_length == 0 && ample.answer.output_length == 0 &&
-                begins(made, ample.errors.at, least(ample.answer.errors_length, MOST_ROOM));
-  if (!without_words && !is_refused && !is_cut) must_be_same(ample, made);
+  bool is_refused = made.answer.status == ASL_REFUSED && made.answer.output_length == 0 && says(made, no_memory, sizeof no_memory - 1);
+  if (!without_words && !is_refused) must_be_same(ample, made);
   forget(made);
 }
 
