@@ -10,7 +10,7 @@ use Rattle.asl_backward_flow.specs.Follows.{Read, IsReady, IsAtCall, AtCallOf, I
 use Rattle.asl_backward_flow.proofs.Sets.{some_same}
 use Rattle.asl_backward_flow.proofs.Adding.{added_as, added_none, stopped_as}
 
-abbrev function_of : Region → ℕ
+abbrev pub function_of : Region → ℕ
 function_of (variant.Body g) = g
 function_of (variant.Section s) = s
 

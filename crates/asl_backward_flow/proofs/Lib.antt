@@ -26,6 +26,7 @@ mod Masking
 mod Splitting
 mod Linking
 mod Entries
+mod Passing
 -- only what is needed is found, and all of it
 mod Sound
 mod Closing

@@ -20,7 +20,7 @@ use Rattle.asl_backward_flow.proofs.Sets.{some_same, at_push, at_last}
 use Rattle.asl_backward_flow.proofs.SpanLaws.{below_or_at}
 
 -- what stands in a list with one place set
-at_set : {A : Type 0} (xs : List A) (p : ℕ) (y : A) (k : ℕ) (x : A) → slice_get (slice_set xs p y) k ≡ Some x → slice_get xs k ≡ Some x ⊎ ((k ≡ p) × (x ≡ y))
+pub at_set : {A : Type 0} (xs : List A) (p : ℕ) (y : A) (k : ℕ) (x : A) → slice_get (slice_set xs p y) k ≡ Some x → slice_get xs k ≡ Some x ⊎ ((k ≡ p) × (x ≡ y))
 at_set [] p y k x e = inl e
 at_set (z ∷ xs) zero y zero x e = inr (refl, sym (some_same e))
 at_set (z ∷ xs) zero y (suc k) x e = inl e

@@ -8,4 +8,5 @@ pub mod Spans
 pub mod Graph
 pub mod Follows
 pub mod Masked
+pub mod Passed
 pub mod Parts

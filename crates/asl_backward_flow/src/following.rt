@@ -2,6 +2,7 @@
 ghost use Rattle.std.specs.Prelude.{◌≡◌, ◌≤◌, ◌∷◌, [], map, OnOk, IfErr};
 ghost use Rattle.asl_backward_flow.specs.Found.{table, Has, left};
 ghost use Rattle.asl_backward_flow.specs.Masked.{AreAllMasks};
+ghost use Rattle.asl_backward_flow.specs.Passed.{ArePassed};
 ghost use Rattle.asl_backward_flow.specs.Follows.{read, IsRead, IsFollowed, Overflows};
 
 use crate::call_needs::add_entry;
@@ -23,14 +24,24 @@ fn follow(
     requires there { (n : _) × Has (table found.old) point.0 point.1 n }
     requires followed { IsFollowed (read analysis.now) (table found.old) (point ∷ (table found.old).list) }
     requires masks { AreAllMasks (read analysis.now) (table found.old) (map (λ v. v.items) scratch.old.masks.items) }
+    requires passed { ArePassed (read analysis.now) (table found.old) scratch.old.passed.items }
     ensures masks { OnOk result (AreAllMasks (read analysis.now) (table found.new) (map (λ v. v.items) scratch.new.masks.items)) }
+    ensures passed { OnOk result (ArePassed (read analysis.now) (table found.new) scratch.new.passed.items) }
     ensures ok { OnOk result (IsFollowed (read analysis.now) (table found.new) (table found.new).list) }
     ensures less { OnOk result (left (table found.new) ≤ left (table found.old)) }
     ensures err { IfErr result (Overflows (read analysis.now) (table found.new)) }
 {
     found.needs(point.0, point.1, &mut scratch.set)?;
     add_back(alloc, analysis, point.0, point.1, scratch, found)?;
-    add_entry(alloc, analysis, point.0, point.1, &scratch.set, found)
+    add_entry(
+        alloc,
+        analysis,
+        point.0,
+        point.1,
+        &scratch.set,
+        &mut scratch.passed,
+        found,
+    )
 }
 
 /// Adds what follows at each point on the list, also at those that are put on it on the way.

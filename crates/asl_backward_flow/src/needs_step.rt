@@ -33,6 +33,7 @@ pub fn add_back(
     requires chosen { IsChosen (locks_of (table found.old) part) scratch.old.set }
     requires masks { AreAllMasks (read analysis.now) (table found.old) (map (λ v. v.items) scratch.old.masks.items) }
     ensures set { scratch.new.set ≡ scratch.old.set }
+    ensures passed { scratch.new.passed ≡ scratch.old.passed }
     ensures masks { OnOk result (AreAllMasks (read analysis.now) (table found.new) (map (λ v. v.items) scratch.new.masks.items)) }
     ensures ok { OnOk result (Added (read analysis.now) (table found.old) (table found.new)
         (IsBack (read analysis.now) part pc (IsNamed (locks_of (table found.old) part) scratch.old.set))) }
@@ -102,6 +103,7 @@ fn add_linked(
     requires chosen { IsChosen (locks_of (table found.old) part) scratch.old.set }
     requires masks { AreAllMasks (read analysis.now) (table found.old) (map (λ v. v.items) scratch.old.masks.items) }
     ensures set { scratch.new.set ≡ scratch.old.set }
+    ensures passed { scratch.new.passed ≡ scratch.old.passed }
     ensures pcs { scratch.new.pcs ≡ scratch.old.pcs }
     ensures masks { OnOk result (AreAllMasks (read analysis.now) (table found.new) (map (λ v. v.items) scratch.new.masks.items)) }
     ensures ok { OnOk result (Added (read analysis.now) (table found.old) (table found.new)
@@ -139,6 +141,7 @@ fn split_over(
     requires code { pc < length analysis.now.lowering.now.code }
     requires masks { AreAllMasks (read analysis.now) (table found.now) (map (λ v. v.items) scratch.old.masks.items) }
     ensures set { scratch.new.set ≡ scratch.old.set }
+    ensures passed { scratch.new.passed ≡ scratch.old.passed }
     ensures pcs { scratch.new.pcs ≡ scratch.old.pcs }
     ensures masks { OnOk result (AreAllMasks (read analysis.now) (table found.now) (map (λ v. v.items) scratch.new.masks.items)) }
     ensures none { IfOk result (λ some. some ≡ false → Splits (read analysis.now) (table found.now) part pc scratch.old.set scratch.old.set []) }

@@ -96,7 +96,7 @@ fn has_number(set: &Bits, number: usize) -> bool
 }
 
 /// So many sets without numbers.
-fn empty_sets(alloc: Global, count: usize) -> Result<Vec<Bits>, AllocError>
+pub fn empty_sets(alloc: Global, count: usize) -> Result<Vec<Bits>, AllocError>
     ensures { IfOk result (λ sets. sets.items ≡ replicate count []) }
 {
     let mut sets = Vec::with_capacity(alloc, count)?;

@@ -2,6 +2,7 @@
 ghost use Rattle.std.specs.Prelude.{◌≡◌, IfOk, map, replicate, []};
 
 use crate::masks::{Mask, no_masks};
+use crate::region_needs::empty_sets;
 use asl_code::Lock;
 use asl_lane_sets::Bits;
 use std::alloc::{AllocError, Global};
@@ -21,11 +22,14 @@ pub struct Scratch {
     pub changed: Vec<usize>,
     /// What one of these locks becomes.
     pub links: Vec<Lock>,
+    /// For each region, the numbers of the locks at its entry of which each call has what they become there.
+    pub passed: Vec<Bits>,
 }
 
 /// Nothing found yet, of so many regions.
 pub fn no_scratch(alloc: Global, count: usize) -> Result<Scratch, AllocError>
-    ensures { IfOk result (λ s. map (λ v. v.items) s.masks.items ≡ replicate count []) }
+    ensures masks { IfOk result (λ s. map (λ v. v.items) s.masks.items ≡ replicate count []) }
+    ensures passed { IfOk result (λ s. s.passed.items ≡ replicate count []) }
 {
     Ok(Scratch {
         masks: no_masks(alloc, count)?,
@@ -34,5 +38,6 @@ pub fn no_scratch(alloc: Global, count: usize) -> Result<Scratch, AllocError>
         stay: Bits::new(alloc),
         changed: Vec::new(alloc),
         links: Vec::new(alloc),
+        passed: empty_sets(alloc, count)?,
     })
 }

@@ -1,8 +1,10 @@
-use Rattle.std.proofs.Common.{rules, map}
+use Rattle.std.proofs.Common.{rules, map, sym, subst}
 use Rattle.asl_backward_flow.specs.Found.{table}
 use Rattle.asl_backward_flow.specs.Follows.{read}
+use Rattle.asl_backward_flow.specs.Passed.{ArePassed}
 use Rattle.asl_backward_flow.proofs.Closing.{next_ok, next_less, next_err, stopped_over, chosen, chosen_still, follows_ok, follows_err, back_stopped, fact_point, point_in_code, point_in_spans}
 use Rattle.asl_backward_flow.proofs.Linking.{masks_later}
+use Rattle.asl_backward_flow.proofs.Passing.{passed_grow}
 use Rattle.asl_backward_flow.proofs.following.follow.Goals as goal
 
 pub add_back-requires-clause-there : goal.add_back-requires-clause-there
@@ -44,3 +46,7 @@ add_entry-requires-clause-named c =
 
 pub returns-clause-masks : goal.returns-clause-masks
 returns-clause-masks c = masks_later (read c.args.analysis.now) (table c.add_back.new.found) (table c.add_entry.new.found) (map (λ v. v.items) c.add_back.new.scratch.masks.items) _ c.in_ok-add_back.ensures.masks c.add_entry.result c.add_entry.ensures.ok
+
+pub add_entry-requires-clause-passed : goal.add_entry-requires-clause-passed
+add_entry-requires-clause-passed c =
+    subst (λ v. ArePassed (read c.args.analysis.now) (table c.add_back.new.found) v.items) (sym c.add_back.ensures.passed) (passed_grow (read c.args.analysis.now) (table c.args.found.now) (table c.add_back.new.found) c.args.scratch.now.passed.items c.in_ok-add_back.ensures.ok.adds.grows c.requires.passed)

@@ -3,10 +3,15 @@ use Rattle.asl_backward_flow.specs.Found.{table, table_of}
 use Rattle.asl_backward_flow.specs.Follows.{read, IsFollowed}
 use Rattle.asl_backward_flow.proofs.Closing.{taken_there, taken_followed, followed_end}
 use Rattle.asl_backward_flow.proofs.Masking.{masks_none}
+use Rattle.asl_backward_flow.proofs.Passing.{passed_none}
 use Rattle.asl_backward_flow.proofs.following.follow_all.Goals as goal
 
 pub loop-point-init : goal.loop-point-init
-loop-point-init c = record { followed = c.requires.followed; masks = masks_none (read c.args.analysis.now) (table c.args.found.now) _ _ c.in_ok-scratch.ensures refl }
+loop-point-init c = record {
+  followed = c.requires.followed;
+  passed = passed_none (read c.args.analysis.now) (table c.args.found.now) _ _ c.in_ok-scratch.ensures.passed refl;
+  masks = masks_none (read c.args.analysis.now) (table c.args.found.now) _ _ c.in_ok-scratch.ensures.masks refl;
+}
 
 pub follow-requires-clause-there : goal.follow-requires-clause-there
 follow-requires-clause-there c =

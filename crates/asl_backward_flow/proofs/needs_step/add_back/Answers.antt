@@ -30,6 +30,7 @@ loop-number-preserved c =
           (back_more (read c.args.analysis.now) (table c.args.found.now) (table c.loop-number.found) (table c.add_linked.new.found) c.args.part c.args.scratch.now.set c.requires.chosen c.loop-number.scratch.pcs.items c.loop-number.number _ at (c.loop-number.invariant.before.only _ (c.loop-number.number, at)).0 c.loop-number.invariant.added (rw c.loop-number.invariant.set at c.in_ok-add_linked.ensures.ok));
       masks = c.in_ok-add_linked.ensures.masks;
       set = c.add_linked.ensures.set ∙ c.loop-number.invariant.set;
+      passed = c.add_linked.ensures.passed ∙ c.loop-number.invariant.passed;
       before = subst (AreBefore (read c.args.analysis.now) c.args.part c.args.pc (IsEdge c.args.analysis.now.lowering.now c.args.pc)) (sym pcs) c.loop-number.invariant.before;
       all = rw pcs c.loop-number.invariant.all;
     }
