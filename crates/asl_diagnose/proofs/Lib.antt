@@ -31,5 +31,8 @@ pub mod AccessCounts
 pub mod Sizes
 pub mod Instructed
 pub mod Refused
+-- the statements that bring most of the locks of a region
+pub mod Beginnings
+pub mod Braces
 -- what is reported
 pub mod Telling

@@ -1,5 +1,5 @@
 -- Statements that bring most of the locks of a region (docs/SOURCE.md, "Reading a refusal").
-use Rattle.std.specs.Prelude.{◌≡◌, ℕ, ◌<◌, ◌≤◌, ◌⊎◌, List, length, Some, slice_get, slice_index}
+use Rattle.std.specs.Prelude.{◌≡◌, ℕ, ◌<◌, ◌≤◌, ◌⊎◌, false, List, length, Some, slice_get, slice_index}
 use Rattle.asl_syntax.specs.Tree.{Item}
 use Rattle.asl_syntax.specs.Parsed.{Parses}
 use Rattle.asl_lower.specs.Regions.{Region}
@@ -8,6 +8,8 @@ use Rattle.asl_backward_flow.specs.declared.region.Region as code
 use Rattle.asl_backward_flow.specs.Needed.{RegionNeeds, HasNoPart, region_of}
 use Rattle.asl_backward_flow.specs.Flows.{IsFlow}
 use Rattle.asl_diagnose.specs.declared.most.Bringers.{Bringers}
+use Rattle.asl_diagnose.specs.Places.{IsRegionPlace}
+use Rattle.asl_diagnose.specs.Statements.{closes, tokens_between, AreStatements}
 
 -- a blank, a `0` or a `;`
 abbrev pub IsFilling : ℕ → Type 0
@@ -41,8 +43,18 @@ pub record NeedsSoMany (text : List ℕ) (k : ℕ) (region : code.Region) (count
   pub flow : HasFlow tree k parts
   pub locks : HasLocks parts (region_of region) count
 
--- with filling for these statements the text is a program still, of which the region needs few locks, and so many
+-- what stands from the one place to the other is in the region: after the word that it begins with, and before the `}` of its block
+pub record IsInRegion (text : List ℕ) (region : code.Region) (from to : ℕ) : Type 0 where
+  pub word : ℕ
+  pub place : IsRegionPlace text region word
+  pub behind : word < from
+  pub within : closes 0 (tokens_between word to text) ≡ false
+
+-- assignments and stores of the region: with filling for them the text is a program still, of which the region needs few locks, and so
+-- many
 pub record AreBringers (text : List ℕ) (k : ℕ) (region : code.Region) (b : Bringers) : Type 0 where
+  pub statements : AreStatements text b.from b.to b.count
+  pub inside : IsInRegion text region b.from b.to
   pub rest : List ℕ
   pub filled : IsFilledIn text b.from b.to rest
   pub needs : NeedsSoMany rest k region b.left

@@ -10,8 +10,6 @@ use Rattle.asl_lower.specs.Lowered.{Lowered, IsLowering}
 use Rattle.asl_emitter.specs.declared.fault.InferFault.{InferFault}
 use Rattle.asl_emitter.specs.declared.fault.InferFault.TheVariants as infer
 use Rattle.asl_emitter.specs.Sources.{IsAcceptedSource, HasRefusedTree}
-use Rattle.asl_backward_flow.specs.declared.region.Region.{Region}
-use Rattle.asl_backward_flow.specs.declared.region.Region.TheVariants as region
 use Rattle.asl_assembler.specs.declared.assembly.AsmFault.{AsmFault}
 use Rattle.asl_assembler.specs.declared.assembly.AsmFault.TheVariants as asm
 use Rattle.asl_assembler.specs.Faults.{IsProgramText, IsFault as IsAsmFault}
@@ -29,7 +27,7 @@ use Rattle.asl_diagnose.specs.Instructions.{instructions_in, IsInstructionLine, 
 use Rattle.asl_diagnose.specs.Expected.{IsStop}
 use Rattle.asl_diagnose.specs.Brought.{AreBringers}
 use Rattle.asl_diagnose.specs.Unknown.{IsUnknownPlace}
-use Rattle.asl_diagnose.specs.Places.{accesses_before, IsWordAt, IsFunctionAt, AreFirstDeclaredAt, IsOverfull}
+use Rattle.asl_diagnose.specs.Places.{accesses_before, IsWordAt, IsRegionPlace, IsFunctionAt, AreFirstDeclaredAt, IsOverfull}
 
 -- the source is refused so
 abbrev pub IsSourceRefusal : List ℕ → ℕ → Refusal → Type 0
@@ -61,11 +59,6 @@ IsSyntaxPlace text syntax.OutOfMemory first at = Unit {0}
 abbrev pub IsExpectedFor : List ℕ → SyntaxFault → List TokenKind → Bool → Type 0
 IsExpectedFor text (syntax.Grammar place) kinds may_end = IsStop (tokens_of text) (length text) place kinds may_end
 IsExpectedFor text _ kinds may_end = Unit {0}
-
--- where a region is: at its function's `fn`, or at its `atomic`
-abbrev pub IsRegionPlace : List ℕ → Region → ℕ → Type 0
-IsRegionPlace text (region.Body function) at = IsWordAt (tokens_of text) word.Fn function at
-IsRegionPlace text (region.Section section) at = IsWordAt (tokens_of text) word.Atomic section at
 
 -- the `fn` of the function at which the code of the text's program passes 65,535 instructions
 pub record IsOverfullPlace (text : List ℕ) (at : ℕ) : Type 0 where

@@ -1,6 +1,7 @@
 pub mod RefusalText
 pub mod Diagnosed
 pub mod Brought
+pub mod Statements
 pub mod Unknown
 pub mod Names
 pub mod Position

@@ -2,8 +2,11 @@
 use Rattle.std.specs.Prelude.{◌≡◌, ◌≢◌, ◌<◌, ◌≤◌, ℕ, List, [], ◌∷◌, ◌++◌, suc, Bool, true, false, bytes_eq, if◌then◌else◌, length, take, count_by}
 use Rattle.std.specs.List.{All, Contains}
 use Rattle.asl_code.specs.declared.instr.Instr.{Instr}
+use Rattle.asl_backward_flow.specs.declared.region.Region.{Region}
+use Rattle.asl_backward_flow.specs.declared.region.Region.TheVariants as region
 use Rattle.asl_grammar.specs.declared.token.Mark.TheVariants as mark
 use Rattle.asl_grammar.specs.Token.{Token, Fixed, Name, Spot}
+use Rattle.asl_grammar.specs.Lex.{tokens_of}
 use Rattle.asl_syntax.specs.Tree.{Item, functions_of}
 use Rattle.asl_lower.specs.Place.{origin, past_functions}
 use Rattle.asl_lower.specs.Region.{is_access}
@@ -46,6 +49,11 @@ pub record IsWordAt (ss : List Spot) (w : Word) (number at : ℕ) : Type 0 where
   pub word : is_word w here.token ≡ true
   pub place : here.at ≡ at
   pub counted : words_in w before ≡ number
+
+-- where a region is: at its function's `fn`, or at its `atomic`
+abbrev pub IsRegionPlace : List ℕ → Region → ℕ → Type 0
+IsRegionPlace text (region.Body function) at = IsWordAt (tokens_of text) word.Fn function at
+IsRegionPlace text (region.Section section) at = IsWordAt (tokens_of text) word.Atomic section at
 
 -- how many loads and stores stand before the pc
 abbrev pub accesses_before : List Instr → ℕ → ℕ

@@ -4,8 +4,8 @@ ghost use Rattle.asl_grammar.specs.Lex.{tokens_of};
 ghost use Rattle.asl_syntax.specs.AstView.{tree_of};
 ghost use Rattle.asl_syntax.specs.Parsed.{Parses};
 ghost use Rattle.asl_emitter.specs.Refused.{IsRefusedInference};
-ghost use Rattle.asl_diagnose.specs.Places.{words_in, IsWordAt};
-ghost use Rattle.asl_diagnose.specs.Diagnosed.{IsInferPlace, IsRegionPlace};
+ghost use Rattle.asl_diagnose.specs.Places.{words_in, IsRegionPlace, IsWordAt};
+ghost use Rattle.asl_diagnose.specs.Diagnosed.{IsInferPlace};
 
 use crate::accesses::accesses_before;
 use crate::overfull::overfull_function;

@@ -31,6 +31,7 @@ mod region_lines;
 mod sentence;
 mod source_hints;
 mod source_refusal;
+mod statements;
 mod syntax_place;
 mod text_lines;
 mod token_walk;

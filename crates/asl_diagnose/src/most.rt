@@ -3,9 +3,10 @@
 ghost use Rattle.std.specs.Prelude.{◌≡◌, ◌≤◌, true, IfOk, IfSome};
 ghost use Rattle.asl_syntax.specs.AstView.{tree_of};
 ghost use Rattle.asl_backward_flow.specs.Needed.{region_of};
-ghost use Rattle.asl_diagnose.specs.Brought.{AreBringers, HasFlow, HasLocks, IsFilledIn, IsKept, NeedsSoMany};
+ghost use Rattle.asl_diagnose.specs.Brought.{AreBringers, HasFlow, HasLocks, IsFilledIn, IsInRegion, IsKept, NeedsSoMany};
 
-use crate::region_lines::{Line, region_lines};
+use crate::region_lines::{Line, region_lines, region_start};
+use crate::statements::{are_statements, is_open};
 use asl_backward_flow::{Flow, Region, needed};
 use asl_emitter::InferFault;
 use asl_lower::lower;
@@ -33,7 +34,7 @@ pub struct Bringers {
     pub from: usize,
     /// The place after the last of them.
     pub to: usize,
-    /// How many there are.
+    /// How many assignments and stores there are; other statements may stand between.
     pub count: usize,
     /// How many locks are left.
     pub left: usize,
@@ -135,6 +136,16 @@ fn part_of(lines: &[Line], from: usize, count: usize) -> &[Line] {
     &part[..count.min(part.len())]
 }
 
+/// Whether a region has what stands from one place to another.
+fn is_in_region(text: &[u8], region: Region, from: usize, to: usize) -> bool
+    ensures { result ≡ true → IsInRegion text.now region from to }
+{
+    match region_start(text, region) {
+        Some(start) => start < from && is_open(text, start, to),
+        None => false,
+    }
+}
+
 /// These statements, if they bring most of the locks of the region.
 fn brought(
     alloc: Global,
@@ -149,6 +160,12 @@ fn brought(
     let (Some(first), Some(last)) = (lines.first(), lines.last()) else {
         return Ok(None);
     };
+    if !are_statements(text, first.start, last.end, lines.len()) {
+        return Ok(None);
+    }
+    if !is_in_region(text, region, first.start, last.end) {
+        return Ok(None);
+    }
     let rest = without(alloc, text, lines)?;
     if !is_filled_in(text, first.start, last.end, rest.as_slice()) {
         return Ok(None);

@@ -1,5 +1,8 @@
 //! The assignments and the stores of a region, by the tokens of a text.
 
+ghost use Rattle.std.specs.Prelude.{IfSome};
+ghost use Rattle.asl_diagnose.specs.Places.{IsRegionPlace};
+
 use crate::word_place::{Word, numbered};
 use asl_backward_flow::Region;
 use asl_grammar::lexer::{Found, Tokens};
@@ -93,19 +96,20 @@ impl Scan {
     }
 }
 
-/// The word that a region begins with, and how many of it stand before.
-fn beginning(region: Region) -> (Word, usize) {
+/// The place of the word that a region begins with.
+pub fn region_start(text: &[u8], region: Region) -> Option<usize>
+    ensures { IfSome result (IsRegionPlace text.now region) }
+{
     match region {
-        Region::Section(section) => (Word::Atomic, usize::from(section)),
-        Region::Body(function) => (Word::Fn, usize::from(function)),
+        Region::Section(section) => numbered(text, Word::Atomic, usize::from(section)),
+        Region::Body(function) => numbered(text, Word::Fn, usize::from(function)),
     }
 }
 
 /// The assignments and the stores of a region, in the order of the text.
 pub fn region_lines(alloc: Global, text: &[u8], region: Region) -> Result<Vec<Line>, AllocError> {
     let mut lines = Vec::new(alloc);
-    let (word, number) = beginning(region);
-    let start = numbered(text, word, number).unwrap_or(text.len());
+    let start = region_start(text, region).unwrap_or(text.len());
     let mut scan = Scan::new();
     let mut tokens = Tokens::new(text);
     'reading: while let Found::Token(spot) = tokens.next() {
