@@ -9,7 +9,7 @@ use Rattle.asl_lane_sets.specs.NumberSet.{IsIn}
 use Rattle.asl_code.specs.declared.lock.Lock.{Lock}
 use Rattle.asl_backward_flow.specs.declared.region_needs.RegionNeeds.{RegionNeeds}
 use Rattle.asl_backward_flow.specs.declared.found.AddFault.{AddFault}
-use Rattle.asl_backward_flow.specs.Found.{Table, table_of, list_at, Has, HasFact, IsAt, IsNamed, IsPut, locks_of, left}
+use Rattle.asl_backward_flow.specs.Found.{Table, table_of, list_at, Has, HasFact, IsAt, IsNamed, IsPut, IsTaken, locks_of, left}
 use Rattle.asl_backward_flow.specs.Follows.{Read, IsRead, IsAtPoint, IsBack, IsEntryOf, IsChosen, Follows, NeededAt, HasAll, Added, Stopped, IsFollowed, Overflows}
 use Rattle.asl_backward_flow.proofs.Tables.{locks_before}
 use Rattle.asl_backward_flow.proofs.Fronts.{fronts_more, follows_fronted, follows_as, named_later, named_before, chosen_later}
@@ -156,12 +156,9 @@ put_push old new item b is p = record {
 }
 
 -- a point is taken off the list
-module _ (r : Read) (parts : List RegionNeeds) (list rest : List (ℕ × ℕ)) (f : ℕ × ℕ) (is : IsPermutation list (f ∷ rest)) where
-  back : (g : ℕ × ℕ) → IsAt (f ∷ rest) g → IsAt list g
-  back g h = at_permuted (f ∷ rest) list g (IsPermutation-sym list (f ∷ rest) is) h
-
+module _ (r : Read) (parts : List RegionNeeds) (list rest : List (ℕ × ℕ)) (f : ℕ × ℕ) (is : IsTaken list rest f) where
   pub taken_there : IsFollowed r (table_of parts list) list → (n : ℕ) × Has (table_of parts rest) f.0 f.1 n
-  taken_there so = so.ready.whole.listed f (back f (0, refl))
+  taken_there so = so.ready.whole.listed f is.there
 
   pub taken_followed : IsFollowed r (table_of parts list) list → IsFollowed r (table_of parts rest) (f ∷ rest)
   taken_followed so = record {
@@ -171,7 +168,7 @@ module _ (r : Read) (parts : List RegionNeeds) (list rest : List (ℕ × ℕ)) (
       points = so.ready.points;
       whole = record {
         named = so.ready.whole.named;
-        listed = λ g h. so.ready.whole.listed g (back g (suc h.0, h.1));
+        listed = λ g h. so.ready.whole.listed g (is.left.only g h);
         apart = so.ready.whole.apart;
         few = so.ready.whole.few;
       };
@@ -180,11 +177,11 @@ module _ (r : Read) (parts : List RegionNeeds) (list rest : List (ℕ × ℕ)) (
     names = so.names;
     seeds = so.seeds;
     fronts = so.fronts;
-    closed = λ p q m h. ⊎_elim (λ w. inl (at_permuted list (f ∷ rest) (p, q) is w)) (λ a. inr a) (so.closed p q m h);
+    closed = λ p q m h. ⊎_elim (λ w. inl (⊎_elim (λ e. (0, ap Some (sym e))) (λ o. (suc o.0, o.1)) (is.left.rest (p, q) w))) (λ a. inr a) (so.closed p q m h);
   }
 
   pub taken_less : left (table_of parts rest) < left (table_of parts list)
-  taken_less = let count = length_permutation list (f ∷ rest) is in omega (arith, count)
+  taken_less = let less = is.shorter in omega (arith, less)
 
 -- nothing is left on the list
 pub followed_end : (r : Read) (t : Table) → length t.list ≡ 0 → IsFollowed r t t.list → IsFollowed r t []

@@ -19,6 +19,7 @@ mod Each
 mod SpanLaws
 mod Points
 mod Waits
+mod Taking
 mod Befores
 -- what locks become over an instruction, at calls and at entries
 mod Fronts

@@ -147,6 +147,18 @@ pub record IsPut (old new : List (ℕ × ℕ)) (item : ℕ × ℕ) (is_new : Boo
   pub there : is_new ≡ true → IsAt new item
   pub longer : length new ≤ length old + (if is_new then 1 else 0)
 
+-- what is left of a list where a point may be missing
+pub record AreLeft (old new : List (ℕ × ℕ)) (point : ℕ × ℕ) : Type 0 where
+  pub only : (f : ℕ × ℕ) → IsAt new f → IsAt old f
+  pub rest : (f : ℕ × ℕ) → IsAt old f → (f ≡ point) ⊎ IsAt new f
+  pub shorter : length new ≤ length old
+
+-- a point was taken off a list
+pub record IsTaken (old new : List (ℕ × ℕ)) (point : ℕ × ℕ) : Type 0 where
+  pub there : IsAt old point
+  pub left : AreLeft old new point
+  pub shorter : length new < length old
+
 -- nothing is found but what was found, and these
 pub record Only (old new : Table) (these : ℕ → ℕ → Lock → Type 0) : Type 0 where
   pub facts : (part pc : ℕ) (m : Lock) → HasFact new part pc m → HasFact old part pc m ⊎ these part pc m

@@ -1,14 +1,14 @@
 //! The points whose needs are not followed yet.
-ghost use Rattle.std.specs.Prelude.{◌≡◌, ◌∷◌, [], ◌+◌, ◌<◌, ◌⊎◌, true, false, length, vec_len, IfSome, IfNone, OnSome, OnOk, OnErr};
+ghost use Rattle.std.specs.Prelude.{◌≡◌, ◌∷◌, [], ◌+◌, ◌<◌, ◌⊎◌, Some, true, false, length, slice_get, vec_len, IfSome, IfNone, OnSome, OnOk, OnErr};
 ghost use Rattle.std.specs.List.Sorted.{IsPermutation};
-ghost use Rattle.std.specs.BinaryHeap.{heap_len};
-ghost use Rattle.asl_backward_flow.specs.Found.{IsAt, IsPut};
+ghost use Rattle.std.specs.BinaryHeap.{heap_items, heap_len};
+ghost use Rattle.asl_backward_flow.specs.Found.{AreLeft, IsAt, IsPut, IsTaken};
 
 use std::alloc::{AllocError, Global};
 use std::collections::BinaryHeap;
 use std::marker::Model;
 
-/// Points, each as the place of its region among the spans and its pc, of which the last is taken off first. Those that come in
+/// Points, each as the place of its region among the spans and its pc, of which the last is taken off first, as often as it is there. Those that come in
 /// rising order, as nearly all do, stand in a row, which ends with the last of them. The others are in a heap.
 #[derive(Drop)]
 pub struct Waiting {
@@ -52,10 +52,21 @@ impl Waiting {
         Ok(())
     }
 
-    /// Takes the last point off.
+    /// Takes the last point off, as often as it is there.
     pub fn pop(&mut self) -> Option<(u16, u16)>
+        ensures taken { IfSome result (IsTaken self.old self.new) }
+        ensures len { OnSome result (length self.new < length self.old) }
+        ensures none { IfNone result (length self.old ≡ 0) }
+        ensures unchanged { IfNone result (self.new ≡ self.old) }
+    {
+        let point = self.take()?;
+        drop_same(&mut self.others, point);
+        Some(point)
+    }
+
+    /// Takes the last point off once.
+    fn take(&mut self) -> Option<(u16, u16)>
         ensures point { IfSome result (λ point. IsPermutation self.old (point ∷ self.new)) }
-        ensures len { OnSome result (length self.new + 1 ≡ length self.old) }
         ensures none { IfNone result (length self.old ≡ 0) }
         ensures unchanged { IfNone result (self.new ≡ self.old) }
     {
@@ -63,6 +74,25 @@ impl Waiting {
             return self.others.pop();
         }
         self.row.pop()
+    }
+}
+
+/// Takes a point off a heap as long as it is the first there.
+fn drop_same(others: &mut BinaryHeap<(u16, u16)>, point: (u16, u16))
+    ensures { AreLeft (heap_items others.old) (heap_items others.new) point }
+{
+    while is_first(others, point) {
+        others.pop();
+    }
+}
+
+/// Whether the point is the first of a heap.
+fn is_first(others: &BinaryHeap<(u16, u16)>, point: (u16, u16)) -> bool
+    ensures { result ≡ true → slice_get (heap_items others.now) 0 ≡ Some point }
+{
+    match others.peek() {
+        Some(first) => first.0 == point.0 && first.1 == point.1,
+        None => false,
     }
 }
 

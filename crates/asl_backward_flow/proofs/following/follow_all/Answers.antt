@@ -15,11 +15,11 @@ loop-point-init c = record {
 
 pub follow-requires-clause-there : goal.follow-requires-clause-there
 follow-requires-clause-there c =
-    taken_there (read c.args.analysis.now) c.loop-point.found.parts.items c.loop-point.found.list c.pop.new.self c.in-Some.point c.in-Some.ensures.point c.loop-point.invariant.followed
+    taken_there (read c.args.analysis.now) c.loop-point.found.parts.items c.loop-point.found.list c.pop.new.self c.in-Some.point c.in-Some.ensures.taken c.loop-point.invariant.followed
 
 pub follow-requires-clause-followed : goal.follow-requires-clause-followed
 follow-requires-clause-followed c =
-    taken_followed (read c.args.analysis.now) c.loop-point.found.parts.items c.loop-point.found.list c.pop.new.self c.in-Some.point c.in-Some.ensures.point c.loop-point.invariant.followed
+    taken_followed (read c.args.analysis.now) c.loop-point.found.parts.items c.loop-point.found.list c.pop.new.self c.in-Some.point c.in-Some.ensures.taken c.loop-point.invariant.followed
 
 pub returns-clause-ok : goal.returns-clause-ok
 returns-clause-ok c =

@@ -1,15 +1,13 @@
+use Rattle.std.proofs.Common.{◌∷◌, sym, subst}
 use Rattle.std.specs.BinaryHeap.{heap_items}
-use Rattle.asl_backward_flow.proofs.Waits.{taken_row, same_row, taken_rest}
+use Rattle.std.specs.List.Sorted.{IsPermutation}
+use Rattle.asl_backward_flow.proofs.Taking.{taken}
 use Rattle.asl_backward_flow.proofs.waiting.Waiting.pop.Goals as goal
 
-pub returns-then-is_before-clause-point : goal.returns-then-is_before-clause-point
-returns-then-is_before-clause-point c =
-    taken_rest c.self.inside.row.items (heap_items c.self.inside.others) (heap_items c.pop.new.self) c.args.self.now c.self.view_is c.pop.result c.pop.ensures.permutation
+pub returns-clause-taken : goal.returns-clause-taken
+returns-clause-taken c =
+    taken c.args.self.now c.self.inside.row.items (heap_items c.self.inside.others) (heap_items c.drop_same.new.others) c.in_ok-point.point
+    (subst (λ l. IsPermutation c.args.self.now (c.in_ok-point.point ∷ l)) (sym c.self.view_is) c.in_ok-point.ensures.point) c.drop_same.ensures
 
-pub returns-clause-point : goal.returns-clause-point
-returns-clause-point c =
-    taken_row c.self.inside.row.items (heap_items c.self.inside.others) c.pop-2.new.self.items c.args.self.now c.self.view_is c.pop-2.result c.pop-2.ensures.items
-
-pub returns-clause-unchanged : goal.returns-clause-unchanged
-returns-clause-unchanged c =
-    same_row c.self.inside.row.items (heap_items c.self.inside.others) c.pop-2.new.self.items c.args.self.now c.self.view_is c.pop-2.result c.pop-2.ensures.items
+pub returns-clause-len : goal.returns-clause-len
+returns-clause-len c = (returns-clause-taken c).shorter
