@@ -100,7 +100,11 @@ await part('where the browser makes no worker, the page asks its own toolchain',
   await browser.open('file://' + page + '#example=walk.asl&k=2&threads=2', READY);
   for (const name of ['k', 'R', 'x']) await key(name);
   check(await run("workbench.bench.builtK === 3 && workbench.bench.run.length > 20 && document.querySelector('.why') !== null"), 'compiles, runs, explains');
-  await settled();
+  // (a busy browser tells late what it refused)
+  for (let told = -1; told !== browser.errors.length;) {
+    told = browser.errors.length;
+    await browser.sleep(1000);
+  }
   const others = browser.errors.filter(text => !/Content.Security.Policy/i.test(text));
   check(browser.errors.length > others.length && others.length === 0, 'errors ' + browser.errors);
   browser.errors.length = 0;
