@@ -20,7 +20,7 @@ use Rattle.asl_backward_flow.proofs.Steps.{has_still}
 use Rattle.asl_backward_flow.proofs.Sound.{follows_needed}
 
 -- what stands after the first of a list
-behind : (f : ℕ × ℕ) (list : List (ℕ × ℕ)) (g : ℕ × ℕ) (n : ℕ) → slice_get (f ∷ list) n ≡ Some g → (g ≡ f) ⊎ IsAt list g
+pub behind : (f : ℕ × ℕ) (list : List (ℕ × ℕ)) (g : ℕ × ℕ) (n : ℕ) → slice_get (f ∷ list) n ≡ Some g → (g ≡ f) ⊎ IsAt list g
 behind f list g zero e = inl (sym (some_same e))
 behind f list g (suc n) e = inr (n, e)
 

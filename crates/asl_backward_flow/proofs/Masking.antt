@@ -77,10 +77,10 @@ put_here (x ∷ xs) zero y lt = refl
 put_here (x ∷ xs) (suc p) y lt = put_here xs p y (omega (arith, lt))
 
 -- masks of all regions
-rows_none : (n k : ℕ) (masks : List Mask) → slice_get (replicate {A = List Mask} n []) k ≡ Some masks → masks ≡ []
-rows_none zero k masks e = absurd cc
-rows_none (suc n) zero masks e = sym (some_same e)
-rows_none (suc n) (suc k) masks e = rows_none n k masks e
+pub rows_none : {A : Type 0} (n k : ℕ) (row : List A) → slice_get (replicate {A = List A} n []) k ≡ Some row → row ≡ []
+rows_none zero k row e = absurd cc
+rows_none (suc n) zero row e = sym (some_same e)
+rows_none (suc n) (suc k) row e = rows_none n k row e
 
 nothing : (k : ℕ) (x : Mask) → slice_get {X = Mask} [] k ≡ Some x → ⊥
 nothing k x e = cc

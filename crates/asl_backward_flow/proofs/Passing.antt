@@ -1,5 +1,5 @@
 -- The locks at the entries of bodies that were passed on: each call has what they become there.
-use Rattle.std.proofs.Common.{◌≡◌, ◌⊎◌, ⊎_elim, ◌↔◌, ℕ, zero, suc, List, [], Some, Bool, Result, Ok, Err, OnOk, length, replicate, slice_get, slice_set, ap, sym, subst, ◌∙◌, length-set}
+use Rattle.std.proofs.Common.{◌≡◌, ◌⊎◌, ⊎_elim, ◌↔◌, ℕ, List, [], Some, Bool, Result, Ok, Err, OnOk, length, replicate, slice_get, slice_set, ap, sym, subst, ◌∙◌, length-set}
 use Rattle.std.proofs.lemmas.List.{length-replicate}
 use Rattle.asl_code.specs.declared.lock.Lock.{Lock}
 use Rattle.asl_lane_sets.specs.NumberSet.{IsIn}
@@ -12,7 +12,7 @@ use Rattle.asl_backward_flow.specs.Passed.{IsPassed, ArePassed}
 use Rattle.asl_backward_flow.proofs.Adding.{adds_as, stopped_as}
 use Rattle.asl_backward_flow.proofs.Entries.{function_of}
 use Rattle.asl_backward_flow.proofs.Marks.{is_in}
-use Rattle.asl_backward_flow.proofs.Masking.{at_set}
+use Rattle.asl_backward_flow.proofs.Masking.{at_set, rows_none}
 use Rattle.asl_backward_flow.proofs.Sets.{some_same}
 use Rattle.asl_backward_flow.proofs.Steps.{has_still}
 
@@ -20,15 +20,10 @@ use Rattle.asl_backward_flow.proofs.Steps.{has_still}
 passed_nothing : (r : Read) (t : Table) (part g : ℕ) → IsPassed r t part g []
 passed_nothing r t part g n e = cc
 
-none_there : (n k : ℕ) (set : List Bool) → slice_get (replicate {A = List Bool} n []) k ≡ Some set → set ≡ []
-none_there zero k set e = absurd cc
-none_there (suc n) zero set e = sym (some_same e)
-none_there (suc n) (suc k) set e = none_there n k set e
-
 pub passed_none : (r : Read) (t : Table) (all : List (List Bool)) (n : ℕ) → all ≡ replicate n [] → n ≡ length r.spans → ArePassed r t all
 passed_none r t all n is count = record {
   count = ap length is ∙ length-replicate n [] ∙ count;
-  each = λ part s g set there region at. subst (IsPassed r t part g) (sym (none_there n part set (ap (λ l. slice_get l part) (sym is) ∙ at))) (passed_nothing r t part g);
+  each = λ part s g set there region at. subst (IsPassed r t part g) (sym (rows_none n part set (ap (λ l. slice_get l part) (sym is) ∙ at))) (passed_nothing r t part g);
 }
 
 -- what was passed on stays so
@@ -42,10 +37,6 @@ passed_grow r a b all grows so = record {
   count = so.count;
   each = λ part s g set there region at. passed_still r a b part g set grows (so.each part s g set there region at);
 }
-
-pub passed_later : (r : Read) (b c : Table) (all : List (List Bool)) (these : ℕ → ℕ → Lock → Type 0) → ArePassed r b all → (result : Result Unit AddFault) → OnOk result (Added r b c these) → OnOk result (ArePassed r c all)
-passed_later r b c all these so (Ok u) x = passed_grow r b c all x.adds.grows so
-passed_later r b c all these so (Err e) x = tt
 
 -- the set of one region
 pub passed_set : (r : Read) (t : Table) (all : List (List Bool)) (part g : ℕ) (s : Span) (set : List Bool) → slice_get r.spans part ≡ Some s → s.region ≡ variant.Body g → IsPassed r t part g set

@@ -35,12 +35,12 @@ at_members (false ∷ set) first zero n is h = absurd (differ h)
 at_members (false ∷ set) first (suc k) n is h = let r = at_members set (first + 1) k n (omega (arith, is)) h in (r.0, r.1)
 
 module _ {A : Type 0} where
-  at_either : (xs ys : List A) (x : A) (i : ℕ) → slice_get (xs ++ ys) i ≡ Some x → IsAt xs x ⊎ IsAt ys x
+  pub at_either : (xs ys : List A) (x : A) (i : ℕ) → slice_get (xs ++ ys) i ≡ Some x → IsAt xs x ⊎ IsAt ys x
   at_either [] ys x i e = inr (i, e)
   at_either (y ∷ xs) ys x zero e = inl (0, e)
   at_either (y ∷ xs) ys x (suc i) e = ⊎_elim (λ o. inl (suc o.0, o.1)) (λ o. inr o) (at_either xs ys x i e)
 
-  at_right : (xs ys : List A) (x : A) → IsAt ys x → IsAt (xs ++ ys) x
+  pub at_right : (xs ys : List A) (x : A) → IsAt ys x → IsAt (xs ++ ys) x
   at_right [] ys x h = h
   at_right (y ∷ xs) ys x h = let r = at_right xs ys x h in (suc r.0, r.1)
 

@@ -1,35 +1,20 @@
 -- A point is taken off those that wait, as often as it is there.
-use Rattle.std.proofs.Common.{◌≡◌, ◌⊎◌, ⊎_elim, ℕ, zero, suc, ◌<◌, List, [], ◌∷◌, ◌++◌, Option, None, Some, IfSome, IfNone, length, slice_get, slice_index_or, inl, inr, refl, sym, subst, ◌∙◌, arith}
+use Rattle.std.proofs.Common.{◌≡◌, ⊎_elim, ℕ, zero, suc, ◌<◌, List, [], ◌∷◌, ◌++◌, Option, None, Some, IfSome, IfNone, length, slice_get, slice_index_or, inl, inr, refl, sym, subst, ◌∙◌, arith}
 use Rattle.std.specs.List.Sorted.{IsPermutation}
 use Rattle.std.proofs.lemmas.List.{length-append}
 use Rattle.std.proofs.lemmas.List.Sorted.{IsPermutation-sym, length_permutation}
 use Rattle.std.proofs.lemmas.Option.{get_or_from_slice_get}
 use Rattle.asl_backward_flow.specs.Found.{AreLeft, IsAt, IsTaken}
-use Rattle.asl_backward_flow.proofs.Closing.{at_permuted}
-use Rattle.asl_backward_flow.proofs.Sets.{some_same}
+use Rattle.asl_backward_flow.proofs.Closing.{at_permuted, behind}
+use Rattle.asl_backward_flow.proofs.SetNeeds.{at_either, at_right}
 
--- what stands in one of two lists
-module _ (f : ℕ × ℕ) where
-  nowhere : (n : ℕ) → slice_get {X = ℕ × ℕ} [] n ≡ Some f → ⊥
-  nowhere n e = cc
+nowhere : (f : ℕ × ℕ) (n : ℕ) → slice_get {X = ℕ × ℕ} [] n ≡ Some f → ⊥
+nowhere f n e = cc
 
-  in_one : (xs ys : List (ℕ × ℕ)) → IsAt (xs ++ ys) f → IsAt xs f ⊎ IsAt ys f
-  in_one [] ys h = inr h
-  in_one (x ∷ xs) ys (zero, e) = inl (zero, e)
-  in_one (x ∷ xs) ys (suc n, e) = ⊎_elim (λ l. inl (suc l.0, l.1)) (λ r. inr r) (in_one xs ys (n, e))
-
-  in_front : (xs ys : List (ℕ × ℕ)) → IsAt xs f → IsAt (xs ++ ys) f
-  in_front [] ys h = absurd (nowhere h.0 h.1)
-  in_front (x ∷ xs) ys (zero, e) = (zero, e)
-  in_front (x ∷ xs) ys (suc n, e) = let l = in_front xs ys (n, e) in (suc l.0, l.1)
-
-  behind : (xs ys : List (ℕ × ℕ)) → IsAt ys f → IsAt (xs ++ ys) f
-  behind [] ys h = h
-  behind (x ∷ xs) ys h = let r = behind xs ys h in (suc r.0, r.1)
-
-  first_or : (p : ℕ × ℕ) (xs : List (ℕ × ℕ)) → IsAt (p ∷ xs) f → (f ≡ p) ⊎ IsAt xs f
-  first_or p xs (zero, e) = inl (sym (some_same e))
-  first_or p xs (suc n, e) = inr (n, e)
+at_left : (f : ℕ × ℕ) (xs ys : List (ℕ × ℕ)) → IsAt xs f → IsAt (xs ++ ys) f
+at_left f [] ys h = absurd (nowhere f h.0 h.1)
+at_left f (x ∷ xs) ys (zero, e) = (zero, e)
+at_left f (x ∷ xs) ys (suc n, e) = let l = at_left f xs ys (n, e) in (suc l.0, l.1)
 
 pub left_all : (xs : List (ℕ × ℕ)) (p : ℕ × ℕ) → AreLeft xs xs p
 left_all xs p = record { only = λ f h. h; rest = λ f h. inr h; shorter = omega arith }
@@ -38,7 +23,7 @@ left_all xs p = record { only = λ f h. h; rest = λ f h. inr h; shorter = omega
 pub left_less : (old now new : List (ℕ × ℕ)) (p x : ℕ × ℕ) → AreLeft old now p → x ≡ p → IsPermutation now (x ∷ new) → AreLeft old new p
 left_less old now new p x so is moved = record {
   only = λ f h. so.only f (at_permuted (x ∷ new) now f (IsPermutation-sym now (x ∷ new) moved) (suc h.0, h.1));
-  rest = λ f h. ⊎_elim (λ e. inl e) (λ n. ⊎_elim (λ e. inl (e ∙ is)) (λ r. inr r) (first_or f x new (at_permuted now (x ∷ new) f moved n))) (so.rest f h);
+  rest = λ f h. ⊎_elim (λ e. inl e) (λ n. ⊎_elim (λ e. inl (e ∙ is)) (λ r. inr r) (let at = at_permuted now (x ∷ new) f moved n in behind x new f at.0 at.1)) (so.rest f h);
   shorter = let count = length_permutation now (x ∷ new) moved in let most = so.shorter in omega (arith, count, most);
 }
 
@@ -62,11 +47,11 @@ taken old row rest new p moved so =
     record {
       there = back p (0, refl);
       left = record {
-        only = λ f h. let at = ⊎_elim (λ l. in_front f row rest l) (λ r. behind f row rest (so.only f r)) (in_one f row new h) in back f (suc at.0, at.1);
+        only = λ f h. let at = ⊎_elim (λ l. at_left f row rest l) (λ r. at_right row rest f (so.only f r)) (at_either row new f h.0 h.1) in back f (suc at.0, at.1);
         rest = λ f h. ⊎_elim
             (λ e. inl e)
-            (λ n. ⊎_elim (λ l. inr (in_front f row new l)) (λ r. ⊎_elim (λ e. inl e) (λ k. inr (behind f row new k)) (so.rest f r)) (in_one f row rest n))
-            (first_or f p (row ++ rest) (at_permuted old (p ∷ (row ++ rest)) f moved h));
+            (λ n. ⊎_elim (λ l. inr (at_left f row new l)) (λ r. ⊎_elim (λ e. inl e) (λ k. inr (at_right row new f k)) (so.rest f r)) (at_either row rest f n.0 n.1))
+            (let at = at_permuted old (p ∷ (row ++ rest)) f moved h in behind p (row ++ rest) f at.0 at.1);
         shorter = omega (arith, less);
       };
       shorter = less;

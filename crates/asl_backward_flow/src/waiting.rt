@@ -8,7 +8,7 @@ use std::alloc::{AllocError, Global};
 use std::collections::BinaryHeap;
 use std::marker::Model;
 
-/// Points, each as the place of its region among the spans and its pc, of which the last is taken off first, as often as it is there. Those that come in
+/// Points, each as the place of its region among the spans and its pc, of which the last is taken off first. Those that come in
 /// rising order, as nearly all do, stand in a row, which ends with the last of them. The others are in a heap.
 #[derive(Drop)]
 pub struct Waiting {
