@@ -2,7 +2,7 @@
 use asl_lock_expr::{Writes, writes};
 use asl_lower::{LowerFault, Lowering, lower};
 use asl_points_to::{Classes, ClassesFault, classes};
-use asl_refusals::answered;
+use asl_refused_memory::answered;
 use asl_syntax::{Ast, Name, SyntaxFault, parse};
 use std::alloc::{AllocError, Global};
 

@@ -1,4 +1,4 @@
-//! Refused memory in the inference: each call that may want memory goes through one harness, `asl_refusals`.
+//! Refused memory in the inference: each call that may want memory goes through one harness, `asl_refused_memory`.
 #![tactic(auto)]
 
 #[cfg(test)]

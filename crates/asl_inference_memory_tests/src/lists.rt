@@ -7,7 +7,7 @@ use asl_emitter::{InferFault, fit, infer, reduce};
 use asl_lock_expr::{Writes, links};
 use asl_lower::Lowering;
 use asl_points_to::Classes;
-use asl_refusals::answered;
+use asl_refused_memory::answered;
 use asl_syntax::Ast;
 use std::alloc::{AllocError, Global};
 

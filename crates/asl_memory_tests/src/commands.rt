@@ -1,6 +1,6 @@
 //! Each command that makes no worker, and words that are none.
 use crate::samples::{COUNTER, FILE, SOURCE};
-use asl_refusals::answered;
+use asl_refused_memory::answered;
 use asl_tool::tool_alone;
 use std::alloc::{AllocError, Global};
 

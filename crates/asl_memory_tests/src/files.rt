@@ -3,7 +3,7 @@ use crate::samples::{COUNTER, FILE, program, text};
 use asl_code::Program;
 use asl_journal::{Journal, JournalFault, get, put};
 use asl_loader::{LoadFault, load, store};
-use asl_refusals::answered;
+use asl_refused_memory::answered;
 use asl_tool::{FileFault, get_run, put_run};
 use std::alloc::{AllocError, Global};
 

@@ -1,5 +1,5 @@
 //! Refused memory in runs, replay, the debugger, files and commands: each call that may want memory goes through one harness,
-//! `asl_refusals`.
+//! `asl_refused_memory`.
 #![tactic(auto)]
 
 #[cfg(test)]

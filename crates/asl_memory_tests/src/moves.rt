@@ -5,7 +5,7 @@ use crate::steps::{Told, journal, told_of_events};
 use asl_code::{Program, Value};
 use asl_debugger::{DebugFault, Debugger};
 use asl_journal::Journal;
-use asl_refusals::changed;
+use asl_refused_memory::changed;
 use std::alloc::Global;
 
 /// A call that moves or sets a breakpoint.

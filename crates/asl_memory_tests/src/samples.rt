@@ -1,7 +1,7 @@
 //! Programs and runs on which the calls are made.
 use asl_assembler::{AsmFault, assemble, disassemble};
 use asl_code::Program;
-use asl_refusals::answered;
+use asl_refused_memory::answered;
 use std::alloc::{AllocError, Global};
 
 /// A counter that each thread counts up once, as a source.

@@ -4,7 +4,7 @@ use crate::samples::{COUNTER, FRESH_OBJECTS, OBJECTS, PUSH, SCHEDULE, STACK, pro
 use asl_code::{Program, Value};
 use asl_journal::{Event, Journal, JournalFault, Journaled, Receipt, replay};
 use asl_machine::{Fault, Machine, Reply};
-use asl_refusals::{answered, changed};
+use asl_refused_memory::{answered, changed};
 use std::alloc::Global;
 
 /// What is reported of a journal: how many events it has, and the last of them.

@@ -1,15 +1,14 @@
-//! Answers scripts of calls on the public functions of `asl_points_to`, `asl_lock_expr`, `asl_backward_flow` and `asl_emitter`: what the
-//! cases of `tests/cases` are run through.
+//! Answers scripts of calls on the public functions of `asl_grammar`, `asl_syntax` and `asl_lower`: what the cases of
+//! `tests/cases` are run through.
 //!
-//! A script begins with a line `== NAME`, which is answered as it is, and a line that names its kind. For `source` a text follows,
-//! and a line `--`. Then come the calls, one a line.
+//! A script begins with a line `== NAME`, which is answered as it is, and a line that names its kind. Then come the calls, one a
+//! line, each with a source on one line.
 #![tactic(auto)]
 
-mod adding;
-mod cells;
-mod infer;
 mod laws;
-mod source;
+mod listing;
+mod lowering;
+mod sources;
 
 use std::alloc::{AllocError, Global};
 use std::io;
@@ -52,13 +51,9 @@ fn answer_all(alloc: Global, scripts: &str, out: &mut String) -> Result<(), Allo
 /// Writes the answers to a script.
 fn answer(alloc: Global, kind: &str, calls: &str, out: &mut String) -> Result<(), AllocError> {
     match kind {
-        "cells" => cells::answer(alloc, calls, out),
-        "infer" => infer::answer(alloc, calls, out),
-        "laws" => laws::answer(out),
-        "source" => {
-            let (given, calls) = calls.split_once("\n--\n").unwrap_or((calls, ""));
-            source::answer(alloc, given, calls, out)
-        }
+        "sources" => sources::answer(alloc, calls, out),
+        "lowering" => lowering::answer(alloc, calls, out),
+        "laws" => laws::answer(alloc, out),
         _ => out.push_str("no such kind\n"),
     }
 }

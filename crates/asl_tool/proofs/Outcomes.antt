@@ -23,13 +23,13 @@ use Rattle.asl_journal.proofs.RunFiles.{files_have_an_outcome, run_is_one}
 use Rattle.asl_machine.specs.Run.{start_of}
 use Rattle.asl_tool.specs.declared.input_program.ProgramFault.{ProgramFault}
 use Rattle.asl_tool.specs.declared.input_program.ProgramFault.TheVariants as program
-use Rattle.asl_words.specs.declared.command.Command.{Command}
-use Rattle.asl_words.specs.declared.command.Command.TheVariants as command
+use Rattle.asl_command_line.specs.declared.command.Command.{Command}
+use Rattle.asl_command_line.specs.declared.command.Command.TheVariants as command
 use Rattle.asl_tool.specs.declared.command_fault.CommandFault.{CommandFault}
 use Rattle.asl_tool.specs.declared.command_fault.CommandFault.TheVariants as fault
 use Rattle.asl_tool.specs.Program.{BeginsAsImage, IsProgram}
 use Rattle.asl_tool.specs.Step.{IsRecorded, IsStepped, written}
-use Rattle.asl_words.specs.declared.debug_word.DebugWord.{DebugWord}
+use Rattle.asl_command_line.specs.declared.debug_word.DebugWord.{DebugWord}
 use Rattle.asl_tool.specs.Debug.{IsDebugged}
 use Rattle.asl_tool.specs.Log.{IsLogged}
 use Rattle.asl_tool.specs.Replay.{IsTold}

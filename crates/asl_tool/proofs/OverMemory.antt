@@ -1,8 +1,8 @@
 -- What words come to over memory is what the program does with a reader and a writer over memory.
 use Rattle.std.proofs.Common.{◌≡◌, ℕ, List, [], Option, None, Some, inl, inr, refl, ap}
-use Rattle.asl_words.specs.declared.command.Command.{Command}
-use Rattle.asl_words.specs.declared.command.Invocation.{Invocation}
-use Rattle.asl_words.specs.declared.command.Invocation.TheVariants.{Alone, Run, Help, Version, WrongUsage}
+use Rattle.asl_command_line.specs.declared.command.Command.{Command}
+use Rattle.asl_command_line.specs.declared.command.Invocation.{Invocation}
+use Rattle.asl_command_line.specs.declared.command.Invocation.TheVariants.{Alone, Run, Help, Version, WrongUsage}
 use Rattle.asl_tool.specs.declared.streams.ReadFault.TheVariants as read
 use Rattle.asl_tool.specs.declared.tool_fault.ToolFault.TheVariants as fault
 use Rattle.asl_tool.specs.declared.ending.Ending.{Ending}

@@ -2,7 +2,7 @@
 use Rattle.std.proofs.Common.{◌≡◌, ℕ, ◌+◌, ◌<◌, ◌≤◌, List, [], ◌∷◌, ◌++◌, length, take, drop, refl, sym, ap, subst, ◌∙◌, arith, append_assoc, append-nil, suc, get_or, drop-cons}
 use Rattle.std.proofs.lemmas.List.{drop_all}
 use Rattle.asl_debugger.specs.Session.{Session}
-use Rattle.asl_words.specs.declared.debug_word.DebugWord.{DebugWord}
+use Rattle.asl_command_line.specs.declared.debug_word.DebugWord.{DebugWord}
 use Rattle.asl_tool.specs.Debug.{IsTalk, Follows}
 
 -- the words so far are answered by the text, and so with any answers to the rest all are

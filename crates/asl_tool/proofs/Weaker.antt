@@ -1,7 +1,7 @@
 -- What a run of the program leaves, where less is said of what stayed as it was, or of what standard error got.
 use Rattle.std.proofs.Common.{ℕ, List, Option, Some, None, inl, inr}
-use Rattle.asl_words.specs.declared.command.Invocation.{Invocation}
-use Rattle.asl_words.specs.declared.command.Invocation.TheVariants.{Alone, Run, Help, Version, WrongUsage}
+use Rattle.asl_command_line.specs.declared.command.Invocation.{Invocation}
+use Rattle.asl_command_line.specs.declared.command.Invocation.TheVariants.{Alone, Run, Help, Version, WrongUsage}
 use Rattle.asl_tool.specs.declared.tool_fault.ToolFault.{ToolFault}
 use Rattle.asl_tool.specs.declared.tool_fault.ToolFault.TheVariants as fault
 use Rattle.asl_tool.specs.Tool.{Promise, Refuses, IsCommandStatus, IsTextStatus, IsStatus, EndsWith, EndsAlone}

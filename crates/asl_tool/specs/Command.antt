@@ -8,8 +8,8 @@ use Rattle.asl_loader.specs.Bytes.{SpellsImage}
 use Rattle.asl_loader.specs.Faults.{IsProgramImage}
 use Rattle.asl_loader.specs.Faults as bytes
 use Rattle.asl_tool.specs.declared.input_program.ProgramFault.TheVariants as program
-use Rattle.asl_words.specs.declared.command.Command.{Command}
-use Rattle.asl_words.specs.declared.command.Command.TheVariants as command
+use Rattle.asl_command_line.specs.declared.command.Command.{Command}
+use Rattle.asl_command_line.specs.declared.command.Command.TheVariants as command
 use Rattle.asl_tool.specs.declared.command_fault.CommandFault.{CommandFault}
 use Rattle.asl_tool.specs.declared.command_fault.CommandFault.TheVariants as fault
 use Rattle.asl_tool.specs.Program.{IsNoProgram}

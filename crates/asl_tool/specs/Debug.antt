@@ -11,10 +11,10 @@ use Rattle.asl_debugger.specs.declared.fault.DebugFault.{DebugFault}
 use Rattle.asl_debugger.specs.declared.fault.DebugFault.TheVariants as fault
 use Rattle.asl_tool.specs.declared.debugging.Answer.{Answer}
 use Rattle.asl_tool.specs.declared.debugging.Answer.TheVariants.{At, AtEnd, AtStart, NoSuchStep}
-use Rattle.asl_words.specs.declared.debug_word.DebugWord.{DebugWord}
-use Rattle.asl_words.specs.declared.debug_word.DebugWord.TheVariants as word
-use Rattle.asl_words.specs.declared.debug_word.Move.{Move}
-use Rattle.asl_words.specs.declared.debug_word.Move.TheVariants as step
+use Rattle.asl_command_line.specs.declared.debug_word.DebugWord.{DebugWord}
+use Rattle.asl_command_line.specs.declared.debug_word.DebugWord.TheVariants as word
+use Rattle.asl_command_line.specs.declared.debug_word.Move.{Move}
+use Rattle.asl_command_line.specs.declared.debug_word.Move.TheVariants as step
 use Rattle.asl_show.specs.View.{view_text}
 use Rattle.asl_show.specs.Asks.{asks_text}
 use Rattle.asl_show.specs.Stack.{stack_text}

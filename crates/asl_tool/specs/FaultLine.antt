@@ -1,6 +1,6 @@
 -- The line that standard error gets of a fault (docs/CLI.md, "Refusals").
 use Rattle.std.specs.Prelude.{ℕ, List, ◌++◌, codes}
-use Rattle.asl_fault_line.specs.FaultText.{asm_text, load_text, syntax_text, infer_text, check_text, map_text, file_text, journal_text, run_text}
+use Rattle.asl_refusal_text.specs.FaultText.{asm_text, load_text, syntax_text, infer_text, check_text, map_text, file_text, journal_text, run_text}
 use Rattle.asl_tool.specs.declared.streams.ReadFault.{ReadFault}
 use Rattle.asl_tool.specs.declared.streams.ReadFault.TheVariants as read
 use Rattle.asl_tool.specs.declared.input_program.ProgramFault.{ProgramFault}

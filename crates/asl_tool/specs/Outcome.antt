@@ -12,8 +12,8 @@ use Rattle.asl_journal.specs.declared.fault.JournalFault.TheVariants as journal
 use Rattle.asl_journal.specs.declared.run_file.FileFault.TheVariants as file
 use Rattle.asl_runner.specs.declared.fault.RunFault.TheVariants as run
 use Rattle.asl_tool.specs.declared.input_program.ProgramFault.TheVariants as program
-use Rattle.asl_words.specs.declared.command.Command.{Command}
-use Rattle.asl_words.specs.declared.command.Command.TheVariants as command
+use Rattle.asl_command_line.specs.declared.command.Command.{Command}
+use Rattle.asl_command_line.specs.declared.command.Command.TheVariants as command
 use Rattle.asl_tool.specs.declared.command_fault.CommandFault.{CommandFault}
 use Rattle.asl_tool.specs.declared.command_fault.CommandFault.TheVariants as fault
 use Rattle.asl_tool.specs.Command.{IsOutput, IsRefusedCommand}

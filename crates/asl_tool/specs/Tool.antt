@@ -5,11 +5,11 @@
 -- writer failed, a first part of it.
 use Rattle.std.specs.Prelude.{◌≡◌, ◌≤◌, ◌⊎◌, ℕ, List, Option, None, Some, IfSome, codes, length}
 use Rattle.std.specs.Io.KnownBytes.{Appends}
-use Rattle.asl_words.specs.declared.command.Command.{Command}
-use Rattle.asl_words.specs.declared.command.RunArguments.{RunArguments}
-use Rattle.asl_words.specs.declared.command.Invocation.{Invocation}
-use Rattle.asl_words.specs.declared.command.Invocation.TheVariants.{Alone, Run, Help, Version, WrongUsage}
-use Rattle.asl_words.specs.Words.{AsksFor}
+use Rattle.asl_command_line.specs.declared.command.Command.{Command}
+use Rattle.asl_command_line.specs.declared.command.RunArguments.{RunArguments}
+use Rattle.asl_command_line.specs.declared.command.Invocation.{Invocation}
+use Rattle.asl_command_line.specs.declared.command.Invocation.TheVariants.{Alone, Run, Help, Version, WrongUsage}
+use Rattle.asl_command_line.specs.Words.{AsksFor}
 use Rattle.asl_tool.specs.declared.command_fault.CommandFault.{CommandFault}
 use Rattle.asl_tool.specs.declared.streams.WriteFault.{WriteFault}
 use Rattle.asl_tool.specs.declared.tool_fault.ToolFault.{ToolFault}

@@ -7,7 +7,7 @@ use Rattle.asl_runner.specs.History.{HaveEnded, IsAsked, WasRunning}
 use Rattle.asl_runner.specs.Refused.{IsRefusal}
 use Rattle.asl_runner.specs.declared.fault.RunFault.{RunFault}
 use Rattle.asl_runner.specs.declared.report.Report.{Report}
-use Rattle.asl_words.specs.declared.command.RunArguments.{RunArguments}
+use Rattle.asl_command_line.specs.declared.command.RunArguments.{RunArguments}
 use Rattle.asl_tool.specs.declared.command_fault.CommandFault.{CommandFault}
 use Rattle.asl_tool.specs.declared.command_fault.CommandFault.TheVariants as fault
 use Rattle.asl_tool.specs.Program.{IsProgram, IsNoProgram}

@@ -5,8 +5,8 @@ ghost use Rattle.asl_tool.specs.Check.{AreEnough, HasNoSides, HasSides, IsChecke
 use crate::command_fault::CommandFault;
 use crate::input_program::read_program;
 use asl_check::check;
+use asl_command_line::PathLimit;
 use asl_syntax::parse;
-use asl_words::PathLimit;
 use std::alloc::{AllocError, Global};
 
 /// The line that says how many sections were checked, where the input is a source, one byte 0, and a program that is the source's

@@ -5,10 +5,10 @@ ghost use Rattle.asl_tool.specs.Compile.{IsCompiled, IsProgramFor, IsProgramWrit
 use crate::command_fault::CommandFault;
 use asl_assembler::disassemble;
 use asl_code::Program;
+use asl_command_line::PathLimit;
 use asl_emitter::infer;
 use asl_loader::store;
 use asl_syntax::parse;
-use asl_words::PathLimit;
 use std::alloc::{AllocError, Global};
 
 /// The program that is inferred for the source, as its image or as its text.

@@ -8,10 +8,10 @@ ghost use Rattle.asl_tool.specs.Debug.{Follows, IsAnswer, IsNoMove, IsTalk, answ
 
 use crate::spacing::spacing_of;
 use asl_code::Program;
+use asl_command_line::{DebugWord, Move};
 use asl_debugger::{DebugFault, Debugger};
 use asl_journal::{Journal, JournalFault};
 use asl_show::{push_asks, push_objects, push_stack, push_view};
-use asl_words::{DebugWord, Move};
 use std::alloc::{AllocError, Global};
 
 /// What a move answers.

@@ -9,7 +9,7 @@ use crate::run::run_output;
 use crate::streams::{read_whole, write_whole};
 use crate::tool_command::output_of;
 use crate::tool_fault::ToolFault;
-use asl_words::{Command, Invocation, RunArguments, read_words};
+use asl_command_line::{Command, Invocation, RunArguments, read_words};
 use std::alloc::Global;
 use std::io::{Read, Write};
 use std::sync::Wait;

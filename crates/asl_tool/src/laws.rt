@@ -1,6 +1,6 @@
 //! Laws of the commands, as functions that do nothing: what each ensures is the law.
 ghost use Rattle.std.specs.Prelude.{◌≡◌, ◌<◌, ◌↔◌, ℕ, false, List, [], Some, All, Result};
-ghost use Rattle.asl_words.specs.declared.command.Command.{Command};
+ghost use Rattle.asl_command_line.specs.declared.command.Command.{Command};
 ghost use Rattle.asl_tool.specs.declared.command_fault.CommandFault.{CommandFault};
 ghost use Rattle.asl_tool.specs.declared.ending.Ending.{Ending};
 ghost use Rattle.asl_tool.specs.Ending.{ending_status, ending_text};

@@ -8,7 +8,7 @@ use crate::exit_status::VERSION;
 use crate::streams::{MAX_INPUT, ReadFault};
 use crate::tool_command::output_of;
 use crate::tool_fault::ToolFault;
-use asl_words::{Command, Invocation, read_words};
+use asl_command_line::{Command, Invocation, read_words};
 use std::alloc::Global;
 
 /// How words end over memory, and their output.

@@ -14,8 +14,8 @@ use crate::logging::logged_text;
 use crate::replay_command::replayed_text;
 use crate::step_command::{lines_of, record_run};
 use asl_code::Program;
+use asl_command_line::DebugWord;
 use asl_journal::{Journal, get_run, put_run};
-use asl_words::DebugWord;
 use std::alloc::{AllocError, Global};
 
 /// What is written of the journal of the input's program.

@@ -13,11 +13,11 @@ use crate::input_program::ProgramFault;
 use crate::run_commands::{debugged, logged, replayed, stepped};
 use asl_assembler::{assemble, disassemble};
 use asl_code::Program;
+use asl_command_line::{Command, PathLimit};
 use asl_diagnose::diagnosed;
 use asl_explain::{ExplainFault, explained};
 use asl_loader::{load, store};
 use asl_map::mapped;
-use asl_words::{Command, PathLimit};
 use std::alloc::Global;
 
 /// The output of the command for the input.

@@ -8,7 +8,7 @@ use crate::command_fault::CommandFault;
 use crate::input_program::ProgramFault;
 use crate::streams::{ReadFault, WriteFault, write_whole};
 use arrayvec::{ArrayVec, CapacityError};
-use asl_fault_line::{
+use asl_refusal_text::{
     Line, push, push_assembly, push_check, push_file, push_image, push_infer, push_journal,
     push_map, push_run, push_source,
 };

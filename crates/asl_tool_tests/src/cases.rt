@@ -4,11 +4,11 @@ mod outside;
 mod sections;
 mod values;
 
+use asl_command_line::Command;
 use asl_tool::laws::{
     commands_have_one_outcome, logs_are_steps, run_and_bytes_are_one, run_files_have_one_outcome,
 };
 use asl_tool::output_of;
-use asl_words::Command;
 use std::alloc::{AllocError, Global};
 use std::process::Abort;
 

@@ -1,6 +1,6 @@
 //! Which words parse, and as what.
 use crate::outcomes::split;
-use asl_words::{Command, DebugWord, Invocation, Move, RunArguments, read_words};
+use asl_command_line::{Command, DebugWord, Invocation, Move, RunArguments, read_words};
 use std::alloc::Global;
 use std::process::Abort;
 

@@ -1,6 +1,6 @@
 use Rattle.std.proofs.Common.{OnOk, string_bytes, refl, sym, subst}
 use Rattle.std.proofs.lemmas.Result.{on_ok_weaker}
-use Rattle.asl_words.specs.declared.debug_word.DebugWord.{DebugWord}
+use Rattle.asl_command_line.specs.declared.debug_word.DebugWord.{DebugWord}
 use Rattle.asl_show.specs.View.{view_text}
 use Rattle.asl_show.specs.Asks.{asks_text}
 use Rattle.asl_show.specs.Stack.{stack_text}

@@ -1,6 +1,6 @@
 use Rattle.std.proofs.Common.{rules, ◌≡◌, List, ℕ, None, Some, map, string_bytes, refl, subst}
-use Rattle.asl_words.specs.Words.{AsksFor}
-use Rattle.asl_words.specs.declared.command.Invocation.TheVariants.{Alone, Help, Version, WrongUsage}
+use Rattle.asl_command_line.specs.Words.{AsksFor}
+use Rattle.asl_command_line.specs.declared.command.Invocation.TheVariants.{Alone, Help, Version, WrongUsage}
 use Rattle.asl_tool.specs.Ending.{ending_status, ending_text}
 use Rattle.asl_tool.specs.Tool.{IsTextStatus}
 use Rattle.asl_tool.proofs.exit_status.ended_alone.Goals as goal

@@ -1,6 +1,6 @@
 use Rattle.std.proofs.Common.{◌≡◌, rules, inl, inr, None, Some, map, string_bytes, subst}
-use Rattle.asl_words.specs.Words.{AsksFor}
-use Rattle.asl_words.specs.declared.command.Invocation.TheVariants.{Alone, Help, Version, WrongUsage}
+use Rattle.asl_command_line.specs.Words.{AsksFor}
+use Rattle.asl_command_line.specs.declared.command.Invocation.TheVariants.{Alone, Help, Version, WrongUsage}
 use Rattle.asl_tool.proofs.over_memory.ended_over.Goals as goal
 
 pub returns-in-Ok-Alone : goal.returns-in-Ok-Alone

@@ -1,7 +1,0 @@
--- A handle may go to another thread.
-use denote.Param.Send.{IsSend}
-use Rattle.asl_c.specs.contracts.forest_handle.Handle.{the_row}
-use Rattle.asl_c.proofs.forest_handle.Handle.TheSendSync.{the_send}
-
-pub handle_send : IsSend the_row
-handle_send = the_send

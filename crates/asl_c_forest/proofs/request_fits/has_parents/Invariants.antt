@@ -1,0 +1,9 @@
+use Rattle.std.proofs.Common.{◌≡◌, drop, map}
+use Rattle.std.specs.List.{list_all}
+use Rattle.asl_lock_forest.specs.Node.{parent_of}
+use Rattle.asl_lock_forest.specs.Request.{asks_parents, asks_parent_of}
+use Rattle.asl_c_forest.specs.Asks.{ask_of}
+use Rattle.asl_c_forest.proofs.request_fits.has_parents.Given as goal
+
+abbrev pub invariant-loop-ask : goal.invariant-loop-ask
+invariant-loop-ask l = list_all (λ ask. asks_parent_of (map ask_of l.asks) (parent_of ask.0) ask.1) (map ask_of (drop l.ask-index l.asks)) ≡ asks_parents (map ask_of l.asks)

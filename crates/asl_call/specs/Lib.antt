@@ -1,3 +1,0 @@
-pub use Rattle.asl_foreign.specs.Buffer
-pub mod Called
-pub mod Words

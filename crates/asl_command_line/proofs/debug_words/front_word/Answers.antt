@@ -1,0 +1,15 @@
+use Rattle.std.proofs.Common.{rules}
+use Rattle.asl_command_line.proofs.Talks.{no_word_first, no_word_last, no_number_after}
+use Rattle.asl_command_line.proofs.debug_words.front_word.Goals as goal
+
+pub returns-then-not-takes_number-clause-err : goal.returns-then-not-takes_number-clause-err
+returns-then-not-takes_number-clause-err c = no_word_first c.args.all.now _ c.requires c.in_default.ensures (c.takes_number.ensures (search rules))
+
+pub returns-then-all-lt2-clause-err : goal.returns-then-all-lt2-clause-err
+returns-then-all-lt2-clause-err c = no_word_last c.args.all.now _ c.requires (search rules) c.in_default.ensures
+
+pub returns-in_default-number-clause-err : goal.returns-in_default-number-clause-err
+returns-in_default-number-clause-err c = no_number_after c.args.all.now _ _ (search rules) c.in_default.ensures c.in_default-number.ensures
+
+pub returns-in-None-clause-err : goal.returns-in-None-clause-err
+returns-in-None-clause-err c = no_word_first c.args.all.now _ c.requires c.in_default.ensures c.in-None.ensures

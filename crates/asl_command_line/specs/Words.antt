@@ -1,0 +1,146 @@
+-- What the words of a command line ask for (docs/CLI.md, "Commands"). What `clap` makes of words
+-- is reported by its own definitions: `fault_of` are the kinds of error that it may give, none where it takes the words, and
+-- `subcommand_of` is the command that they name, with the values of its arguments by their names.
+use Rattle.std.specs.Prelude.{◌≡◌, ◌≢◌, ◌≤◌, ◌⊎◌, ℕ, Bool, true, false, List, [], ◌∷◌, ◌++◌, Option, None, Some, codes, unwrap_or, IsSomeAnd, MatchOption}
+use Rattle.std.specs.List.{All}
+use Rattle.clap.specs.Words.{Kinds, IsAmong, Row, Text, all_of, fault_of, first_of, one_of, subcommand_of}
+use Rattle.clap.specs.declared.error.kind.ErrorKind.{ErrorKind}
+use Rattle.clap.specs.declared.error.kind.ErrorKind.TheVariants.{DisplayHelp, DisplayVersion}
+use Rattle.asl_command_line.specs.declared.command.Command.{Command}
+use Rattle.asl_command_line.specs.declared.command.Command.TheVariants as command
+use Rattle.asl_command_line.specs.declared.command.RunArguments.{RunArguments}
+use Rattle.asl_command_line.specs.declared.command.Invocation.{Invocation}
+use Rattle.asl_command_line.specs.declared.command.Invocation.TheVariants.{Alone, Run, Help, Version, WrongUsage}
+use Rattle.asl_command_line.specs.declared.debug_word.DebugWord.{DebugWord}
+use Rattle.asl_command_line.specs.declared.debug_word.DebugWord.TheVariants as word
+use Rattle.asl_command_line.specs.declared.debug_word.Move.TheVariants as move
+use Rattle.asl_command_line.specs.Number.{IsNumber, AreNumbers}
+use Rattle.asl_command_line.specs.Arguments.{asl_app}
+
+-- ---- the values of arguments
+
+-- the argument's value is this number
+abbrev pub IsNumberAt : Text → List Row → ℕ → Type 0
+IsNumberAt name rows number = IsSomeAnd (first_of name rows) (λ text. IsNumber text number)
+
+-- the words of the argument
+abbrev pub words_at : Text → List Row → List Text
+words_at name rows = unwrap_or (all_of name rows) []
+
+-- the flag was given or not
+pub record IsFlagAt (name : Text) (rows : List Row) (given : Bool) : Type 0 where
+  pub yes : one_of name rows ≡ Some (codes "true") → given ≡ true
+  pub no : one_of name rows ≡ Some (codes "false") → given ≡ false
+  pub none : one_of name rows ≡ None → given ≡ false
+
+-- how long paths may be: as `--k` says, and else 3
+abbrev pub IsLengthAt : List Row → ℕ → Type 0
+IsLengthAt rows k_limit = MatchOption (first_of (codes "k") rows) (k_limit ≡ 3) (λ text. IsNumber text k_limit)
+
+-- the words ask the debugger for this
+abbrev pub IsDebugWord : List Text → DebugWord → Type 0
+IsDebugWord words (word.Move (move.Goto k)) = (text : Text) × (words ≡ codes "goto" ∷ text ∷ []) × IsNumber text k
+IsDebugWord words (word.Move move.Forward) = words ≡ codes "forward" ∷ []
+IsDebugWord words (word.Move move.Back) = words ≡ codes "back" ∷ []
+IsDebugWord words (word.Move move.Next) = words ≡ codes "next" ∷ []
+IsDebugWord words (word.Move move.Previous) = words ≡ codes "prev" ∷ []
+IsDebugWord words (word.Break pc) = (text : Text) × (words ≡ codes "break" ∷ text ∷ []) × IsNumber text pc
+IsDebugWord words (word.Clear pc) = (text : Text) × (words ≡ codes "clear" ∷ text ∷ []) × IsNumber text pc
+IsDebugWord words word.View = words ≡ codes "view" ∷ []
+IsDebugWord words word.Asks = words ≡ codes "asks" ∷ []
+IsDebugWord words word.Stack = words ≡ codes "stack" ∷ []
+IsDebugWord words word.Objects = words ≡ codes "objects" ∷ []
+
+-- the words ask the debugger for these, one after the other
+abbrev pub AreDebugWords : List Text → List DebugWord → Type 0
+AreDebugWords words [] = words ≡ []
+AreDebugWords words (w ∷ ws) = (first : List Text) × (rest : List Text) × (words ≡ first ++ rest) × IsDebugWord first w × AreDebugWords rest ws
+
+-- ---- commands
+
+-- the command has this name and these values
+abbrev pub IsCommand : Text → List Row → Command → Type 0
+IsCommand name rows (command.Step threads schedule record_it) =
+    (name ≡ codes "step") × IsNumberAt (codes "threads") rows threads × AreNumbers (words_at (codes "schedule") rows) schedule.items
+    × IsFlagAt (codes "record") rows record_it
+IsCommand name rows command.Assemble = name ≡ codes "asm"
+IsCommand name rows command.Disassemble = name ≡ codes "dis"
+IsCommand name rows (command.Compile k_limit text) =
+    (name ≡ codes "compile") × IsLengthAt rows k_limit × IsFlagAt (codes "text") rows text
+IsCommand name rows (command.Check k_limit) = (name ≡ codes "check") × IsLengthAt rows k_limit
+IsCommand name rows command.Map = name ≡ codes "map"
+IsCommand name rows (command.Explain k_limit all) =
+    (name ≡ codes "explain") × IsLengthAt rows k_limit × IsFlagAt (codes "all") rows all
+IsCommand name rows (command.Diagnose assembly k_limit) =
+    (name ≡ codes "diagnose") × IsFlagAt (codes "asm") rows assembly × IsLengthAt rows k_limit
+IsCommand name rows command.Replay = name ≡ codes "replay"
+IsCommand name rows (command.Log trace) = (name ≡ codes "log") × IsFlagAt (codes "trace") rows trace
+IsCommand name rows (command.Debug words) = (name ≡ codes "debug") × AreDebugWords (words_at (codes "words") rows) words.items
+
+-- the command is `run` with these values
+pub record IsTeam (name : Text) (rows : List Row) (team : RunArguments) : Type 0 where
+  pub name_is : name ≡ codes "run"
+  pub threads : IsNumberAt (codes "threads") rows team.threads
+  pub workers : IsNumberAt (codes "workers") rows team.workers
+  pub limit : IsNumberAt (codes "limit") rows team.limit
+  pub recorded : IsFlagAt (codes "record") rows team.record
+
+-- ---- wrong use
+
+-- the argument's value is no number
+abbrev pub IsNoNumberAt : Text → List Row → Type 0
+IsNoNumberAt name rows = (number : ℕ) → IsNumberAt name rows number → ⊥
+
+-- one of the argument's words is no number
+abbrev pub AreNoNumbersAt : Text → List Row → Type 0
+AreNoNumbersAt name rows = (numbers : List ℕ) → AreNumbers (words_at name rows) numbers → ⊥
+
+-- `--k` has no number, or one above 8
+abbrev pub IsNoLengthAt : List Row → Type 0
+IsNoLengthAt rows = (k_limit : ℕ) → k_limit ≤ 8 → IsLengthAt rows k_limit → ⊥
+
+-- the words ask the debugger for nothing
+abbrev pub AskNothing : List Row → Type 0
+AskNothing rows = (words : List DebugWord) → AreDebugWords (words_at (codes "words") rows) words → ⊥
+
+-- the name is none of the program's commands
+abbrev pub IsUnknown : Text → Type 0
+IsUnknown name = All (λ known. name ≢ known)
+    (codes "step" ∷ codes "asm" ∷ codes "dis" ∷ codes "compile" ∷ codes "check" ∷ codes "map" ∷ codes "explain" ∷ codes "diagnose" ∷ codes "replay" ∷ codes "log" ∷ codes "debug" ∷ codes "run" ∷ [])
+
+-- the command has this name, and one of its values is none
+abbrev pub IsMisused : Text → List Row → Type 0
+IsMisused name rows =
+    ((name ≡ codes "step") × (IsNoNumberAt (codes "threads") rows ⊎ AreNoNumbersAt (codes "schedule") rows))
+    ⊎ ((((name ≡ codes "compile") ⊎ ((name ≡ codes "check") ⊎ ((name ≡ codes "explain") ⊎ (name ≡ codes "diagnose")))) × IsNoLengthAt rows)
+    ⊎ (((name ≡ codes "run") × (IsNoNumberAt (codes "threads") rows ⊎ (IsNoNumberAt (codes "workers") rows ⊎ IsNoNumberAt (codes "limit") rows)))
+    ⊎ (((name ≡ codes "debug") × AskNothing rows) ⊎ IsUnknown name)))
+
+-- what the command of this name with these values asks for
+abbrev pub IsReading : Text → List Row → Invocation → Type 0
+IsReading name rows (Alone command) = IsCommand name rows command
+IsReading name rows (Run team) = IsTeam name rows team
+IsReading name rows (Help text) = ⊥
+IsReading name rows Version = ⊥
+IsReading name rows (WrongUsage text) = IsMisused name rows
+
+-- ---- words
+
+-- what words ask for that `clap` takes: what their command asks for
+abbrev pub IsTaken : Option (Text × List Row) → Invocation → Type 0
+IsTaken (Some named) invocation = IsReading named.0 named.1 invocation
+IsTaken None (WrongUsage text) = Unit {0}
+IsTaken None invocation = ⊥
+
+-- what words ask for that `clap` does not take: help, or the version, or else nothing that is legal
+abbrev pub IsNotTaken : Kinds → Invocation → Type 0
+IsNotTaken kinds (Help text) = IsAmong DisplayHelp kinds
+IsNotTaken kinds Version = IsAmong DisplayVersion kinds
+IsNotTaken kinds (WrongUsage text) = (kind : ErrorKind) × IsAmong kind kinds × (kind ≢ DisplayHelp) × (kind ≢ DisplayVersion)
+IsNotTaken kinds invocation = ⊥
+
+-- what the words ask for: a command where `clap` takes them, help or the version where they ask for it
+abbrev pub AsksFor : List Text → Invocation → Type 0
+AsksFor words invocation =
+    ((fault_of asl_app words ≡ []) × IsTaken (subcommand_of asl_app words) invocation)
+    ⊎ IsNotTaken (fault_of asl_app words) invocation

@@ -1,0 +1,124 @@
+//! The values of the arguments of a command.
+ghost use Rattle.std.specs.Prelude.{◌≤◌, ℕ, IfOk, IfErr, MatchOption, codes};
+ghost use Rattle.clap.specs.Words.{found_of, rows_of};
+ghost use Rattle.asl_command_line.specs.Words.{AreDebugWords, IsFlagAt, IsLengthAt, IsNoLengthAt, IsNoNumberAt, IsNumberAt, words_at};
+ghost use Rattle.asl_command_line.specs.Number.{AreNumbers, IsNumber};
+ghost use Rattle.asl_command_line.specs.Reading.{IsNumbersFault, IsDebugWordsFault, IsWrongUsage};
+
+use crate::command::Invocation;
+use crate::debug_word::DebugWord;
+use crate::debug_words::{DebugWordsFault, debug_words};
+use crate::number_words::{NumbersFault, number, numbers};
+use crate::path_limit::PathLimit;
+use clap::ArgMatches;
+use std::alloc::{AllocError, Global};
+
+/// What a number must be.
+pub(crate) const A_NUMBER: &str = "not a number from 0 to 4294967295";
+
+/// What a length of paths must be.
+pub(crate) const A_PATH_LIMIT: &str = "not a number from 0 to 8";
+
+/// Where usage is explained.
+const HELP_IS_THERE: &str = "For more information, try '--help'.\n";
+
+/// What a word of the debugger must be.
+pub(crate) const A_WORD: &str =
+    "not one of goto, forward, back, next, prev, break, clear, view, asks, stack, objects";
+
+/// Whether the flag was given.
+pub(crate) fn flag_at(values: &ArgMatches<'_>, name: &str) -> bool
+    ensures { IsFlagAt name.now (rows_of (found_of values.now)) result }
+{
+    values.get_flag(name)
+}
+
+/// The number that is the argument's value, or the value that is none.
+pub(crate) fn number_at<'a>(values: &ArgMatches<'a>, name: &str) -> Result<u32, &'a str>
+    ensures ok { IfOk result (IsNumberAt name.now (rows_of (found_of values.now))) }
+    ensures err { IfErr result (λ _. IsNoNumberAt name.now (rows_of (found_of values.now))) }
+{
+    match values.get_str(name) {
+        Some(word) => match number(word) {
+            Some(number) => Ok(number),
+            None => Err(word),
+        },
+        None => Err(""),
+    }
+}
+
+/// The value of `--k`, or the value that is none.
+pub(crate) fn k_limit_at<'a>(values: &ArgMatches<'a>) -> Result<PathLimit, &'a str>
+    ensures ok { IfOk result (λ k_limit. IsLengthAt (rows_of (found_of values.now)) k_limit) }
+    ensures err { IfErr result (λ _. IsNoLengthAt (rows_of (found_of values.now))) }
+{
+    match values.get_str("k") {
+        Some(word) => match length(word) {
+            Some(k_limit) => Ok(k_limit),
+            None => Err(word),
+        },
+        None => Ok(PathLimit::usual()),
+    }
+}
+
+/// The length of paths that the word is, if it is one.
+fn length(word: &str) -> Option<PathLimit>
+    ensures { MatchOption result ((n : ℕ) → n ≤ 8 → IsNumber word.now n → ⊥) (λ k_limit. IsNumber word.now k_limit) }
+{
+    match number(word) {
+        Some(number) => PathLimit::of(number),
+        None => None,
+    }
+}
+
+/// The numbers that are the argument's words.
+pub(crate) fn numbers_at<'a>(
+    alloc: Global,
+    values: &ArgMatches<'a>,
+    name: &str,
+) -> Result<Vec<u32>, NumbersFault<'a>>
+    ensures ok { IfOk result (λ numbers. AreNumbers (words_at name.now (rows_of (found_of values.now))) numbers.items) }
+    ensures err { IfErr result (IsNumbersFault (words_at name.now (rows_of (found_of values.now)))) }
+{
+    match values.get_strs(name) {
+        Some(words) => numbers(alloc, words),
+        None => Ok(Vec::new(alloc)),
+    }
+}
+
+/// What the words ask the debugger for.
+pub(crate) fn debug_words_at<'a>(
+    alloc: Global,
+    values: &ArgMatches<'a>,
+) -> Result<Vec<DebugWord>, DebugWordsFault<'a>>
+    ensures ok { IfOk result (λ words. AreDebugWords (words_at (codes "words") (rows_of (found_of values.now))) words.items) }
+    ensures err { IfErr result (IsDebugWordsFault (words_at (codes "words") (rows_of (found_of values.now)))) }
+{
+    match values.get_strs("words") {
+        Some(words) => debug_words(alloc, words),
+        None => Ok(Vec::new(alloc)),
+    }
+}
+
+/// Says that the argument's value is none.
+pub(crate) fn invalid(
+    alloc: Global,
+    word: &str,
+    argument: &str,
+    why: &str,
+) -> Result<Invocation, AllocError>
+    ensures { IfOk result IsWrongUsage }
+{
+    let text = format!(in alloc;
+        "error: invalid value '{word}' for '{argument}': {why}\n\n{HELP_IS_THERE}"
+    )?;
+    Ok(Invocation::WrongUsage(text))
+}
+
+/// Says why the words are no legal use.
+pub(crate) fn wrong_usage(alloc: Global, why: &str) -> Result<Invocation, AllocError>
+    ensures { IfOk result IsWrongUsage }
+{
+    let text = format!(in alloc; "error: {why}\n\n{HELP_IS_THERE}")?;
+    Ok(Invocation::WrongUsage(text))
+}

@@ -1,0 +1,198 @@
+//! Reads the words of a command line.
+ghost use Rattle.std.specs.Prelude.{◌≢◌, map, IfOk, string_bytes, codes};
+ghost use Rattle.clap.specs.Words.{found_of, kind_of, rows_of, subcommand_rows_of};
+ghost use Rattle.asl_command_line.specs.Words.{AsksFor, IsReading, IsTaken};
+ghost use Rattle.asl_command_line.specs.Reading.{IsRefusal};
+
+use crate::apart::read_apart;
+use crate::argument_values::{
+    A_NUMBER, A_PATH_LIMIT, A_WORD, debug_words_at, flag_at, invalid, k_limit_at, number_at,
+    numbers_at, wrong_usage,
+};
+use crate::arguments::program;
+use crate::command::{Command, Invocation, RunArguments};
+use crate::debug_words::DebugWordsFault;
+use crate::number_words::{NumbersFault, number};
+use clap::error::ErrorKind;
+use clap::{ArgMatches, Error};
+use std::alloc::{AllocError, Global};
+
+/// Judges the words, which are those after the program's name.
+///
+/// # Errors
+///
+/// An allocation failed.
+pub fn read_words(alloc: Global, words: &[String]) -> Result<Invocation, AllocError>
+    ensures { IfOk result (AsksFor (map string_bytes words.now)) }
+{
+    match read_apart(alloc, words)? {
+        Some(command) => Ok(Invocation::Alone(command)),
+        None => read_all(alloc, words),
+    }
+}
+
+/// The same by `clap` alone.
+pub fn read_all(alloc: Global, words: &[String]) -> Result<Invocation, AllocError>
+    ensures { IfOk result (AsksFor (map string_bytes words.now)) }
+{
+    match program(alloc)?.try_get_matches_from(words) {
+        Ok(matches) => read_matches(alloc, &matches),
+        Err(error) => refused(alloc, &error),
+    }
+}
+
+/// What words ask for that were taken.
+fn read_matches(alloc: Global, matches: &ArgMatches<'_>) -> Result<Invocation, AllocError>
+    ensures { IfOk result (IsTaken (subcommand_rows_of matches.now)) }
+{
+    match matches.subcommand() {
+        Some((name, values)) => read_command(alloc, name, values),
+        None => wrong_usage(alloc, "'asl' requires a command but one was not provided"),
+    }
+}
+
+/// What a command asks for.
+fn read_command(
+    alloc: Global,
+    name: &str,
+    values: &ArgMatches<'_>,
+) -> Result<Invocation, AllocError>
+    ensures { IfOk result (IsReading name.now (rows_of (found_of values.now))) }
+{
+    match name {
+        "step" => read_step(alloc, values),
+        "asm" => Ok(Invocation::Alone(Command::Assemble)),
+        "dis" => Ok(Invocation::Alone(Command::Disassemble)),
+        "compile" => read_compile(alloc, values),
+        "check" => read_check(alloc, values),
+        "map" => Ok(Invocation::Alone(Command::Map)),
+        "explain" => read_explain(alloc, values),
+        "diagnose" => read_diagnose(alloc, values),
+        "replay" => Ok(Invocation::Alone(Command::Replay)),
+        "log" => Ok(read_log(values)),
+        "debug" => read_debug(alloc, values),
+        "run" => read_run(alloc, values),
+        _ => wrong_usage(alloc, "the command is unknown"),
+    }
+}
+
+fn read_step(alloc: Global, values: &ArgMatches<'_>) -> Result<Invocation, AllocError>
+    ensures { IfOk result (IsReading (codes "step") (rows_of (found_of values.now))) }
+{
+    let threads = match number_at(values, "threads") {
+        Ok(threads) => threads,
+        Err(word) => return invalid(alloc, word, "--threads <N>", A_NUMBER),
+    };
+    let record = flag_at(values, "record");
+    match numbers_at(alloc, values, "schedule") {
+        Ok(schedule) => Ok(Invocation::Alone(Command::Step {
+            threads,
+            schedule,
+            record,
+        })),
+        Err(NumbersFault::NoNumber(word)) => invalid(alloc, word, "<T>...", A_NUMBER),
+        Err(NumbersFault::OutOfMemory) => Err(AllocError),
+    }
+}
+
+fn read_run(alloc: Global, values: &ArgMatches<'_>) -> Result<Invocation, AllocError>
+    ensures { IfOk result (IsReading (codes "run") (rows_of (found_of values.now))) }
+{
+    let threads = match number_at(values, "threads") {
+        Ok(threads) => threads,
+        Err(word) => return invalid(alloc, word, "--threads <N>", A_NUMBER),
+    };
+    let workers = match number_at(values, "workers") {
+        Ok(workers) => workers,
+        Err(word) => return invalid(alloc, word, "--workers <W>", A_NUMBER),
+    };
+    let limit = match number_at(values, "limit") {
+        Ok(limit) => limit,
+        Err(word) => return invalid(alloc, word, "--limit <L>", A_NUMBER),
+    };
+    let record = flag_at(values, "record");
+    Ok(Invocation::Run(RunArguments {
+        threads,
+        workers,
+        limit,
+        record,
+    }))
+}
+
+fn read_compile(alloc: Global, values: &ArgMatches<'_>) -> Result<Invocation, AllocError>
+    ensures { IfOk result (IsReading (codes "compile") (rows_of (found_of values.now))) }
+{
+    match k_limit_at(values) {
+        Ok(k_limit) => {
+            let text = flag_at(values, "text");
+            Ok(Invocation::Alone(Command::Compile { k_limit, text }))
+        }
+        Err(word) => invalid(alloc, word, "--k <K>", A_PATH_LIMIT),
+    }
+}
+
+fn read_check(alloc: Global, values: &ArgMatches<'_>) -> Result<Invocation, AllocError>
+    ensures { IfOk result (IsReading (codes "check") (rows_of (found_of values.now))) }
+{
+    match k_limit_at(values) {
+        Ok(k_limit) => Ok(Invocation::Alone(Command::Check { k_limit })),
+        Err(word) => invalid(alloc, word, "--k <K>", A_PATH_LIMIT),
+    }
+}
+
+fn read_explain(alloc: Global, values: &ArgMatches<'_>) -> Result<Invocation, AllocError>
+    ensures { IfOk result (IsReading (codes "explain") (rows_of (found_of values.now))) }
+{
+    match k_limit_at(values) {
+        Ok(k_limit) => {
+            let all = flag_at(values, "all");
+            Ok(Invocation::Alone(Command::Explain { k_limit, all }))
+        }
+        Err(word) => invalid(alloc, word, "--k <K>", A_PATH_LIMIT),
+    }
+}
+
+fn read_diagnose(alloc: Global, values: &ArgMatches<'_>) -> Result<Invocation, AllocError>
+    ensures { IfOk result (IsReading (codes "diagnose") (rows_of (found_of values.now))) }
+{
+    match k_limit_at(values) {
+        Ok(k_limit) => {
+            let assembly = flag_at(values, "asm");
+            Ok(Invocation::Alone(Command::Diagnose { assembly, k_limit }))
+        }
+        Err(word) => invalid(alloc, word, "--k <K>", A_PATH_LIMIT),
+    }
+}
+
+fn read_log(values: &ArgMatches<'_>) -> Invocation
+    ensures { IsReading (codes "log") (rows_of (found_of values.now)) result }
+{
+    let trace = flag_at(values, "trace");
+    Invocation::Alone(Command::Log { trace })
+}
+
+fn read_debug(alloc: Global, values: &ArgMatches<'_>) -> Result<Invocation, AllocError>
+    ensures { IfOk result (IsReading (codes "debug") (rows_of (found_of values.now))) }
+{
+    match debug_words_at(alloc, values) {
+        Ok(words) => Ok(Invocation::Alone(Command::Debug { words })),
+        Err(DebugWordsFault::NoWord(word)) => invalid(alloc, word, "<WORD>...", A_WORD),
+        Err(DebugWordsFault::NoNumber(word)) => invalid(alloc, word, "<WORD>...", A_NUMBER),
+        Err(DebugWordsFault::NumberMissing) => {
+            wrong_usage(alloc, "a number is required after the last '<WORD>...'")
+        }
+        Err(DebugWordsFault::OutOfMemory) => Err(AllocError),
+    }
+}
+
+/// What words ask for that were not taken.
+fn refused(alloc: Global, error: &Error) -> Result<Invocation, AllocError>
+    ensures { IfOk result (λ invocation. (kind_of error.now ≢ ErrorKind.OutOfMemory) × IsRefusal (kind_of error.now) invocation) }
+{
+    match error.kind() {
+        ErrorKind::OutOfMemory => Err(AllocError),
+        ErrorKind::DisplayHelp => Ok(Invocation::Help(error.to_string(alloc)?)),
+        ErrorKind::DisplayVersion => Ok(Invocation::Version),
+        _ => Ok(Invocation::WrongUsage(error.to_string(alloc)?)),
+    }
+}

@@ -1,8 +1,0 @@
-use Rattle.std.proofs.Common.{◌≡◌, ◌++◌, string_bytes}
-use Rattle.asl_session.specs.Pages.{event_lines}
-use Rattle.asl_session.proofs.Lines.{left_lines}
-use Rattle.asl_session.proofs.pages.lines_from.Given as goal
-
--- the lines so far, and then those that are left, are all lines
-abbrev pub invariant-loop-index : goal.invariant-loop-index
-invariant-loop-index l = string_bytes l.text ++ left_lines l.first l.events l.index ≡ event_lines l.first l.events
