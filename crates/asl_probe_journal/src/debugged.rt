@@ -3,9 +3,9 @@
 //! `clear PC`, `fresh` (whether the objects 1 and 2 are so for threads 0 and 1, in the order 1 0, 1 1, 2 0, 2 1), `all` (whether each position shows, after each
 //! other, what a new replay leads to), `visit K ..` (whether these do). Without it `differing K SPACING SCHEDULE` (the journal with another reply at
 //! K: the refusal, and how many events come back), `crowded N SPACING` (no events, N threads: the refusal, and the threads).
+use crate::again::{assembled, moved};
 use crate::runs::{journal_of, replayed_from};
 use crate::shown::shows_same;
-use asl_assembler::assemble;
 use asl_code::{Program, Value};
 use asl_debugger::{DebugFault, Debugger};
 use asl_journal::Journal;
@@ -14,7 +14,7 @@ use asl_probe_text::{numbers, put_bad, put_line, put_same, put_word};
 use std::alloc::{AllocError, Global};
 
 pub fn answer(alloc: Global, given: &str, calls: &str, out: &mut String) -> Result<(), AllocError> {
-    match assemble(alloc, given.as_bytes()) {
+    match assembled(alloc, given) {
         Ok(program) => answer_calls(alloc, &program, calls, out),
         Err(fault) => write!(out, "{fault}\n"),
     }
@@ -38,7 +38,11 @@ fn answer_calls(
         let (call, rest) = line.split_once(' ').unwrap_or((line, ""));
         match call {
             "open" => {
-                session = opened(alloc, program, rest);
+                // (made again where it is refused, for memory or else)
+                session = match opened(alloc, program, rest) {
+                    None => opened(alloc, program, rest),
+                    made => made,
+                };
                 put_opened(session.as_ref(), out)?;
             }
             "differing" => put_differing(alloc, program, rest, out)?,
@@ -85,35 +89,20 @@ fn answer_call(
         "fresh" => put_fresh(&session.debugger, out),
         "all" => put_same(is_shown_everywhere(alloc, program, session), out),
         "visit" => put_same(is_shown_at(alloc, program, session, rest), out),
-        "break" => put_move(
-            session.debugger.break_at(split_number(rest).0),
-            session,
-            out,
-        ),
         "clear" => {
             session.debugger.clear(split_number(rest).0);
             put_move(Ok(()), session, out)
         }
-        _ => match moved(alloc, &mut session.debugger, call, split_number(rest).0) {
+        _ => match moved(
+            alloc,
+            &mut session.debugger,
+            call,
+            split_number(rest).0,
+            out,
+        )? {
             Some(answer) => put_move(answer, session, out),
             None => put_bad(call, out),
         },
-    }
-}
-
-fn moved(
-    alloc: Global,
-    debugger: &mut Debugger<'_>,
-    call: &str,
-    position: u32,
-) -> Option<Result<(), DebugFault>> {
-    match call {
-        "goto" => Some(debugger.goto(alloc, position)),
-        "forward" => Some(debugger.forward(alloc)),
-        "back" => Some(debugger.back(alloc)),
-        "next" => Some(debugger.forward_to_break(alloc)),
-        "previous" => Some(debugger.back_to_break(alloc)),
-        _ => None,
     }
 }
 

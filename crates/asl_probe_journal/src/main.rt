@@ -5,6 +5,7 @@
 //! and a line `--`. Then come the calls, one a line.
 #![tactic(auto)]
 
+mod again;
 mod debugged;
 mod files;
 mod recorded;

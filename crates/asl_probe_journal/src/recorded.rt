@@ -2,8 +2,8 @@
 //! number, the thread, the reply, and `ends` where the thread has ended), `run T N` (N steps without a word), `events`, `reserve N`,
 //! `cell`, `all_ran` (whether each event is a step of thread 0 that ran). Of a run of two threads: `put SCHEDULE` (its bytes), `replay SCHEDULE`, `follow K SCHEDULE` (from after K events),
 //! `differs K SCHEDULE` (with another reply at K), `last SCHEDULE`. And `empty N`, a journal without events.
+use crate::again::{assembled, step};
 use crate::runs::{empty_met, is_followed, is_replayed, journal_of, last_event, refused_at};
-use asl_assembler::assemble;
 use asl_code::{Cell, Program};
 use asl_journal::{Event, JournalFault, Journaled, Receipt, put};
 use asl_machine::Reply;
@@ -11,7 +11,7 @@ use asl_probe_text::{numbers, put_bad, put_line, put_same, put_word};
 use std::alloc::{AllocError, Global};
 
 pub fn answer(alloc: Global, given: &str, calls: &str, out: &mut String) -> Result<(), AllocError> {
-    match assemble(alloc, given.as_bytes()) {
+    match assembled(alloc, given) {
         Ok(program) => answer_calls(alloc, &program, calls, out),
         Err(fault) => write!(out, "{fault}\n"),
     }
@@ -27,7 +27,7 @@ fn answer_calls(
     for line in calls.lines() {
         let (call, rest) = line.split_once(' ').unwrap_or((line, ""));
         if call == "start" {
-            started = Journaled::start(alloc, program, rest.parse::<u32>().unwrap_or(0)).ok();
+            started = started_at(alloc, program, rest.parse::<u32>().unwrap_or(0));
         } else {
             match &mut started {
                 Some(journaled) => answer_call(alloc, journaled, call, rest, out)?,
@@ -36,6 +36,14 @@ fn answer_calls(
         }
     }
     Ok(())
+}
+
+/// A machine that starts; made again where it is refused, for memory or else.
+fn started_at<'p>(alloc: Global, program: &'p Program, threads: u32) -> Option<Journaled<'p>> {
+    match Journaled::start(alloc, program, threads) {
+        Err(_refused) => Journaled::start(alloc, program, threads).ok(),
+        Ok(journaled) => Some(journaled),
+    }
 }
 
 fn answer_call(
@@ -63,7 +71,8 @@ fn put_steps(
     out: &mut String,
 ) -> Result<(), AllocError> {
     for thread in numbers(alloc, text)?.as_slice() {
-        put_receipt(journaled.step(alloc, u32::from(*thread)), out)?;
+        let receipt = step(alloc, journaled, u32::from(*thread), out)?;
+        put_receipt(receipt, out)?;
     }
     out.push('\n')
 }
@@ -132,11 +141,15 @@ fn put_reserved(
     count: u32,
     out: &mut String,
 ) -> Result<(), AllocError> {
-    if let Err(fault) = journaled.reserve(count) {
+    let reserved = match journaled.reserve(count) {
+        Err(JournalFault::OutOfMemory) => journaled.reserve(count),
+        answer => answer,
+    };
+    if let Err(fault) = reserved {
         return write!(out, "{fault}\n");
     }
     let spare = journaled.spare();
-    let is_stepped = journaled.step(alloc, 0).is_ok();
+    let is_stepped = step(alloc, journaled, 0, out)?.is_ok();
     let left = journaled.spare();
     put_same(
         Some(spare >= count && is_stepped && left.saturating_add(1) >= spare),
