@@ -12,6 +12,8 @@ OPEN = re.compile(r"^fn (\S+): (?:not proved|no proof: (?!it calls))")
 # an error of a proof that is written: its goal, and what is wrong
 GOAL = re.compile(r"^\./proofs/(\S+)/(?:Answers|Invariants|Proof)\.antt:\d+:\d+: error: `([\w-]+)`")
 NAMES = re.compile(r"(note: )?(\./)?proofs/.*(has no field|is not in scope|has no `|was not admitted)")
+# what the prover says where one of its own limits ends a check
+LIMIT = re.compile(r"antt ran out of (stack|the (steps|memory) that the check of one declaration may (take|use))|(outgrew the memory limit|stopped at the step limit) \(")
 UNREAD = re.compile(r"\berror\[[\w-]+\]|^(?:\./)?(?:src|specs)/\S+:\d+:\d+: error")
 
 
@@ -30,7 +32,9 @@ class Told:
                 if found and name.split("::")[1:] == found[1].split("/") and found[2] not in self.open[name]:
                     self.open[name].append(found[2])
         bad = [it for it in self.lines if UNREAD.search(it)]
-        self.is_verdict = status in (0, 1) and not bad
+        # (a limit ends the check of the function that it is met in, and of nothing before it)
+        self.is_at_limit = status == 3 and bool(LIMIT.search(text))
+        self.is_verdict = (status in (0, 1) or self.is_at_limit) and not bad
         self.reason = f"no verdict: {(bad or self.lines)[0][:200]}"
 
     def functions(self):
