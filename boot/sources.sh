@@ -59,7 +59,7 @@ sum_of_sources() {
 }
 
 # noted NAME..: what boot/sum says beside these words, or nothing
-noted() { sed -n "s/^$* //p" "$root/boot/sum" 2>/dev/null; }
+noted() { sed -n "s/^$* //p" "$root/boot/sum" 2>/dev/null || :; }
 
 # needs_kit: rt is there, and proves in this logic; or it is said, with what else there is
 needs_kit() {
