@@ -1,14 +1,12 @@
--- The words at which refusals are reported are there.
-use Rattle.std.proofs.Common.{◌≡◌, ℕ, ◌<◌, Bool, List, Some, None, true, sym, ◌∙◌, subst, arith}
+-- The words at which a program is refused are there.
+use Rattle.std.proofs.Common.{◌≡◌, ℕ, ◌<◌, Bool, List, subst, arith}
 use Rattle.std.proofs.lemmas.Option.{slice_get_within, slice_get-get_or}
 use Rattle.asl_code.specs.declared.lock.Lock.{Lock}
 use Rattle.asl_code.specs.declared.lock.Lock.TheVariants as lock
 use Rattle.asl_code.specs.declared.value.Effect.TheVariants as effect
 use Rattle.asl_grammar.specs.Lex.{tokens_of}
-use Rattle.asl_syntax.specs.declared.fault.SyntaxFault.TheVariants as syntax
 use Rattle.asl_syntax.specs.Tree.{Item, functions_of}
 use Rattle.asl_syntax.specs.Parsed.{Parses}
-use Rattle.asl_syntax.specs.Fault.{IsFault}
 use Rattle.asl_lower.specs.Lowered.{Lowered, IsLowering}
 use Rattle.asl_lower.specs.Regions.{Region, Body, Inside, IsIn}
 use Rattle.asl_lower.proofs.Laid.{code_is}
@@ -18,32 +16,11 @@ use Rattle.asl_backward_flow.proofs.Leasts.{needed_inside}
 use Rattle.asl_points_to.specs.Classes.{Classed}
 use Rattle.asl_emitter.specs.Refused.{IsRefusedInference}
 use Rattle.asl_emitter.specs.declared.fault.InferFault.TheVariants as infer
-use Rattle.asl_diagnose.specs.declared.word_place.Word.TheVariants as word
-use Rattle.asl_diagnose.specs.Places.{accesses_before, words_in, IsNameAt, IsWordAt, IsOverfull}
-use Rattle.asl_diagnose.specs.Diagnosed.{IsAccessPlace}
-use Rattle.asl_diagnose.specs.SeenView.{is_twice, seen_nothing}
-use Rattle.asl_diagnose.specs.Unknown.{IsUnknownPlace}
-use Rattle.asl_diagnose.proofs.There.{functions_there, sections_there, crowded_there}
-use Rattle.asl_diagnose.proofs.Stars.{star_there}
-use Rattle.asl_diagnose.proofs.FirstUse.{first_use_in, unknown_found}
-use Rattle.asl_diagnose.proofs.RepeatedNames.{repeated_there}
-
-none_some : (at : ℕ) → None ≡ Some at → ⊥
-none_some at e = absurd cc
-
--- a name that is declared twice, and one that is nowhere declared
-pub twice_there : (text x : List ℕ) → IsFault text (syntax.Twice x) → is_twice x seen_nothing (tokens_of text) ≡ true
-twice_there text x h = repeated_there h.tree (tokens_of text) x h.spelled.spelled h.name
-
-pub unknown_there : (text x : List ℕ) → IsFault text (syntax.Unknown x) → first_use_in x (tokens_of text) ≡ None → ⊥
-unknown_there text x h none =
-    let f = unknown_found h.tree (tokens_of text) x h.spelled.spelled h.name in
-    none_some f.0 (sym none ∙ f.1.found)
-
-pub unknown_placed : (text x : List ℕ) (at : ℕ) → IsFault text (syntax.Unknown x) → Some at ≡ first_use_in x (tokens_of text) → IsNameAt (tokens_of text) x at → IsUnknownPlace text x at
-unknown_placed text x at h e named =
-    let f = unknown_found h.tree (tokens_of text) x h.spelled.spelled h.name in
-    record { name = named; tree = h.tree; spelled = h.spelled; place = f.1.is ∙ sym (e ∙ f.1.found) }
+use Rattle.asl_diagnose_text.specs.declared.word_place.Word.TheVariants as word
+use Rattle.asl_diagnose_text.specs.Places.{accesses_before, words_in, IsWordAt, IsOverfull}
+use Rattle.asl_diagnose_text.proofs.There.{functions_there, sections_there, crowded_there}
+use Rattle.asl_diagnose_text.proofs.Stars.{star_there}
+use Rattle.asl_diagnose.specs.InferPlaces.{IsAccessPlace}
 
 -- a function with too many registers
 pub registers_there : (text : List ℕ) (tree : List Item) (k number : ℕ) → Parses text tree → IsRefusedInference tree k (infer.Registers number) → number < words_in word.Fn (tokens_of text)

@@ -1,4 +1,4 @@
--- What is reported of a refusal, of its parts.
+-- What is told of a refusal, of its parts.
 use Rattle.std.proofs.Common.{◌≡◌, ◌≢◌, ℕ, List, None, sym, subst}
 use Rattle.std.specs.Prelude.{Result, Ok, Err, OnErr}
 use Rattle.asl_syntax.specs.declared.fault.SyntaxFault.{SyntaxFault}
@@ -12,7 +12,10 @@ use Rattle.asl_emitter.specs.Refused.{IsRefusedInference}
 use Rattle.asl_diagnose.specs.declared.diagnosis.Refusal.{Refusal}
 use Rattle.asl_diagnose.specs.declared.diagnosis.Refusal.TheVariants as refusal
 use Rattle.asl_diagnose.specs.declared.diagnosis.Diagnosis.{Diagnosis}
-use Rattle.asl_diagnose.specs.Diagnosed.{IsSourceRefusal, IsSourcePlace, IsSyntaxPlace, IsExpectedFor, IsInferPlace, IsPosition, IsSourceDiagnosis, HasFirst, HasKinds, HasBringers}
+use Rattle.asl_diagnose_text.specs.Position.{IsPosition}
+use Rattle.asl_diagnose_text.specs.SyntaxPlaces.{IsSyntaxPlace, IsExpectedFor}
+use Rattle.asl_diagnose.specs.InferPlaces.{IsInferPlace}
+use Rattle.asl_diagnose.specs.Diagnosed.{IsSourceRefusal, IsSourcePlace, IsSourceDiagnosis, HasFirst, HasKinds, HasBringers}
 
 -- what holds whatever the answer is
 pub on_err : {R E : Type 0} (a : Result R E) (P : Type 0) → P → OnErr a P

@@ -8,8 +8,8 @@ use Rattle.asl_backward_flow.specs.declared.region.Region as code
 use Rattle.asl_backward_flow.specs.Needed.{RegionNeeds, HasNoPart, region_of}
 use Rattle.asl_backward_flow.specs.Flows.{IsFlow}
 use Rattle.asl_diagnose.specs.declared.most.Bringers.{Bringers}
-use Rattle.asl_diagnose.specs.Places.{IsRegionPlace}
-use Rattle.asl_diagnose.specs.Statements.{closes, tokens_between, AreStatements}
+use Rattle.asl_diagnose.specs.InferPlaces.{IsRegionPlace}
+use Rattle.asl_diagnose_text.specs.Statements.{closes, tokens_between, AreStatements}
 
 -- a blank, a `0` or a `;`
 abbrev pub IsFilling : ℕ → Type 0

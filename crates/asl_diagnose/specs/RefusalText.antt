@@ -3,16 +3,19 @@ use Rattle.std.specs.Prelude.{◌≡◌, ℕ, List, [], ◌++◌, Bool, true, fa
 use Rattle.asl_diagnose.specs.declared.diagnosis.Diagnosis.{Diagnosis}
 use Rattle.asl_diagnose.specs.Diagnosed.{IsSourceDiagnosed, IsAssemblyDiagnosed}
 use Rattle.asl_diagnose.specs.Names.{head_text}
-use Rattle.asl_diagnose.specs.Shown.{shown, AreLines}
+use Rattle.asl_diagnose.specs.Bringing.{bringers_text}
+use Rattle.asl_diagnose_text.specs.Listed.{expected_text}
+use Rattle.asl_diagnose_text.specs.Shown.{shown, AreLines}
 
 -- the first line of the text has the line, the column and the name, and a sentence; then the line round the place is shown, and a caret
--- below it
+-- below it; then the kinds of token with which a program continues, and the statements that bring most of the locks, are told, if the
+-- diagnosis has some
 pub record IsHeaded (input : List ℕ) (d : Diagnosis) (text : List ℕ) : Type 0 where
   pub sentence : List ℕ
   pub lines : List ℕ
   pub are_lines : AreLines input (min d.at (length input)) lines
   pub hints : List ℕ
-  pub begins : text ≡ head_text d ++ (map shown sentence ++ (codes "\n" ++ (lines ++ hints)))
+  pub begins : text ≡ head_text d ++ (map shown sentence ++ (codes "\n" ++ (lines ++ (expected_text d.expected.items d.may_end ++ (bringers_text input d.bringers ++ hints)))))
 
 -- the text of an answer
 abbrev pub IsSpelled : List ℕ → Option Diagnosis → List ℕ → Type 0

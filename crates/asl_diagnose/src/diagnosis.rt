@@ -1,8 +1,8 @@
-//! What is reported of a text that is refused.
+//! What is told of a text that is refused.
 
-use crate::kind::TokenKind;
 use crate::most::Bringers;
 use asl_assembler::AsmFault;
+use asl_diagnose_text::TokenKind;
 use asl_emitter::InferFault;
 use asl_syntax::SyntaxFault;
 
@@ -17,7 +17,7 @@ pub enum Refusal {
     Asm(AsmFault),
 }
 
-/// What is reported of a text that is refused.
+/// What is told of a text that is refused.
 #[derive(Drop)]
 pub struct Diagnosis {
     /// Why it is refused.

@@ -1,12 +1,9 @@
 //! What helps where no lists are inferred for a program.
 
-use crate::bytes::push_quoted;
-use crate::code_statement::{call_outside, statement_of};
-use crate::diagnosis::Diagnosis;
-use crate::place::line;
-use crate::sentence::{function_name, plural};
-use crate::source_hints::{push_hint, push_place};
-use crate::used::{function_around, registers};
+use asl_diagnose_text::{
+    call_outside, function_around, function_name, push_hint, push_place, push_quoted, registers,
+    statement_of,
+};
 use asl_emitter::InferFault;
 use std::alloc::{AllocError, Global};
 
@@ -16,7 +13,6 @@ pub fn push_infer_hints(
     message: &mut String,
     text: &[u8],
     fault: InferFault,
-    told: &Diagnosis,
 ) -> Result<(), AllocError> {
     match fault {
         InferFault::Registers(function) => {
@@ -29,13 +25,10 @@ pub fn push_infer_hints(
         InferFault::AccessOutsideSection(function, _) => {
             push_access_hints(alloc, message, text, usize::from(function))
         }
-        InferFault::TooManyLocks(_) => {
-            push_bringers(message, text, told)?;
-            push_hint(
-                message,
-                "shorter paths are fewer: try a smaller K, as --k 0",
-            )
-        }
+        InferFault::TooManyLocks(_) => push_hint(
+            message,
+            "shorter paths are fewer: try a smaller K, as --k 0",
+        ),
         InferFault::CodeSize => push_size_hint(alloc, message, text),
         InferFault::TooManyClasses | InferFault::OutOfMemory => Ok(()),
     }
@@ -49,35 +42,6 @@ fn push_size_hint(alloc: Global, message: &mut String, text: &[u8]) -> Result<()
     message.push_str("the first instruction that is too many is of the statement at ")?;
     push_place(message, text, at)?;
     message.push_str("\n")
-}
-
-/// Adds which statements bring most of the locks of a region, if some do.
-fn push_bringers(message: &mut String, text: &[u8], told: &Diagnosis) -> Result<(), AllocError> {
-    let Some(found) = &told.bringers else {
-        return Ok(());
-    };
-    let first = line(text, found.from);
-    let last = line(text, found.to);
-    let left = found.left;
-    if found.count == 1 {
-        write!(message, "line {first} ")?;
-        push_quoted(message, line_bytes(text, found.from, found.to))?;
-        message.push_str(" brings most of them: without it ")?;
-    } else {
-        write!(
-            message,
-            "lines {first} to {last} bring most of them: without them "
-        )?;
-    }
-    let word = plural(left, "lock is", "locks are");
-    write!(message, "{left} {word} needed\n")
-}
-
-/// The bytes of a statement, without its semicolon.
-fn line_bytes(text: &[u8], start: usize, end: usize) -> &[u8] {
-    let (before, _) = text.split_at(end.saturating_sub(1).min(text.len()));
-    let (_, bytes) = before.split_at(start.min(before.len()));
-    bytes
 }
 
 /// Adds why the function of an access runs outside sections.

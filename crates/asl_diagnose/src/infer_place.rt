@@ -4,13 +4,11 @@ ghost use Rattle.asl_grammar.specs.Lex.{tokens_of};
 ghost use Rattle.asl_syntax.specs.AstView.{tree_of};
 ghost use Rattle.asl_syntax.specs.Parsed.{Parses};
 ghost use Rattle.asl_emitter.specs.Refused.{IsRefusedInference};
-ghost use Rattle.asl_diagnose.specs.Places.{words_in, IsRegionPlace, IsWordAt};
-ghost use Rattle.asl_diagnose.specs.Diagnosed.{IsInferPlace};
+ghost use Rattle.asl_diagnose_text.specs.Places.{words_in, IsWordAt};
+ghost use Rattle.asl_diagnose.specs.InferPlaces.{IsInferPlace, IsRegionPlace};
 
-use crate::accesses::accesses_before;
-use crate::overfull::overfull_function;
-use crate::word_place::{Word, numbered};
 use asl_backward_flow::Region;
+use asl_diagnose_text::{Word, accesses_before, numbered, overfull_function};
 use asl_emitter::InferFault;
 use asl_syntax::Ast;
 

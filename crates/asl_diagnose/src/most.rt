@@ -6,8 +6,8 @@ ghost use Rattle.asl_backward_flow.specs.Needed.{region_of};
 ghost use Rattle.asl_diagnose.specs.Brought.{AreBringers, HasFlow, HasLocks, IsFilledIn, IsInRegion, IsKept, NeedsSoMany};
 
 use crate::region_lines::{Line, region_lines, region_start};
-use crate::statements::{are_statements, is_open};
 use asl_backward_flow::{Flow, Region, needed};
+use asl_diagnose_text::{are_statements, is_open};
 use asl_emitter::InferFault;
 use asl_lower::lower;
 use asl_points_to::classes;

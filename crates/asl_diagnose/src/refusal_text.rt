@@ -1,32 +1,25 @@
 //! The text of a refusal: where and what, the line, a caret, and what helps.
 
-ghost use Rattle.std.specs.Prelude.{◌≡◌, ◌≤◌, ◌++◌, ℕ, List, not, length, IfOk, OnOk, string_bytes};
-ghost use Rattle.std.specs.List.{prefix_len};
+ghost use Rattle.std.specs.Prelude.{◌≡◌, ◌≤◌, ◌++◌, ℕ, List, IfOk, OnOk, string_bytes};
+ghost use Rattle.asl_diagnose_text.specs.Listed.{expected_text};
+ghost use Rattle.asl_diagnose.specs.Bringing.{bringers_text};
 ghost use Rattle.asl_diagnose.specs.Names.{head_text};
 ghost use Rattle.asl_diagnose.specs.RefusalText.{IsHeaded, IsAnswer, IsSpelled, IsTold};
-ghost use Rattle.asl_diagnose.specs.Shown.{AreBefore, AreLines, bytes_on, ends_line, shown};
 
-use crate::assembly_hints;
 use crate::assembly_refusal::diagnose_assembly;
-use crate::bytes::{push_blanks, push_bytes};
+use crate::bringers_text::push_bringers;
 use crate::diagnosis::{Diagnosis, Refusal};
 use crate::infer_hints::push_infer_hints;
-use crate::place::line_start;
+use crate::infer_sentence::push_infer_sentence;
 use crate::refusal_name::refusal_name;
-use crate::sentence::{
-    push_infer_sentence, push_syntax_sentence, push_twice_sentence, push_unknown_sentence,
-};
-use crate::source_hints::push_syntax_hints;
 use crate::source_refusal::diagnose_source;
-use asl_syntax::SyntaxFault;
+use asl_diagnose_text::{
+    ToldPlaces, push_assembly_hints, push_assembly_sentence, push_bytes, push_expected, push_line,
+    push_syntax_hints, push_syntax_sentence,
+};
 use std::alloc::{AllocError, Global};
 
-/// The most bytes that are shown of a line, and the most of them before the place.
-const SHOWN: usize = 120;
-
-const SHOWN_BEFORE: usize = 80;
-
-/// What is reported of a text that is refused, as text.
+/// What is told of a text that is refused, as text.
 ///
 /// # Errors
 ///
@@ -40,9 +33,24 @@ pub fn spell(alloc: Global, text: &[u8], told: &Diagnosis) -> Result<String, All
     push_bytes(&mut message, sentence.as_str().as_bytes())?;
     message.push_str("\n")?;
     push_line(&mut message, text, told.at.min(text.len()))?;
-    let hints = hints(alloc, text, told)?;
-    message.push_str(hints.as_str())?;
+    push_rest(alloc, &mut message, text, told)?;
     Ok(message)
+}
+
+/// Adds with what a program continues, which statements bring most of the locks, and what else helps.
+fn push_rest(
+    alloc: Global,
+    message: &mut String,
+    text: &[u8],
+    told: &Diagnosis,
+) -> Result<(), AllocError>
+    ensures { OnOk result ((hints : List ℕ) × (string_bytes message.new ≡ string_bytes message.old ++ (expected_text told.now.expected.items told.now.may_end ++ (bringers_text text.now told.now.bringers ++ hints)))) }
+{
+    let hints = hints(alloc, text, told)?;
+    push_expected(message, told.expected.as_slice(), told.may_end)?;
+    push_bringers(message, text, &told.bringers)?;
+    message.push_str(hints.as_str())?;
+    Ok(())
 }
 
 /// Adds the line, the column and the name.
@@ -76,15 +84,9 @@ fn push_sentence(
     told: &Diagnosis,
 ) -> Result<(), AllocError> {
     match &told.refusal {
-        Refusal::Syntax(SyntaxFault::Twice(name)) => {
-            push_twice_sentence(message, text, told.at, name.as_slice())
-        }
-        Refusal::Syntax(SyntaxFault::Unknown(name)) => {
-            push_unknown_sentence(message, text, told.at, name.as_slice())
-        }
-        Refusal::Syntax(fault) => push_syntax_sentence(message, text, fault),
+        Refusal::Syntax(fault) => push_syntax_sentence(message, text, fault, told.at),
         Refusal::Infer(fault) => push_infer_sentence(alloc, message, text, *fault),
-        Refusal::Asm(fault) => assembly_hints::push_sentence(message, text, *fault),
+        Refusal::Asm(fault) => push_assembly_sentence(message, text, *fault),
     }
 }
 
@@ -95,63 +97,19 @@ fn push_hints(
     told: &Diagnosis,
 ) -> Result<(), AllocError> {
     match &told.refusal {
-        Refusal::Syntax(fault) => push_syntax_hints(alloc, message, text, fault, told),
-        Refusal::Infer(fault) => push_infer_hints(alloc, message, text, *fault, told),
-        Refusal::Asm(fault) => assembly_hints::push_hints(alloc, message, text, *fault),
+        Refusal::Syntax(fault) => {
+            let told = ToldPlaces {
+                at: told.at,
+                first: told.first,
+            };
+            push_syntax_hints(alloc, message, text, fault, told)
+        }
+        Refusal::Infer(fault) => push_infer_hints(alloc, message, text, *fault),
+        Refusal::Asm(fault) => push_assembly_hints(alloc, message, text, *fault),
     }
 }
 
-/// What is shown of the line of a place before the place.
-fn shown_before(text: &[u8], at: usize) -> &[u8]
-    requires { at ≤ length text.now }
-    ensures { AreBefore text.now at result.now }
-{
-    let start = line_start(text, at).max(at.saturating_sub(SHOWN_BEFORE));
-    let (before, _) = text.split_at(at);
-    let (_, shown) = before.split_at(start);
-    shown
-}
-
-/// Whether the byte ends a line.
-fn ends_line(byte: u8) -> bool
-    ensures { result ≡ ends_line byte }
-{
-    byte == b'\n' || byte == b'\r'
-}
-
-/// How many bytes stand before the end of the first line.
-fn rest_len(text: &[u8]) -> usize
-    ensures { result ≡ prefix_len (λ b. not (ends_line b)) text.now }
-{
-    text.iter().take_while(|byte| !ends_line(**byte)).count()
-}
-
-/// What is shown of the line of a place from the place on.
-fn shown_on(text: &[u8], at: usize, room: usize) -> &[u8]
-    requires { at ≤ length text.now }
-    ensures { result.now ≡ bytes_on text.now at room }
-{
-    let (_, rest) = text.split_at(at);
-    let (shown, _) = rest.split_at(rest_len(rest).min(room));
-    shown
-}
-
-/// Adds the line of a place, as far as it is shown, and a caret below the place.
-fn push_line(message: &mut String, text: &[u8], at: usize) -> Result<(), AllocError>
-    requires { at ≤ length text.now }
-    ensures { OnOk result ((lines : List ℕ) × AreLines text.now at lines × (string_bytes message.new ≡ string_bytes message.old ++ lines)) }
-{
-    let before = shown_before(text, at);
-    let after = shown_on(text, at, SHOWN.saturating_sub(before.len()));
-    push_bytes(message, before)?;
-    push_bytes(message, after)?;
-    message.push_str("\n")?;
-    push_blanks(message, before)?;
-    message.push_str("^\n")?;
-    Ok(())
-}
-
-/// What is reported of an input, as text: of an assembly text, or of a source for paths of at most `k` operations. The text is empty
+/// What is told of an input, as text: of an assembly text, or of a source for paths of at most `k` operations. The text is empty
 /// where the input is accepted.
 ///
 /// # Errors
@@ -171,7 +129,7 @@ pub fn diagnosed(
     Ok(text)
 }
 
-/// What is reported of an input.
+/// What is told of an input.
 fn answer(
     alloc: Global,
     input: &[u8],

@@ -1,10 +1,10 @@
 //! The assignments and the stores of a region, by the tokens of a text.
 
 ghost use Rattle.std.specs.Prelude.{IfSome};
-ghost use Rattle.asl_diagnose.specs.Places.{IsRegionPlace};
+ghost use Rattle.asl_diagnose.specs.InferPlaces.{IsRegionPlace};
 
-use crate::word_place::{Word, numbered};
 use asl_backward_flow::Region;
+use asl_diagnose_text::{Word, numbered};
 use asl_grammar::lexer::{Found, Tokens};
 use asl_grammar::token::{Mark, Spot, Token};
 use std::alloc::{AllocError, Global};

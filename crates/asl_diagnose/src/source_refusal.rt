@@ -1,22 +1,24 @@
-//! What is reported of a source that is refused.
+//! What is told of a source that is refused.
 ghost use Rattle.std.specs.Prelude.{◌≡◌, ◌≢◌, ◌≤◌, ℕ, true, false, IfOk, OnErr};
 ghost use Rattle.asl_syntax.specs.AstView.{tree_of};
 ghost use Rattle.asl_syntax.specs.Parsed.{Parses};
 ghost use Rattle.asl_syntax.specs.Fault.{IsFault};
-ghost use Rattle.asl_emitter.specs.Refused.{IsRefusedInference};
-ghost use Rattle.asl_diagnose.specs.Diagnosed.{IsSourceDiagnosed, IsSourceDiagnosis, IsExpectedFor, IsInferPlace, IsPosition, HasFirst, HasKinds, HasBringers, MayLackMemory};
+ghost use Rattle.asl_emitter.specs.Refused.{IsLowered, IsRefusedInference};
+ghost use Rattle.asl_diagnose_text.specs.Position.{IsPosition};
+ghost use Rattle.asl_diagnose_text.specs.SyntaxPlaces.{IsExpectedFor};
+ghost use Rattle.asl_diagnose.specs.InferPlaces.{IsInferPlace};
+ghost use Rattle.asl_diagnose.specs.Diagnosed.{IsSourceDiagnosed, IsSourceDiagnosis, HasFirst, HasKinds, HasBringers, MayLackMemory};
+ghost use Rattle.asl_diagnose.specs.Crowded.{IsCrowded};
 
 use crate::diagnosis::{Diagnosis, Refusal};
-use crate::expected::{Expected, expected_at_stop};
 use crate::infer_place::infer_place;
 use crate::most::{Bringers, find_bringers};
-use crate::place::{column, line};
-use crate::syntax_place::syntax_place;
+use asl_diagnose_text::{Expected, column, expected_at_stop, line, syntax_place};
 use asl_emitter::{InferFault, infer};
 use asl_syntax::{Ast, SyntaxFault, parse};
 use std::alloc::{AllocError, Global};
 
-/// What is reported of a source, for paths of at most `k` operations: nothing where a program is inferred for it.
+/// What is told of a source, for paths of at most `k` operations: nothing where a program is inferred for it.
 ///
 /// # Errors
 ///
@@ -36,8 +38,12 @@ pub fn diagnose_source(
     }
 }
 
-/// What is reported of a source that is a program.
-fn diagnose_tree(
+/// What is told of a source that is a program, by its tree, for paths of at most `k` operations: nothing where lists are inferred for it.
+///
+/// # Errors
+///
+/// An allocation failed. As of `infer`, this hides no fault of the lowering, which needs no memory to be judged.
+pub fn diagnose_tree(
     alloc: Global,
     source: &[u8],
     ast: &Ast<'_>,
@@ -46,7 +52,7 @@ fn diagnose_tree(
     requires small { k ≤ 8 }
     requires parses { Parses source.now (tree_of ast.now) }
     ensures told { IfOk result (IsSourceDiagnosed source.now k) }
-    ensures memory { OnErr result (MayLackMemory source.now) }
+    ensures memory { OnErr result (IsLowered (tree_of ast.now)) }
 {
     match infer(alloc, ast, k) {
         Ok(program) => {
@@ -65,7 +71,7 @@ fn is_memory(fault: &SyntaxFault) -> bool
     matches!(fault, SyntaxFault::OutOfMemory)
 }
 
-/// What is reported of a source that is no program.
+/// What is told of a source that is no program.
 fn told_syntax(alloc: Global, source: &[u8], fault: SyntaxFault) -> Result<Diagnosis, AllocError>
     requires { IsFault source.now fault }
     ensures told { IfOk result (λ told. (k : ℕ) → IsSourceDiagnosis source.now k told) }
@@ -113,7 +119,7 @@ fn expected_for(alloc: Global, source: &[u8], fault: &SyntaxFault) -> Result<Exp
     }
 }
 
-/// What is reported of a program for which no lists are inferred.
+/// What is told of a program for which no lists are inferred.
 fn told_infer(
     alloc: Global,
     source: &[u8],
@@ -124,6 +130,7 @@ fn told_infer(
     requires small { k ≤ 8 }
     requires parses { Parses source.now (tree_of ast.now) }
     requires refused { IsRefusedInference (tree_of ast.now) k fault }
+    ensures memory { OnErr result (IsLowered (tree_of ast.now)) }
     ensures real { IfOk result (λ _. fault ≢ InferFault.OutOfMemory) }
     ensures refusal { IfOk result (λ told. told.refusal ≡ Refusal.Infer fault) }
     ensures place { IfOk result (λ told. IsInferPlace source.now fault told.at) }
@@ -159,7 +166,8 @@ fn bringers_for(
     k: u32,
 ) -> Result<Option<Bringers>, AllocError>
     requires { k ≤ 8 }
-    ensures { IfOk result (HasBringers source.now k (Refusal.Infer fault)) }
+    ensures bringers { IfOk result (HasBringers source.now k (Refusal.Infer fault)) }
+    ensures memory { OnErr result (IsCrowded fault) }
 {
     match fault {
         InferFault::TooManyLocks(region) => find_bringers(alloc, source, region, k),
@@ -173,7 +181,8 @@ fn bringers_for(
 
 /// Whether memory was all that was wanting.
 fn is_memory_of(fault: InferFault) -> bool
-    ensures { result ≡ false → fault ≢ InferFault.OutOfMemory }
+    ensures real { result ≡ false → fault ≢ InferFault.OutOfMemory }
+    ensures memory { result ≡ true → fault ≡ InferFault.OutOfMemory }
 {
     matches!(fault, InferFault::OutOfMemory)
 }

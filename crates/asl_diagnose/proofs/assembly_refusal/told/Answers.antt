@@ -7,8 +7,8 @@ returns c = record {
   refusal = refl;
   holds = c.requires.fault;
   real = c.requires.real;
-  place = c.fault_place-at.ensures;
-  column = c.column-column.ensures;
+  place = c.assembly_place-at.ensures;
+  position = record { line = c.line-line.ensures; column = c.column-column.ensures };
   first = refl;
   kinds = (c.new.ensures.items, refl);
   bringers = refl;

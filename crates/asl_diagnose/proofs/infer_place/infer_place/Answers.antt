@@ -3,7 +3,7 @@ use Rattle.asl_syntax.specs.AstView.{tree_of}
 use Rattle.asl_emitter.specs.Refused.{IsRefusedInference}
 use Rattle.asl_emitter.specs.declared.fault.InferFault.{InferFault}
 use Rattle.asl_emitter.specs.declared.fault.InferFault.TheVariants as infer
-use Rattle.asl_diagnose.specs.Diagnosed.{IsInferPlace}
+use Rattle.asl_diagnose.specs.InferPlaces.{IsInferPlace}
 use Rattle.asl_diagnose.proofs.Refused.{registers_there, overfull_there, access_there, access_placed, section_there, body_there}
 use Rattle.asl_diagnose.proofs.infer_place.infer_place.Goals as goal
 

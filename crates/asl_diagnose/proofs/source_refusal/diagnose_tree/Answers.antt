@@ -1,4 +1,3 @@
-use Rattle.std.proofs.Common.{inl}
 use Rattle.asl_syntax.specs.AstView.{tree_of}
 use Rattle.asl_diagnose.proofs.Telling.{infer_told, on_err}
 use Rattle.asl_diagnose.proofs.source_refusal.diagnose_tree.Goals as goal
@@ -11,4 +10,4 @@ returns-in_ok-told_infer-in-Err-clause-told c =
     infer_told c.args.source.now c.args.k _ c.in-Err.fault (tree_of c.args.ast.now) c.requires.parses c.in-Err.ensures.refused c.in_ok-told_infer-in-Err.ensures.real c.in_ok-told_infer-in-Err.ensures.refusal c.in_ok-told_infer-in-Err.ensures.place c.in_ok-told_infer-in-Err.ensures.position c.in_ok-told_infer-in-Err.ensures.first c.in_ok-told_infer-in-Err.ensures.kinds c.in_ok-told_infer-in-Err.ensures.bringers
 
 pub returns-in_err-told_infer-in-Err-clause-memory : goal.returns-in_err-told_infer-in-Err-clause-memory
-returns-in_err-told_infer-in-Err-clause-memory c = on_err c.from_residual.result _ (inl (record { tree = tree_of c.args.ast.now; parses = c.requires.parses }))
+returns-in_err-told_infer-in-Err-clause-memory c = on_err c.from_residual.result _ c.in_err-told_infer-in-Err.ensures.memory

@@ -1,8 +1,0 @@
-use Rattle.asl_diagnose.proofs.Instructed.{none_missing}
-use Rattle.asl_diagnose.proofs.assembly_refusal.row_front.Goals as goal
-
-pub returns : goal.returns
-returns c = record { start = c.in-Some.start; line = c.in-Some.ensures.some; blanks = c.front.ensures }
-
-pub unreachable-requires : goal.unreachable-requires
-unreachable-requires c = none_missing c.args.text.now c.args.number c.requires.some c.requires.there c.in-None.ensures.none

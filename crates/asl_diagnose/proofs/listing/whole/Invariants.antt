@@ -1,5 +1,0 @@
-use Rattle.asl_diagnose.specs.TextLines.{rows_left}
-use Rattle.asl_diagnose.proofs.listing.whole.Given as goal
-
-abbrev pub decreases-rows : goal.decreases-rows
-decreases-rows l = rows_left l.rows

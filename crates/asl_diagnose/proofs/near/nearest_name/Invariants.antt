@@ -1,5 +1,0 @@
-use Rattle.asl_grammar.specs.Reader.{bytes_left}
-use Rattle.asl_diagnose.proofs.near.nearest_name.Given as goal
-
-abbrev pub decreases-reading : goal.decreases-reading
-decreases-reading l = bytes_left l.tokens

@@ -1,0 +1,5 @@
+use Rattle.asl_diagnose_text.specs.TextLines.{rows_left}
+use Rattle.asl_diagnose_text.proofs.fault_row.table_row.Given as goal
+
+abbrev pub decreases-rows : goal.decreases-rows
+decreases-rows l = rows_left l.rows

@@ -1,0 +1,5 @@
+use Rattle.asl_diagnose_text.specs.TextLines.{rows_left}
+use Rattle.asl_diagnose_text.proofs.listing.end_of_body.Given as goal
+
+abbrev pub decreases-rows : goal.decreases-rows
+decreases-rows l = rows_left l.rows

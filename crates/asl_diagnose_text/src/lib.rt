@@ -1,0 +1,53 @@
+//! Where a refused text is wrong, and what helps there, by its bytes, its tokens and its tree alone.
+#![tactic(auto)]
+
+mod accesses;
+mod assembly_hints;
+mod assembly_places;
+mod bytes;
+mod code_statement;
+mod code_walk;
+mod declared;
+mod expected;
+mod fault_row;
+mod forms;
+mod function_head;
+mod grammar_hints;
+mod item_hints;
+mod kind;
+mod listed;
+mod listing;
+mod name_role;
+mod near;
+mod overfull;
+mod passed_limit;
+mod place;
+mod sentence;
+mod shown_line;
+mod source_hints;
+mod statements;
+mod syntax_places;
+mod text_lines;
+mod token_walk;
+mod unknown;
+mod used;
+mod value_hints;
+mod word_place;
+
+pub use accesses::accesses_before;
+pub use assembly_hints::{push_assembly_hints, push_assembly_sentence};
+pub use assembly_places::assembly_place;
+pub use bytes::{push_bytes, push_quoted};
+pub use code_statement::{call_outside, code_len, statement_of};
+pub use expected::{Expected, expected_at_stop};
+pub use kind::TokenKind;
+pub use listed::push_expected;
+pub use overfull::overfull_function;
+pub use place::{column, line};
+pub use sentence::{function_name, plural, push_syntax_sentence};
+pub use shown_line::push_line;
+pub use source_hints::{ToldPlaces, push_hint, push_place, push_syntax_hints};
+pub use statements::{are_statements, is_open};
+pub use syntax_places::syntax_place;
+pub use used::{function_around, registers};
+pub use word_place::{Word, numbered};
