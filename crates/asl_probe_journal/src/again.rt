@@ -54,16 +54,21 @@ pub fn moved(
     out: &mut String,
 ) -> Result<Option<Result<(), DebugFault>>, AllocError> {
     let before = told(alloc, debugger.view())?;
-    let position = debugger.position();
+    let place = placed(debugger);
     let answer = once(alloc, debugger, call, number);
     if answer != Some(Err(DebugFault::OutOfMemory)) {
         return Ok(answer);
     }
     let after = told(alloc, debugger.view())?;
-    if after.as_str() != before.as_str() || debugger.position() != position {
+    if after.as_str() != before.as_str() || placed(debugger) != place {
         put_word("changed!", out)?;
     }
     Ok(once(alloc, debugger, call, number))
+}
+
+/// The position, and how many events there are.
+fn placed(debugger: &Debugger<'_>) -> (u32, usize) {
+    (debugger.position(), debugger.journal().events().len())
 }
 
 fn once(
