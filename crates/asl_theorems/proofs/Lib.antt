@@ -15,3 +15,4 @@ mod Finest
 mod Storing
 mod Listing
 mod Existing
+mod Racing

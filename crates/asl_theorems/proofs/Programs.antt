@@ -43,10 +43,10 @@ as_few is p q few =
     (one_classed q.lowering p.classes q.classes (subst (λ (l : Lowered). AreClasses l p.classes) same p.are_classes) q.are_classes) few
 
 module _ (source : List ℕ) (k_limit : ℕ) (image : Image) (c : Compiles source k_limit image) where
-  its_kept : IsLegalLowering c.inferred.analysis.program.lowering
+  pub its_kept : IsLegalLowering c.inferred.analysis.program.lowering
   its_kept = kept source c.tree c.inferred.analysis.program.lowering c.parsed c.accepted.lowered c.inferred.analysis.program.lowers
 
-  its_few : c.inferred.analysis.program.classes.count ≤ 1024
+  pub its_few : c.inferred.analysis.program.classes.count ≤ 1024
   its_few = as_few c.tree c.accepted.analysis.program c.inferred.analysis.program c.accepted.few_classes
 
   pub compiled_fits : FitsImage image
