@@ -93,7 +93,7 @@ module _ (l : Lowered) (c : Classed) (stores : ℕ → ℕ → Bool) (k_limit : 
     list_covered (lock.Class class effect ∷ ls) within = list_covered ls (λ n o. within n (inr o))
     list_covered (lock.Root effect ∷ ls) within = list_covered ls (λ n o. within n (inr o))
 
-  is_guarded : (count : ℕ) → IsGuarded image count
+  pub is_guarded : (count : ℕ) → IsGuarded image count
   is_guarded count run s t list a led entry granted =
       let reached = end_reached image count run s A.made.fits led in
       let good = reached_good l c stores k_limit (Needed l c stores k_limit) image A count s reached in

@@ -37,9 +37,10 @@ ghost use Rattle.asl_runner.specs.History.{IsHistory};
 ghost use Rattle.asl_soundness.specs.Safe.{IsSafe};
 ghost use Rattle.asl_atomicity.specs.Serial.{TakenStep, IsRun, HasSerial, MakesNoneInside};
 ghost use Rattle.asl_atomicity.specs.Renamed.{HasSerialUpTo, FindsRoomInside};
-ghost use Rattle.asl_races.specs.Races.{AccessesOrEnters, OrdersConflicts, HandsOverConflicts, HasNoRace, PublishesObjects, RefusesHeldCells};
+ghost use Rattle.asl_check.specs.Refused.{IsChecked};
 ghost use Rattle.asl_theorems.specs.Compiled.{Compiles};
 ghost use Rattle.asl_theorems.specs.Journals.{events_of, AreSteps, HasSerialJournal, HasSerialJournalUpTo};
+ghost use Rattle.asl_theorems.specs.RaceFree.{IsRaceFree, IsRaceFreeJournal};
 
 use asl_assembler::laws::{canonical_texts_are_spelled, texts_spell_one_image};
 use asl_journal::laws::{journal_and_bytes_are_one, run_and_bytes_are_one};
@@ -204,21 +205,25 @@ pub fn journals_of_compiled_programs_are_atomic()
         × (All FindsRoomInside steps → HasSerialJournalUpTo image count events steps end) }
 {}
 
-/// Data races. No run of a compiled program has one, with any number of threads, in any order of their steps: of two steps of different
-/// threads that access one cell, one of them to write it, one happens before the other, by the order of each thread's steps and by
-/// that of who gives back a node of the lock tree before who is granted it in a mode that does not go with that. Accesses are those of
-/// `load`, `store` and `new`, and what the evaluation of a granted list reads. Between the two the first thread gives back all that it
-/// holds, and after that the second is granted what it asks for. An object is made before any step of another thread that has an address
-/// in it. And a try to enter a section that would read a cell that another thread covers for writing is refused.
-pub fn compiled_programs_have_no_race()
-    ensures races { (source : List ℕ) (k_limit : ℕ) (image : Image) (count : ℕ)
-        → Compiles source k_limit image → HasNoRace image count (AccessesOrEnters image) }
-    ensures ordered { (source : List ℕ) (k_limit : ℕ) (image : Image) (count : ℕ)
-        → Compiles source k_limit image → OrdersConflicts image count (AccessesOrEnters image) }
-    ensures handed { (source : List ℕ) (k_limit : ℕ) (image : Image) (count : ℕ)
-        → Compiles source k_limit image → HandsOverConflicts image count (AccessesOrEnters image) }
-    ensures published { (source : List ℕ) (k_limit : ℕ) (image : Image) (count : ℕ)
-        → Compiles source k_limit image → PublishesObjects image count }
-    ensures refused { (source : List ℕ) (k_limit : ℕ) (image : Image) (count : ℕ)
-        → Compiles source k_limit image → RefusesHeldCells image count }
+/// Data races. No run of a compiled program, or of one whose own lists `check` accepts, has one, with any number of threads, in any
+/// order of their steps: of two steps of different threads that access one cell, one of them to write it, one happens before the other,
+/// by the order of each thread's steps and by that of who gives back a node of the lock tree before who is granted it in a mode that
+/// does not go with that. Accesses are those of `load`, `store` and `new`, and what the evaluation of a granted list reads. What goes
+/// with this, of objects that are met and of tries to enter a section, `IsRaceFree` lists.
+pub fn programs_have_no_race()
+    ensures compiled { (source : List ℕ) (k_limit : ℕ) (image : Image) (count : ℕ) → Compiles source k_limit image → IsRaceFree image count }
+    ensures checked { (source : List ℕ) (tree : List Item) (k_limit : ℕ) (image : Image) (count : ℕ) → Parses source tree → IsVerified image
+        → IsChecked tree k_limit image → IsRaceFree image count }
+{}
+
+/// Data races in journals. Each journal of such a program, and each that workers leave of it, is that of steps of which no two are a race.
+pub fn journals_have_no_race()
+    ensures compiled { (source : List ℕ) (k_limit : ℕ) (image : Image) (count : ℕ) (events : List Event) (end : State)
+        → Compiles source k_limit image → LeadsTo image count events end → IsRaceFreeJournal image count events end }
+    ensures checked { (source : List ℕ) (tree : List Item) (k_limit : ℕ) (image : Image) (count : ℕ) (events : List Event) (end : State)
+        → Parses source tree → IsVerified image → IsChecked tree k_limit image → LeadsTo image count events end
+        → IsRaceFreeJournal image count events end }
+    ensures workers { (source : List ℕ) (k_limit : ℕ) (image : Image) (count workers : ℕ) (events : List Event) (receipts : List (List Receipt))
+        → Compiles source k_limit image → IsHistory image count workers events receipts
+        → (end : State) × IsRaceFreeJournal image count events end }
 {}
