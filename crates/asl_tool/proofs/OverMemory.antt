@@ -5,8 +5,8 @@ use Rattle.asl_command_line.specs.declared.command.Invocation.{Invocation}
 use Rattle.asl_command_line.specs.declared.command.Invocation.TheVariants.{Alone, Run, Help, Version, WrongUsage}
 use Rattle.asl_tool.specs.declared.streams.ReadFault.TheVariants as read
 use Rattle.asl_tool.specs.declared.tool_fault.ToolFault.TheVariants as fault
-use Rattle.asl_tool.specs.declared.ending.Ending.{Ending}
-use Rattle.asl_tool.specs.declared.ending.Ending.TheVariants as ending
+use Rattle.asl_tool.specs.declared.endings.ending.Ending.{Ending}
+use Rattle.asl_tool.specs.declared.endings.ending.Ending.TheVariants as ending
 use Rattle.asl_tool.specs.Ending.{ending_status, ending_text}
 use Rattle.asl_tool.specs.Memory.{IsCommandEnding, IsEnding, EndsOver}
 use Rattle.asl_tool.specs.Tool.{EndsAlone, IsCommandStatus, IsNoWork, IsStatus, of_command}

@@ -8,8 +8,8 @@ use Rattle.asl_journal.specs.Journal.{Log, IsJournal}
 use Rattle.asl_debugger.specs.Breaks.{has_break, is_place, HasBreak, HasNoBreak}
 use Rattle.asl_debugger.specs.Session.{Session, IsAtBreak, IsStop, IsNextStop, IsLastStop}
 use Rattle.asl_debugger.proofs.ByTable.{shown_is}
-use Rattle.asl_tool.specs.declared.debugging.Answer.{Answer}
-use Rattle.asl_tool.specs.declared.debugging.Answer.TheVariants.{At, AtEnd, AtStart, NoSuchStep}
+use Rattle.asl_tool.specs.declared.commands.debug.Answer.{Answer}
+use Rattle.asl_tool.specs.declared.commands.debug.Answer.TheVariants.{At, AtEnd, AtStart, NoSuchStep}
 use Rattle.asl_command_line.specs.declared.debug_word.DebugWord.{DebugWord}
 use Rattle.asl_command_line.specs.declared.debug_word.DebugWord.TheVariants as word
 use Rattle.asl_command_line.specs.declared.debug_word.Move.{Move}

@@ -1,7 +1,7 @@
 -- How a command ends, by what it came to; and that a run has said what was written of its text.
 use Rattle.std.proofs.Common.{◌≡◌, ℕ, List, Option, Result, Ok, Err, inl, inr, refl, sym, subst, MatchResult, OnOk, IfErr}
-use Rattle.asl_tool.specs.declared.ending.Ending.{Ending}
-use Rattle.asl_tool.specs.declared.ending.Ending.TheVariants as ending
+use Rattle.asl_tool.specs.declared.endings.ending.Ending.{Ending}
+use Rattle.asl_tool.specs.declared.endings.ending.Ending.TheVariants as ending
 use Rattle.asl_tool.specs.declared.tool_fault.ToolFault.{ToolFault}
 use Rattle.asl_tool.specs.Ending.{ending_status, ending_text}
 use Rattle.asl_tool.specs.Tool.{Promise, WritesOutput, Refuses, IsCommandStatus, EndsWith, EndsAlone}

@@ -7,8 +7,8 @@ use Rattle.asl_command_line.specs.declared.command.Invocation.TheVariants.{Alone
 use Rattle.asl_tool.specs.declared.streams.ReadFault.TheVariants as read
 use Rattle.asl_tool.specs.declared.tool_fault.ToolFault.{ToolFault}
 use Rattle.asl_tool.specs.declared.tool_fault.ToolFault.TheVariants as fault
-use Rattle.asl_tool.specs.declared.ending.Ending.{Ending}
-use Rattle.asl_tool.specs.declared.ending.Ending.TheVariants as ending
+use Rattle.asl_tool.specs.declared.endings.ending.Ending.{Ending}
+use Rattle.asl_tool.specs.declared.endings.ending.Ending.TheVariants as ending
 use Rattle.asl_tool.specs.Streams.{most_input}
 use Rattle.asl_tool.specs.Command.{IsOutput, IsRunFile, IsRefusedCommand}
 use Rattle.asl_tool.specs.Tool.{IsAsked, version_text}

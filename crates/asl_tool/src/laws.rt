@@ -2,7 +2,7 @@
 ghost use Rattle.std.specs.Prelude.{◌≡◌, ◌<◌, ◌↔◌, ℕ, false, List, [], Some, All, Result};
 ghost use Rattle.asl_command_line.specs.declared.command.Command.{Command};
 ghost use Rattle.asl_tool.specs.declared.command_fault.CommandFault.{CommandFault};
-ghost use Rattle.asl_tool.specs.declared.ending.Ending.{Ending};
+ghost use Rattle.asl_tool.specs.declared.endings.ending.Ending.{Ending};
 ghost use Rattle.asl_tool.specs.Ending.{ending_status, ending_text};
 ghost use Rattle.asl_tool.specs.Log.{IsLogged};
 ghost use Rattle.asl_tool.specs.Memory.{EndsOver};
