@@ -30,7 +30,7 @@ IsCommandEnding command input output (ending.WrongUsage text) = ⊥
 abbrev pub IsEnding : Option Invocation → List ℕ → List ℕ → Ending → Type 0
 IsEnding (Some (Alone command)) input output e = IsCommandEnding command input output e
 IsEnding (Some (Run team)) input output e = ⊥
-IsEnding (Some (Help text)) input output e = (e ≡ ending.Done) × (output ≡ text.bytes.items)
+IsEnding (Some (Help page)) input output e = (e ≡ ending.Done) × (output ≡ page.now)
 IsEnding (Some Version) input output e = (e ≡ ending.Done) × (output ≡ version_text)
 IsEnding (Some (WrongUsage text)) input output e = (e ≡ ending.WrongUsage text) × (output ≡ [])
 IsEnding None input output e = (e ≡ ending.Refused fault.OutOfMemory) × (output ≡ [])

@@ -1,6 +1,7 @@
 //! The program `asl` without its process: words, a reader and writers in, a status out.
 #![tactic(auto)]
 
+mod byte_streams;
 mod command_fault;
 mod commands;
 mod endings;
@@ -12,6 +13,7 @@ mod streams;
 mod tool_fault;
 
 pub use asl_journal::{FileFault, get_run, put_run};
+pub use byte_streams::{ByteSink, ByteSource, write_some};
 pub use command_fault::CommandFault;
 pub use commands::output_of;
 pub use endings::ending::Ending;

@@ -22,11 +22,7 @@ pub fn checked(alloc: Global, k_limit: &PathLimit, input: &[u8]) -> Result<Vec<u
 }
 
 /// The same as a text.
-fn checked_text(
-    alloc: Global,
-    k_limit: &PathLimit,
-    input: &[u8],
-) -> Result<String, CommandFault>
+fn checked_text(alloc: Global, k_limit: &PathLimit, input: &[u8]) -> Result<String, CommandFault>
     ensures ok { IfOk result (λ text. IsChecked input.now k_limit.now (string_bytes text)) }
     ensures err { IfErr result (λ fault. IsRefusedCheck input.now k_limit.now fault) }
 {

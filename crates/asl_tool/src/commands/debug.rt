@@ -30,11 +30,7 @@ pub enum Answer {
 }
 
 /// What a debugger over the run file answers to the words.
-pub fn debugged(
-    alloc: Global,
-    words: &[DebugWord],
-    file: &[u8],
-) -> Result<Vec<u8>, CommandFault>
+pub fn debugged(alloc: Global, words: &[DebugWord], file: &[u8]) -> Result<Vec<u8>, CommandFault>
     ensures ok { IfOk result (λ text. IsDebugged file.now words.now text.items) }
     ensures err { IfErr result (λ fault. IsRefusedReplay file.now fault) }
 {

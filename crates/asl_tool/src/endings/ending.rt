@@ -1,11 +1,11 @@
 //! How a run of the program ends: with a status, and with what is said of it.
 ghost use Rattle.std.specs.Prelude.{◌≡◌};
 ghost use Rattle.asl_tool.specs.Ending.{ending_status, ending_text};
-ghost use Rattle.asl_tool.specs.Streams.{AppendsPart};
+ghost use Rattle.asl_tool.specs.Streams.{Tells};
 
+use crate::byte_streams::ByteSink;
 use crate::streams::write_whole;
 use crate::tool_fault::{ToolFault, tell};
-use std::io::Write;
 
 /// The status of what was done.
 const DONE: u8 = 0;
@@ -37,9 +37,9 @@ impl Ending {
         }
     }
 
-    /// Says on `errors` what went wrong; of a writer that fails, no more than that it got a first part is known.
-    pub fn say<E: Write>(&self, errors: &mut E)
-        ensures told { AppendsPart (E.contents errors.old) (E.contents errors.new) (ending_text self.now) }
+    /// Says on `errors` what went wrong: all of it, or, where the writer is not known to have room for that, a first part.
+    pub fn say<E: ByteSink>(&self, errors: &mut E)
+        ensures told { Tells (E.room errors.old) (E.contents errors.old) (E.contents errors.new) (ending_text self.now) }
         ensures quiet { ending_status self.now ≡ 0 → errors.new ≡ errors.old }
     {
         match self {

@@ -27,7 +27,7 @@ pub fn ended_over(alloc: Global, words: &[String], input: &[u8]) -> Option<Ended
     match read_words(alloc, words) {
         Ok(Invocation::Alone(command)) => Some(command_over(alloc, &command, input)),
         Ok(Invocation::Run(_)) => None,
-        Ok(Invocation::Help(text)) => Some(done(text.into_bytes())),
+        Ok(Invocation::Help(page)) => Some(shown_over(alloc, page)),
         Ok(Invocation::Version) => Some(shown_over(alloc, VERSION)),
         Ok(Invocation::WrongUsage(text)) => Some(undone(alloc, Ending::WrongUsage(text))),
         Err(_) => Some(undone(alloc, Ending::Refused(ToolFault::OutOfMemory))),

@@ -1,17 +1,17 @@
 //! A run of the program: words, a reader and two writers in, the exit status out.
 ghost use Rattle.std.specs.Prelude.{◌≡◌, ◌≤◌, length, map, Some, OnOk, IfErr, IfNone, IfSome, MatchOption, MatchResult, string_bytes};
 ghost use Rattle.asl_tool.specs.Ending.{ending_status, ending_text};
-ghost use Rattle.asl_tool.specs.Streams.{AppendsPart, most_input};
+ghost use Rattle.asl_tool.specs.Streams.{Tells, most_input};
 ghost use Rattle.asl_tool.specs.Tool.{AsksForWork, EndsAlone, EndsWith, IsCommandStatus, IsTextStatus, Refuses, WritesOutput, of_command, of_team};
 
 use super::ending::Ending;
+use crate::byte_streams::{ByteSink, ByteSource};
 use crate::commands::output_of;
 use crate::commands::run::run_output;
 use crate::streams::{read_whole, write_whole};
 use crate::tool_fault::ToolFault;
 use asl_command_line::{Command, Invocation, RunArguments, read_words};
 use std::alloc::Global;
-use std::io::{Read, Write};
 use std::sync::Wait;
 use std::thread::Threads;
 
@@ -21,7 +21,7 @@ pub(crate) const VERSION: &str = "asl 2, logic dac8208d650f15bf\n";
 /// Does what the words ask for: reads from `reader`, writes to `writer`, says on `errors` what went wrong, and answers
 /// the exit status: 0 done, 1 refused, 2 wrong usage. Faults of `errors` count for nothing. Only the command `run` waits.
 /// Status 2, and a refusal unless its fault is `Write`, leave the value of `writer` as it was, status 0 that of `errors`.
-pub fn tool<H: Threads + Wait + Sync, R: Read, W: Write, E: Write>(
+pub fn tool<H: Threads + Wait + Sync, R: ByteSource, W: ByteSink, E: ByteSink>(
     rt: &H,
     alloc: Global,
     words: &[String],
@@ -30,7 +30,7 @@ pub fn tool<H: Threads + Wait + Sync, R: Read, W: Write, E: Write>(
     errors: &mut E,
 ) -> u8
     ensures status { EndsWith (map string_bytes words.now) (reader.new ≡ reader.old) (writer.new ≡ writer.old)
-        (AppendsPart (E.contents errors.old) (E.contents errors.new)) (R.remaining reader.old) (W.contents writer.old) (W.contents writer.new) result }
+        (Tells (E.room errors.old) (E.contents errors.old) (E.contents errors.new)) (R.remaining reader.old) (W.room writer.old) (W.contents writer.old) (W.contents writer.new) result }
     ensures quiet { result ≡ 0 → errors.new ≡ errors.old }
 {
     let ending = ended(rt, alloc, words, reader, writer);
@@ -39,7 +39,7 @@ pub fn tool<H: Threads + Wait + Sync, R: Read, W: Write, E: Write>(
 }
 
 /// Does the same without waiting, unless the words ask for `run`: then it answers None, and nothing is read or written.
-pub fn tool_alone<R: Read, W: Write, E: Write>(
+pub fn tool_alone<R: ByteSource, W: ByteSink, E: ByteSink>(
     alloc: Global,
     words: &[String],
     reader: &mut R,
@@ -48,7 +48,7 @@ pub fn tool_alone<R: Read, W: Write, E: Write>(
 ) -> Option<u8>
     ensures status { MatchOption result (AsksForWork (map string_bytes words.now))
         (EndsAlone (map string_bytes words.now) (reader.new ≡ reader.old) (writer.new ≡ writer.old)
-        (AppendsPart (E.contents errors.old) (E.contents errors.new)) (R.remaining reader.old) (W.contents writer.old) (W.contents writer.new)) }
+        (Tells (E.room errors.old) (E.contents errors.old) (E.contents errors.new)) (R.remaining reader.old) (W.room writer.old) (W.contents writer.old) (W.contents writer.new)) }
     ensures untouched { IfNone result ((reader.new ≡ reader.old) × (writer.new ≡ writer.old) × (errors.new ≡ errors.old)) }
     ensures quiet { IfSome result (λ status. status ≡ 0 → errors.new ≡ errors.old) }
 {
@@ -58,7 +58,7 @@ pub fn tool_alone<R: Read, W: Write, E: Write>(
 }
 
 /// Does what the words ask for, and answers how that ended; nothing is said yet.
-fn ended<H: Threads + Wait + Sync, R: Read, W: Write>(
+fn ended<H: Threads + Wait + Sync, R: ByteSource, W: ByteSink>(
     rt: &H,
     alloc: Global,
     words: &[String],
@@ -66,12 +66,12 @@ fn ended<H: Threads + Wait + Sync, R: Read, W: Write>(
     writer: &mut W,
 ) -> Ending
     ensures { EndsWith (map string_bytes words.now) (reader.new ≡ reader.old) (writer.new ≡ writer.old)
-        (λ text. ending_text result ≡ text) (R.remaining reader.old) (W.contents writer.old) (W.contents writer.new) (ending_status result) }
+        (λ text. ending_text result ≡ text) (R.remaining reader.old) (W.room writer.old) (W.contents writer.old) (W.contents writer.new) (ending_status result) }
 {
     match read_words(alloc, words) {
         Ok(Invocation::Alone(command)) => command_ending(alloc, &command, reader, writer),
         Ok(Invocation::Run(team)) => run_ending(rt, alloc, team, reader, writer),
-        Ok(Invocation::Help(text)) => shown(text.as_str(), writer),
+        Ok(Invocation::Help(page)) => shown(page, writer),
         Ok(Invocation::Version) => shown(VERSION, writer),
         Ok(Invocation::WrongUsage(text)) => Ending::WrongUsage(text),
         Err(_) => Ending::Refused(ToolFault::OutOfMemory),
@@ -79,7 +79,7 @@ fn ended<H: Threads + Wait + Sync, R: Read, W: Write>(
 }
 
 /// Does the same without waiting, unless the words ask for `run`: then it answers None, and nothing is read or written.
-pub fn ended_alone<R: Read, W: Write>(
+pub fn ended_alone<R: ByteSource, W: ByteSink>(
     alloc: Global,
     words: &[String],
     reader: &mut R,
@@ -87,13 +87,13 @@ pub fn ended_alone<R: Read, W: Write>(
 ) -> Option<Ending>
     ensures status { MatchOption result (AsksForWork (map string_bytes words.now))
         (λ ending. EndsAlone (map string_bytes words.now) (reader.new ≡ reader.old) (writer.new ≡ writer.old)
-        (λ text. ending_text ending ≡ text) (R.remaining reader.old) (W.contents writer.old) (W.contents writer.new) (ending_status ending)) }
+        (λ text. ending_text ending ≡ text) (R.remaining reader.old) (W.room writer.old) (W.contents writer.old) (W.contents writer.new) (ending_status ending)) }
     ensures untouched { IfNone result ((reader.new ≡ reader.old) × (writer.new ≡ writer.old)) }
 {
     match read_words(alloc, words) {
         Ok(Invocation::Alone(command)) => Some(command_ending(alloc, &command, reader, writer)),
         Ok(Invocation::Run(_)) => None,
-        Ok(Invocation::Help(text)) => Some(shown(text.as_str(), writer)),
+        Ok(Invocation::Help(page)) => Some(shown(page, writer)),
         Ok(Invocation::Version) => Some(shown(VERSION, writer)),
         Ok(Invocation::WrongUsage(text)) => Some(Ending::WrongUsage(text)),
         Err(_) => Some(Ending::Refused(ToolFault::OutOfMemory)),
@@ -101,13 +101,13 @@ pub fn ended_alone<R: Read, W: Write>(
 }
 
 /// Performs a command, and answers how that ended.
-fn command_ending<R: Read, W: Write>(
+fn command_ending<R: ByteSource, W: ByteSink>(
     alloc: Global,
     command: &Command,
     reader: &mut R,
     writer: &mut W,
 ) -> Ending
-    ensures { IsCommandStatus (writer.new ≡ writer.old) (λ text. ending_text result ≡ text) (R.remaining reader.old)
+    ensures { IsCommandStatus (writer.new ≡ writer.old) (λ text. ending_text result ≡ text) (R.remaining reader.old) (W.room writer.old)
         (W.contents writer.old) (W.contents writer.new) (of_command command.now) (ending_status result) }
 {
     let done = perform(alloc, command, reader, writer);
@@ -115,14 +115,14 @@ fn command_ending<R: Read, W: Write>(
 }
 
 /// Performs `run`, and answers how that ended.
-fn run_ending<H: Threads + Wait + Sync, R: Read, W: Write>(
+fn run_ending<H: Threads + Wait + Sync, R: ByteSource, W: ByteSink>(
     rt: &H,
     alloc: Global,
     team: RunArguments,
     reader: &mut R,
     writer: &mut W,
 ) -> Ending
-    ensures { IsCommandStatus (writer.new ≡ writer.old) (λ text. ending_text result ≡ text) (R.remaining reader.old)
+    ensures { IsCommandStatus (writer.new ≡ writer.old) (λ text. ending_text result ≡ text) (R.remaining reader.old) (W.room writer.old)
         (W.contents writer.old) (W.contents writer.new) (of_team team) (ending_status result) }
 {
     let done = perform_run(rt, alloc, team, reader, writer);
@@ -130,8 +130,8 @@ fn run_ending<H: Threads + Wait + Sync, R: Read, W: Write>(
 }
 
 /// Shows a text, and answers how that ended.
-fn shown<W: Write>(text: &str, writer: &mut W) -> Ending
-    ensures { IsTextStatus (λ line. ending_text result ≡ line) (W.contents writer.old) (W.contents writer.new) text.now (ending_status result) }
+fn shown<W: ByteSink>(text: &str, writer: &mut W) -> Ending
+    ensures { IsTextStatus (λ line. ending_text result ≡ line) (W.room writer.old) (W.contents writer.old) (W.contents writer.new) text.now (ending_status result) }
 {
     match write_whole(writer, text.as_bytes()) {
         Ok(()) => Ending::Done,
@@ -150,7 +150,7 @@ fn ending_of(done: Result<(), ToolFault>) -> Ending
 }
 
 /// Performs a command: reads the input to its end, and writes the command's output for it.
-pub fn perform<R: Read, W: Write>(
+pub fn perform<R: ByteSource, W: ByteSink>(
     alloc: Global,
     command: &Command,
     reader: &mut R,
@@ -159,7 +159,7 @@ pub fn perform<R: Read, W: Write>(
     ensures ok { OnOk result
         (WritesOutput (R.remaining reader.old) (W.contents writer.old) (W.contents writer.new) (of_command command.now)) }
     ensures err { IfErr result
-        (Refuses (writer.new ≡ writer.old) (R.remaining reader.old) (W.contents writer.old) (W.contents writer.new)
+        (Refuses (writer.new ≡ writer.old) (R.remaining reader.old) (W.room writer.old) (W.contents writer.old) (W.contents writer.new)
         (of_command command.now)) }
 {
     match read_whole(alloc, reader) {
@@ -169,7 +169,7 @@ pub fn perform<R: Read, W: Write>(
 }
 
 /// Performs `run`: reads the input to its end, lets workers step its program, and writes what is asked for of their journal.
-pub fn perform_run<H: Threads + Wait + Sync, R: Read, W: Write>(
+pub fn perform_run<H: Threads + Wait + Sync, R: ByteSource, W: ByteSink>(
     rt: &H,
     alloc: Global,
     team: RunArguments,
@@ -179,7 +179,7 @@ pub fn perform_run<H: Threads + Wait + Sync, R: Read, W: Write>(
     ensures ok { OnOk result
         (WritesOutput (R.remaining reader.old) (W.contents writer.old) (W.contents writer.new) (of_team team)) }
     ensures err { IfErr result
-        (Refuses (writer.new ≡ writer.old) (R.remaining reader.old) (W.contents writer.old) (W.contents writer.new)
+        (Refuses (writer.new ≡ writer.old) (R.remaining reader.old) (W.room writer.old) (W.contents writer.old) (W.contents writer.new)
         (of_team team)) }
 {
     match read_whole(alloc, reader) {
@@ -189,7 +189,7 @@ pub fn perform_run<H: Threads + Wait + Sync, R: Read, W: Write>(
 }
 
 /// Writes the command's output for the input, which is not too long.
-fn answer<W: Write>(
+fn answer<W: ByteSink>(
     alloc: Global,
     command: &Command,
     input: &[u8],
@@ -199,7 +199,7 @@ fn answer<W: Write>(
     ensures ok { OnOk result
         (WritesOutput (Some input.now) (W.contents writer.old) (W.contents writer.new) (of_command command.now)) }
     ensures err { IfErr result
-        (Refuses (writer.new ≡ writer.old) (Some input.now) (W.contents writer.old) (W.contents writer.new)
+        (Refuses (writer.new ≡ writer.old) (Some input.now) (W.room writer.old) (W.contents writer.old) (W.contents writer.new)
         (of_command command.now)) }
 {
     match output_of(alloc, command, input) {
@@ -212,7 +212,7 @@ fn answer<W: Write>(
 }
 
 /// Writes the output of `run` for the input, which is not too long.
-fn answer_run<H: Threads + Wait + Sync, W: Write>(
+fn answer_run<H: Threads + Wait + Sync, W: ByteSink>(
     rt: &H,
     alloc: Global,
     team: RunArguments,
@@ -223,7 +223,7 @@ fn answer_run<H: Threads + Wait + Sync, W: Write>(
     ensures ok { OnOk result
         (WritesOutput (Some input.now) (W.contents writer.old) (W.contents writer.new) (of_team team)) }
     ensures err { IfErr result
-        (Refuses (writer.new ≡ writer.old) (Some input.now) (W.contents writer.old) (W.contents writer.new)
+        (Refuses (writer.new ≡ writer.old) (Some input.now) (W.room writer.old) (W.contents writer.old) (W.contents writer.new)
         (of_team team)) }
 {
     match run_output(rt, alloc, team, input) {

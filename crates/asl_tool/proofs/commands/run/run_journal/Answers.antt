@@ -1,4 +1,4 @@
-use Rattle.std.proofs.Common.{rules, ℕ, subst, inl, inr, ◌∙◌, arith}
+use Rattle.std.proofs.Common.{rules, ℕ, map, subst, inl, inr, ◌∙◌, arith}
 use Rattle.asl_runner.specs.History.{IsAsked}
 use Rattle.asl_tool.proofs.commands.run.run_journal.Goals as goal
 
@@ -12,6 +12,8 @@ returns-in-Ok-clause-ok g c =
     record {
       threads_are = told.threads;
       journal = told.history.journal;
+      receipts = map (λ mine. mine.items) c.in-Ok.report.receipts.items;
+      dealt = told.history.dealt;
       running = told.running;
       short = omega (arith, told.tickets, told.limit, c.from-limit.ensures);
       state = c.in-Ok.report.machine.state;

@@ -1,4 +1,4 @@
-use Rattle.std.proofs.Common.{◌≡◌, rules, inl, inr, None, Some, map, string_bytes, subst}
+use Rattle.std.proofs.Common.{inl, inr, None, Some, map, string_bytes, subst}
 use Rattle.asl_command_line.specs.Words.{AsksFor}
 use Rattle.asl_command_line.specs.declared.command.Invocation.TheVariants.{Alone, Help, Version, WrongUsage}
 use Rattle.asl_tool.proofs.endings.over_memory.ended_over.Goals as goal
@@ -11,13 +11,15 @@ returns-in-Ok-Alone c =
 pub returns-in-Ok-Help : goal.returns-in-Ok-Help
 returns-in-Ok-Help c =
     let asks = subst (AsksFor (map string_bytes c.args.words.now)) c.in-Ok-Help.field-0-is c.in-Ok-Help.ensures in
-    let same : c.done.result.output.items ≡ c.in-Ok-Help.text.bytes.items = search rules in
-    record { invocation = Some (Help c.in-Ok-Help.text); is_asked = asks; is_ending = (c.done.ensures.ending, same) }
+    elim c.shown_over.ensures [
+      | inl shown ↦ record { invocation = Some (Help c.in-Ok-Help.page); is_asked = asks; is_ending = shown }
+      | inr none ↦ record { invocation = None; is_asked = tt; is_ending = none }
+    ]
 
 pub returns-in-Ok-Version : goal.returns-in-Ok-Version
 returns-in-Ok-Version c =
     let asks = subst (AsksFor (map string_bytes c.args.words.now)) c.in-Ok-Version.field-0-is c.in-Ok-Version.ensures in
-    elim c.shown_over.ensures [
+    elim c.shown_over-in-Ok-Version.ensures [
       | inl shown ↦ record { invocation = Some Version; is_asked = asks; is_ending = shown }
       | inr none ↦ record { invocation = None; is_asked = tt; is_ending = none }
     ]

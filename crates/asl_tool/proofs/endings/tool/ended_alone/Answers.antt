@@ -1,8 +1,6 @@
-use Rattle.std.proofs.Common.{rules, ◌≡◌, List, ℕ, None, Some, map, string_bytes, refl, subst}
+use Rattle.std.proofs.Common.{None, Some, map, string_bytes, refl, subst}
 use Rattle.asl_command_line.specs.Words.{AsksFor}
 use Rattle.asl_command_line.specs.declared.command.Invocation.TheVariants.{Alone, Help, Version, WrongUsage}
-use Rattle.asl_tool.specs.Ending.{ending_status, ending_text}
-use Rattle.asl_tool.specs.Tool.{IsTextStatus}
 use Rattle.asl_tool.proofs.endings.tool.ended_alone.Goals as goal
 
 pub returns-in-Ok-Alone-clause-status : goal.returns-in-Ok-Alone-clause-status
@@ -13,9 +11,7 @@ returns-in-Ok-Alone-clause-status g c =
 pub returns-in-Ok-Help-clause-status : goal.returns-in-Ok-Help-clause-status
 returns-in-Ok-Help-clause-status g c =
     let asks = subst (AsksFor (map string_bytes c.args.words.now)) c.in-Ok-Help.field-0-is c.in-Ok-Help.ensures in
-    let same : c.as_str.result.now ≡ c.in-Ok-Help.text.bytes.items = search rules in
-    let status = subst (λ (t : List ℕ). IsTextStatus (λ line. ending_text c.shown.result ≡ line) (g.W.Write.contents c.args.writer.now) (g.W.Write.contents c.shown.new.writer) t (ending_status c.shown.result)) same c.shown.ensures in
-    record { invocation = Some (Help c.in-Ok-Help.text); waits_not = tt; is_asked = asks; is_status = (refl, status) }
+    record { invocation = Some (Help c.in-Ok-Help.page); waits_not = tt; is_asked = asks; is_status = (refl, c.shown.ensures) }
 
 pub returns-in-Ok-WrongUsage-clause-status : goal.returns-in-Ok-WrongUsage-clause-status
 returns-in-Ok-WrongUsage-clause-status g c =
