@@ -9,8 +9,8 @@ no_text = codes "error: a word of the command line is not UTF-8\n\nFor more info
 
 -- the process ends as the tool does with the words after its name, or one of these is not UTF-8; then the streams that it reads
 -- and writes are the very values that they were. `tells` stands for what the contracts put there: that standard error got this text,
--- or, where its writer failed, a first part of it
-abbrev pub EndsProcess : Option (List (List ℕ)) → Type 0 → Type 0 → (List ℕ → Type 0) → Option (List ℕ) → Option (List ℕ) → Option (List ℕ) → ℕ → Type 0
-EndsProcess line unread unwritten tells known old new status =
-    ((words : List (List ℕ)) × AreGiven line words × EndsWith words unread unwritten tells known old new status)
+-- or, where its writer is not known to have room for it, a first part of it
+abbrev pub EndsProcess : Option (List (List ℕ)) → Type 0 → Type 0 → (List ℕ → Type 0) → Option (List ℕ) → Option ℕ → Option (List ℕ) → Option (List ℕ) → ℕ → Type 0
+EndsProcess line unread unwritten tells known room old new status =
+    ((words : List (List ℕ)) × AreGiven line words × EndsWith words unread unwritten tells known room old new status)
     ⊎ (HasNoText line × unread × unwritten × (status ≡ 2) × tells no_text)

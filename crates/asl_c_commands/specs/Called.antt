@@ -1,7 +1,7 @@
 -- What a call of a command leaves: the status, in each buffer a text as far as there is room, and the whole lengths
 -- (docs/EMBEDDING.md, "The commands from C").
 use Rattle.std.specs.Prelude.{◌≡◌, ◌<◌, ◌⊎◌, ℕ, List, length, IsUtf8}
-use Rattle.asl_tool.specs.declared.ending.Ending.{Ending}
+use Rattle.asl_tool.specs.declared.endings.ending.Ending.{Ending}
 use Rattle.asl_tool.specs.Ending.{ending_status, ending_text}
 use Rattle.asl_tool.specs.Memory.{EndsOver}
 use Rattle.asl_tool.specs.Tool.{AsksForWork}

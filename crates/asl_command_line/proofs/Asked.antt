@@ -28,20 +28,20 @@ taken_words app words named i app_is free simple taken =
     inl (none, subst (λ (n : Option (Text × List Row)). IsTaken n i) same taken)
 
 -- an error of words that were not, as what it is made of
-made_of : (kinds : Kinds) (words : List Text) (kind : ErrorKind) (i : Invocation) → fault_of asl_app words ≡ kinds → IsAmong kind kinds → IsRefusal kind i
+made_of : (kinds : Kinds) (words : List Text) (kind : ErrorKind) (i : Invocation) → fault_of asl_app words ≡ kinds → IsAmong kind kinds → IsRefusal kind words i
     → AsksFor words i
 made_of kinds words kind (Alone command) same among refusal = absurd refusal
 made_of kinds words kind (Run team) same among refusal = absurd refusal
-made_of kinds words kind (Help text) same among refusal =
-    inr (subst (IsAmong DisplayHelp) (sym same) (subst (λ (k : ErrorKind). IsAmong k kinds) refusal among))
+made_of kinds words kind (Help page) same among refusal =
+    inr (subst (IsAmong DisplayHelp) (sym same) (subst (λ (k : ErrorKind). IsAmong k kinds) refusal.0 among), refusal.1)
 made_of kinds words kind Version same among refusal =
     inr (subst (IsAmong DisplayVersion) (sym same) (subst (λ (k : ErrorKind). IsAmong k kinds) refusal among))
-made_of kinds words kind (WrongUsage text) same among refusal = inr (kind, subst (IsAmong kind) (sym same) among, refusal.0, refusal.1)
+made_of kinds words kind (WrongUsage text) same among refusal = inr (kind, subst (IsAmong kind) (sym same) among, refusal.0, refusal.1, refusal.2)
 
 -- words that were not taken
 pub refused_words : (app : App) (words : List Text) (kind : ErrorKind) (i : Invocation) → app ≡ asl_app
     → (is_simple_and_free app ≡ true → (kind ≡ OutOfMemory) ⊎ IsAmong kind (fault_of app words)) → kind ≢ OutOfMemory
-    → IsRefusal kind i → AsksFor words i
+    → IsRefusal kind words i → AsksFor words i
 refused_words app words kind i app_is free other refusal =
     let kinds = subst (λ (a : App). (kind ≡ OutOfMemory) ⊎ IsAmong kind (fault_of a words)) app_is (free (ap is_simple_and_free app_is ∙ asl_is_free)) in
     elim kinds [ inl memory ↦ absurd (other memory) | inr among ↦ made_of (fault_of asl_app words) words kind i refl among refusal ]

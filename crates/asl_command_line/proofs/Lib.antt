@@ -1,4 +1,5 @@
 mod Values
+mod Named
 mod Numbers
 mod Talks
 mod Asked
@@ -9,3 +10,4 @@ mod StepWalk
 mod StepRows
 mod StepFaults
 mod ReadApart
+pub mod RunAlone

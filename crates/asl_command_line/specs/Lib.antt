@@ -1,5 +1,8 @@
 pub mod Number
 pub mod Arguments
+pub mod Names
+pub mod Pages
+pub mod Usage
 pub mod Words
 -- Machinery of the proofs, not of the promise:
 pub mod Building

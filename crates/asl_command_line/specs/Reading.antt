@@ -1,5 +1,6 @@
 -- Machinery of the proofs, not of the promise: what private functions answer (src/number_words.rt, src/reading.rt).
-use Rattle.std.specs.Prelude.{◌≡◌, ◌≢◌, ℕ, List, [], ◌∷◌}
+use Rattle.std.specs.Prelude.{◌≡◌, ◌≢◌, ℕ, List, [], ◌∷◌, ◌++◌, string_bytes}
+use Rattle.std.specs.List.{Contains}
 use Rattle.clap.specs.Words.{Text}
 use Rattle.clap.specs.declared.error.kind.ErrorKind.{ErrorKind}
 use Rattle.clap.specs.declared.error.kind.ErrorKind.TheVariants as kinds
@@ -10,20 +11,34 @@ use Rattle.asl_command_line.specs.declared.number_words.NumbersFault.TheVariants
 use Rattle.asl_command_line.specs.declared.debug_word.DebugWord.{DebugWord}
 use Rattle.asl_command_line.specs.declared.debug_words.DebugWordsFault.{DebugWordsFault}
 use Rattle.asl_command_line.specs.declared.debug_words.DebugWordsFault.TheVariants as talk
-use Rattle.asl_command_line.specs.Number.{AreNumbers}
-use Rattle.asl_command_line.specs.Words.{AreDebugWords, IsDebugWord}
+use Rattle.asl_command_line.specs.Number.{AreNumbers, IsNumber}
+use Rattle.asl_command_line.specs.Pages.{IsPageOf}
+use Rattle.asl_command_line.specs.Usage.{SaysWhereHelpIs}
+use Rattle.asl_command_line.specs.Words.{AreDebugWords, IsDebugWord, IsNoWord, TakesNumber}
 
--- the words are no legal use
-abbrev pub IsWrongUsage : Invocation → Type 0
-IsWrongUsage (WrongUsage text) = Unit {0}
-IsWrongUsage i = ⊥
+-- the words are no legal use, as this text says
+abbrev pub IsUsage : Text → Invocation → Type 0
+IsUsage why (WrongUsage text) = string_bytes text ≡ why
+IsUsage why i = ⊥
 
 -- what is made of an error of this kind
-abbrev pub IsRefusal : ErrorKind → Invocation → Type 0
-IsRefusal kind (Help text) = kind ≡ kinds.DisplayHelp
-IsRefusal kind Version = kind ≡ kinds.DisplayVersion
-IsRefusal kind (WrongUsage text) = (kind ≢ kinds.DisplayHelp) × (kind ≢ kinds.DisplayVersion)
-IsRefusal kind i = ⊥
+abbrev pub IsRefusal : ErrorKind → List Text → Invocation → Type 0
+IsRefusal kind words (Help page) = (kind ≡ kinds.DisplayHelp) × IsPageOf words page.now
+IsRefusal kind words Version = kind ≡ kinds.DisplayVersion
+IsRefusal kind words (WrongUsage text) = (kind ≢ kinds.DisplayHelp) × (kind ≢ kinds.DisplayVersion) × SaysWhereHelpIs (string_bytes text)
+IsRefusal kind words i = ⊥
+
+-- the word that is named is one of the texts, and no number
+abbrev pub IsNamedNumber : List Text → NumbersFault → Type 0
+IsNamedNumber texts (fault.NoNumber word) = Contains texts word.now × ((n : ℕ) → IsNumber word.now n → ⊥)
+IsNamedNumber texts fault.OutOfMemory = Unit {0}
+
+-- the word that is named is one of the texts, and no word of the debugger, or no number; or the last text wants a number after it
+abbrev pub IsNamedWord : List Text → DebugWordsFault → Type 0
+IsNamedWord texts (talk.NoWord word) = Contains texts word.now × IsNoWord word.now
+IsNamedWord texts (talk.NoNumber word) = Contains texts word.now × ((n : ℕ) → IsNumber word.now n → ⊥)
+IsNamedWord texts talk.NumberMissing = (word : Text) × (front : List Text) × (texts ≡ front ++ word ∷ []) × TakesNumber word
+IsNamedWord texts talk.OutOfMemory = Unit {0}
 
 -- why texts are no numbers; of lack of memory nothing is said
 abbrev pub IsNumbersFault : List Text → NumbersFault → Type 0

@@ -1,8 +1,8 @@
 -- What the words of a command line ask for (docs/CLI.md, "Commands"). What `clap` makes of words
 -- is reported by its own definitions: `fault_of` are the kinds of error that it may give, none where it takes the words, and
 -- `subcommand_of` is the command that they name, with the values of its arguments by their names.
-use Rattle.std.specs.Prelude.{◌≡◌, ◌≢◌, ◌≤◌, ◌⊎◌, ℕ, Bool, true, false, List, [], ◌∷◌, ◌++◌, Option, None, Some, codes, unwrap_or, IsSomeAnd, MatchOption}
-use Rattle.std.specs.List.{All}
+use Rattle.std.specs.Prelude.{string_bytes, ◌≡◌, ◌≢◌, ◌≤◌, ◌⊎◌, ℕ, Bool, true, false, List, [], ◌∷◌, ◌++◌, Option, None, Some, codes, unwrap_or, IsSomeAnd, MatchOption}
+use Rattle.std.specs.List.{Contains}
 use Rattle.clap.specs.Words.{Kinds, IsAmong, Row, Text, all_of, fault_of, first_of, one_of, subcommand_of}
 use Rattle.clap.specs.declared.error.kind.ErrorKind.{ErrorKind}
 use Rattle.clap.specs.declared.error.kind.ErrorKind.TheVariants.{DisplayHelp, DisplayVersion}
@@ -16,12 +16,19 @@ use Rattle.asl_command_line.specs.declared.debug_word.DebugWord.TheVariants as w
 use Rattle.asl_command_line.specs.declared.debug_word.Move.TheVariants as move
 use Rattle.asl_command_line.specs.Number.{IsNumber, AreNumbers}
 use Rattle.asl_command_line.specs.Arguments.{asl_app}
+use Rattle.asl_command_line.specs.Names.{IsUnknown}
+use Rattle.asl_command_line.specs.Pages.{IsPageOf}
+use Rattle.asl_command_line.specs.Usage.{SaysWhereHelpIs, a_length, a_number, a_word, invalid_text, usage_text}
 
 -- ---- the values of arguments
 
 -- the argument's value is this number
 abbrev pub IsNumberAt : Text → List Row → ℕ → Type 0
 IsNumberAt name rows number = IsSomeAnd (first_of name rows) (λ text. IsNumber text number)
+
+-- the argument's value, and no text where it has none
+abbrev pub value_at : Text → List Row → Text
+value_at name rows = unwrap_or (first_of name rows) []
 
 -- the words of the argument
 abbrev pub words_at : Text → List Row → List Text
@@ -87,34 +94,53 @@ pub record IsTeam (name : Text) (rows : List Row) (team : RunArguments) : Type 0
 
 -- ---- wrong use
 
--- the argument's value is no number
-abbrev pub IsNoNumberAt : Text → List Row → Type 0
-IsNoNumberAt name rows = (number : ℕ) → IsNumberAt name rows number → ⊥
+-- the text names the argument's value, which is no number
+pub record TellsNoNumber (name place : Text) (rows : List Row) (text : Text) : Type 0 where
+  pub none : (number : ℕ) → IsNumberAt name rows number → ⊥
+  pub text_is : text ≡ invalid_text (value_at name rows) place a_number
 
--- one of the argument's words is no number
-abbrev pub AreNoNumbersAt : Text → List Row → Type 0
-AreNoNumbersAt name rows = (numbers : List ℕ) → AreNumbers (words_at name rows) numbers → ⊥
+-- the text names one of the schedule's words, which is no number
+pub record TellsNoSchedule (rows : List Row) (text : Text) : Type 0 where
+  pub word : Text
+  pub its : Contains (words_at (codes "schedule") rows) word
+  pub none : (number : ℕ) → IsNumber word number → ⊥
+  pub text_is : text ≡ invalid_text word (codes "<T>...") a_number
 
--- `--k` has no number, or one above 8
-abbrev pub IsNoLengthAt : List Row → Type 0
-IsNoLengthAt rows = (k_limit : ℕ) → k_limit ≤ 8 → IsLengthAt rows k_limit → ⊥
+-- the text names the value of `--k`, which is no number, or one above 8
+pub record TellsNoLength (rows : List Row) (text : Text) : Type 0 where
+  pub none : (k_limit : ℕ) → k_limit ≤ 8 → IsLengthAt rows k_limit → ⊥
+  pub text_is : text ≡ invalid_text (value_at (codes "k") rows) (codes "--k <K>") a_length
+
+-- the word asks the debugger for nothing, alone and with another after it
+pub record IsNoWord (name : Text) : Type 0 where
+  pub alone : (asked : DebugWord) → IsDebugWord (name ∷ []) asked → ⊥
+  pub followed : (asked : DebugWord) (next : Text) → IsDebugWord (name ∷ next ∷ []) asked → ⊥
+
+-- a number stands after the word
+abbrev pub TakesNumber : Text → Type 0
+TakesNumber name = (name ≡ codes "goto") ⊎ ((name ≡ codes "break") ⊎ (name ≡ codes "clear"))
+
+-- the words ask the debugger for nothing; the text names one that is no word of it or no number, or says that the last one wants a number
+-- after it
+abbrev pub TellsNoWord : List Text → Text → Type 0
+TellsNoWord words text =
+    ((word : Text) × Contains words word × IsNoWord word × (text ≡ invalid_text word (codes "<WORD>...") a_word))
+    ⊎ (((word : Text) × Contains words word × ((number : ℕ) → IsNumber word number → ⊥) × (text ≡ invalid_text word (codes "<WORD>...") a_number))
+    ⊎ ((word : Text) × (front : List Text) × (words ≡ front ++ word ∷ []) × TakesNumber word × (text ≡ usage_text (codes "a number is required after the last '<WORD>...'"))))
 
 -- the words ask the debugger for nothing
 abbrev pub AskNothing : List Row → Type 0
 AskNothing rows = (words : List DebugWord) → AreDebugWords (words_at (codes "words") rows) words → ⊥
 
--- the name is none of the program's commands
-abbrev pub IsUnknown : Text → Type 0
-IsUnknown name = All (λ known. name ≢ known)
-    (codes "step" ∷ codes "asm" ∷ codes "dis" ∷ codes "compile" ∷ codes "check" ∷ codes "map" ∷ codes "explain" ∷ codes "diagnose" ∷ codes "replay" ∷ codes "log" ∷ codes "debug" ∷ codes "run" ∷ [])
-
--- the command has this name, and one of its values is none
-abbrev pub IsMisused : Text → List Row → Type 0
-IsMisused name rows =
-    ((name ≡ codes "step") × (IsNoNumberAt (codes "threads") rows ⊎ AreNoNumbersAt (codes "schedule") rows))
-    ⊎ ((((name ≡ codes "compile") ⊎ ((name ≡ codes "check") ⊎ ((name ≡ codes "explain") ⊎ (name ≡ codes "diagnose")))) × IsNoLengthAt rows)
-    ⊎ (((name ≡ codes "run") × (IsNoNumberAt (codes "threads") rows ⊎ (IsNoNumberAt (codes "workers") rows ⊎ IsNoNumberAt (codes "limit") rows)))
-    ⊎ (((name ≡ codes "debug") × AskNothing rows) ⊎ IsUnknown name)))
+-- the command has this name, and one of its values is none, as the text says
+abbrev pub IsMisused : Text → List Row → Text → Type 0
+IsMisused name rows text =
+    ((name ≡ codes "step") × (TellsNoNumber (codes "threads") (codes "--threads <N>") rows text ⊎ TellsNoSchedule rows text))
+    ⊎ ((((name ≡ codes "compile") ⊎ ((name ≡ codes "check") ⊎ ((name ≡ codes "explain") ⊎ (name ≡ codes "diagnose")))) × TellsNoLength rows text)
+    ⊎ (((name ≡ codes "run") × (TellsNoNumber (codes "threads") (codes "--threads <N>") rows text
+    ⊎ (TellsNoNumber (codes "workers") (codes "--workers <W>") rows text ⊎ TellsNoNumber (codes "limit") (codes "--limit <L>") rows text)))
+    ⊎ (((name ≡ codes "debug") × AskNothing rows × TellsNoWord (words_at (codes "words") rows) text)
+    ⊎ (IsUnknown name × (text ≡ usage_text (codes "the command is unknown"))))))
 
 -- what the command of this name with these values asks for
 abbrev pub IsReading : Text → List Row → Invocation → Type 0
@@ -122,25 +148,27 @@ IsReading name rows (Alone command) = IsCommand name rows command
 IsReading name rows (Run team) = IsTeam name rows team
 IsReading name rows (Help text) = ⊥
 IsReading name rows Version = ⊥
-IsReading name rows (WrongUsage text) = IsMisused name rows
+IsReading name rows (WrongUsage text) = IsMisused name rows (string_bytes text)
 
 -- ---- words
 
 -- what words ask for that `clap` takes: what their command asks for
 abbrev pub IsTaken : Option (Text × List Row) → Invocation → Type 0
 IsTaken (Some named) invocation = IsReading named.0 named.1 invocation
-IsTaken None (WrongUsage text) = Unit {0}
+IsTaken None (WrongUsage text) = string_bytes text ≡ usage_text (codes "'asl' requires a command but one was not provided")
 IsTaken None invocation = ⊥
 
--- what words ask for that `clap` does not take: help, or the version, or else nothing that is legal
-abbrev pub IsNotTaken : Kinds → Invocation → Type 0
-IsNotTaken kinds (Help text) = IsAmong DisplayHelp kinds
-IsNotTaken kinds Version = IsAmong DisplayVersion kinds
-IsNotTaken kinds (WrongUsage text) = (kind : ErrorKind) × IsAmong kind kinds × (kind ≢ DisplayHelp) × (kind ≢ DisplayVersion)
-IsNotTaken kinds invocation = ⊥
+-- what words ask for that `clap` does not take: the page that they name, or the version, or else nothing that is legal, with a text that
+-- ends by saying where help is
+abbrev pub IsNotTaken : Kinds → List Text → Invocation → Type 0
+IsNotTaken kinds words (Help page) = IsAmong DisplayHelp kinds × IsPageOf words page.now
+IsNotTaken kinds words Version = IsAmong DisplayVersion kinds
+IsNotTaken kinds words (WrongUsage text) =
+    (kind : ErrorKind) × IsAmong kind kinds × (kind ≢ DisplayHelp) × (kind ≢ DisplayVersion) × SaysWhereHelpIs (string_bytes text)
+IsNotTaken kinds words invocation = ⊥
 
 -- what the words ask for: a command where `clap` takes them, help or the version where they ask for it
 abbrev pub AsksFor : List Text → Invocation → Type 0
 AsksFor words invocation =
     ((fault_of asl_app words ≡ []) × IsTaken (subcommand_of asl_app words) invocation)
-    ⊎ IsNotTaken (fault_of asl_app words) invocation
+    ⊎ IsNotTaken (fault_of asl_app words) words invocation

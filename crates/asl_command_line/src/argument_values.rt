@@ -1,9 +1,10 @@
 //! The values of the arguments of a command.
-ghost use Rattle.std.specs.Prelude.{◌≤◌, ℕ, IfOk, IfErr, MatchOption, codes};
+ghost use Rattle.std.specs.Prelude.{◌≡◌, ◌≤◌, ◌++◌, ℕ, IfOk, IfErr, MatchOption, codes, string_bytes};
 ghost use Rattle.clap.specs.Words.{found_of, rows_of};
-ghost use Rattle.asl_command_line.specs.Words.{AreDebugWords, IsFlagAt, IsLengthAt, IsNoLengthAt, IsNoNumberAt, IsNumberAt, words_at};
+ghost use Rattle.asl_command_line.specs.Words.{AreDebugWords, IsFlagAt, IsLengthAt, IsNumberAt, value_at, words_at};
 ghost use Rattle.asl_command_line.specs.Number.{AreNumbers, IsNumber};
-ghost use Rattle.asl_command_line.specs.Reading.{IsNumbersFault, IsDebugWordsFault, IsWrongUsage};
+ghost use Rattle.asl_command_line.specs.Reading.{IsDebugWordsFault, IsNamedNumber, IsNamedWord, IsNumbersFault, IsUsage};
+ghost use Rattle.asl_command_line.specs.Usage.{SaysWhereHelpIs, help_is_there, invalid_text, usage_text};
 
 use crate::command::Invocation;
 use crate::debug_word::DebugWord;
@@ -20,7 +21,7 @@ pub(crate) const A_NUMBER: &str = "not a number from 0 to 4294967295";
 pub(crate) const A_PATH_LIMIT: &str = "not a number from 0 to 8";
 
 /// Where usage is explained.
-const HELP_IS_THERE: &str = "For more information, try '--help'.\n";
+pub(crate) const HELP_IS_THERE: &str = "For more information, try '--help'.\n";
 
 /// What a word of the debugger must be.
 pub(crate) const A_WORD: &str =
@@ -36,7 +37,8 @@ pub(crate) fn flag_at(values: &ArgMatches<'_>, name: &str) -> bool
 /// The number that is the argument's value, or the value that is none.
 pub(crate) fn number_at<'a>(values: &ArgMatches<'a>, name: &str) -> Result<u32, &'a str>
     ensures ok { IfOk result (IsNumberAt name.now (rows_of (found_of values.now))) }
-    ensures err { IfErr result (λ _. IsNoNumberAt name.now (rows_of (found_of values.now))) }
+    ensures err { IfErr result (λ _. (number : ℕ) → IsNumberAt name.now (rows_of (found_of values.now)) number → ⊥) }
+    ensures named { IfErr result (λ word. word.now ≡ value_at name.now (rows_of (found_of values.now))) }
 {
     match values.get_str(name) {
         Some(word) => match number(word) {
@@ -50,7 +52,8 @@ pub(crate) fn number_at<'a>(values: &ArgMatches<'a>, name: &str) -> Result<u32, 
 /// The value of `--k`, or the value that is none.
 pub(crate) fn k_limit_at<'a>(values: &ArgMatches<'a>) -> Result<PathLimit, &'a str>
     ensures ok { IfOk result (λ k_limit. IsLengthAt (rows_of (found_of values.now)) k_limit) }
-    ensures err { IfErr result (λ _. IsNoLengthAt (rows_of (found_of values.now))) }
+    ensures err { IfErr result (λ _. (k_limit : ℕ) → k_limit ≤ 8 → IsLengthAt (rows_of (found_of values.now)) k_limit → ⊥) }
+    ensures named { IfErr result (λ word. word.now ≡ value_at (codes "k") (rows_of (found_of values.now))) }
 {
     match values.get_str("k") {
         Some(word) => match length(word) {
@@ -79,6 +82,7 @@ pub(crate) fn numbers_at<'a>(
 ) -> Result<Vec<u32>, NumbersFault<'a>>
     ensures ok { IfOk result (λ numbers. AreNumbers (words_at name.now (rows_of (found_of values.now))) numbers.items) }
     ensures err { IfErr result (IsNumbersFault (words_at name.now (rows_of (found_of values.now)))) }
+    ensures named { IfErr result (IsNamedNumber (words_at name.now (rows_of (found_of values.now)))) }
 {
     match values.get_strs(name) {
         Some(words) => numbers(alloc, words),
@@ -93,6 +97,7 @@ pub(crate) fn debug_words_at<'a>(
 ) -> Result<Vec<DebugWord>, DebugWordsFault<'a>>
     ensures ok { IfOk result (λ words. AreDebugWords (words_at (codes "words") (rows_of (found_of values.now))) words.items) }
     ensures err { IfErr result (IsDebugWordsFault (words_at (codes "words") (rows_of (found_of values.now)))) }
+    ensures named { IfErr result (IsNamedWord (words_at (codes "words") (rows_of (found_of values.now)))) }
 {
     match values.get_strs("words") {
         Some(words) => debug_words(alloc, words),
@@ -107,18 +112,33 @@ pub(crate) fn invalid(
     argument: &str,
     why: &str,
 ) -> Result<Invocation, AllocError>
-    ensures { IfOk result IsWrongUsage }
+    ensures { IfOk result (IsUsage (invalid_text word.now argument.now why.now)) }
 {
-    let text = format!(in alloc;
-        "error: invalid value '{word}' for '{argument}': {why}\n\n{HELP_IS_THERE}"
-    )?;
+    let mut text = String::from_str(alloc, "error: invalid value '")?;
+    text.push_str(word)?;
+    text.push_str("' for '")?;
+    text.push_str(argument)?;
+    text.push_str("': ")?;
+    text.push_str(why)?;
+    let text = with_help(text)?;
     Ok(Invocation::WrongUsage(text))
 }
 
 /// Says why the words are no legal use.
 pub(crate) fn wrong_usage(alloc: Global, why: &str) -> Result<Invocation, AllocError>
-    ensures { IfOk result IsWrongUsage }
+    ensures { IfOk result (IsUsage (usage_text why.now)) }
 {
     let text = format!(in alloc; "error: {why}\n\n{HELP_IS_THERE}")?;
     Ok(Invocation::WrongUsage(text))
+}
+
+/// The text, and after an empty line where help is.
+pub(crate) fn with_help(text: String) -> Result<String, AllocError>
+    ensures whole { IfOk result (λ all. string_bytes all ≡ string_bytes text ++ codes "\n\n" ++ help_is_there) }
+    ensures says { IfOk result (λ all. SaysWhereHelpIs (string_bytes all)) }
+{
+    let mut text = text;
+    text.push_str("\n\n")?;
+    text.push_str(HELP_IS_THERE)?;
+    Ok(text)
 }

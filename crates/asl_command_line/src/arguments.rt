@@ -1,11 +1,11 @@
-//! The commands and their arguments, as `clap` is told them.
+//! The commands and their arguments, as `clap` is told them. Of help it is told nothing: the pages are the program's own.
 ghost use Rattle.std.specs.Prelude.{◌≡◌, false, IfOk};
 ghost use Rattle.clap.specs.Words.{app_of, new_app, rule_of, with_rule, with_subcommand};
 ghost use Rattle.clap.specs.declared.builder.command.Command.TheViews.{out-Command};
 ghost use Rattle.asl_command_line.specs.Arguments.{asl_app, asm_app, bare_app, check_app, compile_app, debug_app, diagnose_app, dis_app, explain_app, flag_rule, log_app, map_app, needed_rule, replay_app, run_app, step_app, value_rule, words_rule};
 ghost use Rattle.asl_command_line.specs.Building.{IsBuilt};
 
-use crate::{compile_help, help, run_help};
+use crate::help;
 use clap::{Arg, ArgAction, Command};
 use std::alloc::{AllocError, Global};
 
@@ -32,7 +32,7 @@ pub fn program<'a>(alloc: Global) -> Result<Command<'a>, AllocError>
 fn bare_program<'a>(alloc: Global) -> Result<Command<'a>, AllocError>
     ensures { IfOk result (λ command. IsBuilt command bare_app) }
 {
-    let command = named(alloc, "asl", "asl", help::PROGRAM)?;
+    let command = named(alloc, "asl", "asl")?;
     Ok(
         command
             .version(help::VERSION)
@@ -45,104 +45,96 @@ fn bare_program<'a>(alloc: Global) -> Result<Command<'a>, AllocError>
 fn compile_command<'a>(alloc: Global) -> Result<Command<'a>, AllocError>
     ensures { IfOk result (λ command. IsBuilt command compile_app) }
 {
-    let command = named(alloc, "compile", "asl compile", compile_help::COMPILE)?;
-    let command = with_argument(command, value(alloc, "k", "K", help::LONGEST))?;
-    with_argument(command, flag(alloc, "text", help::TEXT))
+    let command = named(alloc, "compile", "asl compile")?;
+    let command = with_argument(command, value(alloc, "k", "K"))?;
+    with_argument(command, flag(alloc, "text"))
 }
 
 fn check_command<'a>(alloc: Global) -> Result<Command<'a>, AllocError>
     ensures { IfOk result (λ command. IsBuilt command check_app) }
 {
-    let command = named(alloc, "check", "asl check", compile_help::CHECK)?;
-    with_argument(command, value(alloc, "k", "K", help::NEEDED))
+    let command = named(alloc, "check", "asl check")?;
+    with_argument(command, value(alloc, "k", "K"))
 }
 
 fn map_command<'a>(alloc: Global) -> Result<Command<'a>, AllocError>
     ensures { IfOk result (λ command. IsBuilt command map_app) }
 {
-    named(alloc, "map", "asl map", compile_help::MAP)
+    named(alloc, "map", "asl map")
 }
 
 fn explain_command<'a>(alloc: Global) -> Result<Command<'a>, AllocError>
     ensures { IfOk result (λ command. IsBuilt command explain_app) }
 {
-    let command = named(alloc, "explain", "asl explain", compile_help::EXPLAIN)?;
-    let command = with_argument(command, value(alloc, "k", "K", help::LONGEST))?;
-    with_argument(command, flag(alloc, "all", help::ALL))
+    let command = named(alloc, "explain", "asl explain")?;
+    let command = with_argument(command, value(alloc, "k", "K"))?;
+    with_argument(command, flag(alloc, "all"))
 }
 
 fn diagnose_command<'a>(alloc: Global) -> Result<Command<'a>, AllocError>
     ensures { IfOk result (λ command. IsBuilt command diagnose_app) }
 {
-    let command = named(alloc, "diagnose", "asl diagnose", compile_help::DIAGNOSE)?;
-    let command = with_argument(command, value(alloc, "k", "K", help::LONGEST))?;
-    with_argument(command, flag(alloc, "asm", help::ASSEMBLY))
+    let command = named(alloc, "diagnose", "asl diagnose")?;
+    let command = with_argument(command, value(alloc, "k", "K"))?;
+    with_argument(command, flag(alloc, "asm"))
 }
 
 fn asm_command<'a>(alloc: Global) -> Result<Command<'a>, AllocError>
     ensures { IfOk result (λ command. IsBuilt command asm_app) }
 {
-    named(alloc, "asm", "asl asm", compile_help::ASM)
+    named(alloc, "asm", "asl asm")
 }
 
 fn dis_command<'a>(alloc: Global) -> Result<Command<'a>, AllocError>
     ensures { IfOk result (λ command. IsBuilt command dis_app) }
 {
-    named(alloc, "dis", "asl dis", compile_help::DIS)
+    named(alloc, "dis", "asl dis")
 }
 
 fn replay_command<'a>(alloc: Global) -> Result<Command<'a>, AllocError>
     ensures { IfOk result (λ command. IsBuilt command replay_app) }
 {
-    named(alloc, "replay", "asl replay", run_help::REPLAY)
+    named(alloc, "replay", "asl replay")
 }
 
 fn step_command<'a>(alloc: Global) -> Result<Command<'a>, AllocError>
     ensures { IfOk result (λ command. IsBuilt command step_app) }
 {
-    let command = named(alloc, "step", "asl step", run_help::STEP)?;
-    let command = with_argument(command, needed(alloc, "threads", "N", help::THREADS))?;
-    let command = with_argument(command, flag(alloc, "record", help::RECORD))?;
-    with_argument(command, words(alloc, "schedule", "T", help::SCHEDULE))
+    let command = named(alloc, "step", "asl step")?;
+    let command = with_argument(command, needed(alloc, "threads", "N"))?;
+    let command = with_argument(command, flag(alloc, "record"))?;
+    with_argument(command, words(alloc, "schedule", "T"))
 }
 
 fn run_command<'a>(alloc: Global) -> Result<Command<'a>, AllocError>
     ensures { IfOk result (λ command. IsBuilt command run_app) }
 {
-    let command = named(alloc, "run", "asl run", run_help::RUN)?;
-    let command = with_argument(command, needed(alloc, "threads", "N", help::THREADS))?;
-    let command = with_argument(command, needed(alloc, "workers", "W", help::WORKERS))?;
-    let command = with_argument(command, needed(alloc, "limit", "L", help::LIMIT))?;
-    with_argument(command, flag(alloc, "record", help::RECORD))
+    let command = named(alloc, "run", "asl run")?;
+    let command = with_argument(command, needed(alloc, "threads", "N"))?;
+    let command = with_argument(command, needed(alloc, "workers", "W"))?;
+    let command = with_argument(command, needed(alloc, "limit", "L"))?;
+    with_argument(command, flag(alloc, "record"))
 }
 
 fn log_command<'a>(alloc: Global) -> Result<Command<'a>, AllocError>
     ensures { IfOk result (λ command. IsBuilt command log_app) }
 {
-    let command = named(alloc, "log", "asl log", run_help::LOG)?;
-    with_argument(command, flag(alloc, "trace", help::TRACE))
+    let command = named(alloc, "log", "asl log")?;
+    with_argument(command, flag(alloc, "trace"))
 }
 
 fn debug_command<'a>(alloc: Global) -> Result<Command<'a>, AllocError>
     ensures { IfOk result (λ command. IsBuilt command debug_app) }
 {
-    let command = named(alloc, "debug", "asl debug", run_help::DEBUG)?;
-    with_argument(command, words(alloc, "words", "WORD", help::WORDS))
+    let command = named(alloc, "debug", "asl debug")?;
+    with_argument(command, words(alloc, "words", "WORD"))
 }
 
 /// A command of this name that takes no more words.
-fn named<'a>(
-    alloc: Global,
-    name: &'a str,
-    whole_name: &'a str,
-    help: help::Page,
-) -> Result<Command<'a>, AllocError>
+fn named<'a>(alloc: Global, name: &'a str, whole_name: &'a str) -> Result<Command<'a>, AllocError>
     ensures { IfOk result (λ command. IsBuilt command (new_app name.entry.now)) }
 {
-    let command = Command::new(alloc, name)
-        .about(help.about)
-        .after_help(help.more)
-        .bin_name(whole_name)?;
+    let command = Command::new(alloc, name).bin_name(whole_name)?;
     Ok(command)
 }
 
@@ -167,49 +159,43 @@ fn with_argument<'a>(command: Command<'a>, argument: Arg<'a>) -> Result<Command<
 }
 
 /// `--NAME VALUE`.
-fn value<'a>(alloc: Global, name: &'a str, value: &'a str, help: &'a str) -> Arg<'a>
+fn value<'a>(alloc: Global, name: &'a str, value: &'a str) -> Arg<'a>
     ensures rule { rule_of result ≡ value_rule name.entry.now }
     ensures own { result.global ≡ false }
 {
     Arg::new(alloc, name)
         .long(name)
         .value_name(value)
-        .help(help)
         .action(ArgAction::Set)
 }
 
 /// `--NAME VALUE`, which must be given.
-fn needed<'a>(alloc: Global, name: &'a str, value: &'a str, help: &'a str) -> Arg<'a>
+fn needed<'a>(alloc: Global, name: &'a str, value: &'a str) -> Arg<'a>
     ensures rule { rule_of result ≡ needed_rule name.entry.now }
     ensures own { result.global ≡ false }
 {
     Arg::new(alloc, name)
         .long(name)
         .value_name(value)
-        .help(help)
         .required(true)
         .action(ArgAction::Set)
 }
 
 /// `--NAME`.
-fn flag<'a>(alloc: Global, name: &'a str, help: &'a str) -> Arg<'a>
+fn flag<'a>(alloc: Global, name: &'a str) -> Arg<'a>
     ensures rule { rule_of result ≡ flag_rule name.entry.now }
     ensures own { result.global ≡ false }
 {
-    Arg::new(alloc, name)
-        .long(name)
-        .help(help)
-        .action(ArgAction::SetTrue)
+    Arg::new(alloc, name).long(name).action(ArgAction::SetTrue)
 }
 
 /// Words of no option, one or more.
-fn words<'a>(alloc: Global, name: &'a str, value: &'a str, help: &'a str) -> Arg<'a>
+fn words<'a>(alloc: Global, name: &'a str, value: &'a str) -> Arg<'a>
     ensures rule { rule_of result ≡ words_rule name.entry.now }
     ensures own { result.global ≡ false }
 {
     Arg::new(alloc, name)
         .value_name(value)
-        .help(help)
         .required(true)
         .num_args(1..)
         .action(ArgAction::Append)

@@ -80,8 +80,8 @@ pub enum Invocation {
     Alone(Command),
     /// The words are those of the command `run`.
     Run(RunArguments),
-    /// The words ask for help: the text to show.
-    Help(String),
+    /// The words ask for help: the page to show.
+    Help(&'static str),
     /// The words ask which version of the program this is.
     Version,
     /// The words are no legal use: the text that says why.

@@ -1,11 +1,17 @@
-//! The help of the commands over sources and images.
-
-use crate::help::{ASSEMBLY, Page};
+//! The pages of the commands over sources, as `--help` shows them.
 
 /// The page of the command `compile`.
-pub const COMPILE: Page = Page {
-    about: "Infers the locks of a source's sections; no run of the program faults for a missing lock",
-    more: "Input: a source (docs/SOURCE.md)\n\
+pub const COMPILE: &str =
+    "Infers the locks of a source's sections; no run of the program faults for a missing lock\n\
+        \n\
+        Usage: asl compile [OPTIONS]\n\
+        \n\
+        Options:\n\
+        \u{20}     --k <K>  How many operations a path of a lock has at most, 0 to 8; 3 where it is not given\n\
+        \u{20}     --text   Writes the canonical assembly text, in place of the image\n\
+        \u{20} -h, --help   Print help\n\
+        \n\
+        Input: a source (docs/SOURCE.md)\n\
         Output: the program's image, or with --text its assembly text\n\
         \n\
         Examples, from the top of the repository:\n\
@@ -31,13 +37,19 @@ pub const COMPILE: Page = Page {
         \u{20} Write                        standard output failed; a part of the output may have been written\n\
         \u{20} OutOfMemory                  memory ran out\n\
         \n\
-        asl 2, proved in the logic dac8208d650f15bf",
-};
+        asl 2, proved in the logic dac8208d650f15bf\n";
 
 /// The page of the command `check`.
-pub const CHECK: Page = Page {
-    about: "Checks the lists of a program against its source; where they are enough, no run faults for a missing lock",
-    more: "Input: a source (docs/SOURCE.md), one byte 0, and a program: an image where it begins with ASLM, and else assembly text\n\
+pub const CHECK: &str =
+    "Checks the lists of a program against its source; where they are enough, no run faults for a missing lock\n\
+        \n\
+        Usage: asl check [OPTIONS]\n\
+        \n\
+        Options:\n\
+        \u{20}     --k <K>  How many operations a path of a needed lock has at most, 0 to 8; 3 where it is not given\n\
+        \u{20} -h, --help   Print help\n\
+        \n\
+        Input: a source (docs/SOURCE.md), one byte 0, and a program: an image where it begins with ASLM, and else assembly text\n\
         Output: 'checked S sections', where each list is enough for what its section needs and for what its own expressions read\n\
         \n\
         Examples, from the top of the repository:\n\
@@ -62,13 +74,18 @@ pub const CHECK: Page = Page {
         \u{20} Write                     standard output failed; a part of the output may have been written\n\
         \u{20} OutOfMemory               memory ran out\n\
         \n\
-        asl 2, proved in the logic dac8208d650f15bf",
-};
+        asl 2, proved in the logic dac8208d650f15bf\n";
 
 /// The page of the command `map`.
-pub const MAP: Page = Page {
-    about: "Says what the numbers in a source's code stand for, and which piece of the text each instruction is of",
-    more: "Input: a source (docs/SOURCE.md)\n\
+pub const MAP: &str =
+    "Says what the numbers in a source's code stand for, and which piece of the text each instruction is of\n\
+        \n\
+        Usage: asl map\n\
+        \n\
+        Options:\n\
+        \u{20} -h, --help  Print help\n\
+        \n\
+        Input: a source (docs/SOURCE.md)\n\
         Output: a line for each function, register, global, class, section, site and instruction, and one for each\n\
         function that `main` never calls, not even through others (docs/SOURCE.md)\n\
         \n\
@@ -86,13 +103,20 @@ pub const MAP: Page = Page {
         \u{20} Write                     standard output failed; a part of the output may have been written\n\
         \u{20} OutOfMemory               memory ran out\n\
         \n\
-        asl 2, proved in the logic dac8208d650f15bf",
-};
+        asl 2, proved in the logic dac8208d650f15bf\n";
 
 /// The page of the command `explain`.
-pub const EXPLAIN: Page = Page {
-    about: "Says for each lock of each list which statement needs it, and how it came to the section's start",
-    more: "Input: a source (docs/SOURCE.md)\n\
+pub const EXPLAIN: &str =
+    "Says for each lock of each list which statement needs it, and how it came to the section's start\n\
+        \n\
+        Usage: asl explain [OPTIONS]\n\
+        \n\
+        Options:\n\
+        \u{20}     --k <K>  How many operations a path of a lock has at most, 0 to 8; 3 where it is not given\n\
+        \u{20}     --all    Tells every chain of links, also of locks that the list's lock contains\n\
+        \u{20} -h, --help   Print help\n\
+        \n\
+        Input: a source (docs/SOURCE.md)\n\
         Output: for each section its list, and below each lock its statements and links, in the source's words (docs/ANALYSIS.md); then the lists of each k\n\
         \n\
         Examples, from the top of the repository:\n\
@@ -108,13 +132,20 @@ pub const EXPLAIN: Page = Page {
         \u{20} Write                     standard output failed; a part of the output may have been written\n\
         \u{20} OutOfMemory               memory ran out\n\
         \n\
-        asl 2, proved in the logic dac8208d650f15bf",
-};
+        asl 2, proved in the logic dac8208d650f15bf\n";
 
 /// The page of the command `diagnose`.
-pub const DIAGNOSE: Page = Page {
-    about: "Says where and why a source or an assembly text is at fault, and how to go on",
-    more: "Input: a source (docs/SOURCE.md), or with --asm an assembly text (docs/ASSEMBLY.md)\n\
+pub const DIAGNOSE: &str =
+    "Says where and why a source or an assembly text is at fault, and how to go on\n\
+        \n\
+        Usage: asl diagnose [OPTIONS]\n\
+        \n\
+        Options:\n\
+        \u{20}     --k <K>  How many operations a path of a lock has at most, 0 to 8; 3 where it is not given\n\
+        \u{20}     --asm    Takes the input as an assembly text, in place of a source\n\
+        \u{20} -h, --help   Print help\n\
+        \n\
+        Input: a source (docs/SOURCE.md), or with --asm an assembly text (docs/ASSEMBLY.md)\n\
         Output: nothing where there is no fault; else line and column, both from 1, the fault's name, a sentence, the line of the text with a mark below the place, and what helps\n\
         \n\
         Examples, from the top of the repository:\n\
@@ -130,54 +161,4 @@ pub const DIAGNOSE: Page = Page {
         \u{20} Write        standard output failed; a part of the output may have been written\n\
         \u{20} OutOfMemory  memory ran out\n\
         \n\
-        asl 2, proved in the logic dac8208d650f15bf",
-};
-
-/// The page of the command `asm`.
-pub const ASM: Page = Page {
-    about: "Assembles a program",
-    more: "Input: assembly text (docs/ASSEMBLY.md)\n\
-        Output: the image of its program (docs/BYTES.md)\n\
-        \n\
-        Examples, from the top of the repository:\n\
-        \u{20} ./asl asm < examples/counter.asm > counter.image\n\
-        \u{20} ./asl asm < examples/push.asm | ./asl dis\n\
-        \n\
-        Status: 0 done; 1 refused, with one line 'asl: NAME' on standard error; 2 wrong usage.\n\
-        \n\
-        Refusals, where several apply the first of them:\n\
-        \u{20} Read          standard input failed\n\
-        \u{20} TooLong       the input is longer than 268435456 bytes\n\
-        \u{20} Line(n)       line n of the text is not as its place asks\n\
-        \u{20} Verify(RULE)  the program breaks a rule of docs/LIMITS.md\n\
-        \u{20} Write         standard output failed; a part of the output may have been written\n\
-        \u{20} OutOfMemory   memory ran out\n\
-        \n\
-        asl 2, proved in the logic dac8208d650f15bf",
-};
-
-/// The page of the command `dis`.
-pub const DIS: Page = Page {
-    about: "Disassembles an image",
-    more: "Input: a program's image (docs/BYTES.md)\n\
-        Output: the canonical assembly text of its program (docs/ASSEMBLY.md)\n\
-        \n\
-        Examples, from the top of the repository:\n\
-        \u{20} ./asl compile < examples/counter.asl | ./asl dis\n\
-        \u{20} ./asl asm < examples/sum.asm | ./asl dis\n\
-        \n\
-        Status: 0 done; 1 refused, with one line 'asl: NAME' on standard error; 2 wrong usage.\n\
-        \n\
-        Refusals, where several apply the first of them:\n\
-        \u{20} Read            standard input failed\n\
-        \u{20} TooLong         the input is longer than 268435456 bytes\n\
-        \u{20} Magic, Version  the image begins with other letters, or is of a version other than 1 and 2\n\
-        \u{20} Truncated(n)    the image ends too early, at byte n\n\
-        \u{20} BadField(n)     the field at byte n of the image has a value that it cannot have\n\
-        \u{20} Trailing(n)     there are bytes after the image, from byte n on\n\
-        \u{20} Verify(RULE)    the image breaks a rule of docs/LIMITS.md\n\
-        \u{20} Write           standard output failed; a part of the output may have been written\n\
-        \u{20} OutOfMemory     memory ran out\n\
-        \n\
-        asl 2, proved in the logic dac8208d650f15bf",
-};
+        asl 2, proved in the logic dac8208d650f15bf\n";

@@ -1,9 +1,9 @@
 //! Reads the words of the command `debug`.
-ghost use Rattle.std.specs.Prelude.{◌≡◌, ◌<◌, ◌≤◌, ℕ, List, [], ◌∷◌, false, length, take, IfOk, IfErr, MatchOption};
+ghost use Rattle.std.specs.Prelude.{◌≡◌, ◌<◌, ◌≤◌, ℕ, List, [], ◌∷◌, true, false, length, take, IfOk, IfErr, MatchOption};
 ghost use Rattle.clap.specs.Walk.{texts};
 ghost use Rattle.asl_command_line.specs.Number.{IsNumber};
-ghost use Rattle.asl_command_line.specs.Words.{AreDebugWords, IsDebugWord};
-ghost use Rattle.asl_command_line.specs.Reading.{IsDebugWordsFault, IsNoBareWord, IsNoNumberedWord};
+ghost use Rattle.asl_command_line.specs.Words.{AreDebugWords, IsDebugWord, TakesNumber};
+ghost use Rattle.asl_command_line.specs.Reading.{IsDebugWordsFault, IsNamedWord, IsNoBareWord, IsNoNumberedWord};
 
 use crate::debug_word::{DebugWord, Move};
 use crate::number_words::number;
@@ -28,6 +28,7 @@ pub fn debug_words<'a>(
 ) -> Result<Vec<DebugWord>, DebugWordsFault<'a>>
     ensures ok { IfOk result (λ words. AreDebugWords (texts all.now) words.items) }
     ensures err { IfErr result (IsDebugWordsFault (texts all.now)) }
+    ensures named { IfErr result (IsNamedWord (texts all.now)) }
 {
     let mut words = Vec::new(alloc);
     let mut done = 0;
@@ -47,6 +48,7 @@ fn front_word<'a>(all: &[&'a str]) -> Result<(DebugWord, usize), DebugWordsFault
     ensures some { IfOk result (λ front. (0 < front.1) × (front.1 ≤ length all.now)) }
     ensures front { IfOk result (λ front. IsDebugWord (take front.1 (texts all.now)) front.0) }
     ensures err { IfErr result (IsDebugWordsFault (texts all.now)) }
+    ensures named { IfErr result (IsNamedWord (texts all.now)) }
 {
     let name = all[0];
     if let Some(word) = bare_word(name) {
@@ -86,7 +88,8 @@ fn bare_word(word: &str) -> Option<DebugWord>
 
 /// Whether a number follows the word.
 fn takes_number(word: &str) -> bool
-    ensures { result ≡ false → IsNoNumberedWord word.now }
+    ensures yes { result ≡ true → TakesNumber word.now }
+    ensures no { result ≡ false → IsNoNumberedWord word.now }
 {
     matches!(word, "goto" | "break" | "clear")
 }

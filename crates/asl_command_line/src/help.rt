@@ -1,21 +1,37 @@
-//! The texts of help.
+//! The pages of the program and of the commands over images, as `--help` shows them, and which page words ask for.
+ghost use Rattle.std.specs.Prelude.{map, string_bytes};
+ghost use Rattle.asl_command_line.specs.Pages.{IsPage, IsPageOf};
 
-/// The texts of a command's help.
-#[derive(Clone, Copy)]
-pub struct Page {
-    /// What stands above the usage.
-    pub about: &'static str,
-    /// What stands at the end.
-    pub more: &'static str,
-}
+use crate::{compile_help, run_help};
 
 /// What `--version` says after the program's name.
 pub const VERSION: &str = "2, logic dac8208d650f15bf";
 
 /// The page of the program without a command.
-pub const PROGRAM: Page = Page {
-    about: "Programs with atomic sections: infers the locks of sections, runs programs step by step, and goes back and forth in recorded runs",
-    more: "Each command reads standard input to its end and writes standard output.\n\
+pub const PROGRAM: &str =
+    "Programs with atomic sections: infers the locks of sections, runs programs step by step, and goes back and forth in recorded runs\n\
+        \n\
+        Usage: asl <COMMAND>\n\
+        \n\
+        Commands:\n\
+        \u{20} compile   Infers the locks of a source's sections; no run of the program faults for a missing lock\n\
+        \u{20} check     Checks the lists of a program against its source; where they are enough, no run faults for a missing lock\n\
+        \u{20} map       Says what the numbers in a source's code stand for, and which piece of the text each instruction is of\n\
+        \u{20} explain   Says for each lock of each list which statement needs it, and how it came to the section's start\n\
+        \u{20} diagnose  Says where and why a source or an assembly text is at fault, and how to go on\n\
+        \u{20} asm       Assembles a program\n\
+        \u{20} dis       Disassembles an image\n\
+        \u{20} step      Steps the threads of a program in the given order\n\
+        \u{20} run       Lets worker threads step a program side by side, until its threads have ended or the limit is reached\n\
+        \u{20} replay    Makes the steps of a recorded run again, and compares each reply\n\
+        \u{20} log       Makes the steps of a recorded run again, and prints them\n\
+        \u{20} debug     Goes back and forth in a recorded run\n\
+        \n\
+        Options:\n\
+        \u{20} -h, --help     Print help\n\
+        \u{20} -V, --version  Print version\n\
+        \n\
+        Each command reads standard input to its end and writes standard output.\n\
         \n\
         Examples, from the top of the repository:\n\
         \u{20} ./asl compile < examples/counter.asl | ./asl step --threads 2 0 0 1 1\n\
@@ -24,46 +40,93 @@ pub const PROGRAM: Page = Page {
         Status: 0 done; 1 refused, with one line 'asl: NAME' on standard error; 2 wrong usage.\n\
         A command's --help lists the names of its refusals.\n\
         \n\
-        asl 2, proved in the logic dac8208d650f15bf",
-};
+        asl 2, proved in the logic dac8208d650f15bf\n";
 
-/// The argument `--k`.
-pub const LONGEST: &str =
-    "How many operations a path of a lock has at most, 0 to 8; 3 where it is not given";
+/// The page of the command `asm`.
+pub const ASM: &str = "Assembles a program\n\
+        \n\
+        Usage: asl asm\n\
+        \n\
+        Options:\n\
+        \u{20} -h, --help  Print help\n\
+        \n\
+        Input: assembly text (docs/ASSEMBLY.md)\n\
+        Output: the image of its program (docs/BYTES.md)\n\
+        \n\
+        Examples, from the top of the repository:\n\
+        \u{20} ./asl asm < examples/counter.asm > counter.image\n\
+        \u{20} ./asl asm < examples/push.asm | ./asl dis\n\
+        \n\
+        Status: 0 done; 1 refused, with one line 'asl: NAME' on standard error; 2 wrong usage.\n\
+        \n\
+        Refusals, where several apply the first of them:\n\
+        \u{20} Read          standard input failed\n\
+        \u{20} TooLong       the input is longer than 268435456 bytes\n\
+        \u{20} Line(n)       line n of the text is not as its place asks\n\
+        \u{20} Verify(RULE)  the program breaks a rule of docs/LIMITS.md\n\
+        \u{20} Write         standard output failed; a part of the output may have been written\n\
+        \u{20} OutOfMemory   memory ran out\n\
+        \n\
+        asl 2, proved in the logic dac8208d650f15bf\n";
 
-/// The argument `--k` of `check`.
-pub const NEEDED: &str =
-    "How many operations a path of a needed lock has at most, 0 to 8; 3 where it is not given";
+/// The page of the command `dis`.
+pub const DIS: &str = "Disassembles an image\n\
+        \n\
+        Usage: asl dis\n\
+        \n\
+        Options:\n\
+        \u{20} -h, --help  Print help\n\
+        \n\
+        Input: a program's image (docs/BYTES.md)\n\
+        Output: the canonical assembly text of its program (docs/ASSEMBLY.md)\n\
+        \n\
+        Examples, from the top of the repository:\n\
+        \u{20} ./asl compile < examples/counter.asl | ./asl dis\n\
+        \u{20} ./asl asm < examples/sum.asm | ./asl dis\n\
+        \n\
+        Status: 0 done; 1 refused, with one line 'asl: NAME' on standard error; 2 wrong usage.\n\
+        \n\
+        Refusals, where several apply the first of them:\n\
+        \u{20} Read            standard input failed\n\
+        \u{20} TooLong         the input is longer than 268435456 bytes\n\
+        \u{20} Magic, Version  the image begins with other letters, or is of a version other than 1 and 2\n\
+        \u{20} Truncated(n)    the image ends too early, at byte n\n\
+        \u{20} BadField(n)     the field at byte n of the image has a value that it cannot have\n\
+        \u{20} Trailing(n)     there are bytes after the image, from byte n on\n\
+        \u{20} Verify(RULE)    the image breaks a rule of docs/LIMITS.md\n\
+        \u{20} Write           standard output failed; a part of the output may have been written\n\
+        \u{20} OutOfMemory     memory ran out\n\
+        \n\
+        asl 2, proved in the logic dac8208d650f15bf\n";
 
-/// The flag `--all` of `explain`.
-pub const ALL: &str = "Tells every chain of links, also of locks that the list's lock contains";
+/// The page for which words ask that ask for help: that of the command that the first of them names, or else the program's.
+pub fn page_of(words: &[String]) -> &'static str
+    ensures { IsPageOf (map string_bytes words.now) result.now }
+{
+    if words.is_empty() {
+        PROGRAM
+    } else {
+        page_named(words[0].as_str())
+    }
+}
 
-/// The flag `--asm` of `diagnose`.
-pub const ASSEMBLY: &str = "Takes the input as an assembly text, in place of a source";
-
-/// The flag `--text`.
-pub const TEXT: &str = "Writes the canonical assembly text, in place of the image";
-
-/// The argument `--threads`.
-pub const THREADS: &str =
-    "How many threads the machine has: 1 to 64 where the program is of version 1, to 128 of version 2";
-
-/// The argument `--workers`.
-pub const WORKERS: &str =
-    "How many workers step them, 1 to 8: worker j steps the threads t with t mod W = j";
-
-/// The argument `--limit`.
-pub const LIMIT: &str = "How many steps are made at most, 0 to 16777216";
-
-/// The flag `--record`.
-pub const RECORD: &str = "Writes the run file, the program and its journal, in place of the lines";
-
-/// The flag `--trace`.
-pub const TRACE: &str =
-    "Says before each reply the thread's pc and depth before the step, '-' for a thread that had ended";
-
-/// The words of `step`.
-pub const SCHEDULE: &str = "The thread of each step, from 0";
-
-/// The words of `debug`.
-pub const WORDS: &str = "What the debugger is asked";
+/// The page of the command of this name, or else the program's.
+fn page_named(name: &str) -> &'static str
+    ensures { IsPage name.now result.now }
+{
+    match name {
+        "compile" => compile_help::COMPILE,
+        "check" => compile_help::CHECK,
+        "map" => compile_help::MAP,
+        "explain" => compile_help::EXPLAIN,
+        "diagnose" => compile_help::DIAGNOSE,
+        "asm" => ASM,
+        "dis" => DIS,
+        "step" => run_help::STEP,
+        "run" => run_help::RUN,
+        "replay" => run_help::REPLAY,
+        "log" => run_help::LOG,
+        "debug" => run_help::DEBUG,
+        _ => PROGRAM,
+    }
+}

@@ -2,7 +2,7 @@
 ghost use Rattle.std.specs.Prelude.{ℕ, MatchOption, IfOk, IfErr};
 ghost use Rattle.clap.specs.Walk.{texts};
 ghost use Rattle.asl_command_line.specs.Number.{AreNumbers, IsNumber};
-ghost use Rattle.asl_command_line.specs.Reading.{IsNumbersFault};
+ghost use Rattle.asl_command_line.specs.Reading.{IsNamedNumber, IsNumbersFault};
 
 use std::alloc::Global;
 
@@ -28,6 +28,7 @@ pub enum NumbersFault<'a> {
 pub fn numbers<'a>(alloc: Global, words: &[&'a str]) -> Result<Vec<u32>, NumbersFault<'a>>
     ensures ok { IfOk result (λ numbers. AreNumbers (texts words.now) numbers.items) }
     ensures err { IfErr result (IsNumbersFault (texts words.now)) }
+    ensures named { IfErr result (IsNamedNumber (texts words.now)) }
 {
     let mut numbers = Vec::new(alloc);
     for word in words {

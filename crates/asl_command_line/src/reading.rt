@@ -1,17 +1,19 @@
 //! Reads the words of a command line.
-ghost use Rattle.std.specs.Prelude.{◌≢◌, map, IfOk, string_bytes, codes};
+ghost use Rattle.std.specs.Prelude.{◌≡◌, ◌≢◌, true, map, IfOk, string_bytes, codes};
 ghost use Rattle.clap.specs.Words.{found_of, kind_of, rows_of, subcommand_rows_of};
 ghost use Rattle.asl_command_line.specs.Words.{AsksFor, IsReading, IsTaken};
 ghost use Rattle.asl_command_line.specs.Reading.{IsRefusal};
+ghost use Rattle.asl_command_line.specs.Usage.{SaysWhereHelpIs};
 
 use crate::apart::read_apart;
 use crate::argument_values::{
-    A_NUMBER, A_PATH_LIMIT, A_WORD, debug_words_at, flag_at, invalid, k_limit_at, number_at,
-    numbers_at, wrong_usage,
+    A_NUMBER, A_PATH_LIMIT, A_WORD, HELP_IS_THERE, debug_words_at, flag_at, invalid, k_limit_at,
+    number_at, numbers_at, with_help, wrong_usage,
 };
 use crate::arguments::program;
 use crate::command::{Command, Invocation, RunArguments};
 use crate::debug_words::DebugWordsFault;
+use crate::help::page_of;
 use crate::number_words::{NumbersFault, number};
 use clap::error::ErrorKind;
 use clap::{ArgMatches, Error};
@@ -37,7 +39,7 @@ pub fn read_all(alloc: Global, words: &[String]) -> Result<Invocation, AllocErro
 {
     match program(alloc)?.try_get_matches_from(words) {
         Ok(matches) => read_matches(alloc, &matches),
-        Err(error) => refused(alloc, &error),
+        Err(error) => refused(alloc, words, &error),
     }
 }
 
@@ -186,13 +188,33 @@ fn read_debug(alloc: Global, values: &ArgMatches<'_>) -> Result<Invocation, Allo
 }
 
 /// What words ask for that were not taken.
-fn refused(alloc: Global, error: &Error) -> Result<Invocation, AllocError>
-    ensures { IfOk result (λ invocation. (kind_of error.now ≢ ErrorKind.OutOfMemory) × IsRefusal (kind_of error.now) invocation) }
+fn refused(alloc: Global, words: &[String], error: &Error) -> Result<Invocation, AllocError>
+    ensures { IfOk result (λ invocation. (kind_of error.now ≢ ErrorKind.OutOfMemory)
+        × IsRefusal (kind_of error.now) (map string_bytes words.now) invocation) }
 {
     match error.kind() {
         ErrorKind::OutOfMemory => Err(AllocError),
-        ErrorKind::DisplayHelp => Ok(Invocation::Help(error.to_string(alloc)?)),
+        ErrorKind::DisplayHelp => Ok(Invocation::Help(page_of(words))),
         ErrorKind::DisplayVersion => Ok(Invocation::Version),
-        _ => Ok(Invocation::WrongUsage(error.to_string(alloc)?)),
+        _ => Ok(Invocation::WrongUsage(usage_of(alloc, error)?)),
     }
+}
+
+/// The text of an error. That it ends by saying where help is, is seen to here, since `clap` promises nothing of its texts.
+fn usage_of(alloc: Global, error: &Error) -> Result<String, AllocError>
+    ensures { IfOk result (λ text. SaysWhereHelpIs (string_bytes text)) }
+{
+    let text = error.to_string(alloc)?;
+    if says_where_help_is(text.as_str()) {
+        Ok(text)
+    } else {
+        with_help(text)
+    }
+}
+
+/// Whether the text ends by saying where help is.
+fn says_where_help_is(text: &str) -> bool
+    ensures { result ≡ true → SaysWhereHelpIs text.now }
+{
+    text.ends_with(HELP_IS_THERE)
 }

@@ -1,11 +1,19 @@
-//! The help of the commands that step a program.
-
-use crate::help::Page;
+//! The pages of the commands that step a program, as `--help` shows them.
 
 /// The page of the command `step`.
-pub const STEP: Page = Page {
-    about: "Steps the threads of a program in the given order",
-    more: "Input: a program: an image where it begins with ASLM, and else assembly text\n\
+pub const STEP: &str = "Steps the threads of a program in the given order\n\
+        \n\
+        Usage: asl step [OPTIONS] --threads <N> <T>...\n\
+        \n\
+        Arguments:\n\
+        \u{20} <T>...  The thread of each step, from 0\n\
+        \n\
+        Options:\n\
+        \u{20}     --threads <N>  How many threads the machine has: 1 to 64 where the program is of version 1, to 128 of version 2\n\
+        \u{20}     --record       Writes the run file, the program and its journal, in place of the lines\n\
+        \u{20} -h, --help         Print help\n\
+        \n\
+        Input: a program: an image where it begins with ASLM, and else assembly text\n\
         Output: a line for each step, 'NUMBER THREAD REPLY', or with --record the run file (docs/JOURNAL.md)\n\
         \n\
         Examples, from the top of the repository:\n\
@@ -26,13 +34,22 @@ pub const STEP: Page = Page {
         \u{20} Write                 standard output failed; a part of the output may have been written\n\
         \u{20} OutOfMemory           memory ran out\n\
         \n\
-        asl 2, proved in the logic dac8208d650f15bf",
-};
+        asl 2, proved in the logic dac8208d650f15bf\n";
 
 /// The page of the command `run`.
-pub const RUN: Page = Page {
-    about: "Lets worker threads step a program side by side, until its threads have ended or the limit is reached",
-    more: "Input: a program: an image where it begins with ASLM, and else assembly text\n\
+pub const RUN: &str =
+    "Lets worker threads step a program side by side, until its threads have ended or the limit is reached\n\
+        \n\
+        Usage: asl run [OPTIONS] --threads <N> --workers <W> --limit <L>\n\
+        \n\
+        Options:\n\
+        \u{20}     --threads <N>  How many threads the machine has: 1 to 64 where the program is of version 1, to 128 of version 2\n\
+        \u{20}     --workers <W>  How many workers step them, 1 to 8: worker j steps the threads t with t mod W = j\n\
+        \u{20}     --limit <L>    How many steps are made at most, 0 to 16777216\n\
+        \u{20}     --record       Writes the run file, the program and its journal, in place of the lines\n\
+        \u{20} -h, --help         Print help\n\
+        \n\
+        Input: a program: an image where it begins with ASLM, and else assembly text\n\
         Output: a line for each step, 'NUMBER THREAD REPLY', or with --record the run file (docs/JOURNAL.md)\n\
         \n\
         Examples, from the top of the repository:\n\
@@ -53,13 +70,17 @@ pub const RUN: Page = Page {
         \u{20} Write                 standard output failed; a part of the output may have been written\n\
         \u{20} OutOfMemory           memory ran out\n\
         \n\
-        asl 2, proved in the logic dac8208d650f15bf",
-};
+        asl 2, proved in the logic dac8208d650f15bf\n";
 
 /// The page of the command `replay`.
-pub const REPLAY: Page = Page {
-    about: "Makes the steps of a recorded run again, and compares each reply",
-    more: "Input: a run file (docs/JOURNAL.md)\n\
+pub const REPLAY: &str = "Makes the steps of a recorded run again, and compares each reply\n\
+        \n\
+        Usage: asl replay\n\
+        \n\
+        Options:\n\
+        \u{20} -h, --help  Print help\n\
+        \n\
+        Input: a run file (docs/JOURNAL.md)\n\
         Output: 'same M', where all M events came again\n\
         \n\
         Examples, from the top of the repository:\n\
@@ -79,13 +100,18 @@ pub const REPLAY: Page = Page {
         \u{20} Write          standard output failed; a part of the output may have been written\n\
         \u{20} OutOfMemory    memory ran out\n\
         \n\
-        asl 2, proved in the logic dac8208d650f15bf",
-};
+        asl 2, proved in the logic dac8208d650f15bf\n";
 
 /// The page of the command `log`.
-pub const LOG: Page = Page {
-    about: "Makes the steps of a recorded run again, and prints them",
-    more: "Input: a run file (docs/JOURNAL.md)\n\
+pub const LOG: &str = "Makes the steps of a recorded run again, and prints them\n\
+        \n\
+        Usage: asl log [OPTIONS]\n\
+        \n\
+        Options:\n\
+        \u{20}     --trace  Says before each reply the thread's pc and depth before the step, '-' for a thread that had ended\n\
+        \u{20} -h, --help   Print help\n\
+        \n\
+        Input: a run file (docs/JOURNAL.md)\n\
         Output: a line for each event, 'NUMBER THREAD REPLY', as step prints it; with --trace 'NUMBER THREAD PC DEPTH REPLY'\n\
         \n\
         Examples, from the top of the repository:\n\
@@ -105,13 +131,20 @@ pub const LOG: Page = Page {
         \u{20} Write          standard output failed; a part of the output may have been written\n\
         \u{20} OutOfMemory    memory ran out\n\
         \n\
-        asl 2, proved in the logic dac8208d650f15bf",
-};
+        asl 2, proved in the logic dac8208d650f15bf\n";
 
 /// The page of the command `debug`.
-pub const DEBUG: Page = Page {
-    about: "Goes back and forth in a recorded run",
-    more: "Input: a run file (docs/JOURNAL.md)\n\
+pub const DEBUG: &str = "Goes back and forth in a recorded run\n\
+        \n\
+        Usage: asl debug <WORD>...\n\
+        \n\
+        Arguments:\n\
+        \u{20} <WORD>...  What the debugger is asked\n\
+        \n\
+        Options:\n\
+        \u{20} -h, --help  Print help\n\
+        \n\
+        Input: a run file (docs/JOURNAL.md)\n\
         Output: for each word 'at K' or 'refused NAME'; for break P and clear P the word; for the last four what they show\n\
         Words: goto K, forward, back, next, prev (breakpoints), break P, clear P (P: place in the code, from 0),\n\
         view (the machine), asks (what threads ask for, and who is in the way), stack (all frames), objects\n\
@@ -134,5 +167,4 @@ pub const DEBUG: Page = Page {
         \u{20} Write          standard output failed; a part of the output may have been written\n\
         \u{20} OutOfMemory    memory ran out\n\
         \n\
-        asl 2, proved in the logic dac8208d650f15bf",
-};
+        asl 2, proved in the logic dac8208d650f15bf\n";

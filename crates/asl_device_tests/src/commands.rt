@@ -1,7 +1,6 @@
 //! The commands, each with what it reads and writes, and calls of them.
-use asl_tool::tool_alone;
+use asl_tool::{ByteSink, ByteSource, tool_alone};
 use std::alloc::{AllocError, Global};
-use std::io::{Read, Write};
 
 /// The words, what is read, and what is written with status 0.
 pub struct Command {
@@ -97,7 +96,7 @@ pub fn split(alloc: Global, line: &str) -> Result<Vec<String>, AllocError> {
 }
 
 /// The status of the words over a reader and writers. What is proved of it is not needed here, and dear where it is.
-pub fn call<R: Read, W: Write, E: Write>(
+pub fn call<R: ByteSource, W: ByteSink, E: ByteSink>(
     alloc: Global,
     words: &[String],
     reader: &mut R,

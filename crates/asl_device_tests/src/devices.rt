@@ -1,4 +1,5 @@
 //! Readers and writers over memory that move a few bytes at a time, and fail at a call of one's choice.
+use asl_tool::{ByteSink, ByteSource, write_some};
 use std::alloc::Global;
 use std::io;
 use std::io::{ErrorKind, Read, Write};
@@ -52,6 +53,12 @@ impl Read for Feed<'_> {
     }
 }
 
+impl ByteSource for Feed<'_> {
+    fn take_bytes(&mut self, buffer: &mut [u8]) -> io::Result<usize> {
+        self.read(buffer)
+    }
+}
+
 /// A reader that never ends.
 #[derive(Drop)]
 pub struct Endless;
@@ -59,6 +66,12 @@ pub struct Endless;
 impl Read for Endless {
     fn read(&mut self, buf: &mut [u8]) -> io::Result<usize> {
         Ok(buf.len())
+    }
+}
+
+impl ByteSource for Endless {
+    fn take_bytes(&mut self, buffer: &mut [u8]) -> io::Result<usize> {
+        self.read(buffer)
     }
 }
 
@@ -102,5 +115,11 @@ impl Write for Sink {
 
     fn flush(&mut self) -> io::Result<()> {
         Ok(())
+    }
+}
+
+impl ByteSink for Sink {
+    fn put_some(&mut self, bytes: &[u8]) -> io::Result<usize> {
+        write_some(self, bytes)
     }
 }

@@ -2,11 +2,11 @@
 use crate::commands::{COMMANDS, Command, call, split};
 use crate::devices::{Endless, Feed, Trouble};
 use crate::outcome::Outcome;
+use asl_tool::ByteSource;
 use std::alloc::Global;
-use std::io::Read;
 
 /// What the words come to over a reader.
-fn outcome_of<R: Read>(alloc: Global, words: &[String], reader: &mut R) -> Outcome {
+fn outcome_of<R: ByteSource>(alloc: Global, words: &[String], reader: &mut R) -> Outcome {
     let mut output = Vec::new(alloc);
     let mut errors = Vec::new(alloc);
     let status = call(alloc, words, reader, &mut output, &mut errors);

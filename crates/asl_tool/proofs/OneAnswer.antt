@@ -21,7 +21,7 @@ use Rattle.asl_command_line.specs.declared.debug_word.DebugWord.{DebugWord}
 use Rattle.asl_tool.specs.Debug.{IsDebugged, IsTalk, opened}
 use Rattle.asl_tool.specs.Command.{IsAssembled, IsDisassembled, IsRefusedText, IsRefusedImage, IsRefusedReplay}
 use Rattle.asl_tool.proofs.Talks.{talk_one}
-use Rattle.asl_tool.specs.Outcome.{IsWantOfMemory, IsOutcome}
+use Rattle.asl_tool.specs.Outcome.{IsWantOfMemory}
 use Rattle.asl_tool.proofs.OneProgram.{TextsAreOne, BytesAreOne, no_memory_image, no_memory_text}
 use Rattle.asl_tool.proofs.OneRun.{no_memory_run, replay_one, ok_no_err, err_one, no_memory_file}
 

@@ -14,7 +14,7 @@ use Rattle.asl_tool.specs.declared.input_program.ProgramFault.{ProgramFault}
 use Rattle.asl_tool.specs.declared.input_program.ProgramFault.TheVariants as program
 use Rattle.asl_tool.specs.declared.command_fault.CommandFault.TheVariants as fault
 use Rattle.asl_tool.specs.Program.{BeginsAsImage, IsProgram, IsNoProgram}
-use Rattle.asl_tool.specs.Outcome.{IsWantOfMemory, IsOutcome}
+use Rattle.asl_tool.specs.Outcome.{IsWantOfMemory}
 
 -- what the laws of texts and of bytes say
 abbrev pub TextsAreOne : Type 0

@@ -1,8 +1,6 @@
 -- `step`, `replay` and `log` have at most one outcome each: a program and its journal settle it.
 use Rattle.std.proofs.Common.{◌≡◌, ◌≢◌, ℕ, ◌<◌, List, arith, All, Bool, Result, Ok, Err, MatchResult, refl, sym, ap, ◌∙◌, subst}
 use Rattle.asl_code.specs.declared.image.Image.{Image}
-use Rattle.asl_assembler.specs.Faults as text
-use Rattle.asl_loader.specs.Faults as bytes
 use Rattle.asl_journal.specs.declared.fault.JournalFault.{JournalFault}
 use Rattle.asl_journal.specs.declared.fault.JournalFault.TheVariants as journal
 use Rattle.asl_journal.specs.Journal.{Log, IsJournal}
@@ -13,7 +11,6 @@ use Rattle.asl_journal.specs.declared.run_file.FileFault.TheVariants as file
 use Rattle.asl_journal.specs.RunFile.{IsFileOutcome}
 use Rattle.asl_journal.proofs.RunFiles.{file_outcome_is_one}
 use Rattle.asl_tool.specs.declared.input_program.ProgramFault.{ProgramFault}
-use Rattle.asl_tool.specs.declared.input_program.ProgramFault.TheVariants as program
 use Rattle.asl_tool.specs.declared.command_fault.CommandFault.{CommandFault}
 use Rattle.asl_tool.specs.declared.command_fault.CommandFault.TheVariants as fault
 use Rattle.asl_tool.specs.Step.{IsStepped, written}

@@ -1,8 +1,9 @@
 -- What a loop of reads has done: what was read, and then what the reader has left, are all bytes that it had.
-use Rattle.std.proofs.Common.{◌≡◌, ℕ, ◌+◌, List, ◌++◌, length, None, Some, IfSome, refl, sym, ◌∙◌, ap, subst, append_assoc}
+use Rattle.std.proofs.Common.{◌≡◌, ℕ, ◌+◌, ◌<◌, List, ◌++◌, length, None, Some, IfSome, refl, sym, ◌∙◌, ap, subst, append_assoc}
 use Rattle.std.proofs.lemmas.List.{length-append}
 use Rattle.std.proofs.lemmas.Option.{none-some}
 use Rattle.std.specs.declared.option.Option.{Option}
+use Rattle.std.specs.Prelude.{IfNone, IsNone}
 use Rattle.std.specs.Io.KnownBytes.{Consumes}
 
 -- so many bytes were read, of which this holds
@@ -25,3 +26,14 @@ parted_more bytes None new read count taken P Q p c e f = absurd (none-some p.1 
 parted_more bytes (Some old) None read count taken P Q p c e f = absurd c
 parted_more bytes (Some old) (Some new) read count taken P Q p c e f =
     (p.0 ++ taken, new, refl, append_assoc p.0 taken new ∙ ap (λ l. p.0 ++ l) (sym c ∙ subst (λ o. IfSome o (λ xs. old ≡ xs)) p.2 refl) ∙ p.3, length-append p.0 taken ∙ ap (λ n. n + length taken) p.4 ∙ ap (λ n. read + n) e, f p.0 p.5)
+
+-- a reader of which nothing is known now is one of which nothing was known
+pub none_at_first : (old new : Option (List ℕ)) (read : ℕ) (P : List ℕ → Type 0) → ((bytes : List ℕ) → old ≡ Some bytes → Parted bytes new read P) → IsNone new → IsNone old
+none_at_first None new read P told none = refl
+none_at_first (Some bytes) None read P told none = let p = told bytes refl in absurd (none-some p.1 p.2)
+none_at_first (Some bytes) (Some rest) read P told none = none
+
+-- where something was read, whatever was kept
+pub some_read : {T : Type 0} (kept : Option T) (read : ℕ) → 0 < read → IfNone kept (0 < read)
+some_read None read some = some
+some_read (Some all) read some = tt

@@ -14,8 +14,8 @@ use Rattle.asl_debugger.specs.Halts.{IsHalt, IsNextHalt, IsLastHalt}
 use Rattle.asl_debugger.proofs.Places.{without_place}
 use Rattle.asl_debugger.proofs.ByTable.{is_shown, next_stop_of, last_stop_of}
 use Rattle.asl_debugger.proofs.Halts.{IsSearching, searching_start, searching_next, found_next, IsNoneFrom, none_from_start, none_found}
-use Rattle.asl_tool.specs.declared.debugging.Answer.{Answer}
-use Rattle.asl_tool.specs.declared.debugging.Answer.TheVariants.{At, AtEnd, AtStart, NoSuchStep}
+use Rattle.asl_tool.specs.declared.commands.debug.Answer.{Answer}
+use Rattle.asl_tool.specs.declared.commands.debug.Answer.TheVariants.{At, AtEnd, AtStart, NoSuchStep}
 use Rattle.asl_command_line.specs.declared.debug_word.DebugWord.{DebugWord}
 use Rattle.asl_command_line.specs.declared.debug_word.DebugWord.TheVariants as word
 use Rattle.asl_command_line.specs.declared.debug_word.Move.{Move}

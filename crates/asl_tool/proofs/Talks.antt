@@ -1,5 +1,5 @@
 -- Words to a debugger have at most one answer: each move leads to one position, whatever list keeps the breakpoints.
-use Rattle.std.proofs.Common.{◌≡◌, ◌==◌, ◌&&◌, ℕ, ◌+◌, ◌<◌, inl, inr, Bool, true, false, IsTrue, if◌then◌else◌, List, [], ◌∷◌, ◌++◌, Option, None, Some, IsSomeAnd, refl, sym, ap, ap₂, subst, ◌∙◌, arith}
+use Rattle.std.proofs.Common.{◌≡◌, ◌==◌, ◌&&◌, ℕ, ◌<◌, inl, inr, Bool, true, false, IsTrue, if◌then◌else◌, List, [], ◌∷◌, ◌++◌, Option, None, Some, IsSomeAnd, refl, sym, ap, ap₂, subst, ◌∙◌, arith}
 use Rattle.std.proofs.lemmas.Bool.{cases_lt}
 use Rattle.asl_code.specs.declared.image.Image.{Image}
 use Rattle.asl_machine.specs.State.{State, Activity, activity_at}
@@ -8,8 +8,8 @@ use Rattle.asl_journal.specs.Journal.{Log, IsJournal}
 use Rattle.asl_debugger.specs.Breaks.{has_break, is_place, HasBreak, HasNoBreak}
 use Rattle.asl_debugger.specs.Session.{Session, IsAtBreak, IsStop, IsNextStop, IsLastStop}
 use Rattle.asl_debugger.proofs.ByTable.{shown_is}
-use Rattle.asl_tool.specs.declared.debugging.Answer.{Answer}
-use Rattle.asl_tool.specs.declared.debugging.Answer.TheVariants.{At, AtEnd, AtStart, NoSuchStep}
+use Rattle.asl_tool.specs.declared.commands.debug.Answer.{Answer}
+use Rattle.asl_tool.specs.declared.commands.debug.Answer.TheVariants.{At, AtEnd, AtStart, NoSuchStep}
 use Rattle.asl_command_line.specs.declared.debug_word.DebugWord.{DebugWord}
 use Rattle.asl_command_line.specs.declared.debug_word.DebugWord.TheVariants as word
 use Rattle.asl_command_line.specs.declared.debug_word.Move.{Move}

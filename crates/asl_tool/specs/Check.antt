@@ -9,7 +9,6 @@ use Rattle.asl_soundness.specs.Safe.{NeverFaultsForLocks}
 use Rattle.asl_atomicity.specs.Serial.{HasSerialRuns}
 use Rattle.asl_atomicity.specs.Renamed.{HasSerialRunsUpTo}
 use Rattle.asl_check.specs.Refused as lists
-use Rattle.asl_syntax.specs.declared.fault.SyntaxFault.{SyntaxFault}
 use Rattle.asl_check.specs.declared.fault.CheckFault.{CheckFault}
 use Rattle.asl_tool.specs.declared.input_program.ProgramFault.{ProgramFault}
 use Rattle.asl_tool.specs.declared.command_fault.CommandFault.{CommandFault}

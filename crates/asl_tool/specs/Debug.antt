@@ -9,8 +9,8 @@ use Rattle.asl_machine.specs.View.{Configuration}
 use Rattle.asl_debugger.specs.Session.{Session, IsNextStop, IsLastStop, IsShown, moved, with_breaks}
 use Rattle.asl_debugger.specs.declared.fault.DebugFault.{DebugFault}
 use Rattle.asl_debugger.specs.declared.fault.DebugFault.TheVariants as fault
-use Rattle.asl_tool.specs.declared.debugging.Answer.{Answer}
-use Rattle.asl_tool.specs.declared.debugging.Answer.TheVariants.{At, AtEnd, AtStart, NoSuchStep}
+use Rattle.asl_tool.specs.declared.commands.debug.Answer.{Answer}
+use Rattle.asl_tool.specs.declared.commands.debug.Answer.TheVariants.{At, AtEnd, AtStart, NoSuchStep}
 use Rattle.asl_command_line.specs.declared.debug_word.DebugWord.{DebugWord}
 use Rattle.asl_command_line.specs.declared.debug_word.DebugWord.TheVariants as word
 use Rattle.asl_command_line.specs.declared.debug_word.Move.{Move}

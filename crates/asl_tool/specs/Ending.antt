@@ -1,7 +1,7 @@
 -- The status of a run of the program, and what it says on standard error, by how it ends (docs/CLI.md, "Status").
 use Rattle.std.specs.Prelude.{ℕ, List, []}
-use Rattle.asl_tool.specs.declared.ending.Ending.{Ending}
-use Rattle.asl_tool.specs.declared.ending.Ending.TheVariants.{Done, Refused, WrongUsage}
+use Rattle.asl_tool.specs.declared.endings.ending.Ending.{Ending}
+use Rattle.asl_tool.specs.declared.endings.ending.Ending.TheVariants.{Done, Refused, WrongUsage}
 use Rattle.asl_tool.specs.FaultLine.{fault_line}
 
 -- the status

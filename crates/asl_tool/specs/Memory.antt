@@ -7,8 +7,8 @@ use Rattle.asl_command_line.specs.declared.command.Invocation.TheVariants.{Alone
 use Rattle.asl_tool.specs.declared.streams.ReadFault.TheVariants as read
 use Rattle.asl_tool.specs.declared.tool_fault.ToolFault.{ToolFault}
 use Rattle.asl_tool.specs.declared.tool_fault.ToolFault.TheVariants as fault
-use Rattle.asl_tool.specs.declared.ending.Ending.{Ending}
-use Rattle.asl_tool.specs.declared.ending.Ending.TheVariants as ending
+use Rattle.asl_tool.specs.declared.endings.ending.Ending.{Ending}
+use Rattle.asl_tool.specs.declared.endings.ending.Ending.TheVariants as ending
 use Rattle.asl_tool.specs.Streams.{most_input}
 use Rattle.asl_tool.specs.Command.{IsOutput, IsRunFile, IsRefusedCommand}
 use Rattle.asl_tool.specs.Tool.{IsAsked, version_text}
@@ -30,7 +30,7 @@ IsCommandEnding command input output (ending.WrongUsage text) = ⊥
 abbrev pub IsEnding : Option Invocation → List ℕ → List ℕ → Ending → Type 0
 IsEnding (Some (Alone command)) input output e = IsCommandEnding command input output e
 IsEnding (Some (Run team)) input output e = ⊥
-IsEnding (Some (Help text)) input output e = (e ≡ ending.Done) × (output ≡ text.bytes.items)
+IsEnding (Some (Help page)) input output e = (e ≡ ending.Done) × (output ≡ page.now)
 IsEnding (Some Version) input output e = (e ≡ ending.Done) × (output ≡ version_text)
 IsEnding (Some (WrongUsage text)) input output e = (e ≡ ending.WrongUsage text) × (output ≡ [])
 IsEnding None input output e = (e ≡ ending.Refused fault.OutOfMemory) × (output ≡ [])

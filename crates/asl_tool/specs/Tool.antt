@@ -2,7 +2,7 @@
 -- (docs/CLI.md, "Refusals"). `unread`, `unwritten` and `tells` stand for what the contracts put there. The first two: that the
 -- reader, or the writer, is the very value that it was at first. That is more than that its bytes are the same: of a writer that
 -- may be any one no call is known to keep the value, not even a flush. The third: that standard error got this text, or, where its
--- writer failed, a first part of it.
+-- writer is not known to have room for it, a first part of it. `room` is how many bytes the writer takes for sure, where that is known.
 use Rattle.std.specs.Prelude.{◌≡◌, ◌≤◌, ◌⊎◌, ℕ, List, Option, None, Some, IfSome, codes, length}
 use Rattle.std.specs.Io.KnownBytes.{Appends}
 use Rattle.asl_command_line.specs.declared.command.Command.{Command}
@@ -15,7 +15,7 @@ use Rattle.asl_tool.specs.declared.streams.WriteFault.{WriteFault}
 use Rattle.asl_tool.specs.declared.tool_fault.ToolFault.{ToolFault}
 use Rattle.asl_tool.specs.declared.tool_fault.ToolFault.TheVariants as fault
 use Rattle.asl_tool.specs.FaultLine.{fault_line}
-use Rattle.asl_tool.specs.Streams.{AppendsPart, IsReadFault, most_input}
+use Rattle.asl_tool.specs.Streams.{AppendsPart, IsReadFault, LacksRoom, most_input}
 use Rattle.asl_tool.specs.Command.{IsOutput, IsRunFile, IsRefusedCommand}
 use Rattle.asl_tool.specs.Work.{IsWorkOutput, IsRefusedWork}
 
@@ -44,12 +44,13 @@ pub record WritesOutput (known old new : Option (List ℕ)) (promise : Promise) 
   pub made : promise.output input output
   pub written : Appends old new output
 
--- the writer got a first part of the command's output for the input
-pub record WritesPart (known old new : Option (List ℕ)) (promise : Promise) : Type 0 where
+-- the writer got a first part of the command's output for the input, for all of which it is not known to have room
+pub record WritesPart (known : Option (List ℕ)) (room : Option ℕ) (old new : Option (List ℕ)) (promise : Promise) : Type 0 where
   pub input : List ℕ
   pub output : List ℕ
   pub whole : IsWhole known input
   pub made : promise.output input output
+  pub full : LacksRoom room output
   pub part : AppendsPart old new output
 
 -- the input is refused, and the writer is as it was
@@ -61,23 +62,24 @@ pub record RefusesInput (unwritten : Type 0) (known : Option (List ℕ)) (promis
 
 -- what each fault leaves: all but one of the writer leave the writer as it was. Lack of memory for the words is no fault of a
 -- command
-abbrev pub Refuses : Type 0 → Option (List ℕ) → Option (List ℕ) → Option (List ℕ) → Promise → ToolFault → Type 0
-Refuses unwritten known old new promise (fault.Read cause) = IsReadFault known cause × unwritten
-Refuses unwritten known old new promise (fault.Command cause) = RefusesInput unwritten known promise cause
-Refuses unwritten known old new promise (fault.Write cause) = WritesPart known old new promise
-Refuses unwritten known old new promise fault.OutOfMemory = ⊥
+abbrev pub Refuses : Type 0 → Option (List ℕ) → Option ℕ → Option (List ℕ) → Option (List ℕ) → Promise → ToolFault → Type 0
+Refuses unwritten known room old new promise (fault.Read cause) = IsReadFault known cause × unwritten
+Refuses unwritten known room old new promise (fault.Command cause) = RefusesInput unwritten known promise cause
+Refuses unwritten known room old new promise (fault.Write cause) = WritesPart known room old new promise
+Refuses unwritten known room old new promise fault.OutOfMemory = ⊥
 
 -- the status of a command, with what the writer got: 0 with the output, 1 with a refusal, whose line standard error gets
-abbrev pub IsCommandStatus : Type 0 → (List ℕ → Type 0) → Option (List ℕ) → Option (List ℕ) → Option (List ℕ) → Promise → ℕ → Type 0
-IsCommandStatus unwritten tells known old new promise status =
+abbrev pub IsCommandStatus : Type 0 → (List ℕ → Type 0) → Option (List ℕ) → Option ℕ → Option (List ℕ) → Option (List ℕ) → Promise → ℕ → Type 0
+IsCommandStatus unwritten tells known room old new promise status =
     ((status ≡ 0) × WritesOutput known old new promise)
-    ⊎ ((status ≡ 1) × ((f : ToolFault) × Refuses unwritten known old new promise f × tells (fault_line f)))
+    ⊎ ((status ≡ 1) × ((f : ToolFault) × Refuses unwritten known room old new promise f × tells (fault_line f)))
 
--- the status of a text that is shown: 0 with the text, 1 with a first part of it, and the line that the output failed
-abbrev pub IsTextStatus : (List ℕ → Type 0) → Option (List ℕ) → Option (List ℕ) → List ℕ → ℕ → Type 0
-IsTextStatus tells old new text status =
+-- the status of a text that is shown: 0 with the text, 1 with a first part of it, where the writer is not known to have room for all, and
+-- the line that the output failed
+abbrev pub IsTextStatus : (List ℕ → Type 0) → Option ℕ → Option (List ℕ) → Option (List ℕ) → List ℕ → ℕ → Type 0
+IsTextStatus tells room old new text status =
     ((status ≡ 0) × Appends old new text)
-    ⊎ ((status ≡ 1) × ((f : WriteFault) × AppendsPart old new text × tells (fault_line (fault.Write f))))
+    ⊎ ((status ≡ 1) × ((f : WriteFault) × LacksRoom room text × AppendsPart old new text × tells (fault_line (fault.Write f))))
 
 -- which version of the program this is, and in which logic it is proved
 abbrev pub version_text : List ℕ
@@ -91,19 +93,19 @@ IsAsked words None = Unit {0}
 -- the status of what was asked, with what the writer got, and what standard error got: 2 is for wrong usage alone, with its text.
 -- Unless a command was asked for, the reader is as it was (`unread`); where there is nothing to write, the writer is as it was
 -- (`unwritten`)
-abbrev pub IsStatus : Type 0 → Type 0 → (List ℕ → Type 0) → Option (List ℕ) → Option (List ℕ) → Option (List ℕ) → ℕ → Option Invocation → Type 0
-IsStatus unread unwritten tells known old new status (Some (Alone command)) = IsCommandStatus unwritten tells known old new (of_command command) status
-IsStatus unread unwritten tells known old new status (Some (Run team)) = IsCommandStatus unwritten tells known old new (of_team team) status
-IsStatus unread unwritten tells known old new status (Some (Help text)) = unread × IsTextStatus tells old new text.bytes.items status
-IsStatus unread unwritten tells known old new status (Some Version) = unread × IsTextStatus tells old new version_text status
-IsStatus unread unwritten tells known old new status (Some (WrongUsage text)) = unread × (unwritten × ((status ≡ 2) × tells text.bytes.items))
-IsStatus unread unwritten tells known old new status None = unread × (unwritten × ((status ≡ 1) × tells (fault_line fault.OutOfMemory)))
+abbrev pub IsStatus : Type 0 → Type 0 → (List ℕ → Type 0) → Option (List ℕ) → Option ℕ → Option (List ℕ) → Option (List ℕ) → ℕ → Option Invocation → Type 0
+IsStatus unread unwritten tells known room old new status (Some (Alone command)) = IsCommandStatus unwritten tells known room old new (of_command command) status
+IsStatus unread unwritten tells known room old new status (Some (Run team)) = IsCommandStatus unwritten tells known room old new (of_team team) status
+IsStatus unread unwritten tells known room old new status (Some (Help page)) = unread × IsTextStatus tells room old new page.now status
+IsStatus unread unwritten tells known room old new status (Some Version) = unread × IsTextStatus tells room old new version_text status
+IsStatus unread unwritten tells known room old new status (Some (WrongUsage text)) = unread × (unwritten × ((status ≡ 2) × tells text.bytes.items))
+IsStatus unread unwritten tells known room old new status None = unread × (unwritten × ((status ≡ 1) × tells (fault_line fault.OutOfMemory)))
 
 -- the status is that of what the words ask for, and so is what standard error gets
-pub record EndsWith (words : List (List ℕ)) (unread unwritten : Type 0) (tells : List ℕ → Type 0) (known old new : Option (List ℕ)) (status : ℕ) : Type 0 where
+pub record EndsWith (words : List (List ℕ)) (unread unwritten : Type 0) (tells : List ℕ → Type 0) (known : Option (List ℕ)) (room : Option ℕ) (old new : Option (List ℕ)) (status : ℕ) : Type 0 where
   pub invocation : Option Invocation
   pub is_asked : IsAsked words invocation
-  pub is_status : IsStatus unread unwritten tells known old new status invocation
+  pub is_status : IsStatus unread unwritten tells known room old new status invocation
 
 -- not the command `run`
 abbrev pub IsNoWork : Option Invocation → Type 0
@@ -111,11 +113,11 @@ IsNoWork (Some (Run team)) = ⊥
 IsNoWork asked = Unit {0}
 
 -- the same where the words do not ask for `run`
-pub record EndsAlone (words : List (List ℕ)) (unread unwritten : Type 0) (tells : List ℕ → Type 0) (known old new : Option (List ℕ)) (status : ℕ) : Type 0 where
+pub record EndsAlone (words : List (List ℕ)) (unread unwritten : Type 0) (tells : List ℕ → Type 0) (known : Option (List ℕ)) (room : Option ℕ) (old new : Option (List ℕ)) (status : ℕ) : Type 0 where
   pub invocation : Option Invocation
   pub waits_not : IsNoWork invocation
   pub is_asked : IsAsked words invocation
-  pub is_status : IsStatus unread unwritten tells known old new status invocation
+  pub is_status : IsStatus unread unwritten tells known room old new status invocation
 
 -- the words ask for `run`
 abbrev pub AsksForWork : List (List ℕ) → Type 0

@@ -3,7 +3,8 @@ use Rattle.std.specs.Prelude.{◌≡◌, ◌≤◌, ◌⊎◌, ℕ, All, List, O
 use Rattle.asl_code.specs.declared.image.Image.{Image}
 use Rattle.asl_machine.specs.State.{State}
 use Rattle.asl_journal.specs.Journal.{Log, IsJournal, LeadsTo}
-use Rattle.asl_runner.specs.History.{HaveEnded, IsAsked, WasRunning}
+use Rattle.asl_journal.specs.declared.event.Receipt.{Receipt}
+use Rattle.asl_runner.specs.History.{AreDealt, HaveEnded, IsAsked, WasRunning}
 use Rattle.asl_runner.specs.Refused.{IsRefusal}
 use Rattle.asl_runner.specs.declared.fault.RunFault.{RunFault}
 use Rattle.asl_runner.specs.declared.report.Report.{Report}
@@ -13,11 +14,14 @@ use Rattle.asl_tool.specs.declared.command_fault.CommandFault.TheVariants as fau
 use Rattle.asl_tool.specs.Program.{IsProgram, IsNoProgram}
 use Rattle.asl_tool.specs.Step.{written}
 
--- the journal is one that the workers may leave of the program: no step of it is of a thread that had ended before, it has at
--- most so many events as the limit says, and either each thread has ended in the state to which it leads or there are exactly so many
+-- the journal is one that the workers may leave of the program: it is dealt out to as many of them as were asked for, no step of it is of a
+-- thread that had ended before, it has at most so many events as the limit says, and either each thread has ended in the state to which
+-- it leads or there are exactly so many
 pub record IsWorked (image : Image) (team : RunArguments) (log : Log) : Type 0 where
   pub threads_are : log.threads ≡ team.threads
   pub journal : IsJournal image team.threads log.events
+  pub receipts : List (List Receipt)
+  pub dealt : AreDealt team.workers log.events receipts
   pub running : All (λ event. WasRunning event.reply) log.events
   pub short : length log.events ≤ team.limit
   pub state : State

@@ -1,10 +1,10 @@
 //! Reading the whole of the input, and writing the whole of the output.
-ghost use Rattle.std.specs.Prelude.{◌≡◌, ◌<◌, ◌≤◌, ◌++◌, ℕ, List, length, [], take, IfOk, IfErr, IfSome, OnOk, OnErr};
+ghost use Rattle.std.specs.Prelude.{◌≡◌, ◌<◌, ◌≤◌, ◌++◌, ℕ, List, length, IfOk, IfErr, IfSome, OnOk, OnErr};
 ghost use Rattle.std.specs.Io.KnownBytes.{Appends};
-ghost use Rattle.asl_tool.specs.Streams.{AppendsPart, IsReadFault, most_input};
+ghost use Rattle.asl_tool.specs.Streams.{AppendsPart, IsReadFault, LacksRoom, Tells, most_input};
 
+use crate::byte_streams::{ByteSink, ByteSource};
 use std::alloc::Global;
-use std::io::{Read, Write};
 use thiserror::Error;
 
 /// The most bytes that an input may have.
@@ -13,7 +13,7 @@ pub const MAX_INPUT: usize = 268_435_456;
 /// Why the input was not read to its end.
 #[derive(Clone, Copy, Debug, PartialEq, Eq, Error)]
 pub enum ReadFault {
-    /// The reader failed; a read that was interrupted counts too.
+    /// The reader failed; a read that was interrupted counts too. One whose bytes are known does not.
     #[error("Read")]
     Read,
     /// There are more than 268,435,456 bytes.
@@ -35,7 +35,7 @@ pub struct WriteFault;
 ///
 /// `TooLong`, `Read`, or `OutOfMemory` where an allocation failed: the input is then read on and not kept, so that want of
 /// memory hides neither an input that is too long nor a reader that fails.
-pub fn read_whole<R: Read>(alloc: Global, reader: &mut R) -> Result<Vec<u8>, ReadFault>
+pub fn read_whole<R: ByteSource>(alloc: Global, reader: &mut R) -> Result<Vec<u8>, ReadFault>
     ensures whole { IfOk result (λ all. IfSome (R.remaining reader.old) (λ bytes. all.items ≡ bytes)) }
     ensures short { IfOk result (λ all. length all.items ≤ most_input) }
     ensures fault { IfErr result (IsReadFault (R.remaining reader.old)) }
@@ -44,7 +44,10 @@ pub fn read_whole<R: Read>(alloc: Global, reader: &mut R) -> Result<Vec<u8>, Rea
     let mut read = 0;
     let mut buffer = [0u8; 4096];
     for _ in 0..u64::MAX {
-        let count = reader.read(&mut buffer).map_err(|_| ReadFault::Read)?;
+        let count = match reader.take_bytes(&mut buffer) {
+            Ok(count) => count,
+            Err(_) => return Err(ReadFault::Read),
+        };
         if count == 0 {
             return kept.ok_or(ReadFault::OutOfMemory);
         }
@@ -72,32 +75,20 @@ fn with_bytes(kept: Option<Vec<u8>>, bytes: &[u8]) -> Option<Vec<u8>>
 ///
 /// # Errors
 ///
-/// The writer failed, or took no byte; it holds a first part of the bytes then.
-pub fn write_whole<W: Write>(writer: &mut W, bytes: &[u8]) -> Result<(), WriteFault>
+/// The writer failed, or took no byte; it holds a first part of the bytes then. One that is known to have room for all does not fail.
+pub fn write_whole<W: ByteSink>(writer: &mut W, bytes: &[u8]) -> Result<(), WriteFault>
     ensures ok { OnOk result (Appends (W.contents writer.old) (W.contents writer.new) bytes.now) }
     ensures err { OnErr result (AppendsPart (W.contents writer.old) (W.contents writer.new) bytes.now) }
-    ensures part { AppendsPart (W.contents writer.old) (W.contents writer.new) bytes.now }
+    ensures full { OnErr result (LacksRoom (W.room writer.old) bytes.now) }
+    ensures told { Tells (W.room writer.old) (W.contents writer.old) (W.contents writer.new) bytes.now }
 {
     let mut rest = bytes;
-    for _ in 0..u64::MAX {
-        if rest.is_empty() {
-            return Ok(());
-        }
-        let count = write_some(writer, rest)?;
+    while !rest.is_empty() {
+        let count = match writer.put_some(rest) {
+            Ok(count) => count,
+            Err(_) => return Err(WriteFault),
+        };
         rest = rest.split_at(count).1;
     }
-    Err(WriteFault)
-}
-
-/// Writes one byte or more of `bytes`, and says how many.
-fn write_some<W: Write>(writer: &mut W, bytes: &[u8]) -> Result<usize, WriteFault>
-    ensures some { IfOk result (λ count. (0 < count) × (count ≤ length bytes.now)) }
-    ensures ok { IfOk result (λ count. Appends (W.contents writer.old) (W.contents writer.new) (take count bytes.now)) }
-    ensures err { OnErr result (Appends (W.contents writer.old) (W.contents writer.new) []) }
-{
-    match writer.write(bytes) {
-        Ok(0) => Err(WriteFault),
-        Ok(count) => Ok(count),
-        Err(_) => Err(WriteFault),
-    }
+    Ok(())
 }

@@ -2,8 +2,9 @@
 ghost use Rattle.std.specs.Prelude.{◌≡◌, ◌+◌, ◌<◌, ◌≤◌, ◌++◌, length, OnOk, OnErr};
 ghost use Rattle.std.specs.Io.KnownBytes.{Appends};
 ghost use Rattle.asl_tool.specs.FaultLine.{read_text, program_text, command_text, fault_text, fault_line};
-ghost use Rattle.asl_tool.specs.Streams.{AppendsPart};
+ghost use Rattle.asl_tool.specs.Streams.{Tells};
 
+use crate::byte_streams::ByteSink;
 use crate::command_fault::CommandFault;
 use crate::input_program::ProgramFault;
 use crate::streams::{ReadFault, WriteFault, write_whole};
@@ -12,7 +13,6 @@ use asl_refusal_text::{
     Line, push, push_assembly, push_check, push_file, push_image, push_infer, push_journal,
     push_map, push_run, push_source,
 };
-use std::io::Write;
 
 /// Why the program did not do what its words ask for. The name is what standard error gets.
 #[derive(Debug, Drop)]
@@ -110,9 +110,9 @@ pub fn line_of(fault: &ToolFault) -> Line
 /// # Errors
 ///
 /// The writer failed, or took no byte; it holds a first part of the line then.
-pub fn tell<E: Write>(errors: &mut E, fault: &ToolFault) -> Result<(), WriteFault>
+pub fn tell<E: ByteSink>(errors: &mut E, fault: &ToolFault) -> Result<(), WriteFault>
     ensures ok { OnOk result (Appends (E.contents errors.old) (E.contents errors.new) (fault_line fault.now)) }
-    ensures part { AppendsPart (E.contents errors.old) (E.contents errors.new) (fault_line fault.now) }
+    ensures told { Tells (E.room errors.old) (E.contents errors.old) (E.contents errors.new) (fault_line fault.now) }
 {
     let line = line_of(fault);
     write_whole(errors, line.as_slice())

@@ -1,5 +1,6 @@
 //! Readers and writers for tests: they move a few bytes at a time, and fail at a call of one's choice.
 
+use asl_tool::{ByteSink, ByteSource, write_some};
 use std::alloc::Global;
 use std::io;
 use std::io::{ErrorKind, Read, Write};
@@ -40,6 +41,12 @@ impl Read for Feed<'_> {
     }
 }
 
+impl ByteSource for Feed<'_> {
+    fn take_bytes(&mut self, buffer: &mut [u8]) -> io::Result<usize> {
+        self.read(buffer)
+    }
+}
+
 /// A reader that never ends.
 #[derive(Drop)]
 pub struct Endless;
@@ -47,6 +54,12 @@ pub struct Endless;
 impl Read for Endless {
     fn read(&mut self, buf: &mut [u8]) -> io::Result<usize> {
         Ok(buf.len())
+    }
+}
+
+impl ByteSource for Endless {
+    fn take_bytes(&mut self, buffer: &mut [u8]) -> io::Result<usize> {
+        self.read(buffer)
     }
 }
 
@@ -91,5 +104,11 @@ impl Write for Sink {
 
     fn flush(&mut self) -> io::Result<()> {
         Ok(())
+    }
+}
+
+impl ByteSink for Sink {
+    fn put_some(&mut self, bytes: &[u8]) -> io::Result<usize> {
+        write_some(self, bytes)
     }
 }

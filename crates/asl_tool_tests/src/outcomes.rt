@@ -1,7 +1,6 @@
 //! What words come to, over whatever reader and writer.
-use asl_tool::tool_alone;
+use asl_tool::{ByteSink, ByteSource, tool_alone};
 use std::alloc::{AllocError, Global};
-use std::io::{Read, Write};
 
 /// The status, what is written, and what is said.
 #[derive(Drop)]
@@ -32,7 +31,7 @@ pub fn split(alloc: Global, line: &str) -> Result<Vec<String>, AllocError> {
 }
 
 /// The status of the words over a reader and a writer, and what is said.
-fn call<R: Read, W: Write>(
+fn call<R: ByteSource, W: ByteSink>(
     alloc: Global,
     words: &[String],
     reader: &mut R,
@@ -44,7 +43,7 @@ fn call<R: Read, W: Write>(
 }
 
 /// The same of the words of a line.
-pub fn said<R: Read, W: Write>(
+pub fn said<R: ByteSource, W: ByteSink>(
     alloc: Global,
     line: &str,
     reader: &mut R,
@@ -55,7 +54,7 @@ pub fn said<R: Read, W: Write>(
 }
 
 /// What words come to over a reader.
-fn come_to<R: Read>(alloc: Global, words: &[String], reader: &mut R) -> Outcome {
+fn come_to<R: ByteSource>(alloc: Global, words: &[String], reader: &mut R) -> Outcome {
     let mut output = Vec::new(alloc);
     let (status, errors) = call(alloc, words, reader, &mut output);
     Outcome {
@@ -66,7 +65,7 @@ fn come_to<R: Read>(alloc: Global, words: &[String], reader: &mut R) -> Outcome 
 }
 
 /// What the words of a line come to over a reader.
-pub fn outcome_of<R: Read>(alloc: Global, line: &str, reader: &mut R) -> Option<Outcome> {
+pub fn outcome_of<R: ByteSource>(alloc: Global, line: &str, reader: &mut R) -> Option<Outcome> {
     let words = split(alloc, line).ok()?;
     Some(come_to(alloc, words.as_slice(), reader))
 }

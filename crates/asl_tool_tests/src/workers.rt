@@ -2,9 +2,8 @@
 use crate::commands::IMAGE;
 use crate::fakes::{Endless, Feed};
 use crate::outcomes::{Outcome, is_done, outcome_of, split};
-use asl_tool::tool;
+use asl_tool::{ByteSource, tool};
 use std::alloc::Global;
-use std::io::Read;
 use std::sync::Wait;
 use std::thread::Threads;
 
@@ -13,7 +12,7 @@ static COUNTER: &[u8] =
     int r3, 1\nadd r4, r2, r3\nstore r1, r4\nrel\nret r0\nlist\nexpr r1 write\n";
 
 /// What words come to over a reader, where they may start threads.
-fn work<H: Threads + Wait + Sync, R: Read>(
+fn work<H: Threads + Wait + Sync, R: ByteSource>(
     rt: &H,
     alloc: Global,
     words: &[String],
@@ -30,7 +29,7 @@ fn work<H: Threads + Wait + Sync, R: Read>(
 }
 
 /// The same of the words of a line.
-fn worked_over<H: Threads + Wait + Sync, R: Read>(
+fn worked_over<H: Threads + Wait + Sync, R: ByteSource>(
     rt: &H,
     alloc: Global,
     line: &str,

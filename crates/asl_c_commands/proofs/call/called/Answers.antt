@@ -1,5 +1,5 @@
 use Rattle.std.proofs.Common.{◌≡◌, List, ℕ, IfOk, rules, refl, inr, map, subst, string_bytes}
-use Rattle.asl_tool.specs.declared.over_memory.Ended.{Ended}
+use Rattle.asl_tool.specs.declared.endings.over_memory.Ended.{Ended}
 use Rattle.asl_tool.specs.Memory.{EndsOver}
 use Rattle.asl_tool.specs.Tool.{AsksForWork}
 use Rattle.asl_c_commands.specs.Words.{words_of}

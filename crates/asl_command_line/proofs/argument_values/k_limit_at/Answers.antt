@@ -2,7 +2,7 @@ use Rattle.std.proofs.Common.{◌≡◌, ℕ, sym, subst, codes, Option}
 use Rattle.std.specs.Prelude.{MatchOption}
 use Rattle.clap.specs.Words.{Text, found_of}
 use Rattle.asl_command_line.specs.Number.{IsNumber}
-use Rattle.asl_command_line.proofs.Values.{some_first, none_first}
+use Rattle.asl_command_line.proofs.Values.{some_first, none_first, some_value}
 use Rattle.asl_command_line.proofs.argument_values.k_limit_at.Goals as goal
 
 -- how long paths may be, by the value of `--k`
@@ -21,3 +21,6 @@ returns-in-None-length-clause-err c = λ k_limit short at. c.in-None-length.ensu
 pub returns-in-None-clause-ok : goal.returns-in-None-clause-ok
 returns-in-None-clause-ok c =
     subst (IsLength c.usual.result) (sym (none_first (found_of c.args.values.now) (codes "k") c.in-None.ensures)) c.usual.ensures
+
+pub returns-in-None-length-clause-named : goal.returns-in-None-length-clause-named
+returns-in-None-length-clause-named c = sym (some_value (found_of c.args.values.now) (codes "k") c.in-Some.word.now c.in-Some.ensures)

@@ -1,5 +1,6 @@
 use Rattle.std.proofs.Common.{rules, ◌≡◌, ◌++◌, ◌∷◌, []}
 use Rattle.std.proofs.lemmas.Result.{err_from_is_err_and}
+use Rattle.asl_command_line.proofs.Named.{named_of_all}
 use Rattle.asl_command_line.proofs.Talks.{more_first_words, rest_asks, fault_of_all}
 use Rattle.asl_command_line.proofs.debug_words.debug_words.Goals as goal
 
@@ -19,3 +20,8 @@ loop-done-preserved c =
       rest_asks c.args.all.now c.loop-done.done c.in_ok-word.count c.in_ok-word.word c.loop-done.invariant.0 c.in_ok-word.ensures.some.1
           c.in_ok-word.ensures.front c.loop-done.invariant.2,
     )
+
+pub returns-in_err-word-clause-named : goal.returns-in_err-word-clause-named
+returns-in_err-word-clause-named c =
+    let p = err_from_is_err_and c.from_residual.result c.from_residual.ensures.1 in
+    rw (p.1, p.2) (named_of_all c.args.all.now c.loop-done.done c.in_err-word.field-0.0 c.in_err-word.ensures.named)

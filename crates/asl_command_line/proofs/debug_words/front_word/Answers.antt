@@ -1,9 +1,10 @@
-use Rattle.std.proofs.Common.{rules}
+use Rattle.std.proofs.Common.{rules, []}
+use Rattle.asl_command_line.proofs.Named.{is_among, one_is_last}
 use Rattle.asl_command_line.proofs.Talks.{no_word_first, no_word_last, no_number_after}
 use Rattle.asl_command_line.proofs.debug_words.front_word.Goals as goal
 
 pub returns-then-not-takes_number-clause-err : goal.returns-then-not-takes_number-clause-err
-returns-then-not-takes_number-clause-err c = no_word_first c.args.all.now _ c.requires c.in_default.ensures (c.takes_number.ensures (search rules))
+returns-then-not-takes_number-clause-err c = no_word_first c.args.all.now _ c.requires c.in_default.ensures (c.takes_number.ensures.no (search rules))
 
 pub returns-then-all-lt2-clause-err : goal.returns-then-all-lt2-clause-err
 returns-then-all-lt2-clause-err c = no_word_last c.args.all.now _ c.requires (search rules) c.in_default.ensures
@@ -13,3 +14,16 @@ returns-in_default-number-clause-err c = no_number_after c.args.all.now _ _ (sea
 
 pub returns-in-None-clause-err : goal.returns-in-None-clause-err
 returns-in-None-clause-err c = no_word_first c.args.all.now _ c.requires c.in_default.ensures c.in-None.ensures
+
+pub returns-then-not-takes_number-clause-named : goal.returns-then-not-takes_number-clause-named
+returns-then-not-takes_number-clause-named c =
+    (is_among c.args.all.now 0 _ c.requires, record { alone = c.in_default.ensures; followed = c.takes_number.ensures.no (search rules) })
+
+pub returns-then-all-lt2-clause-named : goal.returns-then-all-lt2-clause-named
+returns-then-all-lt2-clause-named c = (_, [], one_is_last c.args.all.now _ c.requires (search rules), c.takes_number.ensures.yes (search rules))
+
+pub returns-in_default-number-clause-named : goal.returns-in_default-number-clause-named
+returns-in_default-number-clause-named c = (is_among c.args.all.now 1 _ (search rules), c.in_default-number.ensures)
+
+pub returns-in-None-clause-named : goal.returns-in-None-clause-named
+returns-in-None-clause-named c = (is_among c.args.all.now 0 _ c.requires, record { alone = c.in_default.ensures; followed = c.in-None.ensures })

@@ -1,30 +1,30 @@
 use Rattle.std.proofs.Common.{rules}
-use Rattle.asl_tool.proofs.Writing.{wrote_nothing, wrote_more, wrote_kept, wrote_all, wrote_part}
+use Rattle.asl_tool.proofs.Writing.{wrote_nothing, wrote_more, wrote_kept, wrote_all, wrote_part, kept_at_first, kept_more, lacked, tells_all, tells_part}
 use Rattle.asl_tool.proofs.streams.write_whole.Goals as goal
 
-pub loop-init : goal.loop-init
-loop-init g c = wrote_nothing _ _
+pub loop-rest-init : goal.loop-rest-init
+loop-rest-init g c = record { wrote = wrote_nothing _ _; kept = kept_at_first _ _ }
 
-pub returns-then-is_empty-clause-ok : goal.returns-then-is_empty-clause-ok
-returns-then-is_empty-clause-ok g c = wrote_all _ _ _ _ (search rules) c.loop.invariant
+pub loop-rest-preserved : goal.loop-rest-preserved
+loop-rest-preserved g c =
+    rw c.split_at.ensures.back record {
+      wrote = wrote_more _ _ _ _ _ _ c.loop-rest.invariant.wrote c.in-Ok.ensures.bytes;
+      kept = kept_more _ _ _ _ _ _ c.loop-rest.invariant.kept c.in-Ok.ensures.some.1 c.in-Ok.ensures.left;
+    }
 
-pub returns-clause-err : goal.returns-clause-err
-returns-clause-err g c = wrote_part _ _ _ _ c.loop.invariant
+pub returns-clause-ok : goal.returns-clause-ok
+returns-clause-ok g c = wrote_all _ _ _ _ (search rules) c.loop-rest.invariant.wrote
 
-pub returns-in_err-count-clause-err : goal.returns-in_err-count-clause-err
-returns-in_err-count-clause-err g c =
-    let part = wrote_part _ _ _ _ (wrote_kept _ _ _ _ _ c.loop.invariant c.in_err-count.ensures.err) in
-    search (rules, part)
+pub returns-clause-told : goal.returns-clause-told
+returns-clause-told g c = tells_all _ _ _ _ (wrote_all _ _ _ _ (search rules) c.loop-rest.invariant.wrote)
 
-pub returns-then-is_empty-clause-part : goal.returns-then-is_empty-clause-part
-returns-then-is_empty-clause-part g c = wrote_part _ _ _ _ c.loop.invariant
+pub returns-in-Err-clause-err : goal.returns-in-Err-clause-err
+returns-in-Err-clause-err g c = wrote_part _ _ _ _ (wrote_kept _ _ _ _ _ c.loop-rest.invariant.wrote c.in-Err.ensures.kept)
 
-pub returns-clause-part : goal.returns-clause-part
-returns-clause-part g c = wrote_part _ _ _ _ c.loop.invariant
+pub returns-in-Err-clause-full : goal.returns-in-Err-clause-full
+returns-in-Err-clause-full g c = lacked _ _ _ _ c.loop-rest.invariant.kept c.in-Err.ensures.full
 
-pub returns-in_err-count-clause-part : goal.returns-in_err-count-clause-part
-returns-in_err-count-clause-part g c = wrote_part _ _ _ _ (wrote_kept _ _ _ _ _ c.loop.invariant c.in_err-count.ensures.err)
-
-pub loop-preserved : goal.loop-preserved
-loop-preserved g c =
-    rw c.split_at.ensures.back (wrote_more _ _ _ _ _ _ c.loop.invariant (c.in_ok-count.ensures.ok))
+pub returns-in-Err-clause-told : goal.returns-in-Err-clause-told
+returns-in-Err-clause-told g c =
+    tells_part _ _ _ _ (lacked _ _ _ _ c.loop-rest.invariant.kept c.in-Err.ensures.full)
+    (wrote_part _ _ _ _ (wrote_kept _ _ _ _ _ c.loop-rest.invariant.wrote c.in-Err.ensures.kept))

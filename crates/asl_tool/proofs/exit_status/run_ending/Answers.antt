@@ -1,7 +1,0 @@
-use Rattle.std.proofs.Common.{◌≡◌}
-use Rattle.asl_tool.proofs.Telling.{command_ends}
-use Rattle.asl_tool.proofs.exit_status.run_ending.Goals as goal
-
-pub returns : goal.returns
-returns g c =
-    command_ends (c.perform_run-done.new.writer ≡ c.args.writer.now) _ _ _ _ c.perform_run-done.result c.ending_of.result c.perform_run-done.ensures.ok c.perform_run-done.ensures.err c.ending_of.ensures

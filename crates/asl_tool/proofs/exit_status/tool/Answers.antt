@@ -1,7 +1,0 @@
-use Rattle.asl_tool.specs.Streams.{AppendsPart}
-use Rattle.asl_tool.proofs.Telling.{ends_said}
-use Rattle.asl_tool.proofs.exit_status.tool.Goals as goal
-
-pub returns-clause-status : goal.returns-clause-status
-returns-clause-status g c =
-    ends_said _ _ (AppendsPart (g.E.Write.contents c.args.errors.now) (g.E.Write.contents c.say.new.errors)) _ _ _ _ c.ended-ending.result c.say.ensures.told c.status.result c.status.ensures c.ended-ending.ensures
