@@ -40,17 +40,21 @@ class Told:
     def functions(self):
         return [line.split()[1].rstrip(":") for line in self.lines if line.startswith("fn ")]
 
+    def named(self, function):
+        """The functions that the prover calls so, or by a name that ends so."""
+        return [it for it in self.functions() if it == function or it.endswith("::" + function)]
+
     def is_open(self, function):
-        return function in self.open
+        return any(it in self.open for it in self.named(function))
 
     def goals(self, function):
-        return self.open.get(function, [])
+        return [goal for it in self.named(function) for goal in self.open.get(it, [])]
 
     @property
     def is_for_names(self):
         """Whether all that is wrong is that a proof names what is gone."""
-        told = [it for it in self.lines if re.match(r"(note: )?\S+:\d+:\d+:.* error|note: ", it)]
-        return bool(told) and all(NAMES.match(it) for it in told if ": error" in it)
+        errors = [it for it in self.lines if re.match(r"\S+:\d+:\d+: error", it)]
+        return bool(errors) and all(NAMES.match(it) for it in errors)
 
 
 @functools.cache

@@ -48,13 +48,13 @@ class Edit:
         return texts
 
     def functions(self, crate):
-        """The functions that it touches, as the prover names them."""
+        """The functions that it touches, by the ends of their names: `module::function` or `Type::method`."""
         found, texts = [], {}
         for file, old, new in self.pairs:
             text = texts.get(file) or (crate / file).read_text()
             if text.count(old) != 1:
                 raise BadEdit(f"{self.name}: an old text stands in {file} {text.count(old)} times")
-            name = function_at(crate.name, file, text, text.index(old) + len(old) - len(old.lstrip()))
+            name = function_at(file, text, text.index(old) + len(old) - len(old.lstrip()))
             texts[file] = text.replace(old, new)
             if name and name not in found:
                 found.append(name)
@@ -84,13 +84,9 @@ def all_of(crate):
     return [read(path) for path in [*sorted(folder.glob("always/*.md")), *sorted(folder.glob("on-change/*.md"))]]
 
 
-def module_of(crate, file):
-    parts = list(pathlib.PurePath(file).with_suffix("").parts[1:])
-    return [crate, *([] if parts in (["lib"], ["main"]) else parts)]
-
-
-def function_at(crate, file, text, place):
-    """The function around a place of a source, or None outside of functions."""
+def function_at(file, text, place):
+    """The end of the name of the function around a place of a source, or None outside of functions. A method goes by its type, which
+    may be of another module, and any other function by its module."""
     lines = text[:place].split("\n")
     indent = None
     name, kind = None, None
@@ -112,9 +108,11 @@ def function_at(crate, file, text, place):
             return None
     if name is None:
         return None
-    return "::".join([*module_of(crate, file), *([kind] if kind else []), name])
+    module = pathlib.PurePath(file).stem
+    return f"{kind}::{name}" if kind else name if module in ("lib", "main") else f"{module}::{name}"
 
 
-def answers_of(function):
-    """Where the written answers of a function stand in its crate."""
-    return pathlib.Path("proofs", *function.split("::")[1:], "Answers.antt")
+def answers_of(crate, function):
+    """Where the written answers of the function stand in its crate."""
+    found = (crate / "proofs").glob("**/" + function.replace("::", "/") + "/Answers.antt")
+    return [path.relative_to(crate) for path in found]
