@@ -12,10 +12,10 @@ use crate::event::{Event, Receipt};
 use crate::fault::JournalFault;
 use crate::journal::Journal;
 use crate::journal_limits::MAX_EVENTS;
+use crate::memory::Memory;
 use asl_code::Program;
 use asl_machine::Machine;
 pub use pausing::PausedJournaled;
-use std::alloc::Global;
 use std::marker::Model;
 
 /// A machine and the journal of its run. The machine is always where the journal's events lead, each by a line of the
@@ -55,19 +55,24 @@ impl<'p> Journaled<'p> {
     /// # Errors
     ///
     /// `BadCount` for no thread and for more than the program's version sets; `OutOfMemory` where an allocation failed.
-    pub fn start(alloc: Global, program: &'p Program, n: u32) -> Result<Journaled<'p>, JournalFault>
+    pub fn start<M: Memory>(
+        memory: M,
+        program: &'p Program,
+        n: u32,
+    ) -> Result<Journaled<'p>, JournalFault>
         ensures image { IfOk result (λ journaled. journaled.image ≡ program.now) }
         ensures threads { IfOk result (λ journaled. journaled.count ≡ n) }
         ensures empty { IfOk result (λ journaled. journaled.events ≡ []) }
         ensures state { IfOk result (λ journaled. journaled.state ≡ start_of program.now n) }
         ensures count { IsErrOf result JournalFault.BadCount ↔ ((n ≡ 0) ⊎ (most_threads program.now.version < n)) }
+        ensures growth { IsErrOf result JournalFault.OutOfMemory → M.refused memory }
         ensures other { IfErr result (λ fault. (fault ≡ JournalFault.BadCount) ⊎ (fault ≡ JournalFault.OutOfMemory)) }
     {
-        let machine = Machine::new(alloc, program, n)?;
+        let machine = memory.new_machine(program, n)?;
         // Its program is verified.
         machine.threads();
         Ok(Journaled {
-            events: Vec::new(alloc),
+            events: Vec::new(memory.allocator()),
             machine,
         })
     }
@@ -79,7 +84,7 @@ impl<'p> Journaled<'p> {
     ///
     /// `JournalFull` after 16,777,216 events; else `BadThread` where there is no such thread; else `OutOfMemory` where a growth was
     /// refused. Then no event is written, and the machine is where it was.
-    pub fn step(&mut self, alloc: Global, t: u32) -> Result<Receipt, JournalFault>
+    pub fn step<M: Memory>(&mut self, memory: M, t: u32) -> Result<Receipt, JournalFault>
         ensures event { IfOk result (λ receipt. self.new.events ≡ self.old.events ++ event_of receipt ∷ []) }
         ensures step { IfOk result (λ receipt. Step self.old.image self.old.state t receipt.reply self.new.state) }
         ensures index { IfOk result (λ receipt. receipt.index ≡ length self.old.events) }
@@ -96,6 +101,7 @@ impl<'p> Journaled<'p> {
             ↔ ((length self.old.events < most_events) × (self.old.count ≤ t)) }
         ensures memory { IsErrOf result JournalFault.OutOfMemory
             → (self.old.spare ≡ 0) ⊎ MayWantMemory self.old.image self.old.state t }
+        ensures growth { IsErrOf result JournalFault.OutOfMemory → M.refused memory }
         ensures other { IfErr result (λ fault. (fault ≡ JournalFault.JournalFull) ⊎ (fault ≡ JournalFault.BadThread)
             ⊎ (fault ≡ JournalFault.OutOfMemory)) }
         ensures err { OnErr result (IsUnchanged self.old self.new) }
@@ -106,8 +112,8 @@ impl<'p> Journaled<'p> {
         if t >= self.machine.threads() {
             return Err(JournalFault::BadThread);
         }
-        self.events.reserve(1)?;
-        let reply = self.machine.step(alloc, t)?;
+        memory.reserve(&mut self.events, 1)?;
+        let reply = memory.step_machine(&mut self.machine, t)?;
         let index = self.events.len() as u32;
         let thread = t as u8;
         let ended = self.machine.pc(t).is_none();
@@ -125,15 +131,16 @@ impl<'p> Journaled<'p> {
     /// # Errors
     ///
     /// `OutOfMemory` where an allocation failed.
-    pub fn reserve(&mut self, m: u32) -> Result<(), JournalFault>
+    pub fn reserve<M: Memory>(&mut self, memory: M, m: u32) -> Result<(), JournalFault>
         ensures room { OnOk result (min m (most_events - length self.old.events) ≤ self.new.spare) }
         ensures grows { self.old.spare ≤ self.new.spare }
         ensures same { IsUnchanged self.old self.new }
         ensures succeeds { min m (most_events - length self.old.events) ≤ self.old.spare → IsOk result }
+        ensures growth { OnErr result (M.refused memory) }
         ensures memory { IfErr result (λ fault. fault ≡ JournalFault.OutOfMemory) }
     {
         let left = MAX_EVENTS - self.events.len();
-        self.events.reserve(left.min(m as usize))?;
+        memory.reserve(&mut self.events, left.min(m as usize))?;
         Ok(())
     }
 

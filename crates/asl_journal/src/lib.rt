@@ -11,6 +11,7 @@ mod journal_replay;
 mod journal_writing;
 mod journaled;
 pub mod laws;
+mod memory;
 mod run_file;
 
 pub use event::{Event, Receipt};
@@ -21,4 +22,5 @@ pub use journal_limits::MAX_EVENTS;
 pub use journal_replay::{follow, replay, run_on};
 pub use journal_writing::put;
 pub use journaled::{Journaled, PausedJournaled};
+pub use memory::Memory;
 pub use run_file::{FileFault, get_run, put_run};

@@ -83,7 +83,7 @@ fn once(
         "back" => Some(debugger.back(alloc)),
         "next" => Some(debugger.forward_to_break(alloc)),
         "previous" => Some(debugger.back_to_break(alloc)),
-        "break" => Some(debugger.break_at(number)),
+        "break" => Some(debugger.break_at(alloc, number)),
         _ => None,
     }
 }

@@ -141,8 +141,8 @@ fn put_reserved(
     count: u32,
     out: &mut String,
 ) -> Result<(), AllocError> {
-    let reserved = match journaled.reserve(count) {
-        Err(JournalFault::OutOfMemory) => journaled.reserve(count),
+    let reserved = match journaled.reserve(alloc, count) {
+        Err(JournalFault::OutOfMemory) => journaled.reserve(alloc, count),
         answer => answer,
     };
     if let Err(fault) = reserved {

@@ -7,8 +7,8 @@ use crate::event::Event;
 use crate::fault::JournalFault;
 use crate::journal::Journal;
 use crate::journal_limits::MAX_EVENTS;
+use crate::memory::Memory;
 use asl_machine::{Machine, Reply};
-use std::alloc::Global;
 
 impl Journal {
     /// Steps thread t of a machine with as many threads, and writes the step down. Capacity for the event is reserved before anything
@@ -18,9 +18,9 @@ impl Journal {
     ///
     /// `JournalFull` after 16,777,216 events; else `BadThread` where there is no such thread; else `OutOfMemory` where a growth was
     /// refused. Then nothing has changed.
-    pub fn step(
+    pub fn step<M: Memory>(
         &mut self,
-        alloc: Global,
+        memory: M,
         machine: &mut Machine<'_>,
         t: u32,
     ) -> Result<Reply, JournalFault>
@@ -30,6 +30,7 @@ impl Journal {
         ensures image { machine.new.image ≡ machine.old.image }
         ensures full { IsErrOf result JournalFault.JournalFull ↔ (length self.old.events ≡ most_events) }
         ensures stranger { IsErrOf result JournalFault.BadThread ↔ ((length self.old.events < most_events) × (self.old.threads ≤ t)) }
+        ensures growth { IsErrOf result JournalFault.OutOfMemory → M.refused memory }
         ensures other { IfErr result (λ fault. (fault ≡ JournalFault.JournalFull) ⊎ (fault ≡ JournalFault.BadThread)
             ⊎ (fault ≡ JournalFault.OutOfMemory)) }
         ensures err { OnErr result (self.new ≡ self.old) }
@@ -41,8 +42,8 @@ impl Journal {
         if t >= self.threads {
             return Err(JournalFault::BadThread);
         }
-        self.events.reserve(1)?;
-        let reply = machine.step(alloc, t)?;
+        memory.reserve(&mut self.events, 1)?;
+        let reply = memory.step_machine(machine, t)?;
         let thread = t as u8;
         self.events.push_reserved(Event { thread, reply });
         Ok(reply)

@@ -9,13 +9,13 @@ use Rattle.asl_journal.proofs.Differences.{only_memory_at}
 use Rattle.asl_journal.proofs.journal_replay.replay.Goals as goal
 
 pub run_on-requires-clause-there : goal.run_on-requires-clause-there
-run_on-requires-clause-there c =
+run_on-requires-clause-there g c =
     let count = machine_count c.in_ok-machine.machine c.args.program.now c.threads.result c.in_ok-machine.ensures.start ∙ c.threads.ensures.threads in
     subst (λ (es : List Event). AreThere (length c.in_ok-machine.machine.state.threads) es) (sym c.events.ensures.events)
     (subst (λ (n : ℕ). AreThere n c.args.journal.now.events) (sym count) c.events.ensures.log.there)
 
 pub returns-clause-journal : goal.returns-clause-journal
-returns-clause-journal c =
+returns-clause-journal g c =
     let told = c.in_ok-machine.ensures in
     let n = c.args.journal.now.threads in
     let counted = in_count c.args.program.now n (rw (← c.threads.ensures.threads) (λ taken. cc (told.count.1 taken))) in
@@ -23,7 +23,7 @@ returns-clause-journal c =
     (rw (← c.events.ensures.events) c.run_on.ensures.leads)
 
 pub returns-clause-leads : goal.returns-clause-leads
-returns-clause-leads c =
+returns-clause-leads g c =
     let told = c.in_ok-machine.ensures in
     let n = c.args.journal.now.threads in
     let counted = in_count c.args.program.now n (rw (← c.threads.ensures.threads) (λ taken. cc (told.count.1 taken))) in
@@ -31,13 +31,13 @@ returns-clause-leads c =
     (rw (← c.events.ensures.events) c.run_on.ensures.leads)
 
 pub returns-clause-only : goal.returns-clause-only
-returns-clause-only c j =
+returns-clause-only g c j =
     only_memory_at c.in_ok-machine.machine c.events.result.now c.args.program.now (start_of c.args.program.now c.args.journal.now.threads) j.end c.args.journal.now.events c.run_on.result
     c.in_ok-machine.ensures.image (c.in_ok-machine.ensures.start ∙ ap (start_of c.args.program.now) c.threads.ensures.threads) c.events.ensures.events
     j.leads.runs c.run_on.ensures.refused
 
 pub returns-clause-refused : goal.returns-clause-refused
-returns-clause-refused c =
+returns-clause-refused g c =
     let told = c.in_ok-machine.ensures in
     let n = c.args.journal.now.threads in
     let counted = in_count c.args.program.now n (rw (← c.threads.ensures.threads) (λ taken. cc (told.count.1 taken))) in

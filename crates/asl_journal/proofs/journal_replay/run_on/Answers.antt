@@ -10,22 +10,22 @@ use Rattle.asl_journal.proofs.Replays.{may_stop, one_differs, one_followed}
 use Rattle.asl_journal.proofs.journal_replay.run_on.Goals as goal
 
 pub loop-index-preserved : goal.loop-index-preserved
-loop-index-preserved c =
+loop-index-preserved g c =
     let told = c.in_ok-reply.ensures in
     let old = c.loop-index.machine in
-    let new = c.step.new.self in
+    let new = c.step_machine.new.machine in
     one_followed c.args.machine old new c.args.events.now c.loop-index.index (record { thread = 0; reply = Ran }) c.in_ok-reply.reply c.loop-index-test.true c.loop-index.invariant told.image
     (subst (λ (t : ℕ). Step old.image old.state t c.in_ok-reply.reply new.state) c.from.ensures told.step) (line_count old.image old.state c.from.result c.in_ok-reply.reply new.state told.step) c.if-not-are_same.ensures
 
 pub returns-then-not-are_same-clause-refused : goal.returns-then-not-are_same-clause-refused
-returns-then-not-are_same-clause-refused c =
+returns-then-not-are_same-clause-refused g c =
     let old = c.loop-index.machine in
-    let new = c.step.new.self in
+    let new = c.step_machine.new.machine in
     one_differs c.args.machine old c.args.events.now c.loop-index.index (record { thread = 0; reply = Ran }) c.in_ok-reply.reply new.state c.loop-index-test.true c.loop-index.invariant
     (subst (λ (t : ℕ). Step old.image old.state t c.in_ok-reply.reply new.state) c.from.ensures c.in_ok-reply.ensures.step) c.if-not-are_same.ensures
 
 pub returns-in_err-reply-clause-memory : goal.returns-in_err-reply-clause-memory
-returns-in_err-reply-clause-memory c =
+returns-in_err-reply-clause-memory g c =
     λ wanted.
     let first : Event = record { thread = 0; reply = Ran } in
     let told = c.in_err-reply.ensures in

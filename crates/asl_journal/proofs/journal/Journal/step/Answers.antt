@@ -5,7 +5,7 @@ use Rattle.asl_journal.specs.declared.event.Event.{Event}
 use Rattle.asl_journal.proofs.journal.Journal.step.Goals as goal
 
 pub invariant_of-self-2 : goal.invariant_of-self-2
-invariant_of-self-2 c =
+invariant_of-self-2 g c =
     let old = c.self.invariant in
     let event : Event = record { thread = c.args.t; reply = c.in_ok-reply.reply } in
     let before = c.self.inside.events.items in
