@@ -1,5 +1,5 @@
 //! The machine at positions of a journal, and the checkpoints that a debugger keeps.
-ghost use Rattle.std.specs.Prelude.{◌≡◌, ◌<◌, ◌≤◌, ◌+◌, ◌*◌, [], length, take, IfErr, IfOk, OnErr, OnOk};
+ghost use Rattle.std.specs.Prelude.{◌≡◌, ◌<◌, ◌≤◌, ◌+◌, ◌*◌, [], length, take, IfErr, IfOk, IsErrOf, OnErr, OnOk};
 ghost use Rattle.asl_machine.specs.Paused.{IsRestOf};
 ghost use Rattle.asl_machine.specs.Run.{IsThreadCount, start_of};
 ghost use Rattle.asl_code.specs.Verified.{IsVerified};
@@ -12,26 +12,26 @@ ghost use Rattle.asl_debugger.specs.Computed.{machine_before, state_before};
 
 use crate::fault::DebugFault;
 use asl_code::Program;
-use asl_journal::{Journal, JournalFault, run_on};
+use asl_journal::{Journal, JournalFault, Memory, run_on};
 use asl_machine::{Machine, Paused};
-use std::alloc::Global;
 
 /// The machine of which the checkpoint is left; the checkpoint stays.
-pub fn machine_of<'p>(
-    alloc: Global,
+pub fn machine_of<'p, M: Memory>(
+    memory: M,
     program: &'p Program,
     checkpoint: &Paused,
 ) -> Result<Machine<'p>, DebugFault>
     requires { IsRestOf program.now checkpoint.now }
     ensures machine { IfOk result (λ machine. machine ≡ record { image = program.now; state = checkpoint.now.state }) }
     ensures memory { IfErr result (λ fault. fault ≡ DebugFault.OutOfMemory) }
+    ensures growth { IsErrOf result DebugFault.OutOfMemory → M.refused memory }
 {
-    Ok(Machine::resume(program, checkpoint.try_copy(alloc)?))
+    Ok(Machine::resume(program, memory.copy_rest(checkpoint)?))
 }
 
 /// The machine at position `end`, from the one at position `start`.
-pub fn machine_between<'p>(
-    alloc: Global,
+pub fn machine_between<'p, M: Memory>(
+    memory: M,
     from: Machine<'p>,
     journal: &Journal,
     start: usize,
@@ -48,9 +48,10 @@ pub fn machine_between<'p>(
         → IfErr result (λ fault. IsOpenFault from.entry.image journal.now fault) }
     ensures only { IsJournal from.entry.image journal.now.threads journal.now.events
         → IfErr result (λ fault. fault ≡ DebugFault.OutOfMemory) }
+    ensures growth { IsErrOf result DebugFault.OutOfMemory → M.refused memory }
 {
     let events = journal.events();
-    match run_on(alloc, from, &events[start..end]) {
+    match run_on(memory, from, &events[start..end]) {
         Ok(machine) => Ok(machine),
         Err(JournalFault::Differs(index)) => Err(DebugFault::Differs(start as u32 + index)),
         Err(_) => Err(DebugFault::OutOfMemory),
@@ -58,8 +59,8 @@ pub fn machine_between<'p>(
 }
 
 /// Makes the event at this position, from the machine there.
-pub fn make_event(
-    alloc: Global,
+pub fn make_event<M: Memory>(
+    memory: M,
     machine: &mut Machine<'_>,
     journal: &Journal,
     position: usize,
@@ -70,15 +71,16 @@ pub fn make_event(
     ensures memory { IfErr result (λ fault. fault ≡ DebugFault.OutOfMemory) }
     ensures wants { OnErr result (MayWantMemoryBefore machine.old.image journal.now position) }
     ensures err { OnErr result (machine.new ≡ machine.old) }
+    ensures growth { OnErr result (M.refused memory) }
 {
     let events = journal.events();
-    machine.step(alloc, u32::from(events[position].thread))?;
+    memory.step_machine(machine, u32::from(events[position].thread))?;
     Ok(())
 }
 
 /// The checkpoints of the journal, and the machine at position 0, if the journal is one of the program.
-pub fn prepared<'p>(
-    alloc: Global,
+pub fn prepared<'p, M: Memory>(
+    memory: M,
     program: &'p Program,
     journal: &Journal,
     spacing: u32,
@@ -86,16 +88,17 @@ pub fn prepared<'p>(
     requires { 0 < spacing }
     ensures kept { IfOk result (λ parts. IsDebuggerState program.now journal.now spacing parts.0.items [] parts.1 0) }
     ensures refused { IfErr result (λ fault. IsOpenFault program.now journal.now fault) }
+    ensures growth { IsErrOf result DebugFault.OutOfMemory → M.refused memory }
 {
-    let checkpoints = checkpoints_of(alloc, program, journal, spacing)?;
-    let machine = machine_of(alloc, program, &checkpoints[0])?;
+    let checkpoints = checkpoints_of(memory, program, journal, spacing)?;
+    let machine = machine_of(memory, program, &checkpoints[0])?;
     Ok((checkpoints, machine))
 }
 
 /// The checkpoints of the journal, if it is one of the program: what is left of the machine at 0, the spacing, twice the spacing
 /// and so on.
-fn checkpoints_of<'p>(
-    alloc: Global,
+fn checkpoints_of<'p, M: Memory>(
+    memory: M,
     program: &'p Program,
     journal: &Journal,
     spacing: u32,
@@ -107,36 +110,40 @@ fn checkpoints_of<'p>(
     ensures enough { IfOk result (λ checkpoints. length journal.now.events < length checkpoints.items * spacing) }
     ensures none_past { IfOk result (λ checkpoints. length checkpoints.items * spacing ≤ length journal.now.events + spacing) }
     ensures refused { IfErr result (λ fault. IsOpenFault program.now journal.now fault) }
+    ensures growth { IsErrOf result DebugFault.OutOfMemory → M.refused memory }
 {
     let events = journal.events();
-    let mut machine = first_machine(alloc, program, journal)?;
-    let mut checkpoints = Vec::new(alloc);
-    let first = rest_of(alloc, &machine)?;
-    checkpoints.push(first)?;
+    let mut machine = first_machine(memory, program, journal)?;
+    let mut checkpoints = Vec::new(memory.allocator());
+    let first = rest_of(memory, &machine)?;
+    memory.reserve(&mut checkpoints, 1)?;
+    checkpoints.push_reserved(first);
     let mut here = 0;
     while events.len() - here >= spacing as usize {
         let next = here + spacing as usize;
-        machine = machine_between(alloc, machine, journal, here, next)?;
-        let checkpoint = rest_of(alloc, &machine)?;
-        checkpoints.push(checkpoint)?;
+        machine = machine_between(memory, machine, journal, here, next)?;
+        let checkpoint = rest_of(memory, &machine)?;
+        memory.reserve(&mut checkpoints, 1)?;
+        checkpoints.push_reserved(checkpoint);
         here = next;
     }
-    let _end = machine_between(alloc, machine, journal, here, events.len())?;
+    let _end = machine_between(memory, machine, journal, here, events.len())?;
     Ok(checkpoints)
 }
 
 /// What is left of a copy of the machine.
-pub fn rest_of(alloc: Global, machine: &Machine<'_>) -> Result<Paused, DebugFault>
+pub fn rest_of<M: Memory>(memory: M, machine: &Machine<'_>) -> Result<Paused, DebugFault>
     ensures fits { IfOk result (IsRestOf machine.now.image) }
     ensures state { IfOk result (λ checkpoint. checkpoint.state ≡ machine.now.state) }
     ensures memory { IfErr result (λ fault. fault ≡ DebugFault.OutOfMemory) }
+    ensures growth { OnErr result (M.refused memory) }
 {
-    Ok(machine.try_copy(alloc)?.pause())
+    Ok(memory.copy_machine(machine)?.pause())
 }
 
 /// The machine at position 0, if the program may start with so many threads.
-fn first_machine<'p>(
-    alloc: Global,
+fn first_machine<'p, M: Memory>(
+    memory: M,
     program: &'p Program,
     journal: &Journal,
 ) -> Result<Machine<'p>, DebugFault>
@@ -144,8 +151,9 @@ fn first_machine<'p>(
     ensures counted { OnOk result (IsThreadCount program.now journal.now.threads) }
     ensures verified { IsVerified program.now }
     ensures refused { IfErr result (λ fault. IsOpenFault program.now journal.now fault) }
+    ensures growth { IsErrOf result DebugFault.OutOfMemory → M.refused memory }
 {
     // A program is verified.
     program.version();
-    Ok(Machine::new(alloc, program, journal.threads())?)
+    Ok(memory.new_machine(program, journal.threads())?)
 }

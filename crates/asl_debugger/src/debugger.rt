@@ -15,10 +15,9 @@ use crate::checkpoints::{make_event, prepared};
 use crate::fault::DebugFault;
 use crate::trail::Mark;
 use asl_code::Program;
-use asl_journal::Journal;
+use asl_journal::{Journal, Memory};
 use asl_machine::{Machine, Paused};
 pub use pausing::PausedDebugger;
-use std::alloc::Global;
 use std::marker::Model;
 
 /// A journal of a program, a position in it with the machine there, and breakpoints. Checkpoints of the machine, kept without the
@@ -62,8 +61,8 @@ impl<'p> Debugger<'p> {
     ///
     /// `BadCount` where the program cannot start so many threads; else `Differs` with the first event that differs;
     /// `OutOfMemory` where an allocation failed. The journal comes back with the fault.
-    pub fn open(
-        alloc: Global,
+    pub fn open<M: Memory>(
+        memory: M,
         program: &'p Program,
         journal: Journal,
         spacing: u32,
@@ -80,17 +79,18 @@ impl<'p> Debugger<'p> {
         // A journal of the program is refused only because memory ran out.
         ensures only { IsJournal program.now journal.threads journal.events
             → IfErr result (λ refusal. refusal.0 ≡ DebugFault.OutOfMemory) }
+        ensures growth { IfErr result (λ refusal. refusal.0 ≡ DebugFault.OutOfMemory → M.refused memory) }
         ensures back { IfErr result (λ refusal. refusal.1 ≡ journal) }
     {
-        match prepared(alloc, program, &journal, spacing) {
+        match prepared(memory, program, &journal, spacing) {
             Ok((checkpoints, machine)) => Ok(Debugger {
                 journal,
                 spacing,
                 checkpoints,
-                marks: Vec::new(alloc),
+                marks: Vec::new(memory.allocator()),
                 machine,
                 position: 0,
-                breakpoints: Vec::new(alloc),
+                breakpoints: Vec::new(memory.allocator()),
             }),
             Err(fault) => Err((fault, journal)),
         }
@@ -101,17 +101,18 @@ impl<'p> Debugger<'p> {
     /// # Errors
     ///
     /// `NoSuchStep` where the journal has no such position; `OutOfMemory` where an allocation failed. Then nothing has moved.
-    pub fn goto(&mut self, alloc: Global, k: u32) -> Result<(), DebugFault>
+    pub fn goto<M: Memory>(&mut self, memory: M, k: u32) -> Result<(), DebugFault>
         ensures moves { OnOk result (self.new ≡ moved self.old k) }
         ensures none { IsErrOf result DebugFault.NoSuchStep ↔ (length self.old.log.events < k) }
         ensures here { k ≡ self.old.position → IsOk result }
+        ensures growth { IsErrOf result DebugFault.OutOfMemory → M.refused memory }
         ensures other { IfErr result (λ fault. (fault ≡ DebugFault.NoSuchStep) ⊎ (fault ≡ DebugFault.OutOfMemory)) }
         ensures err { OnErr result (self.new ≡ self.old) }
     {
         if k as usize > self.journal.events().len() {
             return Err(DebugFault::NoSuchStep);
         }
-        self.show(alloc, k)
+        self.show(memory, k)
     }
 
     /// Continues by one event, which takes one step. Memory is wanted only where that step may want it.
@@ -119,11 +120,12 @@ impl<'p> Debugger<'p> {
     /// # Errors
     ///
     /// `AtEnd` after the last event; `OutOfMemory` where an allocation failed. Then nothing has moved.
-    pub fn forward(&mut self, alloc: Global) -> Result<(), DebugFault>
+    pub fn forward<M: Memory>(&mut self, memory: M) -> Result<(), DebugFault>
         ensures moves { OnOk result (self.new ≡ moved self.old (self.old.position + 1)) }
         ensures end { IsErrOf result DebugFault.AtEnd ↔ (self.old.position ≡ length self.old.log.events) }
         ensures memory { IsErrOf result DebugFault.OutOfMemory
             → MayWantMemoryAt self.old.image self.old.log self.old.position }
+        ensures growth { IsErrOf result DebugFault.OutOfMemory → M.refused memory }
         ensures other { IfErr result (λ fault. (fault ≡ DebugFault.AtEnd) ⊎ (fault ≡ DebugFault.OutOfMemory)) }
         ensures err { OnErr result (self.new ≡ self.old) }
     {
@@ -131,7 +133,7 @@ impl<'p> Debugger<'p> {
         if position == self.journal.events().len() {
             return Err(DebugFault::AtEnd);
         }
-        make_event(alloc, &mut self.machine, &self.journal, position)?;
+        make_event(memory, &mut self.machine, &self.journal, position)?;
         self.position += 1;
         Ok(())
     }
@@ -141,16 +143,17 @@ impl<'p> Debugger<'p> {
     /// # Errors
     ///
     /// `AtStart` before the first event; `OutOfMemory` where an allocation failed. Then nothing has moved.
-    pub fn back(&mut self, alloc: Global) -> Result<(), DebugFault>
+    pub fn back<M: Memory>(&mut self, memory: M) -> Result<(), DebugFault>
         ensures moves { OnOk result (self.new ≡ moved self.old (self.old.position - 1)) }
         ensures start { IsErrOf result DebugFault.AtStart ↔ (self.old.position ≡ 0) }
+        ensures growth { IsErrOf result DebugFault.OutOfMemory → M.refused memory }
         ensures other { IfErr result (λ fault. (fault ≡ DebugFault.AtStart) ⊎ (fault ≡ DebugFault.OutOfMemory)) }
         ensures err { OnErr result (self.new ≡ self.old) }
     {
         if self.position == 0 {
             return Err(DebugFault::AtStart);
         }
-        self.show(alloc, self.position - 1)
+        self.show(memory, self.position - 1)
     }
 
     /// Continues to the least later stop, or to the end where there is none.
@@ -158,17 +161,18 @@ impl<'p> Debugger<'p> {
     /// # Errors
     ///
     /// `AtEnd` after the last event; `OutOfMemory` where an allocation failed. Then nothing has moved.
-    pub fn forward_to_break(&mut self, alloc: Global) -> Result<(), DebugFault>
+    pub fn forward_to_break<M: Memory>(&mut self, memory: M) -> Result<(), DebugFault>
         ensures moves { OnOk result (self.new ≡ moved self.old self.new.position) }
         ensures stop { OnOk result (IsNextStop self.old self.new.position) }
         ensures end { IsErrOf result DebugFault.AtEnd ↔ (self.old.position ≡ length self.old.log.events) }
+        ensures growth { IsErrOf result DebugFault.OutOfMemory → M.refused memory }
         ensures other { IfErr result (λ fault. (fault ≡ DebugFault.AtEnd) ⊎ (fault ≡ DebugFault.OutOfMemory)) }
         ensures err { OnErr result (self.new ≡ self.old) }
     {
         if self.position as usize == self.journal.events().len() {
             return Err(DebugFault::AtEnd);
         }
-        let (machine, position) = self.next_stop(alloc)?;
+        let (machine, position) = self.next_stop(memory)?;
         self.machine = machine;
         self.position = position;
         Ok(())
@@ -179,18 +183,19 @@ impl<'p> Debugger<'p> {
     /// # Errors
     ///
     /// `AtStart` before the first event; `OutOfMemory` where an allocation failed. Then nothing has moved.
-    pub fn back_to_break(&mut self, alloc: Global) -> Result<(), DebugFault>
+    pub fn back_to_break<M: Memory>(&mut self, memory: M) -> Result<(), DebugFault>
         ensures moves { OnOk result (self.new ≡ moved self.old self.new.position) }
         ensures stop { OnOk result (IsLastStop self.old self.new.position) }
         ensures start { IsErrOf result DebugFault.AtStart ↔ (self.old.position ≡ 0) }
+        ensures growth { IsErrOf result DebugFault.OutOfMemory → M.refused memory }
         ensures other { IfErr result (λ fault. (fault ≡ DebugFault.AtStart) ⊎ (fault ≡ DebugFault.OutOfMemory)) }
         ensures err { OnErr result (self.new ≡ self.old) }
     {
         if self.position == 0 {
             return Err(DebugFault::AtStart);
         }
-        let stop = self.last_stop(alloc)?;
-        self.show(alloc, stop)
+        let stop = self.last_stop(memory)?;
+        self.show(memory, stop)
     }
 
     /// Makes the place a breakpoint. A place above 65,535, which no code has, is never one: nothing is kept of it. There, and
@@ -199,15 +204,16 @@ impl<'p> Debugger<'p> {
     /// # Errors
     ///
     /// `OutOfMemory` where an allocation failed.
-    pub fn break_at(&mut self, pc: u32) -> Result<(), DebugFault>
+    pub fn break_at<M: Memory>(&mut self, memory: M, pc: u32) -> Result<(), DebugFault>
         ensures same { self.new ≡ with_breaks self.old self.new.breakpoints }
         ensures has { OnOk result (HasBreak self.old.breakpoints self.new.breakpoints pc) }
         ensures again { IsTrue (has_break self.old.breakpoints pc) → IsOk result × (self.new ≡ self.old) }
         ensures never { 65536 ≤ pc → IsOk result × (self.new ≡ self.old) }
         ensures memory { IfErr result (λ fault. fault ≡ DebugFault.OutOfMemory) }
+        ensures growth { OnErr result (M.refused memory) }
         ensures err { OnErr result (self.new ≡ self.old) }
     {
-        put_break(&mut self.breakpoints, pc)?;
+        put_break(memory, &mut self.breakpoints, pc)?;
         Ok(())
     }
 

@@ -1,5 +1,5 @@
 //! Copies of the machine that moves back leave between two checkpoints, so that the next moves back have less way to go.
-ghost use Rattle.std.specs.Prelude.{◌≡◌, ◌<◌, ◌≤◌, All, length, IfErr, IfOk, IfSome, IsSomeAnd, slice_get};
+ghost use Rattle.std.specs.Prelude.{◌≡◌, ◌<◌, ◌≤◌, All, length, IfErr, IfOk, IfSome, IsSomeAnd, OnErr, slice_get};
 ghost use Rattle.asl_code.specs.declared.image.Image.{Image};
 ghost use Rattle.asl_journal.specs.Journal.{IsJournal, Log};
 ghost use Rattle.asl_debugger.specs.Checkpoints.{AreMarks};
@@ -7,9 +7,8 @@ ghost use Rattle.asl_debugger.specs.Computed.{machine_before, state_before};
 
 use crate::checkpoints::{machine_between, rest_of};
 use crate::fault::DebugFault;
-use asl_journal::Journal;
+use asl_journal::{Journal, Memory};
 use asl_machine::{MAX_FRAMES, Machine, Paused};
-use std::alloc::Global;
 
 /// How many events are a short way, on which no marks are left.
 const SHORT_WAY: u32 = 16;
@@ -46,8 +45,8 @@ pub fn keep_marks(marks: &mut Vec<Mark>, start: u32, end: u32)
 
 /// The machine at position `end`, from the one at position `start`. On a way that is not short, marks are left half of the way on, half
 /// of the rest and so on.
-pub fn machine_by_marks<'p>(
-    alloc: Global,
+pub fn machine_by_marks<'p, M: Memory>(
+    memory: M,
     from: Machine<'p>,
     journal: &Journal,
     marks: &mut Vec<Mark>,
@@ -62,22 +61,23 @@ pub fn machine_by_marks<'p>(
     ensures machine { IfOk result (λ machine. machine ≡ machine_before from.entry.image journal.now end) }
     ensures marks { AreMarks from.entry.image journal.now marks.new.items }
     ensures memory { IfErr result (λ fault. fault ≡ DebugFault.OutOfMemory) }
+    ensures growth { OnErr result (M.refused memory) }
 {
     let mut machine = from;
     let mut here = start;
     while end - here > SHORT_WAY {
         let middle = here + (end - here) / 2;
-        machine = machine_between(alloc, machine, journal, here as usize, middle as usize)?;
-        leave_mark(alloc, marks, &machine, middle, end - middle);
+        machine = machine_between(memory, machine, journal, here as usize, middle as usize)?;
+        leave_mark(memory, marks, &machine, middle, end - middle);
         here = middle;
     }
-    machine_between(alloc, machine, journal, here as usize, end as usize)
+    machine_between(memory, machine, journal, here as usize, end as usize)
 }
 
 /// Leaves a mark of the machine at this position, with so many events of the way still before it. Where the machine has more objects and frames
 /// than that, a copy would cost more than the steps that it saves, and none is left; nor is one where memory is refused for it.
-fn leave_mark(
-    alloc: Global,
+fn leave_mark<M: Memory>(
+    memory: M,
     marks: &mut Vec<Mark>,
     machine: &Machine<'_>,
     position: u32,
@@ -89,7 +89,7 @@ fn leave_mark(
     if pieces(machine) > rest_of_way {
         return;
     }
-    if let Ok(rest) = rest_of(alloc, machine) {
+    if let Ok(rest) = rest_of(memory, machine) {
         let _ = marks.push(Mark { position, rest });
     }
 }

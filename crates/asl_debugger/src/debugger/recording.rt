@@ -8,9 +8,8 @@ ghost use Rattle.asl_journal.specs.Journal.{most_events, with_event};
 use crate::debugger::Debugger;
 use crate::fault::StepFault;
 use crate::trail::keep_marks;
-use asl_journal::{Journal, MAX_EVENTS};
+use asl_journal::{Journal, MAX_EVENTS, Memory};
 use asl_machine::{Machine, Paused, Reply};
-use std::alloc::Global;
 
 impl<'p> Debugger<'p> {
     ghost use Rattle.asl_debugger.specs.Session.{IsStepBetween, recorded};
@@ -21,12 +20,13 @@ impl<'p> Debugger<'p> {
     ///
     /// `NotAtEnd` where events follow; else `JournalFull` after 16,777,216 events; else `BadThread` where there is no such thread;
     /// else `OutOfMemory` where an allocation failed. Then nothing has changed.
-    pub fn step(&mut self, alloc: Global, t: u32) -> Result<Reply, StepFault>
+    pub fn step<M: Memory>(&mut self, memory: M, t: u32) -> Result<Reply, StepFault>
         ensures event { IfOk result (λ reply. self.new ≡ recorded self.old (with_event self.old.log (record { thread = t; reply = reply })) (self.old.position + 1)) }
         ensures step { IfOk result (λ reply. IsStepBetween self.old self.new t reply) }
         ensures end { IsErrOf result StepFault.NotAtEnd ↔ (self.old.position ≢ length self.old.log.events) }
         ensures full { IsErrOf result StepFault.JournalFull
             ↔ ((self.old.position ≡ length self.old.log.events) × (length self.old.log.events ≡ most_events)) }
+        ensures growth { IsErrOf result StepFault.OutOfMemory → M.refused memory }
         ensures stranger { IsErrOf result StepFault.BadThread
             ↔ ((self.old.position ≡ length self.old.log.events) × (length self.old.log.events < most_events) × (self.old.log.threads ≤ t)) }
         ensures err { OnErr result (self.new ≡ self.old) }
@@ -40,30 +40,31 @@ impl<'p> Debugger<'p> {
         if t >= self.journal.threads() {
             return Err(StepFault::BadThread);
         }
-        self.record(alloc, t)
+        self.record(memory, t)
     }
 
     /// Steps thread t at the end of the journal, writes the step down, and is after it. Where a checkpoint is due there, it is made
     /// ahead.
-    fn record(&mut self, alloc: Global, t: u32) -> Result<Reply, StepFault>
+    fn record<M: Memory>(&mut self, memory: M, t: u32) -> Result<Reply, StepFault>
         requires end { self.old.position ≡ length self.old.log.events }
         requires room { length self.old.log.events < most_events }
         requires thread { t < self.old.log.threads }
         ensures event { IfOk result (λ reply. self.new ≡ recorded self.old (with_event self.old.log (record { thread = t; reply = reply })) (self.old.position + 1)) }
         ensures step { IfOk result (λ reply. IsStepBetween self.old self.new t reply) }
         ensures memory { IfErr result (λ fault. fault ≡ StepFault.OutOfMemory) }
+        ensures growth { OnErr result (M.refused memory) }
         ensures err { OnErr result (self.new ≡ self.old) }
     {
         let next = self.position as usize + 1;
         if next == self.checkpoints.len() * self.spacing as usize {
-            self.checkpoints.reserve(1)?;
-            let ahead = mark_ahead(alloc, &self.machine, t)?;
-            let reply = write_step(alloc, &mut self.journal, &mut self.machine, t)?;
+            memory.reserve(&mut self.checkpoints, 1)?;
+            let ahead = mark_ahead(memory, &self.machine, t)?;
+            let reply = write_step(memory, &mut self.journal, &mut self.machine, t)?;
             self.checkpoints.push_reserved(ahead);
             self.position += 1;
             Ok(reply)
         } else {
-            let reply = write_step(alloc, &mut self.journal, &mut self.machine, t)?;
+            let reply = write_step(memory, &mut self.journal, &mut self.machine, t)?;
             self.position += 1;
             Ok(reply)
         }
@@ -81,14 +82,15 @@ impl<'p> Debugger<'p> {
 }
 
 /// What is left of a copy of the machine after a step of thread t. Only memory can fail.
-fn mark_ahead(alloc: Global, machine: &Machine<'_>, t: u32) -> Result<Paused, StepFault>
+fn mark_ahead<M: Memory>(memory: M, machine: &Machine<'_>, t: u32) -> Result<Paused, StepFault>
     requires { t < length machine.now.state.threads }
     ensures fits { IfOk result (IsRestOf machine.now.image) }
     ensures step { IfOk result (λ rest. (reply : Reply) × Step machine.now.image machine.now.state t reply rest.state) }
     ensures memory { IfErr result (λ fault. fault ≡ StepFault.OutOfMemory) }
+    ensures growth { OnErr result (M.refused memory) }
 {
-    match machine.try_copy(alloc) {
-        Ok(mut ahead) => match ahead.step(alloc, t) {
+    match memory.copy_machine(machine) {
+        Ok(mut ahead) => match memory.step_machine(&mut ahead, t) {
             Ok(_) => Ok(ahead.pause()),
             Err(_) => Err(StepFault::OutOfMemory),
         },
@@ -97,8 +99,8 @@ fn mark_ahead(alloc: Global, machine: &Machine<'_>, t: u32) -> Result<Paused, St
 }
 
 /// Steps thread t of the machine, and writes the step into the journal. Only memory can fail.
-fn write_step(
-    alloc: Global,
+fn write_step<M: Memory>(
+    memory: M,
     journal: &mut Journal,
     machine: &mut Machine<'_>,
     t: u32,
@@ -110,10 +112,11 @@ fn write_step(
     ensures step { IfOk result (λ reply. Step machine.old.image machine.old.state t reply machine.new.state) }
     ensures image { machine.new.image ≡ machine.old.image }
     ensures memory { IfErr result (λ fault. fault ≡ StepFault.OutOfMemory) }
+    ensures growth { OnErr result (M.refused memory) }
     ensures err { OnErr result (journal.new ≡ journal.old) }
     ensures err_machine { OnErr result (machine.new ≡ machine.old) }
 {
-    match journal.step(alloc, machine, t) {
+    match journal.step(memory, machine, t) {
         Ok(reply) => Ok(reply),
         Err(_) => Err(StepFault::OutOfMemory),
     }

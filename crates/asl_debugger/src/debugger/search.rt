@@ -1,12 +1,12 @@
 //! The search for stops, on copies of machines.
-ghost use Rattle.std.specs.Prelude.{◌≡◌, ◌<◌, ◌≤◌, ◌*◌, length, IfErr, IfOk};
+ghost use Rattle.std.specs.Prelude.{◌≡◌, ◌<◌, ◌≤◌, ◌*◌, length, IfErr, IfOk, OnErr};
 
 use crate::checkpoints::make_event;
 use crate::debugger::Debugger;
 use crate::fault::DebugFault;
 use crate::stops::is_at_break;
+use asl_journal::Memory;
 use asl_machine::Machine;
-use std::alloc::Global;
 
 impl<'p> Debugger<'p> {
     ghost use Rattle.asl_debugger.specs.Search.{IsFound};
@@ -14,16 +14,17 @@ impl<'p> Debugger<'p> {
     ghost use Rattle.asl_debugger.specs.Computed.{machine_before};
 
     /// The least later stop, or the end, and the machine there.
-    pub(crate) fn next_stop(&self, alloc: Global) -> Result<(Machine<'p>, u32), DebugFault>
+    pub(crate) fn next_stop<M: Memory>(&self, memory: M) -> Result<(Machine<'p>, u32), DebugFault>
         requires { self.now.position < length self.now.log.events }
         ensures stop { IfOk result (λ found. IsNextHalt self.now found.1) }
         ensures machine { IfOk result (λ found. found.0 ≡ machine_before self.now.image self.now.log found.1) }
         ensures memory { IfErr result (λ fault. fault ≡ DebugFault.OutOfMemory) }
+        ensures growth { OnErr result (M.refused memory) }
     {
         let events = self.journal.events();
-        let mut machine = self.machine.try_copy(alloc)?;
+        let mut machine = memory.copy_machine(&self.machine)?;
         let mut position = self.position as usize;
-        make_event(alloc, &mut machine, &self.journal, position)?;
+        make_event(memory, &mut machine, &self.journal, position)?;
         position += 1;
         while position < events.len() {
             if is_at_break(
@@ -33,7 +34,7 @@ impl<'p> Debugger<'p> {
             ) {
                 break;
             }
-            make_event(alloc, &mut machine, &self.journal, position)?;
+            make_event(memory, &mut machine, &self.journal, position)?;
             position += 1;
         }
         Ok((machine, position as u32))
@@ -41,15 +42,16 @@ impl<'p> Debugger<'p> {
 
     /// The greatest earlier stop, or the start: the stretches between checkpoints and marks are searched one by one, the last
     /// first.
-    pub(crate) fn last_stop(&self, alloc: Global) -> Result<u32, DebugFault>
+    pub(crate) fn last_stop<M: Memory>(&self, memory: M) -> Result<u32, DebugFault>
         requires { 0 < self.now.position }
         ensures stop { IfOk result (λ found. IsLastHalt self.now found) }
         ensures memory { IfErr result (λ fault. fault ≡ DebugFault.OutOfMemory) }
+        ensures growth { OnErr result (M.refused memory) }
     {
         let mut until = self.position;
         while until > 0 {
-            let (from, start) = self.nearest(alloc, until - 1)?;
-            match self.last_within(alloc, from, start, until)? {
+            let (from, start) = self.nearest(memory, until - 1)?;
+            match self.last_within(memory, from, start, until)? {
                 Some(stop) => return Ok(stop),
                 None => until = start,
             }
@@ -58,9 +60,9 @@ impl<'p> Debugger<'p> {
     }
 
     /// The greatest stop from `start` on and before `until`, if there is one. The machine is the one at `start`.
-    fn last_within(
+    fn last_within<M: Memory>(
         &self,
-        alloc: Global,
+        memory: M,
         from: Machine<'p>,
         start: u32,
         until: u32,
@@ -70,6 +72,7 @@ impl<'p> Debugger<'p> {
         requires within { until ≤ length self.now.log.events }
         ensures stop { IfOk result (λ found. IsFound self.now start until found) }
         ensures memory { IfErr result (λ fault. fault ≡ DebugFault.OutOfMemory) }
+        ensures growth { OnErr result (M.refused memory) }
     {
         let mut machine = from;
         let mut found = None;
@@ -78,7 +81,7 @@ impl<'p> Debugger<'p> {
             if is_at_break(&machine, thread, self.breakpoints.as_slice()) {
                 found = Some(k);
             }
-            make_event(alloc, &mut machine, &self.journal, k as usize)?;
+            make_event(memory, &mut machine, &self.journal, k as usize)?;
         }
         Ok(found)
     }

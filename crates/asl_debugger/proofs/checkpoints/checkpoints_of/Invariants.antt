@@ -3,7 +3,7 @@ use Rattle.asl_debugger.proofs.Marks.{AreSoFar}
 use Rattle.asl_debugger.proofs.checkpoints.checkpoints_of.Given as goal
 
 abbrev pub invariant-loop-here : goal.invariant-loop-here
-invariant-loop-here l = AreSoFar l.program l.journal l.spacing l.here l.machine l.checkpoints.items
+invariant-loop-here g l = AreSoFar l.program l.journal l.spacing l.here l.machine l.checkpoints.items
 
 abbrev pub decreases-loop-here : goal.decreases-loop-here
-decreases-loop-here l = length l.events - l.here
+decreases-loop-here g l = length l.events - l.here

@@ -11,14 +11,14 @@ use Rattle.asl_debugger.proofs.Positions.{threads_of, state_between, goes_betwee
 use Rattle.asl_debugger.proofs.checkpoints.machine_between.Goals as goal
 
 pub run_on-requires-clause-there : goal.run_on-requires-clause-there
-run_on-requires-clause-there c =
+run_on-requires-clause-there g c =
     let log = c.args.journal.now in
     let count = threads_of c.args.from.image log c.args.start c.args.from.state c.requires.from in
     rw (c.events-events.ensures.events, count)
     (All-take (λ (e : Event). e.thread < log.threads) (c.args.end - c.args.start) (drop c.args.start log.events) (All-drop (λ (e : Event). e.thread < log.threads) c.args.start log.events c.events-events.ensures.log.there))
 
 pub returns-in-Ok-clause-machine : goal.returns-in-Ok-clause-machine
-returns-in-Ok-clause-machine c =
+returns-in-Ok-clause-machine g c =
     let from = c.args.from in
     let log = c.args.journal.now in
     let slice = λ (es : List Event). take (c.args.end - c.args.start) (drop c.args.start es) in
@@ -30,14 +30,14 @@ returns-in-Ok-clause-machine c =
     ∙ state_between from.image log c.args.start c.args.end c.requires.order)
 
 pub returns-in-Ok-clause-goes : goal.returns-in-Ok-clause-goes
-returns-in-Ok-clause-goes c front =
+returns-in-Ok-clause-goes g c front =
     let from = c.args.from in
     let slice = take (c.args.end - c.args.start) (drop c.args.start c.events-events.result.now) in
     let told = run_computed from.image from.state c.in-Ok.machine.state slice c.in-Ok.ensures.leads in
     goes_between from.image c.args.journal.now c.args.start c.args.end c.requires.order front (rw (c.events-events.ensures.events, c.requires.from) at told.0)
 
 pub returns-in-Err-Differs-clause-refused : goal.returns-in-Err-Differs-clause-refused
-returns-in-Err-Differs-clause-refused c verified few front =
+returns-in-Err-Differs-clause-refused g c verified few front =
     let from = c.args.from in
     let slice = take (c.args.end - c.args.start) (drop c.args.start c.events-events.result.now) in
     let told = differs_computed from.image from.state slice c.in-Err-Differs.index (rw c.in-Err-Differs.field-0-is at c.in-Err-Differs.ensures.refused) in
@@ -50,7 +50,7 @@ returns-in-Err-Differs-clause-refused c verified few front =
     )
 
 pub returns-in-Err-Differs-clause-only : goal.returns-in-Err-Differs-clause-only
-returns-in-Err-Differs-clause-only c j =
+returns-in-Err-Differs-clause-only g c j =
     let from = c.args.from in
     let slice = take (c.args.end - c.args.start) (drop c.args.start c.events-events.result.now) in
     let told = differs_computed from.image from.state slice c.in-Err-Differs.index (rw c.in-Err-Differs.field-0-is at c.in-Err-Differs.ensures.refused) in

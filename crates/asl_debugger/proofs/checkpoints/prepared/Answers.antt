@@ -6,7 +6,7 @@ use Rattle.asl_debugger.proofs.Marks.{first_there, first_is, marked}
 use Rattle.asl_debugger.proofs.checkpoints.prepared.Goals as goal
 
 pub machine_of-requires : goal.machine_of-requires
-machine_of-requires c =
+machine_of-requires g c =
     let told = c.in_ok-checkpoints.ensures in
     let items = c.in_ok-checkpoints.checkpoints.items in
     let some = first_there (length c.args.journal.now.events) (length items) c.args.spacing told.enough in
@@ -14,7 +14,7 @@ machine_of-requires c =
     (first_is c.args.program.now c.args.journal.now c.args.spacing items c.index.result.now told.each at).fits
 
 pub returns-clause-kept : goal.returns-clause-kept
-returns-clause-kept c =
+returns-clause-kept g c =
     let told = c.in_ok-checkpoints.ensures in
     let items = c.in_ok-checkpoints.checkpoints.items in
     let some = first_there (length c.args.journal.now.events) (length items) c.args.spacing told.enough in

@@ -3,7 +3,7 @@ use Rattle.asl_debugger.proofs.Marking.{left_in_the_middle}
 use Rattle.asl_debugger.proofs.trail.machine_by_marks.Goals as goal
 
 pub loop-here-preserved : goal.loop-here-preserved
-loop-here-preserved c =
+loop-here-preserved g c =
     let so_far = c.loop-here.invariant in
     let middle = c.loop-here.here + (c.args.end - c.loop-here.here) / 2 in
     let order : middle ≤ c.args.end = omega (arith, so_far.order) in

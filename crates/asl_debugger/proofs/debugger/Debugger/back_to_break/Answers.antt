@@ -5,7 +5,7 @@ use Rattle.asl_debugger.proofs.ByTable.{last_stop_of}
 use Rattle.asl_debugger.proofs.debugger.Debugger.back_to_break.Goals as goal
 
 pub returns-clause-stop : goal.returns-clause-stop
-returns-clause-stop c =
+returns-clause-stop g c =
     let d = c.self.inside in
     let session : Session = record { image = d.machine.image; log = d.journal; position = d.position; breakpoints = d.breakpoints.items } in
     let halt = rw (← c.self.view_is) at c.in_ok-stop.ensures.stop in

@@ -7,14 +7,14 @@ use Rattle.asl_debugger.proofs.Positions.{kept_at}
 use Rattle.asl_debugger.proofs.debugger.Debugger.go_back.Goals as goal
 
 pub machine_by_marks-requires-clause-marks : goal.machine_by_marks-requires-clause-marks
-machine_by_marks-requires-clause-marks c =
+machine_by_marks-requires-clause-marks g c =
     let d = c.self.inside in
     let at = rw (← c.self.view_is) at c.in_ok-machine.ensures.machine in
     let same : c.in_ok-machine.machine.image ≡ d.machine.image = ap (λ (m : Configuration). m.image) at in
     subst (λ (i : Image). AreMarks i d.journal c.keep_marks.new.marks.items) (sym same) (c.keep_marks.ensures.kept d.machine.image d.journal c.self.invariant.marked)
 
 pub invariant_of-self-2 : goal.invariant_of-self-2
-invariant_of-self-2 c =
+invariant_of-self-2 g c =
     let d = c.self.inside in
     let at = rw (← c.self.view_is) at c.in_ok-machine.ensures.machine in
     let same : c.in_ok-machine.machine.image ≡ d.machine.image = ap (λ (m : Configuration). m.image) at in

@@ -8,14 +8,14 @@ use Rattle.asl_debugger.proofs.debugger.Debugger.last_within.Goals as goal
 use Rattle.asl_debugger.proofs.debugger.Debugger.last_within.Goals.{then-is_at_break, else-is_at_break}
 
 pub is_at_break-requires : goal.is_at_break-requires
-is_at_break-requires c =
+is_at_break-requires g c =
     let d = c.self.inside in
     let within = rw (← c.self.view_is) at c.requires.within in
     let at = rw (← c.self.view_is) at c.loop-k.invariant.at in
     rw c.events.ensures.events (thread_there d.machine.image d.journal c.loop-k.k c.loop-k.machine at c.events.ensures.log c.loop-k.k (record { thread = 0; reply = Ran }) (omega arith))
 
 pub loop-k-preserved : goal.loop-k-preserved
-loop-k-preserved c =
+loop-k-preserved g c =
     let d = c.self.inside in
     let session : Session = record { image = d.machine.image; log = d.journal; position = d.position; breakpoints = d.breakpoints.items } in
     let first : Event = record { thread = 0; reply = Ran } in

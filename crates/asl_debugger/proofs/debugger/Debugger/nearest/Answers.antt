@@ -10,7 +10,7 @@ use Rattle.asl_debugger.proofs.debugger.Debugger.nearest.Goals as goal
 
 pub returns-in_ok-machine-in-Some-clause-machine :
     goal.returns-in_ok-machine-in-Some-clause-machine
-returns-in_ok-machine-in-Some-clause-machine c =
+returns-in_ok-machine-in-Some-clause-machine g c =
     let d = c.self.inside in
     let mark = c.index-mark.result.now in
     let there = found (λ (m : Mark). (c.args.k / d.spacing * d.spacing ≤ m.position) × (m.position ≤ c.args.k)) d.marks.items c.in-Some.index (rw c.as_slice.ensures.value at c.in-Some.ensures) in
@@ -20,14 +20,14 @@ returns-in_ok-machine-in-Some-clause-machine c =
     rw (← c.self.view_is) (marked d.machine.image d.journal mark.position mark.rest c.in_ok-machine-in-Some.machine told is.is)
 
 pub returns-in_ok-machine-in-Some-clause-before : goal.returns-in_ok-machine-in-Some-clause-before
-returns-in_ok-machine-in-Some-clause-before c =
+returns-in_ok-machine-in-Some-clause-before g c =
     let d = c.self.inside in
     let mark = c.index-mark.result.now in
     let there = found (λ (m : Mark). (c.args.k / d.spacing * d.spacing ≤ m.position) × (m.position ≤ c.args.k)) d.marks.items c.in-Some.index (rw c.as_slice.ensures.value at c.in-Some.ensures) in
     subst (λ (m : Mark). m.position ≤ c.args.k) (sym c.index-mark.ensures) (there.1 mark).1
 
 pub machine_of-requires-in-None : goal.machine_of-requires-in-None
-machine_of-requires-in-None c =
+machine_of-requires-in-None g c =
     let d = c.self.inside in
     let number = c.args.k / d.spacing in
     let few = rw (← c.self.view_is) at c.requires in
@@ -38,7 +38,7 @@ machine_of-requires-in-None c =
 
 pub returns-in_ok-machine-in-None-clause-machine :
     goal.returns-in_ok-machine-in-None-clause-machine
-returns-in_ok-machine-in-None-clause-machine c =
+returns-in_ok-machine-in-None-clause-machine g c =
     let d = c.self.inside in
     let number = c.args.k / d.spacing in
     let few = rw (← c.self.view_is) at c.requires in

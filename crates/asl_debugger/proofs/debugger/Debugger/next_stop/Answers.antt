@@ -8,14 +8,14 @@ use Rattle.asl_debugger.proofs.debugger.Debugger.next_stop.Goals as goal
 use Rattle.asl_debugger.proofs.debugger.Debugger.next_stop.Goals.{else-loop-position-test, then-loop-position-test+then-is_at_break}
 
 pub is_at_break-requires : goal.is_at_break-requires
-is_at_break-requires c =
+is_at_break-requires g c =
     let d = c.self.inside in
     let at = rw (← c.self.view_is) at c.loop-position.invariant.at in
     rw c.events-events.ensures.events (thread_there d.machine.image d.journal c.loop-position.position c.loop-position.machine at c.events-events.ensures.log c.loop-position.position (record { thread = 0; reply = Ran })
     (let len = ap (λ es. length es) c.events-events.ensures.events in omega (arith, len)))
 
 pub loop-position-preserved : goal.loop-position-preserved
-loop-position-preserved c =
+loop-position-preserved g c =
     let d = c.self.inside in
     let session : Session = record { image = d.machine.image; log = d.journal; position = d.position; breakpoints = d.breakpoints.items } in
     let first : Event = record { thread = 0; reply = Ran } in
@@ -28,7 +28,7 @@ loop-position-preserved c =
     (is_no_stop session c.loop-position.position first c.loop-position.machine lt so_far.at away) made)
 
 pub returns-clause-stop : goal.returns-clause-stop
-returns-clause-stop c =
+returns-clause-stop g c =
     let d = c.self.inside in
     let session : Session = record { image = d.machine.image; log = d.journal; position = d.position; breakpoints = d.breakpoints.items } in
     let first : Event = record { thread = 0; reply = Ran } in

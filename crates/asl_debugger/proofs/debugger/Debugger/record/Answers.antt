@@ -7,18 +7,18 @@ use Rattle.asl_debugger.proofs.Recording.{kept_with, kept_behind, step_between}
 use Rattle.asl_debugger.proofs.debugger.Debugger.record.Goals as goal
 
 pub mark_ahead-requires : goal.mark_ahead-requires
-mark_ahead-requires c =
+mark_ahead-requires g c =
     let d = c.self.inside in
     let there = rw (← c.self.view_is) at c.requires.thread in
     rw (threads_of d.machine.image d.journal d.position d.machine.state (ap (λ (m : Configuration). m.state) c.self.invariant.shown)) there
 
 pub write_step-requires-clause-threads : goal.write_step-requires-clause-threads
-write_step-requires-clause-threads c =
+write_step-requires-clause-threads g c =
     let d = c.self.inside in
     threads_of d.machine.image d.journal d.position d.machine.state (ap (λ (m : Configuration). m.state) c.self.invariant.shown)
 
 pub invariant_of-self-then-next-len : goal.invariant_of-self-then-next-len
-invariant_of-self-then-next-len c =
+invariant_of-self-then-next-len g c =
     let d = c.self.inside in
     let ahead = c.in_ok-ahead.ahead in
     let told = c.in_ok-reply.ensures in
@@ -32,12 +32,12 @@ invariant_of-self-then-next-len c =
 
 pub write_step-requires-else-next-len-clause-threads :
     goal.write_step-requires-else-next-len-clause-threads
-write_step-requires-else-next-len-clause-threads c =
+write_step-requires-else-next-len-clause-threads g c =
     let d = c.self.inside in
     threads_of d.machine.image d.journal d.position d.machine.state (ap (λ (m : Configuration). m.state) c.self.invariant.shown)
 
 pub invariant_of-self-else-next-len : goal.invariant_of-self-else-next-len
-invariant_of-self-else-next-len c =
+invariant_of-self-else-next-len g c =
     let d = c.self.inside in
     let told = c.in_ok-reply-2.ensures in
     let end : d.position ≡ length d.journal.events = rw (← c.self.view_is) at c.requires.end in
@@ -48,7 +48,7 @@ invariant_of-self-else-next-len c =
     there told.image told.step none_due)
 
 pub returns-in_ok-reply-clause-step : goal.returns-in_ok-reply-clause-step
-returns-in_ok-reply-clause-step c =
+returns-in_ok-reply-clause-step g c =
     let d = c.self.inside in
     let told = c.in_ok-reply.ensures in
     let end : d.position ≡ length d.journal.events = rw (← c.self.view_is) at c.requires.end in
@@ -58,7 +58,7 @@ returns-in_ok-reply-clause-step c =
     there told.image told.step d.breakpoints.items)
 
 pub returns-in_ok-reply-2-clause-step : goal.returns-in_ok-reply-2-clause-step
-returns-in_ok-reply-2-clause-step c =
+returns-in_ok-reply-2-clause-step g c =
     let d = c.self.inside in
     let told = c.in_ok-reply-2.ensures in
     let end : d.position ≡ length d.journal.events = rw (← c.self.view_is) at c.requires.end in

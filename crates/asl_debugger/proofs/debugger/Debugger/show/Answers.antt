@@ -6,7 +6,7 @@ use Rattle.asl_debugger.proofs.Positions.{kept_at}
 use Rattle.asl_debugger.proofs.debugger.Debugger.show.Goals as goal
 
 pub invariant_of-self : goal.invariant_of-self
-invariant_of-self c =
+invariant_of-self g c =
     let d = c.self.inside in
     let at = rw (← c.self.view_is) at c.in_ok-machine.ensures.machine in
     let same : c.in_ok-machine.machine.image ≡ d.machine.image = ap (λ (m : Configuration). m.image) at in
