@@ -1,6 +1,6 @@
 -- What the status of a call tells, from what its answer tells.
-use Rattle.std.proofs.Common.{◌≡◌, ◌≢◌, ℕ, ◌+◌, ◌<◌, ◌≤◌, ◌⊎◌, length, refl, arith}
-use Rattle.std.specs.Prelude.{◌↔◌, Result, Ok, Err, IfOk, IsOk, OnOk, OnErr, IsErrOf}
+use Rattle.std.proofs.Common.{◌≡◌, ◌≢◌, ℕ, ◌+◌, ◌<◌, ◌≤◌, ◌⊎◌, ⊎_elim, length, refl, arith}
+use Rattle.std.specs.Prelude.{◌↔◌, Result, Ok, Err, IfOk, IfErr, IsOk, OnOk, OnErr, IsErrOf}
 use Rattle.asl_machine.specs.declared.reply.Reply.{Reply}
 use Rattle.asl_journal.specs.Journal.{IsJournal, most_events, with_event}
 use Rattle.asl_debugger.specs.declared.fault.StepFault.{StepFault}
@@ -42,6 +42,14 @@ step_others (Err step.OutOfMemory) = search arith
 step_others (Err step.BadThread) = search arith
 step_others (Err step.NotAtEnd) = search arith
 step_others (Err step.JournalFull) = search arith
+
+-- want of memory has a status of its own
+pub step_memory : (a : Result Reply StepFault) → step_status a ≡ 2 → IsErrOf a step.OutOfMemory
+step_memory (Ok reply) two = absurd (omega arith)
+step_memory (Err step.OutOfMemory) two = refl
+step_memory (Err step.BadThread) two = absurd (omega arith)
+step_memory (Err step.NotAtEnd) two = absurd (omega arith)
+step_memory (Err step.JournalFull) two = absurd (omega arith)
 
 step_made : (s new : Session) (t : ℕ) (a : Result Reply StepFault)
     → IfOk a (λ reply. new ≡ recorded s (with_event s.log (record { thread = t; reply = reply })) (s.position + 1))
@@ -100,6 +108,16 @@ move_others (Err debug.NoSuchStep) = search arith
 move_others (Err (debug.Differs index)) = search arith
 move_others (Err debug.OutOfMemory) = search arith
 move_others (Err debug.BadCount) = search arith
+
+-- of the faults of a move, want of memory alone has its status
+pub move_memory : (a : Result (Unit {0}) DebugFault) → IfErr a (λ fault. (fault ≡ debug.NoSuchStep) ⊎ (fault ≡ debug.OutOfMemory)) → move_status a ≡ 2 → IsErrOf a debug.OutOfMemory
+move_memory (Ok done) one two = absurd (omega arith)
+move_memory (Err debug.NoSuchStep) one two = absurd (omega arith)
+move_memory (Err debug.OutOfMemory) one two = refl
+move_memory (Err debug.AtEnd) one two = ⊎_elim (λ e. absurd cc) (λ e. absurd cc) one
+move_memory (Err debug.AtStart) one two = ⊎_elim (λ e. absurd cc) (λ e. absurd cc) one
+move_memory (Err (debug.Differs index)) one two = ⊎_elim (λ e. absurd cc) (λ e. absurd cc) one
+move_memory (Err debug.BadCount) one two = ⊎_elim (λ e. absurd cc) (λ e. absurd cc) one
 
 move_made : (P : Type 0) (a : Result (Unit {0}) DebugFault) → OnOk a P → move_status a ≡ 0 → P
 move_made P (Ok done) is zero = is

@@ -7,33 +7,37 @@ use crate::pages::Page;
 use crate::session::Session;
 use crate::session_answers::Place;
 use crate::status::{move_status, step_status};
+use asl_journal::Memory;
 use core::mem::replace_with;
 use std::alloc::{AllocError, Global};
 
 /// Steps the thread at the end of the journal.
-pub fn step(alloc: Global, session: &mut Session, t: u32) -> u32
+pub fn step<M: Memory>(memory: M, session: &mut Session, t: u32) -> u32
     ensures stepped { IsStepped session.old t result session.new }
+    ensures growth { result ≡ 2 → M.refused memory }
     ensures other { result ≢ 3 }
 {
-    let answer = replace_with(session, (alloc, t), Session::step);
+    let answer = replace_with(session, (memory, t), Session::step);
     step_status(answer)
 }
 
 /// Goes to the position.
-pub fn go(alloc: Global, session: &mut Session, k: u32) -> u32
+pub fn go<M: Memory>(memory: M, session: &mut Session, k: u32) -> u32
     ensures gone { IsGone session.old k result session.new }
+    ensures growth { result ≡ 2 → M.refused memory }
     ensures other { result ≢ 3 }
 {
-    let answer = replace_with(session, (alloc, k), Session::go);
+    let answer = replace_with(session, (memory, k), Session::go);
     move_status(answer)
 }
 
 /// Goes to the position, and forgets the events after it.
-pub fn cut(alloc: Global, session: &mut Session, k: u32) -> u32
+pub fn cut<M: Memory>(memory: M, session: &mut Session, k: u32) -> u32
     ensures cut { IsCut session.old k result session.new }
+    ensures growth { result ≡ 2 → M.refused memory }
     ensures other { result ≢ 3 }
 {
-    let answer = replace_with(session, (alloc, k), Session::cut);
+    let answer = replace_with(session, (memory, k), Session::cut);
     move_status(answer)
 }
 

@@ -11,7 +11,7 @@ ghost use Rattle.asl_c_sessions.specs.Pages.{IsPage, log_text};
 use crate::pages::{Page, lines_from, page_of};
 use asl_code::Program;
 use asl_debugger::{DebugFault, Debugger, PausedDebugger, StepFault};
-use asl_journal::{Journal, put_run};
+use asl_journal::{Journal, Memory, put_run};
 use asl_machine::Reply;
 use std::alloc::{AllocError, Global};
 use std::marker::Model;
@@ -49,7 +49,7 @@ impl Session {
     /// # Errors
     ///
     /// `BadCount` for no thread and for more than the program's version sets; `OutOfMemory` where an allocation failed.
-    pub fn open(alloc: Global, program: Program, threads: u32) -> Result<Session, DebugFault>
+    pub fn open<M: Memory>(memory: M, program: Program, threads: u32) -> Result<Session, DebugFault>
         ensures start { IfOk result (λ session. session ≡ record {
           image = program;
           log = record { threads = threads; events = [] };
@@ -58,17 +58,18 @@ impl Session {
         }) }
         ensures counted { OnOk result (IsThreadCount program threads) }
         ensures count { IsErrOf result DebugFault.BadCount ↔ ((threads ≡ 0) ⊎ (most_threads program.version < threads)) }
+        ensures growth { IsErrOf result DebugFault.OutOfMemory → M.refused memory }
         ensures other { IfErr result (λ fault. (fault ≡ DebugFault.BadCount) ⊎ (fault ≡ DebugFault.OutOfMemory)) }
     {
         if threads == 0 || threads > program.limits().threads {
             return Err(DebugFault::BadCount);
         }
-        let debugger = first(alloc, &program, threads)?;
+        let debugger = first(memory, &program, threads)?;
         Ok(Session { program, debugger })
     }
 
     /// At the end of the journal: steps the thread of the call, writes the step down, and is after it.
-    pub fn step(self, call: (Global, u32)) -> (Session, Result<Reply, StepFault>)
+    pub fn step<M: Memory>(self, call: (M, u32)) -> (Session, Result<Reply, StepFault>)
         ensures event { IfOk result.1 (λ reply. result.0 ≡ recorded self (with_event self.log (record { thread = call.1; reply = reply })) (self.position + 1)) }
         ensures step { IfOk result.1 (λ reply. IsStepBetween self result.0 call.1 reply) }
         ensures end { IsErrOf result.1 StepFault.NotAtEnd ↔ (self.position ≢ length self.log.events) }
@@ -76,45 +77,48 @@ impl Session {
             ↔ ((self.position ≡ length self.log.events) × (length self.log.events ≡ most_events)) }
         ensures stranger { IsErrOf result.1 StepFault.BadThread
             ↔ ((self.position ≡ length self.log.events) × (length self.log.events < most_events) × (self.log.threads ≤ call.1)) }
+        ensures growth { IsErrOf result.1 StepFault.OutOfMemory → M.refused call.0 }
         ensures err { OnErr result.1 (result.0 ≡ self) }
         ensures journal { IsJournal result.0.image result.0.log.threads result.0.log.events }
     {
-        let (alloc, t) = call;
+        let (memory, t) = call;
         let Session { program, debugger } = self;
         let mut debugger = Debugger::resume(&program, debugger);
-        let reply = debugger.step(alloc, t);
+        let reply = debugger.step(memory, t);
         let debugger = debugger.pause();
         (Session { program, debugger }, reply)
     }
 
     /// Goes to the position of the call.
-    pub fn go(self, call: (Global, u32)) -> (Session, Result<(), DebugFault>)
+    pub fn go<M: Memory>(self, call: (M, u32)) -> (Session, Result<(), DebugFault>)
         ensures moves { OnOk result.1 (result.0 ≡ moved self call.1) }
         ensures none { IsErrOf result.1 DebugFault.NoSuchStep ↔ (length self.log.events < call.1) }
         ensures other { IfErr result.1 (λ fault. (fault ≡ DebugFault.NoSuchStep) ⊎ (fault ≡ DebugFault.OutOfMemory)) }
+        ensures growth { IsErrOf result.1 DebugFault.OutOfMemory → M.refused call.0 }
         ensures err { OnErr result.1 (result.0 ≡ self) }
         ensures here { call.1 ≡ self.position → IsOk result.1 }
     {
-        let (alloc, k) = call;
+        let (memory, k) = call;
         let Session { program, debugger } = self;
         let mut debugger = Debugger::resume(&program, debugger);
-        let answer = debugger.goto(alloc, k);
+        let answer = debugger.goto(memory, k);
         let debugger = debugger.pause();
         (Session { program, debugger }, answer)
     }
 
     /// Goes to the position of the call, and forgets the events after it.
-    pub fn cut(self, call: (Global, u32)) -> (Session, Result<(), DebugFault>)
+    pub fn cut<M: Memory>(self, call: (M, u32)) -> (Session, Result<(), DebugFault>)
         ensures cuts { OnOk result.1 (result.0 ≡ recorded self (record { threads = self.log.threads; events = take call.1 self.log.events }) call.1) }
         ensures none { IsErrOf result.1 DebugFault.NoSuchStep ↔ (length self.log.events < call.1) }
         ensures other { IfErr result.1 (λ fault. (fault ≡ DebugFault.NoSuchStep) ⊎ (fault ≡ DebugFault.OutOfMemory)) }
+        ensures growth { IsErrOf result.1 DebugFault.OutOfMemory → M.refused call.0 }
         ensures err { OnErr result.1 (result.0 ≡ self) }
         ensures here { call.1 ≡ self.position → IsOk result.1 }
     {
-        let (alloc, k) = call;
+        let (memory, k) = call;
         let Session { program, debugger } = self;
         let mut debugger = Debugger::resume(&program, debugger);
-        let answer = go_and_cut(alloc, &mut debugger, k);
+        let answer = go_and_cut(memory, &mut debugger, k);
         let debugger = debugger.pause();
         (Session { program, debugger }, answer)
     }
@@ -183,16 +187,21 @@ impl Session {
 }
 
 /// The debugger at the start of so many threads, without its program.
-fn first(alloc: Global, program: &Program, threads: u32) -> Result<PausedDebugger, DebugFault>
+fn first<M: Memory>(
+    memory: M,
+    program: &Program,
+    threads: u32,
+) -> Result<PausedDebugger, DebugFault>
     requires { IsThreadCount program.now threads }
     ensures fits { IfOk result (IsSessionRestOf program.now) }
     ensures log { IfOk result (λ rest. rest.log ≡ record { threads = threads; events = [] }) }
     ensures position { IfOk result (λ rest. rest.position ≡ 0) }
     ensures breakpoints { IfOk result (λ rest. rest.breakpoints ≡ []) }
     ensures memory { IfErr result (λ fault. fault ≡ DebugFault.OutOfMemory) }
+    ensures growth { OnErr result (M.refused memory) }
 {
-    match Journal::of(threads, Vec::new(alloc)) {
-        Ok(journal) => match Debugger::open(alloc, program, journal, SPACING) {
+    match Journal::of(threads, Vec::new(memory.allocator())) {
+        Ok(journal) => match Debugger::open(memory, program, journal, SPACING) {
             Ok(debugger) => Ok(debugger.pause()),
             Err(_) => Err(DebugFault::OutOfMemory),
         },
@@ -201,14 +210,15 @@ fn first(alloc: Global, program: &Program, threads: u32) -> Result<PausedDebugge
 }
 
 /// Goes to position k, and forgets the events after it.
-fn go_and_cut(alloc: Global, debugger: &mut Debugger<'_>, k: u32) -> Result<(), DebugFault>
+fn go_and_cut<M: Memory>(memory: M, debugger: &mut Debugger<'_>, k: u32) -> Result<(), DebugFault>
     ensures cuts { OnOk result (debugger.new ≡ recorded debugger.old (record { threads = debugger.old.log.threads; events = take k debugger.old.log.events }) k) }
     ensures none { IsErrOf result DebugFault.NoSuchStep ↔ (length debugger.old.log.events < k) }
     ensures here { k ≡ debugger.old.position → IsOk result }
     ensures other { IfErr result (λ fault. (fault ≡ DebugFault.NoSuchStep) ⊎ (fault ≡ DebugFault.OutOfMemory)) }
+    ensures growth { IsErrOf result DebugFault.OutOfMemory → M.refused memory }
     ensures err { OnErr result (debugger.new ≡ debugger.old) }
 {
-    debugger.goto(alloc, k)?;
+    debugger.goto(memory, k)?;
     debugger.cut();
     Ok(())
 }

@@ -6,7 +6,7 @@ use Rattle.asl_c_sessions.proofs.Owners.{program_stays}
 use Rattle.asl_c_sessions.proofs.session.Session.go.Goals as goal
 
 pub invariant_of-result : goal.invariant_of-result
-invariant_of-result c =
+invariant_of-result g c =
     let old = c.resume-debugger.result in
     let new = c.goto-answer.new.self in
     let image = λ (s : Session). s.image in

@@ -8,7 +8,7 @@ use Rattle.asl_c_sessions.proofs.Owners.{program_stays}
 use Rattle.asl_c_sessions.proofs.session.Session.step.Goals as goal
 
 pub invariant_of-result : goal.invariant_of-result
-invariant_of-result c =
+invariant_of-result g c =
     let old = c.resume-debugger.result in
     let new = c.step-reply.new.self in
     let image = λ (s : Session). s.image in
@@ -19,7 +19,7 @@ invariant_of-result c =
     c.pause-debugger.ensures.fits
 
 pub returns-clause-journal : goal.returns-clause-journal
-returns-clause-journal c =
+returns-clause-journal g c =
     let old = c.resume-debugger.result in
     let new = c.step-reply.new.self in
     let image = λ (s : Session). s.image in
