@@ -2,27 +2,21 @@
 use Rattle.std.specs.Prelude.{◌≡◌, ℕ, Bool, true, false, List}
 use Rattle.asl_code.specs.declared.image.Image.{Image}
 use Rattle.asl_code.specs.Verified.{IsVerified}
-use Rattle.asl_syntax.specs.Tree.{Item}
-use Rattle.asl_syntax.specs.Parsed.{Parses}
 use Rattle.asl_syntax.specs.Fault as syntax
-use Rattle.asl_emitter.specs.Inferred.{IsInferredFor}
-use Rattle.asl_emitter.specs.Refused.{IsAccepted}
 use Rattle.asl_emitter.specs.Sources.{HasRefusedTree}
 use Rattle.asl_soundness.specs.Safe.{NeverFaultsForLocks}
 use Rattle.asl_atomicity.specs.Serial.{HasSerialRuns}
 use Rattle.asl_atomicity.specs.Renamed.{HasSerialRunsUpTo}
+use Rattle.asl_compile.specs.Compiled.{Compiles}
 use Rattle.asl_assembler.specs.Canonical.{canonical_text}
 use Rattle.asl_loader.specs.Bytes.{SpellsImage}
 use Rattle.asl_tool.specs.declared.command_fault.CommandFault.{CommandFault}
 use Rattle.asl_tool.specs.declared.command_fault.CommandFault.TheVariants as fault
 
--- the source is a program's, and this image is inferred for it, with paths of at most so many operations; no run of the
--- image faults for a missing lock, and its sections are atomic
+-- the source is compiled to this image, with paths of at most so many operations; no run of the image faults for a missing lock,
+-- and its sections are atomic
 pub record IsProgramFor (source : List ℕ) (k_limit : ℕ) (image : Image) : Type 0 where
-  pub tree : List Item
-  pub parsed : Parses source tree
-  pub accepted : IsAccepted tree k_limit
-  pub inferred : IsInferredFor tree k_limit image
+  pub compiled : Compiles source k_limit image
   pub safe : NeverFaultsForLocks image
   pub atomic : (count : ℕ) → HasSerialRuns image count
   pub atomic_up_to_numbers : (count : ℕ) → HasSerialRunsUpTo image count

@@ -6,9 +6,8 @@ use crate::command_fault::CommandFault;
 use asl_assembler::disassemble;
 use asl_code::Program;
 use asl_command_line::PathLimit;
-use asl_emitter::infer;
+use asl_compile::{CompileFault, compile};
 use asl_loader::store;
-use asl_syntax::parse;
 use std::alloc::{AllocError, Global};
 
 /// The program that is inferred for the source, as its image or as its text.
@@ -33,13 +32,10 @@ fn program_of(alloc: Global, k_limit: &PathLimit, source: &[u8]) -> Result<Progr
     ensures ok { IfOk result (λ program. IsProgramFor source.now k_limit.now program) }
     ensures err { IfErr result (λ fault. IsRefusedSource source.now k_limit.now fault) }
 {
-    let ast = match parse(alloc, source) {
-        Ok(ast) => ast,
-        Err(fault) => return Err(CommandFault::Source(fault)),
-    };
-    match infer(alloc, &ast, k_limit.operations()) {
+    match compile(alloc, source, k_limit.operations()) {
         Ok(program) => Ok(program),
-        Err(fault) => Err(CommandFault::Infer(fault)),
+        Err(CompileFault::Source(fault)) => Err(CommandFault::Source(fault)),
+        Err(CompileFault::Infer(fault)) => Err(CommandFault::Infer(fault)),
     }
 }
 

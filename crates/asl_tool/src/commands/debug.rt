@@ -97,7 +97,7 @@ fn obey(
             push_answer(text, answer)
         }
         DebugWord::Break(pc) => {
-            set_break(debugger, pc)?;
+            set_break(alloc, debugger, pc)?;
             write!(text, "break {pc}\n")
         }
         DebugWord::Clear(pc) => {
@@ -112,11 +112,11 @@ fn obey(
 }
 
 /// Makes the place a breakpoint. Only memory can fail.
-fn set_break(debugger: &mut Debugger<'_>, pc: u32) -> Result<(), AllocError>
+fn set_break(alloc: Global, debugger: &mut Debugger<'_>, pc: u32) -> Result<(), AllocError>
     ensures same { debugger.new ≡ with_breaks debugger.old debugger.new.breakpoints }
     ensures has { OnOk result (HasBreak debugger.old.breakpoints debugger.new.breakpoints pc) }
 {
-    match debugger.break_at(pc) {
+    match debugger.break_at(alloc, pc) {
         Ok(()) => Ok(()),
         Err(_) => Err(AllocError),
     }
