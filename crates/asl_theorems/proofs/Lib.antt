@@ -15,4 +15,5 @@ mod Finest
 mod Storing
 mod Listing
 mod Existing
+mod Checked
 mod Racing

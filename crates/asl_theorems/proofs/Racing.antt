@@ -17,17 +17,15 @@ use Rattle.asl_races.proofs.Publishing.{published, published_entries}
 use Rattle.asl_races.proofs.Handing.{hands_over, no_race}
 use Rattle.asl_races.proofs.TriesAfter.{grants_with_care, published_tries}
 use Rattle.asl_races.proofs.Tries.{ordered_tries}
-use Rattle.asl_soundness.proofs.NeededLaws.{needed_analysed}
 use Rattle.asl_emitter.proofs.Sounding.{inferred_analysed}
 use Rattle.asl_emitter.proofs.Guarding.{inferred_guarded}
 use Rattle.asl_check.specs.Refused.{IsChecked}
-use Rattle.asl_check.proofs.Covering.{image_of}
-use Rattle.asl_check.proofs.Guarding.{is_guarded}
 use Rattle.asl_journal.specs.declared.event.Event.{Event}
 use Rattle.asl_journal.specs.Journal.{LeadsTo}
 use Rattle.asl_theorems.specs.Compiled.{Compiles}
 use Rattle.asl_theorems.specs.RaceFree.{IsRaceFree, IsRaceFreeJournal}
-use Rattle.asl_theorems.proofs.Programs.{its_kept, its_few, is_kept, compiled_fits}
+use Rattle.asl_theorems.proofs.Programs.{its_kept, its_few, compiled_fits}
+use Rattle.asl_theorems.proofs.Checked.{checked_guarded}
 use Rattle.asl_theorems.proofs.Runs.{steps_of}
 
 race_free : (image : Image) (count : ℕ) → FitsImage image → IsGuarded image count → IsRaceFree image count
@@ -52,15 +50,8 @@ module _ (source : List ℕ) (k_limit : ℕ) (image : Image) (c : Compiles sourc
   pub compiled_race_free : (count : ℕ) → IsRaceFree image count
   compiled_race_free count = race_free image count (compiled_fits source k_limit image c) (compiled_guarded count)
 
--- a program is checked whose lists are enough
 pub checked_race_free : (source : List ℕ) (tree : List Item) (k_limit : ℕ) (image : Image) (count : ℕ) → Parses source tree → IsVerified image → IsChecked tree k_limit image → IsRaceFree image count
-checked_race_free source tree k_limit image count parsed verified h =
-    let a = h.covered.of_tree.analysis in
-    let p = a.program in
-    let kept = is_kept source k_limit tree p.lowering parsed h.covered.of_tree.accepted p.lowers in
-    race_free image count (image_fits image verified)
-    (is_guarded p.lowering p.classes a.stores k_limit image
-    (needed_analysed p.lowering p.classes a.stores k_limit image kept (image_of p.lowering p.classes image p.are_classes verified h.covered.of_tree.code) (λ f x may. (a.tells f x).1 may) h.covered.over) h.guarded count)
+checked_race_free source tree k_limit image count parsed verified h = race_free image count (image_fits image verified) (checked_guarded source tree k_limit image parsed verified h count)
 
 -- the journals of a program without races
 pub race_free_journal : (image : Image) (count : ℕ) (events : List Event) (end : State) → IsRaceFree image count → LeadsTo image count events end → IsRaceFreeJournal image count events end

@@ -1,5 +1,6 @@
-//! The theorems: what holds of the programs that `asl compile` writes, and of the journals of their runs. Each is a law, the
-//! contract of a function that does nothing. Read them in order: first what the whole is for, then its parts.
+//! The theorems: what holds of the programs that `asl compile` writes, of those that `asl check` accepts, and of the journals of
+//! their runs. Each is a law, the contract of a function that does nothing. Read them in order: first what the whole is for, then its
+//! parts.
 #![tactic(auto)]
 
 ghost use Rattle.std.specs.Prelude.{◌≡◌, ◌≢◌, ◌<◌, ◌≤◌, ℕ, suc, Bool, List, [], All, Some, length, take, slice_get};
@@ -54,13 +55,26 @@ pub fn no_compiled_program_faults_for_a_missing_lock()
         → Compiles source k_limit image → LeadsTo image count events end → All IsSafe (replies_in events) }
 {}
 
-/// Workers. No reply in the journal that workers leave of a compiled program is such a fault, and so none in their receipts: with
-/// any number of threads and of workers, however these come to their turns.
+/// The same of a program that `check` accepts, whoever made its lists.
+pub fn no_checked_program_faults_for_a_missing_lock()
+    ensures { (source : List ℕ) (tree : List Item) (k_limit : ℕ) (image : Image) (count : ℕ) (events : List Event) (end : State)
+        → Parses source tree → IsVerified image → IsChecked tree k_limit image → LeadsTo image count events end → All IsSafe (replies_in events) }
+{}
+
+/// Workers. No reply in the journal that workers leave of a compiled program, or of one that `check` accepts, is such a fault, and so
+/// none in their receipts: with any number of threads and of workers, however these come to their turns.
 pub fn no_worker_meets_a_missing_lock()
     ensures events { (source : List ℕ) (k_limit : ℕ) (image : Image) (count workers : ℕ) (events : List Event) (receipts : List (List Receipt))
         → Compiles source k_limit image → IsHistory image count workers events receipts → All IsSafe (replies_in events) }
     ensures receipts { (source : List ℕ) (k_limit : ℕ) (image : Image) (count workers : ℕ) (events : List Event) (receipts : List (List Receipt))
         (worker : ℕ) (mine : List Receipt) → Compiles source k_limit image → IsHistory image count workers events receipts
+        → slice_get receipts worker ≡ Some mine → All (λ receipt. IsSafe receipt.reply) mine }
+    ensures checked_events { (source : List ℕ) (tree : List Item) (k_limit : ℕ) (image : Image) (count workers : ℕ) (events : List Event)
+        (receipts : List (List Receipt)) → Parses source tree → IsVerified image → IsChecked tree k_limit image
+        → IsHistory image count workers events receipts → All IsSafe (replies_in events) }
+    ensures checked_receipts { (source : List ℕ) (tree : List Item) (k_limit : ℕ) (image : Image) (count workers : ℕ) (events : List Event)
+        (receipts : List (List Receipt)) (worker : ℕ) (mine : List Receipt) → Parses source tree → IsVerified image
+        → IsChecked tree k_limit image → IsHistory image count workers events receipts
         → slice_get receipts worker ≡ Some mine → All (λ receipt. IsSafe receipt.reply) mine }
 {}
 
@@ -205,6 +219,25 @@ pub fn journals_of_compiled_programs_are_atomic()
         × (All FindsRoomInside steps → HasSerialJournalUpTo image count events steps end) }
 {}
 
+/// Atomicity of checked programs. Each run of a program that `check` accepts has a serial one, as those of a compiled one have.
+pub fn checked_programs_are_atomic()
+    ensures serial { (source : List ℕ) (tree : List Item) (k_limit : ℕ) (image : Image) (count : ℕ) (steps : List TakenStep) (end : State)
+        → Parses source tree → IsVerified image → IsChecked tree k_limit image → IsRun image (start_of image count) steps end
+        → All (MakesNoneInside image) steps → HasSerial image count steps end }
+    ensures up_to_numbers { (source : List ℕ) (tree : List Item) (k_limit : ℕ) (image : Image) (count : ℕ) (steps : List TakenStep) (end : State)
+        → Parses source tree → IsVerified image → IsChecked tree k_limit image → IsRun image (start_of image count) steps end
+        → All FindsRoomInside steps → HasSerialUpTo image count steps end }
+{}
+
+/// So has each journal of such a program.
+pub fn journals_of_checked_programs_are_atomic()
+    ensures { (source : List ℕ) (tree : List Item) (k_limit : ℕ) (image : Image) (count : ℕ) (events : List Event) (end : State)
+        → Parses source tree → IsVerified image → IsChecked tree k_limit image → LeadsTo image count events end
+        → (steps : List TakenStep) × AreSteps image count events end steps
+        × (All (MakesNoneInside image) steps → HasSerialJournal image count events steps end)
+        × (All FindsRoomInside steps → HasSerialJournalUpTo image count events steps end) }
+{}
+
 /// Data races. No run of a compiled program, or of one whose own lists `check` accepts, has one, with any number of threads, in any
 /// order of their steps: of two steps of different threads that access one cell, one of them to write it, one happens before the other,
 /// by the order of each thread's steps and by that of who gives back a node of the lock tree before who is granted it in a mode that
@@ -226,4 +259,7 @@ pub fn journals_have_no_race()
     ensures workers { (source : List ℕ) (k_limit : ℕ) (image : Image) (count workers : ℕ) (events : List Event) (receipts : List (List Receipt))
         → Compiles source k_limit image → IsHistory image count workers events receipts
         → (end : State) × IsRaceFreeJournal image count events end }
+    ensures checked_workers { (source : List ℕ) (tree : List Item) (k_limit : ℕ) (image : Image) (count workers : ℕ) (events : List Event)
+        (receipts : List (List Receipt)) → Parses source tree → IsVerified image → IsChecked tree k_limit image
+        → IsHistory image count workers events receipts → (end : State) × IsRaceFreeJournal image count events end }
 {}

@@ -12,3 +12,9 @@ returns-clause-workers c source k_limit image count workers events receipts p h 
   h.journal.end,
   race_free_journal image count events h.journal.end (compiled_race_free source k_limit image p count) h.journal.leads,
 )
+
+pub returns-clause-checked_workers : goal.returns-clause-checked_workers
+returns-clause-checked_workers c source tree k_limit image count workers events receipts parsed verified checked h = (
+  h.journal.end,
+  race_free_journal image count events h.journal.end (checked_race_free source tree k_limit image count parsed verified checked) h.journal.leads,
+)

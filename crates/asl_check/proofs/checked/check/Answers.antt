@@ -1,8 +1,12 @@
 use Rattle.std.proofs.Common.{ℕ, List, length, subst}
+use Rattle.std.specs.Prelude.{All}
 use Rattle.std.proofs.lemmas.Result.{IfOk-weaker, IfErr-weaker, err_from_is_err_and}
 use Rattle.asl_code.specs.declared.lock.Lock.{Lock}
 use Rattle.asl_syntax.specs.AstView.{tree_of}
-use Rattle.asl_soundness.specs.Safe.{NeverFaultsForLocks}
+use Rattle.asl_machine.specs.State.{State}
+use Rattle.asl_journal.specs.declared.event.Event.{Event}
+use Rattle.asl_journal.specs.Journal.{LeadsTo, schedule_of, replies_in}
+use Rattle.asl_soundness.specs.Safe.{IsSafe, NeverFaultsForLocks}
 use Rattle.asl_atomicity.specs.Serial.{HasSerialRuns}
 use Rattle.asl_atomicity.specs.Renamed.{HasSerialRunsUpTo}
 use Rattle.asl_check.specs.declared.fault.CheckFault.TheVariants.{OtherCode}
@@ -46,6 +50,11 @@ returns-clause-sound c =
     let covered = subst (λ (ls : List (List Lock)). AreCovered a.lowering a.classes a.flow ls (length a.lowering.sections)) c.lists-lists.ensures.lists c.in_ok-cover.ensures.covered in
     IfOk-weaker c.guard.result (λ x. AreGuarded a.lowering a.classes c.lists-lists.result.now (length a.lowering.sections)) (λ x. NeverFaultsForLocks c.args.program.now)
     (λ x guarded. covered_sound a.lowering a.classes c.args.k a.flow c.args.program.now e.kept e.classes c.lists-lists.ensures.verified e.flow c.in_default.ensures covered) c.guard.ensures.guarded
+
+pub returns-clause-safe : goal.returns-clause-safe
+returns-clause-safe c =
+    IfOk-weaker c.guard.result (λ x. NeverFaultsForLocks c.args.program.now) (λ x. (count : ℕ) (events : List Event) (end : State) → LeadsTo c.args.program.now count events end → All IsSafe (replies_in events))
+    (λ x never count events end leads. never count (schedule_of events) (replies_in events) end leads.runs) (returns-clause-sound c)
 
 pub returns-clause-atomic : goal.returns-clause-atomic
 returns-clause-atomic c =
