@@ -5,6 +5,7 @@ ghost use Rattle.asl_lock_expr.specs.Links.{IsOne};
 ghost use Rattle.asl_lock_expr.specs.Order.{AreInOrder};
 ghost use Rattle.asl_backward_flow.specs.Needed.{RegionNeeds as RegionNeedsValue, HasNoPart, IsTold, region_of};
 ghost use Rattle.asl_backward_flow.specs.Parts.{part, AreAtTheirNumbers};
+ghost use Rattle.asl_lower.specs.Regions.{Inside};
 
 use crate::region::Region;
 use crate::region_needs::RegionNeeds;
@@ -90,6 +91,53 @@ impl Flow {
 
 /// The place of a part of a region.
 fn place_of(parts: &[RegionNeeds], region: Region) -> Option<usize>
+    requires { AreAtTheirNumbers (map part parts.now) }
+    ensures { MatchOption result (HasNoPart (map part parts.now) (region_of region))
+        (λ k. (p : RegionNeedsValue) × (slice_get (map part parts.now) k ≡ Some p) × (p.region ≡ region_of region)) }
+{
+    let place = likely_place(parts, region);
+    if place < parts.len() && parts[place].region == region {
+        return Some(place);
+    }
+    match region {
+        Region::Section(_) => None,
+        Region::Body(_) => search(parts, region),
+    }
+}
+
+/// Where a part of the region stands if there is one: a section's at its number, and the bodies after the sections, in the order of
+/// their functions.
+fn likely_place(parts: &[RegionNeeds], region: Region) -> usize
+    ensures { (n : ℕ) → region_of region ≡ Inside n → result ≡ n }
+{
+    match region {
+        Region::Section(number) => usize::from(number),
+        Region::Body(function) => count_before(parts, function),
+    }
+}
+
+/// How many parts stand before that of the function's body, where sections come first, and then bodies in the order of their
+/// functions.
+fn count_before(parts: &[RegionNeeds], function: u16) -> usize {
+    let mut low = 0;
+    let mut high = parts.len();
+    while low < high {
+        let middle = low + (high - low) / 2;
+        let is_before = match parts[middle].region {
+            Region::Section(_) => true,
+            Region::Body(other) => other < function,
+        };
+        if is_before {
+            low = middle + 1;
+        } else {
+            high = middle;
+        }
+    }
+    low
+}
+
+/// The place of a part of a region, wherever it is.
+fn search(parts: &[RegionNeeds], region: Region) -> Option<usize>
     ensures { MatchOption result (HasNoPart (map part parts.now) (region_of region))
         (λ k. (p : RegionNeedsValue) × (slice_get (map part parts.now) k ≡ Some p) × (p.region ≡ region_of region)) }
 {
