@@ -59,6 +59,25 @@ GrantsWithCare image count =
     (CanGrant s.holding thread (request_of s.objects a.top.regs (locks_of image list)) → IsGrantedWithCare s.holding s.objects thread a.top.regs (locks_of image list))
     × (IsGrantedWithCare s.holding s.objects thread a.top.regs (locks_of image list) → CanGrant s.holding thread (request_of s.objects a.top.regs (locks_of image list)))
 
+-- it stops at this place, before it reads the cell there
+pub record StopsAt (h : Holding) (objects : List Object) (thread : ℕ) (regs : List Value) (locks : List Lock) (place : ℕ) : Type 0 where
+  pub cell : Cell
+  pub is : slice_get (visited objects regs locks) place ≡ Some (visit cell true)
+  pub comes : ComesTo h objects thread regs locks place
+  pub held : IsHeldByAnother h objects thread cell
+
+-- what may come of such a try: it is granted; it is refused at its end, since another thread is in its way; it stops at a place
+pub data Outcome : Type 0 where
+  Granted : Outcome
+  Refused : Outcome
+  Stopped : ℕ → Outcome
+
+abbrev pub IsOutcome : Holding → List Object → ℕ → List Value → List Lock → Outcome → Type 0
+IsOutcome h objects thread regs locks Granted = IsGrantedWithCare h objects thread regs locks
+IsOutcome h objects thread regs locks Refused =
+    ComesTo h objects thread regs locks (length (visited objects regs locks)) × (¬ CanGrant h thread (request_of objects regs locks))
+IsOutcome h objects thread regs locks (Stopped place) = StopsAt h objects thread regs locks place
+
 -- ---- what such tries read, and what orders it
 
 -- the step is of a thread at an entry, and its try, granted or refused, reads the cell

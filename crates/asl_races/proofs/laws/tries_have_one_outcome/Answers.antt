@@ -1,0 +1,8 @@
+use Rattle.asl_races.proofs.Outcomes.{some_outcome, one_outcome}
+use Rattle.asl_races.proofs.laws.tries_have_one_outcome.Goals as goal
+
+pub returns-clause-some : goal.returns-clause-some
+returns-clause-some c = some_outcome
+
+pub returns-clause-one : goal.returns-clause-one
+returns-clause-one c = one_outcome
