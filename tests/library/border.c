@@ -60,6 +60,28 @@ static void grants(asl_forest *forest) {
   must(mode, ASL_X, "X at the leaf");
 }
 
+/* long requests, whose nodes rise, fall, or come twice */
+static void long_requests(asl_forest *forest) {
+  enum { NODES = 203, FIRST = 3 };
+  asl_ask all[NODES] = {node(ASL_ROOT, ASL_IX, 0, 0, 0), node(ASL_CLASS, ASL_IX, 0, 0, 0), node(ASL_CLASS, ASL_IS, 1, 0, 0)};
+  for (int i = FIRST; i < NODES; i++) all[i] = node(ASL_LEAF, i < 100 ? ASL_X : ASL_S, i < 100 ? 0 : 1, (uint16_t)i, (uint8_t)(i % 3));
+  must(asl_forest_try_acquire(forest, 0, all, NODES), ASL_OK, "200 leaves that rise");
+  must(asl_forest_release(forest, 0), ASL_OK, "and are given back");
+  all[NODES - 1] = all[NODES - 2];
+  must(asl_forest_try_acquire(forest, 0, all, NODES), ASL_NODE_TWICE, "the last leaf twice");
+  all[NODES - 1] = all[FIRST];
+  must(asl_forest_try_acquire(forest, 0, all, NODES), ASL_NODE_TWICE, "the first leaf again at the end");
+  all[NODES - 1] = node(ASL_LEAF, ASL_X, 1, 9999, 0);
+  must(asl_forest_try_acquire(forest, 0, all, NODES), ASL_NO_PARENT, "a last leaf in X below IS");
+  all[NODES - 1] = node(ASL_LEAF, ASL_S, 0, 1, 0);
+  must(asl_forest_try_acquire(forest, 0, all, NODES), ASL_OK, "a last leaf that does not rise");
+  must(asl_forest_release(forest, 0), ASL_OK, "and is given back");
+  all[2] = all[1];
+  all[1] = node(ASL_CLASS, ASL_IX, 1, 0, 0);
+  must(asl_forest_try_acquire(forest, 0, all, NODES), ASL_OK, "classes that fall");
+  must(asl_forest_release(forest, 0), ASL_OK, "and are given back");
+}
+
 static void readers(asl_forest *forest) {
   uint8_t mode = 99;
   bool covers = false;
@@ -93,6 +115,7 @@ static void forest(void) {
   must(asl_forest_new(2, 128, &forest), ASL_BAD_HANDLE, "a second forest");
   refusals_of_requests(&forest);
   first_faults(&forest);
+  long_requests(&forest);
   grants(&forest);
   readers(&forest);
   must(asl_forest_release(&forest, 200), ASL_BAD_THREAD, "release of thread 200");

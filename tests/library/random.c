@@ -78,7 +78,16 @@ static uint32_t fault_of(uint32_t thread, const asl_ask *asks, size_t count) {
   return model[thread].root ? ASL_HOLDS : ASL_OK;
 }
 
-/* with its parents, each once in a good mode; or, one time in eight, as it falls */
+/* the root, then classes by number, then leaves by class, object and offset */
+static int by_order(const void *left, const void *right) {
+  const asl_ask *a = left, *b = right;
+  if (a->kind != b->kind) return a->kind - b->kind;
+  if (a->klass != b->klass) return a->klass - b->klass;
+  if (a->object != b->object) return a->object - b->object;
+  return a->offset - b->offset;
+}
+
+/* with its parents, in a good mode, every other time in order; or, one time in eight, as it falls */
 static size_t draw(asl_ask *asks) {
   static const uint8_t codes[] = {ASL_IS, ASL_IX, ASL_S, ASL_SIX, ASL_X, ASL_NL, 2, 255};
   size_t count = below(MOST);
@@ -94,6 +103,7 @@ static size_t draw(asl_ask *asks) {
     if (count && below(2)) asks[kept++] = (asl_ask){ASL_CLASS, below(3) ? ASL_IX : ASL_SIX, 0, klass, 0};
   for (size_t i = 0; i < count && kept < MOST; i++)
     if (drawn[i].kind == ASL_LEAF) asks[kept++] = drawn[i];
+  if (below(2)) qsort(asks, kept, sizeof *asks, by_order);
   return kept;
 }
 

@@ -66,7 +66,7 @@ pub fn read(alloc: Global, asks: &[Ask]) -> Result<Vec<(Node, Mode)>, AllocError
     ensures ok { IfOk result (λ request. request.items ≡ map ask_of asks.now) }
     ensures asks { OnErr result (0 < length asks.now) }
 {
-    let mut request = Vec::new(alloc);
+    let mut request = Vec::with_capacity(alloc, asks.len())?;
     for ask in asks {
         request.push(pair(*ask))?;
     }

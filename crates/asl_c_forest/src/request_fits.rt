@@ -1,10 +1,12 @@
 //! Tests of a request: its threads, nodes, classes and modes.
-ghost use Rattle.std.specs.Prelude.{◌≡◌, ◌<◌, IsTrue, map, nat_lt};
+ghost use Rattle.std.specs.Prelude.{◌≡◌, ◌<◌, IsTrue, IfSome, map, nat_lt};
 ghost use Rattle.asl_mode_lanes.specs.Mode.{is_at_most};
+ghost use Rattle.asl_lock_forest.specs.declared.node.Node.TheVariants.{Root, Class};
 ghost use Rattle.asl_lock_forest.specs.Node.{IsThere, parent_of, parent_mode};
 ghost use Rattle.asl_lock_forest.specs.Holding.{asked, HoldsNothing};
 ghost use Rattle.asl_lock_forest.specs.Request.{names, names_once, asks_modes, asks_parents, asks_parent_of};
 ghost use Rattle.asl_c_forest.specs.Asks.{ask_of};
+ghost use Rattle.asl_c_forest.specs.Order.{is_below, is_after, is_rising};
 ghost use Rattle.asl_c_forest.specs.Status.{is_kind, is_there, has_kinds, has_classes, holds_nothing};
 
 use crate::c_request::{Ask, mode, node};
@@ -93,8 +95,60 @@ fn names(asks: &[Ask], node: Node) -> bool
     false
 }
 
-/// Whether no node is named twice.
+/// Whether `a` comes before `b`: the root, the classes by their numbers, the leaves by class, object and offset.
+fn is_below(a: Node, b: Node) -> bool
+    ensures { result ≡ is_below a b }
+{
+    match (a, b) {
+        (Node::Root, Node::Root) => false,
+        (Node::Root, _) => true,
+        (_, Node::Root) => false,
+        (Node::Class(c), Node::Class(d)) => c < d,
+        (Node::Class(_), Node::Leaf(_, _)) => true,
+        (Node::Leaf(_, _), Node::Class(_)) => false,
+        (Node::Leaf(x, c), Node::Leaf(y, d)) => {
+            c < d
+                || (c == d
+                    && (x.object < y.object || (x.object == y.object && x.offset < y.offset)))
+        }
+    }
+}
+
+/// Whether the node comes after the last one, if there is one.
+fn is_after(last: Option<Node>, node: Node) -> bool
+    ensures { result ≡ is_after last node }
+{
+    match last {
+        Some(last) => is_below(last, node),
+        None => true,
+    }
+}
+
+/// Whether each node comes after the one before it.
+fn is_rising(asks: &[Ask]) -> bool
+    ensures { result ≡ is_rising (map ask_of asks.now) }
+{
+    let mut last = None;
+    for ask in asks {
+        let next = node(*ask);
+        if !is_after(last, next) {
+            return false;
+        }
+        last = Some(next);
+    }
+    true
+}
+
+/// Whether no node is named twice: at once where the nodes rise.
+#[tactic(auto, using(crate::proofs::RisingLaws::rising_names_once))]
 pub(crate) fn is_distinct(asks: &[Ask]) -> bool
+    ensures { result ≡ names_once (map ask_of asks.now) }
+{
+    is_rising(asks) || is_each_once(asks)
+}
+
+/// Whether no node is named twice, by comparing each with each.
+fn is_each_once(asks: &[Ask]) -> bool
     ensures { result ≡ names_once (map ask_of asks.now) }
 {
     for i in 0..asks.len() {
@@ -128,23 +182,58 @@ fn is_enough(mode: Mode, parent: Mode) -> bool
     }
 }
 
+/// The mode that is asked at the class: the known one, where that is of this class.
+fn class_mode(asks: &[Ask], known: Option<(u16, Mode)>, class: u16) -> Mode
+    requires { IfSome known (λ k. k.1 ≡ asked (map ask_of asks.now) (Class k.0)) }
+    ensures { result ≡ asked (map ask_of asks.now) (Class class) }
+{
+    match known {
+        Some((other, mode)) => {
+            if other == class {
+                mode
+            } else {
+                asked(asks, Node::Class(class))
+            }
+        }
+        None => asked(asks, Node::Class(class)),
+    }
+}
+
+/// The class above the node with the mode that is asked there, if it is a leaf; else what is known already.
+fn known_above(asks: &[Ask], known: Option<(u16, Mode)>, node: Node) -> Option<(u16, Mode)>
+    requires { IfSome known (λ k. k.1 ≡ asked (map ask_of asks.now) (Class k.0)) }
+    ensures { IfSome result (λ k. k.1 ≡ asked (map ask_of asks.now) (Class k.0)) }
+{
+    match node {
+        Node::Root | Node::Class(_) => known,
+        Node::Leaf(_, class) => Some((class, class_mode(asks, known, class))),
+    }
+}
+
 /// Whether the node's parent, if it has one, is asked as the mode wants it.
-fn has_parent(asks: &[Ask], node: Node, mode: Mode) -> bool
+fn has_parent(asks: &[Ask], root: Mode, known: Option<(u16, Mode)>, node: Node, mode: Mode) -> bool
+    requires root { root ≡ asked (map ask_of asks.now) Root }
+    requires known { IfSome known (λ k. k.1 ≡ asked (map ask_of asks.now) (Class k.0)) }
     ensures { result ≡ asks_parent_of (map ask_of asks.now) (parent_of node) mode }
 {
     match node {
         Node::Root => true,
-        Node::Class(_) => is_enough(mode, asked(asks, Node::Root)),
-        Node::Leaf(_, class) => is_enough(mode, asked(asks, Node::Class(class))),
+        Node::Class(_) => is_enough(mode, root),
+        Node::Leaf(_, class) => is_enough(mode, class_mode(asks, known, class)),
     }
 }
 
-/// Whether each node's parent is asked as its mode wants it.
+/// Whether each node's parent is asked as its mode wants it. A class is looked for where it is another than that of the leaf before: so
+/// once, where the nodes rise.
 pub(crate) fn has_parents(asks: &[Ask]) -> bool
     ensures { result ≡ asks_parents (map ask_of asks.now) }
 {
+    let root = asked(asks, Node::Root);
+    let mut known = None;
     for ask in asks {
-        if !has_parent(asks, node(*ask), mode(ask.mode)) {
+        let at = node(*ask);
+        known = known_above(asks, known, at);
+        if !has_parent(asks, root, known, at, mode(ask.mode)) {
             return false;
         }
     }

@@ -1,0 +1,35 @@
+-- A request that rises names no node twice.
+use Rattle.std.proofs.Common.{◌≡◌, true, false, not, ◌&&◌, ◌||◌, [], ◌∷◌, Option, None, Some, refl, ap, sym, ◌∙◌, inl, inr}
+use Rattle.std.proofs.lemmas.Bool.{and_parts, and_from}
+use Rattle.asl_lock_forest.specs.declared.node.Node.{Node}
+use Rattle.asl_lock_forest.specs.Holding.{Request}
+use Rattle.asl_lock_forest.specs.Request.{names, names_once}
+use Rattle.asl_lock_forest.proofs.Laws.{tell_nodes}
+use Rattle.asl_c_forest.specs.Order.{is_below, is_after, rises_after, is_rising}
+use Rattle.asl_c_forest.proofs.OrderLaws.{below_apart, below_trans}
+
+-- what rises after a node rises after one that is below it
+rises_below : (m n : Node) (request : Request) → is_below m n ≡ true → rises_after (Some n) request ≡ true → rises_after (Some m) request ≡ true
+rises_below m n [] below rises = refl
+rises_below m n (ask ∷ others) below rises =
+    let parts = and_parts (is_below n ask.0) (rises_after (Some ask.0) others) rises in
+    and_from _ _ (below_trans m n ask.0 below parts.0) parts.1
+
+-- what rises after a node does not name it
+unnamed : (n : Node) (request : Request) → rises_after (Some n) request ≡ true → names request n ≡ false
+unnamed n [] rises = refl
+unnamed n (ask ∷ others) rises =
+    let parts = and_parts (is_below n ask.0) (rises_after (Some ask.0) others) rises in
+    elim (tell_nodes ask.0 n) [
+      | inl same ↦ absurd (below_apart n ask.0 parts.0 (sym same.1))
+      | inr other ↦ ap (λ b. b || names others n) other.0 ∙ unnamed n others (rises_below n ask.0 others parts.0 parts.1)
+    ]
+
+once_after : (last : Option Node) (request : Request) → rises_after last request ≡ true → names_once request ≡ true
+once_after last [] rises = refl
+once_after last (ask ∷ others) rises =
+    let parts = and_parts (is_after last ask.0) (rises_after (Some ask.0) others) rises in
+    ap (λ b. not b && names_once others) (unnamed ask.0 others parts.1) ∙ once_after (Some ask.0) others parts.1
+
+pub rising_names_once : (request : Request) → is_rising request ≡ true → names_once request ≡ true
+rising_names_once request rises = once_after None request rises
