@@ -108,7 +108,7 @@ fn answer_call(
 }
 
 /// The locks that a text asks, as `root IX class1 X`.
-fn request(alloc: Global, text: &str) -> Result<Option<Vec<(Node, Mode)>>, AllocError> {
+pub fn request(alloc: Global, text: &str) -> Result<Option<Vec<(Node, Mode)>>, AllocError> {
     let mut asks = Vec::new(alloc);
     let mut words = text.split_whitespace();
     for _ in 0..128u8 {

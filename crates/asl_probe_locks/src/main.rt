@@ -1,4 +1,4 @@
-//! Answers scripts of calls on the public functions of `asl_mode_lanes`, `asl_lane_sets` and `asl_lock_forest`: what the cases of
+//! Answers scripts of calls on the public functions of `asl_mode_lanes`, `asl_lane_sets`, `asl_lock_forest` and `asl_lock_queue`: what the cases of
 //! `tests/cases` are run through.
 //!
 //! A script begins with a line `== NAME`, which is answered as it is, and a line that names its kind. Then come the calls, one a
@@ -9,6 +9,7 @@ mod bits;
 mod forest;
 mod laws;
 mod modes;
+mod queue;
 mod request;
 
 use std::alloc::{AllocError, Global};
@@ -55,6 +56,7 @@ fn answer(alloc: Global, kind: &str, calls: &str, out: &mut String) -> Result<()
         "modes" => modes::answer(alloc, calls, out),
         "bits" => bits::answer(alloc, calls, out),
         "forest" => forest::answer(alloc, calls, out),
+        "queue" => queue::answer(alloc, calls, out),
         "laws" => laws::answer(out),
         _ => out.push_str("no such kind\n"),
     }

@@ -1,0 +1,13 @@
+mod OrderLaws
+mod RisingLaws
+mod TogetherLaws
+mod ParentLaws
+mod ListFacts
+mod HoldingLists
+mod HolderLaws
+mod SeatLaws
+mod LineLaws
+mod ServingLaws
+mod ServingFacts
+mod StateLaws
+mod SoundLaws
