@@ -1,0 +1,65 @@
+"""What the library refuses, as exceptions."""
+from __future__ import annotations
+
+import re
+from typing import Optional
+
+_SESSION_NAMES = {
+    2: "OutOfMemory",
+    3: "BadHandle",
+    4: "BadThread",
+    11: "BadCount",
+    12: "NoProgram",
+    13: "NoSuchStep",
+    14: "NotAtEnd",
+    15: "JournalFull",
+    16: "NullPointer",
+}
+
+
+class AslError(Exception):
+    """Anything that this package raises."""
+
+
+class LibraryError(AslError):
+    """The shared library is not found, or is another one."""
+
+
+class Refused(AslError):
+    """An input is refused. `reason` is its whole name, as `Uncovered(0, expr r1 write)`, and `name` the part before the bracket."""
+
+    def __init__(self, reason: str):
+        super().__init__(reason)
+        self.reason = reason
+        self.name = reason.split("(", 1)[0]
+
+
+class SourceError(Refused):
+    """A source or an assembly text is refused, at a line and a column, both from 1 and in bytes; `text` is for people to read."""
+
+    def __init__(self, reason: str, line: int, column: int, text: str):
+        super().__init__(reason)
+        self.args = (text,)
+        self.line = line
+        self.column = column
+        self.text = text
+
+
+class SessionError(AslError):
+    """A call of a session is refused. `name` is that of its status (include/asl.h), which `status` is."""
+
+    def __init__(self, status: int):
+        self.status = status
+        self.name = _SESSION_NAMES.get(status, f"Status{status}")
+        super().__init__(self.name)
+
+
+_DIAGNOSIS = re.compile(r"(\d+):(\d+): (\w+)")
+
+
+def source_error(reason: Optional[str], diagnosis: str) -> SourceError:
+    """The exception for what `asl diagnose` tells, under the name of a refusal where that is known."""
+    told = _DIAGNOSIS.match(diagnosis)
+    if told is None:
+        raise LibraryError(f"asl diagnose told no place: {diagnosis!r}")
+    return SourceError(reason or told[3], int(told[1]), int(told[2]), diagnosis.rstrip("\n"))
